@@ -1,0 +1,22 @@
+//! What every crate speaks of: servers, muxes, flows, segments, labels and records.
+#![tactic(auto)]
+
+mod capture;
+pub mod flags;
+mod flow;
+mod ids;
+mod label;
+mod list;
+mod memory;
+mod text;
+
+pub use capture::{Body, Capture, Reason, Record, Vip};
+pub use flow::{Flow, Segment, is_opening};
+pub use ids::{Moment, MuxId, ServerId, Version};
+pub use label::{Entry, Hop, Label};
+pub use list::List;
+pub use memory::Memory;
+pub use text::Text;
+
+#[cfg(test)]
+mod tests;

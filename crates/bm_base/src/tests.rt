@@ -1,0 +1,42 @@
+use super::*;
+use std::test::Fail;
+
+#[test]
+fn a_list_and_a_text_give_back_what_they_were_made_of(rt: HostRuntime) -> Result<(), Fail> {
+    let alloc = rt.alloc();
+    let list = List::of(vec![in alloc; 3u32, 1, 2]?);
+    assert_eq!(rt; list.items(), [3, 1, 2].as_slice());
+    let text = Text::of(String::from_str(alloc, "a b")?);
+    assert_eq!(rt; text.as_str(), "a b");
+    Ok(())
+}
+
+#[test]
+fn a_segment_opens_with_syn_and_without_ack_rst_and_fin(rt: HostRuntime) {
+    let flow = Flow {
+        src: 1,
+        dst: 2,
+        sport: 3,
+        dport: 4,
+    };
+    // SYN; SYN with PSH, URG, ECE and CWR; SYN with ACK; SYN with RST; SYN with FIN; none; ACK
+    let rows = [
+        (0x02, true),
+        (0xea, true),
+        (0x12, false),
+        (0x06, false),
+        (0x03, false),
+        (0x00, false),
+        (0x10, false),
+    ];
+    for (flags, want) in rows {
+        let segment = Segment {
+            flow,
+            seq: 7,
+            ack: 0,
+            len: 1,
+            flags,
+        };
+        assert_eq!(rt; is_opening(&segment), want, "at {flags}");
+    }
+}

@@ -1,0 +1,36 @@
+ghost use Rattle.std.specs.Prelude.{◌≡◌, ◌<◌, List, ℕ, IfOk, IsErrOf};
+ghost use Rattle.std.specs.declared.option.Option.{Option};
+ghost use Rattle.bm_io.specs.Causes.{Rose, HasIoCause};
+ghost use Rattle.bm_io.specs.Names.{HasOctetsOf, Asks};
+ghost use Rattle.bm_io.specs.declared.fault.IoFault.TheVariants.{Memory};
+
+use crate::{IoFault, Source};
+
+pub trait Files {
+    type Src: Source;
+
+    /// The octets of each name, none for a name that isn't there, where the files tell them.
+    ghost octets: { Self → Option (List ℕ → List ℕ) };
+
+    /// The names asked for so far, where the files tell them.
+    ghost asked: { Self → Option (List (List ℕ)) };
+
+    /// How often the files have failed, at most 2^64 - 1.
+    ghost faults: { Self → ℕ };
+
+    /// A source that has the octets of the name left and has not failed.
+    fn open(&mut self, name: &str) -> Result<Self::Src, IoFault>
+        ensures left { IfOk result (λ src. HasOctetsOf (octets self.old) name.now (Self.Src.left src)) }
+        ensures new { IfOk result (λ src. Self.Src.faults src ≡ 0) }
+        ensures octets { octets self.new ≡ octets self.old }
+        ensures asked { Asks (asked self.old) (asked self.new) name.now result }
+        ensures cause { HasIoCause (faults self.old) (faults self.new) result }
+        ensures memory { IsErrOf result Memory → faults self.new ≡ faults self.old };
+
+    /// Takes a source back, and counts a fault where the source failed.
+    fn close(&mut self, src: Self::Src)
+        ensures octets { octets self.new ≡ octets self.old }
+        ensures asked { asked self.new ≡ asked self.old }
+        ensures counted { 0 < Self.Src.faults src → Rose (faults self.old) (faults self.new) }
+        ensures same { Self.Src.faults src ≡ 0 → faults self.new ≡ faults self.old };
+}

@@ -1,0 +1,85 @@
+ghost use Rattle.std.specs.Prelude.{◌≡◌, [], Some, IfOk, option_map};
+ghost use Rattle.bm_io.specs.MemNames.{find_file, octets_of, octets_of_found};
+
+use crate::{Files, IoFault, MemFile, MemSource, Source};
+use bm_base::Text;
+use std::alloc::{AllocError, Global};
+
+/// Files in memory, which keep the names that they were asked for.
+#[derive(Drop)]
+pub struct MemFiles {
+    alloc: Global,
+    files: Vec<MemFile>,
+    asked: Vec<Text>,
+    faults: u64,
+}
+
+impl MemFiles {
+    pub fn new(alloc: Global, files: Vec<MemFile>) -> MemFiles
+        ensures octets { ⟦<MemFiles as Files>⟧.octets result ≡ Some (octets_of files.items) }
+        ensures asked { ⟦<MemFiles as Files>⟧.asked result ≡ Some [] }
+        ensures faults { ⟦<MemFiles as Files>⟧.faults result ≡ 0 }
+    {
+        MemFiles {
+            alloc,
+            files,
+            asked: Vec::new(alloc),
+            faults: 0,
+        }
+    }
+}
+
+/// The first file of this name.
+fn found<'a>(files: &'a [MemFile], name: &str) -> Option<&'a MemFile>
+    ensures { option_map (λ file. file.now) result ≡ find_file name.now files.now }
+{
+    for file in files {
+        if file.name.as_str() == name {
+            return Some(file);
+        }
+    }
+    None
+}
+
+fn open_found(alloc: Global, found: Option<&MemFile>) -> Result<MemSource, AllocError>
+    ensures left { IfOk result (λ src. ⟦<MemSource as Source>⟧.left src ≡ Some (octets_of_found (option_map (λ file. file.now) found.entry))) }
+    ensures new { IfOk result (λ src. ⟦<MemSource as Source>⟧.faults src ≡ 0) }
+{
+    match found {
+        Some(file) => {
+            let octets = Vec::from_slice(alloc, file.octets.items())?;
+            let fails = Vec::from_slice(alloc, file.fails.items())?;
+            Ok(MemSource::new(octets, file.step, fails))
+        }
+        None => Ok(MemSource::new(Vec::new(alloc), 1, Vec::new(alloc))),
+    }
+}
+
+impl Files for MemFiles {
+    type Src = MemSource;
+
+    ghost octets = { λ m. Some (octets_of m.files.items) };
+
+    ghost asked = { λ m. Some m.asked.items };
+
+    ghost faults = { λ m. m.faults };
+
+    fn open(&mut self, name: &str) -> Result<MemSource, IoFault> {
+        let found = found(&self.files, name);
+        let missing = found.is_none();
+        let source = open_found(self.alloc, found)?;
+        let asked = Text::of(String::from_str(self.alloc, name)?);
+        self.asked.push(asked)?;
+        if missing {
+            self.faults = self.faults.saturating_add(1);
+            return Err(IoFault::Failed);
+        }
+        Ok(source)
+    }
+
+    fn close(&mut self, src: MemSource) {
+        if src.faults() > 0 {
+            self.faults = self.faults.saturating_add(1);
+        }
+    }
+}

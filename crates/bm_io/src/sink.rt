@@ -1,0 +1,23 @@
+ghost use Rattle.std.specs.Prelude.{List, ℕ, ◌<◌, length, IfOk};
+ghost use Rattle.std.specs.declared.option.Option.{Option};
+ghost use Rattle.std.specs.Io.{WritesAtMost};
+ghost use Rattle.std.specs.Io.KnownBytes.{WriteAppends};
+ghost use Rattle.bm_io.specs.Causes.{HasIoCause};
+
+use crate::IoFault;
+
+pub trait Sink {
+    /// The octets written so far, where the sink tells them.
+    ghost written: { Self → Option (List ℕ) };
+
+    /// How often the sink has failed, at most 2^64 - 1.
+    ghost faults: { Self → ℕ };
+
+    /// Appends the first octets of the piece, and answers how many: at least one of a piece that
+    /// isn't empty. A refusal appends nothing.
+    fn put(&mut self, piece: &[u8]) -> Result<usize, IoFault>
+        ensures bound { WritesAtMost result piece.now }
+        ensures some { 0 < length piece.now → IfOk result (λ n. 0 < n) }
+        ensures octets { WriteAppends (written self.old) (written self.new) result piece.now }
+        ensures cause { HasIoCause (faults self.old) (faults self.new) result };
+}

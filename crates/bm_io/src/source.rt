@@ -1,0 +1,22 @@
+ghost use Rattle.std.specs.Prelude.{List, ℕ};
+ghost use Rattle.std.specs.declared.option.Option.{Option};
+ghost use Rattle.std.specs.Io.{ReadsAtMost};
+ghost use Rattle.std.specs.Io.KnownBytes.{ReadConsumes};
+ghost use Rattle.bm_io.specs.Causes.{HasCause};
+
+use crate::Failed;
+
+pub trait Source {
+    /// The octets that are left, where the source tells them.
+    ghost left: { Self → Option (List ℕ) };
+
+    /// How often the source has failed, at most 2^64 - 1.
+    ghost faults: { Self → ℕ };
+
+    /// Moves the first octets that are left into the buffer, and answers how many. 0 for a buffer
+    /// that isn't empty means that nothing is left.
+    fn take(&mut self, buf: &mut [u8]) -> Result<usize, Failed>
+        ensures bound { ReadsAtMost result buf.new }
+        ensures octets { ReadConsumes (left self.old) (left self.new) result buf.new }
+        ensures cause { HasCause (faults self.old) (faults self.new) result };
+}

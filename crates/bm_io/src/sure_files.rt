@@ -1,0 +1,76 @@
+//! Files in memory that never fail.
+ghost use Rattle.std.specs.Prelude.{◌≡◌, ◌≤◌, [], Some, IfOk, option_map};
+ghost use Rattle.bm_io.specs.SureNames.{find_file, octets_of, octets_of_found};
+
+use crate::sure_file::SureFile;
+use crate::{Files, IoFault, Source, SureSource};
+use bm_base::Text;
+use std::alloc::{AllocError, Global};
+
+/// Files in memory, which keep the names that they were asked for. They never fail, and a name
+/// that isn't there has no octets.
+#[derive(Drop)]
+pub struct SureFiles {
+    alloc: Global,
+    files: Vec<SureFile>,
+    asked: Vec<Text>,
+}
+
+impl SureFiles {
+    pub fn new(alloc: Global, files: Vec<SureFile>) -> SureFiles
+        ensures octets { ⟦<SureFiles as Files>⟧.octets result ≡ Some (octets_of files.items) }
+        ensures asked { ⟦<SureFiles as Files>⟧.asked result ≡ Some [] }
+        ensures faults { ⟦<SureFiles as Files>⟧.faults result ≡ 0 }
+    {
+        SureFiles {
+            alloc,
+            files,
+            asked: Vec::new(alloc),
+        }
+    }
+}
+
+/// The first file of this name.
+fn found<'a>(files: &'a [SureFile], name: &str) -> Option<&'a SureFile>
+    ensures { option_map (λ file. file.now) result ≡ find_file name.now files.now }
+{
+    for file in files {
+        if file.name.as_str() == name {
+            return Some(file);
+        }
+    }
+    None
+}
+
+fn open_found(alloc: Global, found: Option<&SureFile>) -> Result<SureSource, AllocError>
+    ensures left { IfOk result (λ src. ⟦<SureSource as Source>⟧.left src ≡ Some (octets_of_found (option_map (λ file. file.now) found.entry))) }
+{
+    match found {
+        Some(file) => {
+            let octets = Vec::from_slice(alloc, file.octets.items())?;
+            Ok(SureSource::new(octets, file.step))
+        }
+        None => Ok(SureSource::new(Vec::new(alloc), 1)),
+    }
+}
+
+impl Files for SureFiles {
+    type Src = SureSource;
+
+    ghost octets = { λ m. Some (octets_of m.files.items) };
+
+    ghost asked = { λ m. Some m.asked.items };
+
+    ghost faults = { λ _. 0 };
+
+    fn open(&mut self, name: &str) -> Result<SureSource, IoFault> {
+        let source = open_found(self.alloc, found(&self.files, name))?;
+        let asked = Text::of(String::from_str(self.alloc, name)?);
+        self.asked.push(asked)?;
+        Ok(source)
+    }
+
+    fn close(&mut self, src: SureSource) {
+        drop(src);
+    }
+}
