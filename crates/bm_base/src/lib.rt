@@ -8,6 +8,7 @@ mod ids;
 mod label;
 mod list;
 mod memory;
+mod receive;
 mod text;
 
 pub use capture::{Body, Capture, Reason, Record, Vip};
@@ -16,6 +17,7 @@ pub use ids::{Moment, MuxId, ServerId, Version};
 pub use label::{Entry, Hop, Label};
 pub use list::List;
 pub use memory::Memory;
+pub use receive::{Fate, Taken};
 pub use text::Text;
 
 #[cfg(test)]
