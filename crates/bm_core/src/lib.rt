@@ -1,0 +1,12 @@
+//! The protocol: events, verdicts, runs, premises and causes, and the laws over every run.
+#![tactic(auto)]
+
+mod clock;
+mod events;
+mod schedule;
+mod verdict;
+
+pub use clock::next_clock;
+pub use events::{Cause, Event, History, Local, Stage, Verdict, What, Why};
+pub use schedule::{Call, Due, Underway};
+pub use verdict::decide;

@@ -1,0 +1,2 @@
+//! Which bucket and which shard a flow belongs to.
+#![tactic(auto)]
