@@ -1,0 +1,4 @@
+pub mod Pasts
+pub mod Owned
+pub mod Lawful
+pub mod Pinned

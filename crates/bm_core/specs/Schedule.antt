@@ -8,7 +8,7 @@ use Rattle.bm_base.specs.declared.capture.Record.{Record}
 use Rattle.bm_base.specs.declared.receive.Fate.{Fate}
 use Rattle.bm_table.specs.declared.plan.Change.{Change}
 use Rattle.bm_table.specs.declared.script.Command.{Command}
-use Rattle.bm_table.specs.declared.script.Command.TheVariants.{Change as ChangeCommand, Close as CloseCommand, Retire as RetireCommand, Sync as SyncCommand}
+use Rattle.bm_table.specs.declared.script.Command.TheVariants.{Close as CloseCommand, Retire as RetireCommand, Sync as SyncCommand}
 use Rattle.bm_table.specs.Tables.{next_change, IsRetirement}
 use Rattle.bm_core.specs.declared.events.Verdict.{Verdict}
 use Rattle.bm_core.specs.declared.events.What.{What}

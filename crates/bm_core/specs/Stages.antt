@@ -5,7 +5,6 @@ use Rattle.bm_base.specs.declared.flow.Flow.{Flow}
 use Rattle.bm_base.specs.declared.capture.Record.{Record}
 use Rattle.bm_base.specs.declared.capture.Vip.{Vip}
 use Rattle.bm_table.specs.Planned.{Planned}
-use Rattle.bm_table.specs.declared.plan.Change.{Change}
 use Rattle.bm_table.specs.declared.plan.Kind.{Kind}
 use Rattle.bm_table.specs.declared.plan.Kind.TheVariants.{Add}
 use Rattle.bm_table.specs.declared.script.Command.{Command}

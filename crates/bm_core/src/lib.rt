@@ -3,6 +3,7 @@
 
 mod clock;
 mod events;
+pub mod laws;
 mod schedule;
 mod verdict;
 
