@@ -9,3 +9,4 @@ pub mod Books
 pub mod Logs
 pub mod Accounts
 pub mod Schedule
+pub mod Trails
