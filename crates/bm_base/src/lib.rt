@@ -14,7 +14,7 @@ mod text;
 pub use capture::{Body, Capture, Reason, Record, Vip};
 pub use flow::{Flow, Segment, is_opening};
 pub use ids::{Moment, MuxId, ServerId, Version};
-pub use label::{Entry, Hop, Label};
+pub use label::{Entry, Hop, Label, Tag, tag_of};
 pub use list::List;
 pub use memory::Memory;
 pub use receive::{Fate, Taken};
