@@ -1,7 +1,9 @@
 //! The plan: where the buckets open, and the changes in their order.
-ghost use Rattle.std.specs.Prelude.{◌≡◌, [], length};
+ghost use Rattle.std.specs.Prelude.{◌≡◌, ◌<◌, [], length, IfOk};
+ghost use Rattle.bm_table.specs.Settings.{IsWithin, RiseFrom};
 
-use bm_base::{List, Moment, ServerId};
+use bm_base::{List, Memory, Moment, ServerId};
+use std::alloc::Global;
 use std::marker::Model;
 
 /// What a change is for.
@@ -55,5 +57,51 @@ impl Model for Plan {
 
     ghost Value = { Planned };
 
-    ghost view = { λ p. record { buckets = p.buckets; servers = p.servers.items; changes = p.changes.items } };
+    ghost use Rattle.bm_table.specs.Views.{planned, IsKept};
+
+    ghost view = { planned };
+
+    ghost invariant = { IsKept };
+}
+
+impl Plan {
+    ghost use Rattle.bm_table.specs.Plans.{IsPlan};
+    ghost use Rattle.bm_table.specs.Tables.{opening};
+
+    /// A plan without changes. Bucket b opens on server number `b mod n` of the list, from 0.
+    pub fn new(alloc: Global, buckets: u32, servers: &[ServerId]) -> Result<Plan, Memory>
+        requires buckets { IsWithin 1 65536 buckets }
+        requires servers { 0 < length servers.now }
+        requires rising { RiseFrom 0 servers.now }
+        ensures { IfOk result (λ plan. plan ≡ record { buckets = buckets; servers = servers.now; changes = [] }) }
+    {
+        Ok(Plan {
+            buckets,
+            servers: Vec::from_slice(alloc, servers)?,
+            changes: Vec::new(alloc),
+        })
+    }
+
+    /// The number of changes.
+    pub fn versions(&self) -> u32
+        ensures count { result ≡ length self.now.changes }
+        ensures kept { IsPlan self.now }
+    {
+        self.changes.len() as u32
+    }
+
+    /// The number of buckets.
+    pub fn buckets(&self) -> u32
+        ensures { result ≡ self.now.buckets }
+    {
+        self.buckets
+    }
+
+    /// The server that the bucket opens on.
+    pub fn opening(&self, bucket: u32) -> ServerId
+        requires { bucket < self.now.buckets }
+        ensures { result ≡ (opening self.now bucket).cur }
+    {
+        self.servers[bucket as usize % self.servers.len()]
+    }
 }
