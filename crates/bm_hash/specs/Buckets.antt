@@ -19,9 +19,9 @@ unfoldable pub flow_hash : Flow → ℕ
 flow_hash f = fnv_1a (flow_octets f)
 
 -- the bucket of a flow, of so many
-unfoldable pub bucket_of : ℕ → Flow → ℕ
+abbrev pub bucket_of : ℕ → Flow → ℕ
 bucket_of buckets f = flow_hash f % buckets
 
 -- the shard of a flow at its server, of so many
-unfoldable pub shard_of : ℕ → Flow → ℕ
+abbrev pub shard_of : ℕ → Flow → ℕ
 shard_of shards f = flow_hash f / 2 ^ 32 % shards

@@ -1,0 +1,6 @@
+//! The receiving end of a TCP connection: sequence numbers, and what a segment does.
+#![tactic(auto)]
+
+mod receiver;
+
+pub use receiver::{Receiver, acceptable};

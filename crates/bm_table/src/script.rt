@@ -1,0 +1,29 @@
+//! What is done to a fleet, and when.
+use crate::{Plan, Setting};
+use bm_base::{Flow, List, Moment, ServerId, Version};
+
+/// A command. A Change leads to the version that it names, at that change's moment.
+#[derive(Clone, Copy, Debug, PartialEq, Eq)]
+pub enum Command {
+    Change(Version),
+    Close {
+        at: Moment,
+        server: ServerId,
+        flow: Flow,
+    },
+    Retire {
+        at: Moment,
+        server: ServerId,
+    },
+    Sync {
+        at: Moment,
+    },
+}
+
+/// A setting, its plan and its commands.
+#[derive(Debug, Drop)]
+pub struct Script {
+    pub setting: Setting,
+    pub plan: Plan,
+    pub commands: List<Command>,
+}

@@ -1,0 +1,63 @@
+//! The numbers of a fleet.
+ghost use Rattle.std.specs.Prelude.{◌≡◌, IfOk};
+
+use bm_base::{Fate, Hop, List, Memory, ServerId, Vip};
+use std::alloc::Global;
+
+/// How packets are given to muxes: by source port, or in turn.
+#[derive(Clone, Copy, Debug, PartialEq, Eq)]
+pub enum RouteKind {
+    Port,
+    Turn,
+}
+
+/// The fate of a packet's sendings of one hop.
+#[derive(Clone, Copy, Debug, PartialEq, Eq)]
+pub struct FaultRow {
+    pub packet: u32,
+    pub hop: Hop,
+    pub fate: Fate,
+}
+
+/// The numbers of a fleet. `timeout` and `lags` are nanoseconds, `capacity` is that of a shard.
+#[derive(Debug, Drop)]
+pub struct Setting {
+    pub buckets: u32,
+    pub servers: List<ServerId>,
+    pub muxes: u16,
+    pub shards: u16,
+    pub capacity: u32,
+    pub timeout: u64,
+    pub vips: List<Vip>,
+    pub route: RouteKind,
+    pub lags: List<u64>,
+    pub faults: List<FaultRow>,
+}
+
+impl Setting {
+    ghost use Rattle.bm_table.specs.Settings.{plain_setting};
+
+    /// The setting of a script that says nothing: 8 buckets on servers 1 and 2, one mux without a
+    /// lag, 4 shards of 4,096 connections, a timeout of 240 seconds, the service 192.0.2.1:80.
+    pub fn plain(alloc: Global) -> Result<Setting, Memory>
+        ensures { IfOk result (λ setting. setting ≡ plain_setting) }
+    {
+        Ok(Setting {
+            buckets: 8,
+            servers: List::of(vec![in alloc; ServerId(1), ServerId(2)]?),
+            muxes: 1,
+            shards: 4,
+            capacity: 4_096,
+            timeout: 240_000_000_000,
+            vips: List::of(vec![in alloc;
+                Vip {
+                    addr: 0xc000_0201,
+                    port: 80
+                },
+            ]?),
+            route: RouteKind::Port,
+            lags: List::of(vec![in alloc; 0]?),
+            faults: List::of(Vec::new(alloc)),
+        })
+    }
+}
