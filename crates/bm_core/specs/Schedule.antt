@@ -207,5 +207,5 @@ abbrev pub IsAnswered : Stage → List Event → ℕ → What → Type 0
 IsAnswered stage past clock (Steer k m) = m.0 < stage.script.setting.muxes
 IsAnswered stage past clock (Arrive k hop server verdict) = IsServing stage past clock k hop server verdict
 IsAnswered stage past clock (Close server flow closed) = closed ≡ is_some (held stage past server flow)
-IsAnswered stage past clock (Retire server h at result) = (at.0 < clock) × IsRetirement stage.script.plan (timeout stage) (newest past) server at.0 result
+IsAnswered stage past clock (Retire server h at result) = IsRetirement stage.script.plan (timeout stage) (newest past) server at.0 result
 IsAnswered stage past clock _ = Unit {0}
