@@ -17,13 +17,13 @@ use Rattle.bm_core.specs.declared.events.What.TheVariants.{Publish, Switch, Stee
 use Rattle.bm_core.specs.declared.events.Event.{Event}
 use Rattle.bm_core.specs.declared.events.Stage.{Stage}
 use Rattle.bm_table.specs.Tables.{next_change, moment_of}
-use Rattle.bm_core.specs.Past.{newest, Sending, sending_of, is_sending, sends, same_hop, steerable}
+use Rattle.bm_core.specs.Past.{is_switch_of, newest, Sending, sending_of, is_sending, sends, same_hop, steerable}
 use Rattle.bm_core.specs.Runs.{last_clock}
 use Rattle.bm_core.specs.Accounts.{count_of, counts, arrives, loses, lost_at}
 use Rattle.bm_core.specs.declared.schedule.Call.{Call}
 use Rattle.bm_core.specs.declared.schedule.Call.TheVariants.{Publishes, Switches, Closes, Retires, Syncs, Arrives, Steers, Loses}
 use Rattle.bm_core.specs.declared.schedule.Due.{Due}
-use Rattle.bm_core.specs.Schedule.{call_of, sooner, least, publish_due, switch_due, switches_due, is_switch_of, close_commands, retire_dues, retire_commands, sync_commands, packets_from, IsLeast}
+use Rattle.bm_core.specs.Schedule.{call_of, sooner, least, publish_due, switch_due, switches_due, close_commands, retire_dues, retire_commands, sync_commands, packets_from, IsLeast}
 use Rattle.bm_core.specs.Accounts.{fate_now, before, sent_copies, barren_at, AreSent}
 use Rattle.bm_core.specs.Schedule.{put, put_all, put_sent, rest, after_arrive, wire, dropped, first_of, arrival_due, left, closes, retires, syncs, steers, can_come, barren, owed, ComesNext, IsNextBy, Follows}
 

@@ -70,6 +70,11 @@ abbrev pub newest : List Event → ℕ
 newest [] = 0
 newest (e ∷ past) = published_by e.what (newest past)
 
+-- the event is a Switch of the mux
+abbrev pub is_switch_of : What → ℕ → Bool
+is_switch_of (Switch m v) n = m.0 == n
+is_switch_of _ n = false
+
 -- the mux's version after the event
 abbrev pub switched : What → MuxId → Version → Version
 switched (Switch mux v) m before = if mux.0 == m.0 then v else before

@@ -1,5 +1,5 @@
 -- A connection whose premises hold throughout (Beamer's design).
-use Rattle.std.specs.Prelude.{◌≡◌, ◌≢◌, ℕ, ◌+◌, ◌≤◌, true, false, ◌⊎◌, List, [], ◌∷◌, length, Some, IfSome}
+use Rattle.std.specs.Prelude.{◌≡◌, ◌≢◌, ℕ, ◌+◌, ◌≤◌, true, false, ◌⊎◌, List, length, Some, IfSome}
 use Rattle.bm_base.specs.declared.ids.ServerId.{ServerId}
 use Rattle.bm_base.specs.declared.flow.Flow.{Flow}
 use Rattle.bm_base.specs.declared.flow.Segment.{Segment}
@@ -13,12 +13,12 @@ use Rattle.bm_table.specs.Tables.{moves}
 use Rattle.bm_base.specs.declared.flags.TheConstants.{RST}
 use Rattle.bm_base.specs.Segments.{is_opening, has_flag}
 use Rattle.bm_core.specs.Past.{segment_of, bucket, shard, timeout, label_of, is_accept, is_done, Accepted, accept_of}
+use Rattle.bm_core.specs.Runs.{AtEach}
 use Rattle.bm_core.specs.Causes.{is_process}
 
--- this holds of each of these events and of those before it
+-- this holds of each of these events, of those before it, its clock and what it is
 abbrev pub Each : (List Event → ℕ → What → Type 0) → List Event → Type 0
-Each P [] = Unit {0}
-Each P (e ∷ past) = P past e.clock.0 e.what × Each P past
+Each P past = AtEach (λ before e. P before e.clock.0 e.what) past
 
 -- an arrival of the flow: the one Accept is at its place, no arrival is late, and the other packets come to the server after it, with versions that moved the bucket at most once
 pub record IsPinnedArrival (stage : Stage) (f : Flow) (packet : ℕ) (a : Accepted) (past : List Event) (clock k : ℕ) (server : ServerId) (verdict : Verdict) : Type 0 where

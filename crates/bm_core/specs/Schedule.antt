@@ -20,7 +20,7 @@ use Rattle.bm_core.specs.declared.schedule.Call.{Call}
 use Rattle.bm_core.specs.declared.schedule.Call.TheVariants.{Publishes, Switches, Closes, Retires, Syncs, Arrives, Steers, Loses}
 use Rattle.bm_core.specs.declared.schedule.Due.{Due}
 use Rattle.bm_core.specs.declared.schedule.Underway.{Underway}
-use Rattle.bm_core.specs.Past.{steerable, newest, Sending, sending_of, segment_of, label_of, held, timeout}
+use Rattle.bm_core.specs.Past.{is_switch_of, steerable, newest, Sending, sending_of, segment_of, label_of, held, timeout}
 use Rattle.bm_base.specs.Labels.{stop}
 use Rattle.bm_core.specs.Verdicts.{verdict_at}
 use Rattle.bm_core.specs.Runs.{last_clock, next}
@@ -93,11 +93,6 @@ publish_due v (Some c) = record { moment = c.moment.0; rank = 0; number = v; cal
 abbrev pub switch_due : ℕ → ℕ → ℕ → ℕ → Option Change → List Due
 switch_due muxes lag m v None = []
 switch_due muxes lag m v (Some c) = record { moment = c.moment.0 + lag; rank = 1; number = v * muxes + m; call = Switches m (suc v) } ∷ []
-
--- the event is a Switch of the mux
-abbrev pub is_switch_of : What → ℕ → Bool
-is_switch_of (Switch m v) n = m.0 == n
-is_switch_of _ n = false
 
 -- the next Switch of each of the first n muxes
 abbrev pub switches_due : Stage → List Event → ℕ → List Due

@@ -18,6 +18,7 @@ use Rattle.bm_core.specs.declared.events.Event.{Event}
 use Rattle.bm_core.specs.declared.events.Stage.{Stage}
 use Rattle.bm_core.specs.Past.{segment_of, shard, sends, newest, version_at, label_of}
 use Rattle.bm_core.specs.Runs.{Actor, actor_of, own_clock, last_clock, next}
+use Rattle.bm_core.specs.Past.{is_switch_of}
 use Rattle.bm_core.specs.Accounts.{count_of, counts, is_sync, fate_now, before}
 
 -- the clock of the actor's own last event, or 0
@@ -137,14 +138,10 @@ packet_of _ = None
 
 -- MUXES
 
-abbrev pub is_switch_by : What → ℕ → Bool
-is_switch_by (Switch m v) n = m.0 == n
-is_switch_by _ n = false
-
 -- in this phase the mux has looked at the board
 abbrev pub has_looked : List Event → ℕ → Bool
 has_looked [] m = false
-has_looked (e ∷ past) m = not (is_sync e.what) && (is_switch_by e.what m || has_looked past m)
+has_looked (e ∷ past) m = not (is_sync e.what) && (is_switch_of e.what m || has_looked past m)
 
 -- each mux has looked at the board in this phase
 abbrev pub HaveLooked : Stage → List Event → Type 0
