@@ -7,3 +7,4 @@ pub mod Switching
 pub mod Stepping
 pub mod Accounted
 pub mod Tagged
+pub mod Determined
