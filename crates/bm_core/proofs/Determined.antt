@@ -2,7 +2,12 @@
 use Rattle.std.proofs.Common.{◌≡◌, ℕ, ◌≤◌, true, inl, inr, List, [], ◌∷◌, length, Option, Some, None, is_some, sym, ◌∙◌, subst, refl, ap, arith}
 use Rattle.std.specs.Prelude.{IfSome}
 use Rattle.std.proofs.lemmas.Bool.{both_ways, cases_order, cases_lt}
+use Rattle.std.specs.Prelude.{reverse}
+use Rattle.std.proofs.lemmas.List.{reverse-reverse}
 use Rattle.std.proofs.lemmas.Option.{same_Some}
+use Rattle.bm_core.specs.declared.events.History.{History}
+use Rattle.bm_core.specs.Rules.{RouteBy, RuleBy}
+use Rattle.bm_core.specs.Histories.{IsNextIn, IsReplay}
 use Rattle.bm_base.specs.declared.ids.ServerId.{ServerId}
 use Rattle.bm_base.specs.declared.flow.Flow.{Flow}
 use Rattle.bm_base.specs.declared.flow.Segment.{Segment}
@@ -211,3 +216,27 @@ same_past R one F sure stage fates gates xs ys t over u ended =
     let a = not_longer R one F sure stage fates gates xs ys t over u
     in let b = not_longer R one F sure stage gates fates ys xs u ended t
     in same_long R one F sure stage fates gates xs ys (omega arith) t u
+
+-- WITH A ROUTE AND A RULE THAT ANSWER ONE THING
+
+one_mux : (mux : ℕ → Flow → ℕ) (k : ℕ) (f : Flow) (m n : ℕ) → RouteBy mux k f m → RouteBy mux k f n → m ≡ n
+one_mux mux k f m n p q = p ∙ sym q
+
+one_fate : (fate : ℕ → Hop → Fate) → IsSure (RuleBy fate)
+one_fate fate k hop f g p q = p ∙ sym q
+
+pub next_law : (mux : ℕ → Flow → ℕ) (fates : List Fate) (stage : Stage) (past : List Event) (a b : Event) → IsNextIn mux fates stage past a → IsNextIn mux fates stage past b → a ≡ b
+next_law mux fates stage past a b p q = same_next (RouteBy mux) (one_mux mux) fates stage past a b p.step q.step p.routed q.routed p.next q.next
+
+told : (R : Routes) (F : Rules) (h : History) (r : IsReplay R F h) → IsTold R F h.stage r.fates (reverse h.events)
+told R F h r = record { run = r.run.run; follows = r.follows; answered = r.account.answered }
+
+of_one_stage : (mux : ℕ → Flow → ℕ) (fate : ℕ → Hop → Fate) (stage : Stage) (xs ys : List Event)
+    → IsReplay (RouteBy mux) (RuleBy fate) (record { stage = stage; events = xs }) → IsReplay (RouteBy mux) (RuleBy fate) (record { stage = stage; events = ys }) → xs ≡ ys
+of_one_stage mux fate stage xs ys p q =
+    let same : reverse xs ≡ reverse ys = same_past (RouteBy mux) (one_mux mux) (RuleBy fate) (one_fate fate) stage p.fates q.fates (reverse xs) (reverse ys) (told _ _ _ p) p.over (told _ _ _ q) q.over
+    in sym (reverse-reverse xs) ∙ (ap (λ (zs : List Event). reverse zs) same ∙ reverse-reverse ys)
+
+pub replay_law : (a b : History) → a.stage ≡ b.stage → (mux : ℕ → Flow → ℕ) (fate : ℕ → Hop → Fate) → IsReplay (RouteBy mux) (RuleBy fate) a → IsReplay (RouteBy mux) (RuleBy fate) b → a.events ≡ b.events
+replay_law a b same mux fate p q =
+    of_one_stage mux fate b.stage a.events b.events (subst (λ (stage : Stage). IsReplay (RouteBy mux) (RuleBy fate) (record { stage = stage; events = a.events })) same p) q
