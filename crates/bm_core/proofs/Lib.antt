@@ -8,3 +8,6 @@ pub mod Stepping
 pub mod Accounted
 pub mod Tagged
 pub mod Determined
+pub mod Books
+pub mod Logs
+pub mod Listed
