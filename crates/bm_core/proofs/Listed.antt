@@ -1,6 +1,6 @@
 -- The list of held flows has each flow that is held, once.
-use Rattle.std.proofs.Common.{◌≡◌, ℕ, Bool, true, false, cond, not, sym, ◌∙◌, ◌&&◌, ◌||◌, List, [], ◌∷◌, Option, None, is_some, inl, inr, refl, ap, arith}
-use Rattle.std.proofs.lemmas.Bool.{cases_Bool, both_ways}
+use Rattle.std.proofs.Common.{◌≡◌, ℕ, Bool, true, false, cond, not, sym, ◌∙◌, ◌&&◌, ◌||◌, List, [], ◌∷◌, Option, Some, None, is_some, inl, inr, refl, ap, subst, eqb, if◌then◌else◌, arith}
+use Rattle.std.proofs.lemmas.Bool.{cases_Bool, both_ways, or_cases, and_parts, eqb-true, eq-eqb}
 use Rattle.bm_base.specs.declared.ids.ServerId.{ServerId}
 use Rattle.bm_base.specs.declared.flow.Flow.{Flow}
 use Rattle.bm_base.specs.declared.flow.Segment.{Segment}
@@ -12,7 +12,10 @@ use Rattle.bm_core.specs.declared.events.Verdict.TheVariants.{Accept, Process, F
 use Rattle.bm_core.specs.declared.events.Event.{Event}
 use Rattle.bm_core.specs.declared.events.Stage.{Stage}
 use Rattle.bm_base.specs.Segments.{same_flow}
-use Rattle.bm_core.specs.Past.{ends, shard, without, held, flows_held, is_done}
+use Rattle.bm_table.specs.Tables.{same_server}
+use Rattle.bm_core.specs.declared.events.What.{What}
+use Rattle.bm_core.specs.declared.events.What.TheVariants.{Publish, Switch, Steer, Lose, Arrive, Close, Retire, Sync}
+use Rattle.bm_core.specs.Past.{Holding, is_accept, segment_of, flows_arrived, flows_after, ends, shard, without, held, flows_held, is_done}
 use Rattle.bm_core.specs.Verdicts.{receiver_of}
 use Rattle.bm_core.specs.Books.{Turn, Took, Closed, RetiredAs, held_by_verdict, book_held, book_flows, book_of, turn_flows, turn_held, is_listed, AreDistinct}
 use Rattle.bm_core.proofs.Pasts.{same_flow-true, same_flow_refl}
@@ -125,3 +128,76 @@ flows_are_held stage past s f = rw (flows_in_book stage past s (shard stage f), 
 
 pub flows_are_distinct : (stage : Stage) (past : List Event) (s : ServerId) (h : ℕ) → AreDistinct (flows_held stage past s h)
 flows_are_distinct stage past s h = rw (flows_in_book stage past s h) (book_distinct (book_of stage past s h))
+
+-- WHOSE SHARD THE FLOWS ARE OF
+
+-- each of these flows is of the shard
+abbrev pub AreIn : Stage → ℕ → List Flow → Type 0
+AreIn stage h [] = Unit {0}
+AreIn stage h (f ∷ flows) = (shard stage f ≡ h) × AreIn stage h flows
+
+without_in : (stage : Stage) (h : ℕ) (f : Flow) (flows : List Flow) → AreIn stage h flows → AreIn stage h (without f flows)
+without_in stage h f [] all = tt
+without_in stage h f (x ∷ flows) all = elim (cases_Bool (same_flow f x)) [
+  | inl same ↦ rw same (without_in stage h f flows all.1)
+  | inr other ↦ rw other (all.0, without_in stage h f flows all.1)
+]
+
+taken_in : (stage : Stage) (h : ℕ) (verdict : Verdict) (f : Flow) (flows : List Flow) → shard stage f ≡ h → AreIn stage h flows
+    → AreIn stage h (if is_accept verdict then f ∷ without f flows else if ends verdict then without f flows else flows)
+taken_in stage h verdict f flows here all = elim (cases_Bool (is_accept verdict)) [
+  | inl accepts ↦ rw accepts (here, without_in stage h f flows all)
+  | inr other ↦ rw other (elim (cases_Bool (ends verdict)) [
+    | inl ended ↦ rw ended (without_in stage h f flows all)
+    | inr stays ↦ rw stays all
+  ])
+]
+
+arrived_in : (stage : Stage) (h : ℕ) (here : Bool) (verdict : Verdict) (o : Option Segment) (flows : List Flow) → AreIn stage h flows → AreIn stage h (flows_arrived stage h here verdict o flows)
+arrived_in stage h here verdict None flows all = all
+arrived_in stage h here verdict (Some s) flows all = elim (cases_Bool (here && eqb (shard stage s.flow) h)) [
+  | inl is ↦ rw is (taken_in stage h verdict s.flow flows (eqb-true _ _ (and_parts _ _ is).1) all)
+  | inr other ↦ rw other all
+]
+
+either_in : (stage : Stage) (h : ℕ) (b : Bool) (xs ys : List Flow) → AreIn stage h xs → AreIn stage h ys → AreIn stage h (if b then xs else ys)
+either_in stage h true xs ys p q = p
+either_in stage h false xs ys p q = q
+
+after_in : (stage : Stage) (what : What) (s : ServerId) (h : ℕ) (flows : List Flow) → AreIn stage h flows → AreIn stage h (flows_after stage what s h flows)
+after_in stage (Arrive k hop server verdict) s h flows all = arrived_in stage h (same_server server s) verdict (segment_of stage k) flows all
+after_in stage (Close server flow closed) s h flows all = either_in stage h _ _ _ (without_in stage h flow flows all) all
+after_in stage (Retire server x at result) s h flows all = either_in stage h _ [] _ tt all
+after_in stage (Publish v) s h flows all = all
+after_in stage (Switch m v) s h flows all = all
+after_in stage (Steer k m) s h flows all = all
+after_in stage (Lose k hop) s h flows all = all
+after_in stage Sync s h flows all = all
+
+held_in : (stage : Stage) (past : List Event) (s : ServerId) (h : ℕ) → AreIn stage h (flows_held stage past s h)
+held_in stage [] s h = tt
+held_in stage (e ∷ past) s h = after_in stage e.what s h (flows_held stage past s h) (held_in stage past s h)
+
+listed_in : (stage : Stage) (h : ℕ) (f : Flow) (flows : List Flow) → AreIn stage h flows → is_listed flows f ≡ true → shard stage f ≡ h
+listed_in stage h f [] all is = absurd (cc)
+listed_in stage h f (x ∷ flows) all is = elim (or_cases (same_flow x f) (is_listed flows f) is) [
+  | inl same ↦ subst (λ (g : Flow). shard stage g ≡ h) (same_flow-true x f same) all.0
+  | inr old ↦ listed_in stage h f flows all.1 old
+]
+
+same_some : (o : Option Holding) → is_some (receiver_of o) ≡ is_some o
+same_some None = refl
+same_some (Some x) = refl
+
+-- a flow is in the list exactly where it is of the shard and is held
+pub flows_of_shard : (stage : Stage) (past : List Event) (s : ServerId) (h : ℕ) (f : Flow) → is_listed (flows_held stage past s h) f ≡ (eqb (shard stage f) h && is_some (held stage past s f))
+flows_of_shard stage past s h f = elim (cases_Bool (eqb (shard stage f) h)) [
+  | inl is ↦
+      let here : shard stage f ≡ h = eqb-true _ _ is
+      in let listed : is_listed (flows_held stage past s h) f ≡ is_some (held stage past s f) = subst (λ (n : ℕ). is_listed (flows_held stage past s n) f ≡ is_some (held stage past s f)) here (flows_are_held stage past s f ∙ same_some (held stage past s f))
+      in rw is listed
+  | inr other ↦ rw other (elim (cases_Bool (is_listed (flows_held stage past s h) f)) [
+    | inl listed ↦ absurd (both_ways _ other (eq-eqb _ _ (listed_in stage h f _ (held_in stage past s h) listed)))
+    | inr absent ↦ absent
+  ])
+]
