@@ -7,3 +7,7 @@ pub mod Switching
 pub mod Stepping
 pub mod Accounted
 pub mod Tagged
+pub mod Determined
+pub mod Books
+pub mod Logs
+pub mod Listed
