@@ -6,3 +6,4 @@ pub mod Schedules
 pub mod Switching
 pub mod Stepping
 pub mod Accounted
+pub mod Tagged

@@ -10,3 +10,4 @@ pub mod Logs
 pub mod Accounts
 pub mod Schedule
 pub mod Trails
+pub mod Threads

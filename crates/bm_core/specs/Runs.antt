@@ -14,7 +14,8 @@ use Rattle.bm_core.specs.declared.events.History.{History}
 use Rattle.bm_table.specs.Tables.{IsRetirement}
 use Rattle.bm_core.specs.Stages.{IsSound}
 use Rattle.bm_core.specs.Past.{segment_of, shard, timeout, newest, label_of, is_sent, is_sent_at, held}
-use Rattle.bm_core.specs.Verdicts.{stop, verdict_at}
+use Rattle.bm_base.specs.Labels.{stop}
+use Rattle.bm_core.specs.Verdicts.{verdict_at}
 
 -- who keeps a clock
 pub data Actor : Type 0 where

@@ -20,7 +20,8 @@ use Rattle.bm_core.specs.declared.schedule.Call.TheVariants.{Publishes, Switches
 use Rattle.bm_core.specs.declared.schedule.Due.{Due}
 use Rattle.bm_core.specs.declared.schedule.Underway.{Underway}
 use Rattle.bm_core.specs.Past.{steerable, newest, Sending, sending_of, segment_of, label_of, held, timeout}
-use Rattle.bm_core.specs.Verdicts.{stop, verdict_at}
+use Rattle.bm_base.specs.Labels.{stop}
+use Rattle.bm_core.specs.Verdicts.{verdict_at}
 use Rattle.bm_core.specs.Runs.{last_clock, next}
 use Rattle.bm_core.specs.Accounts.{counts, fate_now, before}
 

@@ -6,6 +6,7 @@ use Rattle.bm_base.specs.declared.flow.Segment.{Segment}
 use Rattle.bm_seq.specs.declared.receiver.Receiver.{Receiver}
 use Rattle.bm_base.specs.declared.label.Entry.{Entry}
 use Rattle.bm_base.specs.declared.label.Label.{Label}
+use Rattle.bm_base.specs.declared.label.Tag.{Tag}
 use Rattle.bm_base.specs.declared.label.Hop.{Hop}
 use Rattle.bm_base.specs.declared.label.Hop.TheVariants.{Direct, Chained}
 use Rattle.bm_core.specs.declared.events.Why.{Why}
@@ -33,10 +34,9 @@ abbrev pub onward : Entry → Hop → Option Onward
 onward e Direct = onward_with e.stamp.0 e.prev
 onward e Chained = None
 
--- where a copy of this hop arrives
-abbrev pub stop : Entry → Hop → Option ServerId
-stop e Direct = Some e.cur
-stop e Chained = e.prev
+-- what a tag says of the entry of its label
+abbrev pub entry_of : Tag → Entry
+entry_of t = record { cur = t.dest; prev = t.prev; stamp = t.stamp }
 
 abbrev pub why_reset : Hop → Option Onward → Why
 why_reset Chained onto = ChainedUnknown
@@ -62,6 +62,10 @@ by_holding None full timeout clock hop onto s =
 abbrev pub verdict_of : Local → ℕ → ℕ → Hop → Option Onward → Segment → Verdict
 verdict_of local timeout clock hop onto s =
     if local.retired then Drop Retired else by_holding local.held local.full timeout clock hop onto s
+
+-- the verdict on a segment that carries this tag
+abbrev pub verdict_on : Local → ℕ → ℕ → Tag → Segment → Verdict
+verdict_on local timeout clock t s = verdict_of local timeout clock t.hop (onward (entry_of t) t.hop) s
 
 abbrev pub receiver_of : Option Holding → Option Receiver
 receiver_of None = None
