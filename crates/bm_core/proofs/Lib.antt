@@ -11,3 +11,4 @@ pub mod Determined
 pub mod Books
 pub mod Logs
 pub mod Listed
+pub mod Stops

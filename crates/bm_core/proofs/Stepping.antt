@@ -87,7 +87,8 @@ sent_keeps f e past (Some s) w is all = put_all_keeps (e ∷ past) f.copies _ w 
   here : (k : ℕ) → ((eqb k k && true) || is_sent past s.packet s.hop) ≡ true
   here k = let h : eqb k k ≡ true = grind (arith, nat_tests) in rw h refl
 
-wire_sent : (fates : List Fate) (past : List Event) → AllSent past (wire fates past)
+-- copies under way were sent
+pub wire_sent : (fates : List Fate) (past : List Event) → AllSent past (wire fates past)
 wire_sent fates [] = tt
 wire_sent fates (e ∷ past) =
     sent_keeps (fate_now fates) e past (sending_of e.what) _ refl (more_sent e past _ (after_keeps past e.what _ (wire_sent (before fates) past)))
