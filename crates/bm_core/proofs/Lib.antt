@@ -12,3 +12,4 @@ pub mod Books
 pub mod Logs
 pub mod Listed
 pub mod Stops
+pub mod Retiring
