@@ -13,3 +13,4 @@ pub mod Logs
 pub mod Listed
 pub mod Stops
 pub mod Retiring
+pub mod Playing
