@@ -14,3 +14,4 @@ pub mod Listed
 pub mod Stops
 pub mod Retiring
 pub mod Playing
+pub mod Ended
