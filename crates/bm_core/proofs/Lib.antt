@@ -15,3 +15,10 @@ pub mod Stops
 pub mod Retiring
 pub mod Playing
 pub mod Ended
+pub mod Worked
+pub mod WorkedPlain
+pub mod WorkedMoves
+pub mod WorkedMuxes
+pub mod WorkedRetiring
+pub mod WorkedReceiver
+pub mod WorkedFates

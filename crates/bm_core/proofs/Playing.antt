@@ -80,7 +80,7 @@ abbrev pub next_event : (ℕ → Flow → ℕ) → (ℕ → Hop → Fate) → St
 next_event mux fate stage past = coming mux stage past (owed (fates_by fate past) past) (can_come (wire (fates_by fate past) past) stage past)
 
 -- at most so many events more
-pub play : (ℕ → Flow → ℕ) → (ℕ → Hop → Fate) → Stage → ℕ → List Event → List Event
+unfoldable pub play : (ℕ → Flow → ℕ) → (ℕ → Hop → Fate) → Stage → ℕ → List Event → List Event
 play mux fate stage zero past = past
 play mux fate stage (suc n) past = elim (next_event mux fate stage past) [ None ↦ past | Some e ↦ play mux fate stage n (e ∷ past) ]
 
