@@ -11,3 +11,14 @@ pub mod Determined
 pub mod Books
 pub mod Logs
 pub mod Listed
+pub mod Stops
+pub mod Retiring
+pub mod Playing
+pub mod Ended
+pub mod Worked
+pub mod WorkedPlain
+pub mod WorkedMoves
+pub mod WorkedMuxes
+pub mod WorkedRetiring
+pub mod WorkedReceiver
+pub mod WorkedFates

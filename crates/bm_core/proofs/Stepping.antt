@@ -87,7 +87,8 @@ sent_keeps f e past (Some s) w is all = put_all_keeps (e ∷ past) f.copies _ w 
   here : (k : ℕ) → ((eqb k k && true) || is_sent past s.packet s.hop) ≡ true
   here k = let h : eqb k k ≡ true = grind (arith, nat_tests) in rw h refl
 
-wire_sent : (fates : List Fate) (past : List Event) → AllSent past (wire fates past)
+-- copies under way were sent
+pub wire_sent : (fates : List Fate) (past : List Event) → AllSent past (wire fates past)
 wire_sent fates [] = tt
 wire_sent fates (e ∷ past) =
     sent_keeps (fate_now fates) e past (sending_of e.what) _ refl (more_sent e past _ (after_keeps past e.what _ (wire_sent (before fates) past)))
@@ -134,7 +135,8 @@ at_most_one : (b : Bool) → cond b 1 0 ≤ 1
 at_most_one true = omega arith
 at_most_one false = omega arith
 
-new_packet : (fates : List Fate) (stage : Stage) (past : List Event) (k : ℕ) (d : Due) → Follows fates stage past → d.call ≡ Steers k → first_of (left (packets_from 1 stage.capture.records) past steers) ≡ d ∷ []
+-- the packet of a Steer that comes next is new, and has a segment
+pub new_packet : (fates : List Fate) (stage : Stage) (past : List Event) (k : ℕ) (d : Due) → Follows fates stage past → d.call ≡ Steers k → first_of (left (packets_from 1 stage.capture.records) past steers) ≡ d ∷ []
     → (is_sent past k Direct ≡ false) × (is_some (segment_of stage k) ≡ true)
 new_packet fates stage past k d follows c e = (fresh, known) where
   bal : counts past (λ what. steer_at k (call_of what)) + counted (steer_at k) (left (packets_from 1 stage.capture.records) past steers) ≡ cond (is_some (segment_of stage k)) 1 0
