@@ -2,7 +2,7 @@
 ghost use Rattle.std.specs.Prelude.{◌≡◌, ◌<◌, [], length, IfOk};
 ghost use Rattle.bm_table.specs.Settings.{IsWithin, RiseFrom};
 
-use bm_base::{List, Memory, Moment, ServerId};
+use bm_base::{List, Memory, Moment, ServerId, Version};
 use std::alloc::Global;
 use std::marker::Model;
 
@@ -66,7 +66,8 @@ impl Model for Plan {
 
 impl Plan {
     ghost use Rattle.bm_table.specs.Plans.{IsPlan};
-    ghost use Rattle.bm_table.specs.Tables.{opening};
+    ghost use Rattle.bm_table.specs.Tables.{next_change, opening};
+    ghost use Rattle.std.specs.Option.{option_copied};
 
     /// A plan without changes. Bucket b opens on server number `b mod n` of the list, from 0.
     pub fn new(alloc: Global, buckets: u32, servers: &[ServerId]) -> Result<Plan, Memory>
@@ -103,5 +104,12 @@ impl Plan {
         ensures { result ≡ (opening self.now bucket).cur }
     {
         self.servers[bucket as usize % self.servers.len()]
+    }
+
+    /// The change that leads from version `v` to the next, if the plan has it. Takes no memory.
+    pub fn next_change(&self, v: Version) -> Option<&Change>
+        ensures { option_copied result ≡ next_change self.now v.0 }
+    {
+        self.changes.get(v.0 as usize)
     }
 }
