@@ -8,6 +8,7 @@ mod ids;
 mod label;
 mod list;
 mod memory;
+mod octets;
 mod receive;
 mod text;
 
@@ -17,6 +18,7 @@ pub use ids::{Moment, MuxId, ServerId, Version};
 pub use label::{Entry, Hop, Label, Tag, tag_of};
 pub use list::List;
 pub use memory::Memory;
+pub use octets::{MAX_INNER, Octets};
 pub use receive::{Fate, Taken};
 pub use text::Text;
 

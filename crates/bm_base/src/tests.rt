@@ -64,3 +64,15 @@ fn a_tag_has_the_destination_of_its_hop(rt: HostRuntime) {
         assert_eq!(rt; tag_of(&label, hop), want);
     }
 }
+
+#[test]
+fn octets_give_back_what_was_pushed(rt: HostRuntime) -> Result<(), Fail> {
+    let mut octets = Octets::new(rt.alloc());
+    assert_eq!(rt; octets.len(), 0);
+    octets.push(&[1, 2])?;
+    octets.push(&[])?;
+    assert_eq!(rt; octets.len(), 2);
+    assert_eq!(rt; octets.get(0), [1, 2].as_slice());
+    assert_eq!(rt; octets.get(1), [].as_slice());
+    Ok(())
+}

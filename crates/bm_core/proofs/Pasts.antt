@@ -24,7 +24,8 @@ use Rattle.bm_core.specs.declared.events.Stage.{Stage}
 use Rattle.bm_table.specs.Tables.{same_server, table, IsRetirement}
 use Rattle.bm_base.specs.Segments.{same_flow}
 use Rattle.bm_core.specs.Past.{segment_of, is_of, bucket, shard, timeout, published_by, newest, switched, version_at, labelled, label_after, label_of, version_of, is_forward, hop_after, is_direct, sends, is_sent, Holding, after_verdict, after_arrival, is_done, retires, retired, held_after, held, is_accept, Accepted, accept_after, accept_of, accept_before, owner_after, owner}
-use Rattle.bm_core.specs.Verdicts.{stop, Onward, onward, local_at, verdict_of, verdict_at}
+use Rattle.bm_base.specs.Labels.{stop}
+use Rattle.bm_core.specs.Verdicts.{Onward, onward, local_at, verdict_of, verdict_at}
 use Rattle.bm_core.specs.Stages.{IsSound}
 use Rattle.bm_core.specs.Runs.{last_clock, IsArrival, MayCome, IsStep, Run}
 use Rattle.bm_table.proofs.Tables.{same_server-true, retirement_late}

@@ -19,7 +19,8 @@ use Rattle.bm_core.specs.declared.events.Stage.{Stage}
 use Rattle.bm_table.specs.Tables.{same_server, table}
 use Rattle.bm_base.specs.Segments.{same_flow}
 use Rattle.bm_core.specs.Past.{segment_of, is_of, bucket, shard, timeout, label_after, label_of, is_forward, sends, is_sent, Holding, after_arrival, is_done, retired, held_after, held, is_accept, Accepted}
-use Rattle.bm_core.specs.Verdicts.{stop, Onward, onward, local_at, verdict_of, verdict_at}
+use Rattle.bm_base.specs.Labels.{stop}
+use Rattle.bm_core.specs.Verdicts.{Onward, onward, local_at, verdict_of, verdict_at}
 use Rattle.bm_core.specs.Stages.{IsSound}
 use Rattle.bm_core.specs.Runs.{last_clock, IsArrival, MayCome, Run}
 use Rattle.bm_table.proofs.Tables.{same_server-true, eq-same_server}

@@ -10,3 +10,6 @@ pub mod Logs
 pub mod Accounts
 pub mod Schedule
 pub mod Trails
+pub mod Threads
+pub mod Rules
+pub mod Histories

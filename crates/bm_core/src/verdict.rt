@@ -1,53 +1,45 @@
 //! The verdict on a copy of a packet.
 ghost use Rattle.std.specs.Prelude.{◌≡◌, ◌≤◌, if◌then◌else◌};
-ghost use Rattle.bm_core.specs.Verdicts.{onward, verdict_of};
+ghost use Rattle.bm_core.specs.Verdicts.{entry_of, onward, passed_on, verdict_on};
 ghost use Rattle.bm_base.specs.Segments.{has_flag};
 
 use crate::{Local, Verdict, Why};
 use bm_base::flags::RST;
-use bm_base::{Entry, Hop, Moment, Segment, is_opening};
+use bm_base::{Hop, Moment, Segment, Tag, is_opening};
 
-/// The verdict on a segment, from what its shard knows of its flow.
-pub fn decide(
-    local: &Local,
-    entry: &Entry,
-    hop: Hop,
-    s: &Segment,
-    clock: Moment,
-    timeout: u64,
-) -> Verdict
+/// The verdict on a segment that carries a tag, at a shard that knows this of the segment's flow.
+/// `clock` and `timeout` are nanoseconds. Takes no memory.
+pub fn decide(local: &Local, tag: &Tag, s: &Segment, clock: Moment, timeout: u64) -> Verdict
     requires len { s.now.len ≤ 1048576 }
-    ensures { result ≡ verdict_of local.now timeout clock.0 hop (onward entry.now hop) s.now }
+    ensures { result ≡ verdict_on local.now timeout clock.0 tag.now s.now }
 {
     if local.retired {
         return Verdict::Drop(Why::Retired);
     }
-    let direct = hop == Hop::Direct;
-    if let Some(receiver) = local.held {
-        if receiver.finished && direct && is_opening(s) && s.seq != receiver.start {
-            return Verdict::Accept;
-        }
-        return Verdict::Process(receiver.judge(s));
+    let opens = tag.hop == Hop::Direct && is_opening(s);
+    match local.held {
+        Some(receiver) if opens && receiver.finished && s.seq != receiver.start => Verdict::Accept,
+        Some(receiver) => Verdict::Process(receiver.judge(s)),
+        None if opens && local.full => Verdict::Drop(Why::Full),
+        None if opens => Verdict::Accept,
+        None => pass_on(tag, s, clock, timeout),
     }
-    if direct && is_opening(s) {
-        return if local.full {
-            Verdict::Drop(Why::Full)
-        } else {
-            Verdict::Accept
-        };
-    }
-    match hop {
-        Hop::Chained => refuse(Why::ChainedUnknown, s),
-        Hop::Direct => match entry.prev {
-            None => refuse(Why::NoPrevious, s),
-            Some(server) => {
-                if u128::from(clock.0) <= u128::from(entry.stamp.0) + u128::from(timeout) {
-                    Verdict::Forward(server)
-                } else {
-                    refuse(Why::ChainExpired, s)
-                }
+}
+
+/// The verdict on a segment of a flow that isn't held, and that may not be accepted.
+fn pass_on(tag: &Tag, s: &Segment, clock: Moment, timeout: u64) -> Verdict
+    ensures { result ≡ passed_on timeout clock.0 tag.now.hop (onward (entry_of tag.now) tag.now.hop) s.now }
+{
+    match (tag.hop, tag.prev) {
+        (Hop::Chained, _) => refuse(Why::ChainedUnknown, s),
+        (Hop::Direct, None) => refuse(Why::NoPrevious, s),
+        (Hop::Direct, Some(server)) => {
+            if u128::from(clock.0) <= u128::from(tag.stamp.0) + u128::from(timeout) {
+                Verdict::Forward(server)
+            } else {
+                refuse(Why::ChainExpired, s)
             }
-        },
+        }
     }
 }
 

@@ -40,7 +40,6 @@ pub fn flow_hash(f: &Flow) -> u64
 }
 
 /// The bucket of a flow, below `buckets`.
-#[tactic(auto, unfolding(crate::specs::Buckets::bucket_of))]
 pub fn bucket_of(f: &Flow, buckets: u32) -> u32
     requires some { 1 ≤ buckets }
     requires few { buckets ≤ 65536 }
@@ -50,7 +49,6 @@ pub fn bucket_of(f: &Flow, buckets: u32) -> u32
 }
 
 /// The shard of a flow at its server, below `shards`.
-#[tactic(auto, unfolding(crate::specs::Buckets::shard_of))]
 pub fn shard_of(f: &Flow, shards: u16) -> u16
     requires some { 1 ≤ shards }
     requires few { shards ≤ 64 }

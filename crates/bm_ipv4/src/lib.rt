@@ -3,7 +3,7 @@
 
 mod checksum;
 mod fault;
-mod fields;
+pub mod fields;
 mod view;
 
 pub use checksum::header_sum;
