@@ -8,7 +8,7 @@ use Rattle.bm_table.specs.Tables.{IsOrderly, is_drained, table}
 use Rattle.bm_table.proofs.SettingLemmas.{IsSetting-plain_setting}
 use Rattle.bm_core.specs.Stages.{IsSound}
 use Rattle.bm_replay.specs.Replays.{IsBare}
-use Rattle.bm_cli.specs.Captures.{IsReplayable}
+use Rattle.bm_base.specs.Captures.{IsReplayable}
 use Rattle.bm_cli.specs.Fleet.{plain_script, plain_stage}
 
 never_drained : (n : ℕ) (s : ServerId) → is_drained plain_script.plan n s ≡ false

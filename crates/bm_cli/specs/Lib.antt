@@ -1,3 +1,10 @@
 pub mod Words
 pub mod Fleet
 pub mod Captures
+pub mod Statuses
+pub mod Headline
+pub mod Showing
+pub mod Lines
+pub mod Refusing
+pub mod Asked
+pub mod Top

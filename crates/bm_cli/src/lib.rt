@@ -2,4 +2,14 @@
 #![tactic(auto)]
 
 mod fleet;
+mod lines;
+mod reading;
+mod show;
+mod status;
+mod top;
 mod words;
+
+pub use top::beamer;
+
+#[cfg(test)]
+mod tests;

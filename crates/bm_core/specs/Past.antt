@@ -10,9 +10,6 @@ use Rattle.bm_seq.specs.declared.receiver.Receiver.{Receiver}
 use Rattle.bm_base.specs.declared.label.Label.{Label}
 use Rattle.bm_base.specs.declared.label.Hop.{Hop}
 use Rattle.bm_base.specs.declared.label.Hop.TheVariants.{Direct, Chained}
-use Rattle.bm_base.specs.declared.capture.Record.{Record}
-use Rattle.bm_base.specs.declared.capture.Body.{Body}
-use Rattle.bm_base.specs.declared.capture.Body.TheVariants.{Steerable, Unsteered}
 use Rattle.bm_base.specs.declared.receive.Taken.{Taken}
 use Rattle.bm_base.specs.declared.receive.Taken.TheVariants.{Ended}
 use Rattle.bm_table.specs.declared.plan.Retirement.{Retirement}
@@ -27,14 +24,7 @@ use Rattle.bm_table.specs.Tables.{table, same_server}
 use Rattle.bm_base.specs.Segments.{same_flow}
 use Rattle.bm_hash.specs.Buckets.{bucket_of, shard_of}
 use Rattle.bm_seq.specs.Receivers.{opened, receiver_after}
-
--- the record's segment, where it is steered
-abbrev pub steerable : Option Record → Option Segment
-steerable None = None
-steerable (Some r) = steerable_body r.body where
-  steerable_body : Body → Option Segment
-  steerable_body (Steerable s) = Some s
-  steerable_body (Unsteered why) = None
+pub use Rattle.bm_base.specs.Captures.{steerable}
 
 -- the segment of packet k, which is the record of that number, counted from 1
 abbrev pub segment_of : Stage → ℕ → Option Segment

@@ -1,9 +1,6 @@
 -- Which stages are sound (Beamer's design). A stage is the script and the capture that a history is about.
 use Rattle.std.specs.Prelude.{◌-◌, ◌⊎◌, map, ◌≡◌, ℕ, ◌+◌, ◌*◌, ◌^◌, ◌≤◌, true, List, [], ◌∷◌, length, Some, IfSome}
 use Rattle.std.specs.List.{AllByRecursion}
-use Rattle.bm_base.specs.declared.flow.Flow.{Flow}
-use Rattle.bm_base.specs.declared.capture.Record.{Record}
-use Rattle.bm_base.specs.declared.capture.Vip.{Vip}
 use Rattle.bm_table.specs.Planned.{Planned}
 use Rattle.bm_table.specs.declared.plan.Kind.{Kind}
 use Rattle.bm_table.specs.declared.plan.Kind.TheVariants.{Add}
@@ -12,14 +9,8 @@ use Rattle.bm_table.specs.declared.script.Command.TheVariants.{Change as ChangeC
 use Rattle.bm_table.specs.Settings.{IsSetting, IsWithin}
 use Rattle.bm_core.specs.declared.events.Stage.{Stage}
 use Rattle.bm_table.specs.Tables.{is_known, next_change, moment_of, IsOrderly}
-use Rattle.bm_core.specs.Past.{steerable}
+pub use Rattle.bm_base.specs.Captures.{AreRising, IsService, IsFit}
 
--- these moments don't fall, begin no lower than the first number, and end no higher than the second
-abbrev pub AreRising : ℕ → ℕ → List ℕ → Type 0
-AreRising low high [] = Unit {0}
-AreRising low high (m ∷ moments) = (low ≤ m) × (m ≤ high) × AreRising m high moments
-
--- the moment of a command; that of a Change is the moment of its change
 abbrev pub moment_of_command : Planned → Command → ℕ
 moment_of_command plan (ChangeCommand v) = moment_of (next_change plan (v.0 - 1))
 moment_of_command plan (CloseCommand at server flow) = at.0
@@ -37,15 +28,6 @@ abbrev pub IsOfKnown : Planned → Command → Type 0
 IsOfKnown plan (CloseCommand at server flow) = is_known plan (length plan.changes) server ≡ true
 IsOfKnown plan (RetireCommand at server) = is_known plan (length plan.changes) server ≡ true
 IsOfKnown plan _ = Unit {0}
-
--- the flow goes to one of these services
-abbrev pub IsService : List Vip → Flow → Type 0
-IsService [] f = ⊥
-IsService (v ∷ vips) f = ((f.dst ≡ v.addr) × (f.dport ≡ v.port)) ⊎ IsService vips f
-
--- a steerable record's segment goes to a service, and takes at most 2^20 sequence numbers
-abbrev pub IsFit : List Vip → Record → Type 0
-IsFit vips r = IfSome (steerable (Some r)) (λ s. IsService vips s.flow × (s.len ≤ 1048576))
 
 -- a change that adds a server names a server number
 abbrev pub NamesServer : Kind → Type 0

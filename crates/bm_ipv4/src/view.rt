@@ -1,5 +1,5 @@
 //! A packet whose header was read.
-ghost use Rattle.std.specs.Prelude.{◌≡◌, ◌≤◌, ◌<◌, ◌^◌, ◌+◌, ◌/◌, ◌%◌, ◌||◌, ◌==◌, not, if◌then◌else◌, length, take};
+ghost use Rattle.std.specs.Prelude.{◌≡◌, ◌≤◌, ◌<◌, ◌^◌, ◌+◌, ◌/◌, ◌%◌, ◌||◌, ◌==◌, not, if◌then◌else◌, max, length, take};
 ghost use Rattle.bm_ipv4.specs.Header.{ipv4_of};
 
 use crate::Ipv4Fault;
@@ -19,7 +19,7 @@ pub struct Ipv4View<'a> {
 }
 
 impl<'a> Model for Ipv4View<'a> {
-    ghost use Rattle.std.specs.Prelude.{◌≤◌, length, drop};
+    ghost use Rattle.std.specs.Prelude.{◌≤◌, max, length, drop};
     ghost use Rattle.bm_ipv4.specs.Header.{Packet};
 
     ghost Value = { Packet };
@@ -34,7 +34,7 @@ impl<'a> Model for Ipv4View<'a> {
       dst = a.dst;
     } };
 
-    ghost invariant = { λ a. a.header ≤ length a.packet.now };
+    ghost invariant = { λ a. (a.header ≤ length a.packet.now) × (a.stated_payload ≤ max 65535 (length a.packet.now)) };
 }
 
 /// Reads the header of a packet (RFC 791, section 3.1). Options are passed over, and the checksum
@@ -111,9 +111,11 @@ impl<'a> Ipv4View<'a> {
         &self.packet[self.header..]
     }
 
-    /// How many octets of payload the header states.
+    /// How many octets of payload the header states. Only where its total length is 0 these are more
+    /// than 65,535, and then they are there.
     pub fn stated_payload(&self) -> u32
-        ensures { result ≡ self.now.stated_payload }
+        ensures stated { result ≡ self.now.stated_payload }
+        ensures bound { result ≤ max 65535 (length self.now.packet) }
     {
         self.stated_payload
     }

@@ -1,5 +1,6 @@
 //! What a record holds.
-ghost use Rattle.std.specs.Prelude.{◌≡◌, ◌<◌, ◌^◌, length, IsTrue};
+ghost use Rattle.std.specs.Prelude.{◌≡◌, ◌<◌, ◌^◌, ℕ, length, IsTrue};
+ghost use Rattle.bm_base.specs.Captures.{IsFit};
 ghost use Rattle.bm_link.specs.Links.{is_link};
 ghost use Rattle.bm_link.specs.Classes.{classified, goes_to, unsteered, link_reason, ipv4_reason, tcp_reason};
 
@@ -14,7 +15,8 @@ use bm_tcp::{TcpFault, read_tcp};
 pub fn classify<'a>(link: u16, octets: &'a [u8], vips: &[Vip]) -> (Body, &'a [u8])
     requires link { IsTrue (is_link link) }
     requires short { length octets.now < 2 ^ 32 }
-    ensures { (result.0, result.1.now) ≡ classified link vips.now octets.now }
+    ensures class { (result.0, result.1.now) ≡ classified link vips.now octets.now }
+    ensures fit { (moment : ℕ) → IsFit vips.now (record { moment = record { 0 = moment }; body = result.0 }) }
 {
     let part = match network_part(link, octets) {
         Ok(part) => part,

@@ -1,5 +1,5 @@
 //! Reading a segment.
-ghost use Rattle.std.specs.Prelude.{◌≡◌};
+ghost use Rattle.std.specs.Prelude.{◌≡◌, ◌≤◌, max, length, IfOk};
 ghost use Rattle.bm_tcp.specs.Header.{count_of, tcp_of};
 
 use crate::TcpFault;
@@ -13,7 +13,8 @@ use bm_ipv4::fields::{read_u16, read_u32};
 #[tactic(auto, unfolding(crate::specs::Header::tcp_of))]
 pub fn read_tcp(v: &Ipv4View<'_>) -> Result<Segment, TcpFault>
     requires { v.now.protocol ≡ 6 }
-    ensures { result ≡ tcp_of v.now }
+    ensures segment { result ≡ tcp_of v.now }
+    ensures bound { IfOk result (λ s. s.len ≤ max 65535 (length v.now.packet)) }
 {
     let octets = v.payload();
     if octets.len() < 20 {
@@ -41,7 +42,8 @@ pub fn read_tcp(v: &Ipv4View<'_>) -> Result<Segment, TcpFault>
 
 /// 1 where the flag is set.
 fn count(flags: u8, flag: u8) -> u32
-    ensures { result ≡ count_of flag flags }
+    ensures count { result ≡ count_of flag flags }
+    ensures bound { result ≤ 1 }
 {
     if flags & flag > 0 { 1 } else { 0 }
 }

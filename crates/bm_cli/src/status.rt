@@ -1,0 +1,54 @@
+//! How the program ends, and what it then has written.
+ghost use Rattle.std.specs.Prelude.{◌≡◌, ◌≢◌};
+ghost use Rattle.bm_cli.specs.Statuses.{Says, code_of};
+
+use bm_io::{IoFault, Sink, put_all};
+
+/// How the program ends.
+#[derive(Clone, Copy, Debug, PartialEq, Eq)]
+pub(crate) enum Status {
+    /// The report was written.
+    Done,
+    /// The words are of no form.
+    Usage,
+    /// The files failed.
+    ReadFault,
+    /// The capture has a fault.
+    BadCapture,
+    /// The sink failed.
+    WriteFault,
+    /// Memory was refused.
+    Memory,
+    /// A limit is passed.
+    Limit,
+}
+
+impl Status {
+    /// The exit status.
+    pub(crate) fn code(self) -> u8
+        ensures { result ≡ code_of self }
+    {
+        match self {
+            Status::Done => 0,
+            Status::Usage => 1,
+            Status::ReadFault => 2,
+            Status::BadCapture => 3,
+            Status::WriteFault => 5,
+            Status::Memory => 6,
+            Status::Limit => 7,
+        }
+    }
+}
+
+/// Writes a text, and ends with this status, or with that of the write where it is refused.
+pub(crate) fn say<K: Sink>(out: &mut K, text: &[u8], status: Status) -> Status
+    requires write { status ≢ Status.WriteFault }
+    requires memory { status ≢ Status.Memory }
+    ensures { Says status text.now (K.written out.old) (K.written out.new) (K.faults out.old) (K.faults out.new) result }
+{
+    match put_all(out, text) {
+        Ok(()) => status,
+        Err(IoFault::Failed) => Status::WriteFault,
+        Err(IoFault::Memory) => Status::Memory,
+    }
+}

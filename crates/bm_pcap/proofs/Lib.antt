@@ -1,0 +1,5 @@
+pub mod Filled
+pub mod Steps
+pub mod Forms
+pub mod Loop
+pub mod Rising
