@@ -8,7 +8,6 @@ use Rattle.bm_base.specs.declared.capture.Reason.TheVariants as reason
 use Rattle.bm_base.specs.declared.capture.Vip.{Vip}
 use Rattle.bm_base.specs.declared.flow.Flow.{Flow}
 use Rattle.bm_base.specs.declared.flow.Segment.{Segment}
-use Rattle.bm_base.specs.declared.octets.TheConstants.{MAX_INNER}
 use Rattle.bm_ipv4.specs.declared.fault.Ipv4Fault.{Ipv4Fault}
 use Rattle.bm_ipv4.specs.declared.fault.Ipv4Fault.TheVariants as ipv4
 use Rattle.bm_ipv4.specs.Header.{Packet, ipv4_of}
@@ -41,11 +40,12 @@ goes_to vips f = list_any (λ v. v.addr == f.dst && v.port == f.dport) vips
 abbrev pub unsteered : Reason → Body × List ℕ
 unsteered r = (Unsteered r, [])
 
+-- A packet that is longer than 65,491 octets has no room for a carrier header of 44 octets below 65,535.
 abbrev pub of_segment : List Vip → Packet → Result Segment TcpFault → Body × List ℕ
 of_segment vips p (Err e) = unsteered (tcp_reason e)
 of_segment vips p (Ok s) =
     if not (goes_to vips s.flow) then unsteered reason.OtherDestination
-    else if nat_lt MAX_INNER (length p.packet) then unsteered reason.TooLong
+    else if nat_lt 65491 (length p.packet) then unsteered reason.TooLong
     else (Steerable s, p.packet)
 
 abbrev pub of_packet : List Vip → Result Packet Ipv4Fault → Body × List ℕ

@@ -6,7 +6,7 @@ mod network;
 mod record;
 
 pub use fault::LinkFault;
-pub use network::network_part;
+pub use network::{is_link, network_part};
 pub use record::classify;
 
 #[cfg(test)]

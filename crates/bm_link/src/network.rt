@@ -8,6 +8,13 @@ use bm_ipv4::fields::read_u16;
 
 const IPV4: u16 = 0x0800;
 
+/// Whether frames of this link type are read.
+pub fn is_link(link: u16) -> bool
+    ensures { result ≡ is_link link }
+{
+    matches!(link, 1 | 101 | 113 | 228 | 276)
+}
+
 /// The network layer's part of a frame of this link type: 1 Ethernet with at most two tags, 101 raw
 /// IP, 113 Linux cooked, 228 raw IPv4, 276 Linux cooked version 2.
 #[tactic(auto, unfolding(crate::specs::Links::network_of))]

@@ -1,0 +1,4 @@
+pub mod Filled
+pub mod Steps
+pub mod Forms
+pub mod Loop

@@ -1,0 +1,61 @@
+use Rattle.std.proofs.Common.{◌≡◌, ◌∷◌, [], ◌∙◌, ap, sym, arith, refl, Ok, length, Some, length-append}
+use Rattle.std.proofs.lemmas.Result.{err_from_is_err_and}
+use Rattle.bm_base.specs.declared.capture.Capture.{Capture}
+use Rattle.bm_link.specs.Classes.{classified}
+use Rattle.bm_pcap.specs.declared.form.Form.{Form}
+use Rattle.bm_pcap.specs.declared.place.Place.{Place}
+use Rattle.bm_pcap.specs.declared.item.Item.{Item}
+use Rattle.bm_pcap.specs.declared.item.Item.TheVariants as item
+use Rattle.bm_pcap.specs.declared.step.Step.TheVariants as step
+use Rattle.bm_pcap.specs.Records.{moment_of}
+use Rattle.bm_pcap.proofs.Loop.{starts, first_number, gave, stepped, failed, at_cut, at_end, at_fault, goes_on}
+use Rattle.bm_pcap.proofs.reader.read_capture.Goals as goal
+
+pub loop-packets-init : goal.loop-packets-init
+loop-packets-init g c =
+    let one = first_number c.args.r.now.place c.requires.0 in
+    record {
+      so_far = λ octets stands. rw (c.new-records.ensures.items, c.new-packets.ensures) (starts _ c.args.r.now.form c.args.vips.now c.args.r.now.place octets stands c.requires.0);
+      count = rw c.new-packets.ensures (sym one);
+      few = omega (arith, one);
+      form = refl;
+      fresh = c.requires.1;
+      later = omega arith;
+    }
+
+pub returns-in_err-moment-clause-capture : goal.returns-in_err-moment-clause-capture
+returns-in_err-moment-clause-capture g c octets stands =
+    let p = err_from_is_err_and c.from_residual.result c.from_residual.ensures.1 in
+    let f = failed g.S.Source.left g.S.Source.faults c.loop-packets.r c.next.follows.lender-at-none c.next.result c.in_err-moment.field-0.0 c.loop-packets.invariant.fresh c.next.follows.holds-at-none c.in_err-moment.was in
+    rw (p.1, p.2) (at_fault _ _ c.loop-packets.r.form c.args.vips.now _ c.loop-packets.r.place c.loop-packets.records.items c.loop-packets.packets c.in_err-moment.field-0.0 _ (c.loop-packets.invariant.so_far octets stands) f.0)
+
+pub loop-packets-preserved : goal.loop-packets-preserved
+loop-packets-preserved g c =
+    let given = gave g.S.Source.left g.S.Source.faults c.loop-packets.r c.next.follows.lender-at-none c.next.result (item.Record c.in-Record.number c.in-Record.moment c.in-Record.octets) c.next.follows.holds-at-none (c.in_ok-moment.was ∙ ap (λ (a : Item). Ok a) c.in-Record.is) in
+    let f = stepped g.S.Source.left g.S.Source.faults c.loop-packets.r c.next.follows.lender-at-none (step.Record given.0 (length c.in-Record.octets.now)) c.loop-packets.invariant.fresh given.1.0 in
+    let place = f.2.2 in
+    let moment : c.in-Record.moment ≡ moment_of c.loop-packets.r.place given.0 =
+    given.1.2 ∙ ap (λ (p : Place). p.last) place in
+    let class : (c.classify-body.result.0, c.classify-body.result.1.now) ≡ classified c.loop-packets.r.form.link c.args.vips.now c.in-Record.octets.now =
+    c.classify-body.ensures ∙ ap (λ l. classified l c.args.vips.now c.in-Record.octets.now) (c.link-link.ensures.link ∙ ap (λ (x : Form). x.link) (sym c.loop-packets.invariant.form)) in
+    let number = ap (λ (p : Place). p.number) place in
+    record {
+      so_far = λ octets stands. rw (c.in_ok-push-in-Record.ensures.items, c.in_ok-push-in-Record-2.ensures.ok, f.2.1, place) (goes_on _ _ c.loop-packets.r.form c.args.vips.now _ c.loop-packets.r.place c.loop-packets.records.items c.loop-packets.packets given.0 c.in-Record.octets.now _ c.in-Record.moment c.classify-body.result.0 c.classify-body.result.1.now (c.loop-packets.invariant.so_far octets stands) f.0 f.2.0.0 given.1.3 moment class);
+      count = omega (arith, ap length c.in_ok-push-in-Record-2.ensures.ok, length-append c.loop-packets.packets (c.classify-body.result.1.now ∷ []), number, c.loop-packets.invariant.count);
+      few = omega (arith, number, f.2.0.0);
+      form = f.2.1 ∙ c.loop-packets.invariant.form;
+      fresh = f.2.3;
+      later = omega (arith, f.1.later, c.loop-packets.invariant.later);
+    }
+
+pub returns-in-Cut-clause-capture : goal.returns-in-Cut-clause-capture
+returns-in-Cut-clause-capture g c octets stands =
+    let given = gave g.S.Source.left g.S.Source.faults c.loop-packets.r c.next.follows.lender-at-none c.next.result (item.Cut c.in-Cut.number) c.next.follows.holds-at-none (c.in_ok-moment.was ∙ ap (λ (a : Item). Ok a) c.in-Cut.is) in
+    let f = stepped g.S.Source.left g.S.Source.faults c.loop-packets.r c.next.follows.lender-at-none step.Cut c.loop-packets.invariant.fresh given.0 in
+    ap (λ (x : Capture). Ok (x, c.loop-packets.packets)) (c.captured.ensures ∙ ap (λ n. record { records = c.loop-packets.records.items; cut = Some n }) given.1) ∙ at_cut _ _ c.loop-packets.r.form c.args.vips.now _ c.loop-packets.r.place c.loop-packets.records.items c.loop-packets.packets _ (c.loop-packets.invariant.so_far octets stands) f.0
+
+pub returns-in-End-clause-capture : goal.returns-in-End-clause-capture
+returns-in-End-clause-capture g c octets stands =
+    let given = gave g.S.Source.left g.S.Source.faults c.loop-packets.r c.next.follows.lender-at-none c.next.result item.End c.next.follows.holds-at-none (c.in_ok-moment.was ∙ ap (λ (a : Item). Ok a) c.in-End.is) in
+    let f = stepped g.S.Source.left g.S.Source.faults c.loop-packets.r c.next.follows.lender-at-none step.End c.loop-packets.invariant.fresh given in
+    ap (λ (x : Capture). Ok (x, c.loop-packets.packets)) c.captured-in-End.ensures ∙ at_end _ _ c.loop-packets.r.form c.args.vips.now _ c.loop-packets.r.place c.loop-packets.records.items c.loop-packets.packets _ (c.loop-packets.invariant.so_far octets stands) f.0

@@ -1,0 +1,32 @@
+-- When a capture may be refused, and why.
+use Rattle.std.specs.Prelude.{ℕ, ◌≤◌, Result, IsErrOf}
+use Rattle.bm_io.specs.Causes.{Rose}
+use Rattle.bm_pcap.specs.declared.fault.PcapFault.{PcapFault}
+use Rattle.bm_pcap.specs.declared.fault.PcapFault.TheVariants.{NotACapture, BadVersion, BadLink, ReadFault, TooLarge, BadLength, TooManyPackets, Memory}
+
+-- The count doesn't fall, and `ReadFault` is answered only where it rose.
+pub record HasStepCause {T : Type 0} (before now : ℕ) (result : Result T PcapFault) : Type 0 where
+  pub later : before ≤ now
+  pub failed : IsErrOf result ReadFault → Rose before now
+
+-- the faults of a capture's header
+abbrev pub IsHeaderFault : PcapFault → Type 0
+IsHeaderFault NotACapture = Unit {0}
+IsHeaderFault BadVersion = Unit {0}
+IsHeaderFault (BadLink link) = Unit {0}
+IsHeaderFault ReadFault = Unit {0}
+IsHeaderFault Memory = Unit {0}
+IsHeaderFault TooLarge = ⊥
+IsHeaderFault (BadLength number n) = ⊥
+IsHeaderFault TooManyPackets = ⊥
+
+-- the faults of a capture's records
+abbrev pub IsRecordFault : PcapFault → Type 0
+IsRecordFault ReadFault = Unit {0}
+IsRecordFault TooLarge = Unit {0}
+IsRecordFault (BadLength number n) = Unit {0}
+IsRecordFault TooManyPackets = Unit {0}
+IsRecordFault Memory = Unit {0}
+IsRecordFault NotACapture = ⊥
+IsRecordFault BadVersion = ⊥
+IsRecordFault (BadLink link) = ⊥

@@ -1,0 +1,36 @@
+ghost use Rattle.std.specs.Prelude.{◌≡◌, ◌≤◌, ◌+◌, length, IfOk};
+ghost use Rattle.bm_io.specs.Causes.{HasCause};
+ghost use Rattle.bm_pcap.specs.Fill.{Fills, FillsWithin};
+
+use bm_io::{Failed, Source};
+
+/// Fills the buffer as far as the source's octets go, and answers how many there were.
+pub(crate) fn fill<S: Source>(src: &mut S, buf: &mut [u8]) -> Result<usize, Failed>
+    ensures bound { IfOk result (λ n. n ≤ length buf.new) }
+    ensures octets { IfOk result (λ n. Fills (S.left src.old) (S.left src.new) n buf.new) }
+    ensures cause { HasCause (S.faults src.old) (S.faults src.new) result }
+{
+    let mut at = 0;
+    while at < buf.len() {
+        let count = src.take(&mut buf[at..])?;
+        if count == 0 {
+            break;
+        }
+        at += count;
+    }
+    Ok(at)
+}
+
+/// The same, but reads no more octets than one past the room.
+pub(crate) fn fill_within<S: Source>(
+    src: &mut S,
+    buf: &mut [u8],
+    room: u32,
+) -> Result<usize, Failed>
+    ensures bound { IfOk result (λ n. (n ≤ length buf.new) × (n ≤ room + 1)) }
+    ensures octets { IfOk result (λ n. FillsWithin (S.left src.old) (S.left src.new) room n buf.new) }
+    ensures cause { HasCause (S.faults src.old) (S.faults src.new) result }
+{
+    let most = buf.len().min(room as usize + 1);
+    fill(src, &mut buf[..most])
+}

@@ -1,0 +1,15 @@
+//! What a reader answers.
+use bm_base::Moment;
+
+/// What stands next in a capture: a record, with its number counted from 1, its moment and its octets;
+/// the number of a record that is cut short; the end.
+#[derive(Clone, Copy, Debug)]
+pub enum Item<'a> {
+    Record {
+        number: u32,
+        moment: Moment,
+        octets: &'a [u8],
+    },
+    Cut(u32),
+    End,
+}

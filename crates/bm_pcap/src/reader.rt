@@ -1,0 +1,188 @@
+//! A reader of captures.
+ghost use Rattle.std.specs.Prelude.{◌≡◌, ◌≤◌, ◌+◌, length, IfOk, IfErr, IsTrue};
+ghost use Rattle.bm_link.specs.Links.{is_link};
+ghost use Rattle.bm_pcap.specs.Causes.{HasStepCause, IsHeaderFault, IsRecordFault};
+ghost use Rattle.bm_pcap.specs.Reader.{Advances, GivesNext, IsFresh, IsShort, ReadsCapture, Starts, StartsWithCause};
+
+use crate::PcapFault;
+use crate::form::{Form, read_form};
+use crate::item::Item;
+use crate::place::{LONGEST, Place};
+use crate::step::{Step, read_step};
+use bm_base::{Capture, List, Octets, Record, Vip};
+use bm_io::Source;
+use bm_link::classify;
+use std::alloc::Global;
+use std::marker::Model;
+
+/// Reads a capture record by record, over any source. It takes what it needs of the source, and
+/// nothing behind the first fault.
+#[derive(Drop)]
+pub struct PcapReader<S> {
+    src: S,
+    form: Form,
+    place: Place,
+    buffer: Vec<u8>,
+    ended: Option<Result<Step, PcapFault>>,
+}
+
+impl<S> Model for PcapReader<S> {
+    ghost use Rattle.std.specs.Prelude.{◌≡◌, length, IsTrue};
+    ghost use Rattle.bm_link.specs.Links.{is_link};
+    ghost use Rattle.bm_pcap.specs.Limits.{longest};
+    ghost use Rattle.bm_pcap.specs.Reader.{Reader, EndsWell};
+
+    ghost Value = { Reader S };
+
+    ghost view = { λ a. record {
+      source = a.src;
+      form = a.form;
+      place = a.place;
+      buffer = a.buffer.items;
+      ended = a.ended;
+    } };
+
+    ghost invariant = { λ a. (length a.buffer.items ≡ longest) × IsTrue (is_link a.form.link) × EndsWell a.ended };
+}
+
+impl<S: Source> PcapReader<S> {
+    ghost use Rattle.std.specs.Borrow.{sem};
+    ghost use Rattle.std.specs.Io.BufRead.{Rests};
+    ghost use Rattle.bm_pcap.specs.contracts.reader.PcapReader.{the_row};
+
+    /// A reader of a capture, whose header is read. The source comes back with a fault.
+    pub fn start(alloc: Global, mut src: S) -> Result<PcapReader<S>, (S, PcapFault)>
+        ensures starts { Starts S.left src result }
+        ensures fresh { IfOk result IsFresh }
+        ensures others { IfErr result (λ refused. IsHeaderFault refused.1) }
+        ensures cause { StartsWithCause S.faults src result }
+    {
+        match read_form(&mut src) {
+            Ok(form) => PcapReader::behind_header(alloc, src, form),
+            Err(e) => Err((src, e)),
+        }
+    }
+
+    /// A reader of a capture whose header was read.
+    fn behind_header(alloc: Global, src: S, form: Form) -> Result<PcapReader<S>, (S, PcapFault)>
+        requires { IsTrue (is_link form.link) }
+        ensures reader { IfOk result (λ reader. (reader.source ≡ src) × (reader.form ≡ form) × IsFresh reader) }
+        ensures memory { IfErr result (λ refused. (refused.0 ≡ src) × (refused.1 ≡ PcapFault.Memory)) }
+    {
+        let mut buffer = Vec::new(alloc);
+        if buffer.resize(LONGEST as usize, 0).is_err() {
+            return Err((src, PcapFault::Memory));
+        }
+        Ok(PcapReader {
+            src,
+            form,
+            place: Place::first(),
+            buffer,
+            ended: None,
+        })
+    }
+
+    /// The capture's link type.
+    pub fn link(&self) -> u16
+        ensures link { result ≡ self.now.form.link }
+        ensures read { IsTrue (is_link result) }
+    {
+        self.form.link
+    }
+
+    /// The source, behind what was read.
+    pub fn into_source(self) -> S
+        ensures { result ≡ self.source }
+    {
+        let PcapReader {
+            src,
+            form: _,
+            place: _,
+            buffer: _,
+            ended: _,
+        } = self;
+        src
+    }
+
+    /// Reads what stands next. After a fault, a record that is cut short or the end it answers the
+    /// same again.
+    fn advance(&mut self) -> Result<Step, PcapFault>
+        ensures advances { Advances S.left S.faults self.old self.new result }
+        ensures short { IfOk result IsShort }
+        ensures others { IfErr result IsRecordFault }
+    {
+        if let Some(ended) = self.ended {
+            return ended;
+        }
+        let result = read_step(
+            &mut self.src,
+            self.buffer.as_mut_slice(),
+            &self.form,
+            &self.place,
+        );
+        match result {
+            Ok(Step::Record { time, len }) => self.place = self.place.behind(time, len),
+            _ => self.ended = Some(result),
+        }
+        result
+    }
+
+    /// The next record, the one that is cut short, or the end. After a fault, a record that is cut
+    /// short or the end it answers the same again. Takes no memory.
+    pub fn next(&mut self) -> Result<Item<'_>, PcapFault>
+        ensures others { IfErr result IsRecordFault }
+        ensures* after { sem 𝓛 (Rests (the_row S.row) self.entry (λ new. GivesNext S.left S.faults self.old new result)) }
+    {
+        let number = self.place.number;
+        match self.advance()? {
+            Step::Record { time: _, len } => Ok(Item::Record {
+                number,
+                moment: self.place.last,
+                octets: &self.buffer[..len as usize],
+            }),
+            Step::Cut => Ok(Item::Cut(number)),
+            Step::End => Ok(Item::End),
+        }
+    }
+}
+
+/// Reads the records of a capture, classified for these services, and the packet of each. The reader is
+/// one that was not asked for a record yet.
+pub fn read_capture<S: Source>(
+    alloc: Global,
+    r: &mut PcapReader<S>,
+    vips: &[Vip],
+) -> Result<(Capture, Octets), PcapFault>
+    requires { IsFresh r.old }
+    ensures capture { ReadsCapture S.left r.old vips.now result }
+    ensures others { IfErr result IsRecordFault }
+    ensures cause { HasStepCause (S.faults r.old.source) (S.faults r.new.source) result }
+{
+    let link = r.link();
+    let mut records = Vec::new(alloc);
+    let mut packets = Octets::new(alloc);
+    loop {
+        match r.next()? {
+            Item::Record {
+                number: _,
+                moment,
+                octets,
+            } => {
+                let (body, packet) = classify(link, octets, vips);
+                records.push(Record { moment, body })?;
+                packets.push(packet)?;
+            }
+            Item::Cut(number) => return Ok((captured(records, Some(number)), packets)),
+            Item::End => return Ok((captured(records, None), packets)),
+        }
+    }
+}
+
+fn captured(records: Vec<Record>, cut: Option<u32>) -> Capture
+    ensures { result ≡ record { records = records.items; cut = cut } }
+{
+    Capture {
+        records: List::of(records),
+        cut,
+    }
+}

@@ -1,0 +1,223 @@
+ghost use Rattle.std.specs.Prelude.{◌≤◌};
+
+use super::*;
+use bm_base::{Body, Capture, Flow, Moment, Octets, Reason, Record, Segment, Vip};
+use bm_io::{MemSource, SureSource};
+use std::alloc::{AllocError, Global};
+use std::test::Fail;
+
+// Raw IP: a first segment, and one microsecond later ten octets of data. In both orders.
+const LITTLE: [u8; 146] = [
+    0xd4, 0xc3, 0xb2, 0xa1, 2, 0, 4, 0, 0, 0, 0, 0, 0, 0, 0, 0, 0xff, 0xff, 0, 0, 0x65, 0, 0, 0, 0,
+    0, 0, 0, 0, 0, 0, 0, 0x28, 0, 0, 0, 0x28, 0, 0, 0, 0x45, 0, 0, 0x28, 0, 0, 0x40, 0, 0x40, 6, 0,
+    0, 0x0a, 0, 0, 1, 0xc0, 0, 2, 1, 3, 0xe8, 0, 0x50, 0, 0, 0, 0x64, 0, 0, 0, 0, 0x50, 2, 0xff,
+    0xff, 0, 0, 0, 0, 0, 0, 0, 0, 1, 0, 0, 0, 0x32, 0, 0, 0, 0x32, 0, 0, 0, 0x45, 0, 0, 0x32, 0, 0,
+    0x40, 0, 0x40, 6, 0, 0, 0x0a, 0, 0, 1, 0xc0, 0, 2, 1, 3, 0xe8, 0, 0x50, 0, 0, 0, 0x65, 0, 0, 1,
+    0xf5, 0x50, 0x18, 0xff, 0xff, 0, 0, 0, 0, 0x61, 0x62, 0x63, 0x64, 0x65, 0x66, 0x67, 0x68, 0x69,
+    0x6a,
+];
+
+const BIG: [u8; 146] = [
+    0xa1, 0xb2, 0xc3, 0xd4, 0, 2, 0, 4, 0, 0, 0, 0, 0, 0, 0, 0, 0, 0, 0xff, 0xff, 0, 0, 0, 0x65, 0,
+    0, 0, 0, 0, 0, 0, 0, 0, 0, 0, 0x28, 0, 0, 0, 0x28, 0x45, 0, 0, 0x28, 0, 0, 0x40, 0, 0x40, 6, 0,
+    0, 0x0a, 0, 0, 1, 0xc0, 0, 2, 1, 3, 0xe8, 0, 0x50, 0, 0, 0, 0x64, 0, 0, 0, 0, 0x50, 2, 0xff,
+    0xff, 0, 0, 0, 0, 0, 0, 0, 0, 0, 0, 0, 1, 0, 0, 0, 0x32, 0, 0, 0, 0x32, 0x45, 0, 0, 0x32, 0, 0,
+    0x40, 0, 0x40, 6, 0, 0, 0x0a, 0, 0, 1, 0xc0, 0, 2, 1, 3, 0xe8, 0, 0x50, 0, 0, 0, 0x65, 0, 0, 1,
+    0xf5, 0x50, 0x18, 0xff, 0xff, 0, 0, 0, 0, 0x61, 0x62, 0x63, 0x64, 0x65, 0x66, 0x67, 0x68, 0x69,
+    0x6a,
+];
+
+// Ethernet: ARP; IPv6; a first fragment; a first segment to another address; one behind a tag; data in
+// a packet whose total length is 0; nine octets of a header.
+const ETHERNET: [u8; 443] = [
+    0xd4, 0xc3, 0xb2, 0xa1, 2, 0, 4, 0, 0, 0, 0, 0, 0, 0, 0, 0, 0xff, 0xff, 0, 0, 1, 0, 0, 0, 0, 0,
+    0, 0, 0, 0, 0, 0, 0x2a, 0, 0, 0, 0x2a, 0, 0, 0, 2, 0, 0, 0, 0, 1, 2, 0, 0, 0, 0, 2, 8, 6, 0, 1,
+    8, 0, 6, 4, 0, 1, 0, 0, 0, 0, 0, 0, 0, 0, 0, 0, 0, 0, 0, 0, 0, 0, 0, 0, 0, 0, 0, 0, 0, 0, 1, 0,
+    0, 0, 0x36, 0, 0, 0, 0x36, 0, 0, 0, 2, 0, 0, 0, 0, 1, 2, 0, 0, 0, 0, 2, 0x86, 0xdd, 0x60, 0, 0,
+    0, 0, 0, 0, 0, 0, 0, 0, 0, 0, 0, 0, 0, 0, 0, 0, 0, 0, 0, 0, 0, 0, 0, 0, 0, 0, 0, 0, 0, 0, 0, 0,
+    0, 0, 0, 0, 0, 0, 0, 0, 0, 2, 0, 0, 0, 0x2a, 0, 0, 0, 0x2a, 0, 0, 0, 2, 0, 0, 0, 0, 1, 2, 0, 0,
+    0, 0, 2, 8, 0, 0x45, 0, 0, 0x1c, 0, 0, 0x20, 0, 0x40, 6, 0, 0, 0x0a, 0, 0, 1, 0xc0, 0, 2, 1, 0,
+    0, 0, 0, 0, 0, 0, 0, 0, 0, 0, 0, 3, 0, 0, 0, 0x36, 0, 0, 0, 0x36, 0, 0, 0, 2, 0, 0, 0, 0, 1, 2,
+    0, 0, 0, 0, 2, 8, 0, 0x45, 0, 0, 0x28, 0, 0, 0x40, 0, 0x40, 6, 0, 0, 0x0a, 0, 0, 1, 0xc0, 0, 2,
+    9, 3, 0xe8, 0, 0x50, 0, 0, 0, 0x64, 0, 0, 0, 0, 0x50, 2, 0xff, 0xff, 0, 0, 0, 0, 0, 0, 0, 0, 4,
+    0, 0, 0, 0x3a, 0, 0, 0, 0x3a, 0, 0, 0, 2, 0, 0, 0, 0, 1, 2, 0, 0, 0, 0, 2, 0x81, 0, 0, 7, 8, 0,
+    0x45, 0, 0, 0x28, 0, 0, 0x40, 0, 0x40, 6, 0, 0, 0x0a, 0, 0, 1, 0xc0, 0, 2, 1, 3, 0xe8, 0, 0x50,
+    0, 0, 0, 0x64, 0, 0, 0, 0, 0x50, 2, 0xff, 0xff, 0, 0, 0, 0, 0, 0, 0, 0, 5, 0, 0, 0, 0x40, 0, 0,
+    0, 0x40, 0, 0, 0, 2, 0, 0, 0, 0, 1, 2, 0, 0, 0, 0, 2, 8, 0, 0x45, 0, 0, 0, 0, 0, 0x40, 0, 0x40,
+    6, 0, 0, 0x0a, 0, 0, 1, 0xc0, 0, 2, 1, 3, 0xe8, 0, 0x50, 0, 0, 0, 0x65, 0, 0, 1, 0xf5, 0x50,
+    0x18, 0xff, 0xff, 0, 0, 0, 0, 0x61, 0x62, 0x63, 0x64, 0x65, 0x66, 0x67, 0x68, 0x69, 0x6a, 0, 0,
+    0, 0, 0, 0, 0, 0, 0,
+];
+
+const VIPS: [Vip; 1] = [Vip {
+    addr: 0xc000_0201,
+    port: 80,
+}];
+
+const FLOW: Flow = Flow {
+    src: 0x0a00_0001,
+    dst: 0xc000_0201,
+    sport: 1000,
+    dport: 80,
+};
+
+const SYN: Segment = Segment {
+    flow: FLOW,
+    seq: 100,
+    ack: 0,
+    len: 1,
+    flags: 0x02,
+};
+
+const DATA: Segment = Segment {
+    flow: FLOW,
+    seq: 101,
+    ack: 501,
+    len: 10,
+    flags: 0x18,
+};
+
+// What reading these octets gives, where the source gives so many at a time.
+fn read(
+    alloc: Global,
+    octets: &[u8],
+    step: usize,
+) -> Result<Result<(Capture, Octets), PcapFault>, AllocError>
+    requires { 1 ≤ step }
+{
+    let src = SureSource::new(octets.to_vec(alloc)?, step);
+    match PcapReader::start(alloc, src) {
+        Ok(mut reader) => Ok(read_capture(alloc, &mut reader, &VIPS)),
+        Err((_, e)) => Ok(Err(e)),
+    }
+}
+
+fn record(moment: u64, body: Body) -> Record {
+    Record {
+        moment: Moment(moment),
+        body,
+    }
+}
+
+#[test]
+fn both_orders_give_the_same_records_however_the_source_cuts(rt: HostRuntime) -> Result<(), Fail> {
+    let want = [
+        record(0, Body::Steerable(SYN)),
+        record(1000, Body::Steerable(DATA)),
+    ];
+    for octets in [&LITTLE, &BIG] {
+        for step in 1..50 {
+            let (capture, packets) = read(rt.alloc(), octets, step)??;
+            assert_eq!(rt; capture.records.items(), want.as_slice());
+            assert_eq!(rt; capture.cut, None);
+            assert_eq!(rt; packets.len(), 2);
+        }
+    }
+    Ok(())
+}
+
+#[test]
+fn records_have_their_reasons_and_the_last_is_cut_short(rt: HostRuntime) -> Result<(), Fail> {
+    let (capture, packets) = read(rt.alloc(), &ETHERNET, 7)??;
+    let want = [
+        record(0, Body::Unsteered(Reason::NotIpv4)),
+        record(1000, Body::Unsteered(Reason::NotIpv4)),
+        record(2000, Body::Unsteered(Reason::Fragment)),
+        record(3000, Body::Unsteered(Reason::OtherDestination)),
+        record(4000, Body::Steerable(SYN)),
+        record(5000, Body::Steerable(DATA)),
+    ];
+    assert_eq!(rt; capture.records.items(), want.as_slice());
+    assert_eq!(rt; capture.cut, Some(7));
+    assert_eq!(rt; packets.len(), 6);
+    Ok(())
+}
+
+#[test]
+fn captures_are_refused_by_their_first_fault(rt: HostRuntime) -> Result<(), Fail> {
+    // An octet of the capture that is written over, and the fault.
+    let rows = [
+        (0, 0xd5, PcapFault::NotACapture),
+        (4, 3, PcapFault::BadVersion),
+        (6, 3, PcapFault::BadVersion),
+        (20, 105, PcapFault::BadLink(105)),
+        (
+            34,
+            4,
+            PcapFault::BadLength {
+                record: 1,
+                length: 262_184,
+            },
+        ),
+        (
+            90,
+            4,
+            PcapFault::BadLength {
+                record: 2,
+                length: 262_194,
+            },
+        ),
+    ];
+    for (place, octet, want) in rows {
+        let mut octets = LITTLE;
+        if let Some(old) = octets.get_mut(place) {
+            *old = octet;
+        }
+        let answer = read(rt.alloc(), &octets, 100)?;
+        assert!(rt; matches!(answer, Err(e) if e == want), "at {place}");
+    }
+    let answer = read(rt.alloc(), &LITTLE[..23], 100)?;
+    assert!(rt; matches!(answer, Err(PcapFault::NotACapture)));
+    Ok(())
+}
+
+#[test]
+fn a_cut_capture_keeps_the_records_before_the_cut(rt: HostRuntime) -> Result<(), Fail> {
+    // Where the capture ends, how many records it has, and which one is cut short.
+    let rows = [
+        (24, 0, None),
+        (25, 0, Some(1)),
+        (79, 0, Some(1)),
+        (80, 1, None),
+        (145, 1, Some(2)),
+        (146, 2, None),
+    ];
+    for (end, count, cut) in rows {
+        let octets = LITTLE.get(..end).unwrap_or(&[]);
+        let (capture, packets) = read(rt.alloc(), octets, 100)??;
+        assert_eq!(rt; capture.records.items().len(), count, "at {end}");
+        assert_eq!(rt; capture.cut, cut, "at {end}");
+        assert_eq!(rt; packets.len() as usize, count, "at {end}");
+    }
+    Ok(())
+}
+
+#[test]
+fn a_failed_read_is_answered_again(rt: HostRuntime) -> Result<(), Fail> {
+    let alloc = rt.alloc();
+    // The calls read the magic number, the rest of the header, and then a record in two parts.
+    let src = MemSource::new(LITTLE.to_vec(alloc)?, 1000, vec![in alloc; 4]?);
+    let Ok(mut reader) = PcapReader::start(alloc, src) else {
+        return Err(Fail::from("the header is whole"));
+    };
+    assert_eq!(rt; reader.link(), 101);
+    assert!(rt; matches!(reader.next(), Err(PcapFault::ReadFault)));
+    assert!(rt; matches!(reader.next(), Err(PcapFault::ReadFault)));
+    let again = PcapReader::start(alloc, reader.into_source());
+    assert!(rt; matches!(again, Err((_, PcapFault::NotACapture))));
+    Ok(())
+}
+
+#[test]
+fn the_end_is_answered_again(rt: HostRuntime) -> Result<(), Fail> {
+    let alloc = rt.alloc();
+    let src = SureSource::new(LITTLE.to_vec(alloc)?, 10);
+    let Ok(mut reader) = PcapReader::start(alloc, src) else {
+        return Err(Fail::from("the header is whole"));
+    };
+    assert!(rt; matches!(reader.next()?, Item::Record { number: 1, .. }));
+    assert!(rt; matches!(reader.next()?, Item::Record { number: 2, .. }));
+    assert!(rt; matches!(reader.next(), Ok(Item::End)));
+    assert!(rt; matches!(reader.next(), Ok(Item::End)));
+    Ok(())
+}
