@@ -17,13 +17,13 @@ use Rattle.bm_core.specs.declared.events.What.TheVariants.{Publish, Switch, Stee
 use Rattle.bm_core.specs.declared.events.Event.{Event}
 use Rattle.bm_core.specs.declared.events.Stage.{Stage}
 use Rattle.bm_table.specs.Tables.{next_change, moment_of}
-use Rattle.bm_core.specs.Past.{newest, Sending, sending_of, is_sending, sends, same_hop, steerable}
+use Rattle.bm_core.specs.Past.{is_switch_of, newest, Sending, sending_of, is_sending, sends, same_hop, steerable}
 use Rattle.bm_core.specs.Runs.{last_clock}
 use Rattle.bm_core.specs.Accounts.{count_of, counts, arrives, loses, lost_at}
 use Rattle.bm_core.specs.declared.schedule.Call.{Call}
 use Rattle.bm_core.specs.declared.schedule.Call.TheVariants.{Publishes, Switches, Closes, Retires, Syncs, Arrives, Steers, Loses}
 use Rattle.bm_core.specs.declared.schedule.Due.{Due}
-use Rattle.bm_core.specs.Schedule.{call_of, sooner, least, publish_due, switch_due, switches_due, is_switch_of, close_commands, retire_dues, retire_commands, sync_commands, packets_from, IsLeast}
+use Rattle.bm_core.specs.Schedule.{call_of, sooner, least, publish_due, switch_due, switches_due, close_commands, retire_dues, retire_commands, sync_commands, packets_from, IsLeast}
 use Rattle.bm_core.specs.Accounts.{fate_now, before, sent_copies, barren_at, AreSent}
 use Rattle.bm_core.specs.Schedule.{put, put_all, put_sent, rest, after_arrive, wire, dropped, first_of, arrival_due, left, closes, retires, syncs, steers, can_come, barren, owed, ComesNext, IsNextBy, Follows}
 
@@ -37,7 +37,7 @@ pub each_append : (P : Due → Type 0) (xs ys : List Due) → Each P xs → Each
 each_append P [] ys p q = q
 each_append P (x ∷ xs) ys p q = (p.0, each_append P xs ys p.1 q)
 
-each_dropped : (P : Due → Type 0) (n : ℕ) (xs : List Due) → Each P xs → Each P (dropped n xs)
+pub each_dropped : (P : Due → Type 0) (n : ℕ) (xs : List Due) → Each P xs → Each P (dropped n xs)
 each_dropped P zero xs p = p
 each_dropped P (suc n) [] p = tt
 each_dropped P (suc n) (x ∷ xs) p = each_dropped P n xs p.1
@@ -162,6 +162,7 @@ pub record IsTaken (w : List Underway) (stage : Stage) (past : List Event) (cloc
   pub call : due.call ≡ c
   pub from : IsFrom w stage past due c
   pub later : last_clock past < clock
+  pub after : due.moment < clock
 
 taken_least : (w : List Underway) (stage : Stage) (past : List Event) (e : Event) (o : Option Due) → least (can_come w stage past) ≡ o → IfSome o (λ d. IsFrom w stage past d d.call) → IsLeast past e o → IsTaken w stage past e.clock.0 (call_of e.what)
 taken_least w stage past e None l from is = absurd is
@@ -171,6 +172,7 @@ taken_least w stage past e (Some d) l from is = record {
   call = sym is.0;
   from = subst (λ (c : Call). IsFrom w stage past d c) (sym is.0) from;
   later = rw is.1 (omega arith);
+  after = rw is.1 (omega arith);
 }
 
 pub taken : (w : List Underway) (stage : Stage) (past : List Event) (e : Event) (loss : Option Call) → ComesNext loss (can_come w stage past) past e

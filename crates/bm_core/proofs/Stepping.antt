@@ -1,9 +1,10 @@
 -- What comes next in a replay, with its answers, is a step of a run.
-use Rattle.std.proofs.Common.{◌≡◌, ℕ, zero, suc, ◌+◌, ◌<◌, ◌≤◌, Bool, true, false, cond, ◌&&◌, ◌||◌, inl, inr, List, [], ◌∷◌, Option, Some, None, is_some, length, refl, ◌∙◌, arith, eqb}
+use Rattle.std.proofs.Common.{◌≡◌, ℕ, zero, suc, ◌+◌, ◌<◌, ◌≤◌, Bool, true, false, cond, ◌&&◌, ◌||◌, inl, inr, List, [], ◌∷◌, Option, Some, None, is_some, length, refl, subst, ◌∙◌, arith, eqb}
 use Rattle.std.specs.Prelude.{IfSome, nat_lt}
 use Rattle.std.proofs.lemmas.Bool.{cases_Bool, both_ways, or_right}
 use Rattle.std.proofs.lemmas.Bool.Decides.{nat_tests}
 use Rattle.std.proofs.lemmas.Option.{slice_get_cases, same_Some}
+use Rattle.bm_base.specs.declared.ids.ServerId.{ServerId}
 use Rattle.bm_base.specs.declared.label.Hop.{Hop}
 use Rattle.bm_base.specs.declared.label.Hop.TheVariants.{Direct, Chained}
 use Rattle.bm_base.specs.declared.receive.Fate.{Fate}
@@ -13,16 +14,18 @@ use Rattle.bm_core.specs.declared.events.What.{What}
 use Rattle.bm_core.specs.declared.events.What.TheVariants.{Publish, Switch, Steer, Lose, Arrive, Close, Retire, Sync}
 use Rattle.bm_core.specs.declared.events.Event.{Event}
 use Rattle.bm_core.specs.declared.events.Stage.{Stage}
+use Rattle.bm_table.specs.declared.script.Command.{Command}
+use Rattle.bm_table.specs.declared.script.Command.TheVariants.{Change as ChangeCommand, Close as CloseCommand, Retire as RetireCommand, Sync as SyncCommand}
 use Rattle.bm_table.specs.Tables.{next_change, IsOrderly}
 use Rattle.bm_core.specs.Past.{newest, segment_of, sends, is_sent, is_sent_at, Sending, sending_of, same_hop}
 use Rattle.bm_core.specs.Runs.{last_clock, own_clock, Actor, actor_of, is_by, MayCome, IsStep, Run}
 use Rattle.bm_core.specs.Accounts.{fate_now, before, counts}
 use Rattle.bm_core.specs.declared.schedule.Call.{Call}
-use Rattle.bm_core.specs.declared.schedule.Call.TheVariants.{Arrives, Steers, Loses}
+use Rattle.bm_core.specs.declared.schedule.Call.TheVariants.{Retires, Arrives, Steers, Loses}
 use Rattle.bm_core.specs.declared.schedule.Due.{Due}
-use Rattle.bm_core.specs.Schedule.{call_of, packets_from}
+use Rattle.bm_core.specs.Schedule.{call_of, packets_from, retire_dues, retire_commands, retires}
 use Rattle.bm_core.specs.Schedule.{put, put_all, put_sent, rest, after_arrive, wire, first_of, arrival_due, left, steers, barren, owed, IsNextBy, Follows, IsAnswered}
-use Rattle.bm_core.proofs.Schedules.{IsFrom, IsTaken, taken, taken_kind, counted, balance, class_of_steers, loss_call, no_loss_taken}
+use Rattle.bm_core.proofs.Schedules.{Each, each_append, each_dropped, IsFrom, IsTaken, taken, taken_kind, counted, balance, class_of_steers, loss_call, no_loss_taken}
 use Rattle.bm_core.proofs.Switching.{published, publish_first}
 use Rattle.bm_core.proofs.Accounted.{steer_at, steer_within, steer_records}
 
@@ -84,7 +87,8 @@ sent_keeps f e past (Some s) w is all = put_all_keeps (e ∷ past) f.copies _ w 
   here : (k : ℕ) → ((eqb k k && true) || is_sent past s.packet s.hop) ≡ true
   here k = let h : eqb k k ≡ true = grind (arith, nat_tests) in rw h refl
 
-wire_sent : (fates : List Fate) (past : List Event) → AllSent past (wire fates past)
+-- copies under way were sent
+pub wire_sent : (fates : List Fate) (past : List Event) → AllSent past (wire fates past)
 wire_sent fates [] = tt
 wire_sent fates (e ∷ past) =
     sent_keeps (fate_now fates) e past (sending_of e.what) _ refl (more_sent e past _ (after_keeps past e.what _ (wire_sent (before fates) past)))
@@ -131,7 +135,8 @@ at_most_one : (b : Bool) → cond b 1 0 ≤ 1
 at_most_one true = omega arith
 at_most_one false = omega arith
 
-new_packet : (fates : List Fate) (stage : Stage) (past : List Event) (k : ℕ) (d : Due) → Follows fates stage past → d.call ≡ Steers k → first_of (left (packets_from 1 stage.capture.records) past steers) ≡ d ∷ []
+-- the packet of a Steer that comes next is new, and has a segment
+pub new_packet : (fates : List Fate) (stage : Stage) (past : List Event) (k : ℕ) (d : Due) → Follows fates stage past → d.call ≡ Steers k → first_of (left (packets_from 1 stage.capture.records) past steers) ≡ d ∷ []
     → (is_sent past k Direct ≡ false) × (is_some (segment_of stage k) ≡ true)
 new_packet fates stage past k d follows c e = (fresh, known) where
   bal : counts past (λ what. steer_at k (call_of what)) + counted (steer_at k) (left (packets_from 1 stage.capture.records) past steers) ≡ cond (is_some (segment_of stage k)) 1 0
@@ -170,6 +175,33 @@ owed_sent fates (x ∷ past) k hop e = by (sending_of x.what) refl e where
     | inr other ↦ absurd (let n : ◌≡◌ {A = Option Call} None (Some (Loses k hop)) = rw other at h in cc)
   ]
 
+-- A RETIRE COMES AFTER ITS MOMENT
+
+-- the stated moment is that of the retire
+abbrev pub IsStated : Due → Call → Type 0
+IsStated d (Retires s h at) = d.moment ≡ at
+IsStated d _ = Unit {0}
+
+retires_stated : (s : ServerId) (at n : ℕ) → Each (λ d. IsStated d d.call) (retire_dues s at n)
+retires_stated s at zero = tt
+retires_stated s at (suc n) = each_append (λ d. IsStated d d.call) (retire_dues s at n) _ (retires_stated s at n) (refl, tt)
+
+all_stated : (shards : ℕ) (commands : List Command) → Each (λ d. IsStated d d.call) (retire_commands shards commands)
+all_stated shards [] = tt
+all_stated shards (CloseCommand at s f ∷ commands) = all_stated shards commands
+all_stated shards (ChangeCommand v ∷ commands) = all_stated shards commands
+all_stated shards (RetireCommand at s ∷ commands) = each_append (λ d. IsStated d d.call) (retire_dues s at.0 shards) _ (retires_stated s at.0 shards) (all_stated shards commands)
+all_stated shards (SyncCommand at ∷ commands) = all_stated shards commands
+
+first_stated : (dues : List Due) (d : Due) → Each (λ x. IsStated x x.call) dues → first_of dues ≡ d ∷ [] → IsStated d d.call
+first_stated [] d each e = absurd (cc)
+first_stated (x ∷ dues) d each e = let same : x ≡ d = cc in subst (λ (y : Due). IsStated y y.call) same each.0
+
+retire_moment : (stage : Stage) (past : List Event) (d : Due) (s : ServerId) (h at : ℕ) → first_of (left (retire_commands stage.script.setting.shards stage.script.commands) past retires) ≡ d ∷ [] → d.call ≡ Retires s h at → d.moment ≡ at
+retire_moment stage past d s h at e c =
+    subst (λ (x : Call). IsStated d x) c
+    (first_stated _ d (each_dropped (λ x. IsStated x x.call) (counts past (λ what. retires (call_of what))) _ (all_stated stage.script.setting.shards stage.script.commands)) e)
+
 -- THE STEP
 
 may_publish : (stage : Stage) (n : ℕ) → is_some (next_change stage.script.plan n) ≡ true → suc n ≤ length stage.script.plan.changes
@@ -201,7 +233,11 @@ may fates stage past clock (Arrive k hop server verdict) follows orderly t l a =
       verdict_is = a.verdict_is;
     }
 may fates stage past clock (Close server flow closed) follows orderly t l a = a
-may fates stage past clock (Retire server h at result) follows orderly t l a = a
+may fates stage past clock (Retire server h at result) follows orderly t l a =
+    let x = t refl
+    in let m : x.due.moment ≡ at.0 = retire_moment stage past x.due server h at.0 x.from x.call
+    in let after = x.after
+    in ((omega arith), a)
 may fates stage past clock Sync follows orderly t l a = tt
 
 -- what comes next is a step

@@ -1,4 +1,4 @@
--- The turns of one shard, and what they leave in it. A book has its newest turn first.
+-- The turns of one shard, and what they leave in it (Beamer's design). A book has its newest turn first.
 use Rattle.std.specs.Prelude.{◌≡◌, ℕ, Bool, false, ◌&&◌, ◌||◌, ◌==◌, if◌then◌else◌, List, [], ◌∷◌, length, Option, Some, None, option_map}
 use Rattle.bm_base.specs.declared.ids.ServerId.{ServerId}
 use Rattle.bm_base.specs.declared.flow.Flow.{Flow}
@@ -25,15 +25,18 @@ pub data Turn : Type 0 where
   Closed : Flow → Bool → Turn
   RetiredAs : Retirement → Turn
 
+-- the receiver of a flow after a segment of it was processed
 abbrev pub held_by_process : Taken → Segment → Option Receiver → Option Receiver
 held_by_process Ended s before = None
 held_by_process _ s before = option_map (λ r. receiver_after r s) before
 
+-- the receiver of a flow after a segment of it had this verdict
 abbrev pub held_by_verdict : Verdict → Segment → Option Receiver → Option Receiver
 held_by_verdict Accept s before = Some (opened s)
 held_by_verdict (Process t) s before = held_by_process t s before
 held_by_verdict _ s before = before
 
+-- the receiver of a flow after a turn
 abbrev pub turn_held : Turn → Flow → Option Receiver → Option Receiver
 turn_held (Took s verdict) f before = if same_flow s.flow f then held_by_verdict verdict s before else before
 turn_held (Closed flow closed) f before = if same_flow flow f && closed then None else before
@@ -44,19 +47,23 @@ abbrev pub book_held : List Turn → Flow → Option Receiver
 book_held [] f = None
 book_held (t ∷ book) f = turn_held t f (book_held book f)
 
+-- the turn retires the shard
 abbrev pub turn_retires : Turn → Bool
 turn_retires (RetiredAs result) = is_done result
 turn_retires _ = false
 
+-- the shard is retired
 abbrev pub book_retired : List Turn → Bool
 book_retired [] = false
 book_retired (t ∷ book) = turn_retires t || book_retired book
 
+-- the flows that the shard holds after a turn
 abbrev pub turn_flows : Turn → List Flow → List Flow
 turn_flows (Took s verdict) flows = if is_accept verdict then s.flow ∷ without s.flow flows else if ends verdict then without s.flow flows else flows
 turn_flows (Closed flow closed) flows = if closed then without flow flows else flows
 turn_flows (RetiredAs result) flows = if is_done result then [] else flows
 
+-- the flows that the shard holds
 abbrev pub book_flows : List Turn → List Flow
 book_flows [] = []
 book_flows (t ∷ book) = turn_flows t (book_flows book)
@@ -67,16 +74,19 @@ book_local capacity book f = record { retired = book_retired book; held = book_h
 
 -- THE BOOK OF A SHARD IN A HISTORY
 
+-- the turn of an arrival, if it is at the shard
 abbrev pub took : Stage → Bool → ℕ → Verdict → Option Segment → Option Turn
 took stage here h verdict None = None
 took stage here h verdict (Some s) = if here && shard stage s.flow == h then Some (Took s verdict) else None
 
+-- the turn of an event, if it is one of the server's shard
 abbrev pub turn_of : Stage → What → ServerId → ℕ → Option Turn
 turn_of stage (Arrive k hop server verdict) s h = took stage (same_server server s) h verdict (segment_of stage k)
 turn_of stage (Close server flow closed) s h = if same_server server s && shard stage flow == h then Some (Closed flow closed) else None
 turn_of stage (Retire server x at result) s h = if same_server server s && x == h then Some (RetiredAs result) else None
 turn_of stage _ s h = None
 
+-- the book with the turn, if there is one
 abbrev pub add_turn : Option Turn → List Turn → List Turn
 add_turn None book = book
 add_turn (Some t) book = t ∷ book

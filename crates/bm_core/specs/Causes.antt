@@ -1,4 +1,4 @@
--- Which premise is broken where a packet arrives.
+-- Which premise is broken where a packet arrives (Beamer's design). The premises are asked in one order, and the first broken one is the cause.
 use Rattle.std.specs.Prelude.{ℕ, ◌+◌, Bool, true, false, ◌&&◌, ◌||◌, not, ◌==◌, nat_lt, nat_le, if◌then◌else◌, List, [], ◌∷◌, Option, Some, None, is_some}
 use Rattle.bm_base.specs.declared.ids.ServerId.{ServerId}
 use Rattle.bm_base.specs.declared.flow.Flow.{Flow}
@@ -33,6 +33,7 @@ abbrev pub is_elsewhere : Stage → List Event → List Event → Flow → Serve
 is_elsewhere stage all [] f s = false
 is_elsewhere stage all (e ∷ past) f s = accepts_elsewhere stage all e.what f s || is_elsewhere stage all past f s
 
+-- the clock is past the stamp of the label by more than the timeout
 abbrev pub is_late : Stage → Label → ℕ → Bool
 is_late stage label clock = nat_lt (label.entry.stamp.0 + timeout stage) clock
 
@@ -47,6 +48,7 @@ first_broken stage past clock label f server (Some a) =
     else if is_elsewhere stage past past f a.server then Some SynElsewhere
     else None
 
+-- the verdict is Process
 abbrev pub is_process : Verdict → Bool
 is_process (Process t) = true
 is_process _ = false
@@ -64,11 +66,13 @@ is_fault (Forward to) a s = false
 is_fault (Reset why) a s = true
 is_fault (Drop why) a s = true
 
+-- why an opening packet is dropped: the shard is full, or its mux had an old table
 abbrev pub opening_cause : Verdict → ℕ → ℕ → Option Cause
 opening_cause (Drop FullShard) v newest = Some Full
 opening_cause (Drop Retired) v newest = if nat_lt v newest then Some OldTable else None
 opening_cause _ v newest = None
 
+-- the cause, from the owner, the segment and the label of the packet
 abbrev pub cause_at : Stage → List Event → ℕ → ServerId → Verdict → Option Accepted → Option Segment → Option Label → Option Cause
 cause_at stage past clock server verdict a (Some s) (Some label) =
     if is_opening s then opening_cause verdict label.version.0 (newest past)
@@ -76,6 +80,7 @@ cause_at stage past clock server verdict a (Some s) (Some label) =
     else None
 cause_at stage past clock server verdict a _ _ = None
 
+-- the packet is reset or dropped
 abbrev pub is_refusal : Verdict → Bool
 is_refusal (Reset why) = true
 is_refusal (Drop why) = true

@@ -1,4 +1,5 @@
--- What the laws say of the event at a place of a history.
+-- What the laws say of the event at a place of a history: where premises hold the owner serves, and where a packet is refused or processed
+-- elsewhere there is a cause (Beamer's design).
 use Rattle.std.specs.Prelude.{◌≡◌, ◌≢◌, ℕ, ◌+◌, ◌<◌, ◌≤◌, true, false, ◌⊎◌, List, Option, Some, None, IsSomeAnd}
 use Rattle.bm_base.specs.declared.ids.ServerId.{ServerId}
 use Rattle.bm_base.specs.declared.flow.Segment.{Segment}
@@ -18,6 +19,7 @@ use Rattle.bm_core.specs.Past.{segment_of, bucket, timeout, label_of, Accepted, 
 use Rattle.bm_core.specs.Runs.{event_at, past_at}
 use Rattle.bm_core.specs.Causes.{first_broken, is_process, wants_cause}
 
+-- the packet is not opening, and no premise is broken
 abbrev pub PremisesHold : Stage → List Event → ℕ → ServerId → Option Accepted → Option Segment → Option Label → Type 0
 PremisesHold stage past clock server a (Some s) (Some l) = (is_opening s ≡ false) × (first_broken stage past clock l s.flow server a ≡ None)
 PremisesHold stage past clock server a _ _ = ⊥
@@ -32,6 +34,7 @@ abbrev pub IsServedBy : Option Accepted → ServerId → Verdict → Type 0
 IsServedBy None server verdict = ⊥
 IsServedBy (Some a) server verdict = ((is_process verdict ≡ true) × (server ≡ a.server)) ⊎ (verdict ≡ Forward a.server)
 
+-- the arrival's packet is processed by its owner's server, or forwarded to it
 abbrev pub IsServed : Stage → List Event → What → Type 0
 IsServed stage past (Arrive k hop server verdict) = IsServedBy (owner stage past k) server verdict
 IsServed stage past _ = ⊥
@@ -41,6 +44,7 @@ abbrev pub IsFault : Stage → List Event → What → Type 0
 IsFault stage past (Arrive k hop server verdict) = wants_cause verdict (owner stage past k) server (segment_of stage k) ≡ true
 IsFault stage past _ = ⊥
 
+-- the server is not the owner's, and the bucket was moved at most once since the owner's version
 abbrev pub IsMovedAtMostOnce : Stage → ServerId → Option Accepted → Option Segment → Option Label → Type 0
 IsMovedAtMostOnce stage server (Some a) (Some s) (Some l) =
     (server ≢ a.server) × (a.version ≤ l.version.0) × (moves stage.script.plan (bucket stage s.flow) a.version l.version.0 ≤ 1)
@@ -51,6 +55,7 @@ abbrev pub IsRetiredDrop : Stage → List Event → What → Type 0
 IsRetiredDrop stage past (Arrive k Direct server (Drop Retired)) = IsMovedAtMostOnce stage server (owner stage past k) (segment_of stage k) (label_of stage past k)
 IsRetiredDrop stage past _ = ⊥
 
+-- the clock is past the stamp of the label by more than the timeout
 abbrev pub IsStampLate : Stage → ℕ → Option Label → Type 0
 IsStampLate stage clock None = ⊥
 IsStampLate stage clock (Some l) = l.entry.stamp.0 + timeout stage < clock

@@ -11,3 +11,5 @@ pub mod Accounts
 pub mod Schedule
 pub mod Trails
 pub mod Threads
+pub mod Rules
+pub mod Histories

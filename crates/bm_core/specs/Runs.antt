@@ -1,4 +1,4 @@
--- Which lists of events are runs.
+-- Which lists of events are runs (Beamer's design).
 use Rattle.std.specs.Prelude.{◌≡◌, ℕ, suc, ◌+◌, max, ◌<◌, ◌≤◌, Bool, true, false, ◌&&◌, ◌==◌, if◌then◌else◌, List, [], ◌∷◌, length, reverse, take, Option, Some, None, slice_get, is_some, IfSome, option_map}
 use Rattle.bm_base.specs.declared.ids.ServerId.{ServerId}
 use Rattle.bm_base.specs.declared.flow.Segment.{Segment}
@@ -23,12 +23,14 @@ pub data Actor : Type 0 where
   MuxOf : ℕ → Actor
   ShardOf : ℕ → ℕ → Actor
 
+-- these are the same actor
 abbrev pub same_actor : Actor → Actor → Bool
 same_actor Controller Controller = true
 same_actor (MuxOf m) (MuxOf n) = m == n
 same_actor (ShardOf s h) (ShardOf t i) = s == t && h == i
 same_actor _ _ = false
 
+-- the actor of an event; a Lose belongs to nobody
 abbrev pub actor_of : Stage → What → Option Actor
 actor_of stage (Publish v) = Some Controller
 actor_of stage Sync = Some Controller
@@ -39,6 +41,7 @@ actor_of stage (Close server flow closed) = Some (ShardOf server.0 (shard stage 
 actor_of stage (Retire server h at result) = Some (ShardOf server.0 h)
 actor_of stage (Lose k hop) = None
 
+-- there is an actor, and it is this one
 abbrev pub is_by : Option Actor → Actor → Bool
 is_by None a = false
 is_by (Some b) a = same_actor b a
@@ -48,6 +51,7 @@ abbrev pub own_clock : Stage → List Event → Actor → Option ℕ
 own_clock stage [] a = None
 own_clock stage (e ∷ past) a = if is_by (actor_of stage e.what) a then Some e.clock.0 else own_clock stage past a
 
+-- the clock of the newest event, or 0
 abbrev pub last_clock : List Event → ℕ
 last_clock [] = 0
 last_clock (e ∷ past) = e.clock.0
@@ -56,6 +60,7 @@ last_clock (e ∷ past) = e.clock.0
 abbrev pub next : ℕ → ℕ → ℕ
 next a b = suc (max a b)
 
+-- a copy arrives where the packet's label sends it, after it was sent, and has the verdict that the server's shard gives it
 pub record IsArrival (stage : Stage) (past : List Event) (clock k : ℕ) (hop : Hop) (server : ServerId) (verdict : Verdict) : Type 0 where
   pub segment : Segment
   pub is_segment : segment_of stage k ≡ Some segment
@@ -76,6 +81,7 @@ MayCome stage past clock (Close server flow closed) = closed ≡ is_some (held s
 MayCome stage past clock (Retire server h at result) = (at.0 < clock) × IsRetirement stage.script.plan (timeout stage) (newest past) server at.0 result
 MayCome stage past clock Sync = Unit {0}
 
+-- the event may stand after these
 pub record IsStep (stage : Stage) (past : List Event) (e : Event) : Type 0 where
   -- clocks don't fall
   pub clock : last_clock past ≤ e.clock.0
@@ -92,6 +98,7 @@ AtEach P (e ∷ past) = P past e × AtEach P past
 abbrev pub Run : Stage → List Event → Type 0
 Run stage past = AtEach (IsStep stage) past
 
+-- the history is a run
 pub record IsRun (h : History) : Type 0 where
   pub sound : IsSound h.stage
   pub run : Run h.stage (reverse h.events)
@@ -100,5 +107,6 @@ pub record IsRun (h : History) : Type 0 where
 abbrev pub event_at : History → ℕ → Option Event
 event_at h place = slice_get h.events place
 
+-- the events before a place of the history, the newest first
 abbrev pub past_at : History → ℕ → List Event
 past_at h place = reverse (take place h.events)

@@ -19,6 +19,7 @@ abbrev pub AreRising : ℕ → ℕ → List ℕ → Type 0
 AreRising low high [] = Unit {0}
 AreRising low high (m ∷ moments) = (low ≤ m) × (m ≤ high) × AreRising m high moments
 
+-- the moment of a command; that of a Change is the moment of its change
 abbrev pub moment_of_command : Planned → Command → ℕ
 moment_of_command plan (ChangeCommand v) = moment_of (next_change plan (v.0 - 1))
 moment_of_command plan (CloseCommand at server flow) = at.0

@@ -18,6 +18,7 @@ use Rattle.bm_core.specs.declared.events.Event.{Event}
 use Rattle.bm_core.specs.declared.events.Stage.{Stage}
 use Rattle.bm_core.specs.Past.{segment_of, shard, sends, newest, version_at, label_of}
 use Rattle.bm_core.specs.Runs.{Actor, actor_of, own_clock, last_clock, next}
+use Rattle.bm_core.specs.Past.{is_switch_of}
 use Rattle.bm_core.specs.Accounts.{count_of, counts, is_sync, fate_now, before}
 
 -- the clock of the actor's own last event, or 0
@@ -32,9 +33,11 @@ pub record Progress : Type 0 where
   pub commands : ℕ
   pub shards : List ℕ
 
+-- nothing of the next command is carried out yet
 abbrev pub next_command : Progress → Progress
 next_command p = record { commands = suc p.commands; shards = [] }
 
+-- how far the script is carried out after the event
 abbrev pub goes_on : ℕ → What → Progress → Progress
 goes_on shards (Publish v) p = next_command p
 goes_on shards (Close server flow closed) p = next_command p
@@ -42,10 +45,12 @@ goes_on shards Sync p = next_command p
 goes_on shards (Retire server h at result) p = if suc (length p.shards) == shards then next_command p else record p { shards = h ∷ p.shards }
 goes_on shards _ p = p
 
+-- how far the script is carried out, with so many shards at each server
 abbrev pub progress : ℕ → List Event → Progress
 progress shards [] = record { commands = 0; shards = [] }
 progress shards (e ∷ past) = goes_on shards e.what (progress shards past)
 
+-- how far the script is carried out
 abbrev pub progress_at : Stage → List Event → Progress
 progress_at stage past = progress stage.script.setting.shards past
 
@@ -53,6 +58,7 @@ progress_at stage past = progress stage.script.setting.shards past
 abbrev pub command_at : Stage → List Event → Option Command
 command_at stage past = slice_get stage.script.commands (progress_at stage past).commands
 
+-- the number is in the list
 abbrev pub is_number_among : List ℕ → ℕ → Bool
 is_number_among [] n = false
 is_number_among (x ∷ xs) n = x == n || is_number_among xs n
@@ -69,6 +75,7 @@ IsOf c done (Retire s h moment result) = ⊥
 IsOf c done Sync = ⊥
 IsOf c done _ = Unit {0}
 
+-- the event carries out a command, or a part of it
 abbrev pub is_command : What → Bool
 is_command (Publish v) = true
 is_command (Close server flow closed) = true
@@ -86,6 +93,7 @@ commands_clock (suc skip) (e ∷ past) = if is_command e.what then commands_cloc
 abbrev pub controller_at : Stage → List Event → ℕ
 controller_at stage past = commands_clock (length (progress_at stage past).shards) past
 
+-- the moment of a close, a retire or a sync
 abbrev pub moment_at : Option Command → ℕ
 moment_at (Some (CloseCommand at server flow)) = at.0
 moment_at (Some (RetireCommand at server)) = at.0
@@ -102,14 +110,17 @@ command_moment stage past = max (moment_at (command_at stage past)) (controller_
 abbrev pub phase : List Event → ℕ
 phase past = counts past is_sync
 
+-- the command is a sync no later than this moment
 abbrev pub is_sync_by : ℕ → Command → Bool
 is_sync_by moment (SyncCommand at) = nat_le at.0 moment
 is_sync_by moment _ = false
 
+-- the moment of the record
 abbrev pub moment_in : Option Record → ℕ
 moment_in None = 0
 moment_in (Some r) = r.moment.0
 
+-- the moment of the record of this number, counted from 1
 abbrev pub record_moment : Stage → ℕ → ℕ
 record_moment stage zero = 0
 record_moment stage (suc i) = moment_in (slice_get stage.capture.records i)
@@ -127,14 +138,10 @@ packet_of _ = None
 
 -- MUXES
 
-abbrev pub is_switch_by : What → ℕ → Bool
-is_switch_by (Switch m v) n = m.0 == n
-is_switch_by _ n = false
-
 -- in this phase the mux has looked at the board
 abbrev pub has_looked : List Event → ℕ → Bool
 has_looked [] m = false
-has_looked (e ∷ past) m = not (is_sync e.what) && (is_switch_by e.what m || has_looked past m)
+has_looked (e ∷ past) m = not (is_sync e.what) && (is_switch_of e.what m || has_looked past m)
 
 -- each mux has looked at the board in this phase
 abbrev pub HaveLooked : Stage → List Event → Type 0
@@ -150,6 +157,7 @@ abbrev pub sync_clock : List Event → ℕ
 sync_clock [] = 0
 sync_clock (e ∷ past) = if is_sync e.what then e.clock.0 else sync_clock past
 
+-- the event publishes the version
 abbrev pub is_publish_of : What → ℕ → Bool
 is_publish_of (Publish v) n = v.0 == n
 is_publish_of _ n = false
@@ -170,10 +178,12 @@ abbrev pub steers_later : What → MuxId → ℕ → Bool
 steers_later (Steer k m) n packet = m.0 == n.0 && nat_le packet k
 steers_later _ n packet = false
 
+-- the segment is of the shard
 abbrev pub is_in : Option Segment → Stage → ℕ → Bool
 is_in None stage h = false
 is_in (Some s) stage h = shard stage s.flow == h
 
+-- the label is of the mux
 abbrev pub is_from : Option Label → ℕ → Bool
 is_from None m = false
 is_from (Some l) m = l.mux.0 == m
@@ -209,6 +219,7 @@ IsTimed fates stage past own clock (Steer k m) =
 IsTimed fates stage past own clock (Arrive k hop server verdict) = ArrivesInOrder stage past k server × IsDueAt fates past k hop own clock
 IsTimed fates stage past own clock (Lose k hop) = Unit {0}
 
+-- the event may stand after these in a threaded run
 pub record IsThreadStep (fates : List Fate) (stage : Stage) (past : List Event) (e : Event) : Type 0 where
   -- the events of the commands stand in the script's order, those of one retire in any order
   pub command : IsOf (command_at stage past) (progress_at stage past).shards e.what
@@ -216,6 +227,7 @@ pub record IsThreadStep (fates : List Fate) (stage : Stage) (past : List Event) 
   pub phase : IfSome (packet_of e.what) (λ k. phase past ≡ phase_of stage k)
   pub timed : IsTimed fates stage past (last_own stage past (actor_of stage e.what)) e.clock.0 e.what
 
+-- each event may stand where it stands
 abbrev pub AreThreadSteps : List Fate → Stage → List Event → Type 0
 AreThreadSteps fates stage [] = Unit {0}
 AreThreadSteps fates stage (e ∷ past) = IsThreadStep (before fates) stage past e × AreThreadSteps (before fates) stage past

@@ -1,4 +1,4 @@
--- What a server does with a copy of a packet.
+-- What a server does with a copy of a packet (Beamer's design): the first row of a table that applies.
 use Rattle.std.specs.Prelude.{ℕ, ◌+◌, Bool, ◌&&◌, not, ◌==◌, nat_le, if◌then◌else◌, List, Option, Some, None}
 use Rattle.bm_base.specs.declared.ids.ServerId.{ServerId}
 use Rattle.bm_base.specs.declared.flow.Flow.{Flow}
@@ -26,10 +26,12 @@ pub record Onward : Type 0 where
   pub server : ServerId
   pub stamp : ℕ
 
+-- to the previous server, if there is one
 abbrev pub onward_with : ℕ → Option ServerId → Option Onward
 onward_with stamp None = None
 onward_with stamp (Some s) = Some (record { server = s; stamp = stamp })
 
+-- where a copy of this hop may go on to: a direct one to the previous server, a chained one nowhere
 abbrev pub onward : Entry → Hop → Option Onward
 onward e Direct = onward_with e.stamp.0 e.prev
 onward e Chained = None
@@ -38,21 +40,26 @@ onward e Chained = None
 abbrev pub entry_of : Tag → Entry
 entry_of t = record { cur = t.dest; prev = t.prev; stamp = t.stamp }
 
+-- why a packet that no row takes is reset
 abbrev pub why_reset : Hop → Option Onward → Why
 why_reset Chained onto = ChainedUnknown
 why_reset Direct None = NoPrevious
 why_reset Direct (Some o) = ChainExpired
 
+-- an RST is dropped, any other segment is reset
 abbrev pub refused : Hop → Option Onward → Segment → Verdict
 refused hop onto s = if has_flag RST s then Drop Silent else Reset (why_reset hop onto)
 
+-- forwarded while the move is recent, or else refused
 abbrev pub passed_on : ℕ → ℕ → Hop → Option Onward → Segment → Verdict
 passed_on timeout clock hop None s = refused hop None s
 passed_on timeout clock hop (Some o) s = if nat_le clock (o.stamp + timeout) then Forward o.server else refused hop (Some o) s
 
+-- a new opening segment takes the place of a finished connection
 abbrev pub replaces : Receiver → Hop → Segment → Bool
 replaces r hop s = r.finished && is_direct hop && is_opening s && not (s.seq == r.start)
 
+-- the verdict where the shard is not retired
 abbrev pub by_holding : Option Receiver → Bool → ℕ → ℕ → Hop → Option Onward → Segment → Verdict
 by_holding (Some r) full timeout clock hop onto s = if replaces r hop s then Accept else Process (taken r s)
 by_holding None full timeout clock hop onto s =
@@ -67,6 +74,7 @@ verdict_of local timeout clock hop onto s =
 abbrev pub verdict_on : Local → ℕ → ℕ → Tag → Segment → Verdict
 verdict_on local timeout clock t s = verdict_of local timeout clock t.hop (onward (entry_of t) t.hop) s
 
+-- the receiver of a holding
 abbrev pub receiver_of : Option Holding → Option Receiver
 receiver_of None = None
 receiver_of (Some h) = Some h.receiver
