@@ -1,0 +1,2 @@
+pub mod Rebalancing
+pub mod Rooms
