@@ -8,15 +8,17 @@ mod ids;
 mod label;
 mod list;
 mod memory;
+mod octets;
 mod receive;
 mod text;
 
 pub use capture::{Body, Capture, Reason, Record, Vip};
 pub use flow::{Flow, Segment, is_opening};
 pub use ids::{Moment, MuxId, ServerId, Version};
-pub use label::{Entry, Hop, Label};
+pub use label::{Entry, Hop, Label, Tag, tag_of};
 pub use list::List;
 pub use memory::Memory;
+pub use octets::{MAX_INNER, Octets};
 pub use receive::{Fate, Taken};
 pub use text::Text;
 

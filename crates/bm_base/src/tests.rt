@@ -40,3 +40,39 @@ fn a_segment_opens_with_syn_and_without_ack_rst_and_fin(rt: HostRuntime) {
         assert_eq!(rt; is_opening(&segment), want, "at {flags}");
     }
 }
+
+#[test]
+fn a_tag_has_the_destination_of_its_hop(rt: HostRuntime) {
+    let label = Label {
+        mux: MuxId(0),
+        version: Version(1),
+        entry: Entry {
+            cur: ServerId(2),
+            prev: Some(ServerId(1)),
+            stamp: Moment(500),
+        },
+    };
+    for (hop, dest) in [(Hop::Direct, ServerId(2)), (Hop::Chained, ServerId(1))] {
+        let want = Tag {
+            hop,
+            dest,
+            prev: Some(ServerId(1)),
+            stamp: Moment(500),
+            version: Version(1),
+            mux: MuxId(0),
+        };
+        assert_eq!(rt; tag_of(&label, hop), want);
+    }
+}
+
+#[test]
+fn octets_give_back_what_was_pushed(rt: HostRuntime) -> Result<(), Fail> {
+    let mut octets = Octets::new(rt.alloc());
+    assert_eq!(rt; octets.len(), 0);
+    octets.push(&[1, 2])?;
+    octets.push(&[])?;
+    assert_eq!(rt; octets.len(), 2);
+    assert_eq!(rt; octets.get(0), [1, 2].as_slice());
+    assert_eq!(rt; octets.get(1), [].as_slice());
+    Ok(())
+}

@@ -1,0 +1,21 @@
+-- Where copies of a packet arrive, and what is written on them (Beamer's design).
+use Rattle.std.specs.Prelude.{Option, Some, option_map}
+use Rattle.bm_base.specs.declared.ids.ServerId.{ServerId}
+use Rattle.bm_base.specs.declared.label.Entry.{Entry}
+use Rattle.bm_base.specs.declared.label.Hop.{Hop}
+use Rattle.bm_base.specs.declared.label.Hop.TheVariants.{Direct, Chained}
+use Rattle.bm_base.specs.declared.label.Label.{Label}
+use Rattle.bm_base.specs.declared.label.Tag.{Tag}
+
+-- where a copy of this hop arrives: a direct one at the bucket's server, a chained one at the server before that
+abbrev pub stop : Entry → Hop → Option ServerId
+stop e Direct = Some e.cur
+stop e Chained = e.prev
+
+-- the tag of a copy of this hop, for its destination
+abbrev pub tag_for : Label → Hop → ServerId → Tag
+tag_for l hop dest = record { hop = hop; dest = dest; prev = l.entry.prev; stamp = l.entry.stamp; version = l.version; mux = l.mux }
+
+-- the tag of a copy of this hop, where there is such a copy
+abbrev pub tag_of : Label → Hop → Option Tag
+tag_of l hop = option_map (tag_for l hop) (stop l.entry hop)

@@ -1,0 +1,70 @@
+-- What the laws say of the event at a place of a history: where premises hold the owner serves, and where a packet is refused or processed
+-- elsewhere there is a cause (Beamer's design).
+use Rattle.std.specs.Prelude.{◌≡◌, ◌≢◌, ℕ, ◌+◌, ◌<◌, ◌≤◌, true, false, ◌⊎◌, List, Option, Some, None, IsSomeAnd}
+use Rattle.bm_base.specs.declared.ids.ServerId.{ServerId}
+use Rattle.bm_base.specs.declared.flow.Segment.{Segment}
+use Rattle.bm_base.specs.declared.label.Label.{Label}
+use Rattle.bm_base.specs.declared.label.Hop.TheVariants.{Direct}
+use Rattle.bm_core.specs.declared.events.Why.TheVariants.{Retired}
+use Rattle.bm_core.specs.declared.events.Verdict.{Verdict}
+use Rattle.bm_core.specs.declared.events.Verdict.TheVariants.{Forward, Drop}
+use Rattle.bm_core.specs.declared.events.What.{What}
+use Rattle.bm_core.specs.declared.events.What.TheVariants.{Arrive}
+use Rattle.bm_core.specs.declared.events.Event.{Event}
+use Rattle.bm_core.specs.declared.events.Stage.{Stage}
+use Rattle.bm_core.specs.declared.events.History.{History}
+use Rattle.bm_table.specs.Tables.{moves}
+use Rattle.bm_base.specs.Segments.{is_opening}
+use Rattle.bm_core.specs.Past.{segment_of, bucket, timeout, label_of, Accepted, owner}
+use Rattle.bm_core.specs.Runs.{event_at, past_at}
+use Rattle.bm_core.specs.Causes.{first_broken, is_process, wants_cause}
+
+-- the packet is not opening, and no premise is broken
+abbrev pub PremisesHold : Stage → List Event → ℕ → ServerId → Option Accepted → Option Segment → Option Label → Type 0
+PremisesHold stage past clock server a (Some s) (Some l) = (is_opening s ≡ false) × (first_broken stage past clock l s.flow server a ≡ None)
+PremisesHold stage past clock server a _ _ = ⊥
+
+-- a packet arrives that is not opening, and no premise is broken
+abbrev pub IsUnbrokenArrival : Stage → List Event → ℕ → What → Type 0
+IsUnbrokenArrival stage past clock (Arrive k hop server verdict) = PremisesHold stage past clock server (owner stage past k) (segment_of stage k) (label_of stage past k)
+IsUnbrokenArrival stage past clock _ = ⊥
+
+-- processed by the owner's server, or forwarded to it
+abbrev pub IsServedBy : Option Accepted → ServerId → Verdict → Type 0
+IsServedBy None server verdict = ⊥
+IsServedBy (Some a) server verdict = ((is_process verdict ≡ true) × (server ≡ a.server)) ⊎ (verdict ≡ Forward a.server)
+
+-- the arrival's packet is processed by its owner's server, or forwarded to it
+abbrev pub IsServed : Stage → List Event → What → Type 0
+IsServed stage past (Arrive k hop server verdict) = IsServedBy (owner stage past k) server verdict
+IsServed stage past _ = ⊥
+
+-- a packet is dropped, reset or processed elsewhere
+abbrev pub IsFault : Stage → List Event → What → Type 0
+IsFault stage past (Arrive k hop server verdict) = wants_cause verdict (owner stage past k) server (segment_of stage k) ≡ true
+IsFault stage past _ = ⊥
+
+-- the server is not the owner's, and the bucket was moved at most once since the owner's version
+abbrev pub IsMovedAtMostOnce : Stage → ServerId → Option Accepted → Option Segment → Option Label → Type 0
+IsMovedAtMostOnce stage server (Some a) (Some s) (Some l) =
+    (server ≢ a.server) × (a.version ≤ l.version.0) × (moves stage.script.plan (bucket stage s.flow) a.version l.version.0 ≤ 1)
+IsMovedAtMostOnce stage server _ _ _ = ⊥
+
+-- a direct copy is dropped by a retired shard of a server other than its owner's, whose bucket was moved at most once since
+abbrev pub IsRetiredDrop : Stage → List Event → What → Type 0
+IsRetiredDrop stage past (Arrive k Direct server (Drop Retired)) = IsMovedAtMostOnce stage server (owner stage past k) (segment_of stage k) (label_of stage past k)
+IsRetiredDrop stage past _ = ⊥
+
+-- the clock is past the stamp of the label by more than the timeout
+abbrev pub IsStampLate : Stage → ℕ → Option Label → Type 0
+IsStampLate stage clock None = ⊥
+IsStampLate stage clock (Some l) = l.entry.stamp.0 + timeout stage < clock
+
+-- the clock is past the stamp of the packet's label by more than the timeout
+abbrev pub IsLate : Stage → List Event → ℕ → What → Type 0
+IsLate stage past clock (Arrive k hop server verdict) = IsStampLate stage clock (label_of stage past k)
+IsLate stage past clock _ = ⊥
+
+-- there is an event at this place of the history, of which this holds and the events before it
+abbrev pub At : History → ℕ → (Stage → List Event → ℕ → What → Type 0) → Type 0
+At h place P = IsSomeAnd (event_at h place) (λ e. P h.stage (past_at h place) e.clock.0 e.what)

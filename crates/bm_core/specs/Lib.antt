@@ -1,0 +1,15 @@
+pub mod Past
+pub mod Verdicts
+pub mod Stages
+pub mod Runs
+pub mod Causes
+pub mod Laws
+pub mod Pins
+pub mod Books
+pub mod Logs
+pub mod Accounts
+pub mod Schedule
+pub mod Trails
+pub mod Threads
+pub mod Rules
+pub mod Histories

@@ -1,0 +1,14 @@
+//! Clocks.
+ghost use Rattle.std.specs.Prelude.{◌≡◌, ◌<◌, ◌^◌};
+ghost use Rattle.bm_core.specs.Runs.{next};
+
+use bm_base::Moment;
+
+/// The clock of an event after one with the clock `last`, for a cause with the moment `cause`.
+pub fn next_clock(last: Moment, cause: Moment) -> Moment
+    requires last { last.0 < 2 ^ 63 }
+    requires cause { cause.0 < 2 ^ 63 }
+    ensures { result.0 ≡ next last.0 cause.0 }
+{
+    Moment(last.0.max(cause.0) + 1)
+}

@@ -1,0 +1,103 @@
+//! The events of a history.
+use bm_base::{Capture, Flow, Hop, List, Moment, MuxId, ServerId, Taken, Version};
+use bm_seq::Receiver;
+use bm_table::{Retirement, Script};
+
+/// Why a packet is dropped or reset.
+#[derive(Clone, Copy, Debug, PartialEq, Eq)]
+pub enum Why {
+    NoPrevious,
+    ChainExpired,
+    ChainedUnknown,
+    Silent,
+    Full,
+    Retired,
+}
+
+/// What a server does with a packet.
+#[derive(Clone, Copy, Debug, PartialEq, Eq)]
+pub enum Verdict {
+    Accept,
+    Process(Taken),
+    Forward(ServerId),
+    Reset(Why),
+    Drop(Why),
+}
+
+/// What happens in one event.
+#[derive(Clone, Copy, Debug, PartialEq, Eq)]
+pub enum What {
+    Publish(Version),
+    Switch {
+        mux: MuxId,
+        version: Version,
+    },
+    Steer {
+        packet: u32,
+        mux: MuxId,
+    },
+    Lose {
+        packet: u32,
+        hop: Hop,
+    },
+    Arrive {
+        packet: u32,
+        hop: Hop,
+        server: ServerId,
+        verdict: Verdict,
+    },
+    Close {
+        server: ServerId,
+        flow: Flow,
+        closed: bool,
+    },
+    Retire {
+        server: ServerId,
+        shard: u16,
+        at: Moment,
+        result: Retirement,
+    },
+    Sync,
+}
+
+/// An event and its clock.
+#[derive(Clone, Copy, Debug, PartialEq, Eq)]
+pub struct Event {
+    pub clock: Moment,
+    pub what: What,
+}
+
+/// What a server's shard knows of a flow.
+#[derive(Clone, Copy, Debug, PartialEq, Eq)]
+pub struct Local {
+    pub retired: bool,
+    pub held: Option<Receiver>,
+    pub full: bool,
+}
+
+/// Which premise is broken.
+#[derive(Clone, Copy, Debug, PartialEq, Eq)]
+pub enum Cause {
+    NeverAccepted,
+    NotHeld,
+    StaleMux,
+    MovedTwice,
+    ChainLate,
+    SynElsewhere,
+    Full,
+    OldTable,
+}
+
+/// What a history is about.
+#[derive(Debug, Drop)]
+pub struct Stage {
+    pub script: Script,
+    pub capture: Capture,
+}
+
+/// What happened, in order.
+#[derive(Debug, Drop)]
+pub struct History {
+    pub stage: Stage,
+    pub events: List<Event>,
+}

@@ -1,0 +1,78 @@
+//! The laws of the protocol, over every run. Each is a function that does nothing: its contract is the law.
+ghost use Rattle.std.specs.Prelude.{◌≡◌, ◌&&◌, ◌==◌, ℕ, List, Some, is_some, reverse, true};
+ghost use Rattle.bm_base.specs.declared.flow.Flow.{Flow};
+ghost use Rattle.bm_base.specs.declared.ids.MuxId.{MuxId};
+ghost use Rattle.bm_base.specs.declared.ids.ServerId.{ServerId};
+ghost use Rattle.bm_base.specs.declared.label.Hop.{Hop};
+ghost use Rattle.bm_base.specs.declared.label.Label.{Label};
+ghost use Rattle.bm_base.specs.declared.receive.Fate.{Fate};
+ghost use Rattle.bm_core.specs.declared.events.Event.{Event};
+ghost use Rattle.bm_core.specs.Books.{AreDistinct, book_local, book_of, is_listed};
+ghost use Rattle.bm_core.specs.Causes.{cause};
+ghost use Rattle.bm_core.specs.Histories.{IsNextIn, IsReplay};
+ghost use Rattle.bm_core.specs.Laws.{At, IsFault, IsLate, IsRetiredDrop, IsServed, IsUnbrokenArrival};
+ghost use Rattle.bm_core.specs.Logs.{log_of};
+ghost use Rattle.bm_core.specs.Past.{flows_held, held, label_of, shard, version_at};
+ghost use Rattle.bm_core.specs.Pins.{IsKeptTo, IsPinned};
+ghost use Rattle.bm_core.specs.Rules.{RouteBy, RuleBy};
+ghost use Rattle.bm_core.specs.Runs.Actor.{MuxOf};
+ghost use Rattle.bm_core.specs.Runs.{IsRun};
+ghost use Rattle.bm_core.specs.Verdicts.{local_at};
+
+use crate::{History, Stage};
+
+/// A packet whose premises hold is processed by its owner's server, or forwarded to it.
+pub fn safety(h: &History, place: usize)
+    requires run { IsRun h.now }
+    requires unbroken { At h.now place IsUnbrokenArrival }
+    ensures { At h.now place (λ stage past clock what. IsServed stage past what) }
+{}
+
+/// Where a server retired, a packet that was labelled with it comes late.
+pub fn retired_late(h: &History, place: usize)
+    requires run { IsRun h.now }
+    requires dropped { At h.now place (λ stage past clock what. IsRetiredDrop stage past what) }
+    ensures { At h.now place IsLate }
+{}
+
+/// Each packet that is dropped, reset or processed elsewhere has a cause.
+pub fn causes(h: &History, place: usize)
+    requires run { IsRun h.now }
+    requires fault { At h.now place (λ stage past clock what. IsFault stage past what) }
+    ensures { At h.now place (λ stage past clock what. is_some (cause stage past clock what) ≡ true) }
+{}
+
+/// A connection whose packets keep to the premises is served by the server that accepted it.
+pub fn pinned(h: &History, packet: u32)
+    requires { IsRun h.now }
+    ensures { (pin : IsPinned h.now.stage (reverse h.now.events) packet) → IsKeptTo h.now.stage (reverse h.now.events) packet pin }
+{}
+
+/// After the same events of a replay, with the same answers, one event comes next.
+pub fn one_next(stage: &Stage)
+    ensures { (mux : ℕ → Flow → ℕ) (fates : List Fate) (past : List Event) (a b : Event) → IsNextIn mux fates stage.now past a → IsNextIn mux fates stage.now past b → a ≡ b }
+{}
+
+/// A replay is determined by its stage, its route and its fault rule.
+pub fn one_replay(a: &History, b: &History)
+    requires { a.now.stage ≡ b.now.stage }
+    ensures { (mux : ℕ → Flow → ℕ) (fate : ℕ → Hop → Fate) → IsReplay (RouteBy mux) (RuleBy fate) a.now → IsReplay (RouteBy mux) (RuleBy fate) b.now → a.now.events ≡ b.now.events }
+{}
+
+/// What a server knows of a flow is what the turns of the flow's shard say.
+pub fn shard_book(stage: &Stage)
+    ensures { (past : List Event) (s : ServerId) (f : Flow) → local_at stage.now past s f ≡ book_local stage.now.script.setting.capacity (book_of stage.now past s (shard stage.now f)) f }
+{}
+
+/// The flows that count against a shard's capacity are those of the shard that its server holds,
+/// each once.
+pub fn held_flows(stage: &Stage)
+    ensures held { (past : List Event) (s : ServerId) (h : ℕ) (f : Flow) → is_listed (flows_held stage.now past s h) f ≡ (shard stage.now f == h && is_some (held stage.now past s f)) }
+    ensures once { (past : List Event) (s : ServerId) (h : ℕ) → AreDistinct (flows_held stage.now past s h) }
+{}
+
+/// A mux's version, and the label of its packets, are what the mux's own log says.
+pub fn mux_log(stage: &Stage)
+    ensures version { (past : List Event) (m : MuxId) → version_at (log_of stage.now past (MuxOf m.0)) m ≡ version_at past m }
+    ensures label { (past : List Event) (k : ℕ) (l : Label) → label_of stage.now past k ≡ Some l → label_of stage.now (log_of stage.now past (MuxOf l.mux.0)) k ≡ Some l }
+{}

@@ -1,0 +1,15 @@
+//! The protocol: events, verdicts, runs, premises and causes, and the laws over every run.
+#![tactic(auto)]
+
+mod clock;
+mod events;
+pub mod laws;
+mod schedule;
+mod trail;
+mod verdict;
+
+pub use clock::next_clock;
+pub use events::{Cause, Event, History, Local, Stage, Verdict, What, Why};
+pub use schedule::{Call, Due, Underway};
+pub use trail::Trail;
+pub use verdict::decide;

@@ -1,0 +1,21 @@
+//! Numbers in the octets of a header, big endian.
+ghost use Rattle.std.specs.Prelude.{◌≡◌, ◌≤◌, ◌+◌, length};
+ghost use Rattle.bm_ipv4.specs.Fields.{u16_at, u32_at};
+
+use byteorder::{BigEndian, ByteOrder};
+
+/// The number in the two octets from this place on.
+pub fn read_u16(octets: &[u8], at: usize) -> u16
+    requires { at + 2 ≤ length octets.now }
+    ensures { result ≡ u16_at octets.now at }
+{
+    BigEndian::read_u16(&octets[at..])
+}
+
+/// The number in the four octets from this place on.
+pub fn read_u32(octets: &[u8], at: usize) -> u32
+    requires { at + 4 ≤ length octets.now }
+    ensures { result ≡ u32_at octets.now at }
+{
+    BigEndian::read_u32(&octets[at..])
+}

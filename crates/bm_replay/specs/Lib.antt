@@ -1,0 +1,5 @@
+pub mod Connections
+pub mod Shards
+pub mod Turns
+pub mod Replays
+pub mod Players

@@ -1,0 +1,10 @@
+use thiserror::Error;
+
+/// Why a payload is no TCP segment: the first of these that holds.
+#[derive(Clone, Copy, Debug, PartialEq, Eq, Error)]
+pub enum TcpFault {
+    #[error("the TCP header is cut short")]
+    Short,
+    #[error("the data offset doesn't fit")]
+    BadOffset,
+}

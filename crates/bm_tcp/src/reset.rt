@@ -1,0 +1,115 @@
+//! The reset that answers a segment.
+ghost use Rattle.std.specs.Prelude.{◌≡◌, ◌+◌, ◌++◌, length, option_map};
+ghost use Rattle.bm_tcp.specs.Resets as resets;
+
+use bm_base::flags::{ACK, RST};
+use bm_base::{Flow, Segment};
+use bm_ipv4::header_sum;
+
+/// The packet that answers a segment with a reset (RFC 9293, section 3.5.2): a header of IPv4 and one
+/// of TCP, both with their checksums. A reset isn't answered.
+#[tactic(auto, unfolding(crate::specs::Resets::reset_packet))]
+pub fn reset_for(s: &Segment) -> Option<[u8; 40]>
+    ensures { result ≡ resets.reset_packet s.now }
+{
+    if s.has(RST) {
+        return None;
+    }
+    Some(packet_of(&reset_of(s)))
+}
+
+#[tactic(auto, unfolding(crate::specs::Resets::reset_of))]
+fn reset_of(s: &Segment) -> Segment
+    ensures { result ≡ resets.reset_of s.now }
+{
+    let flow = reversed(&s.flow);
+    if s.has(ACK) {
+        Segment {
+            flow,
+            seq: s.ack,
+            ack: 0,
+            len: 0,
+            flags: RST,
+        }
+    } else {
+        Segment {
+            flow,
+            seq: 0,
+            ack: s.seq.wrapping_add(s.len),
+            len: 0,
+            flags: RST | ACK,
+        }
+    }
+}
+
+/// The same connection, seen from its other end.
+fn reversed(f: &Flow) -> Flow
+    ensures { result ≡ resets.reversed f.now }
+{
+    Flow {
+        src: f.dst,
+        dst: f.src,
+        sport: f.dport,
+        dport: f.sport,
+    }
+}
+
+/// A segment without data as a packet.
+#[tactic(auto, unfolding(crate::specs::Resets::packet_of))]
+fn packet_of(s: &Segment) -> [u8; 40]
+    ensures { result ≡ resets.packet_of s.now }
+{
+    let ip = ip_header(header_sum(&ip_header(0, &s.flow)), &s.flow);
+    let summed: [u8; 32] = joined(&pseudo_header(&s.flow), &tcp_header(0, s));
+    joined(&ip, &tcp_header(header_sum(&summed), s))
+}
+
+fn ip_header(sum: u16, f: &Flow) -> [u8; 20]
+    ensures { result ≡ resets.ip_header sum f.now }
+{
+    let [c0, c1] = sum.to_be_bytes();
+    let [s0, s1, s2, s3] = f.src.to_be_bytes();
+    let [d0, d1, d2, d3] = f.dst.to_be_bytes();
+    [
+        0x45, 0, 0, 40, 0, 0, 0x40, 0, 64, 6, c0, c1, s0, s1, s2, s3, d0, d1, d2, d3,
+    ]
+}
+
+fn tcp_header(sum: u16, s: &Segment) -> [u8; 20]
+    ensures { result ≡ resets.tcp_header sum s.now }
+{
+    let [p0, p1] = s.flow.sport.to_be_bytes();
+    let [q0, q1] = s.flow.dport.to_be_bytes();
+    let [s0, s1, s2, s3] = s.seq.to_be_bytes();
+    let [a0, a1, a2, a3] = s.ack.to_be_bytes();
+    let [c0, c1] = sum.to_be_bytes();
+    [
+        p0, p1, q0, q1, s0, s1, s2, s3, a0, a1, a2, a3, 0x50, s.flags, 0, 0, c0, c1, 0, 0,
+    ]
+}
+
+fn pseudo_header(f: &Flow) -> [u8; 12]
+    ensures { result ≡ resets.pseudo_header f.now }
+{
+    let [s0, s1, s2, s3] = f.src.to_be_bytes();
+    let [d0, d1, d2, d3] = f.dst.to_be_bytes();
+    [s0, s1, s2, s3, d0, d1, d2, d3, 0, 6, 0, 20]
+}
+
+/// The octets of both parts, one after the other.
+fn joined<const N: usize>(front: &[u8], back: &[u8]) -> [u8; N]
+    requires { length front.now + length back.now ≡ N }
+    ensures { result ≡ front.now ++ back.now }
+{
+    let mut octets = [0; N];
+    join(&mut octets, front, back);
+    octets
+}
+
+fn join(octets: &mut [u8], front: &[u8], back: &[u8])
+    requires { length front.now + length back.now ≡ length octets.old }
+    ensures { octets.new ≡ front.now ++ back.now }
+{
+    octets[..front.len()].copy_from_slice(front);
+    octets[front.len()..].copy_from_slice(back);
+}

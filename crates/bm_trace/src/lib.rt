@@ -1,0 +1,19 @@
+//! The report of a history: its lines, the causes in them, and the totals.
+#![tactic(auto)]
+
+mod causes;
+mod counts;
+mod document;
+mod endings;
+mod entries;
+mod held;
+mod lines;
+mod past;
+mod records;
+mod sums;
+mod words;
+
+pub use causes::cause;
+pub use counts::totals;
+pub use document::report;
+pub use sums::Totals;
