@@ -1,2 +1,3 @@
 pub mod Rebalancing
+pub mod Refusals
 pub mod Rooms

@@ -1,9 +1,10 @@
 //! Why the controller refuses a command.
 ghost use Rattle.std.specs.Prelude.{◌≡◌};
+ghost use Rattle.bm_quota.specs.Refusals.{refusal_of};
 ghost use Rattle.bm_quota.specs.declared.refusal.Refusal.TheVariants.{Memory as memory};
 
 use bm_base::Memory;
-use bm_table::Limit;
+use bm_table::{Limit, PlanFault};
 use std::alloc::AllocError;
 use thiserror::Error;
 
@@ -53,5 +54,19 @@ impl From<AllocError> for Refusal {
 
     fn from(_e: AllocError) -> Refusal {
         Refusal::Memory
+    }
+}
+
+impl From<PlanFault> for Refusal {
+    ghost from_gives = { λ fault refusal. refusal ≡ refusal_of fault };
+
+    fn from(fault: PlanFault) -> Refusal {
+        match fault {
+            PlanFault::StampFell => Refusal::StampFell,
+            PlanFault::BadBucket(_) => Refusal::BadBucket,
+            PlanFault::SameServer(_) => Refusal::SameServer,
+            PlanFault::TooMany(limit) => Refusal::TooMany(limit),
+            PlanFault::Memory => Refusal::Memory,
+        }
     }
 }
