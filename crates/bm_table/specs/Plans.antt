@@ -1,5 +1,6 @@
 -- What each plan keeps, and which changes it refuses.
-use Rattle.std.specs.Prelude.{◌≡◌, ◌≢◌, ℕ, ◌+◌, ◌-◌, ◌<◌, ◌≤◌, ◌&&◌, nat_le, nat_lt, if◌then◌else◌, List, [], ◌∷◌, ◌++◌, length, All, IfSome, sum_by, Option, Some, None}
+use Rattle.std.specs.Prelude.{◌≡◌, ◌≢◌, ℕ, ◌+◌, ◌-◌, ◌<◌, ◌≤◌, ◌&&◌, nat_le, nat_lt, if◌then◌else◌, List, [], ◌∷◌, ◌++◌, length, map, All, IfSome, sum_by, Option, Some, None}
+use Rattle.std.specs.List.{range_with_len}
 use Rattle.std.specs.Option.{option_map}
 use Rattle.bm_base.specs.declared.ids.ServerId.{ServerId}
 use Rattle.bm_table.specs.declared.plan.Change.{Change}
@@ -18,6 +19,10 @@ with_change plan change = record plan { changes = plan.changes ++ change ∷ [] 
 -- the server of a bucket after all changes
 abbrev pub server_now : Planned → ℕ → ServerId
 server_now plan b = (table plan (length plan.changes) b).cur
+
+-- the server of each bucket after all changes
+abbrev pub owners_now : Planned → List ServerId
+owners_now plan = map (server_now plan) (range_with_len 0 plan.buckets)
 
 -- the moves' buckets rise, from low on, and are below the number of buckets
 abbrev pub MovesRise : ℕ → ℕ → List Move → Type 0

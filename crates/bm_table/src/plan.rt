@@ -132,7 +132,7 @@ impl Model for Plan {
 }
 
 impl Plan {
-    ghost use Rattle.bm_table.specs.Plans.{IsPlan, IsRefusal, refusal, with_change, last_moment};
+    ghost use Rattle.bm_table.specs.Plans.{IsPlan, IsRefusal, refusal, with_change, last_moment, owners_now, server_now};
     ghost use Rattle.bm_table.specs.Tables.{IsRetirement, next_change, opening};
     ghost use Rattle.std.specs.Option.{option_copied};
 
@@ -181,6 +181,24 @@ impl Plan {
         ensures { result ≡ (opening self.now bucket).cur }
     {
         self.servers[bucket as usize % self.servers.len()]
+    }
+
+    /// The server of the bucket after all changes. Takes no memory.
+    pub fn server(&self, bucket: u32) -> ServerId
+        requires { bucket < self.now.buckets }
+        ensures { result ≡ server_now self.now bucket }
+    {
+        self.latest.server(bucket)
+    }
+
+    /// The server of each bucket after all changes, by the bucket.
+    pub fn owners(&self) -> Result<Vec<ServerId>, Memory>
+        ensures { IfOk result (λ owners. owners.items ≡ owners_now self.now) }
+    {
+        let owners = (0..self.buckets)
+            .map(|bucket| self.server(bucket))
+            .collect(*self.steps.allocator())?;
+        Ok(owners)
     }
 
     /// The change that leads from version `v` to the next, if the plan has it. Takes no memory.

@@ -82,7 +82,7 @@ impl Table {
     }
 
     /// The server of a bucket.
-    fn server(&self, bucket: u32) -> ServerId
+    pub(crate) fn server(&self, bucket: u32) -> ServerId
         requires { bucket < length self.now }
         ensures { result ≡ server_in self.now bucket }
     {

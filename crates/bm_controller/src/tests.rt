@@ -1,0 +1,58 @@
+use super::*;
+use bm_base::{Moment, ServerId, Version};
+use bm_quota::Refusal;
+use bm_table::{Kind, Plan};
+use std::process::Abort;
+use std::test::Fail;
+
+fn assert_change(rt: &impl Abort, plan: &Plan, version: u32, kind: Kind, moves: &[(u32, u16)]) {
+    if let Some(change) = plan.next_change(Version(version)) {
+        assert_eq!(rt; change.kind, kind);
+        assert_eq!(rt; change.moves.items().len(), moves.len());
+        for (m, (bucket, to)) in change.moves.items().iter().zip(moves) {
+            assert_eq!(rt; (m.bucket, m.to.0), (*bucket, *to));
+        }
+    } else {
+        assert!(rt; false, "no change after version {version}");
+    }
+}
+
+// 8 buckets on servers 1 and 2; server 3 is added at 500, and server 1 is drained at 600.
+#[test]
+fn an_add_and_a_drain_move_few_buckets(rt: HostRuntime) -> Result<(), Fail> {
+    let alloc = rt.alloc();
+    let mut controller = Controller::new(alloc, 8, [ServerId(1), ServerId(2)].as_slice())?;
+    assert!(rt; controller.add(Moment(500), ServerId(3)) == Ok(()));
+    assert!(rt; controller.drain(Moment(600), ServerId(1)) == Ok(()));
+    assert!(rt; controller.knows(ServerId(1)) && !controller.knows(ServerId(4)));
+    let plan = controller.into_plan();
+    assert_eq!(rt; plan.versions(), 2);
+    assert_change(&rt, &plan, 0, Kind::Add(ServerId(3)), &[(6, 3), (7, 3)]);
+    assert_change(
+        &rt,
+        &plan,
+        1,
+        Kind::Drain(ServerId(1)),
+        &[(0, 2), (2, 3), (4, 3)],
+    );
+    Ok(())
+}
+
+#[test]
+fn commands_are_refused_by_those_before(rt: HostRuntime) -> Result<(), Fail> {
+    let alloc = rt.alloc();
+    let mut controller = Controller::new(alloc, 8, [ServerId(1), ServerId(2)].as_slice())?;
+    assert!(rt; controller.shift(Moment(0), 8, ServerId(9)) == Err(Refusal::BadBucket));
+    assert!(rt; controller.shift(Moment(0), 4, ServerId(9)) == Err(Refusal::UnknownServer));
+    assert!(rt; controller.shift(Moment(0), 4, ServerId(1)) == Err(Refusal::SameServer));
+    assert!(rt; controller.shift(Moment(7), 4, ServerId(2)) == Ok(()));
+    assert!(rt; controller.add(Moment(0), ServerId(2)) == Err(Refusal::KnownServer));
+    assert!(rt; controller.add(Moment(6), ServerId(3)) == Err(Refusal::StampFell));
+    assert!(rt; controller.drain(Moment(7), ServerId(9)) == Err(Refusal::UnknownServer));
+    assert!(rt; controller.drain(Moment(7), ServerId(1)) == Ok(()));
+    assert!(rt; controller.drain(Moment(7), ServerId(1)) == Err(Refusal::NotActive));
+    assert!(rt; controller.drain(Moment(7), ServerId(2)) == Err(Refusal::LastServer));
+    assert!(rt; controller.shift(Moment(7), 4, ServerId(1)) == Err(Refusal::NotActive));
+    assert_eq!(rt; controller.into_plan().versions(), 2);
+    Ok(())
+}

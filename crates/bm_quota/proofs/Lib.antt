@@ -1,0 +1,5 @@
+pub mod LeastLemmas
+pub mod QuotaLemmas
+pub mod Rebalanced
+pub mod RoomLemmas
+pub mod StepLemmas

@@ -1,0 +1,3 @@
+pub mod Rebalancing
+pub mod Refusals
+pub mod Rooms

@@ -1,0 +1,64 @@
+-- Quotas of servers, and the list of moves that reaches them.
+use Rattle.std.specs.Prelude.{◌≡◌, ℕ, zero, suc, ◌+◌, ◌-◌, ◌/◌, ◌%◌, nat_lt, nat_le, if◌then◌else◌, List, [], ◌∷◌, map, replicate, unwrap_or}
+use Rattle.std.specs.List.{flat_map, range_with_len}
+use Rattle.bm_base.specs.declared.ids.ServerId.{ServerId}
+use Rattle.bm_table.specs.declared.plan.Move.{Move}
+use Rattle.bm_table.specs.Tables.{same_server, target}
+
+-- each server's part of the buckets is the quotient, and one more for the first servers
+abbrev pub quota_at : ℕ → ℕ → ℕ → ℕ
+quota_at buckets servers i = buckets / servers + (if nat_lt i (buckets % servers) then 1 else 0)
+
+abbrev pub quotas_of : ℕ → ℕ → List ℕ
+quotas_of buckets servers = map (quota_at buckets servers) (range_with_len 0 servers)
+
+-- how many buckets the server owns, by the owner of each bucket
+abbrev pub owned : List ServerId → ServerId → ℕ
+owned [] s = 0
+owned (owner ∷ owners) s = if same_server owner s then suc (owned owners s) else owned owners s
+
+-- the quota of an active server, and 0 for any other
+abbrev pub quota_of : List ServerId → List ℕ → ServerId → ℕ
+quota_of [] quotas s = 0
+quota_of (t ∷ active) [] s = 0
+quota_of (t ∷ active) (quota ∷ quotas) s = if same_server t s then quota else quota_of active quotas s
+
+-- the owner of each bucket, from bucket b on, after the moves
+abbrev pub owners_after : List Move → ℕ → List ServerId → List ServerId
+owners_after moves b [] = []
+owners_after moves b (owner ∷ owners) = unwrap_or (target moves b) owner ∷ owners_after moves (b + 1) owners
+
+-- after the moves each active server owns its quota, and no other server owns a bucket
+abbrev pub ReachQuotas : List ServerId → List ServerId → List ℕ → List Move → Type 0
+ReachQuotas owners active quotas moves = (s : ServerId) → owned (owners_after moves 0 owners) s ≡ quota_of active quotas s
+
+-- what a server owns above its quota
+abbrev pub surplus : List ServerId → List ServerId → List ℕ → ServerId → ℕ
+surplus owners active quotas s = owned owners s - quota_of active quotas s
+
+-- the sum of a number of each server below number n
+abbrev pub sum_below : (ServerId → ℕ) → ℕ → ℕ
+sum_below f zero = 0
+sum_below f (suc n) = f (record { 0 = n }) + sum_below f n
+
+-- of the buckets from b on, the highest of each server, as many as it has to give
+abbrev pub highest : (ServerId → ℕ) → ℕ → List ServerId → List ℕ
+highest gives b [] = []
+highest gives b (owner ∷ owners) =
+    if nat_le (owned (owner ∷ owners) owner) (gives owner) then b ∷ highest gives (b + 1) owners else highest gives (b + 1) owners
+
+-- the servers in order, each as often as it takes a bucket
+abbrev pub takers : (ServerId → ℕ) → List ServerId → List ServerId
+takers takes servers = flat_map (λ s. replicate (takes s) s) servers
+
+-- each bucket goes to the server at its place
+abbrev pub moves_to : List ℕ → List ServerId → List Move
+moves_to [] servers = []
+moves_to (b ∷ buckets) [] = []
+moves_to (b ∷ buckets) (s ∷ servers) = record { bucket = b; to = s } ∷ moves_to buckets servers
+
+-- Each server gives its highest buckets, as many as it is above its quota. The given buckets, in
+-- rising order, go to the servers below their quota, in rising number, each filled before the next.
+abbrev pub rebalancing : List ServerId → List ServerId → List ℕ → List Move
+rebalancing owners active quotas =
+    moves_to (highest (surplus owners active quotas) 0 owners) (takers (λ s. quota_of active quotas s - owned owners s) active)

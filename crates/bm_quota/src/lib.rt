@@ -1,0 +1,13 @@
+//! Quotas, and the shortest list of moves that reaches them.
+#![tactic(auto)]
+
+mod rebalance;
+mod refusal;
+mod share;
+
+pub use rebalance::moves;
+pub use refusal::Refusal;
+pub use share::quotas;
+
+#[cfg(test)]
+mod tests;

@@ -1,0 +1,123 @@
+//! The moves that bring each active server to its quota.
+ghost use Rattle.std.specs.Prelude.{◌≡◌, ◌≤◌, ◌<◌, ◌+◌, ◌-◌, ℕ, List, length, map, sum, nat_lt, slice_index, slice_set, vec_len, All, IfOk, OnOk};
+ghost use Rattle.std.specs.List.{zip};
+ghost use Rattle.bm_base.specs.declared.ids.ServerId.{ServerId};
+ghost use Rattle.bm_quota.specs.Rebalancing as rule;
+ghost use Rattle.bm_quota.specs.Rooms.{room_in, given, left};
+ghost use Rattle.bm_table.specs.Settings.{RiseFrom};
+ghost use Rattle.bm_table.specs.declared.plan.Move.{Move};
+
+use bm_base::{Memory, ServerId};
+use bm_table::Move;
+use std::alloc::Global;
+
+/// How many numbers a server may have.
+const NUMBERS: usize = 65_536;
+
+/// The moves after which each active server owns its quota and no other server owns a bucket, as
+/// few as can be. Each server that owns more than its quota gives its highest buckets. The given
+/// buckets, in rising order, go to the servers below their quota, in rising number, each filled
+/// before the next. `owner` is the server of each bucket. The moves rise by their bucket.
+pub fn moves(
+    alloc: Global,
+    owner: &[ServerId],
+    active: &[ServerId],
+    quotas: &[u32],
+) -> Result<Vec<Move>, Memory>
+    requires rising { RiseFrom 0 active.now }
+    requires count { length quotas.now ≡ length active.now }
+    requires total { sum quotas.now ≡ length owner.now }
+    requires buckets { length owner.now ≤ 65536 }
+
+    ensures chosen { IfOk result (λ moves. moves.items ≡ rule.rebalancing owner.now active.now quotas.now) }
+    ensures reach { IfOk result (λ moves. rule.ReachQuotas owner.now active.now quotas.now moves.items) }
+
+    // They are as many as the servers own above their quotas, together.
+    ensures surpluses { IfOk result (λ moves. (n : ℕ) → All (λ s. s.0 < n) owner.now
+        → length moves.items ≡ rule.sum_below (rule.surplus owner.now active.now quotas.now) n) }
+
+    // No list of moves that reaches the quotas is shorter.
+    ensures least { IfOk result (λ moves. (others : List Move)
+        → rule.ReachQuotas owner.now active.now quotas.now others → length moves.items ≤ length others) }
+{
+    let mut rooms = rooms_of(alloc, active, quotas)?;
+    let buckets = give(alloc, owner, rooms.as_mut_slice())?;
+    let takers = takers(alloc, active, rooms.as_slice())?;
+    moves_to(alloc, buckets.as_slice(), takers.as_slice())
+}
+
+/// The quota of each server by its number, and 0 for a server that isn't active.
+fn rooms_of(alloc: Global, active: &[ServerId], quotas: &[u32]) -> Result<Vec<u32>, Memory>
+    requires rising { RiseFrom 0 active.now }
+    requires count { length quotas.now ≡ length active.now }
+    ensures count { IfOk result (λ rooms. vec_len rooms ≡ NUMBERS) }
+    ensures each { IfOk result (λ rooms. (s : ServerId) → room_in rooms.items s ≡ rule.quota_of active.now quotas.now s) }
+{
+    let mut rooms = zeros(alloc, NUMBERS)?;
+    for (i, s) in active.iter().enumerate() {
+        rooms[s.0 as usize] = quotas[i];
+    }
+    Ok(rooms)
+}
+
+fn zeros(alloc: Global, count: usize) -> Result<Vec<u32>, Memory>
+    ensures count { IfOk result (λ zeros. vec_len zeros ≡ count) }
+    ensures zero { IfOk result (λ zeros. (i : ℕ) → slice_index zeros.items i ≡ 0) }
+{
+    Ok(vec![in alloc; 0; count]?)
+}
+
+/// The buckets for which their servers have no room, in rising order. Rooms end as what is left.
+fn give(alloc: Global, owner: &[ServerId], rooms: &mut [u32]) -> Result<Vec<u32>, Memory>
+    requires numbers { length rooms.old ≡ NUMBERS }
+    requires buckets { length owner.now ≤ 65536 }
+    ensures given { IfOk result (λ buckets. buckets.items ≡ given (room_in rooms.old) 0 owner.now) }
+    ensures left { OnOk result ((s : ServerId) → room_in rooms.new s ≡ left (room_in rooms.old) owner.now s) }
+{
+    let mut buckets = Vec::new(alloc);
+    for (bucket, s) in owner.iter().enumerate() {
+        if !has_kept(rooms, s.0 as usize) {
+            buckets.push(bucket as u32)?;
+        }
+    }
+    Ok(buckets)
+}
+
+/// Whether there was room at the place, which is then one less.
+fn has_kept(rooms: &mut [u32], place: usize) -> bool
+    requires { place < length rooms.old }
+    ensures room { result ≡ nat_lt 0 (slice_index rooms.old place) }
+    ensures after { rooms.new ≡ slice_set rooms.old place (slice_index rooms.old place - 1) }
+{
+    let room = rooms[place];
+    rooms[place] = room.saturating_sub(1);
+    room > 0
+}
+
+/// The active servers in order, each as often as it has room.
+fn takers(alloc: Global, active: &[ServerId], rooms: &[u32]) -> Result<Vec<ServerId>, Memory>
+    requires { length rooms.now ≡ NUMBERS }
+    ensures { IfOk result (λ takers. takers.items ≡ rule.takers (room_in rooms.now) active.now) }
+{
+    let mut takers = Vec::new(alloc);
+    for s in active {
+        let room = rooms[s.0 as usize] as usize;
+        takers.resize(takers.len() + room, *s)?;
+    }
+    Ok(takers)
+}
+
+/// Each bucket goes to the server at its place.
+fn moves_to(alloc: Global, buckets: &[u32], takers: &[ServerId]) -> Result<Vec<Move>, Memory>
+    ensures { IfOk result (λ moves. moves.items ≡ map (λ p. record { bucket = p.0; to = p.1 }) (zip buckets.now takers.now)) }
+{
+    let moves = buckets
+        .iter()
+        .zip(takers)
+        .map(|(bucket, to)| Move {
+            bucket: *bucket,
+            to: *to,
+        })
+        .collect(alloc)?;
+    Ok(moves)
+}
