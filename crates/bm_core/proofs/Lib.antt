@@ -22,3 +22,5 @@ pub mod WorkedMuxes
 pub mod WorkedRetiring
 pub mod WorkedReceiver
 pub mod WorkedFates
+pub mod WorkedWhole
+pub mod WorkedThreads

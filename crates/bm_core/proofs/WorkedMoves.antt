@@ -18,7 +18,7 @@ use Rattle.bm_core.proofs.Playing.{play}
 use Rattle.bm_core.proofs.Worked.{server, syn, data_of, record_at, move, change_at, stage_of, publish, switch, steer, arrive, replayed, causes_of, newest_broken}
 
 -- one move: the data is forwarded to the server that accepted the SYN
-abbrev moved : Stage
+abbrev pub moved : Stage
 moved = stage_of plain_setting (change_at 500 Shift (move 4 2 ∷ []) ∷ []) (ChangeCommand (record { 0 = 1 }) ∷ []) (record_at 0 (syn 1000 100) ∷ record_at 1000 (data_of 1000 101 10) ∷ [])
 
 moved_events : reverse (replayed moved 9) ≡
