@@ -4,3 +4,6 @@
 mod receiver;
 
 pub use receiver::{Receiver, acceptable};
+
+#[cfg(test)]
+mod tests;
