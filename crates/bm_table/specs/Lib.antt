@@ -1,3 +1,5 @@
+pub mod Entries
+pub mod Leaves
 pub mod Planned
 pub mod Plans
 pub mod Settings

@@ -1,10 +1,23 @@
--- What each plan keeps.
-use Rattle.std.specs.Prelude.{◌≢◌, ℕ, ◌+◌, ◌<◌, ◌≤◌, List, [], ◌∷◌, length, All, IfSome, sum_by}
+-- What each plan keeps, and which changes it refuses.
+use Rattle.std.specs.Prelude.{◌≡◌, ◌≢◌, ℕ, ◌+◌, ◌-◌, ◌<◌, ◌≤◌, ◌&&◌, nat_le, nat_lt, if◌then◌else◌, List, [], ◌∷◌, ◌++◌, length, All, IfSome, sum_by, Option, Some, None}
+use Rattle.std.specs.Option.{option_map}
+use Rattle.bm_base.specs.declared.ids.ServerId.{ServerId}
 use Rattle.bm_table.specs.declared.plan.Change.{Change}
+use Rattle.bm_table.specs.declared.plan.Limit.TheVariants.{Changes, Moves}
 use Rattle.bm_table.specs.declared.plan.Move.{Move}
+use Rattle.bm_table.specs.declared.plan.PlanFault.{PlanFault}
+use Rattle.bm_table.specs.declared.plan.PlanFault.TheVariants.{StampFell, BadBucket, SameServer, TooMany, Memory}
 use Rattle.bm_table.specs.Planned.{Planned}
 use Rattle.bm_table.specs.Settings.{IsWithin, RiseFrom}
-use Rattle.bm_table.specs.Tables.{brings, moment_of, next_change, table}
+use Rattle.bm_table.specs.Tables.{brings, moment_of, next_change, same_server, table}
+
+-- the plan with one more change
+abbrev pub with_change : Planned → Change → Planned
+with_change plan change = record plan { changes = plan.changes ++ change ∷ [] }
+
+-- the server of a bucket after all changes
+abbrev pub server_now : Planned → ℕ → ServerId
+server_now plan b = (table plan (length plan.changes) b).cur
 
 -- the moves' buckets rise, from low on, and are below the number of buckets
 abbrev pub MovesRise : ℕ → ℕ → List Move → Type 0
@@ -27,3 +40,38 @@ pub record IsPlan (plan : Planned) : Type 0 where
   pub places : All (λ c. MovesRise plan.buckets 0 c.moves) plan.changes
   pub count : length plan.changes ≤ 4096
   pub moves : total_moves plan.changes ≤ 1000000
+
+-- the moment of the last change, or 0
+abbrev pub last_moment : Planned → ℕ
+last_moment plan = moment_of (next_change plan (length plan.changes - 1))
+
+-- the first bucket that isn't below the number of buckets, or is below low or not above the one before it
+abbrev pub bad_bucket : ℕ → ℕ → List Move → Option ℕ
+bad_bucket buckets low [] = None
+bad_bucket buckets low (m ∷ moves) =
+    if nat_le low m.bucket && nat_lt m.bucket buckets then bad_bucket buckets (m.bucket + 1) moves else Some m.bucket
+
+-- the first bucket that a move brings to the server where it is
+abbrev pub bucket_at_home : (ℕ → ServerId) → List Move → Option ℕ
+bucket_at_home server [] = None
+bucket_at_home server (m ∷ moves) = if same_server (server m.bucket) m.to then Some m.bucket else bucket_at_home server moves
+
+abbrev pub first_fault : List (Option PlanFault) → Option PlanFault
+first_fault [] = None
+first_fault (None ∷ faults) = first_fault faults
+first_fault (Some fault ∷ faults) = Some fault
+
+-- why the plan refuses the change, want of memory aside
+abbrev pub refusal : Planned → Change → Option PlanFault
+refusal plan change = first_fault (
+    (if nat_lt change.moment.0 (last_moment plan) then Some StampFell else None)
+    ∷ option_map BadBucket (bad_bucket plan.buckets 0 change.moves)
+    ∷ option_map SameServer (bucket_at_home (server_now plan) change.moves)
+    ∷ (if nat_lt (length plan.changes) 4096 then None else Some (TooMany Changes))
+    ∷ (if nat_le (total_moves plan.changes + length change.moves) 1000000 then None else Some (TooMany Moves))
+    ∷ [])
+
+-- want of memory comes only where nothing else is refused
+abbrev pub IsRefusal : Planned → Change → PlanFault → Type 0
+IsRefusal plan change Memory = refusal plan change ≡ None
+IsRefusal plan change fault = refusal plan change ≡ Some fault

@@ -1,10 +1,22 @@
 -- A plan's fields, as contracts see them.
+use Rattle.std.specs.Prelude.{◌≡◌, ℕ, List, length, map, IfSome, slice_get}
+use Rattle.bm_table.specs.declared.plan.Change.{Change}
 use Rattle.bm_table.specs.declared.plan.Plan.TheInside.{Inside}
+use Rattle.bm_table.specs.declared.plan.Step.{Step}
+use Rattle.bm_table.specs.Entries.{IsTable}
+use Rattle.bm_table.specs.Leaves.{leaves_by}
 use Rattle.bm_table.specs.Planned.{Planned}
-use Rattle.bm_table.specs.Plans.{IsPlan}
+use Rattle.bm_table.specs.Plans.{IsPlan, total_moves}
+use Rattle.bm_table.specs.Tables.{table}
+
+abbrev pub changes_of : List Step → List Change
+changes_of steps = map (λ step. step.change) steps
 
 abbrev pub planned : Inside → Planned
-planned p = record { buckets = p.buckets; servers = p.servers.items; changes = p.changes.items }
+planned p = record { buckets = p.buckets; servers = p.servers.items; changes = changes_of p.steps.items }
 
-abbrev pub IsKept : Inside → Type 0
-IsKept p = IsPlan (planned p)
+pub record IsKept (p : Inside) : Type 0 where
+  pub plan : IsPlan (planned p)
+  pub latest : IsTable (planned p) (length (changes_of p.steps.items)) p.latest
+  pub moves : p.moves ≡ total_moves (planned p).changes
+  pub leaves : (v : ℕ) → IfSome (slice_get p.steps.items v) (λ step. step.leaves.items ≡ leaves_by (λ b. (table (planned p) v b).cur) step.change.moves)

@@ -4,7 +4,12 @@
 mod plan;
 mod script;
 mod setting;
+mod table;
 
-pub use plan::{Change, Kind, Limit, Move, Plan, Retirement};
+pub use plan::{Change, Kind, Limit, Move, Plan, PlanFault, Retirement};
 pub use script::{Command, Script};
 pub use setting::{FaultRow, RouteKind, Setting};
+pub use table::Table;
+
+#[cfg(test)]
+mod tests;

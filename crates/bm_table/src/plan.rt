@@ -1,10 +1,22 @@
 //! The plan: where the buckets open, and the changes in their order.
-ghost use Rattle.std.specs.Prelude.{◌≡◌, ◌<◌, [], length, IfOk};
+ghost use Rattle.std.specs.Prelude.{◌≡◌, ◌≤◌, ◌<◌, ◌+◌, ◌-◌, ℕ, [], ◌∷◌, length, map, All, IfOk, IfErr, OnOk, OnErr, MatchResult, Some, None};
+ghost use Rattle.bm_table.specs.Leaves.{IsLeast, LeavesRise, has_drain, has_left, left_since, lesser_of};
+ghost use Rattle.bm_table.specs.Plans.{MovesRise, bad_bucket, bucket_at_home};
 ghost use Rattle.bm_table.specs.Settings.{IsWithin, RiseFrom};
+ghost use Rattle.bm_table.specs.declared.plan.PlanFault.TheVariants.{Memory as memory};
 
-use bm_base::{List, Memory, Moment, ServerId};
-use std::alloc::Global;
+use crate::Table;
+use bm_base::{List, Memory, Moment, ServerId, Version};
+use std::alloc::{AllocError, Global};
+use std::fmt;
 use std::marker::Model;
+use thiserror::Error;
+
+/// The most changes of a plan.
+const MAX_CHANGES: usize = 4_096;
+
+/// The most moves of a plan, those of all changes together.
+const MAX_MOVES: usize = 1_000_000;
 
 /// What a change is for.
 #[derive(Clone, Copy, Debug, PartialEq, Eq)]
@@ -36,6 +48,15 @@ pub enum Limit {
     Moves,
 }
 
+impl fmt::Display for Limit {
+    fn fmt<W: fmt::Write>(&self, f: &mut fmt::Formatter<W>) -> fmt::Result {
+        match self {
+            Limit::Changes => write!(f, "changes"),
+            Limit::Moves => write!(f, "moves"),
+        }
+    }
+}
+
 /// The answer to a wish to retire a server.
 #[derive(Clone, Copy, Debug, PartialEq, Eq)]
 pub enum Retirement {
@@ -44,12 +65,58 @@ pub enum Retirement {
     TooEarly(u32),
 }
 
+/// Why a plan refuses a change.
+#[derive(Clone, Copy, Debug, Drop, Error, PartialEq, Eq)]
+pub enum PlanFault {
+    /// The moment is below that of the last change.
+    #[error("the moment is below that of the last change")]
+    StampFell,
+    /// A move's bucket isn't below the number of buckets, or isn't above that of the move before.
+    #[error("bucket {0} is out of range or out of order")]
+    BadBucket(u32),
+    /// A move's target is the server where its bucket is.
+    #[error("bucket {0} is at that server")]
+    SameServer(u32),
+    /// A limit would be passed.
+    #[error("too many {0}")]
+    TooMany(Limit),
+    /// Memory was refused.
+    #[error("out of memory")]
+    Memory,
+}
+
+impl From<AllocError> for PlanFault {
+    ghost from_gives = { λ _ fault. fault ≡ memory };
+
+    fn from(_e: AllocError) -> PlanFault {
+        PlanFault::Memory
+    }
+}
+
+/// A bucket leaves a server.
+#[derive(Clone, Copy, Debug, PartialEq, Eq)]
+pub(crate) struct Leave {
+    pub(crate) bucket: u32,
+    pub(crate) from: ServerId,
+}
+
+/// A change, and what its moves leave.
+#[derive(Debug, Drop)]
+struct Step {
+    change: Change,
+    leaves: Vec<Leave>,
+}
+
 /// The number of buckets, the servers that they open on, and the changes in their order.
 #[derive(Debug, Drop)]
 pub struct Plan {
     buckets: u32,
     servers: Vec<ServerId>,
-    changes: Vec<Change>,
+    steps: Vec<Step>,
+    /// The table after all changes.
+    latest: Table,
+    /// How many moves the changes have together.
+    moves: usize,
 }
 
 impl Model for Plan {
@@ -65,8 +132,8 @@ impl Model for Plan {
 }
 
 impl Plan {
-    ghost use Rattle.bm_table.specs.Plans.{IsPlan};
-    ghost use Rattle.bm_table.specs.Tables.{opening};
+    ghost use Rattle.bm_table.specs.Plans.{IsPlan, IsRefusal, refusal, with_change, last_moment};
+    ghost use Rattle.bm_table.specs.Tables.{IsRetirement, next_change, opening};
 
     /// A plan without changes. Bucket b opens on server number `b mod n` of the list, from 0.
     pub fn new(alloc: Global, buckets: u32, servers: &[ServerId]) -> Result<Plan, Memory>
@@ -78,7 +145,9 @@ impl Plan {
         Ok(Plan {
             buckets,
             servers: Vec::from_slice(alloc, servers)?,
-            changes: Vec::new(alloc),
+            steps: Vec::new(alloc),
+            latest: Table::over(alloc, buckets, servers)?,
+            moves: 0,
         })
     }
 
@@ -87,7 +156,7 @@ impl Plan {
         ensures count { result ≡ length self.now.changes }
         ensures kept { IsPlan self.now }
     {
-        self.changes.len() as u32
+        self.steps.len() as u32
     }
 
     /// The number of buckets.
@@ -97,11 +166,167 @@ impl Plan {
         self.buckets
     }
 
+    /// The servers that buckets open on.
+    pub(crate) fn servers(&self) -> &[ServerId]
+        ensures servers { result.now ≡ self.now.servers }
+        ensures some { 0 < length result.now }
+    {
+        self.servers.as_slice()
+    }
+
     /// The server that the bucket opens on.
     pub fn opening(&self, bucket: u32) -> ServerId
         requires { bucket < self.now.buckets }
         ensures { result ≡ (opening self.now bucket).cur }
     {
         self.servers[bucket as usize % self.servers.len()]
+    }
+
+    /// The change that leads to version `v`.
+    pub fn copy_change(&self, v: Version) -> Result<Change, Memory>
+        requires { IsWithin 1 (length self.now.changes) v.0 }
+        ensures { IfOk result (λ change. next_change self.now (v.0 - 1) ≡ Some change) }
+    {
+        let change = &self.steps[v.0 as usize - 1].change;
+        let alloc = *self.steps.allocator();
+        Ok(Change {
+            moment: change.moment,
+            kind: change.kind,
+            moves: List::of(Vec::from_slice(alloc, change.moves.items())?),
+        })
+    }
+
+    /// One more change. The faults come in the order of their declaration, each for the first
+    /// bucket that has it, and leave the plan as it was.
+    pub fn push(&mut self, change: Change) -> Result<(), PlanFault>
+        ensures ok { OnOk result (self.new ≡ with_change self.old change) }
+        ensures accepted { OnOk result (refusal self.old change ≡ None) }
+        ensures refused { IfErr result (IsRefusal self.old change) }
+        ensures err { OnErr result (self.new ≡ self.old) }
+    {
+        self.admit(&change)?;
+        let alloc = *self.steps.allocator();
+        let leaves = self.latest.leaves(alloc, change.moves.items())?;
+        self.steps.reserve(1)?;
+        self.latest.apply(&change);
+        self.moves += change.moves.items().len();
+        self.steps.push_reserved(Step { change, leaves });
+        Ok(())
+    }
+
+    /// Whether the change may come next.
+    fn admit(&self, change: &Change) -> Result<(), PlanFault>
+        ensures { MatchResult result (λ _. refusal self.now change.now ≡ None) (λ fault. refusal self.now change.now ≡ Some fault) }
+    {
+        let moves = change.moves.items();
+        if change.moment.0 < self.last_moment().0 {
+            return Err(PlanFault::StampFell);
+        }
+        if let Some(bucket) = first_bad_bucket(self.buckets, moves) {
+            return Err(PlanFault::BadBucket(bucket));
+        }
+        if let Some(bucket) = self.latest.first_at_home(moves) {
+            return Err(PlanFault::SameServer(bucket));
+        }
+        if self.steps.len() >= MAX_CHANGES {
+            return Err(PlanFault::TooMany(Limit::Changes));
+        }
+        if moves.len() > MAX_MOVES - self.moves {
+            return Err(PlanFault::TooMany(Limit::Moves));
+        }
+        Ok(())
+    }
+
+    /// The moment of the last change, or 0.
+    fn last_moment(&self) -> Moment
+        ensures { result.0 ≡ last_moment self.now }
+    {
+        match self.steps.last() {
+            Some(step) => step.change.moment,
+            None => Moment(0),
+        }
+    }
+
+    /// Whether the server may retire at the moment `at`, when `published` changes are published
+    /// and a chain ends `timeout` nanoseconds after a move. Takes no memory.
+    pub fn retirement(
+        &self,
+        published: Version,
+        s: ServerId,
+        at: Moment,
+        timeout: u64,
+    ) -> Retirement
+        requires { published.0 ≤ length self.now.changes }
+        ensures { IsRetirement self.now timeout published.0 s at.0 result }
+    {
+        let steps = &self.steps[..published.0 as usize];
+        if !any_drains(steps, s) {
+            return Retirement::NotDrained;
+        }
+        match least_left(steps, s, Moment(at.0.saturating_sub(timeout))) {
+            Some(bucket) => Retirement::TooEarly(bucket),
+            None => Retirement::Done,
+        }
+    }
+}
+
+impl Step {
+    /// The least bucket that leaves the server.
+    fn least_left(&self, s: ServerId) -> Option<u32>
+        requires { LeavesRise 0 self.now.leaves.items }
+        ensures { IsLeast (has_left self.now.leaves.items s) result }
+    {
+        for leave in &self.leaves {
+            if leave.from == s {
+                return Some(leave.bucket);
+            }
+        }
+        None
+    }
+}
+
+/// The first bucket that isn't below the number of buckets, or isn't above the one before it.
+fn first_bad_bucket(buckets: u32, moves: &[Move]) -> Option<u32>
+    ensures { result ≡ bad_bucket buckets 0 moves.now }
+{
+    let mut low = 0;
+    for m in moves {
+        if m.bucket < low || m.bucket >= buckets {
+            return Some(m.bucket);
+        }
+        low = m.bucket + 1;
+    }
+    None
+}
+
+/// Whether one of the steps drains the server.
+fn any_drains(steps: &[Step], s: ServerId) -> bool
+    ensures { result ≡ has_drain steps.now s }
+{
+    steps.iter().any(|step| step.change.kind == Kind::Drain(s))
+}
+
+/// The least bucket that left the server by a step that isn't before the moment `since`.
+fn least_left(steps: &[Step], s: ServerId, since: Moment) -> Option<u32>
+    requires { All (λ step. LeavesRise 0 step.leaves.items) steps.now }
+    ensures { IsLeast (left_since steps.now s since.0) result }
+{
+    let mut least = None;
+    for step in steps {
+        if step.change.moment >= since {
+            least = lesser(least, step.least_left(s));
+        }
+    }
+    least
+}
+
+/// The lesser of the numbers that are there.
+fn lesser(a: Option<u32>, b: Option<u32>) -> Option<u32>
+    ensures { result ≡ lesser_of a b }
+{
+    match (a, b) {
+        (Some(x), Some(y)) => Some(x.min(y)),
+        (Some(x), None) => Some(x),
+        (None, y) => y,
     }
 }

@@ -1,0 +1,114 @@
+use super::*;
+use bm_base::{Entry, List, Memory, Moment, ServerId, Version, Vip};
+use std::alloc::Global;
+use std::test::Fail;
+
+fn change(alloc: Global, moment: u64, kind: Kind, moves: &[(u32, u16)]) -> Result<Change, Memory> {
+    let mut list = Vec::new(alloc);
+    for (bucket, to) in moves {
+        list.push(Move {
+            bucket: *bucket,
+            to: ServerId(*to),
+        })?;
+    }
+    Ok(Change {
+        moment: Moment(moment),
+        kind,
+        moves: List::of(list),
+    })
+}
+
+#[test]
+fn a_plan_refuses_changes_in_order_and_its_table_has_the_last_move(
+    rt: HostRuntime,
+) -> Result<(), Fail> {
+    let alloc = rt.alloc();
+    let mut plan = Plan::new(alloc, 8, [ServerId(1), ServerId(2)].as_slice())?;
+    assert_eq!(rt; plan.buckets(), 8);
+    assert_eq!(rt; plan.opening(4), ServerId(1));
+    assert_eq!(rt; plan.opening(5), ServerId(2));
+    let mut table = Table::opening(alloc, &plan)?;
+    let rows: [(u64, &[(u32, u16)], Result<(), PlanFault>); 6] = [
+        (500, &[(4, 2)], Ok(())),
+        (499, &[(4, 1)], Err(PlanFault::StampFell)),
+        (500, &[(8, 1)], Err(PlanFault::BadBucket(8))),
+        (500, &[(4, 1), (4, 2)], Err(PlanFault::BadBucket(4))),
+        (500, &[(4, 2)], Err(PlanFault::SameServer(4))),
+        (500, &[], Ok(())),
+    ];
+    for (moment, moves, want) in rows {
+        let next = change(alloc, moment, Kind::Shift, moves)?;
+        assert!(rt; plan.push(next) == want, "at {moment}");
+    }
+    assert!(rt; plan.versions() == 2);
+    table.apply(&plan.copy_change(Version(1))?);
+    table.apply(&plan.copy_change(Version(2))?);
+    let want = Entry {
+        cur: ServerId(2),
+        prev: Some(ServerId(1)),
+        stamp: Moment(500),
+    };
+    assert!(rt; table.entry(4) == want);
+    Ok(())
+}
+
+// Servers 1 and 2; bucket 4 moves to 2 at 500, and 2 is drained at 2,000, with a timeout of 1 s.
+#[test]
+fn a_server_retires_once_the_last_move_from_it_is_past_the_timeout(
+    rt: HostRuntime,
+) -> Result<(), Fail> {
+    let alloc = rt.alloc();
+    let mut plan = Plan::new(alloc, 8, [ServerId(1), ServerId(2)].as_slice())?;
+    let shift = change(alloc, 500, Kind::Shift, &[(4, 2)])?;
+    assert!(rt; plan.push(shift) == Ok(()));
+    let drained = [(1, 1), (3, 1), (4, 1), (5, 1), (7, 1)];
+    let drain = change(alloc, 2_000, Kind::Drain(ServerId(2)), &drained)?;
+    assert!(rt; plan.push(drain) == Ok(()));
+    let rows = [
+        (2, 3_000, Retirement::TooEarly(1)),
+        (1, 4_000, Retirement::NotDrained),
+        (2, 1_000_002_000, Retirement::TooEarly(1)),
+        (2, 1_000_002_001, Retirement::Done),
+        (2, 2_000_000_000, Retirement::Done),
+    ];
+    for (server, at, want) in rows {
+        let answer = plan.retirement(
+            Version(plan.versions()),
+            ServerId(server),
+            Moment(at),
+            1_000_000_000,
+        );
+        assert_eq!(rt; answer, want, "{server} at {at}");
+    }
+    Ok(())
+}
+
+#[test]
+fn the_plain_setting_is_made(rt: HostRuntime) -> Result<(), Fail> {
+    let setting = Setting::plain(rt.alloc())?;
+    assert_eq!(rt; setting.timeout, 240_000_000_000);
+    let service = Vip {
+        addr: 0xc000_0201,
+        port: 80,
+    };
+    assert_eq!(rt; setting.vips.items(), [service].as_slice());
+    Ok(())
+}
+
+#[test]
+fn faults_print_their_bucket_or_limit(rt: HostRuntime) -> Result<(), Fail> {
+    let alloc = rt.alloc();
+    let rows = [
+        (
+            PlanFault::BadBucket(8),
+            "bucket 8 is out of range or out of order",
+        ),
+        (PlanFault::TooMany(Limit::Moves), "too many moves"),
+        (PlanFault::TooMany(Limit::Changes), "too many changes"),
+    ];
+    for (fault, want) in rows {
+        let text = format!(in alloc; "{fault}")?;
+        assert_eq!(rt; text.as_str(), want);
+    }
+    Ok(())
+}
