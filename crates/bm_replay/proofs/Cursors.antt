@@ -1,16 +1,13 @@
 -- The cursor over the records of a capture.
-use Rattle.std.proofs.Common.{◌≡◌, ℕ, zero, suc, ◌+◌, ◌-◌, ◌<◌, ◌≤◌, true, false, inl, inr, List, [], ◌∷◌, Option, Some, None, is_some, length, slice_get, refl, subst, ap, ◌∙◌, get_or, arith}
+use Rattle.std.proofs.Common.{◌≡◌, ℕ, zero, suc, ◌+◌, ◌-◌, ◌<◌, ◌≤◌, true, false, List, [], ◌∷◌, Some, is_some, length, slice_get, refl, subst, ap, ◌∙◌, get_or, arith}
 use Rattle.std.proofs.lemmas.Option.{same_Some, slice_get-get_or}
-use Rattle.std.proofs.lemmas.Bool.{cases_Bool}
 use Rattle.bm_base.specs.declared.flow.Segment.{Segment}
-use Rattle.bm_base.specs.declared.capture.Body.TheVariants.{Steerable, Unsteered}
+use Rattle.bm_base.specs.declared.capture.Body.TheVariants.{Steerable}
 use Rattle.bm_base.specs.declared.capture.Record.{Record}
 use Rattle.bm_core.specs.declared.schedule.Call.TheVariants.{Steers}
-use Rattle.bm_core.specs.declared.schedule.Due.{Due}
 use Rattle.bm_core.specs.Past.{steerable}
 use Rattle.bm_core.specs.Schedule.{dropped, packets_from}
-use Rattle.bm_replay.specs.declared.packet.Packet.{Packet}
-use Rattle.bm_replay.specs.Turns.{IsFound, packet_due, segment_at}
+use Rattle.bm_replay.specs.Turns.{IsFound}
 
 pub dropped_at : {X : Type 0} (xs : List X) (i : ℕ) (x : X) → slice_get xs i ≡ Some x → dropped i xs ≡ x ∷ dropped (suc i) xs
 dropped_at {X = X} [] i x e = absurd (cc)

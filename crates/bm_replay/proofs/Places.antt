@@ -1,8 +1,7 @@
 -- Where the shards of the servers lie.
-use Rattle.std.proofs.Common.{◌≡◌, ℕ, ◌+◌, ◌*◌, ◌/◌, ◌%◌, ◌^◌, ◌<◌, ◌≤◌, arith}
+use Rattle.std.proofs.Common.{ℕ, ◌+◌, ◌*◌, ◌<◌, ◌≤◌, arith}
 use Rattle.std.proofs.Math.Nat.{mul-le-mul_left}
 use Rattle.bm_base.specs.declared.flow.Segment.{Segment}
-use Rattle.bm_hash.specs.Buckets.{flow_hash}
 use Rattle.bm_core.specs.declared.events.Stage.{Stage}
 use Rattle.bm_replay.specs.Players.{shard_for}
 

@@ -1,5 +1,5 @@
 -- A verdict's effect on the connections of a shard is that of its turn on the shard's book.
-use Rattle.std.proofs.Common.{◌≡◌, ℕ, Bool, true, false, cond, not, List, [], ◌∷◌, ◌++◌, map, Option, Some, None, length, refl, sym, ap, ◌∙◌, inl, inr, arith, ◌==◌}
+use Rattle.std.proofs.Common.{◌≡◌, ℕ, Bool, true, false, cond, not, List, [], ◌∷◌, ◌++◌, map, Option, Some, None, length, refl, sym, ap, ◌∙◌, inl, inr, ◌==◌}
 use Rattle.std.specs.Prelude.{reverse, filter, option_map}
 use Rattle.std.proofs.lemmas.Bool.{cases_Bool, both_ways}
 use Rattle.std.proofs.lemmas.List.{length-map, length-reverse, map-append, append-nil, reverse-append}
@@ -10,12 +10,11 @@ use Rattle.bm_base.specs.declared.receive.Taken.{Taken}
 use Rattle.bm_base.specs.declared.receive.Taken.TheVariants.{Advance, Duplicate, Ahead, Outside, Challenge, Ended}
 use Rattle.bm_base.specs.Segments.{same_flow}
 use Rattle.bm_seq.specs.declared.receiver.Receiver.{Receiver}
-use Rattle.bm_seq.specs.Receivers.{opened, receiver_after}
-use Rattle.bm_core.specs.declared.events.Local.{Local}
+use Rattle.bm_seq.specs.Receivers.{receiver_after}
 use Rattle.bm_core.specs.declared.events.Verdict.{Verdict}
 use Rattle.bm_core.specs.declared.events.Verdict.TheVariants.{Accept, Process, Forward, Reset, Drop}
 use Rattle.bm_core.specs.Past.{without}
-use Rattle.bm_core.specs.Books.{Turn, Took, book_held, book_retired, book_flows, book_local}
+use Rattle.bm_core.specs.Books.{Turn, Took, book_held, book_flows, book_local}
 use Rattle.bm_core.proofs.Pasts.{same_flow-true, same_flow_refl}
 use Rattle.bm_replay.specs.declared.shard.Connection.{Connection}
 use Rattle.bm_replay.specs.Connections.{look_up, local_of, connection_of, after_segment, without_flow, IsLeftBy}

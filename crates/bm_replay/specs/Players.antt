@@ -1,5 +1,6 @@
 -- A replay on its way: what its state keeps.
-use Rattle.std.specs.Prelude.{◌≡◌, ℕ, suc, ◌+◌, ◌-◌, ◌*◌, ◌^◌, ◌<◌, ◌≤◌, Bool, true, false, List, [], ◌∷◌, ◌++◌, length, reverse, All, Option, Some, None, slice_index_or, slice_set, IsSome}
+use Rattle.std.specs.Prelude.{◌≡◌, ℕ, suc, ◌+◌, ◌-◌, ◌*◌, ◌^◌, ◌<◌, ◌≤◌, Bool, true, false, List, [], ◌∷◌, ◌++◌, length, reverse, Option, Some, None, slice_index_or, slice_set}
+use Rattle.std.specs.List.{AllByRecursion}
 use Rattle.bm_base.specs.declared.ids.ServerId.{ServerId}
 use Rattle.bm_base.specs.declared.flow.Segment.{Segment}
 use Rattle.bm_base.specs.declared.label.Hop.TheVariants.{Direct}
@@ -14,6 +15,7 @@ use Rattle.bm_core.specs.declared.events.Stage.{Stage}
 use Rattle.bm_core.specs.declared.schedule.Underway.{Underway}
 use Rattle.bm_core.specs.Accounts.{AreAnswered}
 use Rattle.bm_core.specs.Books.{book_of}
+use Rattle.bm_core.specs.Past.{is_sent}
 use Rattle.bm_core.specs.Runs.{Run, last_clock, next}
 use Rattle.bm_core.specs.Schedule.{Follows, dropped, left, packets_from, steers, wire, can_come}
 use Rattle.bm_core.specs.Stages.{IsSound}
@@ -48,12 +50,18 @@ abbrev pub KeepsBooks : Player → List Event → Type 0
 KeepsBooks p past =
     (s : ServerId) (h : ℕ) → s.0 ≤ 1024 → h < p.stage.script.setting.shards → AreLeftBy (book_of p.stage past s h) (connections_of p s h)
 
+-- a copy that is under way is a direct one of a packet that was steered, and was due by now
+pub record IsWaiting (clock : ℕ) (past : List Event) (u : Underway) : Type 0 where
+  pub due : u.moment ≤ clock
+  pub direct : u.hop ≡ Direct
+  pub sent : is_sent past u.packet Direct ≡ true
+
 -- the numbers stay in range: each packet is steered and arrives once, and each event adds one to the clock
 pub record IsPaced (p : Player) : Type 0 where
   pub cursor : p.next ≤ length p.stage.capture.records
   pub events : 2 * (length p.stage.capture.records - p.next) + length p.waiting.items + length p.events.items ≤ 400000
   pub clock : p.clock ≤ 44 * 10 ^ 17 + length p.events.items
-  pub waiting : All (λ (u : Underway). u.moment ≤ p.clock) p.waiting.items
+  pub waiting : AllByRecursion (λ u. IsWaiting p.clock (past_of p) u) p.waiting.items
 
 -- the events so far are a run that follows the script, and the state is what they leave
 pub record IsPlaying (p : Player) : Type 0 where

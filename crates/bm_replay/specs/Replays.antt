@@ -1,9 +1,6 @@
 -- What the replay of a stage is.
-use Rattle.std.specs.Prelude.{◌≡◌, ℕ, List, [], reverse}
-use Rattle.bm_base.specs.declared.flow.Flow.{Flow}
-use Rattle.bm_base.specs.declared.label.Hop.{Hop}
+use Rattle.std.specs.Prelude.{◌≡◌, List, [], reverse}
 use Rattle.bm_base.specs.declared.receive.Fate.{Fate}
-use Rattle.bm_core.specs.declared.events.Event.{Event}
 use Rattle.bm_core.specs.declared.events.Stage.{Stage}
 use Rattle.bm_core.specs.declared.events.History.{History}
 use Rattle.bm_core.specs.Accounts.{Routes, Rules, IsAccountOf}

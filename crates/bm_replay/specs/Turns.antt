@@ -38,6 +38,11 @@ abbrev pub IsNextPacket : List Record → ℕ → Option Packet → Type 0
 IsNextPacket records next None = packets_from (suc next) (dropped next records) ≡ []
 IsNextPacket records next (Some p) = IsFound records next p
 
+-- the copy that is due first
+abbrev pub front_of : List Underway → Option Underway
+front_of [] = None
+front_of (u ∷ waiting) = Some u
+
 -- of the copy that is due first and the next packet: at equal moments the copy arrives first
 abbrev pub first_turn : Option Underway → Option Packet → Turn
 first_turn None None = Over

@@ -2,6 +2,7 @@
 ghost use Rattle.std.specs.Prelude.{◌≡◌, ◌≤◌, ◌<◌, IfOk, Some, length, slice_get};
 ghost use Rattle.bm_base.specs.declared.label.Hop.TheVariants.{Direct};
 ghost use Rattle.bm_replay.specs.Players.{CanArrive, CanSteer, HasArrived, HasServers, HasSettled, HasSought, HasSteered, HasStepped, IsNew, IsPlaying, server_for, verdict_for};
+ghost use Rattle.bm_replay.specs.Turns.{first_turn, front_of};
 
 use crate::packet::{Packet, Turn, first, mux_of, next_packet, segment_of};
 use crate::shard::Shard;
@@ -52,12 +53,19 @@ impl Player {
         ensures { IfOk result (HasStepped self.old self.new) }
     {
         let packet = self.seek();
-        match first(self.waiting.front().copied(), packet) {
+        match self.turn(packet) {
             Turn::Arrive(copy) => self.arrive(copy)?,
             Turn::Steer(packet) => self.steer(packet)?,
             Turn::Over => return Ok(false),
         }
         Ok(true)
+    }
+
+    /// What comes first: the copy that is due first, or the packet.
+    fn turn(&self, packet: Option<Packet>) -> Turn
+        ensures { result ≡ first_turn (front_of self.now.waiting.items) packet }
+    {
+        first(self.waiting.front().copied(), packet)
     }
 
     /// Passes over the records that aren't steered, and finds the next packet.

@@ -134,6 +134,7 @@ impl Model for Plan {
 impl Plan {
     ghost use Rattle.bm_table.specs.Plans.{IsPlan, IsRefusal, refusal, with_change, last_moment};
     ghost use Rattle.bm_table.specs.Tables.{IsRetirement, next_change, opening};
+    ghost use Rattle.std.specs.Option.{option_copied};
 
     /// A plan without changes. Bucket b opens on server number `b mod n` of the list, from 0.
     pub fn new(alloc: Global, buckets: u32, servers: &[ServerId]) -> Result<Plan, Memory>
@@ -180,6 +181,16 @@ impl Plan {
         ensures { result ≡ (opening self.now bucket).cur }
     {
         self.servers[bucket as usize % self.servers.len()]
+    }
+
+    /// The change that leads from version `v` to the next, if the plan has it. Takes no memory.
+    pub fn next_change(&self, v: Version) -> Option<&Change>
+        ensures { option_copied result ≡ next_change self.now v.0 }
+    {
+        match self.steps.get(v.0 as usize) {
+            Some(step) => Some(&step.change),
+            None => None,
+        }
     }
 
     /// The change that leads to version `v`.

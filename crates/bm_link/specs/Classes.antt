@@ -1,0 +1,64 @@
+-- What a record holds: a segment to be steered, or the first reason against it.
+use Rattle.std.specs.Prelude.{ℕ, List, [], length, Bool, not, ◌&&◌, nat_lt, ◌==◌, if◌then◌else◌, Result, Ok, Err}
+use Rattle.std.specs.List.{list_any}
+use Rattle.bm_base.specs.declared.capture.Body.{Body}
+use Rattle.bm_base.specs.declared.capture.Body.TheVariants.{Steerable, Unsteered}
+use Rattle.bm_base.specs.declared.capture.Reason.{Reason}
+use Rattle.bm_base.specs.declared.capture.Reason.TheVariants as reason
+use Rattle.bm_base.specs.declared.capture.Vip.{Vip}
+use Rattle.bm_base.specs.declared.flow.Flow.{Flow}
+use Rattle.bm_base.specs.declared.flow.Segment.{Segment}
+use Rattle.bm_base.specs.declared.octets.TheConstants.{MAX_INNER}
+use Rattle.bm_ipv4.specs.declared.fault.Ipv4Fault.{Ipv4Fault}
+use Rattle.bm_ipv4.specs.declared.fault.Ipv4Fault.TheVariants as ipv4
+use Rattle.bm_ipv4.specs.Header.{Packet, ipv4_of}
+use Rattle.bm_tcp.specs.declared.fault.TcpFault.{TcpFault}
+use Rattle.bm_tcp.specs.declared.fault.TcpFault.TheVariants as tcp
+use Rattle.bm_tcp.specs.Header.{tcp_of}
+use Rattle.bm_link.specs.declared.fault.LinkFault.{LinkFault}
+use Rattle.bm_link.specs.declared.fault.LinkFault.TheVariants as link
+use Rattle.bm_link.specs.Links.{network_of}
+
+abbrev pub link_reason : LinkFault → Reason
+link_reason link.Short = reason.ShortLink
+link_reason link.NotIpv4 = reason.NotIpv4
+
+abbrev pub ipv4_reason : Ipv4Fault → Reason
+ipv4_reason ipv4.Short = reason.ShortIp
+ipv4_reason ipv4.NotVersion4 = reason.NotVersion4
+ipv4_reason ipv4.BadHeaderLength = reason.BadHeaderLength
+ipv4_reason ipv4.BadTotalLength = reason.BadTotalLength
+
+abbrev pub tcp_reason : TcpFault → Reason
+tcp_reason tcp.Short = reason.ShortTcp
+tcp_reason tcp.BadOffset = reason.BadOffset
+
+-- the flow goes to one of the services
+abbrev pub goes_to : List Vip → Flow → Bool
+goes_to vips f = list_any (λ v. v.addr == f.dst && v.port == f.dport) vips
+
+-- a record that isn't steered has no packet
+abbrev pub unsteered : Reason → Body × List ℕ
+unsteered r = (Unsteered r, [])
+
+abbrev pub of_segment : List Vip → Packet → Result Segment TcpFault → Body × List ℕ
+of_segment vips p (Err e) = unsteered (tcp_reason e)
+of_segment vips p (Ok s) =
+    if not (goes_to vips s.flow) then unsteered reason.OtherDestination
+    else if nat_lt MAX_INNER (length p.packet) then unsteered reason.TooLong
+    else (Steerable s, p.packet)
+
+abbrev pub of_packet : List Vip → Result Packet Ipv4Fault → Body × List ℕ
+of_packet vips (Err e) = unsteered (ipv4_reason e)
+of_packet vips (Ok p) =
+    if p.is_fragment then unsteered reason.Fragment
+    else if not (p.protocol == 6) then unsteered reason.NotTcp
+    else of_segment vips p (tcp_of p)
+
+abbrev pub of_part : List Vip → Result (List ℕ) LinkFault → Body × List ℕ
+of_part vips (Err e) = unsteered (link_reason e)
+of_part vips (Ok part) = of_packet vips (ipv4_of part)
+
+-- what a record with these octets holds, and its packet
+unfoldable pub classified : ℕ → List Vip → List ℕ → Body × List ℕ
+classified link vips octets = of_part vips (network_of link octets)

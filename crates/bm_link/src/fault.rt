@@ -1,0 +1,10 @@
+use thiserror::Error;
+
+/// Why a frame has no part for IPv4.
+#[derive(Clone, Copy, Debug, PartialEq, Eq, Error)]
+pub enum LinkFault {
+    #[error("the link layer's header is cut short")]
+    Short,
+    #[error("the link layer carries something else than IPv4")]
+    NotIpv4,
+}

@@ -1,0 +1,13 @@
+//! Link layers, and what a captured record holds.
+#![tactic(auto)]
+
+mod fault;
+mod network;
+mod record;
+
+pub use fault::LinkFault;
+pub use network::network_part;
+pub use record::classify;
+
+#[cfg(test)]
+mod tests;

@@ -1,0 +1,87 @@
+//! What a record holds.
+ghost use Rattle.std.specs.Prelude.{◌≡◌, ◌<◌, ◌^◌, length, IsTrue};
+ghost use Rattle.bm_link.specs.Links.{is_link};
+ghost use Rattle.bm_link.specs.Classes.{classified, goes_to, unsteered, link_reason, ipv4_reason, tcp_reason};
+
+use crate::{LinkFault, network_part};
+use bm_base::{Body, Flow, MAX_INNER, Reason, Segment, Vip};
+use bm_ipv4::{Ipv4Fault, read_ipv4};
+use bm_tcp::{TcpFault, read_tcp};
+
+/// What a record of this link type holds for the services, and its packet: a segment to one of them,
+/// or the first reason against steering it. A record that isn't steered has an empty packet.
+#[tactic(auto, unfolding(crate::specs::Classes::classified))]
+pub fn classify<'a>(link: u16, octets: &'a [u8], vips: &[Vip]) -> (Body, &'a [u8])
+    requires link { IsTrue (is_link link) }
+    requires short { length octets.now < 2 ^ 32 }
+    ensures { (result.0, result.1.now) ≡ classified link vips.now octets.now }
+{
+    let part = match network_part(link, octets) {
+        Ok(part) => part,
+        Err(e) => return unsteered(link_reason(e)),
+    };
+    let view = match read_ipv4(part) {
+        Ok(view) => view,
+        Err(e) => return unsteered(ipv4_reason(e)),
+    };
+    if view.is_fragment() {
+        return unsteered(Reason::Fragment);
+    }
+    if view.protocol() != 6 {
+        return unsteered(Reason::NotTcp);
+    }
+    let segment = match read_tcp(&view) {
+        Ok(segment) => segment,
+        Err(e) => return unsteered(tcp_reason(e)),
+    };
+    if !goes_to(vips, &segment.flow) {
+        return unsteered(Reason::OtherDestination);
+    }
+    if view.packet().len() > MAX_INNER as usize {
+        return unsteered(Reason::TooLong);
+    }
+    (Body::Steerable(segment), view.packet())
+}
+
+/// A record that isn't steered has no packet.
+fn unsteered<'a>(reason: Reason) -> (Body, &'a [u8])
+    ensures { (result.0, result.1.now) ≡ unsteered reason }
+{
+    (Body::Unsteered(reason), &[])
+}
+
+/// Whether the flow goes to one of the services.
+fn goes_to(vips: &[Vip], f: &Flow) -> bool
+    ensures { result ≡ goes_to vips.now f.now }
+{
+    vips.iter().any(|v| v.addr == f.dst && v.port == f.dport)
+}
+
+fn link_reason(e: LinkFault) -> Reason
+    ensures { result ≡ link_reason e }
+{
+    match e {
+        LinkFault::Short => Reason::ShortLink,
+        LinkFault::NotIpv4 => Reason::NotIpv4,
+    }
+}
+
+fn ipv4_reason(e: Ipv4Fault) -> Reason
+    ensures { result ≡ ipv4_reason e }
+{
+    match e {
+        Ipv4Fault::Short => Reason::ShortIp,
+        Ipv4Fault::NotVersion4 => Reason::NotVersion4,
+        Ipv4Fault::BadHeaderLength => Reason::BadHeaderLength,
+        Ipv4Fault::BadTotalLength => Reason::BadTotalLength,
+    }
+}
+
+fn tcp_reason(e: TcpFault) -> Reason
+    ensures { result ≡ tcp_reason e }
+{
+    match e {
+        TcpFault::Short => Reason::ShortTcp,
+        TcpFault::BadOffset => Reason::BadOffset,
+    }
+}

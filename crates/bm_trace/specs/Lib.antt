@@ -1,0 +1,5 @@
+pub mod Words
+pub mod Totals
+pub mod CauseOf
+pub mod Report
+pub mod Seen

@@ -1,0 +1,104 @@
+-- The report of a history: a line for each event, a line for each record, a note where the capture is cut short, and the totals.
+use Rattle.std.specs.Prelude.{ℕ, suc, ◌==◌, if◌then◌else◌, List, [], ◌∷◌, ◌++◌, Option, Some, None, reverse, codes, decimal}
+use Rattle.bm_base.specs.declared.capture.Body.{Body}
+use Rattle.bm_base.specs.declared.capture.Body.TheVariants.{Steerable, Unsteered}
+use Rattle.bm_base.specs.declared.capture.Record.{Record}
+use Rattle.bm_base.specs.declared.flow.Segment.{Segment}
+use Rattle.bm_base.specs.declared.ids.ServerId.{ServerId}
+use Rattle.bm_core.specs.declared.events.Event.{Event}
+use Rattle.bm_core.specs.declared.events.History.{History}
+use Rattle.bm_core.specs.declared.events.Stage.{Stage}
+use Rattle.bm_core.specs.declared.events.Verdict.{Verdict}
+use Rattle.bm_core.specs.declared.events.Verdict.TheVariants.{Accept, Process, Forward, Reset, Drop}
+use Rattle.bm_core.specs.declared.events.What.{What}
+use Rattle.bm_core.specs.declared.events.What.TheVariants.{Publish, Switch, Steer, Lose, Arrive, Close, Retire, Sync}
+use Rattle.bm_core.specs.Causes.{cause}
+use Rattle.bm_core.specs.Past.{bucket, segment_of, version_at}
+use Rattle.bm_trace.specs.declared.sums.Totals.{Totals}
+use Rattle.bm_trace.specs.Totals.{totals_of}
+use Rattle.bm_trace.specs.Words.{line, endpoint, hop_word, verdict_words, because_words, retirement_words, reason_word}
+
+-- THE EVENTS
+
+-- the bucket of a packet's flow
+abbrev pub bucket_of_packet : Stage → Option Segment → ℕ
+bucket_of_packet stage None = 0
+bucket_of_packet stage (Some s) = bucket stage s.flow
+
+-- what the line of an event says behind its clock
+abbrev pub event_words : Stage → List Event → ℕ → What → List (List ℕ)
+event_words stage past clock (Publish v) = codes "publish" ∷ decimal v.0 ∷ []
+event_words stage past clock (Switch m v) = codes "switch" ∷ decimal m.0 ∷ decimal v.0 ∷ []
+event_words stage past clock (Steer k m) =
+    codes "steer" ∷ decimal k ∷ decimal m.0 ∷ decimal (version_at past m).0 ∷ decimal (bucket_of_packet stage (segment_of stage k)) ∷ []
+event_words stage past clock (Lose k hop) = codes "lost" ∷ decimal k ∷ hop_word hop ∷ []
+event_words stage past clock (Arrive k hop server verdict) =
+    (codes "arrive" ∷ decimal k ∷ hop_word hop ∷ decimal server.0 ∷ [])
+    ++ verdict_words verdict
+    ++ because_words (cause stage past clock (Arrive k hop server verdict))
+event_words stage past clock (Close server flow closed) =
+    codes "close" ∷ decimal server.0 ∷ endpoint flow.src flow.sport ∷ endpoint flow.dst flow.dport
+    ∷ (if closed then codes "closed" else codes "none") ∷ []
+event_words stage past clock (Retire server shard at result) =
+    (codes "retire" ∷ decimal server.0 ∷ decimal shard ∷ codes "at" ∷ decimal at.0 ∷ []) ++ retirement_words result
+event_words stage past clock Sync = codes "sync" ∷ []
+
+abbrev pub event_line : Stage → List Event → Event → List ℕ
+event_line stage past e = line (decimal e.clock.0) (event_words stage past e.clock.0 e.what)
+
+-- the lines of these events, of which the newest is first, in the order in which they came
+abbrev pub event_lines : Stage → List Event → List ℕ
+event_lines stage [] = []
+event_lines stage (e ∷ past) = event_lines stage past ++ event_line stage past e
+
+-- THE RECORDS
+
+-- how a copy of the packet ended; a forward is no end
+abbrev pub verdict_end : ServerId → Verdict → List (List ℕ)
+verdict_end server Accept = codes "accepted" ∷ decimal server.0 ∷ []
+verdict_end server (Process taken) = codes "processed" ∷ decimal server.0 ∷ []
+verdict_end server (Forward to) = []
+verdict_end server (Reset why) = codes "reset" ∷ decimal server.0 ∷ []
+verdict_end server (Drop why) = codes "dropped" ∷ decimal server.0 ∷ []
+
+-- the end of a copy of packet k, where the event is one
+abbrev pub end_words : What → ℕ → List (List ℕ)
+end_words (Arrive packet hop server verdict) k = if packet == k then verdict_end server verdict else []
+end_words (Lose packet hop) k = if packet == k then codes "lost" ∷ [] else []
+end_words _ k = []
+
+-- the ends of packet k among these events, of which the newest is first, in the order in which they came
+abbrev pub ends_of : List Event → ℕ → List (List ℕ)
+ends_of [] k = []
+ends_of (e ∷ past) k = ends_of past k ++ end_words e.what k
+
+abbrev pub record_words : List Event → ℕ → Body → List (List ℕ)
+record_words past k (Unsteered reason) = codes "unsteered" ∷ reason_word reason ∷ []
+record_words past k (Steerable s) = ends_of past k
+
+-- the lines of the records, of which the first has this number
+abbrev pub record_lines : List Event → ℕ → List Record → List ℕ
+record_lines past k [] = []
+record_lines past k (r ∷ records) = line (codes "packet") (decimal k ∷ record_words past k r.body) ++ record_lines past (suc k) records
+
+-- THE REST
+
+abbrev pub note_line : Option ℕ → List ℕ
+note_line None = []
+note_line (Some k) = line (codes "note") (codes "record" ∷ decimal k ∷ codes "cut" ∷ codes "short" ∷ [])
+
+abbrev pub totals_line : Totals → List ℕ
+totals_line t =
+    line (codes "total") (
+    codes "packets" ∷ decimal t.packets ∷ codes "steered" ∷ decimal t.steered ∷ codes "unsteered" ∷ decimal t.unsteered
+    ∷ codes "accepted" ∷ decimal t.accepted ∷ codes "processed" ∷ decimal t.processed ∷ codes "forwarded" ∷ decimal t.forwarded
+    ∷ codes "reset" ∷ decimal t.reset ∷ codes "dropped" ∷ decimal t.dropped ∷ codes "lost" ∷ decimal t.lost
+    ∷ codes "stray" ∷ decimal t.stray ∷ [])
+
+-- the whole report
+unfoldable pub text : History → List ℕ
+text h =
+    event_lines h.stage (reverse h.events)
+    ++ record_lines (reverse h.events) 1 h.stage.capture.records
+    ++ note_line h.stage.capture.cut
+    ++ totals_line (totals_of h)

@@ -1,0 +1,160 @@
+//! Why a packet is dropped, reset or processed elsewhere.
+ghost use Rattle.std.specs.Prelude.{◌≡◌, ◌+◌, ◌<◌, ◌≤◌, List, length, reverse, Some, None, option_map};
+ghost use Rattle.bm_core.specs.Past as past;
+ghost use Rattle.bm_core.specs.Causes as causes;
+ghost use Rattle.bm_core.specs.Stages.{IsSound};
+ghost use Rattle.bm_core.specs.Runs.{IsRun};
+ghost use Rattle.bm_trace.specs.CauseOf.{cause_of};
+ghost use Rattle.bm_trace.specs.Seen.{as_accepted};
+
+use crate::entries::{entry_at, moves};
+use crate::held::{held_place, is_elsewhere};
+use crate::past::{Owner, newest, owner_of, owner_server, segment_of, steer_of, version_at};
+use bm_base::{Flow, Label, Moment, ServerId, is_opening};
+use bm_core::{Cause, Event, History, Stage, Verdict, What, Why};
+use bm_hash::bucket_of;
+
+/// The label that the packet got at its Steer.
+fn label_of(stage: &Stage, events: &[Event], packet: u32) -> Option<Label>
+    requires { IsSound stage.now }
+    ensures { result ≡ past.label_of stage.now (reverse events.now) packet }
+{
+    let steered = steer_of(events, packet)?;
+    let segment = segment_of(stage, packet)?;
+    let version = version_at(steered.before, steered.mux);
+    let bucket = bucket_of(&segment.flow, stage.script.setting.buckets);
+    Some(Label {
+        mux: steered.mux,
+        version,
+        entry: entry_at(&stage.script.plan, version, bucket),
+    })
+}
+
+fn is_refusal(verdict: &Verdict) -> bool
+    ensures { result ≡ causes.is_refusal verdict.now }
+{
+    matches!(verdict, Verdict::Reset(_) | Verdict::Drop(_))
+}
+
+/// Whether the packet is dropped, reset or processed elsewhere.
+pub(crate) fn wants_cause(
+    stage: &Stage,
+    events: &[Event],
+    packet: u32,
+    server: ServerId,
+    verdict: &Verdict,
+) -> bool
+    ensures { result ≡ causes.wants_cause verdict.now (past.owner stage.now (reverse events.now) packet) server (past.segment_of stage.now packet) }
+{
+    let Some(segment) = segment_of(stage, packet) else {
+        return false;
+    };
+    if is_opening(&segment) {
+        return is_refusal(verdict);
+    }
+    match verdict {
+        Verdict::Accept | Verdict::Forward(_) => false,
+        Verdict::Reset(_) | Verdict::Drop(_) => true,
+        Verdict::Process(_) => owner_server(stage, events, packet) != Some(server),
+    }
+}
+
+fn opening_cause(verdict: &Verdict, version: u32, newest: u32) -> Option<Cause>
+    ensures { result ≡ causes.opening_cause verdict.now version newest }
+{
+    match verdict {
+        Verdict::Drop(Why::Full) => Some(Cause::Full),
+        Verdict::Drop(Why::Retired) if version < newest => Some(Cause::OldTable),
+        _ => None,
+    }
+}
+
+fn is_late(stage: &Stage, label: &Label, clock: Moment) -> bool
+    ensures { result ≡ causes.is_late stage.now label.now clock.0 }
+{
+    u128::from(label.entry.stamp.0) + u128::from(stage.script.setting.timeout) < u128::from(clock.0)
+}
+
+/// The first premise that is broken where a packet arrives that isn't opening.
+fn first_broken(
+    stage: &Stage,
+    events: &[Event],
+    clock: Moment,
+    label: &Label,
+    flow: &Flow,
+    server: ServerId,
+    owner: Option<Owner>,
+) -> Option<Cause>
+    requires { IsSound stage.now }
+    ensures { result ≡ causes.first_broken stage.now (reverse events.now) clock.0 label.now flow.now server (option_map as_accepted owner) }
+{
+    let Some(owner) = owner else {
+        return Some(Cause::NeverAccepted);
+    };
+    let bucket = bucket_of(flow, stage.script.setting.buckets);
+    if held_place(stage, events, owner.server, flow) != Some(owner.place) {
+        Some(Cause::NotHeld)
+    } else if label.version.0 < owner.version {
+        Some(Cause::StaleMux)
+    } else if moves(&stage.script.plan, bucket, owner.version, label.version.0) >= 2 {
+        Some(Cause::MovedTwice)
+    } else if server != owner.server && is_late(stage, label, clock) {
+        Some(Cause::ChainLate)
+    } else if is_elsewhere(stage, events, flow, owner.server) {
+        Some(Cause::SynElsewhere)
+    } else {
+        None
+    }
+}
+
+/// The cause of an arrival that has one.
+pub(crate) fn arrival_cause(
+    stage: &Stage,
+    events: &[Event],
+    clock: Moment,
+    packet: u32,
+    server: ServerId,
+    verdict: &Verdict,
+) -> Option<Cause>
+    requires { IsSound stage.now }
+    ensures { result ≡ causes.cause_at stage.now (reverse events.now) clock.0 server verdict.now
+        (past.owner stage.now (reverse events.now) packet) (past.segment_of stage.now packet) (past.label_of stage.now (reverse events.now) packet) }
+{
+    if !wants_cause(stage, events, packet, server, verdict) {
+        return None;
+    }
+    let segment = segment_of(stage, packet)?;
+    let label = label_of(stage, events, packet)?;
+    if is_opening(&segment) {
+        opening_cause(verdict, label.version.0, newest(events))
+    } else {
+        let owner = owner_of(stage, events, packet);
+        first_broken(stage, events, clock, &label, &segment.flow, server, owner)
+    }
+}
+
+/// The cause of an event that has these before it.
+pub(crate) fn event_cause(stage: &Stage, events: &[Event], event: &Event) -> Option<Cause>
+    requires { IsSound stage.now }
+    ensures { result ≡ causes.cause stage.now (reverse events.now) event.now.clock.0 event.now.what }
+{
+    match &event.what {
+        What::Arrive {
+            packet,
+            server,
+            verdict,
+            ..
+        } => arrival_cause(stage, events, event.clock, *packet, *server, verdict),
+        _ => None,
+    }
+}
+
+/// Why the event at this place is a drop, a reset or a stray, where it is one. Takes no memory.
+pub fn cause(h: &History, event: usize) -> Option<Cause>
+    requires place { event < length h.now.events }
+    requires run { IsRun h.now }
+    ensures { result ≡ cause_of h.now event }
+{
+    let events = h.events.items();
+    event_cause(&h.stage, &events[..event], &events[event])
+}

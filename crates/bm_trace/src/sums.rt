@@ -1,0 +1,18 @@
+//! What the last line of a report says.
+
+/// How many packets, and what became of them. Packets, steered and unsteered count records;
+/// accepted, processed, forwarded, reset and dropped count arrivals by their verdict; lost counts
+/// copies that were lost. Strays are among the processed.
+#[derive(Clone, Copy, Debug, PartialEq, Eq)]
+pub struct Totals {
+    pub packets: u64,
+    pub steered: u64,
+    pub unsteered: u64,
+    pub accepted: u64,
+    pub processed: u64,
+    pub forwarded: u64,
+    pub reset: u64,
+    pub dropped: u64,
+    pub lost: u64,
+    pub stray: u64,
+}
