@@ -13,3 +13,6 @@ pub use events::{Cause, Event, History, Local, Stage, Verdict, What, Why};
 pub use schedule::{Call, Due, Underway};
 pub use trail::Trail;
 pub use verdict::decide;
+
+#[cfg(test)]
+mod tests;
