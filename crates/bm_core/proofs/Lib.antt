@@ -24,3 +24,4 @@ pub mod WorkedReceiver
 pub mod WorkedFates
 pub mod WorkedWhole
 pub mod WorkedThreads
+pub mod Weighing
