@@ -25,3 +25,4 @@ pub mod WorkedFates
 pub mod WorkedWhole
 pub mod WorkedThreads
 pub mod Weighing
+pub mod Pacing
