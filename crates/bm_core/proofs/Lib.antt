@@ -26,3 +26,4 @@ pub mod WorkedWhole
 pub mod WorkedThreads
 pub mod Weighing
 pub mod Pacing
+pub mod Existing

@@ -1,5 +1,5 @@
 //! The laws of the protocol, over every run. Each is a function that does nothing: its contract is the law.
-ghost use Rattle.std.specs.Prelude.{◌≡◌, ◌&&◌, ◌==◌, ℕ, List, Some, is_some, reverse, true};
+ghost use Rattle.std.specs.Prelude.{◌≡◌, ◌≤◌, ◌*◌, ◌^◌, ◌&&◌, ◌==◌, ℕ, List, length, Some, is_some, reverse, true};
 ghost use Rattle.bm_base.specs.declared.flow.Flow.{Flow};
 ghost use Rattle.bm_base.specs.declared.ids.MuxId.{MuxId};
 ghost use Rattle.bm_base.specs.declared.ids.ServerId.{ServerId};
@@ -14,10 +14,13 @@ ghost use Rattle.bm_core.specs.Laws.{At, IsFault, IsLate, IsRetiredDrop, IsServe
 ghost use Rattle.bm_core.specs.Logs.{log_of};
 ghost use Rattle.bm_core.specs.Past.{flows_held, held, label_of, shard, version_at};
 ghost use Rattle.bm_core.specs.Pins.{IsKeptTo, IsPinned};
-ghost use Rattle.bm_core.specs.Rules.{RouteBy, RuleBy};
+ghost use Rattle.bm_core.specs.Rules.{RouteBy, RuleBy, fate_of, mux_of};
 ghost use Rattle.bm_core.specs.Runs.Actor.{MuxOf};
-ghost use Rattle.bm_core.specs.Runs.{IsRun};
+ghost use Rattle.bm_core.specs.Runs.{IsRun, last_clock};
+ghost use Rattle.bm_core.specs.Schedule.{Follows};
+ghost use Rattle.bm_core.specs.Stages.{IsSound};
 ghost use Rattle.bm_core.specs.Verdicts.{local_at};
+ghost use Rattle.bm_core.specs.Weights.{AreSoon};
 
 use crate::{History, Stage};
 
@@ -75,4 +78,19 @@ pub fn held_flows(stage: &Stage)
 pub fn mux_log(stage: &Stage)
     ensures version { (past : List Event) (m : MuxId) → version_at (log_of stage.now past (MuxOf m.0)) m ≡ version_at past m }
     ensures label { (past : List Event) (k : ℕ) (l : Label) → label_of stage.now past k ≡ Some l → label_of stage.now (log_of stage.now past (MuxOf l.mux.0)) k ≡ Some l }
+{}
+
+/// Each sound stage has a replay.
+pub fn some_replay(stage: &Stage)
+    requires { IsSound stage.now }
+    ensures { (h : History) × (h.stage ≡ stage.now) × IsReplay (RouteBy (mux_of stage.now.script.setting)) (RuleBy (fate_of stage.now.script.setting)) h }
+{}
+
+/// A replay of a sound stage, whose sendings have few copies that are due soon, has at most 13
+/// events for each of 200,000 packets and 65 for each of 65,536 commands, and its clocks are at
+/// most 5 × 10^18.
+pub fn short_replay(stage: &Stage)
+    requires { IsSound stage.now }
+    ensures events { (fates : List Fate) (past : List Event) → Follows fates stage.now past → AreSoon fates past → length past ≤ 6859840 }
+    ensures clocks { (fates : List Fate) (past : List Event) → Follows fates stage.now past → AreSoon fates past → last_clock past ≤ 5 * 10 ^ 18 }
 {}
