@@ -1,4 +1,6 @@
 pub mod Causes
 pub mod Names
+pub mod Named
 pub mod MemNames
 pub mod SureNames
+pub mod Calls

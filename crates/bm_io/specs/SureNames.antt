@@ -1,17 +1,10 @@
--- Files in memory that never fail, by name.
-use Rattle.std.specs.Prelude.{ℕ, List, [], ◌∷◌, if◌then◌else◌, Option, Some, None}
-use Rattle.std.specs.Str.{bytes_eq}
+-- The octets of a name, none for one that isn't there.
+use Rattle.std.specs.Prelude.{ℕ, List, Option}
 use Rattle.bm_io.specs.declared.sure_file.SureFile.{SureFile}
+use Rattle.bm_io.specs.Named.{find_by, octets_by}
 
--- the first file of this name
-abbrev pub find_file : List ℕ → List SureFile → Option SureFile
-find_file name [] = None
-find_file name (file ∷ files) = if bytes_eq file.name name then Some file else find_file name files
-
--- the octets of a name, none for one that isn't there
-abbrev pub octets_of_found : Option SureFile → List ℕ
-octets_of_found None = []
-octets_of_found (Some file) = file.octets
+abbrev pub octets_in : Option SureFile → List ℕ
+octets_in found = octets_by (λ file. file.octets) found
 
 abbrev pub octets_of : List SureFile → List ℕ → List ℕ
-octets_of files name = octets_of_found (find_file name files)
+octets_of files name = octets_in (find_by (λ file. file.name) name files)

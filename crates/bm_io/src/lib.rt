@@ -7,6 +7,7 @@ mod give;
 mod mem;
 mod mem_file;
 mod mem_files;
+mod named;
 mod put;
 mod sink;
 mod source;

@@ -1,6 +1,7 @@
 ghost use Rattle.std.specs.Prelude.{◌≡◌, [], Some, IfOk, option_map};
-ghost use Rattle.bm_io.specs.MemNames.{find_file, octets_of, octets_of_found};
+ghost use Rattle.bm_io.specs.MemNames.{octets_in, octets_of};
 
+use crate::named::{Named, find};
 use crate::{Files, IoFault, MemFile, MemSource, Source};
 use bm_base::Text;
 use std::alloc::{AllocError, Global};
@@ -29,20 +30,16 @@ impl MemFiles {
     }
 }
 
-/// The first file of this name.
-fn found<'a>(files: &'a [MemFile], name: &str) -> Option<&'a MemFile>
-    ensures { option_map (λ file. file.now) result ≡ find_file name.now files.now }
-{
-    for file in files {
-        if file.name.as_str() == name {
-            return Some(file);
-        }
+impl Named for MemFile {
+    ghost name_of = { λ file. file.name };
+
+    fn name(&self) -> &str {
+        self.name.as_str()
     }
-    None
 }
 
 fn open_found(alloc: Global, found: Option<&MemFile>) -> Result<MemSource, AllocError>
-    ensures left { IfOk result (λ src. ⟦<MemSource as Source>⟧.left src ≡ Some (octets_of_found (option_map (λ file. file.now) found.entry))) }
+    ensures left { IfOk result (λ src. ⟦<MemSource as Source>⟧.left src ≡ Some (octets_in (option_map (λ file. file.now) found.entry))) }
     ensures new { IfOk result (λ src. ⟦<MemSource as Source>⟧.faults src ≡ 0) }
 {
     match found {
@@ -65,7 +62,7 @@ impl Files for MemFiles {
     ghost faults = { λ m. m.faults };
 
     fn open(&mut self, name: &str) -> Result<MemSource, IoFault> {
-        let found = found(&self.files, name);
+        let found = find(&self.files, name);
         let missing = found.is_none();
         let source = open_found(self.alloc, found)?;
         let asked = Text::of(String::from_str(self.alloc, name)?);

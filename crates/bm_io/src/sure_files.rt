@@ -1,7 +1,8 @@
 //! Files in memory that never fail.
 ghost use Rattle.std.specs.Prelude.{◌≡◌, ◌≤◌, [], Some, IfOk, option_map};
-ghost use Rattle.bm_io.specs.SureNames.{find_file, octets_of, octets_of_found};
+ghost use Rattle.bm_io.specs.SureNames.{octets_in, octets_of};
 
+use crate::named::{Named, find};
 use crate::sure_file::SureFile;
 use crate::{Files, IoFault, Source, SureSource};
 use bm_base::Text;
@@ -30,20 +31,16 @@ impl SureFiles {
     }
 }
 
-/// The first file of this name.
-fn found<'a>(files: &'a [SureFile], name: &str) -> Option<&'a SureFile>
-    ensures { option_map (λ file. file.now) result ≡ find_file name.now files.now }
-{
-    for file in files {
-        if file.name.as_str() == name {
-            return Some(file);
-        }
+impl Named for SureFile {
+    ghost name_of = { λ file. file.name };
+
+    fn name(&self) -> &str {
+        self.name.as_str()
     }
-    None
 }
 
 fn open_found(alloc: Global, found: Option<&SureFile>) -> Result<SureSource, AllocError>
-    ensures left { IfOk result (λ src. ⟦<SureSource as Source>⟧.left src ≡ Some (octets_of_found (option_map (λ file. file.now) found.entry))) }
+    ensures left { IfOk result (λ src. ⟦<SureSource as Source>⟧.left src ≡ Some (octets_in (option_map (λ file. file.now) found.entry))) }
 {
     match found {
         Some(file) => {
@@ -64,7 +61,7 @@ impl Files for SureFiles {
     ghost faults = { λ _. 0 };
 
     fn open(&mut self, name: &str) -> Result<SureSource, IoFault> {
-        let source = open_found(self.alloc, found(&self.files, name))?;
+        let source = open_found(self.alloc, find(&self.files, name))?;
         let asked = Text::of(String::from_str(self.alloc, name)?);
         self.asked.push(asked)?;
         Ok(source)

@@ -39,7 +39,7 @@ use Rattle.bm_replay.specs.declared.player.Player.{Player}
 use Rattle.bm_replay.specs.declared.shard.Connection.{Connection}
 use Rattle.bm_replay.specs.Shards.{AreLeftBy}
 use Rattle.bm_replay.specs.Players.{IsPlaying, IsPaced, IsWaiting, CanArrive, HasArrived, HasServers, connections_of, past_of, place_of, arrive_event, server_for, shard_for, local_for, verdict_for, work}
-use Rattle.bm_replay.specs.Replays.{one_copy}
+use Rattle.bm_replay.specs.Replays.{setting_rule}
 use Rattle.bm_replay.specs.Turns.{IsNextPacket, first_turn, front_of, packet_due, segment_at}
 use Rattle.bm_replay.proofs.Bare.{has_label, bare_entry, nothing_sent}
 use Rattle.bm_replay.proofs.Places.{place_inside, shard_inside}
@@ -241,7 +241,7 @@ arrived p q copy o playing waiting found turn come = (kept, less) where
   follows : IsNextBy [] p.stage (past_of p) (arrive_event copy come.segment p)
   follows = arrive_next p copy come.segment q.waiting.items o playing waiting come.waiting found turn
 
-  no_fate : IfSome (sending_of (arrive_event copy come.segment p).what) (λ s. one_copy s.packet s.hop (fate_now []))
+  no_fate : IfSome (sending_of (arrive_event copy come.segment p).what) (λ s. setting_rule p.stage.script.setting s.packet s.hop (fate_now []))
   no_fate = rw (arrived_sent p copy come.segment) tt
 
   kept : IsPlaying q

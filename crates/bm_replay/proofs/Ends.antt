@@ -9,7 +9,8 @@ use Rattle.bm_core.specs.Schedule.{IsOver, can_come, wire}
 use Rattle.bm_core.proofs.Accounted.{accounted}
 use Rattle.bm_replay.specs.declared.player.Player.{Player}
 use Rattle.bm_replay.specs.Players.{IsNew, IsPlaying, past_of, place_of}
-use Rattle.bm_replay.specs.Replays.{IsBare, IsReplay, one_copy, route_of}
+use Rattle.bm_core.specs.Histories.{IsReplay}
+use Rattle.bm_replay.specs.Replays.{IsBare, setting_route, setting_rule}
 use Rattle.bm_replay.proofs.Playing.{never_owed}
 
 pub begins : (stage : Stage) (p : Player) → IsSound stage → IsBare stage → IsNew stage p → IsPlaying p
@@ -37,12 +38,13 @@ begins stage p sound bare new =
       };
     }
 
-pub ends : (p : Player) → IsPlaying p → can_come (wire [] (past_of p)) p.stage (past_of p) ≡ [] → IsReplay (record { stage = p.stage; events = p.events.items })
+pub ends : (p : Player) → IsPlaying p → can_come (wire [] (past_of p)) p.stage (past_of p) ≡ [] → IsReplay (setting_route p.stage.script.setting) (setting_rule p.stage.script.setting) (record { stage = p.stage; events = p.events.items })
 ends p playing none =
     let over : IsOver [] p.stage (past_of p) = record { none = none; not_owed = never_owed (past_of p) }
     in record {
+      run = record { sound = playing.sound; run = playing.run };
       fates = [];
       follows = playing.follows;
       over = over;
-      account = accounted (route_of p.stage) one_copy [] p.stage (past_of p) playing.run playing.follows over playing.answered;
+      account = accounted (setting_route p.stage.script.setting) (setting_rule p.stage.script.setting) [] p.stage (past_of p) playing.run playing.follows over playing.answered;
     }

@@ -7,6 +7,7 @@ use Rattle.std.proofs.lemmas.Bool.Decides.{nat_tests}
 use Rattle.std.proofs.lemmas.List.{length-reverse, length-append}
 use Rattle.bm_base.specs.declared.flow.Flow.{Flow}
 use Rattle.bm_base.specs.declared.flow.Segment.{Segment}
+use Rattle.bm_base.specs.declared.label.Hop.{Hop}
 use Rattle.bm_base.specs.declared.label.Hop.TheVariants.{Direct}
 use Rattle.bm_table.specs.declared.setting.RouteKind.{RouteKind}
 use Rattle.bm_table.specs.declared.setting.RouteKind.TheVariants.{Port, Turn as InTurn}
@@ -24,8 +25,9 @@ use Rattle.bm_replay.specs.declared.packet.Packet.{Packet}
 use Rattle.bm_replay.specs.declared.packet.Turn.TheVariants.{Arrive, Steer}
 use Rattle.bm_replay.specs.declared.player.Player.{Player}
 use Rattle.bm_replay.specs.Players.{IsPlaying, IsPaced, IsWaiting, HasSteered, past_of, steer_event, steered_copy, work}
-use Rattle.bm_replay.specs.Replays.{route_of}
-use Rattle.bm_replay.specs.Turns.{IsFound, first_turn, front_of, mux_by, mux_for, packet_due, segment_at}
+use Rattle.bm_core.specs.Rules.{fate_in, mux_by, mux_of}
+use Rattle.bm_replay.specs.Replays.{setting_route, setting_rule}
+use Rattle.bm_replay.specs.Turns.{IsFound, first_turn, front_of, packet_due, segment_at}
 use Rattle.bm_replay.proofs.Playing.{all_map, all_push, comes, packet_early, dropped_more, past_grows, put_last}
 
 -- the packet is the least of what can come
@@ -56,10 +58,10 @@ steer_next p packet playing found turn =
 steer_answered : (p : Player) (packet : Packet) → IsPlaying p → IsAnswered p.stage (past_of p) (next p.clock packet.moment) (steer_event packet p).what
 steer_answered p packet playing = mux_below p.stage.script.setting.route p.stage.script.setting.muxes packet.number packet.segment.flow (let h = playing.sound.setting.muxes.0 in omega arith)
 
-steer_routed : (p : Player) (packet : Packet) (from : ℕ) → IsFound p.stage.capture.records from packet → IsRouted (route_of p.stage) p.stage (steer_event packet p).what
+steer_routed : (p : Player) (packet : Packet) (from : ℕ) → IsFound p.stage.capture.records from packet → IsRouted (setting_route p.stage.script.setting) p.stage (steer_event packet p).what
 steer_routed p packet from found =
     let seg : segment_of p.stage packet.number ≡ Some packet.segment = segment_is p.stage packet.number ∙ found.segment
-    in subst (λ (o : Option Segment). IfSome o (λ s. mux_for p.stage.script.setting packet.number packet.segment.flow ≡ mux_for p.stage.script.setting packet.number s.flow)) (sym seg) refl
+    in subst (λ (o : Option Segment). IfSome o (λ s. mux_of p.stage.script.setting packet.number packet.segment.flow ≡ mux_of p.stage.script.setting packet.number s.flow)) (sym seg) refl
 
 steered_wire : (p q : Player) (packet : Packet) → IsPlaying p → HasSteered packet p q → q.waiting.items ≡ wire [] (steer_event packet p ∷ past_of p)
 steered_wire p q packet playing come =
@@ -101,6 +103,10 @@ steered_paced p q packet playing found come =
       now : is_sent (steer_event packet p ∷ past_of p) packet.number Direct ≡ true
       now = let same : eqb packet.number packet.number ≡ true = grind (arith, nat_tests) in rw same refl
 
+-- without fault rows each sending has one copy, without delay
+one_copy : (p : Player) (k : ℕ) (hop : Hop) → p.stage.script.setting.faults ≡ [] → record { copies = 1; delay = 0 } ≡ fate_in p.stage.script.setting.faults k hop
+one_copy p k hop none = rw none refl
+
 pub steered : (p q : Player) (packet : Packet) → IsPlaying p → IsFound p.stage.capture.records p.next packet → first_turn (front_of p.waiting.items) (Some packet) ≡ Steer packet → HasSteered packet p q → IsPlaying q × (work q < work p)
 steered p q packet playing found turn come = (kept, less) where
   past : past_of q ≡ steer_event packet p ∷ past_of p
@@ -115,7 +121,7 @@ steered p q packet playing found turn come = (kept, less) where
     bare = rw come.about playing.bare;
     run = rw (come.about, past) (step [] p.stage (past_of p) (steer_event packet p) playing.sound.plan playing.run playing.follows follows (steer_answered p packet playing), playing.run);
     follows = rw (come.about, past) (follows, playing.follows);
-    answered = rw (come.about, past) ((steer_routed p packet p.next found, refl), playing.answered);
+    answered = rw (come.about, past) ((steer_routed p packet p.next found, one_copy p packet.number Direct playing.bare.faults), playing.answered);
     waiting = rw past (steered_wire p q packet playing come);
     packets = rw (come.about, past, come.cursor) (steered_packets p q packet playing found come);
     clock = rw past come.clock;

@@ -24,9 +24,10 @@ use Rattle.bm_replay.specs.declared.packet.Packet.{Packet}
 use Rattle.bm_replay.specs.declared.player.Player.{Player}
 use Rattle.bm_replay.specs.declared.shard.Connection.{Connection}
 use Rattle.bm_replay.specs.Connections.{IsLeftBy, local_of}
-use Rattle.bm_replay.specs.Replays.{IsBare, one_copy, route_of}
+use Rattle.bm_replay.specs.Replays.{IsBare, setting_route, setting_rule}
 use Rattle.bm_replay.specs.Shards.{AreLeftBy}
-use Rattle.bm_replay.specs.Turns.{IsNextPacket, mux_for, segment_at}
+use Rattle.bm_core.specs.Rules.{mux_of}
+use Rattle.bm_replay.specs.Turns.{IsNextPacket, segment_at}
 
 -- THE STATE
 
@@ -69,7 +70,7 @@ pub record IsPlaying (p : Player) : Type 0 where
   pub bare : IsBare p.stage
   pub run : Run p.stage (past_of p)
   pub follows : Follows [] p.stage (past_of p)
-  pub answered : AreAnswered (route_of p.stage) one_copy p.stage [] (past_of p)
+  pub answered : AreAnswered (setting_route p.stage.script.setting) (setting_rule p.stage.script.setting) p.stage [] (past_of p)
   pub waiting : p.waiting.items ≡ wire [] (past_of p)
   pub packets : left (packets_from 1 p.stage.capture.records) (past_of p) steers ≡ packets_from (suc p.next) (dropped p.next p.stage.capture.records)
   pub clock : p.clock ≡ last_clock (past_of p)
@@ -107,7 +108,7 @@ pub record CanSteer (packet : Packet) (p : Player) : Type 0 where
 abbrev pub steer_event : Packet → Player → Event
 steer_event packet p = record {
   clock = record { 0 = next p.clock packet.moment };
-  what = Steer packet.number (record { 0 = mux_for p.stage.script.setting packet.number packet.segment.flow });
+  what = Steer packet.number (record { 0 = mux_of p.stage.script.setting packet.number packet.segment.flow });
 }
 
 abbrev pub steered_copy : Packet → Player → Underway

@@ -1,11 +1,7 @@
 -- The packets of a capture in their order, and what comes first.
 use Rattle.std.specs.Prelude.{◌≡◌, ℕ, zero, suc, ◌-◌, ◌%◌, ◌<◌, ◌≤◌, nat_le, if◌then◌else◌, List, [], ◌∷◌, length, Option, Some, None, slice_get}
-use Rattle.bm_base.specs.declared.flow.Flow.{Flow}
 use Rattle.bm_base.specs.declared.flow.Segment.{Segment}
 use Rattle.bm_base.specs.declared.capture.Record.{Record}
-use Rattle.bm_table.specs.declared.setting.RouteKind.{RouteKind}
-use Rattle.bm_table.specs.declared.setting.RouteKind.TheVariants.{Port, Turn as InTurn}
-use Rattle.bm_table.specs.declared.setting.Setting.{Setting}
 use Rattle.bm_core.specs.declared.schedule.Call.TheVariants.{Steers}
 use Rattle.bm_core.specs.declared.schedule.Due.{Due}
 use Rattle.bm_core.specs.declared.schedule.Underway.{Underway}
@@ -49,11 +45,3 @@ first_turn None None = Over
 first_turn (Some c) None = Arrive c
 first_turn None (Some p) = Steer p
 first_turn (Some c) (Some p) = if nat_le c.moment p.moment then Arrive c else Steer p
-
-abbrev pub mux_by : RouteKind → ℕ → ℕ → Flow → ℕ
-mux_by Port muxes k f = f.sport % muxes
-mux_by InTurn muxes k f = k % muxes
-
--- the mux of a packet: by its source port, or in turn
-abbrev pub mux_for : Setting → ℕ → Flow → ℕ
-mux_for setting k f = mux_by setting.route setting.muxes k f

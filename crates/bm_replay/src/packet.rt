@@ -1,6 +1,7 @@
 //! The packets of a capture, in their order, and what comes first.
 ghost use Rattle.std.specs.Prelude.{◌≡◌, ◌≤◌, ◌<◌, length};
-ghost use Rattle.bm_replay.specs.Turns.{IsNextPacket, first_turn, segment_at, mux_for};
+ghost use Rattle.bm_core.specs.Rules.{mux_of};
+ghost use Rattle.bm_replay.specs.Turns.{IsNextPacket, first_turn, segment_at};
 
 use bm_base::{Body, Flow, MuxId, Record, Segment};
 use bm_core::Underway;
@@ -66,7 +67,7 @@ pub(crate) fn first(copy: Option<Underway>, packet: Option<Packet>) -> Turn
 /// The mux of a packet: by its source port, or in turn.
 pub(crate) fn mux_of(setting: &Setting, number: u32, flow: &Flow) -> MuxId
     requires { 0 < setting.now.muxes }
-    ensures { result.0 ≡ mux_for setting.now number flow.now }
+    ensures { result.0 ≡ mux_of setting.now number flow.now }
 {
     match setting.route {
         RouteKind::Port => MuxId(flow.sport % setting.muxes),

@@ -1,8 +1,8 @@
 //! The replay of a stage.
 ghost use Rattle.std.specs.Prelude.{◌≡◌, IfOk};
-ghost use Rattle.bm_core.specs.Runs.{IsRun};
+ghost use Rattle.bm_core.specs.Histories.{IsReplay};
 ghost use Rattle.bm_core.specs.Stages.{IsSound};
-ghost use Rattle.bm_replay.specs.Replays.{IsBare, IsReplay};
+ghost use Rattle.bm_replay.specs.Replays.{IsBare, setting_route, setting_rule};
 
 use crate::player::Player;
 use bm_base::{List, Memory};
@@ -15,8 +15,7 @@ pub fn replay(alloc: Global, stage: Stage) -> Result<History, Memory>
     requires sound { IsSound stage }
     requires bare { IsBare stage }
     ensures stage { IfOk result (λ h. h.stage ≡ stage) }
-    ensures run { IfOk result IsRun }
-    ensures replay { IfOk result IsReplay }
+    ensures replay { IfOk result (IsReplay (setting_route stage.script.setting) (setting_rule stage.script.setting)) }
 {
     let mut player = Player::new(alloc, stage)?;
     while player.step()? {}

@@ -187,10 +187,7 @@ impl Plan {
     pub fn next_change(&self, v: Version) -> Option<&Change>
         ensures { option_copied result ≡ next_change self.now v.0 }
     {
-        match self.steps.get(v.0 as usize) {
-            Some(step) => Some(&step.change),
-            None => None,
-        }
+        Some(&self.steps.get(v.0 as usize)?.change)
     }
 
     /// The change that leads to version `v`.

@@ -1,2 +1,4 @@
 pub mod Moving
 pub mod Newest
+pub mod Parted
+pub mod Spacing

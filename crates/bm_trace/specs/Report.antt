@@ -16,7 +16,7 @@ use Rattle.bm_core.specs.Causes.{cause}
 use Rattle.bm_core.specs.Past.{bucket, segment_of, version_at}
 use Rattle.bm_trace.specs.declared.sums.Totals.{Totals}
 use Rattle.bm_trace.specs.Totals.{totals_of}
-use Rattle.bm_trace.specs.Words.{line, endpoint, hop_word, verdict_words, because_words, retirement_words, reason_word}
+use Rattle.bm_trace.specs.Words.{line, counted, endpoint, hop_word, verdict_words, because_words, retirement_words, reason_word}
 
 -- THE EVENTS
 
@@ -89,11 +89,18 @@ note_line (Some k) = line (codes "note") (codes "record" ∷ decimal k ∷ codes
 
 abbrev pub totals_line : Totals → List ℕ
 totals_line t =
-    line (codes "total") (
-    codes "packets" ∷ decimal t.packets ∷ codes "steered" ∷ decimal t.steered ∷ codes "unsteered" ∷ decimal t.unsteered
-    ∷ codes "accepted" ∷ decimal t.accepted ∷ codes "processed" ∷ decimal t.processed ∷ codes "forwarded" ∷ decimal t.forwarded
-    ∷ codes "reset" ∷ decimal t.reset ∷ codes "dropped" ∷ decimal t.dropped ∷ codes "lost" ∷ decimal t.lost
-    ∷ codes "stray" ∷ decimal t.stray ∷ [])
+    codes "total"
+    ++ counted (codes "packets") t.packets
+    ++ counted (codes "steered") t.steered
+    ++ counted (codes "unsteered") t.unsteered
+    ++ counted (codes "accepted") t.accepted
+    ++ counted (codes "processed") t.processed
+    ++ counted (codes "forwarded") t.forwarded
+    ++ counted (codes "reset") t.reset
+    ++ counted (codes "dropped") t.dropped
+    ++ counted (codes "lost") t.lost
+    ++ counted (codes "stray") t.stray
+    ++ 10 ∷ []
 
 -- the whole report
 unfoldable pub text : History → List ℕ

@@ -5,7 +5,7 @@ use Rattle.bm_core.specs.declared.events.Event.{Event}
 use Rattle.bm_core.specs.declared.events.History.{History}
 use Rattle.bm_core.specs.declared.events.Stage.{Stage}
 use Rattle.bm_core.specs.declared.events.Verdict.{Verdict}
-use Rattle.bm_core.specs.declared.events.Verdict.TheVariants.{Accept, Process, Forward, Reset, Drop}
+use Rattle.bm_core.specs.declared.events.Verdict.TheVariants.{Reset, Drop}
 use Rattle.bm_core.specs.declared.events.What.{What}
 use Rattle.bm_core.specs.declared.events.What.TheVariants.{Arrive, Lose}
 use Rattle.bm_core.specs.Causes.{is_process, wants_cause}

@@ -26,8 +26,12 @@ spaced (word ∷ words) = 32 ∷ word ++ spaced words
 abbrev pub line : List ℕ → List (List ℕ) → List ℕ
 line first words = first ++ spaced words ++ 10 ∷ []
 
+-- a name and a number, each behind a space
+unfoldable pub counted : List ℕ → ℕ → List ℕ
+counted name n = spaced (name ∷ decimal n ∷ [])
+
 -- an address with points, a colon, and a port
-abbrev pub endpoint : ℕ → ℕ → List ℕ
+unfoldable pub endpoint : ℕ → ℕ → List ℕ
 endpoint addr port = ipv4_text (to_be_bytes w32 addr) ++ codes ":" ++ decimal port
 
 abbrev pub hop_word : Hop → List ℕ

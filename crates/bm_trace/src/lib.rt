@@ -3,11 +3,17 @@
 
 mod causes;
 mod counts;
+mod document;
+mod endings;
 mod entries;
 mod held;
+mod lines;
 mod past;
+mod records;
 mod sums;
+mod words;
 
 pub use causes::cause;
 pub use counts::totals;
+pub use document::report;
 pub use sums::Totals;

@@ -1,0 +1,43 @@
+-- The replay of a capture without a script is about a sound stage.
+use Rattle.std.proofs.Common.{◌≡◌, ◌≢◌, ℕ, zero, suc, ◌≤◌, ◌<◌, Bool, true, false, List, [], length, refl, sym, ◌∙◌, arith}
+use Rattle.bm_base.specs.declared.capture.Capture.{Capture}
+use Rattle.bm_base.specs.declared.ids.ServerId.{ServerId}
+use Rattle.bm_table.specs.Planned.{Planned}
+use Rattle.bm_table.specs.Settings.{plain_setting}
+use Rattle.bm_table.specs.Tables.{IsOrderly, is_drained, table}
+use Rattle.bm_table.proofs.SettingLemmas.{IsSetting-plain_setting}
+use Rattle.bm_core.specs.Stages.{IsSound}
+use Rattle.bm_replay.specs.Replays.{IsBare}
+use Rattle.bm_cli.specs.Captures.{IsReplayable}
+use Rattle.bm_cli.specs.Fleet.{plain_script, plain_stage}
+
+never_drained : (n : ℕ) (s : ServerId) → is_drained plain_script.plan n s ≡ false
+never_drained zero s = refl
+never_drained (suc n) s = never_drained n s
+
+plain_orderly : IsOrderly plain_script.plan
+plain_orderly = record {
+  known = λ v b. tt;
+  stamps = λ v w low inside. absurd (omega arith);
+  changes = λ v b. tt;
+  drained = λ n v b s is low inside bucket. absurd (let h : ◌≡◌ {A = Bool} false true = sym (never_drained n s) ∙ is in cc);
+}
+
+pub plain_sound : (capture : Capture) → IsReplayable plain_setting.vips capture → IsSound (plain_stage capture)
+plain_sound capture fit = record {
+  setting = IsSetting-plain_setting;
+  buckets = refl;
+  servers = refl;
+  adds = tt;
+  plan = plain_orderly;
+  few_commands = omega arith;
+  commands_rise = tt;
+  versions = refl;
+  of_known = tt;
+  few_records = fit.few;
+  records_rise = fit.rise;
+  records_fit = fit.fit;
+}
+
+pub plain_bare : (capture : Capture) → IsBare (plain_stage capture)
+plain_bare capture = record { changes = refl; commands = refl; faults = refl }

@@ -1,0 +1,3 @@
+pub mod Words
+pub mod Fleet
+pub mod Captures

@@ -1,0 +1,55 @@
+-- Words behind words.
+use Rattle.std.proofs.Common.{◌≡◌, ℕ, ◌+◌, ◌-◌, ◌<◌, ◌≤◌, ◌==◌, if◌then◌else◌, true, false, inl, inr, List, [], ◌∷◌, ◌++◌, length, take, get_or, set, refl, ap, ◌∙◌, sym, arith, append_assoc}
+use Rattle.std.proofs.lemmas.Bool.{cases_eq, eq-eqb, ne_eqb}
+use Rattle.std.proofs.lemmas.List.{append-nil}
+use Rattle.std.proofs.lemmas.Grind.{common_steps}
+use Rattle.bm_trace.specs.declared.records.End.{End}
+use Rattle.bm_trace.specs.Ends.{words_of_end, words_of_ends}
+use Rattle.bm_trace.specs.Words.{spaced}
+
+pub spaced_append : (a b : List (List ℕ)) → spaced (a ++ b) ≡ spaced a ++ spaced b
+spaced_append [] b = refl
+spaced_append (w ∷ a) b = ap (λ x. 32 ∷ w ++ x) (spaced_append a b) ∙ sym (append_assoc (32 ∷ w) (spaced a) (spaced b))
+
+pub ends_append : (a b : List End) → words_of_ends (a ++ b) ≡ words_of_ends a ++ words_of_ends b
+ends_append [] b = refl
+ends_append (e ∷ a) b = ap (λ x. words_of_end e ++ x) (ends_append a b) ∙ sym (append_assoc (words_of_end e) (words_of_ends a) (words_of_ends b))
+
+-- one end more
+pub ends_push : (ends : List End) (end : End) → words_of_ends (ends ++ end ∷ []) ≡ words_of_ends ends ++ words_of_end end
+ends_push ends end = ends_append ends (end ∷ []) ∙ ap (λ x. words_of_ends ends ++ x) (append-nil (words_of_end end))
+
+pub spaced_more : (ends : List End) (i : ℕ) (d : End) → i < length ends → spaced (words_of_ends (take (i + 1) ends)) ≡ spaced (words_of_ends (take i ends)) ++ spaced (words_of_end (get_or ends i d))
+spaced_more ends i d h =
+    let e : take (i + 1) ends ≡ take i ends ++ get_or ends i d ∷ [] = grind (arith, common_steps)
+    in ap (λ x. spaced (words_of_ends x)) e
+    ∙ ap spaced (ends_push (take i ends) (get_or ends i d))
+    ∙ spaced_append (words_of_ends (take i ends)) (words_of_end (get_or ends i d))
+
+-- an end is put into the list of its packet
+pub end_added : (table : List (List End)) (p : ℕ) (end : End) (old new : List End) → 0 < p → p ≤ length table → old ≡ get_or table (p - 1) old → new ≡ old ++ end ∷ [] → (k : ℕ) → k < length table
+    → words_of_ends (get_or (set table (p - 1) new) k []) ≡ words_of_ends (get_or table k []) ++ (if p == k + 1 then words_of_end end else [])
+end_added table p end old new some few was now k below =
+    elim (cases_eq p (k + 1)) [
+      | inl same ↦
+          let at : k ≡ p - 1 = omega arith
+          in let eq : (p == k + 1) ≡ true = eq-eqb p (k + 1) same
+          in let here : get_or (set table (p - 1) new) k [] ≡ new = grind (arith, common_steps)
+          in let there : get_or table k [] ≡ old = grind (arith, common_steps)
+          in rw eq (ap words_of_ends (here ∙ now) ∙ ends_push old end ∙ ap (λ x. words_of_ends x ++ words_of_end end) (sym there))
+      | inr other ↦
+          let ne : (p == k + 1) ≡ false = ne_eqb p (k + 1) other
+          in let apart : get_or (set table (p - 1) new) k [] ≡ get_or table k [] = grind (arith, common_steps)
+          in rw ne (ap words_of_ends apart ∙ sym (append-nil (words_of_ends (get_or table k []))))
+    ]
+
+-- one end more is written
+pub wrote_more : (base written new : List ℕ) (ends : List End) (i : ℕ) (e : End) → i < length ends → get_or ends i e ≡ e
+    → written ≡ base ++ spaced (words_of_ends (take i ends)) → new ≡ written ++ spaced (words_of_end e)
+    → new ≡ base ++ spaced (words_of_ends (take (i + 1) ends))
+wrote_more base written new ends i e below is before step =
+    step
+    ∙ ap (λ x. x ++ spaced (words_of_end e)) before
+    ∙ append_assoc base (spaced (words_of_ends (take i ends))) (spaced (words_of_end e))
+    ∙ ap (λ x. base ++ (spaced (words_of_ends (take i ends)) ++ spaced (words_of_end x))) (sym is)
+    ∙ ap (λ x. base ++ x) (sym (spaced_more ends i e below))

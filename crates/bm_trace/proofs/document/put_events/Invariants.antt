@@ -1,0 +1,6 @@
+use Rattle.std.proofs.Common.{◌≡◌, ◌++◌, take, reverse}
+use Rattle.bm_trace.specs.Report as report
+use Rattle.bm_trace.proofs.document.put_events.Given as goal
+
+abbrev pub invariant-loop-place : goal.invariant-loop-place
+invariant-loop-place l = l.out.items ≡ l.initial.out.items ++ report.event_lines l.h.stage (reverse (take l.place l.events))

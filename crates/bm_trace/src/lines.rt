@@ -1,0 +1,164 @@
+//! The lines of a report.
+ghost use Rattle.std.specs.Prelude.{◌≡◌, ◌+◌, ◌<◌, ◌≤◌, ◌∷◌, ◌++◌, [], List, length, reverse, OnOk, OnErr, codes, decimal, string_bytes, if◌then◌else◌};
+ghost use Rattle.bm_core.specs.Past as past;
+ghost use Rattle.bm_core.specs.Stages.{IsSound};
+ghost use Rattle.bm_trace.specs.Words as words;
+ghost use Rattle.bm_trace.specs.Report as report;
+
+use crate::causes::event_cause;
+use crate::past::{segment_of, version_at};
+use crate::sums::Totals;
+use crate::words::{BecauseWords, Counted, Endpoint, RetirementWords, VerdictWords, hop_word};
+use bm_base::{Flow, Hop, ServerId};
+use bm_core::{Cause, Event, Stage, Verdict, What};
+use bm_hash::bucket_of;
+use bm_table::Retirement;
+use std::alloc::AllocError;
+
+fn write_arrival(
+    line: &mut String,
+    clock: u64,
+    packet: u32,
+    hop: Hop,
+    server: ServerId,
+    verdict: Verdict,
+    cause: Option<Cause>,
+) -> Result<(), AllocError>
+    ensures { OnOk result (string_bytes line.new ≡ string_bytes line.old ++ words.line (decimal clock)
+        ((codes "arrive" ∷ decimal packet ∷ words.hop_word hop ∷ decimal server.0 ∷ []) ++ words.verdict_words verdict ++ words.because_words cause)) }
+{
+    let hop = hop_word(hop);
+    let server = server.0;
+    let verdict = VerdictWords(verdict);
+    let because = BecauseWords(cause);
+    writeln!(
+        line,
+        "{clock} arrive {packet} {hop} {server}{verdict}{because}"
+    )
+}
+
+fn write_close(
+    line: &mut String,
+    clock: u64,
+    server: ServerId,
+    flow: &Flow,
+    closed: bool,
+) -> Result<(), AllocError>
+    ensures { OnOk result (string_bytes line.new ≡ string_bytes line.old ++ words.line (decimal clock)
+        (codes "close" ∷ decimal server.0 ∷ words.endpoint flow.now.src flow.now.sport ∷ words.endpoint flow.now.dst flow.now.dport
+        ∷ (if closed then codes "closed" else codes "none") ∷ [])) }
+{
+    let server = server.0;
+    let from = Endpoint {
+        addr: flow.src,
+        port: flow.sport,
+    };
+    let to = Endpoint {
+        addr: flow.dst,
+        port: flow.dport,
+    };
+    let answer = if closed { "closed" } else { "none" };
+    writeln!(line, "{clock} close {server} {from} {to} {answer}")
+}
+
+fn write_retirement(
+    line: &mut String,
+    clock: u64,
+    server: ServerId,
+    shard: u16,
+    at: u64,
+    answer: Retirement,
+) -> Result<(), AllocError>
+    ensures { OnOk result (string_bytes line.new ≡ string_bytes line.old ++ words.line (decimal clock)
+        ((codes "retire" ∷ decimal server.0 ∷ decimal shard ∷ codes "at" ∷ decimal at ∷ []) ++ words.retirement_words answer)) }
+{
+    let server = server.0;
+    let answer = RetirementWords(answer);
+    writeln!(line, "{clock} retire {server} {shard} at {at}{answer}")
+}
+
+/// The bucket of the packet's flow, or 0.
+fn bucket_of_packet(stage: &Stage, packet: u32) -> u32
+    requires { IsSound stage.now }
+    ensures { result ≡ report.bucket_of_packet stage.now (past.segment_of stage.now packet) }
+{
+    match segment_of(stage, packet) {
+        None => 0,
+        Some(segment) => bucket_of(&segment.flow, stage.script.setting.buckets),
+    }
+}
+
+/// The line of an event that has these before it.
+pub(crate) fn write_event(
+    line: &mut String,
+    stage: &Stage,
+    events: &[Event],
+    event: &Event,
+) -> Result<(), AllocError>
+    requires { IsSound stage.now }
+    ensures { OnOk result (string_bytes line.new ≡ string_bytes line.old ++ report.event_line stage.now (reverse events.now) event.now) }
+{
+    let clock = event.clock.0;
+    match event.what {
+        What::Publish(version) => writeln!(line, "{clock} publish {}", version.0),
+        What::Switch { mux, version } => writeln!(line, "{clock} switch {} {}", mux.0, version.0),
+        What::Steer { packet, mux } => {
+            let version = version_at(events, mux).0;
+            let bucket = bucket_of_packet(stage, packet);
+            writeln!(line, "{clock} steer {packet} {} {version} {bucket}", mux.0)
+        }
+        What::Lose { packet, hop } => writeln!(line, "{clock} lost {packet} {}", hop_word(hop)),
+        What::Arrive {
+            packet,
+            hop,
+            server,
+            verdict,
+        } => write_arrival(
+            line,
+            clock,
+            packet,
+            hop,
+            server,
+            verdict,
+            event_cause(stage, events, event),
+        ),
+        What::Close {
+            server,
+            flow,
+            closed,
+        } => write_close(line, clock, server, &flow, closed),
+        What::Retire {
+            server,
+            shard,
+            at,
+            result,
+        } => write_retirement(line, clock, server, shard, at.0, result),
+        What::Sync => writeln!(line, "{clock} sync"),
+    }
+}
+
+/// The note on the record that is cut short.
+pub(crate) fn write_note(line: &mut String, number: u32) -> Result<(), AllocError>
+    ensures { OnOk result (string_bytes line.new ≡ string_bytes line.old ++ words.line (codes "note") (codes "record" ∷ decimal number ∷ codes "cut" ∷ codes "short" ∷ [])) }
+{
+    writeln!(line, "note record {number} cut short")
+}
+
+pub(crate) fn write_totals(line: &mut String, t: &Totals) -> Result<(), AllocError>
+    ensures { OnOk result (string_bytes line.new ≡ string_bytes line.old ++ report.totals_line t.now) }
+{
+    let packets = Counted("packets", t.packets);
+    let steered = Counted("steered", t.steered);
+    let unsteered = Counted("unsteered", t.unsteered);
+    let accepted = Counted("accepted", t.accepted);
+    let processed = Counted("processed", t.processed);
+    let forwarded = Counted("forwarded", t.forwarded);
+    let reset = Counted("reset", t.reset);
+    let dropped = Counted("dropped", t.dropped);
+    let lost = Counted("lost", t.lost);
+    let stray = Counted("stray", t.stray);
+    writeln!(
+        line,
+        "total{packets}{steered}{unsteered}{accepted}{processed}{forwarded}{reset}{dropped}{lost}{stray}"
+    )
+}

@@ -1,0 +1,106 @@
+//! The lines of records.
+#![tactic(auto, using(crate::proofs::Newest::reverse_take))]
+
+ghost use Rattle.std.specs.Prelude.{◌≡◌, ℕ, ◌+◌, ◌<◌, ◌≤◌, ◌==◌, ◌∷◌, ◌++◌, [], List, length, reverse, OnOk, MatchOption, codes, decimal, string_bytes, if◌then◌else◌};
+ghost use Rattle.bm_trace.specs.Ends.{words_of_end, words_of_ends, words_of_option, words_of_record};
+ghost use Rattle.bm_trace.specs.Words as words;
+ghost use Rattle.bm_trace.specs.Report as report;
+
+use crate::words::reason_word;
+use bm_base::{Body, ServerId};
+use bm_core::{Event, Verdict, What};
+use std::alloc::AllocError;
+
+/// How a copy of a packet ended.
+#[derive(Clone, Copy)]
+pub(crate) enum End {
+    Lost,
+    Accepted(ServerId),
+    Processed(ServerId),
+    Reset(ServerId),
+    Dropped(ServerId),
+}
+
+fn end_of_arrival(server: ServerId, verdict: Verdict) -> Option<End>
+    ensures { words_of_option result ≡ report.verdict_end server verdict }
+{
+    match verdict {
+        Verdict::Accept => Some(End::Accepted(server)),
+        Verdict::Process(_) => Some(End::Processed(server)),
+        Verdict::Forward(_) => None,
+        Verdict::Reset(_) => Some(End::Reset(server)),
+        Verdict::Drop(_) => Some(End::Dropped(server)),
+    }
+}
+
+/// The packet that an event is about, and how a copy of it ended there.
+#[derive(Clone, Copy)]
+pub(crate) struct Ending {
+    pub(crate) packet: u32,
+    pub(crate) end: End,
+}
+
+/// The end of a copy, where the event is one.
+pub(crate) fn ending_of(what: &What) -> Option<Ending>
+    ensures { MatchOption result
+        ((k : ℕ) → report.end_words what.now k ≡ [])
+        (λ e. (k : ℕ) → report.end_words what.now k ≡ (if e.packet == k then words_of_end e.end else [])) }
+{
+    match *what {
+        What::Arrive {
+            packet,
+            server,
+            verdict,
+            ..
+        } => {
+            let end = end_of_arrival(server, verdict)?;
+            Some(Ending { packet, end })
+        }
+        What::Lose { packet, .. } => Some(Ending {
+            packet,
+            end: End::Lost,
+        }),
+        _ => None,
+    }
+}
+
+/// An end, each word behind a space.
+fn write_end(line: &mut String, end: End) -> Result<(), AllocError>
+    ensures { OnOk result (string_bytes line.new ≡ string_bytes line.old ++ words.spaced (words_of_end end)) }
+{
+    match end {
+        End::Lost => write!(line, " lost"),
+        End::Accepted(server) => write!(line, " accepted {}", server.0),
+        End::Processed(server) => write!(line, " processed {}", server.0),
+        End::Reset(server) => write!(line, " reset {}", server.0),
+        End::Dropped(server) => write!(line, " dropped {}", server.0),
+    }
+}
+
+/// The ends of a packet, each word behind a space.
+#[tactic(auto, using(crate::proofs::Spacing::spaced_more))]
+fn write_ends(line: &mut String, ends: &[End]) -> Result<(), AllocError>
+    ensures { OnOk result (string_bytes line.new ≡ string_bytes line.old ++ words.spaced (words_of_ends ends.now)) }
+{
+    for end in ends {
+        write_end(line, *end)?;
+    }
+    Ok(())
+}
+
+/// The line of a record.
+pub(crate) fn write_record(
+    line: &mut String,
+    number: u32,
+    body: &Body,
+    ends: &[End],
+) -> Result<(), AllocError>
+    ensures { OnOk result (string_bytes line.new ≡ string_bytes line.old ++ words.line (codes "packet") (decimal number ∷ words_of_record body.now ends.now)) }
+{
+    write!(line, "packet {number}")?;
+    match body {
+        Body::Unsteered(reason) => write!(line, " unsteered {}", reason_word(*reason))?,
+        Body::Steerable(_) => write_ends(line, ends)?,
+    }
+    writeln!(line)
+}
