@@ -27,3 +27,4 @@ pub mod WorkedThreads
 pub mod Weighing
 pub mod Pacing
 pub mod Existing
+pub mod Faulty

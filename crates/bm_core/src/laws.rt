@@ -8,10 +8,11 @@ ghost use Rattle.bm_base.specs.declared.label.Hop.{Hop};
 ghost use Rattle.bm_base.specs.declared.label.Label.{Label};
 ghost use Rattle.bm_base.specs.declared.receive.Fate.{Fate};
 ghost use Rattle.bm_core.specs.declared.events.Event.{Event};
+ghost use Rattle.bm_core.specs.declared.events.What.{What};
 ghost use Rattle.bm_core.specs.Books.{AreDistinct, book_local, book_of, is_listed};
 ghost use Rattle.bm_core.specs.Causes.{cause};
 ghost use Rattle.bm_core.specs.Histories.{IsNextIn, IsReplay};
-ghost use Rattle.bm_core.specs.Laws.{At, IsFault, IsLate, IsRetiredDrop, IsServed, IsUnbrokenArrival};
+ghost use Rattle.bm_core.specs.Laws.{At, IsFault, IsLate, IsRetiredDrop, IsServed, IsServedPacket, IsUnbrokenArrival, IsUnbrokenPacket};
 ghost use Rattle.bm_core.specs.Logs.{log_of};
 ghost use Rattle.bm_core.specs.Past.{flows_held, held, label_of, shard, version_at};
 ghost use Rattle.bm_core.specs.Pins.{IsKeptTo, IsPinned};
@@ -33,11 +34,25 @@ pub fn safety(h: &History, place: usize)
     ensures { At h.now place (λ stage past clock what. IsServed stage past what) }
 {}
 
+/// A packet whose premises hold at all its arrivals is processed by its owner's server and by no
+/// other, and is never dropped or reset.
+pub fn served(h: &History, packet: u32)
+    requires run { IsRun h.now }
+    requires unbroken { IsUnbrokenPacket h.now.stage (reverse h.now.events) packet }
+    ensures { IsServedPacket h.now.stage (reverse h.now.events) packet }
+{}
+
 /// Each packet that is dropped, reset or processed elsewhere has a cause.
 pub fn causes(h: &History, place: usize)
     requires run { IsRun h.now }
     requires fault { At h.now place (λ stage past clock what. IsFault stage past what) }
     ensures { At h.now place (λ stage past clock what. is_some (cause stage past clock what) ≡ true) }
+{}
+
+/// Only a packet that is dropped, reset or processed elsewhere has a cause.
+pub fn only_faults(stage: &Stage)
+    ensures { (past : List Event) (clock : ℕ) (what : What)
+        → is_some (cause stage.now past clock what) ≡ true → IsFault stage.now past what }
 {}
 
 /// What a retired shard drops comes late: the clock is past the stamp of its label by more than the
