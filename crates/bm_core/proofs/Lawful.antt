@@ -1,5 +1,5 @@
 -- The laws, at an event and at its place in a history.
-use Rattle.std.proofs.Common.{◌≡◌, ℕ, zero, suc, ◌<◌, ◌≤◌, true, false, ◌||◌, ◌⊎◌, inl, inr, List, [], ◌∷◌, take, Option, Some, None, is_some, refl, sym, ap, ◌∙◌, subst, arith, ltb}
+use Rattle.std.proofs.Common.{reverse, ◌≡◌, ℕ, zero, suc, ◌<◌, ◌≤◌, true, false, ◌||◌, ◌⊎◌, inl, inr, List, [], ◌∷◌, take, Option, Some, None, is_some, refl, sym, ap, ◌∙◌, subst, arith, ltb}
 use Rattle.std.specs.Prelude.{slice_get, IsSomeAnd}
 use mathlib.Core.List.{reverse_aux}
 use Rattle.std.proofs.lemmas.Bool.{cases_Bool, both_ways, or_from, lt-ltb}
@@ -25,7 +25,7 @@ use Rattle.bm_core.specs.Verdicts.{Onward, onward, local_at, verdict_of, verdict
 use Rattle.bm_core.specs.Causes.{first_broken, is_process, is_fault, is_refusal, opening_cause, cause}
 use Rattle.bm_core.specs.Stages.{IsSound}
 use Rattle.bm_core.specs.Runs.{last_clock, IsArrival, MayCome, Run, IsRun, event_at, past_at}
-use Rattle.bm_core.specs.Laws.{IsUnbrokenArrival, IsServedBy, IsServed, IsRetiredDrop, IsLate, IsFault, At}
+use Rattle.bm_core.specs.Laws.{IsUnbrokenPacket, IsServedPacket, IsUnbrokenArrival, IsServedBy, IsServed, IsRetiredDrop, IsLate, IsFault, At}
 use Rattle.bm_core.proofs.Owned.{safe, late, false_from_not}
 use Rattle.bm_core.proofs.Pasts.{arrival_sends, hop_before, steer_sends}
 
@@ -75,6 +75,14 @@ safe_step stage sound past clock Sync run later may unbroken = absurd unbroken
 
 pub safety_law : (h : History) (place : ℕ) → IsRun h → At h place IsUnbrokenArrival → At h place (λ stage past clock what. IsServed stage past what)
 safety_law = law IsUnbrokenArrival (λ stage past clock what. IsServed stage past what) safe_step
+
+packet_served : (stage : Stage) → IsSound stage → (packet : ℕ) (all : List Event) → Run stage all → IsUnbrokenPacket stage all packet → IsServedPacket stage all packet
+packet_served stage sound packet [] run unbroken = tt
+packet_served stage sound packet (e ∷ past) run unbroken =
+    (λ is. safe_step stage sound past e.clock.0 e.what run.1 run.0.clock run.0.may (unbroken.0 is), packet_served stage sound packet past run.1 unbroken.1)
+
+pub served_law : (h : History) (packet : ℕ) → IsRun h → IsUnbrokenPacket h.stage (reverse h.events) packet → IsServedPacket h.stage (reverse h.events) packet
+served_law h packet run unbroken = packet_served h.stage run.sound packet (reverse h.events) run.run unbroken
 
 -- RETIRED SHARDS
 

@@ -22,3 +22,9 @@ pub mod WorkedMuxes
 pub mod WorkedRetiring
 pub mod WorkedReceiver
 pub mod WorkedFates
+pub mod WorkedWhole
+pub mod WorkedThreads
+pub mod Weighing
+pub mod Pacing
+pub mod Existing
+pub mod Faulty

@@ -18,7 +18,7 @@ use Rattle.bm_core.specs.declared.events.Event.{Event}
 use Rattle.bm_core.specs.declared.events.Stage.{Stage}
 use Rattle.bm_table.specs.Tables.{next_change, moment_of}
 use Rattle.bm_core.specs.Past.{is_switch_of, newest, Sending, sending_of, is_sending, sends, same_hop, steerable}
-use Rattle.bm_core.specs.Runs.{last_clock}
+use Rattle.bm_core.specs.Runs.{last_clock, next}
 use Rattle.bm_core.specs.Accounts.{count_of, counts, arrives, loses, lost_at}
 use Rattle.bm_core.specs.declared.schedule.Call.{Call}
 use Rattle.bm_core.specs.declared.schedule.Call.TheVariants.{Publishes, Switches, Closes, Retires, Syncs, Arrives, Steers, Loses}
@@ -62,7 +62,7 @@ IsAfterChange stage d v = (n : ℕ) × (v ≡ suc n) × (n < length stage.script
 
 abbrev pub IsFrom : List Underway → Stage → List Event → Due → Call → Type 0
 IsFrom w stage past d (Publishes v) = (is_some (next_change stage.script.plan (newest past)) ≡ true) × (v ≡ suc (newest past))
-IsFrom w stage past d (Switches m v) = (m < stage.script.setting.muxes) × IsAfterChange stage d v
+IsFrom w stage past d (Switches m v) = (m < stage.script.setting.muxes) × IsAfterChange stage d v × (v ≡ suc (counts past (λ what. is_switch_of what m)))
 IsFrom w stage past d (Closes s f) = first_of (left (close_commands stage.script.commands) past closes) ≡ d ∷ []
 IsFrom w stage past d (Retires s h at) = first_of (left (retire_commands stage.script.setting.shards stage.script.commands) past retires) ≡ d ∷ []
 IsFrom w stage past d Syncs = first_of (left (sync_commands stage.script.commands) past syncs) ≡ d ∷ []
@@ -131,15 +131,15 @@ publish_from : (w : List Underway) (stage : Stage) (past : List Event) (o : Opti
 publish_from w stage past None e = tt
 publish_from w stage past (Some c) e = ((rw e refl, refl), tt)
 
-switch_from : (w : List Underway) (stage : Stage) (past : List Event) (lag m v : ℕ) → m < stage.script.setting.muxes → (o : Option Change) → next_change stage.script.plan v ≡ o → Each (λ d. IsFrom w stage past d d.call) (switch_due stage.script.setting.muxes lag m v o)
-switch_from w stage past lag m v below None e = tt
-switch_from w stage past lag m v below (Some c) e = ((below, (v, refl, slice_get_within stage.script.plan.changes v c e, rw e (omega arith), refl)), tt)
+switch_from : (w : List Underway) (stage : Stage) (past : List Event) (lag m v : ℕ) → m < stage.script.setting.muxes → v ≡ counts past (λ what. is_switch_of what m) → (o : Option Change) → next_change stage.script.plan v ≡ o → Each (λ d. IsFrom w stage past d d.call) (switch_due stage.script.setting.muxes lag m v o)
+switch_from w stage past lag m v below is None e = tt
+switch_from w stage past lag m v below is (Some c) e = ((below, (v, refl, slice_get_within stage.script.plan.changes v c e, rw e (omega arith), refl), ap (λ (n : ℕ). suc n) is), tt)
 
 switches_from : (w : List Underway) (stage : Stage) (past : List Event) (n : ℕ) → n ≤ stage.script.setting.muxes → Each (λ d. IsFrom w stage past d d.call) (switches_due stage past n)
 switches_from w stage past zero below = tt
 switches_from w stage past (suc m) below =
     each_append (λ d. IsFrom w stage past d d.call) (switches_due stage past m) _ (switches_from w stage past m (omega arith))
-    (switch_from w stage past _ m (counts past (λ what. is_switch_of what m)) (omega arith) (next_change stage.script.plan (counts past (λ what. is_switch_of what m))) refl)
+    (switch_from w stage past _ m (counts past (λ what. is_switch_of what m)) (omega arith) refl (next_change stage.script.plan (counts past (λ what. is_switch_of what m))) refl)
 
 -- each that can come is the next of its kind
 pub each_from : (w : List Underway) (stage : Stage) (past : List Event) → Each (λ d. IsFrom w stage past d d.call) (can_come w stage past)
@@ -163,6 +163,7 @@ pub record IsTaken (w : List Underway) (stage : Stage) (past : List Event) (cloc
   pub from : IsFrom w stage past due c
   pub later : last_clock past < clock
   pub after : due.moment < clock
+  pub clock_is : clock ≡ next (last_clock past) due.moment
 
 taken_least : (w : List Underway) (stage : Stage) (past : List Event) (e : Event) (o : Option Due) → least (can_come w stage past) ≡ o → IfSome o (λ d. IsFrom w stage past d d.call) → IsLeast past e o → IsTaken w stage past e.clock.0 (call_of e.what)
 taken_least w stage past e None l from is = absurd is
@@ -173,6 +174,7 @@ taken_least w stage past e (Some d) l from is = record {
   from = subst (λ (c : Call). IsFrom w stage past d c) (sym is.0) from;
   later = rw is.1 (omega arith);
   after = rw is.1 (omega arith);
+  clock_is = is.1;
 }
 
 pub taken : (w : List Underway) (stage : Stage) (past : List Event) (e : Event) (loss : Option Call) → ComesNext loss (can_come w stage past) past e

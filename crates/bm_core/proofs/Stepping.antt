@@ -204,7 +204,7 @@ retire_moment stage past d s h at e c =
 
 -- THE STEP
 
-may_publish : (stage : Stage) (n : ℕ) → is_some (next_change stage.script.plan n) ≡ true → suc n ≤ length stage.script.plan.changes
+pub may_publish : (stage : Stage) (n : ℕ) → is_some (next_change stage.script.plan n) ≡ true → suc n ≤ length stage.script.plan.changes
 may_publish stage n is = elim (slice_get_cases stage.script.plan.changes n).1 [
   | inl inside ↦ let a = inside.1 in omega arith
   | inr past_end ↦ absurd (let h : ◌≡◌ {A = Bool} false true = rw past_end.1 at is in cc)

@@ -1,9 +1,11 @@
 -- Worked histories: what a small stage's replay is, event by event.
-use Rattle.std.proofs.Common.{ℕ, List, [], ◌∷◌, Option, None}
+use Rattle.std.proofs.Common.{◌≡◌, ℕ, Bool, not, ◌&&◌, if◌then◌else◌, List, [], ◌∷◌, Option, Some, None, refl, arith}
+use Rattle.std.specs.Prelude.{nat_lt, nat_le}
 use Rattle.bm_base.specs.declared.ids.ServerId.{ServerId}
 use Rattle.bm_base.specs.declared.flow.Flow.{Flow}
 use Rattle.bm_base.specs.declared.flow.Segment.{Segment}
 use Rattle.bm_base.specs.declared.label.Hop.{Hop}
+use Rattle.bm_base.specs.declared.label.Label.{Label}
 use Rattle.bm_base.specs.declared.capture.Record.{Record}
 use Rattle.bm_base.specs.declared.capture.Body.TheVariants.{Steerable}
 use Rattle.bm_table.specs.declared.plan.Change.{Change}
@@ -18,8 +20,11 @@ use Rattle.bm_core.specs.declared.events.What.TheVariants.{Publish, Switch, Stee
 use Rattle.bm_core.specs.declared.events.Cause.{Cause}
 use Rattle.bm_core.specs.declared.events.Event.{Event}
 use Rattle.bm_core.specs.declared.events.Stage.{Stage}
-use Rattle.bm_core.specs.Causes.{cause}
+use Rattle.bm_core.specs.Causes.{is_holding, is_elsewhere, is_late, first_broken, cause}
 use Rattle.bm_core.specs.Rules.{mux_of, fate_of}
+use Rattle.bm_table.specs.Tables.{same_server, moves}
+use Rattle.bm_core.specs.declared.events.Cause.TheVariants.{NeverAccepted, NotHeld, StaleMux, MovedTwice, ChainLate, SynElsewhere}
+use Rattle.bm_core.specs.Past.{segment_of, bucket, label_of, held, Accepted, owner}
 use Rattle.bm_core.proofs.Playing.{play}
 
 -- STAGES
@@ -90,3 +95,40 @@ replayed stage n = play (mux_of stage.script.setting) (fate_of stage.script.sett
 abbrev pub causes_of : Stage → List Event → List (Option Cause)
 causes_of stage [] = []
 causes_of stage (e ∷ past) = cause stage past e.clock.0 e.what ∷ causes_of stage past
+
+-- ALL BROKEN PREMISES
+
+abbrev pub when : Bool → Cause → List Cause → List Cause
+when test c causes = if test then c ∷ causes else causes
+
+-- each premise that is broken, and not only the first
+abbrev pub broken : Stage → List Event → ℕ → Label → Flow → ServerId → Option Accepted → List Cause
+broken stage past clock label f s None = NeverAccepted ∷ []
+broken stage past clock label f s (Some a) =
+    when (not (is_holding (held stage past a.server f) a.place)) NotHeld
+    (when (nat_lt label.version.0 a.version) StaleMux
+    (when (nat_le 2 (moves stage.script.plan (bucket stage f) a.version label.version.0)) MovedTwice
+    (when (not (same_server s a.server) && is_late stage label clock) ChainLate
+    (when (is_elsewhere stage past past f a.server) SynElsewhere []))))
+
+abbrev pub first_cause : List Cause → Option Cause
+first_cause [] = None
+first_cause (c ∷ causes) = Some c
+
+-- the cause is the first of them
+pub broken_first : (stage : Stage) (past : List Event) (clock : ℕ) (label : Label) (f : Flow) (s : ServerId) (a : Option Accepted) → first_cause (broken stage past clock label f s a) ≡ first_broken stage past clock label f s a
+broken_first stage past clock label f s None = refl
+broken_first stage past clock label f s (Some a) = grind arith
+
+abbrev pub broken_by : Stage → List Event → ℕ → ServerId → Option Accepted → Option Segment → Option Label → List Cause
+broken_by stage past clock s a (Some segment) (Some label) = broken stage past clock label segment.flow s a
+broken_by stage past clock s a _ _ = []
+
+abbrev pub broken_at : Stage → List Event → ℕ → What → List Cause
+broken_at stage past clock (Arrive k hop s verdict) = broken_by stage past clock s (owner stage past k) (segment_of stage k) (label_of stage past k)
+broken_at stage past clock _ = []
+
+-- each premise that is broken at the newest event
+abbrev pub newest_broken : Stage → List Event → List Cause
+newest_broken stage [] = []
+newest_broken stage (e ∷ past) = broken_at stage past e.clock.0 e.what

@@ -14,12 +14,12 @@ use Rattle.bm_core.specs.declared.events.Verdict.TheVariants.{Accept, Process, R
 use Rattle.bm_core.specs.declared.events.What.TheVariants.{Close, Lose}
 use Rattle.bm_core.specs.declared.events.Why.TheVariants.{NoPrevious, Full}
 use Rattle.bm_core.proofs.Playing.{play}
-use Rattle.bm_core.proofs.Worked.{server, flow_from, syn, data_of, record_at, stage_of, at, steer, arrive, replayed, causes_of}
+use Rattle.bm_core.proofs.Worked.{server, flow_from, syn, data_of, record_at, stage_of, at, steer, arrive, replayed, causes_of, newest_broken}
 use Rattle.std.proofs.Common.{true, false}
 
 -- one packet is lost, another comes three times
 abbrev fates : Stage
-fates = stage_of (record plain_setting { faults = record { packet = 2; hop = Direct; fate = record { copies = 0; delay = 0 } } ∷ record { packet = 3; hop = Direct; fate = record { copies = 3; delay = 0 } } ∷ [] }) ([]) ([]) (record_at 0 (syn 1000 100) ∷ record_at 1000 (data_of 1000 101 10) ∷ record_at 2000 (data_of 1000 101 10) ∷ [])
+fates = stage_of (record plain_setting { faults = record { packet = 2; hop = Direct; fate = record { copies = 0; delay = 0 } } ∷ record { packet = 3; hop = Direct; fate = record { copies = 3; delay = 0 } } ∷ [] }) [] [] (record_at 0 (syn 1000 100) ∷ record_at 1000 (data_of 1000 101 10) ∷ record_at 2000 (data_of 1000 101 10) ∷ [])
 
 fates_events : reverse (replayed fates 10) ≡
     steer 1 1 0
@@ -40,7 +40,7 @@ fates_causes = refl
 
 -- a shard that holds its capacity drops a SYN
 abbrev full : Stage
-full = stage_of (record plain_setting { shards = 1; capacity = 1 }) ([]) ([]) (record_at 0 (syn 1000 100) ∷ record_at 1000 (syn 1002 100) ∷ [])
+full = stage_of (record plain_setting { shards = 1; capacity = 1 }) [] [] (record_at 0 (syn 1000 100) ∷ record_at 1000 (syn 1002 100) ∷ [])
 
 full_events : reverse (replayed full 6) ≡
     steer 1 1 0
@@ -57,7 +57,7 @@ full_causes = refl
 
 -- a connection is closed once
 abbrev closed : Stage
-closed = stage_of (plain_setting) ([]) (CloseCommand (record { 0 = 500 }) (server 1) (flow_from 1000) ∷ CloseCommand (record { 0 = 600 }) (server 1) (flow_from 1000) ∷ []) (record_at 0 (syn 1000 100) ∷ record_at 1000 (data_of 1000 101 10) ∷ [])
+closed = stage_of plain_setting [] (CloseCommand (record { 0 = 500 }) (server 1) (flow_from 1000) ∷ CloseCommand (record { 0 = 600 }) (server 1) (flow_from 1000) ∷ []) (record_at 0 (syn 1000 100) ∷ record_at 1000 (data_of 1000 101 10) ∷ [])
 
 closed_events : reverse (replayed closed 8) ≡
     steer 1 1 0
@@ -73,3 +73,7 @@ closed_events = refl
 closed_causes : reverse (causes_of closed (replayed closed 8)) ≡ None ∷ None ∷ None ∷ None ∷ None ∷ Some NotHeld ∷ []
 unfolding replayed play has_flag is_opening flow_octets fnv_step fnv_1a flow_hash acceptable distance taken_reset comes_in_turn taken after_taken opened receiver_after
 closed_causes = refl
+
+closed_broken : newest_broken closed (replayed closed 6) ≡ NotHeld ∷ []
+unfolding replayed play has_flag is_opening flow_octets fnv_step fnv_1a flow_hash acceptable distance taken_reset comes_in_turn taken after_taken opened receiver_after
+closed_broken = refl

@@ -15,11 +15,11 @@ use Rattle.bm_core.specs.declared.events.Verdict.TheVariants.{Accept, Process, F
 use Rattle.bm_core.specs.declared.events.Why.TheVariants.{ChainExpired, ChainedUnknown}
 use Rattle.bm_core.specs.Past.{label_of}
 use Rattle.bm_core.proofs.Playing.{play}
-use Rattle.bm_core.proofs.Worked.{server, syn, data_of, record_at, move, change_at, stage_of, publish, switch, steer, arrive, replayed, causes_of}
+use Rattle.bm_core.proofs.Worked.{server, syn, data_of, record_at, move, change_at, stage_of, publish, switch, steer, arrive, replayed, causes_of, newest_broken}
 
 -- one move: the data is forwarded to the server that accepted the SYN
-abbrev moved : Stage
-moved = stage_of (plain_setting) (change_at 500 Shift (move 4 2 ∷ []) ∷ []) (ChangeCommand (record { 0 = 1 }) ∷ []) (record_at 0 (syn 1000 100) ∷ record_at 1000 (data_of 1000 101 10) ∷ [])
+abbrev pub moved : Stage
+moved = stage_of plain_setting (change_at 500 Shift (move 4 2 ∷ []) ∷ []) (ChangeCommand (record { 0 = 1 }) ∷ []) (record_at 0 (syn 1000 100) ∷ record_at 1000 (data_of 1000 101 10) ∷ [])
 
 moved_events : reverse (replayed moved 9) ≡
     steer 1 1 0
@@ -36,6 +36,10 @@ moved_events = refl
 moved_causes : reverse (causes_of moved (replayed moved 9)) ≡ None ∷ None ∷ None ∷ None ∷ None ∷ None ∷ None ∷ []
 unfolding replayed play has_flag is_opening flow_octets fnv_step fnv_1a flow_hash acceptable distance taken_reset comes_in_turn taken after_taken opened receiver_after
 moved_causes = refl
+
+moved_broken : newest_broken moved (replayed moved 7) ≡ []
+unfolding replayed play has_flag is_opening flow_octets fnv_step fnv_1a flow_hash acceptable distance taken_reset comes_in_turn taken after_taken opened receiver_after
+moved_broken = refl
 
 moved_label : label_of moved (replayed moved 9) 2 ≡ Some (record { mux = record { 0 = 0 }; version = record { 0 = 1 }; entry = record { cur = server 2; prev = Some (server 1); stamp = record { 0 = 500 } } })
 unfolding replayed play has_flag is_opening flow_octets fnv_step fnv_1a flow_hash acceptable distance taken_reset comes_in_turn taken after_taken opened receiver_after
@@ -62,6 +66,10 @@ expired_events = refl
 expired_causes : reverse (causes_of expired (replayed expired 11)) ≡ None ∷ None ∷ None ∷ None ∷ None ∷ None ∷ None ∷ None ∷ Some ChainLate ∷ []
 unfolding replayed play has_flag is_opening flow_octets fnv_step fnv_1a flow_hash acceptable distance taken_reset comes_in_turn taken after_taken opened receiver_after
 expired_causes = refl
+
+expired_broken : newest_broken expired (replayed expired 9) ≡ ChainLate ∷ []
+unfolding replayed play has_flag is_opening flow_octets fnv_step fnv_1a flow_hash acceptable distance taken_reset comes_in_turn taken after_taken opened receiver_after
+expired_broken = refl
 
 -- one nanosecond later the same packet is reset
 abbrev expired_by_one : Stage
@@ -104,9 +112,13 @@ moved_twice_causes : reverse (causes_of moved_twice (replayed moved_twice 11)) �
 unfolding replayed play has_flag is_opening flow_octets fnv_step fnv_1a flow_hash acceptable distance taken_reset comes_in_turn taken after_taken opened receiver_after
 moved_twice_causes = refl
 
+moved_twice_broken : newest_broken moved_twice (replayed moved_twice 9) ≡ MovedTwice ∷ []
+unfolding replayed play has_flag is_opening flow_octets fnv_step fnv_1a flow_hash acceptable distance taken_reset comes_in_turn taken after_taken opened receiver_after
+moved_twice_broken = refl
+
 -- there and back again: the owner is the current server
 abbrev moved_back : Stage
-moved_back = stage_of (plain_setting) (change_at 500 Shift (move 4 2 ∷ []) ∷ change_at 600 Shift (move 4 1 ∷ []) ∷ []) (ChangeCommand (record { 0 = 1 }) ∷ ChangeCommand (record { 0 = 2 }) ∷ []) (record_at 0 (syn 1000 100) ∷ record_at 1000 (data_of 1000 101 10) ∷ [])
+moved_back = stage_of plain_setting (change_at 500 Shift (move 4 2 ∷ []) ∷ change_at 600 Shift (move 4 1 ∷ []) ∷ []) (ChangeCommand (record { 0 = 1 }) ∷ ChangeCommand (record { 0 = 2 }) ∷ []) (record_at 0 (syn 1000 100) ∷ record_at 1000 (data_of 1000 101 10) ∷ [])
 
 moved_back_events : reverse (replayed moved_back 10) ≡
     steer 1 1 0

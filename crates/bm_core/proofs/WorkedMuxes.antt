@@ -15,7 +15,7 @@ use Rattle.bm_core.specs.declared.events.Stage.{Stage}
 use Rattle.bm_core.specs.declared.events.Verdict.TheVariants.{Accept, Process, Forward, Reset}
 use Rattle.bm_core.specs.declared.events.Why.TheVariants.{NoPrevious, ChainedUnknown}
 use Rattle.bm_core.proofs.Playing.{play}
-use Rattle.bm_core.proofs.Worked.{server, syn, data_of, record_at, move, change_at, stage_of, publish, switch, steer, arrive, replayed, causes_of}
+use Rattle.bm_core.proofs.Worked.{server, syn, data_of, record_at, move, change_at, stage_of, publish, switch, steer, arrive, replayed, causes_of, newest_broken}
 
 -- the second mux lags: it labels the data with an older version than the SYN had
 abbrev stale : Stage
@@ -37,6 +37,10 @@ stale_causes : reverse (causes_of stale (replayed stale 9)) ≡ None ∷ None �
 unfolding replayed play has_flag is_opening flow_octets fnv_step fnv_1a flow_hash acceptable distance taken_reset comes_in_turn taken after_taken opened receiver_after
 stale_causes = refl
 
+stale_broken : newest_broken stale (replayed stale 6) ≡ StaleMux ∷ []
+unfolding replayed play has_flag is_opening flow_octets fnv_step fnv_1a flow_hash acceptable distance taken_reset comes_in_turn taken after_taken opened receiver_after
+stale_broken = refl
+
 -- data before its SYN, whose forwarded copy is late: nobody knows it
 abbrev early : Stage
 early = stage_of (record plain_setting { faults = record { packet = 1; hop = Chained; fate = record { copies = 1; delay = 5000 } } ∷ [] }) (change_at 0 Shift (move 4 2 ∷ []) ∷ []) (ChangeCommand (record { 0 = 1 }) ∷ []) (record_at 0 (data_of 1000 101 10) ∷ record_at 1000 (syn 1000 100) ∷ [])
@@ -57,9 +61,13 @@ early_causes : reverse (causes_of early (replayed early 9)) ≡ None ∷ None �
 unfolding replayed play has_flag is_opening flow_octets fnv_step fnv_1a flow_hash acceptable distance taken_reset comes_in_turn taken after_taken opened receiver_after
 early_causes = refl
 
+early_broken : newest_broken early (replayed early 7) ≡ NeverAccepted ∷ []
+unfolding replayed play has_flag is_opening flow_octets fnv_step fnv_1a flow_hash acceptable distance taken_reset comes_in_turn taken after_taken opened receiver_after
+early_broken = refl
+
 -- a repeated SYN is accepted by a second server; the data is processed by the first one, which is not its owner
 abbrev elsewhere : Stage
-elsewhere = stage_of (plain_setting) (change_at 500 Shift (move 4 2 ∷ []) ∷ change_at 1500 Shift (move 4 1 ∷ []) ∷ []) (ChangeCommand (record { 0 = 1 }) ∷ ChangeCommand (record { 0 = 2 }) ∷ []) (record_at 0 (syn 1000 100) ∷ record_at 1000 (syn 1000 100) ∷ record_at 2000 (data_of 1000 101 10) ∷ [])
+elsewhere = stage_of plain_setting (change_at 500 Shift (move 4 2 ∷ []) ∷ change_at 1500 Shift (move 4 1 ∷ []) ∷ []) (ChangeCommand (record { 0 = 1 }) ∷ ChangeCommand (record { 0 = 2 }) ∷ []) (record_at 0 (syn 1000 100) ∷ record_at 1000 (syn 1000 100) ∷ record_at 2000 (data_of 1000 101 10) ∷ [])
 
 elsewhere_events : reverse (replayed elsewhere 12) ≡
     steer 1 1 0
@@ -79,3 +87,7 @@ elsewhere_events = refl
 elsewhere_causes : reverse (causes_of elsewhere (replayed elsewhere 12)) ≡ None ∷ None ∷ None ∷ None ∷ None ∷ None ∷ None ∷ None ∷ None ∷ Some SynElsewhere ∷ []
 unfolding replayed play has_flag is_opening flow_octets fnv_step fnv_1a flow_hash acceptable distance taken_reset comes_in_turn taken after_taken opened receiver_after
 elsewhere_causes = refl
+
+elsewhere_broken : newest_broken elsewhere (replayed elsewhere 10) ≡ SynElsewhere ∷ []
+unfolding replayed play has_flag is_opening flow_octets fnv_step fnv_1a flow_hash acceptable distance taken_reset comes_in_turn taken after_taken opened receiver_after
+elsewhere_broken = refl

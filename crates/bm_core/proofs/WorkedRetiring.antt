@@ -14,7 +14,7 @@ use Rattle.bm_core.specs.declared.events.Stage.{Stage}
 use Rattle.bm_core.specs.declared.events.Verdict.TheVariants.{Accept, Drop}
 use Rattle.bm_core.specs.declared.events.Why.TheVariants.{Retired}
 use Rattle.bm_core.proofs.Playing.{play}
-use Rattle.bm_core.proofs.Worked.{server, syn, data_of, record_at, move, change_at, stage_of, publish, switch, steer, arrive, retire, replayed, causes_of}
+use Rattle.bm_core.proofs.Worked.{server, syn, data_of, record_at, move, change_at, stage_of, publish, switch, steer, arrive, retire, replayed, causes_of, newest_broken}
 
 -- a retirement too early, one of a server that is not drained, and one that is done; a delayed packet is then dropped
 abbrev retiring : Stage
@@ -39,6 +39,10 @@ retiring_events = refl
 retiring_causes : reverse (causes_of retiring (replayed retiring 13)) ≡ None ∷ None ∷ None ∷ None ∷ None ∷ None ∷ None ∷ None ∷ None ∷ None ∷ Some ChainLate ∷ []
 unfolding replayed play has_flag is_opening flow_octets fnv_step fnv_1a flow_hash acceptable distance taken_reset comes_in_turn taken after_taken opened receiver_after
 retiring_causes = refl
+
+retiring_broken : newest_broken retiring (replayed retiring 11) ≡ ChainLate ∷ []
+unfolding replayed play has_flag is_opening flow_octets fnv_step fnv_1a flow_hash acceptable distance taken_reset comes_in_turn taken after_taken opened receiver_after
+retiring_broken = refl
 
 -- a SYN that a mux labelled before the drain arrives after the retirement
 abbrev old_table : Stage

@@ -1,6 +1,6 @@
 -- What the laws say of the event at a place of a history: where premises hold the owner serves, and where a packet is refused or processed
 -- elsewhere there is a cause (Beamer's design).
-use Rattle.std.specs.Prelude.{◌≡◌, ◌≢◌, ℕ, ◌+◌, ◌<◌, ◌≤◌, true, false, ◌⊎◌, List, Option, Some, None, IsSomeAnd}
+use Rattle.std.specs.Prelude.{◌≡◌, ◌≢◌, ◌==◌, ℕ, ◌+◌, ◌<◌, ◌≤◌, Bool, true, false, ◌⊎◌, List, Option, Some, None, IsSomeAnd}
 use Rattle.bm_base.specs.declared.ids.ServerId.{ServerId}
 use Rattle.bm_base.specs.declared.flow.Segment.{Segment}
 use Rattle.bm_base.specs.declared.label.Label.{Label}
@@ -16,7 +16,7 @@ use Rattle.bm_core.specs.declared.events.History.{History}
 use Rattle.bm_table.specs.Tables.{moves}
 use Rattle.bm_base.specs.Segments.{is_opening}
 use Rattle.bm_core.specs.Past.{segment_of, bucket, timeout, label_of, Accepted, owner}
-use Rattle.bm_core.specs.Runs.{event_at, past_at}
+use Rattle.bm_core.specs.Runs.{AtEach, event_at, past_at}
 use Rattle.bm_core.specs.Causes.{first_broken, is_process, wants_cause}
 
 -- the packet is not opening, and no premise is broken
@@ -68,3 +68,16 @@ IsLate stage past clock _ = ⊥
 -- there is an event at this place of the history, of which this holds and the events before it
 abbrev pub At : History → ℕ → (Stage → List Event → ℕ → What → Type 0) → Type 0
 At h place P = IsSomeAnd (event_at h place) (λ e. P h.stage (past_at h place) e.clock.0 e.what)
+
+-- the event is an arrival of the packet
+abbrev pub is_arrival_of : What → ℕ → Bool
+is_arrival_of (Arrive k hop server verdict) packet = k == packet
+is_arrival_of _ packet = false
+
+-- at each of its arrivals, no premise of the packet is broken
+abbrev pub IsUnbrokenPacket : Stage → List Event → ℕ → Type 0
+IsUnbrokenPacket stage all packet = AtEach (λ past e. is_arrival_of e.what packet ≡ true → IsUnbrokenArrival stage past e.clock.0 e.what) all
+
+-- at each of its arrivals, the packet is processed by its owner's server, or forwarded to it
+abbrev pub IsServedPacket : Stage → List Event → ℕ → Type 0
+IsServedPacket stage all packet = AtEach (λ past e. is_arrival_of e.what packet ≡ true → IsServed stage past e.what) all

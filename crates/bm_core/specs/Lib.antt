@@ -13,3 +13,4 @@ pub mod Trails
 pub mod Threads
 pub mod Rules
 pub mod Histories
+pub mod Weights

@@ -101,3 +101,6 @@ pub struct History {
     pub stage: Stage,
     pub events: List<Event>,
 }
+
+/// The events of one actor, in the order in which it wrote them down.
+pub type Log = List<Event>;

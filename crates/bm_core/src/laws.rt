@@ -1,5 +1,6 @@
-//! The laws of the protocol, over every run. Each is a function that does nothing: its contract is the law.
-ghost use Rattle.std.specs.Prelude.{◌≡◌, ◌&&◌, ◌==◌, ℕ, List, Some, is_some, reverse, true};
+//! The laws of the protocol, over every run. Each is a function that does nothing: its contract is
+//! the law.
+ghost use Rattle.std.specs.Prelude.{◌≡◌, ◌≤◌, ◌*◌, ◌^◌, ◌&&◌, ◌==◌, ℕ, List, length, Some, is_some, reverse, true};
 ghost use Rattle.bm_base.specs.declared.flow.Flow.{Flow};
 ghost use Rattle.bm_base.specs.declared.ids.MuxId.{MuxId};
 ghost use Rattle.bm_base.specs.declared.ids.ServerId.{ServerId};
@@ -7,32 +8,38 @@ ghost use Rattle.bm_base.specs.declared.label.Hop.{Hop};
 ghost use Rattle.bm_base.specs.declared.label.Label.{Label};
 ghost use Rattle.bm_base.specs.declared.receive.Fate.{Fate};
 ghost use Rattle.bm_core.specs.declared.events.Event.{Event};
+ghost use Rattle.bm_core.specs.declared.events.What.{What};
 ghost use Rattle.bm_core.specs.Books.{AreDistinct, book_local, book_of, is_listed};
 ghost use Rattle.bm_core.specs.Causes.{cause};
 ghost use Rattle.bm_core.specs.Histories.{IsNextIn, IsReplay};
-ghost use Rattle.bm_core.specs.Laws.{At, IsFault, IsLate, IsRetiredDrop, IsServed, IsUnbrokenArrival};
+ghost use Rattle.bm_core.specs.Laws.{At, IsFault, IsLate, IsRetiredDrop, IsServed, IsServedPacket, IsUnbrokenArrival, IsUnbrokenPacket};
 ghost use Rattle.bm_core.specs.Logs.{log_of};
 ghost use Rattle.bm_core.specs.Past.{flows_held, held, label_of, shard, version_at};
 ghost use Rattle.bm_core.specs.Pins.{IsKeptTo, IsPinned};
-ghost use Rattle.bm_core.specs.Rules.{RouteBy, RuleBy};
+ghost use Rattle.bm_core.specs.Rules.{RouteBy, RuleBy, fate_of, mux_of};
 ghost use Rattle.bm_core.specs.Runs.Actor.{MuxOf};
-ghost use Rattle.bm_core.specs.Runs.{IsRun};
+ghost use Rattle.bm_core.specs.Runs.{IsRun, last_clock};
+ghost use Rattle.bm_core.specs.Schedule.{Follows};
+ghost use Rattle.bm_core.specs.Stages.{IsSound};
 ghost use Rattle.bm_core.specs.Verdicts.{local_at};
+ghost use Rattle.bm_core.specs.Weights.{AreSoon};
 
 use crate::{History, Stage};
 
-/// A packet whose premises hold is processed by its owner's server, or forwarded to it.
+/// A packet whose premises hold where it arrives is processed by its owner's server, or forwarded
+/// to it.
 pub fn safety(h: &History, place: usize)
     requires run { IsRun h.now }
     requires unbroken { At h.now place IsUnbrokenArrival }
     ensures { At h.now place (λ stage past clock what. IsServed stage past what) }
 {}
 
-/// Where a server retired, a packet that was labelled with it comes late.
-pub fn retired_late(h: &History, place: usize)
+/// A packet whose premises hold at all its arrivals is processed by its owner's server and by no
+/// other, and is never dropped or reset.
+pub fn served(h: &History, packet: u32)
     requires run { IsRun h.now }
-    requires dropped { At h.now place (λ stage past clock what. IsRetiredDrop stage past what) }
-    ensures { At h.now place IsLate }
+    requires unbroken { IsUnbrokenPacket h.now.stage (reverse h.now.events) packet }
+    ensures { IsServedPacket h.now.stage (reverse h.now.events) packet }
 {}
 
 /// Each packet that is dropped, reset or processed elsewhere has a cause.
@@ -42,37 +49,83 @@ pub fn causes(h: &History, place: usize)
     ensures { At h.now place (λ stage past clock what. is_some (cause stage past clock what) ≡ true) }
 {}
 
+/// Only a packet that is dropped, reset or processed elsewhere has a cause.
+pub fn only_faults(stage: &Stage)
+    ensures { (past : List Event) (clock : ℕ) (what : What)
+        → is_some (cause stage.now past clock what) ≡ true → IsFault stage.now past what }
+{}
+
+/// What a retired shard drops comes late: the clock is past the stamp of its label by more than the
+/// timeout.
+pub fn retired_late(h: &History, place: usize)
+    requires run { IsRun h.now }
+    requires dropped { At h.now place (λ stage past clock what. IsRetiredDrop stage past what) }
+    ensures { At h.now place IsLate }
+{}
+
 /// A connection whose packets keep to the premises is served by the server that accepted it.
 pub fn pinned(h: &History, packet: u32)
     requires { IsRun h.now }
-    ensures { (pin : IsPinned h.now.stage (reverse h.now.events) packet) → IsKeptTo h.now.stage (reverse h.now.events) packet pin }
+    ensures { (pin : IsPinned h.now.stage (reverse h.now.events) packet)
+        → IsKeptTo h.now.stage (reverse h.now.events) packet pin }
 {}
 
-/// After the same events of a replay, with the same answers, one event comes next.
-pub fn one_next(stage: &Stage)
-    ensures { (mux : ℕ → Flow → ℕ) (fates : List Fate) (past : List Event) (a b : Event) → IsNextIn mux fates stage.now past a → IsNextIn mux fates stage.now past b → a ≡ b }
+/// Each sound stage has a replay, by the route and the fault rows of its own setting.
+pub fn some_replay(stage: &Stage)
+    requires { IsSound stage.now }
+    ensures { let setting = stage.now.script.setting in
+        (h : History) × (h.stage ≡ stage.now) × IsReplay (RouteBy (mux_of setting)) (RuleBy (fate_of setting)) h }
 {}
 
 /// A replay is determined by its stage, its route and its fault rule.
 pub fn one_replay(a: &History, b: &History)
     requires { a.now.stage ≡ b.now.stage }
-    ensures { (mux : ℕ → Flow → ℕ) (fate : ℕ → Hop → Fate) → IsReplay (RouteBy mux) (RuleBy fate) a.now → IsReplay (RouteBy mux) (RuleBy fate) b.now → a.now.events ≡ b.now.events }
+    ensures { (mux : ℕ → Flow → ℕ) (fate : ℕ → Hop → Fate)
+        → IsReplay (RouteBy mux) (RuleBy fate) a.now
+        → IsReplay (RouteBy mux) (RuleBy fate) b.now
+        → a.now.events ≡ b.now.events }
+{}
+
+/// After the same events of a replay, with the same answers, one event comes next.
+pub fn one_next(stage: &Stage)
+    ensures { (mux : ℕ → Flow → ℕ) (fates : List Fate) (past : List Event) (a b : Event)
+        → IsNextIn mux fates stage.now past a
+        → IsNextIn mux fates stage.now past b
+        → a ≡ b }
+{}
+
+/// A replay of a sound stage, whose sendings have few copies that are due soon, has at most 13
+/// events for each of 200,000 packets and 65 for each of 65,536 commands, and its clocks are at
+/// most 5 × 10^18.
+pub fn short_replay(stage: &Stage)
+    requires { IsSound stage.now }
+    ensures events { (fates : List Fate) (past : List Event)
+        → Follows fates stage.now past → AreSoon fates past → length past ≤ 6859840 }
+    ensures clocks { (fates : List Fate) (past : List Event)
+        → Follows fates stage.now past → AreSoon fates past → last_clock past ≤ 5 * 10 ^ 18 }
 {}
 
 /// What a server knows of a flow is what the turns of the flow's shard say.
 pub fn shard_book(stage: &Stage)
-    ensures { (past : List Event) (s : ServerId) (f : Flow) → local_at stage.now past s f ≡ book_local stage.now.script.setting.capacity (book_of stage.now past s (shard stage.now f)) f }
+    ensures { (past : List Event) (s : ServerId) (f : Flow)
+        → let book = book_of stage.now past s (shard stage.now f) in
+        local_at stage.now past s f ≡ book_local stage.now.script.setting.capacity book f }
 {}
 
 /// The flows that count against a shard's capacity are those of the shard that its server holds,
 /// each once.
 pub fn held_flows(stage: &Stage)
-    ensures held { (past : List Event) (s : ServerId) (h : ℕ) (f : Flow) → is_listed (flows_held stage.now past s h) f ≡ (shard stage.now f == h && is_some (held stage.now past s f)) }
+    ensures held { (past : List Event) (s : ServerId) (h : ℕ) (f : Flow)
+        → is_listed (flows_held stage.now past s h) f
+        ≡ (shard stage.now f == h && is_some (held stage.now past s f)) }
     ensures once { (past : List Event) (s : ServerId) (h : ℕ) → AreDistinct (flows_held stage.now past s h) }
 {}
 
 /// A mux's version, and the label of its packets, are what the mux's own log says.
 pub fn mux_log(stage: &Stage)
-    ensures version { (past : List Event) (m : MuxId) → version_at (log_of stage.now past (MuxOf m.0)) m ≡ version_at past m }
-    ensures label { (past : List Event) (k : ℕ) (l : Label) → label_of stage.now past k ≡ Some l → label_of stage.now (log_of stage.now past (MuxOf l.mux.0)) k ≡ Some l }
+    ensures version { (past : List Event) (m : MuxId)
+        → version_at (log_of stage.now past (MuxOf m.0)) m ≡ version_at past m }
+    ensures label { (past : List Event) (k : ℕ) (l : Label)
+        → label_of stage.now past k ≡ Some l
+        → label_of stage.now (log_of stage.now past (MuxOf l.mux.0)) k ≡ Some l }
 {}

@@ -9,7 +9,10 @@ mod trail;
 mod verdict;
 
 pub use clock::next_clock;
-pub use events::{Cause, Event, History, Local, Stage, Verdict, What, Why};
+pub use events::{Cause, Event, History, Local, Log, Stage, Verdict, What, Why};
 pub use schedule::{Call, Due, Underway};
 pub use trail::Trail;
 pub use verdict::decide;
+
+#[cfg(test)]
+mod tests;

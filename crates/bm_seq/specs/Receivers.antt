@@ -11,12 +11,16 @@ use Rattle.bm_seq.specs.declared.receiver.Receiver.{Receiver}
 unfoldable pub distance : ℕ → ℕ → ℕ
 distance a b = (a + 2 ^ 32 - b) % 2 ^ 32
 
--- the test of acceptability of RFC 9293, section 3.10.7.4
+-- the sequence number is one of the window of this size that begins at next
+abbrev pub is_in_window : ℕ → ℕ → ℕ → Bool
+is_in_window next window x = nat_lt (distance x next) window
+
+-- the test of acceptability of RFC 9293, section 3.10.7.4: the segment begins or ends in the window, or both are empty and it stands at its place
 unfoldable pub acceptable : ℕ → ℕ → ℕ → ℕ → Bool
 acceptable next window seq len =
     if len == 0
-    then (if window == 0 then seq == next else nat_lt (distance seq next) window)
-    else nat_lt 0 window && (nat_lt (distance seq next) window || nat_lt (distance ((seq + len - 1) % 2 ^ 32) next) window)
+    then (if window == 0 then seq == next else is_in_window next window seq)
+    else nat_lt 0 window && (is_in_window next window seq || is_in_window next window ((seq + len - 1) % 2 ^ 32))
 
 -- the receive window of a server
 abbrev pub receive_window : ℕ
