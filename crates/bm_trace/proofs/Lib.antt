@@ -1,4 +1,6 @@
+pub mod Keeping
 pub mod Moving
 pub mod Newest
 pub mod Parted
+pub mod Ranged
 pub mod Spacing

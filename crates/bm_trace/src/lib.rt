@@ -10,6 +10,7 @@ mod held;
 mod lines;
 mod past;
 mod records;
+mod running;
 mod sums;
 mod words;
 
