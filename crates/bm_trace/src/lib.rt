@@ -18,3 +18,6 @@ pub use causes::cause;
 pub use counts::totals;
 pub use document::report;
 pub use sums::Totals;
+
+#[cfg(test)]
+mod tests;
