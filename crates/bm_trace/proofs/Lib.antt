@@ -1,3 +1,4 @@
+pub mod Caused
 pub mod Keeping
 pub mod Moving
 pub mod Newest

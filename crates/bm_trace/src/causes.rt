@@ -1,10 +1,10 @@
 //! Why a packet is dropped, reset or processed elsewhere.
-ghost use Rattle.std.specs.Prelude.{◌≡◌, ◌+◌, ◌<◌, ◌≤◌, List, length, reverse, Some, None, option_map, true};
+ghost use Rattle.std.specs.Prelude.{◌≡◌, ◌+◌, ◌<◌, ◌≤◌, List, length, reverse, Some, None, option_map, true, is_some};
 ghost use Rattle.bm_core.specs.Past as past;
 ghost use Rattle.bm_core.specs.Causes as causes;
 ghost use Rattle.bm_trace.specs.Ranges.{HasRanges};
 ghost use Rattle.bm_core.specs.Runs.{IsRun};
-ghost use Rattle.bm_trace.specs.CauseOf.{cause_of};
+ghost use Rattle.bm_trace.specs.CauseOf.{cause_of, is_fault_at};
 ghost use Rattle.bm_trace.specs.Wants.{IsWish};
 ghost use Rattle.bm_trace.specs.Seen.{as_accepted};
 
@@ -193,12 +193,14 @@ pub(crate) fn cause_at(h: &History, event: usize) -> Option<Cause>
     }
 }
 
-/// Why the event at this place is a drop, a reset or a stray, where it is one. Takes no memory.
-#[tactic(auto, using(crate::proofs::Ranged::ranges_of))]
+/// Why the event at this place is a drop, a reset or a stray; `None` just where it is none of
+/// these. Takes no memory.
+#[tactic(auto, using(crate::proofs::Ranged::ranges_of, crate::proofs::Caused::cause_there))]
 pub fn cause(h: &History, event: usize) -> Option<Cause>
     requires place { event < length h.now.events }
     requires run { IsRun h.now }
-    ensures { result ≡ cause_of h.now event }
+    ensures cause { result ≡ cause_of h.now event }
+    ensures there { is_some result ≡ is_fault_at h.now event }
 {
     cause_at(h, event)
 }
