@@ -1,4 +1,7 @@
+pub mod Caused
+pub mod Keeping
 pub mod Moving
 pub mod Newest
 pub mod Parted
+pub mod Ranged
 pub mod Spacing

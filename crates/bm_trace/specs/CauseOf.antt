@@ -1,12 +1,14 @@
 -- The cause of the event at a place of a history.
-use Rattle.std.specs.Prelude.{ℕ, Option, Some, None}
+use Rattle.std.specs.Prelude.{ℕ, Bool, false, List, Option, Some, None}
 use Rattle.bm_core.specs.declared.events.Cause.{Cause}
 use Rattle.bm_core.specs.declared.events.Event.{Event}
 use Rattle.bm_core.specs.declared.events.History.{History}
 use Rattle.bm_core.specs.declared.events.Stage.{Stage}
-use Rattle.bm_core.specs.Causes.{cause}
+use Rattle.bm_core.specs.declared.events.What.{What}
+use Rattle.bm_core.specs.declared.events.What.TheVariants.{Arrive}
+use Rattle.bm_core.specs.Causes.{cause, wants_cause}
+use Rattle.bm_core.specs.Past.{owner, segment_of}
 use Rattle.bm_core.specs.Runs.{event_at, past_at}
-use Rattle.std.specs.Prelude.{List}
 
 abbrev pub cause_after : Stage → List Event → Option Event → Option Cause
 cause_after stage past None = None
@@ -15,3 +17,16 @@ cause_after stage past (Some e) = cause stage past e.clock.0 e.what
 -- why the event is a drop, a reset or a stray, where it is one
 abbrev pub cause_of : History → ℕ → Option Cause
 cause_of h place = cause_after h.stage (past_at h place) (event_at h place)
+
+-- a packet is dropped, reset or processed elsewhere
+abbrev pub is_fault : Stage → List Event → What → Bool
+is_fault stage past (Arrive packet hop server verdict) = wants_cause verdict (owner stage past packet) server (segment_of stage packet)
+is_fault stage past _ = false
+
+abbrev pub is_fault_after : Stage → List Event → Option Event → Bool
+is_fault_after stage past None = false
+is_fault_after stage past (Some e) = is_fault stage past e.what
+
+-- the event is a drop, a reset or a stray
+abbrev pub is_fault_at : History → ℕ → Bool
+is_fault_at h place = is_fault_after h.stage (past_at h place) (event_at h place)

@@ -1,7 +1,11 @@
+pub mod Accepts
+pub mod Wants
 pub mod Words
 pub mod Totals
 pub mod CauseOf
+pub mod Ranges
 pub mod Report
+pub mod Running
 pub mod Parts
 pub mod Ends
 pub mod Seen

@@ -1,10 +1,11 @@
 //! Why a packet is dropped, reset or processed elsewhere.
-ghost use Rattle.std.specs.Prelude.{◌≡◌, ◌+◌, ◌<◌, ◌≤◌, List, length, reverse, Some, None, option_map};
+ghost use Rattle.std.specs.Prelude.{◌≡◌, ◌+◌, ◌<◌, ◌≤◌, List, length, reverse, Some, None, option_map, true, is_some};
 ghost use Rattle.bm_core.specs.Past as past;
 ghost use Rattle.bm_core.specs.Causes as causes;
-ghost use Rattle.bm_core.specs.Stages.{IsSound};
+ghost use Rattle.bm_trace.specs.Ranges.{HasRanges};
 ghost use Rattle.bm_core.specs.Runs.{IsRun};
-ghost use Rattle.bm_trace.specs.CauseOf.{cause_of};
+ghost use Rattle.bm_trace.specs.CauseOf.{cause_of, is_fault_at};
+ghost use Rattle.bm_trace.specs.Wants.{IsWish};
 ghost use Rattle.bm_trace.specs.Seen.{as_accepted};
 
 use crate::entries::{entry_at, moves};
@@ -16,7 +17,7 @@ use bm_hash::bucket_of;
 
 /// The label that the packet got at its Steer.
 fn label_of(stage: &Stage, events: &[Event], packet: u32) -> Option<Label>
-    requires { IsSound stage.now }
+    requires { HasRanges stage.now }
     ensures { result ≡ past.label_of stage.now (reverse events.now) packet }
 {
     let steered = steer_of(events, packet)?;
@@ -36,6 +37,27 @@ fn is_refusal(verdict: &Verdict) -> bool
     matches!(verdict, Verdict::Reset(_) | Verdict::Drop(_))
 }
 
+/// Whether an arrival wants a cause: an arrival that is no refusal does so unless its server is
+/// its owner's.
+#[derive(Clone, Copy)]
+pub(crate) enum Wants {
+    Never,
+    Always,
+    UnlessOwned,
+}
+
+/// What an arrival of the packet wants, by its verdict.
+pub(crate) fn wish(stage: &Stage, packet: u32, verdict: &Verdict) -> Wants
+    ensures { IsWish verdict.now (past.segment_of stage.now packet) result }
+{
+    match (segment_of(stage, packet), verdict) {
+        (None, _) => Wants::Never,
+        (Some(_), Verdict::Reset(_) | Verdict::Drop(_)) => Wants::Always,
+        (Some(segment), Verdict::Process(_)) if !is_opening(&segment) => Wants::UnlessOwned,
+        _ => Wants::Never,
+    }
+}
+
 /// Whether the packet is dropped, reset or processed elsewhere.
 pub(crate) fn wants_cause(
     stage: &Stage,
@@ -46,16 +68,10 @@ pub(crate) fn wants_cause(
 ) -> bool
     ensures { result ≡ causes.wants_cause verdict.now (past.owner stage.now (reverse events.now) packet) server (past.segment_of stage.now packet) }
 {
-    let Some(segment) = segment_of(stage, packet) else {
-        return false;
-    };
-    if is_opening(&segment) {
-        return is_refusal(verdict);
-    }
-    match verdict {
-        Verdict::Accept | Verdict::Forward(_) => false,
-        Verdict::Reset(_) | Verdict::Drop(_) => true,
-        Verdict::Process(_) => owner_server(stage, events, packet) != Some(server),
+    match wish(stage, packet, verdict) {
+        Wants::Never => false,
+        Wants::Always => true,
+        Wants::UnlessOwned => owner_server(stage, events, packet) != Some(server),
     }
 }
 
@@ -85,7 +101,7 @@ fn first_broken(
     server: ServerId,
     owner: Option<Owner>,
 ) -> Option<Cause>
-    requires { IsSound stage.now }
+    requires { HasRanges stage.now }
     ensures { result ≡ causes.first_broken stage.now (reverse events.now) clock.0 label.now flow.now server (option_map as_accepted owner) }
 {
     let Some(owner) = owner else {
@@ -107,8 +123,8 @@ fn first_broken(
     }
 }
 
-/// The cause of an arrival that has one.
-pub(crate) fn arrival_cause(
+/// The cause of an arrival that wants one.
+pub(crate) fn wanted_cause(
     stage: &Stage,
     events: &[Event],
     clock: Moment,
@@ -116,13 +132,11 @@ pub(crate) fn arrival_cause(
     server: ServerId,
     verdict: &Verdict,
 ) -> Option<Cause>
-    requires { IsSound stage.now }
+    requires ranges { HasRanges stage.now }
+    requires wanted { causes.wants_cause verdict.now (past.owner stage.now (reverse events.now) packet) server (past.segment_of stage.now packet) ≡ true }
     ensures { result ≡ causes.cause_at stage.now (reverse events.now) clock.0 server verdict.now
         (past.owner stage.now (reverse events.now) packet) (past.segment_of stage.now packet) (past.label_of stage.now (reverse events.now) packet) }
 {
-    if !wants_cause(stage, events, packet, server, verdict) {
-        return None;
-    }
     let segment = segment_of(stage, packet)?;
     let label = label_of(stage, events, packet)?;
     if is_opening(&segment) {
@@ -133,28 +147,60 @@ pub(crate) fn arrival_cause(
     }
 }
 
-/// The cause of an event that has these before it.
-pub(crate) fn event_cause(stage: &Stage, events: &[Event], event: &Event) -> Option<Cause>
-    requires { IsSound stage.now }
-    ensures { result ≡ causes.cause stage.now (reverse events.now) event.now.clock.0 event.now.what }
+/// The cause of an arrival, where it has one.
+fn arrival_cause(
+    stage: &Stage,
+    events: &[Event],
+    clock: Moment,
+    packet: u32,
+    server: ServerId,
+    verdict: &Verdict,
+) -> Option<Cause>
+    requires { HasRanges stage.now }
+    ensures { result ≡ causes.cause_at stage.now (reverse events.now) clock.0 server verdict.now
+        (past.owner stage.now (reverse events.now) packet) (past.segment_of stage.now packet) (past.label_of stage.now (reverse events.now) packet) }
 {
-    match &event.what {
+    if wants_cause(stage, events, packet, server, verdict) {
+        wanted_cause(stage, events, clock, packet, server, verdict)
+    } else {
+        None
+    }
+}
+
+/// The cause of the event at this place, where it has one.
+pub(crate) fn cause_at(h: &History, event: usize) -> Option<Cause>
+    requires place { event < length h.now.events }
+    requires ranges { HasRanges h.now.stage }
+    ensures { result ≡ cause_of h.now event }
+{
+    let events = h.events.items();
+    let at = events[event];
+    match at.what {
         What::Arrive {
             packet,
             server,
             verdict,
             ..
-        } => arrival_cause(stage, events, event.clock, *packet, *server, verdict),
+        } => arrival_cause(
+            &h.stage,
+            &events[..event],
+            at.clock,
+            packet,
+            server,
+            &verdict,
+        ),
         _ => None,
     }
 }
 
-/// Why the event at this place is a drop, a reset or a stray, where it is one. Takes no memory.
+/// Why the event at this place is a drop, a reset or a stray; `None` just where it is none of
+/// these. Takes no memory.
+#[tactic(auto, using(crate::proofs::Ranged::ranges_of, crate::proofs::Caused::cause_there))]
 pub fn cause(h: &History, event: usize) -> Option<Cause>
     requires place { event < length h.now.events }
     requires run { IsRun h.now }
-    ensures { result ≡ cause_of h.now event }
+    ensures cause { result ≡ cause_of h.now event }
+    ensures there { is_some result ≡ is_fault_at h.now event }
 {
-    let events = h.events.items();
-    event_cause(&h.stage, &events[..event], &events[event])
+    cause_at(h, event)
 }

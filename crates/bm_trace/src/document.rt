@@ -1,14 +1,16 @@
 //! The whole report.
-ghost use Rattle.std.specs.Prelude.{◌≡◌, ◌+◌, ◌<◌, ◌≤◌, ◌++◌, List, length, reverse, OnOk, OnErr, string_bytes, is_ok, if◌then◌else◌};
+ghost use Rattle.std.specs.Prelude.{◌≡◌, ◌+◌, ◌<◌, ◌≤◌, ◌++◌, List, length, reverse, OnOk, OnErr, IfOk, string_bytes, is_ok, if◌then◌else◌};
 ghost use Rattle.bm_core.specs.Runs.{IsRun};
 ghost use Rattle.bm_trace.specs.Parts.{AppendsPart};
+ghost use Rattle.bm_trace.specs.Ranges.{HasRanges};
 ghost use Rattle.bm_trace.specs.Report as report;
 ghost use Rattle.bm_trace.specs.Totals as totals;
 
-use crate::counts::totals;
+use crate::counts::totals_with;
 use crate::endings::ends_of_packets;
 use crate::lines::{write_event, write_note, write_totals};
 use crate::records::write_record;
+use crate::running::Running;
 use bm_base::Memory;
 use bm_core::History;
 
@@ -19,25 +21,39 @@ fn put_line(out: &mut Vec<u8>, line: &String) -> Result<(), Memory>
     Ok(())
 }
 
-/// Appends the lines of the events.
-fn put_events(h: &History, out: &mut Vec<u8>) -> Result<(), Memory>
-    requires { IsRun h.now }
+/// Appends the lines of the events, and counts the strays.
+fn put_events(h: &History, out: &mut Vec<u8>) -> Result<u64, Memory>
+    requires { HasRanges h.now.stage }
     ensures ok { OnOk result (out.new.items ≡ out.old.items ++ report.event_lines h.now.stage (reverse h.now.events)) }
+    ensures strays { IfOk result (λ n. n ≡ totals.strays h.now.stage (reverse h.now.events)) }
     ensures err { OnErr result (AppendsPart out.old.items out.new.items (report.event_lines h.now.stage (reverse h.now.events))) }
 {
-    let mut line = String::new(*out.allocator());
+    let alloc = *out.allocator();
     let events = h.events.items();
+    let setting = &h.stage.script.setting;
+    let mut running = Running::new(
+        alloc,
+        usize::from(setting.muxes),
+        h.stage.capture.records.items().len(),
+    )?;
+    let mut line = String::new(alloc);
+    let mut strays = 0;
     for (place, event) in events.iter().enumerate() {
+        let before = &events[..place];
         line.clear();
-        write_event(&mut line, &h.stage, &events[..place], event)?;
+        write_event(&mut line, &running, &h.stage, before, event)?;
+        if running.is_stray(&h.stage, before, &event.what) {
+            strays += 1;
+        }
+        running.note(&h.stage, event)?;
         put_line(out, &line)?;
     }
-    Ok(())
+    Ok(strays)
 }
 
 /// Appends the lines of the records.
 fn put_records(h: &History, out: &mut Vec<u8>) -> Result<(), Memory>
-    requires { IsRun h.now }
+    requires { HasRanges h.now.stage }
     ensures ok { OnOk result (out.new.items ≡ out.old.items ++ report.record_lines (reverse h.now.events) 1 h.now.stage.capture.records) }
     ensures err { OnErr result (AppendsPart out.old.items out.new.items (report.record_lines (reverse h.now.events) 1 h.now.stage.capture.records)) }
 {
@@ -58,8 +74,8 @@ fn put_records(h: &History, out: &mut Vec<u8>) -> Result<(), Memory>
 }
 
 /// Appends the note on a record that is cut short, and the totals.
-fn put_rest(h: &History, out: &mut Vec<u8>) -> Result<(), Memory>
-    requires { IsRun h.now }
+fn put_rest(h: &History, strays: u64, out: &mut Vec<u8>) -> Result<(), Memory>
+    requires { strays ≡ totals.strays h.now.stage (reverse h.now.events) }
     ensures { out.new.items ≡ (if is_ok result
         then out.old.items ++ (report.note_line h.now.stage.capture.cut ++ report.totals_line (totals.totals_of h.now))
         else out.old.items) }
@@ -68,17 +84,27 @@ fn put_rest(h: &History, out: &mut Vec<u8>) -> Result<(), Memory>
     if let Some(number) = h.stage.capture.cut {
         write_note(&mut line, number)?;
     }
-    write_totals(&mut line, &totals(h))?;
+    write_totals(&mut line, &totals_with(h, strays))?;
     put_line(out, &line)
 }
 
 /// Appends the report of the history. Where memory is refused, a first part of it was appended.
+pub(crate) fn put_report(h: &History, out: &mut Vec<u8>) -> Result<(), Memory>
+    requires { HasRanges h.now.stage }
+    ensures ok { OnOk result (out.new.items ≡ out.old.items ++ report.text h.now) }
+    ensures err { OnErr result (AppendsPart out.old.items out.new.items (report.text h.now)) }
+{
+    let strays = put_events(h, out)?;
+    put_records(h, out)?;
+    put_rest(h, strays, out)
+}
+
+/// Appends the report of the history. Where memory is refused, a first part of it was appended.
+#[tactic(auto, using(crate::proofs::Ranged::ranges_of))]
 pub fn report(h: &History, out: &mut Vec<u8>) -> Result<(), Memory>
     requires { IsRun h.now }
     ensures ok { OnOk result (out.new.items ≡ out.old.items ++ report.text h.now) }
     ensures err { OnErr result (AppendsPart out.old.items out.new.items (report.text h.now)) }
 {
-    put_events(h, out)?;
-    put_records(h, out)?;
-    put_rest(h, out)
+    put_report(h, out)
 }

@@ -4,7 +4,7 @@
 ghost use Rattle.std.specs.Prelude.{◌≡◌, ◌+◌, ◌<◌, ◌≤◌, List, length, reverse, Some, None, option_map, true, false};
 ghost use Rattle.bm_core.specs.Past as past;
 ghost use Rattle.bm_core.specs.Causes as causes;
-ghost use Rattle.bm_core.specs.Stages.{IsSound};
+ghost use Rattle.bm_trace.specs.Ranges.{HasRanges};
 ghost use Rattle.bm_trace.specs.Seen.{HasEffect, verdict_effect};
 
 use crate::past::{is_of, same_flow};
@@ -22,7 +22,7 @@ pub(crate) enum Effect {
 }
 
 fn effect_of(stage: &Stage, what: &What, server: ServerId, flow: &Flow) -> Effect
-    requires { IsSound stage.now }
+    requires { HasRanges stage.now }
     ensures { HasEffect stage.now what.now server flow.now result }
 {
     match what {
@@ -70,7 +70,7 @@ pub(crate) fn held_place(
     server: ServerId,
     flow: &Flow,
 ) -> Option<usize>
-    requires { IsSound stage.now }
+    requires { HasRanges stage.now }
     ensures { result ≡ option_map (λ h. h.place) (past.held stage.now (reverse events.now) server flow.now) }
 {
     let mut rest = events;
@@ -92,7 +92,7 @@ fn accepts_elsewhere(
     flow: &Flow,
     server: ServerId,
 ) -> bool
-    requires { IsSound stage.now }
+    requires { HasRanges stage.now }
     ensures { result ≡ causes.accepts_elsewhere stage.now (reverse events.now) what.now flow.now server }
 {
     match what {
@@ -112,7 +112,7 @@ fn accepts_elsewhere(
 
 /// Whether a server other than this holds the flow.
 pub(crate) fn is_elsewhere(stage: &Stage, events: &[Event], flow: &Flow, server: ServerId) -> bool
-    requires { IsSound stage.now }
+    requires { HasRanges stage.now }
     ensures { result ≡ causes.is_elsewhere stage.now (reverse events.now) (reverse events.now) flow.now server }
 {
     let mut rest = events;

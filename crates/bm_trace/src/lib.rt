@@ -10,6 +10,7 @@ mod held;
 mod lines;
 mod past;
 mod records;
+mod running;
 mod sums;
 mod words;
 
@@ -17,3 +18,6 @@ pub use causes::cause;
 pub use counts::totals;
 pub use document::report;
 pub use sums::Totals;
+
+#[cfg(test)]
+mod tests;

@@ -1,12 +1,13 @@
 //! The lines of a report.
 ghost use Rattle.std.specs.Prelude.{◌≡◌, ◌+◌, ◌<◌, ◌≤◌, ◌∷◌, ◌++◌, [], List, length, reverse, OnOk, OnErr, codes, decimal, string_bytes, if◌then◌else◌};
 ghost use Rattle.bm_core.specs.Past as past;
-ghost use Rattle.bm_core.specs.Stages.{IsSound};
+ghost use Rattle.bm_trace.specs.Ranges.{HasRanges};
 ghost use Rattle.bm_trace.specs.Words as words;
 ghost use Rattle.bm_trace.specs.Report as report;
+ghost use Rattle.bm_trace.specs.Running.{Keeps};
 
-use crate::causes::event_cause;
-use crate::past::{segment_of, version_at};
+use crate::past::segment_of;
+use crate::running::Running;
 use crate::sums::Totals;
 use crate::words::{BecauseWords, Counted, Endpoint, RetirementWords, VerdictWords, hop_word};
 use bm_base::{Flow, Hop, ServerId};
@@ -79,7 +80,7 @@ fn write_retirement(
 
 /// The bucket of the packet's flow, or 0.
 fn bucket_of_packet(stage: &Stage, packet: u32) -> u32
-    requires { IsSound stage.now }
+    requires { HasRanges stage.now }
     ensures { result ≡ report.bucket_of_packet stage.now (past.segment_of stage.now packet) }
 {
     match segment_of(stage, packet) {
@@ -91,11 +92,13 @@ fn bucket_of_packet(stage: &Stage, packet: u32) -> u32
 /// The line of an event that has these before it.
 pub(crate) fn write_event(
     line: &mut String,
+    running: &Running,
     stage: &Stage,
     events: &[Event],
     event: &Event,
 ) -> Result<(), AllocError>
-    requires { IsSound stage.now }
+    requires ranges { HasRanges stage.now }
+    requires kept { Keeps stage.now (reverse events.now) running.now }
     ensures { OnOk result (string_bytes line.new ≡ string_bytes line.old ++ report.event_line stage.now (reverse events.now) event.now) }
 {
     let clock = event.clock.0;
@@ -103,7 +106,7 @@ pub(crate) fn write_event(
         What::Publish(version) => writeln!(line, "{clock} publish {}", version.0),
         What::Switch { mux, version } => writeln!(line, "{clock} switch {} {}", mux.0, version.0),
         What::Steer { packet, mux } => {
-            let version = version_at(events, mux).0;
+            let version = running.version(events, mux).0;
             let bucket = bucket_of_packet(stage, packet);
             writeln!(line, "{clock} steer {packet} {} {version} {bucket}", mux.0)
         }
@@ -120,7 +123,7 @@ pub(crate) fn write_event(
             hop,
             server,
             verdict,
-            event_cause(stage, events, event),
+            running.cause(stage, events, event.clock, packet, server, &verdict),
         ),
         What::Close {
             server,

@@ -1,0 +1,667 @@
+ghost use Rattle.std.specs.Prelude.{◌≡◌, ◌≤◌, length, IfOk, OnOk};
+
+use crate::document::put_report;
+use bm_base::*;
+use bm_core::{Event, History, Stage, Verdict, What, Why};
+use bm_table::{Change, Kind, Move, Plan, Retirement, Script, Setting};
+use std::alloc::Global;
+use std::process::Abort;
+use std::test::Fail;
+
+const SYN: u8 = 0x02;
+
+const PSH_ACK: u8 = 0x18;
+
+const FIN_ACK: u8 = 0x11;
+
+const RST: u8 = 0x04;
+
+fn flow(sport: u16) -> Flow {
+    Flow {
+        src: 0x0a00_0001,
+        dst: 0xc000_0201,
+        sport,
+        dport: 80,
+    }
+}
+
+fn packet(sport: u16, flags: u8, seq: u32, len: u32) -> Record {
+    Record {
+        moment: Moment(0),
+        body: Body::Steerable(Segment {
+            flow: flow(sport),
+            seq,
+            ack: 501,
+            len,
+            flags,
+        }),
+    }
+}
+
+fn unsteered(reason: Reason) -> Record {
+    Record {
+        moment: Moment(0),
+        body: Body::Unsteered(reason),
+    }
+}
+
+fn event(clock: u64, what: What) -> Event {
+    Event {
+        clock: Moment(clock),
+        what,
+    }
+}
+
+fn publish(clock: u64, version: u32) -> Event {
+    event(clock, What::Publish(Version(version)))
+}
+
+fn switch(clock: u64, mux: u16, version: u32) -> Event {
+    event(
+        clock,
+        What::Switch {
+            mux: MuxId(mux),
+            version: Version(version),
+        },
+    )
+}
+
+fn steer(clock: u64, packet: u32, mux: u16) -> Event {
+    event(
+        clock,
+        What::Steer {
+            packet,
+            mux: MuxId(mux),
+        },
+    )
+}
+
+fn direct(clock: u64, packet: u32, server: u16, verdict: Verdict) -> Event {
+    event(
+        clock,
+        What::Arrive {
+            packet,
+            hop: Hop::Direct,
+            server: ServerId(server),
+            verdict,
+        },
+    )
+}
+
+fn chained(clock: u64, packet: u32, server: u16, verdict: Verdict) -> Event {
+    event(
+        clock,
+        What::Arrive {
+            packet,
+            hop: Hop::Chained,
+            server: ServerId(server),
+            verdict,
+        },
+    )
+}
+
+fn retire(clock: u64, server: u16, at: u64, answer: Retirement) -> Event {
+    event(
+        clock,
+        What::Retire {
+            server: ServerId(server),
+            shard: 0,
+            at: Moment(at),
+            result: answer,
+        },
+    )
+}
+
+fn close(clock: u64, server: u16, sport: u16, closed: bool) -> Event {
+    event(
+        clock,
+        What::Close {
+            server: ServerId(server),
+            flow: flow(sport),
+            closed,
+        },
+    )
+}
+
+/// Eight buckets on two or on three servers.
+fn plan(alloc: Global, three: bool) -> Result<Plan, Fail>
+    ensures { IfOk result (λ plan. plan.buckets ≡ 8) }
+{
+    if three {
+        Ok(Plan::new(alloc, 8, &[ServerId(1), ServerId(2), ServerId(3)])?)
+    } else {
+        Ok(Plan::new(alloc, 8, &[ServerId(1), ServerId(2)])?)
+    }
+}
+
+fn change(
+    plan: &mut Plan,
+    alloc: Global,
+    moment: u64,
+    kind: Kind,
+    moves: &[(u32, u16)],
+) -> Result<(), Fail>
+    ensures { OnOk result (plan.new.buckets ≡ plan.old.buckets) }
+{
+    let mut list = Vec::new(alloc);
+    for (bucket, to) in moves {
+        list.push(Move {
+            bucket: *bucket,
+            to: ServerId(*to),
+        })?;
+    }
+    plan.push(Change {
+        moment: Moment(moment),
+        kind,
+        moves: List::of(list),
+    })?;
+    Ok(())
+}
+
+/// Tests that the report of these events is this text.
+fn check(
+    rt: &impl Abort,
+    alloc: Global,
+    one_shard: bool,
+    plan: Plan,
+    records: &[Record],
+    cut: Option<u32>,
+    events: &[Event],
+    text: &str,
+) -> Result<(), Fail>
+    requires buckets { plan.buckets ≡ 8 }
+    requires few { length records.now ≤ 100 }
+{
+    let mut setting = Setting::plain(alloc)?;
+    if one_shard {
+        setting.shards = 1;
+        setting.timeout = 1_000_000_000;
+    }
+    setting.muxes = 2;
+    let script = Script {
+        setting,
+        plan,
+        commands: List::of(Vec::new(alloc)),
+    };
+    let capture = Capture {
+        records: List::of(Vec::from_slice(alloc, records)?),
+        cut,
+    };
+    let h = History {
+        stage: Stage { script, capture },
+        events: List::of(Vec::from_slice(alloc, events)?),
+    };
+    let mut out = Vec::new(alloc);
+    put_report(&h, &mut out)?;
+    assert_eq!(rt; out.as_slice(), text.as_bytes());
+    Ok(())
+}
+
+#[test]
+fn the_table_stays(rt: HostRuntime) -> Result<(), Fail> {
+    let alloc = rt.alloc();
+    // a connection of two packets
+    let plan_0 = plan(alloc, false)?;
+    let events = [
+        steer(1, 1, 0),
+        direct(2, 1, 1, Verdict::Accept),
+        steer(1001, 2, 0),
+        direct(1002, 2, 1, Verdict::Process(Taken::Advance)),
+    ];
+    check(
+        &rt,
+        alloc,
+        false,
+        plan_0,
+        &[packet(1000, SYN, 100, 1), packet(1000, PSH_ACK, 101, 10)],
+        None,
+        &events,
+        "1 steer 1 0 0 4\n2 arrive 1 direct 1 accept\n1001 steer 2 0 0 4\n1002 arrive 2 direct 1 process advance\npacket 1 accepted 1\npacket 2 processed 1\ntotal packets 2 steered 2 unsteered 0 accepted 1 processed 1 forwarded 0 reset 0 dropped 0 lost 0 stray 0\n",
+    )?;
+    // an empty capture
+    let plan_1 = plan(alloc, false)?;
+    let events: [Event; 0] = [];
+    let records: [Record; 0] = [];
+    check(
+        &rt,
+        alloc,
+        false,
+        plan_1,
+        &records,
+        None,
+        &events,
+        "total packets 0 steered 0 unsteered 0 accepted 0 processed 0 forwarded 0 reset 0 dropped 0 lost 0 stray 0\n",
+    )?;
+    // eight connections, each in a bucket of its own
+    let plan_2 = plan(alloc, false)?;
+    let events = [
+        steer(1, 1, 0),
+        direct(2, 1, 1, Verdict::Accept),
+        steer(1001, 2, 0),
+        direct(1002, 2, 2, Verdict::Accept),
+        steer(2001, 3, 0),
+        direct(2002, 3, 1, Verdict::Accept),
+        steer(3001, 4, 0),
+        direct(3002, 4, 2, Verdict::Accept),
+        steer(4001, 5, 0),
+        direct(4002, 5, 1, Verdict::Accept),
+        steer(5001, 6, 0),
+        direct(5002, 6, 2, Verdict::Accept),
+        steer(6001, 7, 0),
+        direct(6002, 7, 1, Verdict::Accept),
+        steer(7001, 8, 0),
+        direct(7002, 8, 2, Verdict::Accept),
+    ];
+    check(
+        &rt,
+        alloc,
+        false,
+        plan_2,
+        &[
+            packet(1000, SYN, 100, 1),
+            packet(1001, SYN, 100, 1),
+            packet(1002, SYN, 100, 1),
+            packet(1003, SYN, 100, 1),
+            packet(1004, SYN, 100, 1),
+            packet(1005, SYN, 100, 1),
+            packet(1006, SYN, 100, 1),
+            packet(1007, SYN, 100, 1),
+        ],
+        None,
+        &events,
+        "1 steer 1 0 0 4\n2 arrive 1 direct 1 accept\n1001 steer 2 0 0 1\n1002 arrive 2 direct 2 accept\n2001 steer 3 0 0 6\n2002 arrive 3 direct 1 accept\n3001 steer 4 0 0 3\n3002 arrive 4 direct 2 accept\n4001 steer 5 0 0 0\n4002 arrive 5 direct 1 accept\n5001 steer 6 0 0 5\n5002 arrive 6 direct 2 accept\n6001 steer 7 0 0 2\n6002 arrive 7 direct 1 accept\n7001 steer 8 0 0 7\n7002 arrive 8 direct 2 accept\npacket 1 accepted 1\npacket 2 accepted 2\npacket 3 accepted 1\npacket 4 accepted 2\npacket 5 accepted 1\npacket 6 accepted 2\npacket 7 accepted 1\npacket 8 accepted 2\ntotal packets 8 steered 8 unsteered 0 accepted 8 processed 0 forwarded 0 reset 0 dropped 0 lost 0 stray 0\n",
+    )?;
+    // data that no server accepted
+    let plan_3 = plan(alloc, false)?;
+    let events = [
+        steer(1, 1, 0),
+        direct(2, 1, 2, Verdict::Reset(Why::NoPrevious)),
+    ];
+    check(
+        &rt,
+        alloc,
+        false,
+        plan_3,
+        &[packet(1001, PSH_ACK, 101, 10)],
+        None,
+        &events,
+        "1 steer 1 0 0 1\n2 arrive 1 direct 2 reset no-previous because never-accepted\npacket 1 reset 2\ntotal packets 1 steered 1 unsteered 0 accepted 0 processed 0 forwarded 0 reset 1 dropped 0 lost 0 stray 0\n",
+    )?;
+    // copies that are lost and repeated
+    let plan_4 = plan(alloc, false)?;
+    let events = [
+        steer(1, 1, 0),
+        direct(2, 1, 1, Verdict::Accept),
+        steer(1001, 2, 0),
+        event(
+            1002,
+            What::Lose {
+                packet: 2,
+                hop: Hop::Direct,
+            },
+        ),
+        steer(2001, 3, 0),
+        direct(2002, 3, 1, Verdict::Process(Taken::Advance)),
+        direct(2003, 3, 1, Verdict::Process(Taken::Duplicate)),
+        direct(2004, 3, 1, Verdict::Process(Taken::Duplicate)),
+    ];
+    check(
+        &rt,
+        alloc,
+        false,
+        plan_4,
+        &[
+            packet(1000, SYN, 100, 1),
+            packet(1000, PSH_ACK, 101, 10),
+            packet(1000, PSH_ACK, 101, 10),
+        ],
+        None,
+        &events,
+        "1 steer 1 0 0 4\n2 arrive 1 direct 1 accept\n1001 steer 2 0 0 4\n1002 lost 2 direct\n2001 steer 3 0 0 4\n2002 arrive 3 direct 1 process advance\n2003 arrive 3 direct 1 process duplicate\n2004 arrive 3 direct 1 process duplicate\npacket 1 accepted 1\npacket 2 lost\npacket 3 processed 1 processed 1 processed 1\ntotal packets 3 steered 3 unsteered 0 accepted 1 processed 3 forwarded 0 reset 0 dropped 0 lost 1 stray 0\n",
+    )?;
+    // records that aren't steered, and one that is cut short
+    let plan_5 = plan(alloc, false)?;
+    let events = [
+        steer(4001, 5, 0),
+        direct(4002, 5, 1, Verdict::Accept),
+        steer(5001, 6, 0),
+        direct(5002, 6, 1, Verdict::Process(Taken::Advance)),
+    ];
+    check(
+        &rt,
+        alloc,
+        false,
+        plan_5,
+        &[
+            unsteered(Reason::NotIpv4),
+            unsteered(Reason::NotIpv4),
+            unsteered(Reason::Fragment),
+            unsteered(Reason::OtherDestination),
+            packet(1000, SYN, 100, 1),
+            packet(1000, PSH_ACK, 101, 10),
+        ],
+        Some(7),
+        &events,
+        "4001 steer 5 0 0 4\n4002 arrive 5 direct 1 accept\n5001 steer 6 0 0 4\n5002 arrive 6 direct 1 process advance\npacket 1 unsteered not-ipv4\npacket 2 unsteered not-ipv4\npacket 3 unsteered fragment\npacket 4 unsteered other-destination\npacket 5 accepted 1\npacket 6 processed 1\nnote record 7 cut short\ntotal packets 6 steered 2 unsteered 4 accepted 1 processed 1 forwarded 0 reset 0 dropped 0 lost 0 stray 0\n",
+    )
+}
+
+#[test]
+fn buckets_move(rt: HostRuntime) -> Result<(), Fail> {
+    let alloc = rt.alloc();
+    // the previous server takes the packet
+    let mut plan_0 = plan(alloc, false)?;
+    change(&mut plan_0, alloc, 500, Kind::Shift, &[(4, 2)])?;
+    let events = [
+        steer(1, 1, 0),
+        direct(2, 1, 1, Verdict::Accept),
+        publish(501, 1),
+        switch(502, 0, 1),
+        steer(1001, 2, 0),
+        direct(1002, 2, 2, Verdict::Forward(ServerId(1))),
+        chained(1003, 2, 1, Verdict::Process(Taken::Advance)),
+    ];
+    check(
+        &rt,
+        alloc,
+        false,
+        plan_0,
+        &[packet(1000, SYN, 100, 1), packet(1000, PSH_ACK, 101, 10)],
+        None,
+        &events,
+        "1 steer 1 0 0 4\n2 arrive 1 direct 1 accept\n501 publish 1\n502 switch 0 1\n1001 steer 2 0 1 4\n1002 arrive 2 direct 2 forward 1\n1003 arrive 2 chained 1 process advance\npacket 1 accepted 1\npacket 2 processed 1\ntotal packets 2 steered 2 unsteered 0 accepted 1 processed 1 forwarded 1 reset 0 dropped 0 lost 0 stray 0\n",
+    )?;
+    // the chain ends with the timeout
+    let mut plan_1 = plan(alloc, false)?;
+    change(&mut plan_1, alloc, 500, Kind::Shift, &[(4, 2)])?;
+    let events = [
+        steer(1, 1, 0),
+        direct(2, 1, 1, Verdict::Accept),
+        publish(501, 1),
+        switch(502, 0, 1),
+        steer(1000000499, 2, 0),
+        direct(1000000500, 2, 2, Verdict::Forward(ServerId(1))),
+        chained(1000000501, 2, 1, Verdict::Process(Taken::Advance)),
+        steer(1000000502, 3, 0),
+        direct(1000000503, 3, 2, Verdict::Reset(Why::ChainExpired)),
+    ];
+    check(
+        &rt,
+        alloc,
+        true,
+        plan_1,
+        &[
+            packet(1000, SYN, 100, 1),
+            packet(1000, PSH_ACK, 101, 10),
+            packet(1000, PSH_ACK, 111, 10),
+        ],
+        None,
+        &events,
+        "1 steer 1 0 0 4\n2 arrive 1 direct 1 accept\n501 publish 1\n502 switch 0 1\n1000000499 steer 2 0 1 4\n1000000500 arrive 2 direct 2 forward 1\n1000000501 arrive 2 chained 1 process advance\n1000000502 steer 3 0 1 4\n1000000503 arrive 3 direct 2 reset chain-expired because chain-late\npacket 1 accepted 1\npacket 2 processed 1\npacket 3 reset 2\ntotal packets 3 steered 3 unsteered 0 accepted 1 processed 1 forwarded 1 reset 1 dropped 0 lost 0 stray 0\n",
+    )?;
+    // the bucket moved twice
+    let mut plan_2 = plan(alloc, true)?;
+    change(&mut plan_2, alloc, 500, Kind::Shift, &[(4, 3)])?;
+    change(&mut plan_2, alloc, 600, Kind::Shift, &[(4, 1)])?;
+    let events = [
+        steer(1, 1, 0),
+        direct(2, 1, 2, Verdict::Accept),
+        publish(501, 1),
+        switch(502, 0, 1),
+        publish(601, 2),
+        switch(602, 0, 2),
+        steer(1001, 2, 0),
+        direct(1002, 2, 1, Verdict::Forward(ServerId(3))),
+        chained(1003, 2, 3, Verdict::Reset(Why::ChainedUnknown)),
+    ];
+    check(
+        &rt,
+        alloc,
+        false,
+        plan_2,
+        &[packet(1000, SYN, 100, 1), packet(1000, PSH_ACK, 101, 10)],
+        None,
+        &events,
+        "1 steer 1 0 0 4\n2 arrive 1 direct 2 accept\n501 publish 1\n502 switch 0 1\n601 publish 2\n602 switch 0 2\n1001 steer 2 0 2 4\n1002 arrive 2 direct 1 forward 3\n1003 arrive 2 chained 3 reset chained-unknown because moved-twice\npacket 1 accepted 2\npacket 2 reset 3\ntotal packets 2 steered 2 unsteered 0 accepted 1 processed 0 forwarded 1 reset 1 dropped 0 lost 0 stray 0\n",
+    )?;
+    // a mux is behind
+    let mut plan_3 = plan(alloc, false)?;
+    change(&mut plan_3, alloc, 0, Kind::Shift, &[(4, 2)])?;
+    let events = [
+        publish(1, 1),
+        switch(2, 1, 1),
+        steer(3, 1, 1),
+        direct(4, 1, 2, Verdict::Accept),
+        steer(1001, 2, 0),
+        direct(1002, 2, 1, Verdict::Reset(Why::NoPrevious)),
+        switch(1000001, 0, 1),
+    ];
+    check(
+        &rt,
+        alloc,
+        false,
+        plan_3,
+        &[packet(1000, SYN, 100, 1), packet(1000, PSH_ACK, 101, 10)],
+        None,
+        &events,
+        "1 publish 1\n2 switch 1 1\n3 steer 1 1 1 4\n4 arrive 1 direct 2 accept\n1001 steer 2 0 0 4\n1002 arrive 2 direct 1 reset no-previous because stale-mux\n1000001 switch 0 1\npacket 1 accepted 2\npacket 2 reset 1\ntotal packets 2 steered 2 unsteered 0 accepted 1 processed 0 forwarded 0 reset 1 dropped 0 lost 0 stray 0\n",
+    )?;
+    // data comes before its SYN
+    let mut plan_4 = plan(alloc, false)?;
+    change(&mut plan_4, alloc, 0, Kind::Shift, &[(4, 2)])?;
+    let events = [
+        publish(1, 1),
+        switch(2, 0, 1),
+        steer(3, 1, 0),
+        direct(4, 1, 2, Verdict::Forward(ServerId(1))),
+        steer(1001, 2, 0),
+        direct(1002, 2, 2, Verdict::Accept),
+        chained(5005, 1, 1, Verdict::Reset(Why::ChainedUnknown)),
+    ];
+    check(
+        &rt,
+        alloc,
+        false,
+        plan_4,
+        &[packet(1000, PSH_ACK, 101, 10), packet(1000, SYN, 100, 1)],
+        None,
+        &events,
+        "1 publish 1\n2 switch 0 1\n3 steer 1 0 1 4\n4 arrive 1 direct 2 forward 1\n1001 steer 2 0 1 4\n1002 arrive 2 direct 2 accept\n5005 arrive 1 chained 1 reset chained-unknown because never-accepted\npacket 1 reset 1\npacket 2 accepted 2\ntotal packets 2 steered 2 unsteered 0 accepted 1 processed 0 forwarded 1 reset 1 dropped 0 lost 0 stray 0\n",
+    )?;
+    // a stray: two servers hold the connection
+    let mut plan_5 = plan(alloc, false)?;
+    change(&mut plan_5, alloc, 500, Kind::Shift, &[(4, 2)])?;
+    change(&mut plan_5, alloc, 1500, Kind::Shift, &[(4, 1)])?;
+    let events = [
+        steer(1, 1, 0),
+        direct(2, 1, 1, Verdict::Accept),
+        publish(501, 1),
+        switch(502, 0, 1),
+        steer(1001, 2, 0),
+        direct(1002, 2, 2, Verdict::Accept),
+        publish(1501, 2),
+        switch(1502, 0, 2),
+        steer(2001, 3, 0),
+        direct(2002, 3, 1, Verdict::Process(Taken::Advance)),
+    ];
+    check(
+        &rt,
+        alloc,
+        false,
+        plan_5,
+        &[
+            packet(1000, SYN, 100, 1),
+            packet(1000, SYN, 100, 1),
+            packet(1000, PSH_ACK, 101, 10),
+        ],
+        None,
+        &events,
+        "1 steer 1 0 0 4\n2 arrive 1 direct 1 accept\n501 publish 1\n502 switch 0 1\n1001 steer 2 0 1 4\n1002 arrive 2 direct 2 accept\n1501 publish 2\n1502 switch 0 2\n2001 steer 3 0 2 4\n2002 arrive 3 direct 1 process advance because syn-elsewhere\npacket 1 accepted 1\npacket 2 accepted 2\npacket 3 processed 1\ntotal packets 3 steered 3 unsteered 0 accepted 2 processed 1 forwarded 0 reset 0 dropped 0 lost 0 stray 1\n",
+    )
+}
+
+#[test]
+fn connections_end(rt: HostRuntime) -> Result<(), Fail> {
+    let alloc = rt.alloc();
+    // a server retires
+    let mut plan_0 = plan(alloc, false)?;
+    change(&mut plan_0, alloc, 500, Kind::Shift, &[(4, 2)])?;
+    change(
+        &mut plan_0,
+        alloc,
+        2000,
+        Kind::Drain(ServerId(2)),
+        &[(1, 1), (3, 1), (4, 1), (5, 1), (7, 1)],
+    )?;
+    let events = [
+        steer(1, 1, 0),
+        direct(2, 1, 1, Verdict::Accept),
+        publish(501, 1),
+        switch(502, 0, 1),
+        steer(1001, 2, 0),
+        publish(2001, 2),
+        switch(2002, 0, 2),
+        retire(3001, 2, 3000, Retirement::TooEarly(1)),
+        retire(4001, 1, 4000, Retirement::NotDrained),
+        retire(2000000001, 2, 2000000000, Retirement::Done),
+        direct(3000001002, 2, 2, Verdict::Drop(Why::Retired)),
+    ];
+    check(
+        &rt,
+        alloc,
+        true,
+        plan_0,
+        &[packet(1000, SYN, 100, 1), packet(1000, PSH_ACK, 101, 10)],
+        None,
+        &events,
+        "1 steer 1 0 0 4\n2 arrive 1 direct 1 accept\n501 publish 1\n502 switch 0 1\n1001 steer 2 0 1 4\n2001 publish 2\n2002 switch 0 2\n3001 retire 2 0 at 3000 too-early 1\n4001 retire 1 0 at 4000 not-drained\n2000000001 retire 2 0 at 2000000000 done\n3000001002 arrive 2 direct 2 drop retired because chain-late\npacket 1 accepted 1\npacket 2 dropped 2\ntotal packets 2 steered 2 unsteered 0 accepted 1 processed 0 forwarded 0 reset 0 dropped 1 lost 0 stray 0\n",
+    )?;
+    // a SYN comes to a server that retired
+    let mut plan_1 = plan(alloc, false)?;
+    change(
+        &mut plan_1,
+        alloc,
+        500,
+        Kind::Drain(ServerId(1)),
+        &[(0, 2), (2, 2), (4, 2), (6, 2)],
+    )?;
+    let events = [
+        steer(1, 1, 0),
+        publish(501, 1),
+        switch(502, 0, 1),
+        retire(2000000001, 1, 2000000000, Retirement::Done),
+        direct(3000000002, 1, 1, Verdict::Drop(Why::Retired)),
+    ];
+    check(
+        &rt,
+        alloc,
+        true,
+        plan_1,
+        &[packet(1000, SYN, 100, 1)],
+        None,
+        &events,
+        "1 steer 1 0 0 4\n501 publish 1\n502 switch 0 1\n2000000001 retire 1 0 at 2000000000 done\n3000000002 arrive 1 direct 1 drop retired because old-table\npacket 1 dropped 1\ntotal packets 1 steered 1 unsteered 0 accepted 0 processed 0 forwarded 0 reset 0 dropped 1 lost 0 stray 0\n",
+    )?;
+    // resets
+    let plan_2 = plan(alloc, false)?;
+    let events = [
+        steer(1, 1, 0),
+        direct(2, 1, 1, Verdict::Accept),
+        steer(1001, 2, 0),
+        direct(1002, 2, 1, Verdict::Process(Taken::Outside)),
+        steer(2001, 3, 0),
+        direct(2002, 3, 1, Verdict::Process(Taken::Challenge)),
+        steer(3001, 4, 0),
+        direct(3002, 4, 1, Verdict::Process(Taken::Ended)),
+        steer(4001, 5, 0),
+        direct(4002, 5, 1, Verdict::Reset(Why::NoPrevious)),
+        steer(5001, 6, 0),
+        direct(5002, 6, 1, Verdict::Drop(Why::Silent)),
+    ];
+    check(
+        &rt,
+        alloc,
+        false,
+        plan_2,
+        &[
+            packet(1000, SYN, 100, 1),
+            packet(1000, RST, 66000, 0),
+            packet(1000, RST, 102, 0),
+            packet(1000, RST, 101, 0),
+            packet(1000, PSH_ACK, 101, 10),
+            packet(1000, RST, 101, 0),
+        ],
+        None,
+        &events,
+        "1 steer 1 0 0 4\n2 arrive 1 direct 1 accept\n1001 steer 2 0 0 4\n1002 arrive 2 direct 1 process outside\n2001 steer 3 0 0 4\n2002 arrive 3 direct 1 process challenge\n3001 steer 4 0 0 4\n3002 arrive 4 direct 1 process ended\n4001 steer 5 0 0 4\n4002 arrive 5 direct 1 reset no-previous because not-held\n5001 steer 6 0 0 4\n5002 arrive 6 direct 1 drop silent because not-held\npacket 1 accepted 1\npacket 2 processed 1\npacket 3 processed 1\npacket 4 processed 1\npacket 5 reset 1\npacket 6 dropped 1\ntotal packets 6 steered 6 unsteered 0 accepted 1 processed 3 forwarded 0 reset 1 dropped 1 lost 0 stray 0\n",
+    )?;
+    // a connection takes the place of one that finished
+    let plan_3 = plan(alloc, false)?;
+    let events = [
+        steer(1, 1, 0),
+        direct(2, 1, 1, Verdict::Accept),
+        steer(1001, 2, 0),
+        direct(1002, 2, 1, Verdict::Process(Taken::Advance)),
+        steer(2001, 3, 0),
+        direct(2002, 3, 1, Verdict::Process(Taken::Advance)),
+        steer(3001, 4, 0),
+        direct(3002, 4, 1, Verdict::Accept),
+        steer(4001, 5, 0),
+        direct(4002, 5, 1, Verdict::Process(Taken::Challenge)),
+    ];
+    check(
+        &rt,
+        alloc,
+        false,
+        plan_3,
+        &[
+            packet(1000, SYN, 4294967290, 1),
+            packet(1000, PSH_ACK, 4294967291, 10),
+            packet(1000, FIN_ACK, 5, 1),
+            packet(1000, SYN, 1000, 1),
+            packet(1000, SYN, 2000, 1),
+        ],
+        None,
+        &events,
+        "1 steer 1 0 0 4\n2 arrive 1 direct 1 accept\n1001 steer 2 0 0 4\n1002 arrive 2 direct 1 process advance\n2001 steer 3 0 0 4\n2002 arrive 3 direct 1 process advance\n3001 steer 4 0 0 4\n3002 arrive 4 direct 1 accept\n4001 steer 5 0 0 4\n4002 arrive 5 direct 1 process challenge\npacket 1 accepted 1\npacket 2 processed 1\npacket 3 processed 1\npacket 4 accepted 1\npacket 5 processed 1\ntotal packets 5 steered 5 unsteered 0 accepted 2 processed 3 forwarded 0 reset 0 dropped 0 lost 0 stray 0\n",
+    )?;
+    // a full shard, and a join of all workers
+    let plan_4 = plan(alloc, false)?;
+    let events = [
+        steer(1, 1, 0),
+        direct(2, 1, 1, Verdict::Accept),
+        steer(1001, 2, 0),
+        direct(1002, 2, 1, Verdict::Drop(Why::Full)),
+        event(1003, What::Sync),
+    ];
+    check(
+        &rt,
+        alloc,
+        true,
+        plan_4,
+        &[packet(1000, SYN, 100, 1), packet(1002, SYN, 100, 1)],
+        None,
+        &events,
+        "1 steer 1 0 0 4\n2 arrive 1 direct 1 accept\n1001 steer 2 0 0 6\n1002 arrive 2 direct 1 drop full because full\n1003 sync\npacket 1 accepted 1\npacket 2 dropped 1\ntotal packets 2 steered 2 unsteered 0 accepted 1 processed 0 forwarded 0 reset 0 dropped 1 lost 0 stray 0\n",
+    )?;
+    // a connection is closed, once
+    let plan_5 = plan(alloc, false)?;
+    let events = [
+        steer(1, 1, 0),
+        direct(2, 1, 1, Verdict::Accept),
+        close(501, 1, 1000, true),
+        close(601, 1, 1000, false),
+        steer(1001, 2, 0),
+        direct(1002, 2, 1, Verdict::Reset(Why::NoPrevious)),
+    ];
+    check(
+        &rt,
+        alloc,
+        false,
+        plan_5,
+        &[packet(1000, SYN, 100, 1), packet(1000, PSH_ACK, 101, 10)],
+        None,
+        &events,
+        "1 steer 1 0 0 4\n2 arrive 1 direct 1 accept\n501 close 1 10.0.0.1:1000 192.0.2.1:80 closed\n601 close 1 10.0.0.1:1000 192.0.2.1:80 none\n1001 steer 2 0 0 4\n1002 arrive 2 direct 1 reset no-previous because not-held\npacket 1 accepted 1\npacket 2 reset 1\ntotal packets 2 steered 2 unsteered 0 accepted 1 processed 0 forwarded 0 reset 1 dropped 0 lost 0 stray 0\n",
+    )
+}
