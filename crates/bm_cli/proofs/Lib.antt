@@ -1,2 +1,5 @@
+pub mod Doing
+pub mod Readings
+pub mod Replaying
 pub mod Sound
 pub mod Writing

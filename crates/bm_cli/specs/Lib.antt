@@ -3,6 +3,7 @@ pub mod Fleet
 pub mod Captures
 pub mod Statuses
 pub mod Headline
+pub mod Replaying
 pub mod Showing
 pub mod Lines
 pub mod Refusing

@@ -2,7 +2,9 @@
 ghost use Rattle.std.specs.Prelude.{◌≡◌, ◌∷◌, [], IfOk, IsErrOf};
 ghost use Rattle.bm_io.specs.Causes.{Rose};
 ghost use Rattle.bm_base.specs.Captures.{IsReplayable};
-ghost use Rattle.bm_cli.specs.Captures.{ReadsFile, ReadsSource};
+ghost use Rattle.bm_pcap.specs.Causes.{HasStepCause};
+ghost use Rattle.bm_pcap.specs.Reader.{IsFresh};
+ghost use Rattle.bm_cli.specs.Captures.{ReadsFile, ReadsRecords, ReadsSource};
 ghost use Rattle.bm_cli.specs.Asked.{AsksPrefix};
 
 use bm_base::{Capture, Vip};
@@ -40,16 +42,25 @@ fn read_source<S: Source>(
 ) -> (S, Result<Capture, PcapFault>)
     ensures capture { ReadsSource (S.left src) vips.now result.1 }
     ensures replayable { IfOk result.1 (IsReplayable vips.now) }
-    ensures cause { IsErrOf result.1 PcapFault.ReadFault → Rose (S.faults src) (S.faults result.0) }
+    ensures cause { HasStepCause (S.faults src) (S.faults result.0) result.1 }
 {
     match PcapReader::start(alloc, src) {
-        Ok(mut reader) => {
-            let result = match read_capture(alloc, &mut reader, vips) {
-                Ok((capture, _)) => Ok(capture),
-                Err(fault) => Err(fault),
-            };
-            (reader.into_source(), result)
-        }
+        Ok(reader) => read_records(alloc, reader, vips),
         Err((src, fault)) => (src, Err(fault)),
     }
+}
+
+/// Reads a capture whose header is read, and gives its source back.
+fn read_records<S: Source>(
+    alloc: Global,
+    mut reader: PcapReader<S>,
+    vips: &[Vip],
+) -> (S, Result<Capture, PcapFault>)
+    requires { IsFresh reader }
+    ensures capture { ReadsRecords (S.left reader.source) reader.form vips.now result.1 }
+    ensures replayable { IfOk result.1 (IsReplayable vips.now) }
+    ensures cause { HasStepCause (S.faults reader.source) (S.faults result.0) result.1 }
+{
+    let result = read_capture(alloc, &mut reader, vips).map(|(capture, _)| capture);
+    (reader.into_source(), result)
 }

@@ -1,10 +1,11 @@
 //! The top call.
-ghost use Rattle.std.specs.Prelude.{◌≡◌, ◌⊎◌, map, string_bytes, None, Some, IfSome, IsSome};
+ghost use Rattle.std.specs.Prelude.{◌≡◌, ◌⊎◌, ◌∷◌, [], map, string_bytes, None, Some, IfSome, IsSome};
 ghost use Rattle.std.specs.Io.KnownBytes.{Appends};
 ghost use Rattle.bm_io.specs.Causes.{Rose};
 ghost use Rattle.bm_pcap.specs.declared.fault.PcapFault.TheVariants.{ReadFault as SourceFault};
 ghost use Rattle.bm_cli.specs.Asked.{AsksPrefix};
 ghost use Rattle.bm_cli.specs.Lines.{fault_line, usage_line};
+ghost use Rattle.bm_cli.specs.Replaying.{IsReplaying};
 ghost use Rattle.bm_cli.specs.Top.{RefusesFile, ShowsFile, WritesDue, due_status, names_in};
 ghost use Rattle.bm_cli.specs.Words as form;
 
@@ -52,7 +53,15 @@ pub fn beamer<F: Files, K: Sink>(alloc: Global, words: &[String], files: &mut F,
 }
 
 /// Replays the capture of this name.
-fn replay_file<F: Files, K: Sink>(alloc: Global, name: &str, files: &mut F, out: &mut K) -> Status
+fn replay_file<F: Files, K: Sink>(
+    alloc: Global,
+    name: &str,
+    files: &mut F,
+    out: &mut K,
+) -> Status
+    ensures replaying { IsReplaying name.now (F.octets files.old) (K.written out.old) (K.written out.new) (K.faults out.old) (K.faults out.new) result }
+    ensures read { result ≡ Status.ReadFault → Rose (F.faults files.old) (F.faults files.new) }
+    ensures asked { AsksPrefix (F.asked files.old) (F.asked files.new) (name.now ∷ []) }
 {
     let Ok(script) = plain_script(alloc) else {
         return Status::Memory;

@@ -1,0 +1,140 @@
+-- All that the program does, by its words.
+use Rattle.std.proofs.Common.{◌≡◌, ◌≢◌, ◌⊎◌, inl, inr, ℕ, List, [], ◌∷◌, Option, Some, None, IfSome, IsSome, sym, ap, subst, ◌∙◌, refl}
+use Rattle.std.specs.Io.KnownBytes.{Appends}
+use Rattle.bm_io.specs.Causes.{Rose}
+use Rattle.bm_pcap.specs.declared.fault.PcapFault.TheVariants.{ReadFault as SourceFault}
+use Rattle.bm_cli.specs.declared.status.Status.{Status}
+use Rattle.bm_cli.specs.declared.status.Status.TheVariants.{Done, Usage, ReadFault, BadCapture, WriteFault, Memory, Limit}
+use Rattle.bm_cli.specs.Lines.{fault_line, usage_line}
+use Rattle.bm_cli.specs.Replaying.{IsReplaying}
+use Rattle.bm_cli.specs.Statuses.{Says, code_of}
+use Rattle.bm_cli.specs.Top.{Octets, RefusesFile, ShowsFile, WritesDue, due_status, reading, status_of}
+
+-- the status is one of these
+pub is_known : (s : Status) → (code_of s ≡ 0) ⊎ (code_of s ≡ 1) ⊎ (code_of s ≡ 2) ⊎ (code_of s ≡ 3) ⊎ (code_of s ≡ 5) ⊎ (code_of s ≡ 6) ⊎ (code_of s ≡ 7)
+is_known Done = inl refl
+is_known Usage = inr (inl refl)
+is_known ReadFault = inr (inr (inl refl))
+is_known BadCapture = inr (inr (inr (inl refl)))
+is_known WriteFault = inr (inr (inr (inr (inl refl))))
+is_known Memory = inr (inr (inr (inr (inr (inl refl)))))
+is_known Limit = inr (inr (inr (inr (inr (inr refl)))))
+
+-- no two statuses have one code
+pub same_code : (s t : Status) → code_of s ≡ code_of t → s ≡ t
+same_code Done Done e = refl
+same_code Usage Usage e = refl
+same_code ReadFault ReadFault e = refl
+same_code BadCapture BadCapture e = refl
+same_code WriteFault WriteFault e = refl
+same_code Memory Memory e = refl
+same_code Limit Limit e = refl
+same_code Done Usage e = absurd (cc)
+same_code Done ReadFault e = absurd (cc)
+same_code Done BadCapture e = absurd (cc)
+same_code Done WriteFault e = absurd (cc)
+same_code Done Memory e = absurd (cc)
+same_code Done Limit e = absurd (cc)
+same_code Usage Done e = absurd (cc)
+same_code Usage ReadFault e = absurd (cc)
+same_code Usage BadCapture e = absurd (cc)
+same_code Usage WriteFault e = absurd (cc)
+same_code Usage Memory e = absurd (cc)
+same_code Usage Limit e = absurd (cc)
+same_code ReadFault Done e = absurd (cc)
+same_code ReadFault Usage e = absurd (cc)
+same_code ReadFault BadCapture e = absurd (cc)
+same_code ReadFault WriteFault e = absurd (cc)
+same_code ReadFault Memory e = absurd (cc)
+same_code ReadFault Limit e = absurd (cc)
+same_code BadCapture Done e = absurd (cc)
+same_code BadCapture Usage e = absurd (cc)
+same_code BadCapture ReadFault e = absurd (cc)
+same_code BadCapture WriteFault e = absurd (cc)
+same_code BadCapture Memory e = absurd (cc)
+same_code BadCapture Limit e = absurd (cc)
+same_code WriteFault Done e = absurd (cc)
+same_code WriteFault Usage e = absurd (cc)
+same_code WriteFault ReadFault e = absurd (cc)
+same_code WriteFault BadCapture e = absurd (cc)
+same_code WriteFault Memory e = absurd (cc)
+same_code WriteFault Limit e = absurd (cc)
+same_code Memory Done e = absurd (cc)
+same_code Memory Usage e = absurd (cc)
+same_code Memory ReadFault e = absurd (cc)
+same_code Memory BadCapture e = absurd (cc)
+same_code Memory WriteFault e = absurd (cc)
+same_code Memory Limit e = absurd (cc)
+same_code Limit Done e = absurd (cc)
+same_code Limit Usage e = absurd (cc)
+same_code Limit ReadFault e = absurd (cc)
+same_code Limit BadCapture e = absurd (cc)
+same_code Limit WriteFault e = absurd (cc)
+same_code Limit Memory e = absurd (cc)
+
+-- what the program does, but for the files
+pub record Does (name : Option (List ℕ)) (told : Octets) (before now : Option (List ℕ)) (faults later : ℕ) (result : ℕ) : Type 0 where
+  pub shown : result ≡ 0 → ShowsFile name told before now
+  pub status : IfSome (due_status name told) (λ due. (result ≡ due) ⊎ (result ≡ 2) ⊎ (result ≡ 5) ⊎ (result ≡ 6))
+  pub usage : result ≡ 1 → name ≡ None
+  pub named : result ≡ 2 → IsSome name
+  pub write : result ≡ 5 → Rose faults later
+  pub usage_line : result ≡ 1 → Appends before now usage_line
+  pub read_line : result ≡ 2 → Appends before now (fault_line SourceFault)
+  pub line : (result ≡ 3) ⊎ (result ≡ 7) → RefusesFile name told before now
+  pub part : (result ≡ 5) ⊎ (result ≡ 6) → WritesDue name told before now
+
+replay_status : (name : List ℕ) (told : Octets) (s : Status) → IfSome told (λ octets. (s ≡ status_of (reading (octets name))) ⊎ (s ≡ ReadFault) ⊎ (s ≡ WriteFault) ⊎ (s ≡ Memory)) → IfSome (due_status (Some name) told) (λ due. (code_of s ≡ due) ⊎ (code_of s ≡ 2) ⊎ (code_of s ≡ 5) ⊎ (code_of s ≡ 6))
+replay_status name None s h = tt
+replay_status name (Some octets) s (inl e) = inl (ap code_of e)
+replay_status name (Some octets) s (inr (inl e)) = inr (inl (ap code_of e))
+replay_status name (Some octets) s (inr (inr (inl e))) = inr (inr (inl (ap code_of e)))
+replay_status name (Some octets) s (inr (inr (inr e))) = inr (inr (inr (ap code_of e)))
+
+either : (s a b : Status) → (code_of s ≡ code_of a) ⊎ (code_of s ≡ code_of b) → (s ≡ a) ⊎ (s ≡ b)
+either s a b (inl e) = inl (same_code s a e)
+either s a b (inr e) = inr (same_code s b e)
+
+pub does_replay : (name : List ℕ) (told : Octets) (before now : Option (List ℕ)) (faults later : ℕ) (s : Status) → IsReplaying name told before now faults later s → Does (Some name) told before now faults later (code_of s)
+does_replay name told before now faults later s replaying = record {
+  shown = λ e. replaying.shown (same_code s Done e);
+  status = replay_status name told s replaying.status;
+  usage = λ e. absurd (replaying.words (same_code s Usage e));
+  named = λ e. refl;
+  write = λ e. replaying.write (same_code s WriteFault e);
+  usage_line = λ e. absurd (replaying.words (same_code s Usage e));
+  read_line = λ e. replaying.read_line (same_code s ReadFault e);
+  line = λ e. replaying.line (either s BadCapture Limit e);
+  part = λ e. replaying.part (either s WriteFault Memory e);
+}
+
+usage_no : {A : Type 0} (s t : Status) → t ≢ Usage → t ≢ WriteFault → t ≢ Memory → (s ≡ Usage) ⊎ (s ≡ WriteFault) ⊎ (s ≡ Memory) → s ≡ t → A
+usage_no s t usage write memory (inl e) is = absurd (usage (sym is ∙ e))
+usage_no s t usage write memory (inr (inl e)) is = absurd (write (sym is ∙ e))
+usage_no s t usage write memory (inr (inr e)) is = absurd (memory (sym is ∙ e))
+
+usage_neither : {A : Type 0} (s : Status) → (s ≡ Usage) ⊎ (s ≡ WriteFault) ⊎ (s ≡ Memory) → (s ≡ BadCapture) ⊎ (s ≡ Limit) → A
+usage_neither s ends (inl is) = usage_no s BadCapture (λ e. cc) (λ e. cc) (λ e. cc) ends is
+usage_neither s ends (inr is) = usage_no s Limit (λ e. cc) (λ e. cc) (λ e. cc) ends is
+
+usage_status : (s : Status) → (s ≡ Usage) ⊎ (s ≡ WriteFault) ⊎ (s ≡ Memory) → (code_of s ≡ 1) ⊎ (code_of s ≡ 2) ⊎ (code_of s ≡ 5) ⊎ (code_of s ≡ 6)
+usage_status s (inl e) = inl (ap code_of e)
+usage_status s (inr (inl e)) = inr (inr (inl (ap code_of e)))
+usage_status s (inr (inr e)) = inr (inr (inr (ap code_of e)))
+
+pub does_usage : (told : Octets) (before now : Option (List ℕ)) (faults later : ℕ) (s : Status) → Says Usage usage_line before now faults later s → Does None told before now faults later (code_of s)
+does_usage told before now faults later s said = record {
+  shown = λ e. usage_no s Done (λ e. cc) (λ e. cc) (λ e. cc) said.ends (same_code s Done e);
+  status = usage_status s said.ends;
+  usage = λ e. refl;
+  named = λ e. usage_no s ReadFault (λ e. cc) (λ e. cc) (λ e. cc) said.ends (same_code s ReadFault e);
+  write = λ e. said.cause (same_code s WriteFault e);
+  usage_line = λ e. said.whole (same_code s Usage e);
+  read_line = λ e. usage_no s ReadFault (λ e. cc) (λ e. cc) (λ e. cc) said.ends (same_code s ReadFault e);
+  line = λ e. usage_neither s said.ends (either s BadCapture Limit e);
+  part = λ e. record { text = usage_line; due = refl; part = said.part (either s WriteFault Memory e) };
+}
+
+-- files that aren't opened don't fail
+pub usage_reads_nothing : {A : Type 0} (before now : Option (List ℕ)) (faults later : ℕ) (s : Status) → Says Usage usage_line before now faults later s → code_of s ≡ 2 → A
+usage_reads_nothing before now faults later s said e = usage_no s ReadFault (λ e. cc) (λ e. cc) (λ e. cc) said.ends (same_code s ReadFault e)
