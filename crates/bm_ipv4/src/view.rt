@@ -1,5 +1,5 @@
 //! A packet whose header was read.
-ghost use Rattle.std.specs.Prelude.{◌≡◌, ◌≤◌, ◌<◌, ◌^◌, ◌+◌, ◌/◌, ◌%◌, ◌||◌, ◌==◌, not, if◌then◌else◌, length, take};
+ghost use Rattle.std.specs.Prelude.{◌≡◌, ◌≤◌, ◌<◌, ◌^◌, ◌+◌, ◌/◌, ◌%◌, ◌||◌, ◌==◌, not, if◌then◌else◌, max, length, take, IfOk};
 ghost use Rattle.bm_ipv4.specs.Header.{ipv4_of};
 
 use crate::Ipv4Fault;
@@ -43,7 +43,8 @@ impl<'a> Model for Ipv4View<'a> {
 #[tactic(auto, unfolding(crate::specs::Header::ipv4_of))]
 pub fn read_ipv4(octets: &[u8]) -> Result<Ipv4View<'_>, Ipv4Fault>
     requires { length octets.now < 2 ^ 32 }
-    ensures { result ≡ ipv4_of octets.now }
+    ensures header { result ≡ ipv4_of octets.now }
+    ensures stated { IfOk result (λ view. view.stated_payload ≤ max 65535 (length octets.now)) }
 {
     if octets.len() < 20 {
         return Err(Ipv4Fault::Short);

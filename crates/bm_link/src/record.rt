@@ -1,5 +1,6 @@
 //! What a record holds.
-ghost use Rattle.std.specs.Prelude.{◌≡◌, ◌<◌, ◌^◌, length, IsTrue};
+ghost use Rattle.std.specs.Prelude.{◌≡◌, ◌<◌, ◌≤◌, ◌-◌, ◌^◌, length, IsTrue};
+ghost use Rattle.bm_link.specs.Fits.{FitsServices, IsPacketOf};
 ghost use Rattle.bm_link.specs.Links.{is_link};
 ghost use Rattle.bm_link.specs.Classes.{classified, goes_to, unsteered, link_reason, ipv4_reason, tcp_reason};
 
@@ -10,11 +11,13 @@ use bm_tcp::{TcpFault, read_tcp};
 
 /// What a record of this link type holds for the services, and its packet: a segment to one of them,
 /// or the first reason against steering it. A record that isn't steered has an empty packet.
-#[tactic(auto, unfolding(crate::specs::Classes::classified))]
+#[tactic(auto, using(crate::proofs::Classes::service), unfolding(crate::specs::Classes::classified))]
 pub fn classify<'a>(link: u16, octets: &'a [u8], vips: &[Vip]) -> (Body, &'a [u8])
     requires link { IsTrue (is_link link) }
     requires short { length octets.now < 2 ^ 32 }
-    ensures { (result.0, result.1.now) ≡ classified link vips.now octets.now }
+    ensures class { (result.0, result.1.now) ≡ classified link vips.now octets.now }
+    ensures fits { length octets.now ≤ 2 ^ 20 - 2 → FitsServices vips.now result.0 }
+    ensures packet { IsPacketOf result.0 result.1.now }
 {
     let part = match network_part(link, octets) {
         Ok(part) => part,
@@ -37,10 +40,11 @@ pub fn classify<'a>(link: u16, octets: &'a [u8], vips: &[Vip]) -> (Body, &'a [u8
     if !goes_to(vips, &segment.flow) {
         return unsteered(Reason::OtherDestination);
     }
-    if view.packet().len() > MAX_INNER as usize {
+    let packet = view.packet();
+    if packet.len() > MAX_INNER as usize {
         return unsteered(Reason::TooLong);
     }
-    (Body::Steerable(segment), view.packet())
+    (Body::Steerable(segment), packet)
 }
 
 /// A record that isn't steered has no packet.

@@ -1,5 +1,5 @@
 //! Reading a segment.
-ghost use Rattle.std.specs.Prelude.{◌≡◌};
+ghost use Rattle.std.specs.Prelude.{◌≡◌, ◌≤◌, ◌+◌, IfOk};
 ghost use Rattle.bm_tcp.specs.Header.{count_of, tcp_of};
 
 use crate::TcpFault;
@@ -13,7 +13,8 @@ use bm_ipv4::fields::{read_u16, read_u32};
 #[tactic(auto, unfolding(crate::specs::Header::tcp_of))]
 pub fn read_tcp(v: &Ipv4View<'_>) -> Result<Segment, TcpFault>
     requires { v.now.protocol ≡ 6 }
-    ensures { result ≡ tcp_of v.now }
+    ensures segment { result ≡ tcp_of v.now }
+    ensures length { IfOk result (λ s. s.len ≤ v.now.stated_payload + 2) }
 {
     let octets = v.payload();
     if octets.len() < 20 {

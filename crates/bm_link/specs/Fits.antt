@@ -1,0 +1,29 @@
+-- What is true of every record that is classified.
+use Rattle.std.specs.Prelude.{◌≡◌, ℕ, ◌≤◌, ◌⊎◌, false, List, [], ◌∷◌, length, Ok}
+use Rattle.bm_base.specs.declared.capture.Body.{Body}
+use Rattle.bm_base.specs.declared.capture.Body.TheVariants.{Steerable, Unsteered}
+use Rattle.bm_base.specs.declared.capture.Vip.{Vip}
+use Rattle.bm_base.specs.declared.flow.Flow.{Flow}
+use Rattle.bm_base.specs.declared.flow.Segment.{Segment}
+use Rattle.bm_ipv4.specs.Header.{Packet, ipv4_of}
+use Rattle.bm_tcp.specs.Header.{tcp_of}
+
+-- the flow goes to one of these services
+abbrev pub IsService : List Vip → Flow → Type 0
+IsService [] f = ⊥
+IsService (v ∷ vips) f = ((f.dst ≡ v.addr) × (f.dport ≡ v.port)) ⊎ IsService vips f
+
+-- a segment that is steered goes to a service, and takes at most 2^20 sequence numbers
+abbrev pub FitsServices : List Vip → Body → Type 0
+FitsServices vips (Steerable s) = IsService vips s.flow × (s.len ≤ 1048576)
+FitsServices vips (Unsteered why) = Unit {0}
+
+-- the packet is whole, of TCP, and reads as this segment
+abbrev pub ReadsAs : List ℕ → Segment → Type 0
+ReadsAs packet s =
+    (p : Packet) × ((ipv4_of packet ≡ Ok p) × (p.is_fragment ≡ false) × (p.protocol ≡ 6) × (tcp_of p ≡ Ok s))
+
+-- the packet of a record: one that is steered reads as its segment, and leaves room for a carrier header
+abbrev pub IsPacketOf : Body → List ℕ → Type 0
+IsPacketOf (Steerable s) packet = (length packet ≤ 65491) × ReadsAs packet s
+IsPacketOf (Unsteered why) packet = packet ≡ []
