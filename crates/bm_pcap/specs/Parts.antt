@@ -4,7 +4,7 @@ use Rattle.bm_pcap.specs.declared.fault.PcapFault.{PcapFault}
 use Rattle.bm_pcap.specs.declared.fault.PcapFault.TheVariants.{BadLength, Memory, ReadFault, TooLarge}
 use Rattle.bm_pcap.specs.declared.form.Form.{Form}
 use Rattle.bm_pcap.specs.declared.place.Place.{Place}
-use Rattle.bm_pcap.specs.Limits.{longest, most_records}
+use Rattle.bm_pcap.specs.Limits.{longest, most_records, last_moment}
 use Rattle.bm_pcap.specs.declared.step.Head.{Head}
 use Rattle.bm_pcap.specs.declared.step.Head.TheVariants as head
 use Rattle.bm_pcap.specs.declared.step.Step.{Step}
@@ -37,12 +37,12 @@ HeadGives (Some left) new form place (Err e) = next_of form place left ≡ Err e
 
 -- a header that is read on fits its place
 abbrev pub HeadFits : Place → Head → Type 0
-HeadFits place (head.States time len) = (place.number ≤ most_records) × (16 ≤ place.room) × (len ≤ longest)
+HeadFits place (head.States time len) = (place.number ≤ most_records) × (16 ≤ place.room) × (len ≤ longest) × (time ≤ last_moment)
 HeadFits place other = Unit {0}
 
 -- a record fits its place
 abbrev pub StepFits : Place → Step → Type 0
-StepFits place (step.Record time len) = (place.number ≤ most_records) × (16 + len ≤ place.room) × (len ≤ longest)
+StepFits place (step.Record time len) = (place.number ≤ most_records) × (16 + len ≤ place.room) × (len ≤ longest) × (time ≤ last_moment)
 StepFits place other = Unit {0}
 
 -- what a whole header of a record says at its place
@@ -51,3 +51,9 @@ stated form place header =
     if nat_lt longest (captured_length form header) then Err (BadLength place.number (captured_length form header))
     else if nat_lt place.room 16 then Err TooLarge
     else Ok (head.States (time_of form header) (captured_length form header))
+
+-- no captured time is above the last moment
+abbrev pub IsEarly : Head → Type 0
+IsEarly (head.States time len) = time ≤ last_moment
+IsEarly head.End = Unit {0}
+IsEarly head.Cut = Unit {0}

@@ -1,7 +1,8 @@
 //! What stands next in a capture.
 ghost use Rattle.std.specs.Prelude.{◌≡◌, ◌≤◌, ◌<◌, length, nat_lt, if◌then◌else◌, IfOk, IfErr, Ok, Err};
 ghost use Rattle.bm_pcap.specs.Causes.{HasStepCause, IsRecordFault};
-ghost use Rattle.bm_pcap.specs.Parts.{HeadGives, HeadFits, StepFits, stated};
+ghost use Rattle.bm_pcap.specs.Limits.{last_moment};
+ghost use Rattle.bm_pcap.specs.Parts.{HeadGives, HeadFits, IsEarly, StepFits, stated};
 ghost use Rattle.bm_pcap.specs.Reader.{StepGives};
 ghost use Rattle.bm_pcap.specs.Records.{time_of};
 
@@ -100,7 +101,8 @@ fn read_end<S: Source>(src: &mut S, form: &Form, place: &Place) -> Result<Head, 
 /// What a whole header of a record states.
 fn states(form: &Form, place: &Place, header: &[u8]) -> Result<Head, PcapFault>
     requires { length header.now ≡ 16 }
-    ensures { result ≡ stated form.now place.now header.now }
+    ensures stated { result ≡ stated form.now place.now header.now }
+    ensures time { IfOk result IsEarly }
 {
     let len = form.order.read_u32(header, 8);
     if len > LONGEST {
@@ -121,7 +123,8 @@ fn states(form: &Form, place: &Place, header: &[u8]) -> Result<Head, PcapFault>
 /// The captured time that a record's header states.
 fn time(form: &Form, header: &[u8]) -> u64
     requires { length header.now ≡ 16 }
-    ensures { result ≡ time_of form.now header.now }
+    ensures time { result ≡ time_of form.now header.now }
+    ensures early { result ≤ last_moment }
 {
     let seconds = u64::from(form.order.read_u32(header, 0));
     let fraction = u64::from(form.order.read_u32(header, 4));

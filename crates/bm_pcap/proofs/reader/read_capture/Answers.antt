@@ -37,7 +37,7 @@ loop-packets-preserved g c =
     let moment : c.in-Record.moment ≡ moment_of c.loop-packets.r.place given.0 =
     given.1.2 ∙ ap (λ (p : Place). p.last) place in
     let class : (c.classify-body.result.0, c.classify-body.result.1.now) ≡ classified c.loop-packets.r.form.link c.args.vips.now c.in-Record.octets.now =
-    c.classify-body.ensures ∙ ap (λ l. classified l c.args.vips.now c.in-Record.octets.now) (c.link-link.ensures.link ∙ ap (λ (x : Form). x.link) (sym c.loop-packets.invariant.form)) in
+    c.classify-body.ensures.class ∙ ap (λ l. classified l c.args.vips.now c.in-Record.octets.now) (c.link-link.ensures.link ∙ ap (λ (x : Form). x.link) (sym c.loop-packets.invariant.form)) in
     let number = ap (λ (p : Place). p.number) place in
     record {
       so_far = λ octets stands. rw (c.in_ok-push-in-Record.ensures.items, c.in_ok-push-in-Record-2.ensures.ok, f.2.1, place) (goes_on _ _ c.loop-packets.r.form c.args.vips.now _ c.loop-packets.r.place c.loop-packets.records.items c.loop-packets.packets given.0 c.in-Record.octets.now _ c.in-Record.moment c.classify-body.result.0 c.classify-body.result.1.now (c.loop-packets.invariant.so_far octets stands) f.0 f.2.0.0 given.1.3 moment class);

@@ -17,4 +17,4 @@ returns-else-count-place-clause-gives g c =
 
 pub returns-clause-gives : goal.returns-clause-gives
 returns-clause-gives g c =
-    head_stated _ _ c.args.form.now c.args.place.now _ _ c.states.result c.fill_within.auto.buf c.in_ok-count.ensures.octets c.if-count-lt16.false c.if-place-gt-MOST_RECORDS.false c.states.ensures
+    head_stated _ _ c.args.form.now c.args.place.now _ _ c.states.result c.fill_within.auto.buf c.in_ok-count.ensures.octets c.if-count-lt16.false c.if-place-gt-MOST_RECORDS.false c.states.ensures.stated
