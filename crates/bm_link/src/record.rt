@@ -1,6 +1,7 @@
 //! What a record holds.
-ghost use Rattle.std.specs.Prelude.{◌≡◌, ◌<◌, ◌^◌, ℕ, length, IsTrue};
+ghost use Rattle.std.specs.Prelude.{◌≡◌, ◌≤◌, ◌<◌, ◌^◌, ℕ, length, IsTrue};
 ghost use Rattle.bm_base.specs.Captures.{IsFit};
+ghost use Rattle.bm_link.specs.Fits.{IsPacketOf};
 ghost use Rattle.bm_link.specs.Links.{is_link};
 ghost use Rattle.bm_link.specs.Classes.{classified, goes_to, unsteered, link_reason, ipv4_reason, tcp_reason};
 
@@ -17,6 +18,7 @@ pub fn classify<'a>(link: u16, octets: &'a [u8], vips: &[Vip]) -> (Body, &'a [u8
     requires short { length octets.now < 2 ^ 32 }
     ensures class { (result.0, result.1.now) ≡ classified link vips.now octets.now }
     ensures fit { (moment : ℕ) → IsFit vips.now (record { moment = record { 0 = moment }; body = result.0 }) }
+    ensures packet { IsPacketOf result.0 result.1.now }
 {
     let part = match network_part(link, octets) {
         Ok(part) => part,
@@ -39,10 +41,11 @@ pub fn classify<'a>(link: u16, octets: &'a [u8], vips: &[Vip]) -> (Body, &'a [u8
     if !goes_to(vips, &segment.flow) {
         return unsteered(Reason::OtherDestination);
     }
-    if view.packet().len() > MAX_INNER as usize {
+    let packet = view.packet();
+    if packet.len() > MAX_INNER as usize {
         return unsteered(Reason::TooLong);
     }
-    (Body::Steerable(segment), view.packet())
+    (Body::Steerable(segment), packet)
 }
 
 /// A record that isn't steered has no packet.

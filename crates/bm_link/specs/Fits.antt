@@ -1,0 +1,17 @@
+-- What the packet of a record is.
+use Rattle.std.specs.Prelude.{◌≡◌, ℕ, ◌≤◌, false, List, [], length, Ok}
+use Rattle.bm_base.specs.declared.capture.Body.{Body}
+use Rattle.bm_base.specs.declared.capture.Body.TheVariants.{Steerable, Unsteered}
+use Rattle.bm_base.specs.declared.flow.Segment.{Segment}
+use Rattle.bm_ipv4.specs.Header.{Packet, ipv4_of}
+use Rattle.bm_tcp.specs.Header.{tcp_of}
+
+-- the packet is whole, of TCP, and reads as this segment
+abbrev pub ReadsAs : List ℕ → Segment → Type 0
+ReadsAs packet s =
+    (p : Packet) × ((ipv4_of packet ≡ Ok p) × (p.is_fragment ≡ false) × (p.protocol ≡ 6) × (tcp_of p ≡ Ok s))
+
+-- the packet of a record: one that is steered reads as its segment, and leaves room for a carrier header
+abbrev pub IsPacketOf : Body → List ℕ → Type 0
+IsPacketOf (Steerable s) packet = (length packet ≤ 65491) × ReadsAs packet s
+IsPacketOf (Unsteered why) packet = packet ≡ []
