@@ -47,7 +47,8 @@ impl Controller {
         requires buckets { IsWithin 1 65536 buckets }
         requires servers { 0 < length servers.now }
         requires rising { RiseFrom 0 servers.now }
-        ensures { IfOk result (λ controller. controller ≡ record { buckets = buckets; servers = servers.now; changes = [] }) }
+        ensures { IfOk result (λ controller. controller
+            ≡ record { buckets = buckets; servers = servers.now; changes = [] }) }
     {
         Ok(Controller {
             plan: Plan::new(alloc, buckets, servers)?,
@@ -62,7 +63,8 @@ impl Controller {
         requires { IsWithin 1 1024 s.0 }
         ensures ok { OnOk result (self.new ≡ with_change self.old (commands.addition self.old at s)) }
         ensures accepted { OnOk result (commands.add_refusal self.old at s ≡ None) }
-        ensures refused { IfErr result (λ refusal. refusal ≢ memory → commands.add_refusal self.old at s ≡ Some refusal) }
+        ensures refused { IfErr result (λ refusal. refusal ≢ memory
+            → commands.add_refusal self.old at s ≡ Some refusal) }
         ensures err { OnErr result (self.new ≡ self.old) }
     {
         if self.knows(s) {
@@ -82,7 +84,8 @@ impl Controller {
     pub fn drain(&mut self, at: Moment, s: ServerId) -> Result<(), Refusal>
         ensures ok { OnOk result (self.new ≡ with_change self.old (commands.removal self.old at s)) }
         ensures accepted { OnOk result (commands.drain_refusal self.old at s ≡ None) }
-        ensures refused { IfErr result (λ refusal. refusal ≢ memory → commands.drain_refusal self.old at s ≡ Some refusal) }
+        ensures refused { IfErr result (λ refusal. refusal ≢ memory
+            → commands.drain_refusal self.old at s ≡ Some refusal) }
         ensures err { OnErr result (self.new ≡ self.old) }
     {
         if !self.knows(s) {
@@ -106,7 +109,8 @@ impl Controller {
     pub fn shift(&mut self, at: Moment, bucket: u32, s: ServerId) -> Result<(), Refusal>
         ensures ok { OnOk result (self.new ≡ with_change self.old (commands.shift_of at bucket s)) }
         ensures accepted { OnOk result (commands.shift_refusal self.old at bucket s ≡ None) }
-        ensures refused { IfErr result (λ refusal. refusal ≢ memory → commands.shift_refusal self.old at bucket s ≡ Some refusal) }
+        ensures refused { IfErr result (λ refusal. refusal ≢ memory
+            → commands.shift_refusal self.old at bucket s ≡ Some refusal) }
         ensures err { OnErr result (self.new ≡ self.old) }
     {
         if bucket >= self.plan.buckets() {

@@ -29,8 +29,10 @@ pub fn moves(
     requires total { sum quotas.now ≡ length owner.now }
     requires buckets { length owner.now ≤ 65536 }
 
-    ensures chosen { IfOk result (λ moves. moves.items ≡ rule.rebalancing owner.now active.now quotas.now) }
-    ensures reach { IfOk result (λ moves. rule.ReachQuotas owner.now active.now quotas.now moves.items) }
+    ensures chosen { IfOk result (λ moves. moves.items
+        ≡ rule.rebalancing owner.now active.now quotas.now) }
+    ensures reach { IfOk result (λ moves.
+        rule.ReachQuotas owner.now active.now quotas.now moves.items) }
 
     // They are as many as the servers own above their quotas, together.
     ensures surpluses { IfOk result (λ moves. (n : ℕ) → All (λ s. s.0 < n) owner.now
@@ -38,7 +40,8 @@ pub fn moves(
 
     // No list of moves that reaches the quotas is shorter.
     ensures least { IfOk result (λ moves. (others : List Move)
-        → rule.ReachQuotas owner.now active.now quotas.now others → length moves.items ≤ length others) }
+        → rule.ReachQuotas owner.now active.now quotas.now others
+        → length moves.items ≤ length others) }
 {
     let mut rooms = rooms_of(alloc, active, quotas)?;
     let buckets = give(alloc, owner, rooms.as_mut_slice())?;
@@ -51,7 +54,8 @@ fn rooms_of(alloc: Global, active: &[ServerId], quotas: &[u32]) -> Result<Vec<u3
     requires rising { RiseFrom 0 active.now }
     requires count { length quotas.now ≡ length active.now }
     ensures count { IfOk result (λ rooms. vec_len rooms ≡ NUMBERS) }
-    ensures each { IfOk result (λ rooms. (s : ServerId) → room_in rooms.items s ≡ rule.quota_of active.now quotas.now s) }
+    ensures each { IfOk result (λ rooms. (s : ServerId)
+        → room_in rooms.items s ≡ rule.quota_of active.now quotas.now s) }
 {
     let mut rooms = zeros(alloc, NUMBERS)?;
     for (i, s) in active.iter().enumerate() {
@@ -72,7 +76,8 @@ fn give(alloc: Global, owner: &[ServerId], rooms: &mut [u32]) -> Result<Vec<u32>
     requires numbers { length rooms.old ≡ NUMBERS }
     requires buckets { length owner.now ≤ 65536 }
     ensures given { IfOk result (λ buckets. buckets.items ≡ given (room_in rooms.old) 0 owner.now) }
-    ensures left { OnOk result ((s : ServerId) → room_in rooms.new s ≡ left (room_in rooms.old) owner.now s) }
+    ensures left { OnOk result ((s : ServerId)
+        → room_in rooms.new s ≡ left (room_in rooms.old) owner.now s) }
 {
     let mut buckets = Vec::new(alloc);
     for (bucket, s) in owner.iter().enumerate() {
@@ -109,7 +114,8 @@ fn takers(alloc: Global, active: &[ServerId], rooms: &[u32]) -> Result<Vec<Serve
 
 /// Each bucket goes to the server at its place.
 fn moves_to(alloc: Global, buckets: &[u32], takers: &[ServerId]) -> Result<Vec<Move>, Memory>
-    ensures { IfOk result (λ moves. moves.items ≡ map (λ p. record { bucket = p.0; to = p.1 }) (zip buckets.now takers.now)) }
+    ensures { IfOk result (λ moves. moves.items
+        ≡ map (λ p. record { bucket = p.0; to = p.1 }) (zip buckets.now takers.now)) }
 {
     let moves = buckets
         .iter()

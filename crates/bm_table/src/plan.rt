@@ -141,7 +141,8 @@ impl Plan {
         requires buckets { IsWithin 1 65536 buckets }
         requires servers { 0 < length servers.now }
         requires rising { RiseFrom 0 servers.now }
-        ensures { IfOk result (λ plan. plan ≡ record { buckets = buckets; servers = servers.now; changes = [] }) }
+        ensures { IfOk result (λ plan. plan
+            ≡ record { buckets = buckets; servers = servers.now; changes = [] }) }
     {
         Ok(Plan {
             buckets,
@@ -242,7 +243,8 @@ impl Plan {
 
     /// Whether the change may come next.
     fn admit(&self, change: &Change) -> Result<(), PlanFault>
-        ensures { MatchResult result (λ _. refusal self.now change.now ≡ None) (λ fault. refusal self.now change.now ≡ Some fault) }
+        ensures { MatchResult result (λ _. refusal self.now change.now ≡ None)
+            (λ fault. refusal self.now change.now ≡ Some fault) }
     {
         let moves = change.moves.items();
         if change.moment.0 < self.last_moment().0 {

@@ -39,7 +39,8 @@ impl Table {
     /// The table of a plan without changes, bucket b on server number `b mod n` of the list.
     pub(crate) fn over(alloc: Global, buckets: u32, servers: &[ServerId]) -> Result<Table, Memory>
         requires { 0 < length servers.now }
-        ensures { IfOk result (IsTable (record { buckets = buckets; servers = servers.now; changes = [] }) 0) }
+        ensures { IfOk result (IsTable
+            (record { buckets = buckets; servers = servers.now; changes = [] }) 0) }
     {
         let mut entries = Vec::with_capacity(alloc, buckets as usize)?;
         for bucket in 0..buckets {
@@ -63,7 +64,8 @@ impl Table {
             ≡ option_map (after_moves change.now.moment.0 change.now.moves b) (slice_get self.old b) }
 
         // From the table of a version a plan's next change makes the table of the next version.
-        ensures next { (plan : Planned) (v : ℕ) → IsPlan plan → next_change plan v ≡ Some change.now
+        ensures next { (plan : Planned) (v : ℕ) → IsPlan plan
+            → next_change plan v ≡ Some change.now
             → IsTable plan v self.old → IsTable plan (v + 1) self.new }
     {
         carry_out(
@@ -119,7 +121,8 @@ impl Table {
 
 /// Carries out the moves of one moment in their order.
 fn carry_out(entries: &mut [Entry], moves: &[Move], at: Moment)
-    ensures { (b : ℕ) → slice_get entries.new b ≡ option_map (after_moves at.0 moves.now b) (slice_get entries.old b) }
+    ensures { (b : ℕ) → slice_get entries.new b
+        ≡ option_map (after_moves at.0 moves.now b) (slice_get entries.old b) }
 {
     for m in moves {
         carry(entries, m, at);
@@ -128,7 +131,8 @@ fn carry_out(entries: &mut [Entry], moves: &[Move], at: Moment)
 
 /// Carries out one move.
 fn carry(entries: &mut [Entry], m: &Move, at: Moment)
-    ensures { (b : ℕ) → slice_get entries.new b ≡ option_map (after_moves at.0 (m.now ∷ []) b) (slice_get entries.old b) }
+    ensures { (b : ℕ) → slice_get entries.new b
+        ≡ option_map (after_moves at.0 (m.now ∷ []) b) (slice_get entries.old b) }
 {
     let place = m.bucket as usize;
     if place < entries.len() {

@@ -41,6 +41,7 @@ fn a_plan_refuses_changes_in_order_and_its_table_has_the_last_move(
         assert!(rt; plan.push(next) == want, "at {moment}");
     }
     assert!(rt; plan.versions() == 2);
+    assert_eq!(rt; plan.owners()?.len(), 8);
     table.apply(&plan.copy_change(Version(1))?);
     table.apply(&plan.copy_change(Version(2))?);
     let want = Entry {
