@@ -39,7 +39,7 @@ same_flow_refl a = grind (arith, nat_tests)
 -- VERSIONS
 
 -- publishing only adds
-newest_grows : (stage : Stage) (past : List Event) (clock : ℕ) (what : What) → MayCome stage past clock what → newest past ≤ published_by what (newest past)
+pub newest_grows : (stage : Stage) (past : List Event) (clock : ℕ) (what : What) → MayCome stage past clock what → newest past ≤ published_by what (newest past)
 newest_grows stage past clock (Publish v) may = omega arith
 newest_grows stage past clock (Switch m v) may = omega arith
 newest_grows stage past clock (Steer k m) may = omega arith

@@ -45,7 +45,7 @@ moved_orderly = record {
   drained = λ n v b s is le lt inside. absurd (both_ways _ (never_drained n s) is);
 }
 
-moved_sound : IsSound moved
+pub moved_sound : IsSound moved
 moved_sound = record {
   setting = IsSetting-plain_setting;
   buckets = refl;
