@@ -151,8 +151,8 @@ replaying_shown name told before now faults later capture result read showing = 
   read_line = λ is. no_other ReadFault result (λ e. cc) (λ e. cc) (λ e. cc) showing.ends is;
   line = λ is. shown_no_line result showing.ends is;
   part = λ is.
-    let part = showing.part is in
-    record { text = part.octets; due = shown_due name told capture part.octets read part.report; part = part.written };
+      let part = showing.part is in
+      record { text = part.octets; due = shown_due name told capture part.octets read part.report; part = part.written };
   write = showing.cause;
 }
 
@@ -204,8 +204,8 @@ replaying_refused name told before now faults later fault result read refused = 
   words = λ is. refused_no fault Usage result (λ e. cc) (λ e. cc) (not_usage fault) refused.ends is;
   shown = λ is. refused_no fault Done result (λ e. cc) (λ e. cc) (not_done fault) refused.ends is;
   read_line = λ is.
-    let own = own_status (fault_status fault) result (λ e. cc) (λ e. cc) refused.ends in
-    subst (λ f. Appends before now (fault_line f)) (source_fault fault (sym own ∙ is)) (refused.whole own (λ e. cc));
+      let own = own_status (fault_status fault) result (λ e. cc) (λ e. cc) refused.ends in
+      subst (λ f. Appends before now (fault_line f)) (source_fault fault (sym own ∙ is)) (refused.whole own (λ e. cc));
   line = λ is. either_line name told before now faults later fault result read refused is;
   part = λ is. record { text = fault_line fault; due = refused_due name told fault read; part = refused.part is };
   write = refused.cause;

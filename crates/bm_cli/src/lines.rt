@@ -45,9 +45,7 @@ fn line_of(alloc: Global, fault: PcapFault) -> Result<String, AllocError>
     match fault {
         PcapFault::NotACapture => String::from_str(alloc, "beamer: capture: not a capture\n"),
         PcapFault::BadVersion => String::from_str(alloc, "beamer: capture: bad version\n"),
-        PcapFault::BadLink(link) => {
-            format!(in alloc; "beamer: capture: bad link type {link}\n")
-        }
+        PcapFault::BadLink(link) => { format!(in alloc; "beamer: capture: bad link type {link}\n") }
         PcapFault::BadLength { record, length } => {
             format!(in alloc; "beamer: capture record {record}: bad length {length}\n")
         }

@@ -35,11 +35,7 @@ pub(crate) fn read_file<F: Files>(
 }
 
 /// Reads a capture, and gives its source back.
-fn read_source<S: Source>(
-    alloc: Global,
-    src: S,
-    vips: &[Vip],
-) -> (S, Result<Capture, PcapFault>)
+fn read_source<S: Source>(alloc: Global, src: S, vips: &[Vip]) -> (S, Result<Capture, PcapFault>)
     ensures capture { ReadsSource (S.left src) vips.now result.1 }
     ensures replayable { IfOk result.1 (IsReplayable vips.now) }
     ensures cause { HasStepCause (S.faults src) (S.faults result.0) result.1 }

@@ -60,7 +60,10 @@ fn words_of_no_form_get_the_usage_line(rt: HostRuntime) -> Result<(), Fail> {
         let mut out = MemSink::new(alloc, Vec::new(alloc));
         let status = beamer(alloc, &words(alloc, row)?, &mut files, &mut out);
         assert_eq!(rt; status, 1);
-        assert_eq!(rt; out.written(), b"usage: beamer replay CAPTURE [SCRIPT] | run CAPTURE SCRIPT | load N\n".as_slice());
+        assert_eq!(rt;
+            out.written(),
+            b"usage: beamer replay CAPTURE [SCRIPT] | run CAPTURE SCRIPT | load N\n".as_slice()
+        );
     }
     Ok(())
 }

@@ -53,12 +53,7 @@ pub fn beamer<F: Files, K: Sink>(alloc: Global, words: &[String], files: &mut F,
 }
 
 /// Replays the capture of this name.
-fn replay_file<F: Files, K: Sink>(
-    alloc: Global,
-    name: &str,
-    files: &mut F,
-    out: &mut K,
-) -> Status
+fn replay_file<F: Files, K: Sink>(alloc: Global, name: &str, files: &mut F, out: &mut K) -> Status
     ensures replaying { IsReplaying name.now (F.octets files.old) (K.written out.old) (K.written out.new) (K.faults out.old) (K.faults out.new) result }
     ensures read { result ≡ Status.ReadFault → Rose (F.faults files.old) (F.faults files.new) }
     ensures asked { AsksPrefix (F.asked files.old) (F.asked files.new) (name.now ∷ []) }

@@ -21,7 +21,7 @@ returns-in-Ok-read_file-clause-replaying g c =
     let vips = c.items.ensures ∙ ap (λ (s : Script). s.setting.vips) c.in-Ok.ensures in
     let read = subst (λ v. ReadsFile (g.F.Files.octets c.args.files.now) c.args.name.now v (Ok c.in-Ok-read_file.capture)) vips c.in-Ok-read_file.ensures.capture in
     replaying_shown c.args.name.now _ _ _ _ _ c.in-Ok-read_file.capture c.show.result read
-      (subst (λ (s : Script). IsShowing (record { script = s; capture = c.in-Ok-read_file.capture }) (g.K.Sink.written c.args.out.now) (g.K.Sink.written c.show.new.out) (g.K.Sink.faults c.args.out.now) (g.K.Sink.faults c.show.new.out) c.show.result) c.in-Ok.ensures c.show.ensures)
+    (subst (λ (s : Script). IsShowing (record { script = s; capture = c.in-Ok-read_file.capture }) (g.K.Sink.written c.args.out.now) (g.K.Sink.written c.show.new.out) (g.K.Sink.faults c.args.out.now) (g.K.Sink.faults c.show.new.out) c.show.result) c.in-Ok.ensures c.show.ensures)
 
 pub returns-in-Err-clause-replaying : goal.returns-in-Err-clause-replaying
 returns-in-Err-clause-replaying g c =
