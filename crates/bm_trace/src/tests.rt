@@ -198,10 +198,9 @@ fn check(
 }
 
 #[test]
-fn the_table_stays(rt: HostRuntime) -> Result<(), Fail> {
+fn a_connection_of_two_packets(rt: HostRuntime) -> Result<(), Fail> {
     let alloc = rt.alloc();
-    // a connection of two packets
-    let plan_0 = plan(alloc, false)?;
+    let buckets = plan(alloc, false)?;
     let events = [
         steer(1, 1, 0),
         direct(2, 1, 1, Verdict::Accept),
@@ -212,28 +211,36 @@ fn the_table_stays(rt: HostRuntime) -> Result<(), Fail> {
         &rt,
         alloc,
         false,
-        plan_0,
+        buckets,
         &[packet(1000, SYN, 100, 1), packet(1000, PSH_ACK, 101, 10)],
         None,
         &events,
         "1 steer 1 0 0 4\n2 arrive 1 direct 1 accept\n1001 steer 2 0 0 4\n1002 arrive 2 direct 1 process advance\npacket 1 accepted 1\npacket 2 processed 1\ntotal packets 2 steered 2 unsteered 0 accepted 1 processed 1 forwarded 0 reset 0 dropped 0 lost 0 stray 0\n",
-    )?;
-    // an empty capture
-    let plan_1 = plan(alloc, false)?;
+    )
+}
+
+#[test]
+fn an_empty_capture_has_totals_alone(rt: HostRuntime) -> Result<(), Fail> {
+    let alloc = rt.alloc();
+    let buckets = plan(alloc, false)?;
     let events: [Event; 0] = [];
     let records: [Record; 0] = [];
     check(
         &rt,
         alloc,
         false,
-        plan_1,
+        buckets,
         &records,
         None,
         &events,
         "total packets 0 steered 0 unsteered 0 accepted 0 processed 0 forwarded 0 reset 0 dropped 0 lost 0 stray 0\n",
-    )?;
-    // eight connections, each in a bucket of its own
-    let plan_2 = plan(alloc, false)?;
+    )
+}
+
+#[test]
+fn eight_connections_have_a_bucket_each(rt: HostRuntime) -> Result<(), Fail> {
+    let alloc = rt.alloc();
+    let buckets = plan(alloc, false)?;
     let events = [
         steer(1, 1, 0),
         direct(2, 1, 1, Verdict::Accept),
@@ -256,7 +263,7 @@ fn the_table_stays(rt: HostRuntime) -> Result<(), Fail> {
         &rt,
         alloc,
         false,
-        plan_2,
+        buckets,
         &[
             packet(1000, SYN, 100, 1),
             packet(1001, SYN, 100, 1),
@@ -270,9 +277,13 @@ fn the_table_stays(rt: HostRuntime) -> Result<(), Fail> {
         None,
         &events,
         "1 steer 1 0 0 4\n2 arrive 1 direct 1 accept\n1001 steer 2 0 0 1\n1002 arrive 2 direct 2 accept\n2001 steer 3 0 0 6\n2002 arrive 3 direct 1 accept\n3001 steer 4 0 0 3\n3002 arrive 4 direct 2 accept\n4001 steer 5 0 0 0\n4002 arrive 5 direct 1 accept\n5001 steer 6 0 0 5\n5002 arrive 6 direct 2 accept\n6001 steer 7 0 0 2\n6002 arrive 7 direct 1 accept\n7001 steer 8 0 0 7\n7002 arrive 8 direct 2 accept\npacket 1 accepted 1\npacket 2 accepted 2\npacket 3 accepted 1\npacket 4 accepted 2\npacket 5 accepted 1\npacket 6 accepted 2\npacket 7 accepted 1\npacket 8 accepted 2\ntotal packets 8 steered 8 unsteered 0 accepted 8 processed 0 forwarded 0 reset 0 dropped 0 lost 0 stray 0\n",
-    )?;
-    // data that no server accepted
-    let plan_3 = plan(alloc, false)?;
+    )
+}
+
+#[test]
+fn data_that_no_server_accepted_is_reset(rt: HostRuntime) -> Result<(), Fail> {
+    let alloc = rt.alloc();
+    let buckets = plan(alloc, false)?;
     let events = [
         steer(1, 1, 0),
         direct(2, 1, 2, Verdict::Reset(Why::NoPrevious)),
@@ -281,14 +292,18 @@ fn the_table_stays(rt: HostRuntime) -> Result<(), Fail> {
         &rt,
         alloc,
         false,
-        plan_3,
+        buckets,
         &[packet(1001, PSH_ACK, 101, 10)],
         None,
         &events,
         "1 steer 1 0 0 1\n2 arrive 1 direct 2 reset no-previous because never-accepted\npacket 1 reset 2\ntotal packets 1 steered 1 unsteered 0 accepted 0 processed 0 forwarded 0 reset 1 dropped 0 lost 0 stray 0\n",
-    )?;
-    // copies that are lost and repeated
-    let plan_4 = plan(alloc, false)?;
+    )
+}
+
+#[test]
+fn copies_are_lost_and_repeated(rt: HostRuntime) -> Result<(), Fail> {
+    let alloc = rt.alloc();
+    let buckets = plan(alloc, false)?;
     let events = [
         steer(1, 1, 0),
         direct(2, 1, 1, Verdict::Accept),
@@ -309,7 +324,7 @@ fn the_table_stays(rt: HostRuntime) -> Result<(), Fail> {
         &rt,
         alloc,
         false,
-        plan_4,
+        buckets,
         &[
             packet(1000, SYN, 100, 1),
             packet(1000, PSH_ACK, 101, 10),
@@ -318,9 +333,13 @@ fn the_table_stays(rt: HostRuntime) -> Result<(), Fail> {
         None,
         &events,
         "1 steer 1 0 0 4\n2 arrive 1 direct 1 accept\n1001 steer 2 0 0 4\n1002 lost 2 direct\n2001 steer 3 0 0 4\n2002 arrive 3 direct 1 process advance\n2003 arrive 3 direct 1 process duplicate\n2004 arrive 3 direct 1 process duplicate\npacket 1 accepted 1\npacket 2 lost\npacket 3 processed 1 processed 1 processed 1\ntotal packets 3 steered 3 unsteered 0 accepted 1 processed 3 forwarded 0 reset 0 dropped 0 lost 1 stray 0\n",
-    )?;
-    // records that aren't steered, and one that is cut short
-    let plan_5 = plan(alloc, false)?;
+    )
+}
+
+#[test]
+fn records_are_not_steered_and_cut_short(rt: HostRuntime) -> Result<(), Fail> {
+    let alloc = rt.alloc();
+    let buckets = plan(alloc, false)?;
     let events = [
         steer(4001, 5, 0),
         direct(4002, 5, 1, Verdict::Accept),
@@ -331,7 +350,7 @@ fn the_table_stays(rt: HostRuntime) -> Result<(), Fail> {
         &rt,
         alloc,
         false,
-        plan_5,
+        buckets,
         &[
             unsteered(Reason::NotIpv4),
             unsteered(Reason::NotIpv4),
@@ -347,11 +366,10 @@ fn the_table_stays(rt: HostRuntime) -> Result<(), Fail> {
 }
 
 #[test]
-fn buckets_move(rt: HostRuntime) -> Result<(), Fail> {
+fn the_previous_server_takes_the_packet(rt: HostRuntime) -> Result<(), Fail> {
     let alloc = rt.alloc();
-    // the previous server takes the packet
-    let mut plan_0 = plan(alloc, false)?;
-    change(&mut plan_0, alloc, 500, Kind::Shift, &[(4, 2)])?;
+    let mut buckets = plan(alloc, false)?;
+    change(&mut buckets, alloc, 500, Kind::Shift, &[(4, 2)])?;
     let events = [
         steer(1, 1, 0),
         direct(2, 1, 1, Verdict::Accept),
@@ -365,15 +383,19 @@ fn buckets_move(rt: HostRuntime) -> Result<(), Fail> {
         &rt,
         alloc,
         false,
-        plan_0,
+        buckets,
         &[packet(1000, SYN, 100, 1), packet(1000, PSH_ACK, 101, 10)],
         None,
         &events,
         "1 steer 1 0 0 4\n2 arrive 1 direct 1 accept\n501 publish 1\n502 switch 0 1\n1001 steer 2 0 1 4\n1002 arrive 2 direct 2 forward 1\n1003 arrive 2 chained 1 process advance\npacket 1 accepted 1\npacket 2 processed 1\ntotal packets 2 steered 2 unsteered 0 accepted 1 processed 1 forwarded 1 reset 0 dropped 0 lost 0 stray 0\n",
-    )?;
-    // the chain ends with the timeout
-    let mut plan_1 = plan(alloc, false)?;
-    change(&mut plan_1, alloc, 500, Kind::Shift, &[(4, 2)])?;
+    )
+}
+
+#[test]
+fn the_chain_ends_with_the_timeout(rt: HostRuntime) -> Result<(), Fail> {
+    let alloc = rt.alloc();
+    let mut buckets = plan(alloc, false)?;
+    change(&mut buckets, alloc, 500, Kind::Shift, &[(4, 2)])?;
     let events = [
         steer(1, 1, 0),
         direct(2, 1, 1, Verdict::Accept),
@@ -389,7 +411,7 @@ fn buckets_move(rt: HostRuntime) -> Result<(), Fail> {
         &rt,
         alloc,
         true,
-        plan_1,
+        buckets,
         &[
             packet(1000, SYN, 100, 1),
             packet(1000, PSH_ACK, 101, 10),
@@ -398,11 +420,15 @@ fn buckets_move(rt: HostRuntime) -> Result<(), Fail> {
         None,
         &events,
         "1 steer 1 0 0 4\n2 arrive 1 direct 1 accept\n501 publish 1\n502 switch 0 1\n1000000499 steer 2 0 1 4\n1000000500 arrive 2 direct 2 forward 1\n1000000501 arrive 2 chained 1 process advance\n1000000502 steer 3 0 1 4\n1000000503 arrive 3 direct 2 reset chain-expired because chain-late\npacket 1 accepted 1\npacket 2 processed 1\npacket 3 reset 2\ntotal packets 3 steered 3 unsteered 0 accepted 1 processed 1 forwarded 1 reset 1 dropped 0 lost 0 stray 0\n",
-    )?;
-    // the bucket moved twice
-    let mut plan_2 = plan(alloc, true)?;
-    change(&mut plan_2, alloc, 500, Kind::Shift, &[(4, 3)])?;
-    change(&mut plan_2, alloc, 600, Kind::Shift, &[(4, 1)])?;
+    )
+}
+
+#[test]
+fn a_bucket_moved_twice(rt: HostRuntime) -> Result<(), Fail> {
+    let alloc = rt.alloc();
+    let mut buckets = plan(alloc, true)?;
+    change(&mut buckets, alloc, 500, Kind::Shift, &[(4, 3)])?;
+    change(&mut buckets, alloc, 600, Kind::Shift, &[(4, 1)])?;
     let events = [
         steer(1, 1, 0),
         direct(2, 1, 2, Verdict::Accept),
@@ -418,15 +444,19 @@ fn buckets_move(rt: HostRuntime) -> Result<(), Fail> {
         &rt,
         alloc,
         false,
-        plan_2,
+        buckets,
         &[packet(1000, SYN, 100, 1), packet(1000, PSH_ACK, 101, 10)],
         None,
         &events,
         "1 steer 1 0 0 4\n2 arrive 1 direct 2 accept\n501 publish 1\n502 switch 0 1\n601 publish 2\n602 switch 0 2\n1001 steer 2 0 2 4\n1002 arrive 2 direct 1 forward 3\n1003 arrive 2 chained 3 reset chained-unknown because moved-twice\npacket 1 accepted 2\npacket 2 reset 3\ntotal packets 2 steered 2 unsteered 0 accepted 1 processed 0 forwarded 1 reset 1 dropped 0 lost 0 stray 0\n",
-    )?;
-    // a mux is behind
-    let mut plan_3 = plan(alloc, false)?;
-    change(&mut plan_3, alloc, 0, Kind::Shift, &[(4, 2)])?;
+    )
+}
+
+#[test]
+fn a_mux_is_behind(rt: HostRuntime) -> Result<(), Fail> {
+    let alloc = rt.alloc();
+    let mut buckets = plan(alloc, false)?;
+    change(&mut buckets, alloc, 0, Kind::Shift, &[(4, 2)])?;
     let events = [
         publish(1, 1),
         switch(2, 1, 1),
@@ -440,15 +470,19 @@ fn buckets_move(rt: HostRuntime) -> Result<(), Fail> {
         &rt,
         alloc,
         false,
-        plan_3,
+        buckets,
         &[packet(1000, SYN, 100, 1), packet(1000, PSH_ACK, 101, 10)],
         None,
         &events,
         "1 publish 1\n2 switch 1 1\n3 steer 1 1 1 4\n4 arrive 1 direct 2 accept\n1001 steer 2 0 0 4\n1002 arrive 2 direct 1 reset no-previous because stale-mux\n1000001 switch 0 1\npacket 1 accepted 2\npacket 2 reset 1\ntotal packets 2 steered 2 unsteered 0 accepted 1 processed 0 forwarded 0 reset 1 dropped 0 lost 0 stray 0\n",
-    )?;
-    // data comes before its SYN
-    let mut plan_4 = plan(alloc, false)?;
-    change(&mut plan_4, alloc, 0, Kind::Shift, &[(4, 2)])?;
+    )
+}
+
+#[test]
+fn data_comes_before_its_syn(rt: HostRuntime) -> Result<(), Fail> {
+    let alloc = rt.alloc();
+    let mut buckets = plan(alloc, false)?;
+    change(&mut buckets, alloc, 0, Kind::Shift, &[(4, 2)])?;
     let events = [
         publish(1, 1),
         switch(2, 0, 1),
@@ -462,16 +496,20 @@ fn buckets_move(rt: HostRuntime) -> Result<(), Fail> {
         &rt,
         alloc,
         false,
-        plan_4,
+        buckets,
         &[packet(1000, PSH_ACK, 101, 10), packet(1000, SYN, 100, 1)],
         None,
         &events,
         "1 publish 1\n2 switch 0 1\n3 steer 1 0 1 4\n4 arrive 1 direct 2 forward 1\n1001 steer 2 0 1 4\n1002 arrive 2 direct 2 accept\n5005 arrive 1 chained 1 reset chained-unknown because never-accepted\npacket 1 reset 1\npacket 2 accepted 2\ntotal packets 2 steered 2 unsteered 0 accepted 1 processed 0 forwarded 1 reset 1 dropped 0 lost 0 stray 0\n",
-    )?;
-    // a stray: two servers hold the connection
-    let mut plan_5 = plan(alloc, false)?;
-    change(&mut plan_5, alloc, 500, Kind::Shift, &[(4, 2)])?;
-    change(&mut plan_5, alloc, 1500, Kind::Shift, &[(4, 1)])?;
+    )
+}
+
+#[test]
+fn two_servers_hold_a_connection(rt: HostRuntime) -> Result<(), Fail> {
+    let alloc = rt.alloc();
+    let mut buckets = plan(alloc, false)?;
+    change(&mut buckets, alloc, 500, Kind::Shift, &[(4, 2)])?;
+    change(&mut buckets, alloc, 1500, Kind::Shift, &[(4, 1)])?;
     let events = [
         steer(1, 1, 0),
         direct(2, 1, 1, Verdict::Accept),
@@ -488,7 +526,7 @@ fn buckets_move(rt: HostRuntime) -> Result<(), Fail> {
         &rt,
         alloc,
         false,
-        plan_5,
+        buckets,
         &[
             packet(1000, SYN, 100, 1),
             packet(1000, SYN, 100, 1),
@@ -501,13 +539,12 @@ fn buckets_move(rt: HostRuntime) -> Result<(), Fail> {
 }
 
 #[test]
-fn connections_end(rt: HostRuntime) -> Result<(), Fail> {
+fn a_server_retires(rt: HostRuntime) -> Result<(), Fail> {
     let alloc = rt.alloc();
-    // a server retires
-    let mut plan_0 = plan(alloc, false)?;
-    change(&mut plan_0, alloc, 500, Kind::Shift, &[(4, 2)])?;
+    let mut buckets = plan(alloc, false)?;
+    change(&mut buckets, alloc, 500, Kind::Shift, &[(4, 2)])?;
     change(
-        &mut plan_0,
+        &mut buckets,
         alloc,
         2000,
         Kind::Drain(ServerId(2)),
@@ -530,16 +567,20 @@ fn connections_end(rt: HostRuntime) -> Result<(), Fail> {
         &rt,
         alloc,
         true,
-        plan_0,
+        buckets,
         &[packet(1000, SYN, 100, 1), packet(1000, PSH_ACK, 101, 10)],
         None,
         &events,
         "1 steer 1 0 0 4\n2 arrive 1 direct 1 accept\n501 publish 1\n502 switch 0 1\n1001 steer 2 0 1 4\n2001 publish 2\n2002 switch 0 2\n3001 retire 2 0 at 3000 too-early 1\n4001 retire 1 0 at 4000 not-drained\n2000000001 retire 2 0 at 2000000000 done\n3000001002 arrive 2 direct 2 drop retired because chain-late\npacket 1 accepted 1\npacket 2 dropped 2\ntotal packets 2 steered 2 unsteered 0 accepted 1 processed 0 forwarded 0 reset 0 dropped 1 lost 0 stray 0\n",
-    )?;
-    // a SYN comes to a server that retired
-    let mut plan_1 = plan(alloc, false)?;
+    )
+}
+
+#[test]
+fn a_syn_comes_to_a_retired_server(rt: HostRuntime) -> Result<(), Fail> {
+    let alloc = rt.alloc();
+    let mut buckets = plan(alloc, false)?;
     change(
-        &mut plan_1,
+        &mut buckets,
         alloc,
         500,
         Kind::Drain(ServerId(1)),
@@ -556,14 +597,18 @@ fn connections_end(rt: HostRuntime) -> Result<(), Fail> {
         &rt,
         alloc,
         true,
-        plan_1,
+        buckets,
         &[packet(1000, SYN, 100, 1)],
         None,
         &events,
         "1 steer 1 0 0 4\n501 publish 1\n502 switch 0 1\n2000000001 retire 1 0 at 2000000000 done\n3000000002 arrive 1 direct 1 drop retired because old-table\npacket 1 dropped 1\ntotal packets 1 steered 1 unsteered 0 accepted 0 processed 0 forwarded 0 reset 0 dropped 1 lost 0 stray 0\n",
-    )?;
-    // resets
-    let plan_2 = plan(alloc, false)?;
+    )
+}
+
+#[test]
+fn resets_are_judged(rt: HostRuntime) -> Result<(), Fail> {
+    let alloc = rt.alloc();
+    let buckets = plan(alloc, false)?;
     let events = [
         steer(1, 1, 0),
         direct(2, 1, 1, Verdict::Accept),
@@ -582,7 +627,7 @@ fn connections_end(rt: HostRuntime) -> Result<(), Fail> {
         &rt,
         alloc,
         false,
-        plan_2,
+        buckets,
         &[
             packet(1000, SYN, 100, 1),
             packet(1000, RST, 66000, 0),
@@ -594,9 +639,13 @@ fn connections_end(rt: HostRuntime) -> Result<(), Fail> {
         None,
         &events,
         "1 steer 1 0 0 4\n2 arrive 1 direct 1 accept\n1001 steer 2 0 0 4\n1002 arrive 2 direct 1 process outside\n2001 steer 3 0 0 4\n2002 arrive 3 direct 1 process challenge\n3001 steer 4 0 0 4\n3002 arrive 4 direct 1 process ended\n4001 steer 5 0 0 4\n4002 arrive 5 direct 1 reset no-previous because not-held\n5001 steer 6 0 0 4\n5002 arrive 6 direct 1 drop silent because not-held\npacket 1 accepted 1\npacket 2 processed 1\npacket 3 processed 1\npacket 4 processed 1\npacket 5 reset 1\npacket 6 dropped 1\ntotal packets 6 steered 6 unsteered 0 accepted 1 processed 3 forwarded 0 reset 1 dropped 1 lost 0 stray 0\n",
-    )?;
-    // a connection takes the place of one that finished
-    let plan_3 = plan(alloc, false)?;
+    )
+}
+
+#[test]
+fn a_connection_replaces_one_that_finished(rt: HostRuntime) -> Result<(), Fail> {
+    let alloc = rt.alloc();
+    let buckets = plan(alloc, false)?;
     let events = [
         steer(1, 1, 0),
         direct(2, 1, 1, Verdict::Accept),
@@ -613,7 +662,7 @@ fn connections_end(rt: HostRuntime) -> Result<(), Fail> {
         &rt,
         alloc,
         false,
-        plan_3,
+        buckets,
         &[
             packet(1000, SYN, 4294967290, 1),
             packet(1000, PSH_ACK, 4294967291, 10),
@@ -624,9 +673,13 @@ fn connections_end(rt: HostRuntime) -> Result<(), Fail> {
         None,
         &events,
         "1 steer 1 0 0 4\n2 arrive 1 direct 1 accept\n1001 steer 2 0 0 4\n1002 arrive 2 direct 1 process advance\n2001 steer 3 0 0 4\n2002 arrive 3 direct 1 process advance\n3001 steer 4 0 0 4\n3002 arrive 4 direct 1 accept\n4001 steer 5 0 0 4\n4002 arrive 5 direct 1 process challenge\npacket 1 accepted 1\npacket 2 processed 1\npacket 3 processed 1\npacket 4 accepted 1\npacket 5 processed 1\ntotal packets 5 steered 5 unsteered 0 accepted 2 processed 3 forwarded 0 reset 0 dropped 0 lost 0 stray 0\n",
-    )?;
-    // a full shard, and a join of all workers
-    let plan_4 = plan(alloc, false)?;
+    )
+}
+
+#[test]
+fn a_shard_is_full(rt: HostRuntime) -> Result<(), Fail> {
+    let alloc = rt.alloc();
+    let buckets = plan(alloc, false)?;
     let events = [
         steer(1, 1, 0),
         direct(2, 1, 1, Verdict::Accept),
@@ -638,14 +691,18 @@ fn connections_end(rt: HostRuntime) -> Result<(), Fail> {
         &rt,
         alloc,
         true,
-        plan_4,
+        buckets,
         &[packet(1000, SYN, 100, 1), packet(1002, SYN, 100, 1)],
         None,
         &events,
         "1 steer 1 0 0 4\n2 arrive 1 direct 1 accept\n1001 steer 2 0 0 6\n1002 arrive 2 direct 1 drop full because full\n1003 sync\npacket 1 accepted 1\npacket 2 dropped 1\ntotal packets 2 steered 2 unsteered 0 accepted 1 processed 0 forwarded 0 reset 0 dropped 1 lost 0 stray 0\n",
-    )?;
-    // a connection is closed, once
-    let plan_5 = plan(alloc, false)?;
+    )
+}
+
+#[test]
+fn a_connection_is_closed_once(rt: HostRuntime) -> Result<(), Fail> {
+    let alloc = rt.alloc();
+    let buckets = plan(alloc, false)?;
     let events = [
         steer(1, 1, 0),
         direct(2, 1, 1, Verdict::Accept),
@@ -658,7 +715,7 @@ fn connections_end(rt: HostRuntime) -> Result<(), Fail> {
         &rt,
         alloc,
         false,
-        plan_5,
+        buckets,
         &[packet(1000, SYN, 100, 1), packet(1000, PSH_ACK, 101, 10)],
         None,
         &events,
