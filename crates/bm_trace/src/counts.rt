@@ -12,10 +12,10 @@ use crate::sums::Totals;
 use bm_base::{Body, Record};
 use bm_core::{Event, History, Stage, Verdict, What};
 
-fn is_steered(record: &Record) -> bool
-    ensures { result ≡ totals.is_steered record.now }
+fn is_steered(seen: &Record) -> bool
+    ensures { result ≡ totals.is_steered seen.now }
 {
-    matches!(record.body, Body::Steerable(_))
+    matches!(seen.body, Body::Steerable(_))
 }
 
 /// Whether a packet that isn't opening is processed without an owner, or elsewhere than at its owner's server.
