@@ -1,14 +1,15 @@
 -- All that the program does, by its words.
-use Rattle.std.proofs.Common.{◌≡◌, ◌≢◌, ◌⊎◌, inl, inr, ℕ, List, [], ◌∷◌, Option, Some, None, IfSome, IsSome, sym, ap, subst, ◌∙◌, refl}
+use Rattle.std.proofs.Common.{◌≡◌, ◌≢◌, ◌⊎◌, inl, inr, ℕ, List, [], ◌∷◌, Option, Some, None, Ok, Err, IfSome, IsOk, IsSome, sym, ap, subst, ◌∙◌, refl}
 use Rattle.std.specs.Io.KnownBytes.{Appends}
 use Rattle.bm_io.specs.Causes.{Rose}
 use Rattle.bm_pcap.specs.declared.fault.PcapFault.TheVariants.{ReadFault as SourceFault}
+use Rattle.bm_pcap.specs.Capture.{Captured}
 use Rattle.bm_cli.specs.declared.status.Status.{Status}
 use Rattle.bm_cli.specs.declared.status.Status.TheVariants.{Done, Usage, ReadFault, BadCapture, WriteFault, Memory, Limit}
 use Rattle.bm_cli.specs.Lines.{fault_line, usage_line}
 use Rattle.bm_cli.specs.Replaying.{IsReplaying}
 use Rattle.bm_cli.specs.Statuses.{Says, code_of}
-use Rattle.bm_cli.specs.Top.{Octets, RefusesFile, ShowsFile, WritesDue, due_status, reading, status_of}
+use Rattle.bm_cli.specs.Top.{IsAccepted, Octets, RefusesFile, ShowsFile, WritesDue, due_status, reading, status_of}
 
 -- the status is one of these
 pub is_known : (s : Status) → (code_of s ≡ 0) ⊎ (code_of s ≡ 1) ⊎ (code_of s ≡ 2) ⊎ (code_of s ≡ 3) ⊎ (code_of s ≡ 5) ⊎ (code_of s ≡ 6) ⊎ (code_of s ≡ 7)
@@ -138,3 +139,18 @@ does_usage told before now faults later s said = record {
 -- files that aren't opened don't fail
 pub usage_reads_nothing : {A : Type 0} (before now : Option (List ℕ)) (faults later : ℕ) (s : Status) → Says Usage usage_line before now faults later s → code_of s ≡ 2 → A
 usage_reads_nothing before now faults later s said e = usage_no s ReadFault (λ e. cc) (λ e. cc) (λ e. cc) said.ends (same_code s ReadFault e)
+
+accepted_is_done : (r : Captured) → IsOk r → status_of r ≡ Done
+accepted_is_done (Ok read) is = refl
+accepted_is_done (Err fault) is = absurd (cc)
+
+-- an accepted capture's report is written, but where something failed or memory was refused
+pub is_complete : (name : Option (List ℕ)) (told : Octets) (before now : Option (List ℕ)) (faults later reads read : ℕ) (result : ℕ) → Does name told before now faults later result → (result ≡ 2 → Rose reads read) → IsAccepted name told → (result ≡ 0) ⊎ (result ≡ 6) ⊎ Rose reads read ⊎ Rose faults later
+is_complete None told before now faults later reads read result does rose accepted = absurd accepted
+is_complete (Some name) None before now faults later reads read result does rose accepted = absurd accepted
+is_complete (Some name) (Some octets) before now faults later reads read result does rose accepted = by does.status where
+  by : (result ≡ code_of (status_of (reading (octets name)))) ⊎ (result ≡ 2) ⊎ (result ≡ 5) ⊎ (result ≡ 6) → (result ≡ 0) ⊎ (result ≡ 6) ⊎ Rose reads read ⊎ Rose faults later
+  by (inl is) = inl (is ∙ ap code_of (accepted_is_done (reading (octets name)) accepted))
+  by (inr (inl is)) = inr (inr (inl (rose is)))
+  by (inr (inr (inl is))) = inr (inr (inr (does.write is)))
+  by (inr (inr (inr is))) = inr (inl is)

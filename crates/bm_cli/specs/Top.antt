@@ -1,5 +1,5 @@
 -- What the program does, by its words and by the octets of the file that they name.
-use Rattle.std.specs.Prelude.{◌≡◌, ℕ, ◌⊎◌, List, [], ◌∷◌, Result, Ok, Err, IfErr}
+use Rattle.std.specs.Prelude.{◌≡◌, ℕ, ◌⊎◌, List, [], ◌∷◌, Result, Ok, Err, IfErr, IsOk}
 use Rattle.std.specs.declared.option.Option.{Option}
 use Rattle.std.specs.declared.option.Option.TheVariants.{Some, None}
 use Rattle.std.specs.Io.KnownBytes.{Appends}
@@ -37,6 +37,12 @@ abbrev pub due_status : Option (List ℕ) → Octets → Option ℕ
 due_status None told = Some (code_of Usage)
 due_status (Some name) None = None
 due_status (Some name) (Some octets) = Some (code_of (status_of (reading (octets name))))
+
+-- the words are of the form, and the file that they name is a capture
+abbrev pub IsAccepted : Option (List ℕ) → Octets → Type 0
+IsAccepted None told = ⊥
+IsAccepted (Some name) None = ⊥
+IsAccepted (Some name) (Some octets) = IsOk (reading (octets name))
 
 -- THE REPORT
 

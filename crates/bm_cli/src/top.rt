@@ -6,7 +6,7 @@ ghost use Rattle.bm_pcap.specs.declared.fault.PcapFault.TheVariants.{ReadFault a
 ghost use Rattle.bm_cli.specs.Asked.{AsksPrefix};
 ghost use Rattle.bm_cli.specs.Lines.{fault_line, usage_line};
 ghost use Rattle.bm_cli.specs.Replaying.{IsReplaying};
-ghost use Rattle.bm_cli.specs.Top.{RefusesFile, ShowsFile, WritesDue, due_status, names_in};
+ghost use Rattle.bm_cli.specs.Top.{IsAccepted, RefusesFile, ShowsFile, WritesDue, due_status, names_in};
 ghost use Rattle.bm_cli.specs.Words as form;
 
 use crate::fleet::plain_script;
@@ -31,6 +31,8 @@ pub fn beamer<F: Files, K: Sink>(alloc: Global, words: &[String], files: &mut F,
 
     // The status is the one that is due, but where the files or the sink failed, or memory was refused.
     ensures status { IfSome (due_status (form.capture_name (map string_bytes words.now)) (F.octets files.old)) (λ due. (result ≡ due) ⊎ (result ≡ 2) ⊎ (result ≡ 5) ⊎ (result ≡ 6)) }
+    // An accepted capture's report is written, but where the files or the sink failed, or memory was refused.
+    ensures complete { IsAccepted (form.capture_name (map string_bytes words.now)) (F.octets files.old) → (result ≡ 0) ⊎ (result ≡ 6) ⊎ Rose (F.faults files.old) (F.faults files.new) ⊎ Rose (K.faults out.old) (K.faults out.new) }
     ensures known { (result ≡ 0) ⊎ (result ≡ 1) ⊎ (result ≡ 2) ⊎ (result ≡ 3) ⊎ (result ≡ 5) ⊎ (result ≡ 6) ⊎ (result ≡ 7) }
     ensures usage { result ≡ 1 → form.capture_name (map string_bytes words.now) ≡ None }
     ensures named { result ≡ 2 → IsSome (form.capture_name (map string_bytes words.now)) }
