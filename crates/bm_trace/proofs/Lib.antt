@@ -5,3 +5,6 @@ pub mod Newest
 pub mod Parted
 pub mod Ranged
 pub mod Spacing
+pub mod Reading
+pub mod Decoding
+pub mod OneHistory

@@ -1,4 +1,5 @@
 pub mod Accepts
+pub mod Types
 pub mod Wants
 pub mod Words
 pub mod Totals

@@ -7,6 +7,7 @@ mod document;
 mod endings;
 mod entries;
 mod held;
+pub mod laws;
 mod lines;
 mod past;
 mod records;

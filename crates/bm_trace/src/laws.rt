@@ -1,0 +1,108 @@
+//! What a report says of its history.
+ghost use Rattle.std.specs.Prelude.{◌≡◌, ◌<◌, ◌^◌};
+ghost use Rattle.bm_core.specs.Runs.{IsRun};
+ghost use Rattle.bm_trace.specs.Report.{text};
+ghost use Rattle.bm_trace.specs.Types.{AreEvents, IsAnswer, IsEvent, IsFlow, IsVerdict};
+
+use bm_base::Flow;
+use bm_core::{Event, History, Verdict, What};
+use bm_table::Retirement;
+
+fn read_flow(flow: &Flow)
+    ensures { IsFlow flow.now }
+{
+    let _src = flow.src;
+    let _dst = flow.dst;
+    let _sport = flow.sport;
+    let _dport = flow.dport;
+}
+
+fn read_verdict(verdict: Verdict)
+    ensures { IsVerdict verdict }
+{
+    if let Verdict::Forward(server) = verdict {
+        let _number = server.0;
+    }
+}
+
+fn read_answer(answer: Retirement)
+    ensures { IsAnswer answer }
+{
+    if let Retirement::TooEarly(bucket) = answer {
+        let _number = bucket;
+    }
+}
+
+fn read_number(number: u64)
+    ensures { number < 2 ^ 64 }
+{
+    let _number = number;
+}
+
+/// Each number of the event is within its type.
+fn read_event(event: &Event)
+    ensures { IsEvent event.now }
+{
+    read_number(event.clock.0);
+    match event.what {
+        What::Publish(version) => read_number(u64::from(version.0)),
+        What::Switch { mux, version } => {
+            read_number(u64::from(mux.0));
+            read_number(u64::from(version.0));
+        }
+        What::Steer { packet, mux } => {
+            read_number(u64::from(packet));
+            read_number(u64::from(mux.0));
+        }
+        What::Lose { packet, .. } => read_number(u64::from(packet)),
+        What::Arrive {
+            packet,
+            server,
+            verdict,
+            ..
+        } => {
+            read_number(u64::from(packet));
+            read_number(u64::from(server.0));
+            read_verdict(verdict);
+        }
+        What::Close { server, flow, .. } => {
+            read_number(u64::from(server.0));
+            read_flow(&flow);
+        }
+        What::Retire {
+            server,
+            shard,
+            at,
+            result,
+        } => {
+            read_number(u64::from(server.0));
+            read_number(u64::from(shard));
+            read_number(at.0);
+            read_answer(result);
+        }
+        What::Sync => {}
+    }
+}
+
+fn read_events(events: &[Event])
+    ensures { AreEvents events.now }
+{
+    let mut rest = events;
+    while let Some((event, later)) = rest.split_first() {
+        read_event(event);
+        rest = later;
+    }
+}
+
+/// Two runs of one stage with the same report have the same events: a report names one history.
+#[tactic(auto, using(crate::proofs::OneHistory::same_events))]
+pub fn one_history(a: &History, b: &History)
+    requires first { IsRun a.now }
+    requires second { IsRun b.now }
+    requires stage { a.now.stage ≡ b.now.stage }
+    requires text { text a.now ≡ text b.now }
+    ensures { a.now.events ≡ b.now.events }
+{
+    read_events(a.events.items());
+    read_events(b.events.items());
+}
