@@ -6,6 +6,7 @@ use Rattle.bm_table.specs.Planned.{Planned}
 use Rattle.bm_table.specs.Settings.{plain_setting}
 use Rattle.bm_table.specs.Tables.{IsOrderly, is_drained, table}
 use Rattle.bm_table.proofs.SettingLemmas.{IsSetting-plain_setting}
+use Rattle.bm_table.specs.Scripts.{IsSoundScript}
 use Rattle.bm_core.specs.Stages.{IsSound}
 use Rattle.bm_replay.specs.Replays.{IsBare}
 use Rattle.bm_base.specs.Captures.{IsReplayable}
@@ -23,8 +24,8 @@ plain_orderly = record {
   drained = λ n v b s is low inside bucket. absurd (let h : ◌≡◌ {A = Bool} false true = sym (never_drained n s) ∙ is in cc);
 }
 
-pub plain_sound : (capture : Capture) → IsReplayable plain_setting.vips capture → IsSound (plain_stage capture)
-plain_sound capture fit = record {
+plain_script_sound : IsSoundScript plain_script
+plain_script_sound = record {
   setting = IsSetting-plain_setting;
   buckets = refl;
   servers = refl;
@@ -34,6 +35,11 @@ plain_sound capture fit = record {
   commands_rise = tt;
   versions = refl;
   of_known = tt;
+}
+
+pub plain_sound : (capture : Capture) → IsReplayable plain_setting.vips capture → IsSound (plain_stage capture)
+plain_sound capture fit = record {
+  script = plain_script_sound;
   few_records = fit.few;
   records_rise = fit.rise;
   records_fit = fit.fit;

@@ -11,7 +11,7 @@ use Rattle.bm_base.specs.declared.ids.ServerId.{ServerId}
 use Rattle.bm_base.specs.declared.label.Entry.{Entry}
 use Rattle.bm_controller.proofs.FleetLists.{among-with, among-without, length-with, length-without, RiseFrom-with, RiseFrom-without}
 use Rattle.bm_controller.specs.Commands.{addition, first_refusal, limits, rebalance, removal, shift_of}
-use Rattle.bm_controller.specs.Fleets.{active, active_after, active_next, active_now, has_drained, is_active, knows, with_server, without_server, IsFleet, NamesServer}
+use Rattle.bm_controller.specs.Fleets.{active, active_after, active_next, active_now, has_drained, is_active, knows, with_server, without_server, IsFleet}
 use Rattle.bm_quota.specs.Rebalancing.{owned, owners_after, quota_at, quotas_of, rebalancing}
 use Rattle.bm_quota.specs.Refusals.{refusal_of}
 use Rattle.bm_quota.proofs.QuotaLemmas.{quota_of-outside, sum-quotas_of}
@@ -26,6 +26,7 @@ use Rattle.bm_table.specs.declared.plan.Move.{Move}
 use Rattle.bm_table.specs.Planned.{Planned}
 use Rattle.bm_table.specs.Plans.{bad_bucket, bucket_at_home, last_moment, owners_now, refusal, server_now, total_moves, with_change, MovesRise, IsPlan}
 use Rattle.bm_table.specs.Settings.{IsWithin, RiseFrom}
+use Rattle.bm_table.specs.Scripts.{NamesServer}
 use Rattle.bm_table.specs.Tables.{adds, brings, drains, is_add, is_among, is_drain, is_drained, is_known, moment_of, moved, next_change, same_server, table, target, IsOrderly}
 
 -- what was so after the changes before stays

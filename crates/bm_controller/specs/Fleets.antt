@@ -7,7 +7,8 @@ use Rattle.bm_table.specs.declared.plan.Kind.{Kind}
 use Rattle.bm_table.specs.declared.plan.Kind.TheVariants.{Add, Drain, Shift}
 use Rattle.bm_table.specs.Planned.{Planned}
 use Rattle.bm_table.specs.Plans.{IsPlan}
-use Rattle.bm_table.specs.Settings.{IsWithin, RiseFrom}
+use Rattle.bm_table.specs.Scripts.{NamesServer}
+use Rattle.bm_table.specs.Settings.{RiseFrom}
 use Rattle.bm_table.specs.Tables.{is_among, is_drained, is_known, next_change, same_server, IsOrderly}
 
 -- the servers with one more, in rising order
@@ -44,12 +45,6 @@ has_drained plan s = is_drained plan (length plan.changes) s
 
 abbrev pub is_active : Planned → ServerId → Bool
 is_active plan s = is_among (active_now plan) s
-
--- a change that adds a server names a server number
-abbrev pub NamesServer : Kind → Type 0
-NamesServer (Add s) = IsWithin 1 1024 s.0
-NamesServer (Drain s) = Unit {0}
-NamesServer Shift = Unit {0}
 
 -- what the plan of a controller keeps
 pub record IsFleet (plan : Planned) : Type 0 where

@@ -105,7 +105,7 @@ ended_over mux fate stage past t is = is_over mux (fates_by fate past) stage pas
 -- the events that are played to the end, in their order, are a replay
 pub played_replay : (mux : ℕ → Flow → ℕ) (fate : ℕ → Hop → Fate) (stage : Stage) (n : ℕ) → IsSound stage → IsWithinMuxes stage mux → next_event mux fate stage (play mux fate stage n []) ≡ None
     → IsReplay (RouteBy mux) (RuleBy fate) (record { stage = stage; events = reverse (play mux fate stage n []) })
-played_replay mux fate stage n sound within is = whole (play mux fate stage n []) (sym (reverse-reverse (play mux fate stage n []))) (play_told mux fate stage sound.plan within n [] start) is where
+played_replay mux fate stage n sound within is = whole (play mux fate stage n []) (sym (reverse-reverse (play mux fate stage n []))) (play_told mux fate stage sound.script.plan within n [] start) is where
   start : IsToldBy mux fate stage []
   start = record { run = tt; follows = tt; answered = tt }
 

@@ -68,11 +68,11 @@ play_long mux fate stage (suc n) past = play_longer mux fate stage n past (λ e.
 pub play_ends : (stage : Stage) → IsSound stage → next_event (mux_of stage.script.setting) (fate_of stage.script.setting) stage (play (mux_of stage.script.setting) (fate_of stage.script.setting) stage 6859841 []) ≡ None
 play_ends stage sound = elim (play_long (mux_of stage.script.setting) (fate_of stage.script.setting) stage 6859841 []) [
   | inl ended ↦ ended
-  | inr long ↦ absurd (too_long _ long (play_told (mux_of stage.script.setting) (fate_of stage.script.setting) stage sound.plan (mux_within stage sound) 6859841 [] (record { run = tt; follows = tt; answered = tt })))
+  | inr long ↦ absurd (too_long _ long (play_told (mux_of stage.script.setting) (fate_of stage.script.setting) stage sound.script.plan (mux_within stage sound) 6859841 [] (record { run = tt; follows = tt; answered = tt })))
 ] where
   too_long : (past : List Event) → length past ≡ 6859841 + 0 → IsToldBy (mux_of stage.script.setting) (fate_of stage.script.setting) stage past → ⊥
   too_long past long told =
-      let soon = answered_soon (RouteBy (mux_of stage.script.setting)) (fate_of stage.script.setting) (fate_of_soon stage.script.setting sound.setting) stage (fates_by (fate_of stage.script.setting) past) past told.answered
+      let soon = answered_soon (RouteBy (mux_of stage.script.setting)) (fate_of stage.script.setting) (fate_of_soon stage.script.setting sound.script.setting) stage (fates_by (fate_of stage.script.setting) past) past told.answered
       in let few = few_events (fates_by (fate_of stage.script.setting) past) stage past sound told.follows soon
       in absurd (omega arith)
 

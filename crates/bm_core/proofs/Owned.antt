@@ -210,8 +210,8 @@ module _ (stage : Stage) (sound : IsSound stage) (past : List Event) (run : Run 
   -- its bucket is one of the plan's
   inside : (f : Flow) → bucket stage f < stage.script.plan.buckets
   inside f =
-      let some : 0 < stage.script.setting.buckets = sound.setting.buckets.0
-      in rw sound.buckets (omega arith)
+      let some : 0 < stage.script.setting.buckets = sound.script.setting.buckets.0
+      in rw sound.script.buckets (omega arith)
 
   -- elsewhere the flow isn't held
   not_held : (a : Accepted) (f : Flow) → same_server server a.server ≡ false → is_elsewhere stage past past f a.server ≡ false → held stage past server f ≡ None

@@ -107,8 +107,8 @@ first_by top n dues each = first (dropped n dues) (each_dropped (IsBy top) n due
 change_by : (stage : Stage) → IsSound stage → (v : ℕ) (c : Change) → next_change stage.script.plan v ≡ Some c → c.moment.0 ≤ 4 * 10 ^ 18
 change_by stage sound v c is =
     let within : v < length stage.script.plan.changes = slice_get_within stage.script.plan.changes v c is
-    in let by = are_by stage.script.plan 0 (4 * 10 ^ 18) stage.script.commands sound.commands_rise
-    in let h = changes_by stage.script.plan (4 * 10 ^ 18) 1 (length stage.script.plan.changes) stage.script.commands sound.versions by (suc v) (omega arith) (omega arith)
+    in let by = are_by stage.script.plan 0 (4 * 10 ^ 18) stage.script.commands sound.script.commands_rise
+    in let h = changes_by stage.script.plan (4 * 10 ^ 18) 1 (length stage.script.plan.changes) stage.script.commands sound.script.versions by (suc v) (omega arith) (omega arith)
     in let one_less : suc v - 1 ≡ v = omega arith
     in let m : moment_of (next_change stage.script.plan v) ≤ 4 * 10 ^ 18 = subst (λ (n : ℕ). moment_of (next_change stage.script.plan n) ≤ 4 * 10 ^ 18) one_less h
     in subst (λ (o : Option Change). moment_of o ≤ 4 * 10 ^ 18) is m
@@ -122,9 +122,9 @@ switch_by : (stage : Stage) → IsSound stage → (m v : ℕ) → m < stage.scri
 switch_by stage sound m v below None is = tt
 switch_by stage sound m v below (Some c) is =
     let h = change_by stage sound v c is
-    in let count = sound.setting.lag_of_each
+    in let count = sound.script.setting.lag_of_each
     in let there : m < length stage.script.setting.lags = omega arith
-    in let lag : slice_index_or stage.script.setting.lags m 0 ≤ 86400 * 10 ^ 9 = sound.setting.lags m 0 there
+    in let lag : slice_index_or stage.script.setting.lags m 0 ≤ 86400 * 10 ^ 9 = sound.script.setting.lags m 0 there
     in ((omega arith), tt)
 
 switches_by : (stage : Stage) → IsSound stage → (past : List Event) (n : ℕ) → n ≤ stage.script.setting.muxes → Each (IsBy latest_moment) (switches_due stage past n)
@@ -153,7 +153,7 @@ can_come_by stage sound past w top le all =
     (arrival_by top w all))
     (low _ (first_by latest_moment (counts past (λ what. steers (call_of what))) _ (each_weaker (44 * 10 ^ 17) latest_moment (omega arith) _ (packets_by 0 (44 * 10 ^ 17) 1 stage.capture.records sound.records_rise)))) where
       by : AreBy stage.script.plan (4 * 10 ^ 18) stage.script.commands
-      by = are_by stage.script.plan 0 (4 * 10 ^ 18) stage.script.commands sound.commands_rise
+      by = are_by stage.script.plan 0 (4 * 10 ^ 18) stage.script.commands sound.script.commands_rise
 
       both : (xs ys : List Due) → Each (IsBy top) xs → Each (IsBy top) ys → Each (IsBy top) (xs ++ ys)
       both xs ys a b = each_append (IsBy top) xs ys a b

@@ -374,7 +374,7 @@ long_step stage sound past clock (Retire server x at result) s h b run inside la
           in let done : IsRetirement stage.script.plan (timeout stage) (newest past) server at.0 Done = subst (λ (r : Retirement). IsRetirement stage.script.plan (timeout stage) (newest past) server at.0 r) (done_is result parts.1) may.1
           in let at_clock : at.0 < clock = may.0
           in λ v l cur.
-          let p = retirement_late stage.script.plan sound.plan (timeout stage) (newest past) b v at.0 server done (newest_within stage past run) l inside (cur ∙ sym here)
+          let p = retirement_late stage.script.plan sound.script.plan (timeout stage) (newest past) b v at.0 server done (newest_within stage past run) l inside (cur ∙ sym here)
           in (p.0, omega arith)
       | inr before ↦ long_later stage (last_clock past) clock s (newest past) (newest past) b later (omega arith) (old before)
     ]

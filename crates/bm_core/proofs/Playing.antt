@@ -201,4 +201,4 @@ mux_by_within Port muxes k f some = mod-lt f.sport some
 mux_by_within Turn muxes k f some = mod-lt k some
 
 pub mux_within : (stage : Stage) → IsSound stage → IsWithinMuxes stage (mux_of stage.script.setting)
-mux_within stage sound k f = let some = sound.setting.muxes.0 in mux_by_within stage.script.setting.route stage.script.setting.muxes k f some
+mux_within stage sound k f = let some = sound.script.setting.muxes.0 in mux_by_within stage.script.setting.route stage.script.setting.muxes k f some

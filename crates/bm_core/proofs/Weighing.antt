@@ -311,9 +311,9 @@ pub sound_weight : (stage : Stage) → IsSound stage → weight [] stage [] ≤ 
 sound_weight stage sound =
     let packets : length (packets_from 1 stage.capture.records) ≤ length stage.capture.records = few_packets 1 stage.capture.records
     in let all : suc (length stage.script.plan.changes) - 1 ≡ length stage.script.plan.changes = omega arith
-    in let commands = rw all at (few_commands stage.script.setting.shards stage.script.setting.muxes 1 (length stage.script.plan.changes) stage.script.commands sound.setting.shards.1 sound.setting.muxes.1 sound.versions)
+    in let commands = rw all at (few_commands stage.script.setting.shards stage.script.setting.muxes 1 (length stage.script.plan.changes) stage.script.commands sound.script.setting.shards.1 sound.script.setting.muxes.1 sound.script.versions)
     in sound_sum (length (packets_from 1 stage.capture.records)) (length stage.capture.records) (commands_weight stage []) (length stage.script.plan.changes) (stage.script.setting.muxes * length stage.script.plan.changes)
-    (length stage.script.commands) (switches_weight (length stage.script.plan.changes) [] stage.script.setting.muxes) packets sound.few_records commands sound.few_commands (all_switches (length stage.script.plan.changes) stage.script.setting.muxes)
+    (length stage.script.commands) (switches_weight (length stage.script.plan.changes) [] stage.script.setting.muxes) packets sound.few_records commands sound.script.few_commands (all_switches (length stage.script.plan.changes) stage.script.setting.muxes)
 
 -- so a replay's history is short
 pub few_events : (fates : List Fate) (stage : Stage) (past : List Event) → IsSound stage → Follows fates stage past → AreSoon fates past → length past + weight fates stage past ≤ 6859840

@@ -9,7 +9,7 @@ use Rattle.bm_table.proofs.SettingLemmas.{IsSetting-plain_setting}
 use Rattle.bm_hash.specs.Buckets.{flow_octets, fnv_step, fnv_1a, flow_hash}
 use Rattle.bm_seq.specs.Receivers.{acceptable, distance, taken_reset, comes_in_turn, taken, after_taken, opened, receiver_after}
 use Rattle.bm_core.specs.declared.events.History.{History}
-use Rattle.bm_core.specs.Stages.{IsSound}
+use Rattle.bm_core.specs.Stages.{IsSound, IsSoundScript}
 use Rattle.bm_core.specs.Laws.{At, IsUnbrokenArrival}
 use Rattle.bm_core.specs.Rules.{mux_of, fate_of, RouteBy, RuleBy}
 use Rattle.bm_core.specs.Histories.{IsReplay}
@@ -45,8 +45,8 @@ moved_orderly = record {
   drained = λ n v b s is le lt inside. absurd (both_ways _ (never_drained n s) is);
 }
 
-pub moved_sound : IsSound moved
-moved_sound = record {
+moved_script_sound : IsSoundScript moved.script
+moved_script_sound = record {
   setting = IsSetting-plain_setting;
   buckets = refl;
   servers = refl;
@@ -56,6 +56,11 @@ moved_sound = record {
   commands_rise = (omega arith, omega arith, tt);
   versions = (refl, refl);
   of_known = (tt, tt);
+}
+
+pub moved_sound : IsSound moved
+moved_sound = record {
+  script = moved_script_sound;
   few_records = omega arith;
   records_rise = (omega arith, omega arith, (omega arith, omega arith, tt));
   records_fit = ((inl (refl, refl), omega arith), ((inl (refl, refl), omega arith), tt));

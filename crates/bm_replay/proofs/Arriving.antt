@@ -74,9 +74,9 @@ opening_number stage all same b = rw same (go (b % length stage.script.setting.s
 
 pub has_servers : (p : Player) → IsPlaying p → HasServers p
 has_servers p playing = record {
-  buckets = rw playing.sound.buckets playing.sound.setting.buckets;
-  shards = playing.sound.setting.shards;
-  numbers = opening_number p.stage playing.sound.setting.numbers playing.sound.servers;
+  buckets = rw playing.sound.script.buckets playing.sound.script.setting.buckets;
+  shards = playing.sound.script.setting.shards;
+  numbers = opening_number p.stage playing.sound.script.setting.numbers playing.sound.script.servers;
   lie = playing.shards;
 }
 
@@ -117,12 +117,12 @@ least_arrive p u w (Some x) found is = rw found.others (least_before u w x (pack
 
 the_entry : (p : Player) (k : ℕ) (l : Label) (s : Segment) → IsPlaying p → label_of p.stage (past_of p) k ≡ Some l → segment_of p.stage k ≡ Some s → l.entry ≡ opening p.stage.script.plan (bucket_of p.stage.script.plan.buckets s.flow)
 the_entry p k l s playing is seg =
-    bare_entry p.stage playing.bare (past_of p) playing.run k l s is seg ∙ ap (λ (n : ℕ). opening p.stage.script.plan (bucket_of n s.flow)) (sym playing.sound.buckets)
+    bare_entry p.stage playing.bare (past_of p) playing.run k l s is seg ∙ ap (λ (n : ℕ). opening p.stage.script.plan (bucket_of n s.flow)) (sym playing.sound.script.buckets)
 
 the_local : (p : Player) (s : Segment) → IsPlaying p → local_for p (server_for p.stage s) s ≡ local_at p.stage (past_of p) (server_for p.stage s) s.flow
 the_local p s playing =
     local_is p.stage.script.setting.capacity (book_of p.stage (past_of p) (server_for p.stage s) (shard_for p.stage s)) (connections_of p (server_for p.stage s) (shard_for p.stage s)) s.flow
-    (playing.books (server_for p.stage s) (shard_for p.stage s) ((has_servers p playing).numbers (bucket_of p.stage.script.plan.buckets s.flow)) (shard_inside p.stage s playing.sound.setting.shards.0))
+    (playing.books (server_for p.stage s) (shard_for p.stage s) ((has_servers p playing).numbers (bucket_of p.stage.script.plan.buckets s.flow)) (shard_inside p.stage s playing.sound.script.setting.shards.0))
     ∙ sym (local_in_book p.stage (past_of p) (server_for p.stage s) s.flow)
 
 pub arrive_answered : (p : Player) (copy : Underway) (s : Segment) → IsPlaying p → IsWaiting p.clock (past_of p) copy → segment_of p.stage copy.packet ≡ Some s → IsAnswered p.stage (past_of p) (next p.clock copy.moment) (arrive_event copy s p).what
@@ -164,7 +164,7 @@ books_kept p q copy come playing s h few in_it = rw (turn_is p copy come.segment
 
   here : place_of p.stage (server_for p.stage come.segment) (shard_for p.stage come.segment) < length p.shards.items
   here = place_inside (server_for p.stage come.segment).0 p.stage.script.setting.shards (shard_for p.stage come.segment) (length p.shards.items)
-      ((has_servers p playing).numbers (bucket_of p.stage.script.plan.buckets come.segment.flow)) (shard_inside p.stage come.segment playing.sound.setting.shards.0) playing.shards
+      ((has_servers p playing).numbers (bucket_of p.stage.script.plan.buckets come.segment.flow)) (shard_inside p.stage come.segment playing.sound.script.setting.shards.0) playing.shards
 
   by : (b : Bool) → same_server (server_for p.stage come.segment) s && eqb (shard_for p.stage come.segment) h ≡ b
       → AreLeftBy (add_turn (cond b (Some (Took come.segment (verdict_for p (server_for p.stage come.segment) (next p.clock copy.moment) come.segment))) None) (book_of p.stage (past_of p) s h)) (get_or q.shards.items (place_of p.stage s h) [])
@@ -182,7 +182,7 @@ books_kept p q copy come playing s h few in_it = rw (turn_is p copy come.segment
       in rw got (settled (verdict_for p (server_for p.stage come.segment) (next p.clock copy.moment) come.segment) come.segment (book_of p.stage (past_of p) s h) _ come.connections old come.effect)
   by false is =
       let other : place_of p.stage s h ≢ place_of p.stage (server_for p.stage come.segment) (shard_for p.stage come.segment) = λ same.
-      (let both = place_unique s.0 (server_for p.stage come.segment).0 p.stage.script.setting.shards h (shard_for p.stage come.segment) in_it (shard_inside p.stage come.segment playing.sound.setting.shards.0) same
+      (let both = place_unique s.0 (server_for p.stage come.segment).0 p.stage.script.setting.shards h (shard_for p.stage come.segment) in_it (shard_inside p.stage come.segment playing.sound.script.setting.shards.0) same
       in let a : same_server (server_for p.stage come.segment) s ≡ true = eq-eqb _ _ (sym both.0)
       in let b : eqb (shard_for p.stage come.segment) h ≡ true = eq-eqb _ _ (sym both.1)
       in let bad : same_server (server_for p.stage come.segment) s && eqb (shard_for p.stage come.segment) h ≡ true = rw (a, b) refl
@@ -248,7 +248,7 @@ arrived p q copy o playing waiting found turn come = (kept, less) where
   kept = record {
     sound = rw come.about playing.sound;
     bare = rw come.about playing.bare;
-    run = rw (come.about, past) (step [] p.stage (past_of p) (arrive_event copy come.segment p) playing.sound.plan playing.run playing.follows follows (arrive_answered p copy come.segment playing waiting seg), playing.run);
+    run = rw (come.about, past) (step [] p.stage (past_of p) (arrive_event copy come.segment p) playing.sound.script.plan playing.run playing.follows follows (arrive_answered p copy come.segment playing waiting seg), playing.run);
     follows = rw (come.about, past) (follows, playing.follows);
     answered = rw (come.about, past) ((tt, no_fate), playing.answered);
     waiting = rw past (arrived_wire p q copy come playing);

@@ -142,7 +142,7 @@ pub can_steer : (p : Player) (packet : Packet) (from : ℕ) → IsPlaying p → 
 can_steer p packet from playing found =
     let early : packet.moment ≤ 44 * 10 ^ 17 = packet_early p packet from playing found
     in let fits = clock_fits p packet.moment playing.paced (omega arith)
-    in record { clock = fits.0; moment = fits.1; muxes = let h = playing.sound.setting.muxes.0 in omega arith }
+    in record { clock = fits.0; moment = fits.1; muxes = let h = playing.sound.script.setting.muxes.0 in omega arith }
 
 -- all that can come
 pub dues_here : (p : Player) → IsPlaying p → can_come (wire [] (past_of p)) p.stage (past_of p) ≡ arrival_due p.waiting.items ++ first_of (packets_from (suc p.next) (dropped p.next p.stage.capture.records))

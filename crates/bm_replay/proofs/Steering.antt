@@ -56,7 +56,7 @@ steer_next p packet playing found turn =
     in comes p (steer_event packet p) (packet_due packet) playing is refl refl
 
 steer_answered : (p : Player) (packet : Packet) → IsPlaying p → IsAnswered p.stage (past_of p) (next p.clock packet.moment) (steer_event packet p).what
-steer_answered p packet playing = mux_below p.stage.script.setting.route p.stage.script.setting.muxes packet.number packet.segment.flow (let h = playing.sound.setting.muxes.0 in omega arith)
+steer_answered p packet playing = mux_below p.stage.script.setting.route p.stage.script.setting.muxes packet.number packet.segment.flow (let h = playing.sound.script.setting.muxes.0 in omega arith)
 
 steer_routed : (p : Player) (packet : Packet) (from : ℕ) → IsFound p.stage.capture.records from packet → IsRouted (setting_route p.stage.script.setting) p.stage (steer_event packet p).what
 steer_routed p packet from found =
@@ -119,7 +119,7 @@ steered p q packet playing found turn come = (kept, less) where
   kept = record {
     sound = rw come.about playing.sound;
     bare = rw come.about playing.bare;
-    run = rw (come.about, past) (step [] p.stage (past_of p) (steer_event packet p) playing.sound.plan playing.run playing.follows follows (steer_answered p packet playing), playing.run);
+    run = rw (come.about, past) (step [] p.stage (past_of p) (steer_event packet p) playing.sound.script.plan playing.run playing.follows follows (steer_answered p packet playing), playing.run);
     follows = rw (come.about, past) (follows, playing.follows);
     answered = rw (come.about, past) ((steer_routed p packet p.next found, one_copy p packet.number Direct playing.bare.faults), playing.answered);
     waiting = rw past (steered_wire p q packet playing come);

@@ -1,7 +1,9 @@
 pub mod Entries
 pub mod Leaves
+pub mod Limits
 pub mod Planned
 pub mod Plans
+pub mod Scripts
 pub mod Settings
 pub mod Tables
 pub mod Views

@@ -1,6 +1,7 @@
 //! The plan: where the buckets open, and the changes in their order.
 ghost use Rattle.std.specs.Prelude.{◌≡◌, ◌≤◌, ◌<◌, ◌+◌, ◌-◌, ℕ, [], ◌∷◌, length, map, All, IfOk, IfErr, OnOk, OnErr, MatchResult, Some, None};
 ghost use Rattle.bm_table.specs.Leaves.{IsLeast, LeavesRise, has_drain, has_left, left_since, lesser_of};
+ghost use Rattle.bm_table.specs.Limits.{limit_word};
 ghost use Rattle.bm_table.specs.Plans.{MovesRise, bad_bucket, bucket_at_home};
 ghost use Rattle.bm_table.specs.Settings.{IsWithin, RiseFrom};
 ghost use Rattle.bm_table.specs.declared.plan.PlanFault.TheVariants.{Memory as memory};
@@ -49,6 +50,8 @@ pub enum Limit {
 }
 
 impl fmt::Display for Limit {
+    ghost output = { λ limit. Some (limit_word limit) };
+
     fn fmt<W: fmt::Write>(&self, f: &mut fmt::Formatter<W>) -> fmt::Result {
         match self {
             Limit::Changes => write!(f, "changes"),
