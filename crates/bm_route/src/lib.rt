@@ -1,0 +1,8 @@
+//! Which mux a packet goes to: a route that a caller brings, and the program's own.
+#![tactic(auto)]
+
+mod route;
+#[cfg(test)]
+mod tests;
+
+pub use route::{Route, mux_by};
