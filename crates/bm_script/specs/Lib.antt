@@ -1,0 +1,5 @@
+pub mod Faults
+pub mod Keys
+pub mod Commands
+pub mod Scripts
+pub mod Values
