@@ -1,5 +1,5 @@
 -- The faults of a script: their texts, and the readers that end at the first one.
-use Rattle.std.specs.Prelude.{◌≡◌, ◌≢◌, ℕ, List, [], ◌∷◌, ◌++◌, Option, Some, None, Result, Ok, Err, codes, decimal}
+use Rattle.std.specs.Prelude.{◌≡◌, ◌≢◌, ℕ, List, [], ◌∷◌, ◌++◌, Option, Some, None, Result, Ok, Err, ok_or, codes, decimal}
 use Rattle.bm_quota.specs.declared.refusal.Refusal.{Refusal}
 use Rattle.bm_quota.specs.declared.refusal.Refusal.TheVariants.{KnownServer, UnknownServer, NotActive, LastServer, BadBucket, SameServer, StampFell, TooMany, Memory as no_memory}
 use Rattle.bm_script.specs.declared.fault.Place.{Place}
@@ -54,16 +54,13 @@ Err fault >>= f = Err fault
 
 -- what a value reads as, or a bad value
 abbrev pub valued : {A : Type 0} → Place → Key → Option A → Result A ScriptFault
-valued place key None = Err (BadValue place key)
-valued place key (Some x) = Ok x
-
-abbrev pub of_required : {A : Type 0} → Place → Key → (Data → Option A) → Option Data → Result A ScriptFault
-of_required place key read None = Err (Missing place key)
-of_required place key read (Some d) = valued place key (read d)
+valued place key x = ok_or x (BadValue place key)
 
 -- the value of a key that has to be there
 abbrev pub required : {A : Type 0} → Place → Key → (Data → Option A) → Members → Result A ScriptFault
-required place key read members = of_required place key read (value_at key members)
+required place key read members = do
+  d ← ok_or (value_at key members) (Missing place key)
+  valued place key (read d)
 
 abbrev pub of_optional : {A : Type 0} → Key → A → (Data → Option A) → Option Data → Result A ScriptFault
 of_optional key plain read None = Ok plain

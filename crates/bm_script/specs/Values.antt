@@ -1,5 +1,5 @@
 -- What the values of a script read as, each None where it is of another kind or out of its range.
-use Rattle.std.specs.Prelude.{ℕ, ◌+◌, ◌-◌, ◌*◌, ℤ, pos, negsuc, List, [], ◌∷◌, length, take, drop, Bool, true, false, not, ◌&&◌, ◌==◌, nat_le, if◌then◌else◌, Option, Some, None, option_map, codes, bytes_eq, position, is_some}
+use Rattle.std.specs.Prelude.{ℕ, ◌+◌, ◌-◌, ◌*◌, ℤ, pos, negsuc, List, [], ◌∷◌, Bool, true, false, not, ◌&&◌, ◌==◌, nat_le, if◌then◌else◌, Option, Some, None, option_map, codes, bytes_eq, is_some}
 use Rattle.toml.specs.Data.{Data, as_array, as_integer, as_str, as_table, Items, no_items, item}
 use Rattle.bm_base.specs.declared.capture.Vip.{Vip}
 use Rattle.bm_base.specs.declared.ids.ServerId.{ServerId}
@@ -48,7 +48,8 @@ decimal_number high text = if is_plain text then digits high 0 text else None
 
 -- the text before the first such octet, and the text behind it
 abbrev pub parted : ℕ → List ℕ → Option (List ℕ × List ℕ)
-parted mark text = option_map (λ at. (take at text, drop (at + 1) text)) (position (λ c. c == mark) text)
+parted mark [] = None
+parted mark (c ∷ text) = if c == mark then Some ([], text) else option_map (λ parts. (c ∷ parts.0, parts.1)) (parted mark text)
 
 -- a number of an octet before a mark, and the text behind it
 abbrev pub octet_before : ℕ → List ℕ → Option (ℕ × List ℕ)

@@ -59,7 +59,10 @@ impl fmt::Display for ScriptFault {
             ScriptFault::NotToml => write!(f, "script: not toml"),
             ScriptFault::Missing(place, key) => write!(f, "{place}missing {key}"),
             ScriptFault::BadValue(place, key) => write!(f, "{place}bad value of {key}"),
-            ScriptFault::Unknown(place, key) => write!(f, "{place}unknown key {}", key.as_str()),
+            ScriptFault::Unknown(place, key) => {
+                let key = key.as_str();
+                write!(f, "{place}unknown key {key}")
+            }
             ScriptFault::Refused(number, refusal) => {
                 write!(f, "script command {number}: {}", refusal_word(*refusal))
             }

@@ -5,6 +5,7 @@ mod commands;
 mod endpoint;
 mod fault;
 mod key;
+mod lists;
 mod rows;
 mod script;
 mod top;
