@@ -1,5 +1,5 @@
 //! The arrays of a script.
-ghost use Rattle.std.specs.Prelude.{◌≡◌, ◌≤◌, true, false, Some, None, IfOk, MatchResult, length};
+ghost use Rattle.std.specs.Prelude.{◌≡◌, ◌≤◌, true, false, Some, None, IfOk, MatchResult, ◌&&◌, nat_le, length};
 ghost use Rattle.bm_script.specs.Faults as faults;
 ghost use Rattle.bm_script.specs.Values as values;
 ghost use Rattle.bm_script.specs.declared.fault.Place.TheVariants.{Top};
@@ -27,10 +27,19 @@ pub(crate) fn items(
         (λ fault. (values.items_from low high (view value.now) ≡ None) × (fault ≡ BadValue Top key)) }
     ensures few { IfOk result (λ found. length found.now ≤ high) }
 {
-    match value.as_array() {
-        Some(found) if low <= found.len() && found.len() <= high => Ok(found.as_slice()),
-        _ => Err(ScriptFault::BadValue(Place::Top, key)),
+    let Some(found) = value.as_array() else {
+        return Err(ScriptFault::BadValue(Place::Top, key));
+    };
+    if !is_within(found.len(), low, high) {
+        return Err(ScriptFault::BadValue(Place::Top, key));
     }
+    Ok(found.as_slice())
+}
+
+fn is_within(count: usize, low: usize, high: usize) -> bool
+    ensures { result ≡ (nat_le low count && nat_le count high) }
+{
+    low <= count && count <= high
 }
 
 /// The items, where each is a table.
