@@ -9,11 +9,12 @@ use Rattle.bm_base.specs.declared.ids.ServerId.{ServerId}
 use Rattle.bm_script.specs.declared.fault.ScriptFault.{ScriptFault}
 use Rattle.bm_script.specs.declared.fault.Place.TheVariants.{Top}
 use Rattle.bm_script.specs.declared.key.Key.TheVariants as key
-use Rattle.bm_script.specs.Commands.{row_of, rows_from}
+use Rattle.bm_script.specs.Commands.{Progress, after_command, after_commands, row_of, rows_from}
 use Rattle.bm_script.specs.declared.fault.ScriptFault.TheVariants.{BadValue}
 use Rattle.bm_script.specs.Faults.{◌>>=◌}
 use Rattle.bm_script.specs.Values as values
 use Rattle.bm_table.specs.declared.setting.FaultRow.{FaultRow}
+use Rattle.bm_table.specs.Settings.{RiseFrom}
 
 -- COUNTS
 
@@ -121,15 +122,15 @@ regroup_rows : (front : List FaultRow) (row : FaultRow) (rest : Result (List Fau
 regroup_rows front row (Ok rows) = ap (λ (xs : List FaultRow). Ok xs) (simp append_assoc)
 regroup_rows front row (Err fault) = refl
 
-pub rows-more : (n : ℕ) (vs : List Value) (i : ℕ) (d : Value) (front : List FaultRow) (total : Result (List FaultRow) ScriptFault) (members : Members) (row : FaultRow) → i < length vs
-    → Some members ≡ as_table (view (get_or vs i d)) → row_of n members ≡ Ok row → with_rows front (rows_from n (items_view (drop i vs))) ≡ total
+pub rows-more : (n : ℕ) (vs : List Value) (i : ℕ) (d : Value) (front : List FaultRow) (total : Result (List FaultRow) ScriptFault) (inside : Members) (row : FaultRow) → i < length vs
+    → Some inside ≡ as_table (view (get_or vs i d)) → row_of n inside ≡ Ok row → with_rows front (rows_from n (items_view (drop i vs))) ≡ total
     → with_rows (front ++ row ∷ []) (rows_from (n + 1) (items_view (drop (i + 1) vs))) ≡ total
-rows-more n vs i d front total members row lt table is so_far =
+rows-more n vs i d front total inside row lt table is so_far =
     sym (sym so_far ∙ rw (items_view-drop vs i d lt, ← table, is) (regroup_rows front row (rows_from (n + 1) (items_view (drop (i + 1) vs)))))
 
-pub rows-fault : (n : ℕ) (vs : List Value) (i : ℕ) (d : Value) (front : List FaultRow) (total : Result (List FaultRow) ScriptFault) (members : Members) (fault : ScriptFault) → i < length vs
-    → Some members ≡ as_table (view (get_or vs i d)) → row_of n members ≡ Err fault → with_rows front (rows_from n (items_view (drop i vs))) ≡ total → total ≡ Err fault
-rows-fault n vs i d front total members fault lt table is so_far = sym so_far ∙ rw (items_view-drop vs i d lt, ← table, is) refl
+pub rows-fault : (n : ℕ) (vs : List Value) (i : ℕ) (d : Value) (front : List FaultRow) (total : Result (List FaultRow) ScriptFault) (inside : Members) (fault : ScriptFault) → i < length vs
+    → Some inside ≡ as_table (view (get_or vs i d)) → row_of n inside ≡ Err fault → with_rows front (rows_from n (items_view (drop i vs))) ≡ total → total ≡ Err fault
+rows-fault n vs i d front total inside fault lt table is so_far = sym so_far ∙ rw (items_view-drop vs i d lt, ← table, is) refl
 
 pub rows-bad : (n : ℕ) (vs : List Value) (i : ℕ) (d : Value) (front : List FaultRow) (total : Result (List FaultRow) ScriptFault) → i < length vs
     → None ≡ as_table (view (get_or vs i d)) → with_rows front (rows_from n (items_view (drop i vs))) ≡ total → total ≡ Err (BadValue Top key.Fault)
@@ -138,3 +139,26 @@ rows-bad n vs i d front total lt table so_far = sym so_far ∙ rw (items_view-dr
 pub rows-end : (n : ℕ) (vs : List Value) (i : ℕ) (front : List FaultRow) (total : Result (List FaultRow) ScriptFault) → length vs ≤ i
     → with_rows front (rows_from n (items_view (drop i vs))) ≡ total → total ≡ Ok front
 rows-end n vs i front total le so_far = sym so_far ∙ rw (drop_all i vs le) (ap (λ (xs : List FaultRow). Ok xs) (append-nil front))
+
+-- COMMANDS
+
+pub commands-more : (p q : Progress) (vs : List Value) (i : ℕ) (d : Value) (total : Result Progress ScriptFault) (inside : Members) → i < length vs
+    → Some inside ≡ as_table (view (get_or vs i d)) → after_command p inside ≡ Ok q → after_commands p (items_view (drop i vs)) ≡ total
+    → after_commands q (items_view (drop (i + 1) vs)) ≡ total
+commands-more p q vs i d total inside lt table is so_far = sym (sym so_far ∙ rw (items_view-drop vs i d lt, ← table, is) refl)
+
+pub commands-fault : (p : Progress) (vs : List Value) (i : ℕ) (d : Value) (total : Result Progress ScriptFault) (inside : Members) (fault : ScriptFault) → i < length vs
+    → Some inside ≡ as_table (view (get_or vs i d)) → after_command p inside ≡ Err fault → after_commands p (items_view (drop i vs)) ≡ total → total ≡ Err fault
+commands-fault p vs i d total inside fault lt table is so_far = sym so_far ∙ rw (items_view-drop vs i d lt, ← table, is) refl
+
+pub commands-bad : (p : Progress) (vs : List Value) (i : ℕ) (d : Value) (total : Result Progress ScriptFault) → i < length vs
+    → None ≡ as_table (view (get_or vs i d)) → after_commands p (items_view (drop i vs)) ≡ total → total ≡ Err (BadValue Top key.Command)
+commands-bad p vs i d total lt table so_far = sym so_far ∙ rw (items_view-drop vs i d lt, ← table) refl
+
+pub commands-end : (p : Progress) (vs : List Value) (i : ℕ) (total : Result Progress ScriptFault) → length vs ≤ i
+    → after_commands p (items_view (drop i vs)) ≡ total → total ≡ Ok p
+commands-end p vs i total le so_far = sym so_far ∙ rw (drop_all i vs le) refl
+
+pub RiseFrom-lower : (servers : List ServerId) → RiseFrom 1 servers → RiseFrom 0 servers
+RiseFrom-lower [] rise = tt
+RiseFrom-lower (s ∷ servers) rise = (omega arith, rise.1)

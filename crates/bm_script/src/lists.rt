@@ -30,10 +30,11 @@ pub(crate) fn items(
     let Some(found) = value.as_array() else {
         return Err(ScriptFault::BadValue(Place::Top, key));
     };
+    let found = found.as_slice();
     if !is_within(found.len(), low, high) {
         return Err(ScriptFault::BadValue(Place::Top, key));
     }
-    Ok(found.as_slice())
+    Ok(found)
 }
 
 fn is_within(count: usize, low: usize, high: usize) -> bool
