@@ -1,5 +1,6 @@
 //! The commands of a script, read in their order.
 ghost use Rattle.std.specs.Prelude.{◌≡◌, ◌≢◌, ◌≤◌, ◌<◌, Ok, Err, OnOk, IfOk, IfErr, length};
+ghost use Rattle.bm_controller.specs.Fleets.{IsFleet};
 ghost use Rattle.bm_script.specs.Commands as commands;
 ghost use Rattle.bm_script.specs.Faults as faults;
 ghost use Rattle.bm_script.specs.Keys.{verb_keys};
@@ -14,10 +15,10 @@ ghost use Rattle.toml.specs.View.{items_view, table_view, view};
 use crate::key::only_keys;
 use crate::value::{required, required_endpoint, required_number, required_server};
 use crate::{Key, Place, ScriptFault};
-use bm_base::{Flow, Moment, ServerId, Version};
+use bm_base::{Flow, List, Moment, ServerId, Version};
 use bm_controller::Controller;
 use bm_quota::Refusal;
-use bm_table::{Command, Setting};
+use bm_table::{Command, Plan, Setting};
 use std::alloc::Global;
 use toml::{Table, Value};
 
@@ -79,12 +80,12 @@ fn verb_of(value: &Value) -> Option<Verb>
 /// The commands read so far, and the controller that carries them out.
 #[derive(Debug, Drop)]
 pub(crate) struct Reading {
-    pub(crate) controller: Controller,
+    controller: Controller,
     /// The moment of the last command, or 0.
     last: u64,
     /// How many changes the controller's plan has.
     versions: u32,
-    pub(crate) commands: Vec<Command>,
+    commands: Vec<Command>,
 }
 
 /// The commands of these tables, carried out on the setting's servers.
@@ -128,6 +129,21 @@ impl Reading {
         let verb = required_verb(table, place)?;
         only_keys(alloc, table, place, verb.keys())?;
         self.carry_out(at, verb, table)
+    }
+
+    /// The plan that the commands made, and the commands.
+    pub(crate) fn into_parts(self) -> (Plan, List<Command>)
+        ensures plan { result.0 ≡ self.controller }
+        ensures fleet { IsFleet result.0 }
+        ensures commands { result.1 ≡ self.commands.items }
+    {
+        let Reading {
+            controller,
+            last: _,
+            versions: _,
+            commands,
+        } = self;
+        (controller.into_plan(), List::of(commands))
     }
 
     /// The number of the command that comes next.
