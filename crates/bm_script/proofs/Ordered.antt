@@ -1,11 +1,10 @@
 -- The commands that the definition gives are in order, and are refused as a script's are.
-use Rattle.std.proofs.Common.{◌≡◌, ℕ, suc, ◌+◌, ◌-◌, ◌*◌, ◌^◌, ◌<◌, ◌≤◌, Bool, true, false, not, ◌||◌, nat_le, nat_lt, cond, List, [], ◌∷◌, ◌++◌, length, map, Option, Some, None, Result, Ok, Err, refl, sym, ap, subst, ◌∙◌, arith, add-one, lt-ltb, le-ltb}
+use Rattle.std.proofs.Common.{◌≡◌, ℕ, ◌+◌, ◌-◌, ◌*◌, ◌^◌, ◌<◌, ◌≤◌, Bool, true, false, not, nat_le, nat_lt, cond, List, [], ◌∷◌, ◌++◌, length, map, Option, Some, None, Ok, Err, refl, sym, ap, subst, ◌∙◌, arith, le-ltb}
 use Rattle.std.proofs.lemmas.Bool.{or_right}
 use Rattle.std.proofs.lemmas.List.{length_push, map-append}
 use Rattle.std.specs.List.{AllByRecursion}
 use Rattle.toml.specs.Data.{as_table, Items, no_items, item, Members}
 use Rattle.bm_base.specs.Captures.{AreRising}
-use Rattle.bm_base.specs.declared.ids.Moment.{Moment}
 use Rattle.bm_base.specs.declared.ids.ServerId.{ServerId}
 use Rattle.bm_controller.proofs.FleetPlans.{knows-push}
 use Rattle.bm_controller.specs.Commands as controller
@@ -16,11 +15,10 @@ use Rattle.bm_quota.specs.declared.refusal.Refusal.TheVariants.{KnownServer, Unk
 use Rattle.bm_script.specs.declared.commands.Verb.{Verb}
 use Rattle.bm_script.specs.declared.commands.Verb.TheVariants.{Add, Drain, Move, Close, Retire, Sync}
 use Rattle.bm_script.specs.declared.fault.Place.TheVariants as at_
-use Rattle.bm_script.specs.declared.fault.ScriptFault.{ScriptFault}
 use Rattle.bm_script.specs.declared.fault.ScriptFault.TheVariants.{Refused}
 use Rattle.bm_script.specs.declared.key.Key.TheVariants as key
 use Rattle.bm_script.proofs.Sound.{Any, Meets, meets-only_keys, meets-required, meets-then, meets_valued, reads-number, reads_any}
-use Rattle.bm_script.specs.Commands.{after_command, after_commands, carried, changed, next, told, with_command, Progress}
+use Rattle.bm_script.specs.Commands.{after_command, after_commands, carried, changed, next, with_command, Progress}
 use Rattle.bm_script.specs.Faults.{IsOfScript}
 use Rattle.bm_script.specs.Keys.{verb_keys}
 use Rattle.bm_script.specs.Values as values

@@ -1,8 +1,7 @@
 -- What the definition gives is sound: a setting in its ranges, commands in their order, refusals of a script.
-use Rattle.std.proofs.Common.{◌≡◌, ◌≢◌, ◌⊎◌, ℕ, ℤ, pos, negsuc, zero, suc, ◌+◌, ◌*◌, ◌<◌, ◌≤◌, Bool, true, false, ◌&&◌, nat_le, cond, List, [], ◌∷◌, ◌++◌, length, map, replicate, Option, Some, None, option_map, ok_or, Result, Ok, Err, refl, sym, ap, subst, ◌∙◌, inl, inr, arith, le-leb, All}
+use Rattle.std.proofs.Common.{◌≡◌, ℕ, ℤ, pos, negsuc, zero, suc, ◌+◌, ◌≤◌, Bool, true, false, ◌&&◌, nat_le, cond, List, [], ◌∷◌, length, replicate, Option, Some, None, ok_or, Result, Ok, Err, refl, sym, ap, subst, arith, All}
 use Rattle.std.proofs.lemmas.Bool.{and_parts, leb-true}
-use Rattle.std.proofs.lemmas.List.Elements.{All-nil, All-cons, All-from_recursion}
-use Rattle.std.specs.List.{AllByRecursion}
+use Rattle.std.proofs.lemmas.List.Elements.{All-nil, All-cons}
 use Rattle.toml.specs.Data.{Data, as_array, as_integer, as_table, Items, no_items, item, Members}
 use Rattle.bm_base.specs.declared.capture.Vip.{Vip}
 use Rattle.bm_base.specs.declared.ids.ServerId.{ServerId}
@@ -19,8 +18,6 @@ use Rattle.bm_script.specs.Scripts.{setting_of}
 use Rattle.bm_script.specs.Values as values
 use Rattle.bm_table.proofs.SettingLemmas.{IsSetting-plain_setting}
 use Rattle.bm_table.specs.declared.setting.FaultRow.{FaultRow}
-use Rattle.bm_table.specs.declared.setting.RouteKind.{RouteKind}
-use Rattle.bm_table.specs.declared.setting.Setting.{Setting}
 use Rattle.bm_table.specs.Settings.{plain_setting, seconds, IsFaultRow, IsSetting, IsWithin, RiseFrom}
 
 -- a value of which P holds, or a fault that a script may have

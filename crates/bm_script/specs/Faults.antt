@@ -1,5 +1,5 @@
 -- The faults of a script: their texts, and the readers that end at the first one.
-use Rattle.std.specs.Prelude.{◌≡◌, ◌≢◌, ℕ, List, [], ◌∷◌, ◌++◌, Option, Some, None, Result, Ok, Err, ok_or, codes, decimal}
+use Rattle.std.specs.Prelude.{◌≡◌, ◌≢◌, ℕ, List, ◌++◌, Option, Some, None, Result, Ok, Err, ok_or, codes, decimal}
 use Rattle.bm_quota.specs.declared.refusal.Refusal.{Refusal}
 use Rattle.bm_quota.specs.declared.refusal.Refusal.TheVariants.{KnownServer, UnknownServer, NotActive, LastServer, BadBucket, SameServer, StampFell, TooMany, Memory as no_memory}
 use Rattle.bm_script.specs.declared.fault.Place.{Place}

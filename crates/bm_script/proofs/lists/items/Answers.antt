@@ -1,4 +1,4 @@
-use Rattle.std.proofs.Common.{◌≡◌, ◌∙◌, ap, sym, true, false, refl, List, Some}
+use Rattle.std.proofs.Common.{◌∙◌, ap, sym, true, false, refl, List, Some}
 use Rattle.bm_script.proofs.Fronts.{items_from-fits}
 use Rattle.toml.specs.View.{items_view, view}
 use Rattle.toml.specs.declared.value.Value.{Value}
