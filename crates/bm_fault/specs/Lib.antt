@@ -1,0 +1,5 @@
+pub mod Faults
+pub mod Flying
+pub mod Rows
+pub mod Views
+pub mod Wires

@@ -1,0 +1,34 @@
+-- What fault rows say of a sending (Beamer's design).
+use Rattle.std.specs.Prelude.{ℕ, Bool, true, false, ◌&&◌, ◌==◌, if◌then◌else◌, List, [], ◌∷◌, Option, Some, None}
+use Rattle.bm_base.specs.declared.label.Hop.{Hop}
+use Rattle.bm_base.specs.declared.label.Hop.TheVariants.{Direct, Chained}
+use Rattle.bm_base.specs.declared.receive.Fate.{Fate}
+use Rattle.bm_table.specs.declared.setting.FaultRow.{FaultRow}
+
+abbrev pub same_hop : Hop → Hop → Bool
+same_hop Direct Direct = true
+same_hop Chained Chained = true
+same_hop _ _ = false
+
+-- one copy without delay
+abbrev pub plain_fate : Fate
+plain_fate = record { copies = 1; delay = 0 }
+
+-- the fate in the first row of the packet and hop, or else one copy without delay
+abbrev pub fate_in : List FaultRow → ℕ → Hop → Fate
+fate_in [] k hop = plain_fate
+fate_in (row ∷ rows) k hop = if row.packet == k && same_hop row.hop hop then row.fate else fate_in rows k hop
+
+-- the first fate, or else the second
+abbrev pub fate_or : Option Fate → Option Fate → Option Fate
+fate_or None second = second
+fate_or (Some fate) second = Some fate
+
+-- what one row says of the packet and hop
+abbrev pub row_fate : FaultRow → ℕ → Hop → Option Fate
+row_fate row k hop = if row.packet == k && same_hop row.hop hop then Some row.fate else None
+
+-- what the first row of the packet and hop says, if there is one
+abbrev pub found_in : List FaultRow → ℕ → Hop → Option Fate
+found_in [] k hop = None
+found_in (row ∷ rows) k hop = fate_or (row_fate row k hop) (found_in rows k hop)

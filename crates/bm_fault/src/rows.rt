@@ -1,0 +1,88 @@
+//! The fault rows of a setting, found by packet and hop.
+ghost use Rattle.std.specs.Prelude.{◌≡◌, ◌==◌, ℕ, IfOk, Some, None, if◌then◌else◌, unwrap_or};
+ghost use Rattle.std.specs.BTreeMap.{get};
+ghost use Rattle.std.specs.Ordering.{nat_cmp};
+ghost use Rattle.bm_fault.specs.Rows.{fate_in, fate_or, found_in, plain_fate, row_fate};
+
+use bm_base::{Fate, Hop, Memory};
+use bm_table::FaultRow;
+use std::alloc::Global;
+use std::collections::BTreeMap;
+use std::marker::Model;
+
+/// One copy without delay.
+const PLAIN: Fate = Fate {
+    copies: 1,
+    delay: 0,
+};
+
+/// Fault rows, at most one for each packet and hop.
+#[derive(Drop)]
+pub struct FaultRows {
+    direct: BTreeMap<u32, Fate>,
+    chained: BTreeMap<u32, Fate>,
+}
+
+impl Model for FaultRows {
+    ghost use Rattle.std.specs.Prelude.{List};
+    ghost use Rattle.bm_table.specs.declared.setting.FaultRow.{FaultRow as Row};
+
+    ghost Value = { List Row };
+
+    ghost use Rattle.bm_fault.specs.Views.{rows_of};
+
+    ghost view = { rows_of };
+}
+
+impl FaultRows {
+    /// The rows that count: of two with the same packet and hop, the first. Takes time in proportion to n log n.
+    pub fn new(alloc: Global, rows: &[FaultRow]) -> Result<FaultRows, Memory>
+        ensures { IfOk result (λ kept. (packet : ℕ) (hop : _) → fate_in kept packet hop ≡ fate_in rows.now packet hop) }
+    {
+        let mut kept = FaultRows {
+            direct: BTreeMap::new(alloc),
+            chained: BTreeMap::new(alloc),
+        };
+        for row in rows {
+            kept.note(row)?;
+        }
+        Ok(kept)
+    }
+
+    /// Takes a row, unless one with its packet and hop is there.
+    fn note(&mut self, row: &FaultRow) -> Result<(), Memory>
+        ensures { IfOk result (λ _. (packet : ℕ) (hop : _) → found_in self.new packet hop ≡ fate_or (found_in self.old packet hop) (row_fate row.now packet hop)) }
+    {
+        match row.hop {
+            Hop::Direct => note_fate(&mut self.direct, row.packet, row.fate),
+            Hop::Chained => note_fate(&mut self.chained, row.packet, row.fate),
+        }
+    }
+
+    /// The fate in the first row of the packet and hop, or else one copy without delay. Takes time in proportion to log n.
+    pub fn fate(&self, packet: u32, hop: Hop) -> Fate
+        ensures { result ≡ fate_in self.now packet hop }
+    {
+        match hop {
+            Hop::Direct => fate_of(&self.direct, packet),
+            Hop::Chained => fate_of(&self.chained, packet),
+        }
+    }
+}
+
+/// The packet's fate, or one copy without delay.
+fn fate_of(fates: &BTreeMap<u32, Fate>, packet: u32) -> Fate
+    ensures { result ≡ unwrap_or (get nat_cmp fates.now packet) plain_fate }
+{
+    fates.get(&packet).copied().unwrap_or(PLAIN)
+}
+
+/// Takes a packet's fate, unless the packet has one.
+fn note_fate(fates: &mut BTreeMap<u32, Fate>, packet: u32, fate: Fate) -> Result<(), Memory>
+    ensures { IfOk result (λ _. (k : ℕ) → get nat_cmp fates.new k ≡ fate_or (get nat_cmp fates.old k) (if packet == k then Some fate else None)) }
+{
+    if !fates.contains_key(&packet) {
+        fates.insert(packet, fate)?;
+    }
+    Ok(())
+}
