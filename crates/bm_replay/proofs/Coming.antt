@@ -99,7 +99,7 @@ steered_rank : (b : Bool) (r : Record) (k : ℕ) (others : List Due) → Each (H
 steered_rank true r k others each = (record { is_rank = refl; of_call = refl }, each)
 steered_rank false r k others each = each
 
-packets_rank : (k : ℕ) (records : List Record) → Each (HasRank 6) (packets_from k records)
+pub packets_rank : (k : ℕ) (records : List Record) → Each (HasRank 6) (packets_from k records)
 packets_rank k [] = tt
 packets_rank k (r ∷ records) = steered_rank (is_some (steerable (Some r))) r k (packets_from (suc k) records) (packets_rank (suc k) records)
 
@@ -107,7 +107,7 @@ first_rank : (rank : ℕ) (dues : List Due) → Each (HasRank rank) dues → Eac
 first_rank rank [] each = tt
 first_rank rank (d ∷ dues) each = (each.0, tt)
 
-left_rank : (rank : ℕ) (dues : List Due) (n : ℕ) → Each (HasRank rank) dues → Each (HasRank rank) (first_of (dropped n dues))
+pub left_rank : (rank : ℕ) (dues : List Due) (n : ℕ) → Each (HasRank rank) dues → Each (HasRank rank) (first_of (dropped n dues))
 left_rank rank dues n each = first_rank rank (dropped n dues) (each_dropped (HasRank rank) n dues each)
 
 -- HEADS
@@ -137,7 +137,7 @@ commands_due stage past =
     ++ first_of (left (retire_commands stage.script.setting.shards stage.script.commands) past retires)
     ++ first_of (left (sync_commands stage.script.commands) past syncs)
 
-commands_are : (stage : Stage) (past : List Event) → Each IsCommand (commands_due stage past)
+pub commands_are : (stage : Stage) (past : List Event) → Each IsCommand (commands_due stage past)
 commands_are stage past =
     both _ _ (both _ _ (both _ _ (both _ _ (all_commands 0 (omega arith) _ (publish_rank (newest past) (next_change stage.script.plan (newest past))))
     (all_commands 1 (omega arith) _ (switches_rank stage past stage.script.setting.muxes)))

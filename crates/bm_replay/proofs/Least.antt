@@ -39,3 +39,15 @@ fold_parts (x ∷ xs) ys o = fold_parts xs ys (sooner o x)
 
 pub least_append : (xs ys : List Due) → least (xs ++ ys) ≡ sooner_of (least xs) (least ys)
 least_append xs ys = fold_parts xs ys None ∙ fold_more (least xs) ys
+
+some_least : (a : Due) (o : Option Due) → sooner_of (Some a) o ≡ None → ⊥
+some_least a None e = absurd (cc)
+some_least a (Some d) e = elim (cases_Bool (comes_first d a)) [
+  | inl is ↦ absurd (let bad : ◌≡◌ {A = Option Due} (Some d) None = rw is at e in cc)
+  | inr other ↦ absurd (let bad : ◌≡◌ {A = Option Due} (Some a) None = rw other at e in cc)
+]
+
+-- only a list of none has no least
+pub least_none : (xs : List Due) → least xs ≡ None → xs ≡ []
+least_none [] e = refl
+least_none (x ∷ xs) e = absurd (some_least x (least xs) (sym (fold_from xs x) ∙ e))

@@ -37,12 +37,12 @@ pub record IsPlayed (R : Routes) (F : Rules) (stage : Stage) (fates : List Fate)
   pub answered : AreAnswered R F stage fates past
   pub soon : AreSoon fates past
 
--- the commands of each kind, and the packets, that are left
-pub record KeepsQueues (stage : Stage) (past : List Event) (p : Player) : Type 0 where
-  pub due_closes : IsHead (left (close_commands stage.script.commands) past closes) (closes_from stage.script.commands p.close.next) p.close.head
-  pub due_retires : IsHead (left (retire_commands stage.script.setting.shards stage.script.commands) past retires) (retires_after stage.script.setting.shards stage.script.commands p.retire) p.retire.head
-  pub due_syncs : IsHead (left (sync_commands stage.script.commands) past syncs) (syncs_from stage.script.commands p.sync.next) p.sync.head
-  pub due_packets : IsHead (left (packets_from 1 stage.capture.records) past steers) (packets_after stage.capture.records p.packet.next) p.packet.head
+-- these queues are what is left of the commands of each kind and of the packets
+pub record KeepsQueues (stage : Stage) (past : List Event) (close retire sync packet : Queue) : Type 0 where
+  pub due_closes : IsHead (left (close_commands stage.script.commands) past closes) (closes_from stage.script.commands close.next) close.head
+  pub due_retires : IsHead (left (retire_commands stage.script.setting.shards stage.script.commands) past retires) (retires_after stage.script.setting.shards stage.script.commands retire) retire.head
+  pub due_syncs : IsHead (left (sync_commands stage.script.commands) past syncs) (syncs_from stage.script.commands sync.next) sync.head
+  pub due_packets : IsHead (left (packets_from 1 stage.capture.records) past steers) (packets_after stage.capture.records packet.next) packet.head
 
 -- each mux has the table of its version, and its switches lead from each version to the next
 pub record KeepsMuxes (stage : Stage) (past : List Event) (fleet : List Mux) (switch : Option Due) : Type 0 where
@@ -62,7 +62,7 @@ pub record KeepsState (fates : List Fate) (past : List Event) (p : Player) : Typ
   pub flights : AreFlying p.stage past p.wire (wire fates past)
   pub published : p.published ≡ newest past
   pub muxes : KeepsMuxes p.stage past p.fleet p.switch
-  pub queues : KeepsQueues p.stage past p
+  pub queues : KeepsQueues p.stage past p.close p.retire p.sync p.packet
   pub books : KeepsBooks p.stage past p.shards
 
 -- the events so far, the newest first
