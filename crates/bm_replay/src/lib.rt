@@ -8,7 +8,10 @@ mod fleet;
 mod packets;
 mod player;
 mod queue;
+mod replaying;
 mod shard;
 mod shards;
+mod steps;
 mod turn;
 
+pub use replaying::replay;

@@ -1,0 +1,293 @@
+-- A copy arrives, and goes on where it is forwarded.
+use Rattle.std.proofs.Common.{◌≡◌, ℕ, zero, suc, ◌+◌, ◌*◌, ◌^◌, ◌<◌, ◌≤◌, Bool, true, false, inl, inr, List, [], ◌∷◌, ◌++◌, Option, Some, None, is_some, length, set, refl, sym, ap, subst, ◌∙◌, arith}
+use Rattle.std.specs.Prelude.{IfSome}
+use Rattle.std.specs.List.{AllByRecursion}
+use Rattle.std.proofs.lemmas.Option.{same_Some}
+use Rattle.bm_base.specs.declared.ids.Moment.{Moment}
+use Rattle.bm_base.specs.declared.ids.MuxId.{MuxId}
+use Rattle.bm_base.specs.declared.ids.ServerId.{ServerId}
+use Rattle.bm_base.specs.declared.flow.Segment.{Segment}
+use Rattle.bm_base.specs.declared.capture.Record.{Record}
+use Rattle.bm_base.specs.declared.label.Entry.{Entry}
+use Rattle.bm_base.specs.declared.label.Hop.{Hop}
+use Rattle.bm_base.specs.declared.label.Hop.TheVariants.{Direct, Chained}
+use Rattle.bm_base.specs.declared.label.Label.{Label}
+use Rattle.bm_base.specs.declared.label.Tag.{Tag}
+use Rattle.bm_base.specs.declared.receive.Fate.{Fate}
+use Rattle.bm_base.specs.Labels.{stop, tag_for, tag_of}
+use Rattle.bm_fault.specs.declared.wire.Flight.{Flight}
+use Rattle.bm_fault.specs.Flying.{Flying}
+use Rattle.bm_fault.specs.Wires.{first_flight, others}
+use Rattle.bm_table.specs.Settings.{IsWithin}
+use Rattle.bm_core.specs.declared.events.Local.{Local}
+use Rattle.bm_core.specs.declared.events.Verdict.{Verdict}
+use Rattle.bm_core.specs.declared.events.Verdict.TheVariants.{Accept, Process, Forward, Reset, Drop}
+use Rattle.bm_core.specs.declared.events.What.{What}
+use Rattle.bm_core.specs.declared.events.What.TheVariants.{Arrive}
+use Rattle.bm_core.specs.declared.events.Event.{Event}
+use Rattle.bm_core.specs.declared.events.Stage.{Stage}
+use Rattle.bm_core.specs.declared.schedule.Call.TheVariants.{Arrives}
+use Rattle.bm_core.specs.declared.schedule.Due.{Due}
+use Rattle.bm_core.specs.declared.schedule.Underway.{Underway}
+use Rattle.bm_core.specs.Accounts.{Routes, Rules}
+use Rattle.bm_core.specs.Books.{Took, add_turn, book_local, book_of, took, turn_of}
+use Rattle.bm_core.specs.Past.{Sending, label_of, segment_of, sending_of, shard, timeout}
+use Rattle.bm_core.specs.Runs.{Run}
+use Rattle.bm_core.specs.Schedule.{barren, owed, put_sent, rest, wire, IsAnswered, IsServing}
+use Rattle.bm_core.specs.Stages.{IsFit, IsService}
+use Rattle.bm_core.specs.Verdicts.{Onward, local_at, onward, onward_with, verdict_at, verdict_of, verdict_on}
+use Rattle.bm_core.specs.Weights.{IsSoon}
+use Rattle.bm_core.proofs.Books.{local_in_book}
+use Rattle.bm_core.proofs.Pasts.{IsLabel, label_is, label_stays}
+use Rattle.bm_core.proofs.Stops.{HasStop, first_stop}
+use Rattle.bm_core.proofs.Tagged.{verdict_by_tag}
+use Rattle.bm_replay.specs.declared.player.Player.{Player}
+use Rattle.bm_replay.specs.declared.shard.Shard.{Shard}
+use Rattle.bm_replay.specs.Connections.{local_of, shard_after, shard_at}
+use Rattle.bm_replay.specs.Flights.{AreFlying, IsFlying, copies_put}
+use Rattle.bm_replay.specs.Players.{CanArrive, HasArrived, HasGoneOn, HasPlaces, HasSent, after_arrival, chained, happened, loss_of, place_for, sent, verdict_for}
+use Rattle.bm_replay.specs.Playing.{HasPlayed, IsPlayed, KeepsState, lost_call, past_of}
+use Rattle.bm_replay.specs.Shards.{IsLeftBy, KeepsBooks, place_of}
+use Rattle.bm_replay.proofs.Books.{local_is, settled}
+use Rattle.bm_replay.proofs.Coming.{copy_due}
+use Rattle.bm_replay.proofs.Flights.{HasStopAt, all_stay, copies_fly, first_flies, others_fly, tag_stop}
+use Rattle.bm_replay.proofs.Keeping.{AreBut, books_more, muxes_stay, place_inside, queues_stay, set_one}
+use Rattle.bm_replay.proofs.Moments.{HasNumbers, table_numbers}
+use Rattle.bm_replay.proofs.Ready.{IsReady, IsReadyCopy, clock_low, packaged, plain, plain_soon, told}
+use Rattle.bm_replay.proofs.Sending.{loss_owed}
+
+-- THE FIRST COPY
+
+-- the flight is of the copy, with what its packet's label says, and is for this stop
+pub record IsLanding (stage : Stage) (past : List Event) (flight : Flight) (u : Underway) : Type 0 where
+  pub packet : flight.packet ≡ u.packet
+  pub hop : flight.tag.hop ≡ u.hop
+  pub label : Label
+  pub is_label : label_of stage past flight.packet ≡ Some label
+  pub tag : tag_of label flight.tag.hop ≡ Some flight.tag
+  pub place : stop label.entry flight.tag.hop ≡ Some flight.tag.dest
+
+landed : (stage : Stage) (past : List Event) (f : Flying) (u : Underway) → IsFlying stage past f u → IsLanding stage past f.flight u
+landed stage past f u is =
+    let at : HasStopAt is.label u.hop f.flight.tag = tag_stop is.label u.hop f.flight.tag is.tag
+    in record {
+      packet = is.packet;
+      hop = at.is_hop;
+      label = is.label;
+      is_label = ap (λ (k : ℕ). label_of stage past k) is.packet ∙ is.is_label;
+      tag = ap (λ (h : Hop). tag_of is.label h) at.is_hop ∙ is.tag;
+      place = ap (λ (h : Hop). stop is.label.entry h) at.is_hop ∙ at.place;
+    }
+
+landing : (stage : Stage) (past : List Event) (flying : List Flying) (dues : List Underway) (u : Underway) (later : List Underway) (flight : Flight) → AreFlying stage past flying dues → dues ≡ u ∷ later → first_flight flying ≡ Some flight
+    → IsLanding stage past flight u
+landing stage past flying dues u later flight are is first =
+    let f = first_flies stage past flying dues u later are is
+    in let same : f.0.flight ≡ flight = same_Some _ _ (sym f.1 ∙ first)
+    in subst (λ (x : Flight). IsLanding stage past x u) same (landed stage past f.0 u f.2)
+
+stop_number : (e : Entry) (hop : Hop) (s : ServerId) → HasNumbers e → stop e hop ≡ Some s → s.0 ≤ 1024
+stop_number e Direct s numbers is = let same : e.cur ≡ s = same_Some _ _ is in subst (λ (x : ServerId). x.0 ≤ 1024) same numbers.cur
+stop_number e Chained s numbers is = subst (λ (o : Option ServerId). IfSome o (λ x. x.0 ≤ 1024)) is numbers.prev
+
+landing_number : (stage : Stage) (past : List Event) (flight : Flight) (u : Underway) → Run stage past → ((v b : ℕ) → HasNumbers (Rattle.bm_table.specs.Tables.table stage.script.plan v b)) → IsLanding stage past flight u → flight.tag.dest.0 ≤ 1024
+landing_number stage past flight u run numbers is =
+    let l : IsLabel stage past flight.packet is.label = label_is stage past run flight.packet is.label is.is_label
+    in stop_number is.label.entry flight.tag.hop flight.tag.dest (subst HasNumbers (sym l.entry) (numbers is.label.version.0 _)) is.place
+
+fit_len : (vips : List _) (records : List Record) (i : ℕ) (s : Segment) → AllByRecursion (λ r. IsFit vips r) records → Rattle.bm_core.specs.Past.steerable (Rattle.std.specs.Prelude.slice_get records i) ≡ Some s → s.len ≤ 1048576
+fit_len vips [] i s fit is = absurd (cc)
+fit_len vips (r ∷ records) zero s fit is =
+    let h : IsService vips s.flow × (s.len ≤ 1048576) = subst (λ (o : Option Segment). IfSome o (λ x. IsService vips x.flow × (x.len ≤ 1048576))) is fit.0
+    in h.1
+fit_len vips (r ∷ records) (suc i) s fit is = fit_len vips records i s fit.1 is
+
+segment_len : (stage : Stage) (k : ℕ) (s : Segment) → AllByRecursion (λ r. IsFit stage.script.setting.vips r) stage.capture.records → segment_of stage k ≡ Some s → s.len ≤ 1048576
+segment_len stage zero s fit is = absurd (cc)
+segment_len stage (suc i) s fit is = fit_len stage.script.setting.vips stage.capture.records i s fit is
+
+pub can_arrive : (R : Routes) (F : Rules) (p : Player) (at : Moment) → IsReadyCopy R F p at → CanArrive at p
+can_arrive R F p at c =
+    let f = first_flies p.stage (past_of p) p.wire (wire c.ready.fates (past_of p)) c.copy c.others c.ready.state.flights c.is_wire
+    in let is : IsLanding p.stage (past_of p) f.0.flight c.copy = landed p.stage (past_of p) f.0 c.copy f.2
+    in let st : HasStop p.stage (past_of p) c.copy.packet c.copy.hop = first_stop c.ready.fates p.stage (past_of p) c.copy c.others c.ready.played.run c.is_wire
+    in let seg : segment_of p.stage f.0.flight.packet ≡ Some st.segment = ap (λ (k : ℕ). segment_of p.stage k) is.packet ∙ st.is_segment
+    in record {
+      flight = f.0.flight;
+      is_flight = f.1;
+      segment = st.segment;
+      is_segment = seg;
+      clock = clock_low R F p at (copy_due c.copy) c.ready;
+      len = segment_len p.stage f.0.flight.packet st.segment c.ready.played.sound.records_fit seg;
+      dest = landing_number p.stage (past_of p) f.0.flight c.copy c.ready.played.run (λ v b. table_numbers p.stage.script c.ready.played.sound.script v b) is;
+      places = record { shards = c.ready.played.sound.script.setting.shards; lie = c.ready.state.books.lie };
+    }
+
+-- THE VERDICT
+
+shard_below : (stage : Stage) (s : Segment) → 1 ≤ stage.script.setting.shards → shard stage s.flow < stage.script.setting.shards
+shard_below stage s some = omega arith
+
+local_same : (p : Player) (past : List Event) (flight : Flight) (s : Segment) → flight.tag.dest.0 ≤ 1024 → 1 ≤ p.stage.script.setting.shards → KeepsBooks p.stage past p.shards
+    → local_of p.stage.script.setting.capacity (shard_at p.shards (place_for p flight s)) s.flow ≡ local_at p.stage past flight.tag.dest s.flow
+local_same p past flight s number some keeps =
+    local_is p.stage.script.setting.capacity (book_of p.stage past flight.tag.dest (shard p.stage s.flow)) (shard_at p.shards (place_for p flight s)) s.flow (keeps.books flight.tag.dest (shard p.stage s.flow) number (shard_below p.stage s some))
+    ∙ sym (local_in_book p.stage past flight.tag.dest s.flow)
+
+verdict_same : (p : Player) (past : List Event) (at : Moment) (flight : Flight) (s : Segment) (u : Underway) (is : IsLanding p.stage past flight u) → flight.tag.dest.0 ≤ 1024 → 1 ≤ p.stage.script.setting.shards → KeepsBooks p.stage past p.shards
+    → verdict_for p at flight s ≡ verdict_at p.stage past at.0 is.label flight.tag.hop flight.tag.dest s
+verdict_same p past at flight s u is number some keeps =
+    ap (λ (l : Local). verdict_on l p.stage.script.setting.timeout at.0 flight.tag s) (local_same p past flight s number some keeps)
+    ∙ verdict_by_tag (local_at p.stage past flight.tag.dest s.flow) p.stage.script.setting.timeout at.0 is.label flight.tag.hop flight.tag s is.tag
+
+arrive_answered : (p : Player) (past : List Event) (at : Moment) (flight : Flight) (s : Segment) (u : Underway) → IsLanding p.stage past flight u → flight.tag.dest.0 ≤ 1024 → 1 ≤ p.stage.script.setting.shards → KeepsBooks p.stage past p.shards
+    → segment_of p.stage flight.packet ≡ Some s → IsAnswered p.stage past at.0 (Arrive flight.packet flight.tag.hop flight.tag.dest (verdict_for p at flight s))
+arrive_answered p past at flight s u is number some keeps seg = record {
+  segment = s;
+  is_segment = seg;
+  label = is.label;
+  is_label = is.is_label;
+  place = is.place;
+  verdict_is = verdict_same p past at flight s u is number some keeps;
+}
+
+-- WHERE IT IS FORWARDED TO
+
+forward_onward : (local : Local) (timeout clock : ℕ) (hop : Hop) (s : Segment) (to : ServerId) → verdict_of local timeout clock hop None s ≡ Forward to → ⊥
+forward_onward local timeout clock hop s to e = grind arith
+
+forward_server : (local : Local) (timeout clock : ℕ) (hop : Hop) (o : Onward) (s : Segment) (to : ServerId) → verdict_of local timeout clock hop (Some o) s ≡ Forward to → o.server ≡ to
+forward_server local timeout clock hop o s to e = grind arith
+
+-- a copy that is forwarded was a direct one, and goes to the previous server
+record IsPassed (e : Entry) (hop : Hop) (to : ServerId) : Type 0 where
+  direct : hop ≡ Direct
+  prev : e.prev ≡ Some to
+
+passed_with : (local : Local) (timeout clock : ℕ) (e : Entry) (s : Segment) (to : ServerId) (o : Option ServerId) → e.prev ≡ o → verdict_of local timeout clock Direct (onward_with e.stamp.0 o) s ≡ Forward to → IsPassed e Direct to
+passed_with local timeout clock e s to None at is = absurd (forward_onward local timeout clock Direct s to is)
+passed_with local timeout clock e s to (Some server) at is =
+    record { direct = refl; prev = at ∙ ap (λ (x : ServerId). Some x) (forward_server local timeout clock Direct (record { server = server; stamp = e.stamp.0 }) s to is) }
+
+passed : (local : Local) (timeout clock : ℕ) (e : Entry) (hop : Hop) (s : Segment) (to : ServerId) → verdict_of local timeout clock hop (onward e hop) s ≡ Forward to → IsPassed e hop to
+passed local timeout clock e Chained s to is = absurd (forward_onward local timeout clock Chained s to is)
+passed local timeout clock e Direct s to is = passed_with local timeout clock e s to e.prev refl is
+
+-- the tag of the chained copy
+chained_tag : (l : Label) (hop : Hop) (t : Tag) (to : ServerId) → l.entry.prev ≡ Some to → tag_for l hop t.dest ≡ t → tag_of l Chained ≡ Some (record t { hop = Chained; dest = to })
+chained_tag l hop t to prev is =
+    let there : tag_of l Chained ≡ Some (tag_for l Chained to) = rw prev refl
+    in there ∙ ap (λ (x : Tag). Some (record x { hop = Chained; dest = to })) is
+
+-- THE STATE AFTER IT
+
+abbrev arrive_what : Moment → Flight → Segment → Player → What
+arrive_what at flight s p = Arrive flight.packet flight.tag.hop flight.tag.dest (verdict_for p at flight s)
+
+abbrev arrive_event : Moment → Flight → Segment → Player → Event
+arrive_event at flight s p = record { clock = at; what = Arrive flight.packet flight.tag.hop flight.tag.dest (verdict_for p at flight s) }
+
+-- the first copy that comes next, at its stop
+record IsAtStop (R : Routes) (F : Rules) (p : Player) (at : Moment) (flight : Flight) (s : Segment) : Type 0 where
+  copy : IsReadyCopy R F p at
+  is_landing : IsLanding p.stage (past_of p) flight copy.copy
+  number : flight.tag.dest.0 ≤ 1024
+  some : 1 ≤ p.stage.script.setting.shards
+  is_segment : segment_of p.stage flight.packet ≡ Some s
+
+books_arrived : (p : Player) (past : List Event) (at : Moment) (flight : Flight) (s : Segment) → flight.tag.dest.0 ≤ 1024 → 1 ≤ p.stage.script.setting.shards → segment_of p.stage flight.packet ≡ Some s → KeepsBooks p.stage past p.shards
+    → KeepsBooks p.stage (arrive_event at flight s p ∷ past) (set p.shards (place_for p flight s) (shard_after (verdict_for p at flight s) s (shard_at p.shards (place_for p flight s))))
+books_arrived p past at flight s number some seg keeps =
+    books_more p.stage past (arrive_event at flight s p) p.shards _ (Took s (verdict_for p at flight s)) flight.tag.dest (shard p.stage s.flow) (shard_after (verdict_for p at flight s) s (shard_at p.shards (place_for p flight s)))
+    number (shard_below p.stage s some) (λ t h. rw seg refl)
+    (set_one (place_for p flight s) _ p.shards (place_inside flight.tag.dest.0 p.stage.script.setting.shards (shard p.stage s.flow) (length p.shards) number (shard_below p.stage s some) keeps.lie))
+    (settled (verdict_for p at flight s) s (book_of p.stage past flight.tag.dest (shard p.stage s.flow)) _ (keeps.books flight.tag.dest (shard p.stage s.flow) number (shard_below p.stage s some))) keeps
+
+told_arrival : (R : Routes) (F : Rules) (p : Player) (at : Moment) (flight : Flight) (s : Segment) (c : IsAtStop R F p at flight s) (f : Fate) → IfSome (sending_of (arrive_what at flight s p)) (λ x. F x.packet x.hop f) → IsSoon f
+    → IsPlayed R F p.stage (f ∷ c.copy.ready.fates) (arrive_event at flight s p ∷ past_of p)
+told_arrival R F p at flight s c f given soon =
+    told R F p at (copy_due c.copy.copy) c.copy.ready (arrive_what at flight s p) f (λ i. Arrives (c.is_landing.packet i) (c.is_landing.hop i))
+    (arrive_answered p (past_of p) at flight s c.copy.copy c.is_landing c.number c.some c.copy.ready.state.books c.is_segment) tt given soon
+
+kept_arrival : (R : Routes) (F : Rules) (p : Player) (at : Moment) (flight : Flight) (s : Segment) (c : IsAtStop R F p at flight s) (f : Fate) (o : Option Sending) (flying : List Flying) (loss : Option _) → sending_of (arrive_what at flight s p) ≡ o
+    → AreFlying p.stage (arrive_event at flight s p ∷ past_of p) flying (put_sent f (length (past_of p)) at.0 o (rest (wire c.copy.ready.fates (past_of p)))) → lost_call loss ≡ barren f o
+    → KeepsState (f ∷ c.copy.ready.fates) (arrive_event at flight s p ∷ past_of p) (record (after_arrival at flight s p) { wire = flying; loss = loss })
+kept_arrival R F p at flight s c f o flying loss is are owes = record {
+  clock = refl;
+  loss = owes ∙ ap (λ (x : Option Sending). barren f x) (sym is);
+  flights = subst (λ (x : Option Sending). AreFlying p.stage (arrive_event at flight s p ∷ past_of p) flying (put_sent f (length (past_of p)) at.0 x (rest (wire c.copy.ready.fates (past_of p))))) (sym is) are;
+  published = c.copy.ready.state.published;
+  muxes = muxes_stay p.stage (past_of p) (arrive_event at flight s p) p.fleet p.switch (λ m. refl) (λ m. refl) c.copy.ready.state.muxes;
+  queues = queues_stay p.stage (past_of p) (arrive_event at flight s p) p.close p.retire p.sync p.packet refl refl refl refl c.copy.ready.state.queues;
+  books = books_arrived p (past_of p) at flight s c.number c.some c.is_segment c.copy.ready.state.books;
+}
+
+others_arrived : (R : Routes) (F : Rules) (p : Player) (at : Moment) (flight : Flight) (s : Segment) (c : IsAtStop R F p at flight s) (f : Fate) → IsPlayed R F p.stage (f ∷ c.copy.ready.fates) (arrive_event at flight s p ∷ past_of p)
+    → AreFlying p.stage (arrive_event at flight s p ∷ past_of p) (others p.wire) (rest (wire c.copy.ready.fates (past_of p)))
+others_arrived R F p at flight s c f played =
+    others_fly p.stage (arrive_event at flight s p ∷ past_of p) p.wire (wire c.copy.ready.fates (past_of p))
+    (all_stay p.stage (past_of p) (arrive_event at flight s p) played.run.0 p.wire (wire c.copy.ready.fates (past_of p)) c.copy.ready.state.flights)
+
+-- it goes nowhere
+ended : (R : Routes) (F : Rules) (p q : Player) (at : Moment) (flight : Flight) (s : Segment) → IsAtStop R F p at flight s → sending_of (arrive_what at flight s p) ≡ None → q ≡ after_arrival at flight s p → HasPlayed R F p q
+ended R F p q at flight s c none is =
+    let given : IfSome (sending_of (arrive_what at flight s p)) (λ x. F x.packet x.hop plain) = subst (λ (o : Option Sending). IfSome o (λ x. F x.packet x.hop plain)) (sym none) tt
+    in let played : IsPlayed R F p.stage (plain ∷ c.copy.ready.fates) (arrive_event at flight s p ∷ past_of p) = told_arrival R F p at flight s c plain given plain_soon
+    in subst (λ (x : Player). HasPlayed R F p x) (sym is)
+    (packaged R F p (after_arrival at flight s p) plain c.copy.ready.fates (arrive_event at flight s p) refl refl played
+      (kept_arrival R F p at flight s c plain None (others p.wire) p.loss none (others_arrived R F p at flight s c plain played) (c.copy.ready.state.loss ∙ c.copy.ready.not_owed)))
+
+sends_on : (k : ℕ) (hop : Hop) (server to : ServerId) → hop ≡ Direct → sending_of (Arrive k hop server (Forward to)) ≡ Some (record { packet = k; hop = Chained })
+sends_on k hop server to is = rw is refl
+
+-- it is forwarded
+went_on : (R : Routes) (F : Rules) (p q : Player) (at : Moment) (flight : Flight) (s : Segment) (to : ServerId) → IsAtStop R F p at flight s → verdict_for p at flight s ≡ Forward to → HasSent F at (chained to flight) (after_arrival at flight s p) q → HasPlayed R F p q
+went_on R F p q at flight s to c forward sending =
+    subst (λ (x : Player). HasPlayed R F p x) (sym sending.is)
+    (packaged R F p (sent sending.fate at (chained to flight) (after_arrival at flight s p)) sending.fate c.copy.ready.fates (arrive_event at flight s p) refl refl played
+      (kept_arrival R F p at flight s c sending.fate (Some (record { packet = flight.packet; hop = Chained })) _ _ sends
+        (copies_fly p.stage (arrive_event at flight s p ∷ past_of p) _ _ flying sending.fate.copies (others p.wire) (rest (wire c.copy.ready.fates (past_of p))) (others_arrived R F p at flight s c sending.fate played))
+        (loss_owed sending.fate (chained to flight) (record { packet = flight.packet; hop = Chained }) refl refl))) where
+      is_passed : IsPassed c.is_landing.label.entry flight.tag.hop to
+      is_passed = passed (local_at p.stage (past_of p) flight.tag.dest s.flow) (timeout p.stage) at.0 c.is_landing.label.entry flight.tag.hop s to
+          (sym (verdict_same p (past_of p) at flight s c.copy.copy c.is_landing c.number c.some c.copy.ready.state.books) ∙ forward)
+
+      sends : sending_of (arrive_what at flight s p) ≡ Some (record { packet = flight.packet; hop = Chained })
+      sends = ap (λ (v : Verdict). sending_of (Arrive flight.packet flight.tag.hop flight.tag.dest v)) forward ∙ sends_on flight.packet flight.tag.hop flight.tag.dest to is_passed.direct
+
+      given : IfSome (sending_of (arrive_what at flight s p)) (λ x. F x.packet x.hop sending.fate)
+      given = subst (λ (o : Option Sending). IfSome o (λ x. F x.packet x.hop sending.fate)) (sym sends) sending.gives
+
+      played : IsPlayed R F p.stage (sending.fate ∷ c.copy.ready.fates) (arrive_event at flight s p ∷ past_of p)
+      played = told_arrival R F p at flight s c sending.fate given sending.soon
+
+      stop_here : HasStopAt c.is_landing.label flight.tag.hop flight.tag
+      stop_here = tag_stop c.is_landing.label flight.tag.hop flight.tag c.is_landing.tag
+
+      flying : IsFlying p.stage (arrive_event at flight s p ∷ past_of p) (record { due = record { 0 = at.0 + sending.fate.delay }; flight = chained to flight })
+          (record { moment = at.0 + sending.fate.delay; place = length (past_of p); packet = flight.packet; hop = Chained })
+      flying = record {
+        due = refl;
+        packet = refl;
+        label = c.is_landing.label;
+        is_label = label_stays p.stage (past_of p) (arrive_event at flight s p) flight.packet c.is_landing.label played.run.0 c.is_landing.is_label;
+        tag = chained_tag c.is_landing.label flight.tag.hop flight.tag to is_passed.prev stop_here.is_tag;
+      }
+
+by_verdict : (R : Routes) (F : Rules) (p q : Player) (at : Moment) (flight : Flight) (s : Segment) → IsAtStop R F p at flight s → (v : Verdict) → verdict_for p at flight s ≡ v → HasGoneOn F at flight v (after_arrival at flight s p) q → HasPlayed R F p q
+by_verdict R F p q at flight s c (Forward to) is gone = went_on R F p q at flight s to c is gone
+by_verdict R F p q at flight s c Accept is gone = ended R F p q at flight s c (ap (λ (v : Verdict). sending_of (Arrive flight.packet flight.tag.hop flight.tag.dest v)) is) gone
+by_verdict R F p q at flight s c (Process t) is gone = ended R F p q at flight s c (ap (λ (v : Verdict). sending_of (Arrive flight.packet flight.tag.hop flight.tag.dest v)) is) gone
+by_verdict R F p q at flight s c (Reset why) is gone = ended R F p q at flight s c (ap (λ (v : Verdict). sending_of (Arrive flight.packet flight.tag.hop flight.tag.dest v)) is) gone
+by_verdict R F p q at flight s c (Drop why) is gone = ended R F p q at flight s c (ap (λ (v : Verdict). sending_of (Arrive flight.packet flight.tag.hop flight.tag.dest v)) is) gone
+
+pub arrived : (R : Routes) (F : Rules) (p q : Player) (at : Moment) → IsReadyCopy R F p at → HasArrived F at p q → HasPlayed R F p q
+arrived R F p q at c come =
+    let is : IsLanding p.stage (past_of p) come.flight c.copy = landing p.stage (past_of p) p.wire (wire c.ready.fates (past_of p)) c.copy c.others come.flight c.ready.state.flights c.is_wire come.is_flight
+    in by_verdict R F p q at come.flight come.segment (record {
+      copy = c;
+      is_landing = is;
+      number = landing_number p.stage (past_of p) come.flight c.copy c.ready.played.run (λ v b. table_numbers p.stage.script c.ready.played.sound.script v b) is;
+      some = c.ready.played.sound.script.setting.shards.0;
+      is_segment = come.is_segment;
+    }) (verdict_for p at come.flight come.segment) refl come.is
