@@ -1,10 +1,9 @@
 -- A copy arrives, and goes on where it is forwarded.
-use Rattle.std.proofs.Common.{◌≡◌, ℕ, zero, suc, ◌+◌, ◌*◌, ◌^◌, ◌<◌, ◌≤◌, Bool, true, false, inl, inr, List, [], ◌∷◌, ◌++◌, Option, Some, None, is_some, length, set, refl, sym, ap, subst, ◌∙◌, arith}
+use Rattle.std.proofs.Common.{◌≡◌, ℕ, zero, suc, ◌+◌, ◌<◌, ◌≤◌, List, [], ◌∷◌, Option, Some, None, length, set, refl, sym, ap, subst, ◌∙◌, arith}
 use Rattle.std.specs.Prelude.{IfSome}
 use Rattle.std.specs.List.{AllByRecursion}
 use Rattle.std.proofs.lemmas.Option.{same_Some}
 use Rattle.bm_base.specs.declared.ids.Moment.{Moment}
-use Rattle.bm_base.specs.declared.ids.MuxId.{MuxId}
 use Rattle.bm_base.specs.declared.ids.ServerId.{ServerId}
 use Rattle.bm_base.specs.declared.flow.Segment.{Segment}
 use Rattle.bm_base.specs.declared.capture.Record.{Record}
@@ -18,7 +17,6 @@ use Rattle.bm_base.specs.Labels.{stop, tag_for, tag_of}
 use Rattle.bm_fault.specs.declared.wire.Flight.{Flight}
 use Rattle.bm_fault.specs.Flying.{Flying}
 use Rattle.bm_fault.specs.Wires.{first_flight, others}
-use Rattle.bm_table.specs.Settings.{IsWithin}
 use Rattle.bm_core.specs.declared.events.Local.{Local}
 use Rattle.bm_core.specs.declared.events.Verdict.{Verdict}
 use Rattle.bm_core.specs.declared.events.Verdict.TheVariants.{Accept, Process, Forward, Reset, Drop}
@@ -27,13 +25,12 @@ use Rattle.bm_core.specs.declared.events.What.TheVariants.{Arrive}
 use Rattle.bm_core.specs.declared.events.Event.{Event}
 use Rattle.bm_core.specs.declared.events.Stage.{Stage}
 use Rattle.bm_core.specs.declared.schedule.Call.TheVariants.{Arrives}
-use Rattle.bm_core.specs.declared.schedule.Due.{Due}
 use Rattle.bm_core.specs.declared.schedule.Underway.{Underway}
 use Rattle.bm_core.specs.Accounts.{Routes, Rules}
-use Rattle.bm_core.specs.Books.{Took, add_turn, book_local, book_of, took, turn_of}
+use Rattle.bm_core.specs.Books.{Took, book_of}
 use Rattle.bm_core.specs.Past.{Sending, label_of, segment_of, sending_of, shard, timeout}
 use Rattle.bm_core.specs.Runs.{Run}
-use Rattle.bm_core.specs.Schedule.{barren, owed, put_sent, rest, wire, IsAnswered, IsServing}
+use Rattle.bm_core.specs.Schedule.{barren, put_sent, rest, wire, IsAnswered}
 use Rattle.bm_core.specs.Stages.{IsFit, IsService}
 use Rattle.bm_core.specs.Verdicts.{Onward, local_at, onward, onward_with, verdict_at, verdict_of, verdict_on}
 use Rattle.bm_core.specs.Weights.{IsSoon}
@@ -42,18 +39,17 @@ use Rattle.bm_core.proofs.Pasts.{IsLabel, label_is, label_stays}
 use Rattle.bm_core.proofs.Stops.{HasStop, first_stop}
 use Rattle.bm_core.proofs.Tagged.{verdict_by_tag}
 use Rattle.bm_replay.specs.declared.player.Player.{Player}
-use Rattle.bm_replay.specs.declared.shard.Shard.{Shard}
 use Rattle.bm_replay.specs.Connections.{local_of, shard_after, shard_at}
-use Rattle.bm_replay.specs.Flights.{AreFlying, IsFlying, copies_put}
-use Rattle.bm_replay.specs.Players.{CanArrive, HasArrived, HasGoneOn, HasPlaces, HasSent, after_arrival, chained, happened, loss_of, place_for, sent, verdict_for}
+use Rattle.bm_replay.specs.Flights.{AreFlying, IsFlying}
+use Rattle.bm_replay.specs.Players.{CanArrive, HasArrived, HasGoneOn, HasSent, after_arrival, chained, place_for, sent, verdict_for}
 use Rattle.bm_replay.specs.Playing.{HasPlayed, IsPlayed, KeepsState, lost_call, past_of}
-use Rattle.bm_replay.specs.Shards.{IsLeftBy, KeepsBooks, place_of}
+use Rattle.bm_replay.specs.Shards.{KeepsBooks}
 use Rattle.bm_replay.proofs.Books.{local_is, settled}
 use Rattle.bm_replay.proofs.Coming.{copy_due}
 use Rattle.bm_replay.proofs.Flights.{HasStopAt, all_stay, copies_fly, first_flies, others_fly, tag_stop}
-use Rattle.bm_replay.proofs.Keeping.{AreBut, books_more, muxes_stay, place_inside, queues_stay, set_one}
+use Rattle.bm_replay.proofs.Keeping.{books_more, muxes_stay, place_inside, queues_stay, set_one}
 use Rattle.bm_replay.proofs.Moments.{HasNumbers, table_numbers}
-use Rattle.bm_replay.proofs.Ready.{IsReady, IsReadyCopy, clock_low, packaged, plain, plain_soon, told}
+use Rattle.bm_replay.proofs.Ready.{IsReadyCopy, clock_low, packaged, plain, plain_soon, told}
 use Rattle.bm_replay.proofs.Sending.{loss_owed}
 
 -- THE FIRST COPY
@@ -235,7 +231,7 @@ ended R F p q at flight s c none is =
     in let played : IsPlayed R F p.stage (plain ∷ c.copy.ready.fates) (arrive_event at flight s p ∷ past_of p) = told_arrival R F p at flight s c plain given plain_soon
     in subst (λ (x : Player). HasPlayed R F p x) (sym is)
     (packaged R F p (after_arrival at flight s p) plain c.copy.ready.fates (arrive_event at flight s p) refl refl played
-      (kept_arrival R F p at flight s c plain None (others p.wire) p.loss none (others_arrived R F p at flight s c plain played) (c.copy.ready.state.loss ∙ c.copy.ready.not_owed)))
+    (kept_arrival R F p at flight s c plain None (others p.wire) p.loss none (others_arrived R F p at flight s c plain played) (c.copy.ready.state.loss ∙ c.copy.ready.not_owed)))
 
 sends_on : (k : ℕ) (hop : Hop) (server to : ServerId) → hop ≡ Direct → sending_of (Arrive k hop server (Forward to)) ≡ Some (record { packet = k; hop = Chained })
 sends_on k hop server to is = rw is refl
@@ -245,9 +241,9 @@ went_on : (R : Routes) (F : Rules) (p q : Player) (at : Moment) (flight : Flight
 went_on R F p q at flight s to c forward sending =
     subst (λ (x : Player). HasPlayed R F p x) (sym sending.is)
     (packaged R F p (sent sending.fate at (chained to flight) (after_arrival at flight s p)) sending.fate c.copy.ready.fates (arrive_event at flight s p) refl refl played
-      (kept_arrival R F p at flight s c sending.fate (Some (record { packet = flight.packet; hop = Chained })) _ _ sends
-        (copies_fly p.stage (arrive_event at flight s p ∷ past_of p) _ _ flying sending.fate.copies (others p.wire) (rest (wire c.copy.ready.fates (past_of p))) (others_arrived R F p at flight s c sending.fate played))
-        (loss_owed sending.fate (chained to flight) (record { packet = flight.packet; hop = Chained }) refl refl))) where
+    (kept_arrival R F p at flight s c sending.fate (Some (record { packet = flight.packet; hop = Chained })) _ _ sends
+    (copies_fly p.stage (arrive_event at flight s p ∷ past_of p) _ _ flying sending.fate.copies (others p.wire) (rest (wire c.copy.ready.fates (past_of p))) (others_arrived R F p at flight s c sending.fate played))
+    (loss_owed sending.fate (chained to flight) (record { packet = flight.packet; hop = Chained }) refl refl))) where
       is_passed : IsPassed c.is_landing.label.entry flight.tag.hop to
       is_passed = passed (local_at p.stage (past_of p) flight.tag.dest s.flow) (timeout p.stage) at.0 c.is_landing.label.entry flight.tag.hop s to
           (sym (verdict_same p (past_of p) at flight s c.copy.copy c.is_landing c.number c.some c.copy.ready.state.books) ∙ forward)

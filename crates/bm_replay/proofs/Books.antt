@@ -20,7 +20,7 @@ use Rattle.bm_core.specs.Books.{Turn, Took, Closed, RetiredAs, book_held, book_f
 use Rattle.bm_core.proofs.Pasts.{same_flow-true, same_flow_refl}
 use Rattle.bm_replay.specs.declared.shard.Connection.{Connection}
 use Rattle.bm_replay.specs.declared.shard.Shard.{Shard}
-use Rattle.bm_replay.specs.Connections.{look_up, local_of, closed_shard, connection_of, connections_after, after_segment, retired_after, shard_after, without_flow}
+use Rattle.bm_replay.specs.Connections.{look_up, local_of, closed_shard, connection_of, after_segment, retired_after, shard_after, without_flow}
 use Rattle.bm_replay.specs.Shards.{IsLeftBy}
 
 -- LOOKING UP
@@ -184,15 +184,15 @@ and_false false o = refl
 pub closed : (f : Flow) (book : List Turn) (x : Shard) → IsLeftBy book x → IsLeftBy (Closed f (is_some (look_up f x.connections)) ∷ book) (closed_shard f x)
 closed f book x is = elim (cases_Bool (is_some (look_up f x.connections))) [
   | inl some ↦ rw some (record {
-      held = λ g. look_up-without g f x.connections ∙ rw (is.held g) (and_true (same_flow f g) (book_held book g));
-      flows = flows-ended f (book_flows book) x.connections is.flows;
-      retired = is.retired;
-    })
+    held = λ g. look_up-without g f x.connections ∙ rw (is.held g) (and_true (same_flow f g) (book_held book g));
+    flows = flows-ended f (book_flows book) x.connections is.flows;
+    retired = is.retired;
+  })
   | inr none ↦ rw none (record {
-      held = λ g. is.held g ∙ and_false (same_flow f g) (book_held book g);
-      flows = is.flows;
-      retired = is.retired;
-    })
+    held = λ g. is.held g ∙ and_false (same_flow f g) (book_held book g);
+    flows = is.flows;
+    retired = is.retired;
+  })
 ]
 
 -- a wish to retire

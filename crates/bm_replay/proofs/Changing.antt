@@ -1,12 +1,7 @@
 -- A version is published, and a mux switches.
-use Rattle.std.proofs.Common.{◌≡◌, ◌≢◌, ℕ, zero, suc, ◌+◌, ◌-◌, ◌*◌, ◌^◌, ◌<◌, ◌≤◌, Bool, true, false, inl, inr, List, [], ◌∷◌, ◌++◌, Option, Some, None, is_some, length, slice_get, eqb, refl, sym, ap, subst, ◌∙◌, arith}
+use Rattle.std.proofs.Common.{◌≡◌, ◌≢◌, ℕ, zero, suc, ◌+◌, ◌-◌, ◌<◌, true, inl, inr, List, [], ◌∷◌, Option, Some, is_some, length, slice_get, eqb, refl, sym, ap, subst, ◌∙◌, arith}
 use Rattle.std.proofs.lemmas.Bool.{cases_Bool, both_ways, eq-eqb, eqb-true}
-use Rattle.std.proofs.lemmas.Bool.Decides.{nat_tests}
-use Rattle.std.proofs.lemmas.Option.{same_Some, slice_get_cases}
 use Rattle.bm_base.specs.declared.ids.Moment.{Moment}
-use Rattle.bm_base.specs.declared.ids.MuxId.{MuxId}
-use Rattle.bm_base.specs.declared.ids.Version.{Version}
-use Rattle.bm_base.specs.declared.receive.Fate.{Fate}
 use Rattle.bm_table.specs.declared.plan.Change.{Change}
 use Rattle.bm_table.specs.Entries.{IsTable}
 use Rattle.bm_table.specs.Plans.{IsPlan}
@@ -18,8 +13,7 @@ use Rattle.bm_core.specs.declared.schedule.Call.{Call as Calls}
 use Rattle.bm_core.specs.declared.schedule.Call.TheVariants.{Publishes, Switches}
 use Rattle.bm_core.specs.declared.schedule.Due.{Due}
 use Rattle.bm_core.specs.Accounts.{Routes, Rules, counts}
-use Rattle.bm_core.specs.Past.{is_switch_of, newest, version_at}
-use Rattle.bm_core.specs.Runs.{IsStep}
+use Rattle.bm_core.specs.Past.{is_switch_of, version_at}
 use Rattle.bm_core.specs.Schedule.{least, wire}
 use Rattle.bm_core.proofs.Schedules.{IsFrom}
 use Rattle.bm_replay.specs.declared.fleet.Mux.{Mux}

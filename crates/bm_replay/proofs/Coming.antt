@@ -1,6 +1,6 @@
 -- What comes next in the state is what the schedule says.
-use Rattle.std.proofs.Common.{◌≡◌, ℕ, zero, suc, ◌<◌, ◌≤◌, Bool, true, false, ◌&&◌, inl, inr, List, [], ◌∷◌, ◌++◌, Option, Some, None, is_some, if◌then◌else◌, refl, sym, ap, subst, ◌∙◌, arith}
-use Rattle.std.specs.Prelude.{IfSome, nat_le, nat_lt}
+use Rattle.std.proofs.Common.{◌≡◌, ℕ, zero, suc, ◌<◌, Bool, true, false, ◌&&◌, inl, inr, List, [], ◌∷◌, ◌++◌, Option, Some, None, is_some, if◌then◌else◌, refl, sym, ap, subst, ◌∙◌, arith}
+use Rattle.std.specs.Prelude.{IfSome}
 use Rattle.std.proofs.lemmas.Bool.{cases_Bool, and_parts}
 use Rattle.std.proofs.lemmas.Bool.Decides.{nat_tests}
 use Rattle.bm_base.specs.declared.ids.Moment.{Moment}
@@ -9,7 +9,6 @@ use Rattle.bm_base.specs.declared.capture.Record.{Record}
 use Rattle.bm_table.specs.declared.plan.Change.{Change}
 use Rattle.bm_table.specs.declared.script.Command.{Command}
 use Rattle.bm_table.specs.declared.script.Command.TheVariants.{Change as ChangeCommand, Close as CloseCommand, Retire as RetireCommand, Sync as SyncCommand}
-use Rattle.bm_table.specs.Planned.{Planned}
 use Rattle.bm_table.specs.Tables.{next_change}
 use Rattle.bm_core.specs.declared.events.Event.{Event}
 use Rattle.bm_core.specs.declared.events.Stage.{Stage}
@@ -19,15 +18,12 @@ use Rattle.bm_core.specs.declared.schedule.Due.{Due}
 use Rattle.bm_core.specs.declared.schedule.Underway.{Underway}
 use Rattle.bm_core.specs.Past.{is_switch_of, newest, steerable}
 use Rattle.bm_core.specs.Accounts.{counts}
-use Rattle.bm_core.specs.Schedule.{arrival_due, call_of, can_come, close_commands, closes, comes_first, dropped, first_of, least, left, packets_from, publish_due, retire_commands, retire_dues, retires, steers, switch_due, switches_due, sync_commands, syncs}
-use Rattle.bm_core.proofs.Schedules.{Each, each_append, each_dropped, least_is}
-use Rattle.bm_fault.specs.Flying.{Flying}
-use Rattle.bm_fault.specs.Wires.{first_due}
+use Rattle.bm_core.specs.Schedule.{arrival_due, call_of, close_commands, closes, comes_first, dropped, first_of, least, left, packets_from, publish_due, retire_commands, retire_dues, retires, switch_due, switches_due, sync_commands, syncs}
+use Rattle.bm_core.proofs.Schedules.{Each, each_append, each_dropped}
 use Rattle.bm_replay.specs.declared.turn.Turn.{Turn}
 use Rattle.bm_replay.specs.declared.turn.Turn.TheVariants.{Arrive, Call, Over}
 use Rattle.bm_replay.specs.Queues.{IsHead}
 use Rattle.bm_replay.specs.Turns.{is_before, is_no_later, next_turn, sooner_of, turn_of}
-use Rattle.bm_replay.proofs.Least.{least_append}
 
 -- RANKS
 

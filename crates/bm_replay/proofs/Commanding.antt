@@ -1,11 +1,9 @@
 -- A connection is closed, a shard asked to retire, a phase ended.
-use Rattle.std.proofs.Common.{◌≡◌, ◌≢◌, ℕ, zero, suc, ◌+◌, ◌-◌, ◌*◌, ◌^◌, ◌<◌, ◌≤◌, Bool, true, false, cond, ◌&&◌, inl, inr, List, [], ◌∷◌, ◌++◌, Option, Some, None, is_some, length, slice_get, set, eqb, refl, sym, ap, subst, ◌∙◌, arith}
+use Rattle.std.proofs.Common.{◌≡◌, ℕ, zero, suc, ◌<◌, ◌≤◌, List, [], ◌∷◌, Option, Some, None, is_some, length, set, refl, sym, ap, subst, ◌∙◌, arith}
 use Rattle.std.specs.List.{AllByRecursion}
-use Rattle.std.proofs.lemmas.Bool.{cases_Bool}
 use Rattle.bm_base.specs.declared.ids.Moment.{Moment}
 use Rattle.bm_base.specs.declared.ids.ServerId.{ServerId}
 use Rattle.bm_base.specs.declared.flow.Flow.{Flow}
-use Rattle.bm_base.specs.declared.receive.Fate.{Fate}
 use Rattle.bm_table.specs.declared.plan.Retirement.{Retirement}
 use Rattle.bm_table.specs.declared.plan.Retirement.TheVariants.{Done, NotDrained, TooEarly}
 use Rattle.bm_table.specs.declared.script.Command.{Command}
@@ -13,7 +11,6 @@ use Rattle.bm_table.specs.declared.script.Command.TheVariants.{Change as ChangeC
 use Rattle.bm_table.specs.declared.script.Script.{Script}
 use Rattle.bm_table.specs.Scripts.{IsOfKnown, IsSoundScript}
 use Rattle.bm_table.specs.Tables.{IsRetirement}
-use Rattle.bm_core.specs.declared.events.What.{What}
 use Rattle.bm_core.specs.declared.events.What.TheVariants.{Close, Retire, Sync}
 use Rattle.bm_core.specs.declared.events.Event.{Event}
 use Rattle.bm_core.specs.declared.events.Stage.{Stage}
@@ -21,9 +18,9 @@ use Rattle.bm_core.specs.declared.schedule.Call.{Call as Calls}
 use Rattle.bm_core.specs.declared.schedule.Call.TheVariants.{Closes, Retires, Syncs}
 use Rattle.bm_core.specs.declared.schedule.Due.{Due}
 use Rattle.bm_core.specs.Accounts.{Routes, Rules, counts}
-use Rattle.bm_core.specs.Books.{Closed, RetiredAs, book_held, book_of}
-use Rattle.bm_core.specs.Past.{Holding, held, newest, shard, timeout}
-use Rattle.bm_core.specs.Schedule.{call_of, close_commands, closes, dropped, first_of, left, packets_from, retire_commands, retire_dues, retires, steers, sync_commands, syncs, wire}
+use Rattle.bm_core.specs.Books.{Closed, RetiredAs, book_of}
+use Rattle.bm_core.specs.Past.{Holding, held, shard, timeout}
+use Rattle.bm_core.specs.Schedule.{call_of, close_commands, closes, first_of, left, retire_commands, retire_dues, retires, steers, sync_commands, syncs, wire}
 use Rattle.bm_core.specs.Verdicts.{receiver_of}
 use Rattle.bm_core.proofs.Books.{held_in_book}
 use Rattle.bm_core.proofs.Pasts.{newest_within}
@@ -31,10 +28,10 @@ use Rattle.bm_core.proofs.Schedules.{Each, IsFrom, each_append, each_dropped}
 use Rattle.bm_seq.specs.declared.receiver.Receiver.{Receiver}
 use Rattle.bm_replay.specs.declared.player.Player.{Player}
 use Rattle.bm_replay.specs.declared.shard.Shard.{Shard}
-use Rattle.bm_replay.specs.Connections.{closed_shard, empty_shard, look_up, retired_after, retired_at, retired_shard, shard_at}
+use Rattle.bm_replay.specs.Connections.{closed_shard, look_up, retired_after, retired_at, retired_shard, shard_at}
 use Rattle.bm_replay.specs.Players.{HasClosed, HasPlaces, HasRetired, HasSynced, happened}
-use Rattle.bm_replay.specs.Playing.{HasPlayed, IsPlayed, KeepsQueues, KeepsState, past_of}
-use Rattle.bm_replay.specs.Shards.{IsLeftBy, KeepsBooks, place_of}
+use Rattle.bm_replay.specs.Playing.{HasPlayed, IsPlayed, KeepsState, past_of}
+use Rattle.bm_replay.specs.Shards.{KeepsBooks, place_of}
 use Rattle.bm_replay.proofs.Books.{closed, retired}
 use Rattle.bm_replay.proofs.Flights.{all_stay}
 use Rattle.bm_replay.proofs.Keeping.{AreBut, books_more, books_stay, muxes_stay, part_next, part_stays, place_inside, set_one}
@@ -150,7 +147,7 @@ pub retire_numbers : (R : Routes) (F : Rules) (p : Player) (at : Moment) (d : Du
 retire_numbers R F p at d s h since ready call =
     subst (λ (c : Calls). IsInRange p.stage.script.setting.shards c) call (first_range p.stage.script.setting.shards _ d
     (each_dropped (λ x. IsInRange p.stage.script.setting.shards x.call) (counts (past_of p) (λ what. retires (call_of what))) _
-      (retires_range p.stage.script ready.played.sound.script p.stage.script.setting.shards p.stage.script.commands ready.played.sound.script.of_known))
+    (retires_range p.stage.script ready.played.sound.script p.stage.script.setting.shards p.stage.script.commands ready.played.sound.script.of_known))
     (retire_from R F p at d s h since ready call))
 
 pub published_within : (R : Routes) (F : Rules) (p : Player) (at : Moment) (d : Due) → IsReady R F p at d → p.published ≤ length p.stage.script.plan.changes

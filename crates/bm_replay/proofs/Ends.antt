@@ -1,17 +1,13 @@
 -- How a replay begins, and what it is at its end.
-use Rattle.std.proofs.Common.{◌≡◌, ℕ, zero, suc, ◌*◌, ◌<◌, ◌≤◌, List, [], ◌∷◌, ◌++◌, Option, Some, None, length, refl, sym, ap, subst, ◌∙◌, arith}
+use Rattle.std.proofs.Common.{◌≡◌, ◌≤◌, List, [], Option, None, length, refl, sym, ap, subst, ◌∙◌, arith}
 use Rattle.std.specs.Prelude.{reverse}
 use Rattle.std.proofs.lemmas.List.{length-reverse}
-use Rattle.bm_base.specs.declared.ids.MuxId.{MuxId}
-use Rattle.bm_base.specs.declared.receive.Fate.{Fate}
-use Rattle.bm_base.specs.declared.ids.ServerId.{ServerId}
 use Rattle.bm_core.specs.declared.events.Event.{Event}
 use Rattle.bm_core.specs.declared.events.Stage.{Stage}
 use Rattle.bm_core.specs.declared.schedule.Due.{Due}
-use Rattle.bm_core.specs.declared.schedule.Underway.{Underway}
 use Rattle.bm_core.specs.Accounts.{Routes, Rules}
 use Rattle.bm_core.specs.Histories.{IsReplay}
-use Rattle.bm_core.specs.Schedule.{IsOver, arrival_due, can_come, least, owed, wire}
+use Rattle.bm_core.specs.Schedule.{IsOver, arrival_due, can_come, least, wire}
 use Rattle.bm_core.specs.Stages.{IsSound}
 use Rattle.bm_core.proofs.Accounted.{accounted}
 use Rattle.bm_core.proofs.Existing.{length_law}

@@ -1,22 +1,19 @@
 -- The copies on the wire stay those of the schedule.
-use Rattle.std.proofs.Common.{◌≡◌, ℕ, zero, suc, ◌+◌, Bool, true, false, inl, inr, List, [], ◌∷◌, Option, Some, None, refl, sym, ap, subst, ◌∙◌}
+use Rattle.std.proofs.Common.{◌≡◌, ℕ, zero, suc, inl, inr, List, [], ◌∷◌, Option, Some, None, refl, subst, ◌∙◌}
 use Rattle.std.specs.Prelude.{nat_lt}
 use Rattle.std.proofs.lemmas.Bool.{cases_Bool}
 use Rattle.std.proofs.lemmas.Option.{same_Some}
-use Rattle.bm_base.specs.declared.ids.Moment.{Moment}
 use Rattle.bm_base.specs.declared.ids.ServerId.{ServerId}
 use Rattle.bm_base.specs.declared.label.Hop.{Hop}
 use Rattle.bm_base.specs.declared.label.Label.{Label}
 use Rattle.bm_base.specs.declared.label.Tag.{Tag}
 use Rattle.bm_base.specs.Labels.{stop, tag_for, tag_of}
 use Rattle.std.specs.Prelude.{option_map}
-use Rattle.bm_fault.specs.declared.wire.Flight.{Flight}
 use Rattle.bm_fault.specs.Flying.{Flying}
 use Rattle.bm_fault.specs.Wires.{first_due, first_flight, others, put_flying}
 use Rattle.bm_core.specs.declared.events.Event.{Event}
 use Rattle.bm_core.specs.declared.events.Stage.{Stage}
 use Rattle.bm_core.specs.declared.schedule.Underway.{Underway}
-use Rattle.bm_core.specs.Past.{label_of}
 use Rattle.bm_core.specs.Runs.{IsStep}
 use Rattle.bm_core.specs.Schedule.{put, put_all, rest}
 use Rattle.bm_core.proofs.Pasts.{label_stays}

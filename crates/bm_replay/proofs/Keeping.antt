@@ -1,29 +1,28 @@
 -- What an event leaves alone in the state.
-use Rattle.std.proofs.Common.{◌≡◌, ◌≢◌, ℕ, zero, suc, ◌+◌, ◌*◌, ◌<◌, ◌≤◌, Bool, true, false, cond, ◌&&◌, inl, inr, List, [], ◌∷◌, ◌++◌, Option, Some, None, length, slice_get, get_or, set, length-set, eqb, refl, sym, ap, subst, ◌∙◌, arith}
+use Rattle.std.proofs.Common.{◌≡◌, ◌≢◌, ℕ, zero, suc, ◌+◌, ◌*◌, ◌<◌, ◌≤◌, Bool, true, false, cond, ◌&&◌, inl, inr, List, [], ◌∷◌, ◌++◌, Option, Some, None, length, slice_get, set, length-set, eqb, refl, sym, ap, subst, ◌∙◌, arith}
 use Rattle.std.specs.Prelude.{slice_index_or}
-use Rattle.std.proofs.lemmas.Bool.{cases_Bool, cases_lt, and_parts, both_ways, eq-eqb, eqb-true}
+use Rattle.std.proofs.lemmas.Bool.{cases_lt, and_parts, both_ways, eq-eqb, eqb-true}
 use Rattle.std.proofs.lemmas.List.{get_or-set_same, get_or-set_other}
 use Rattle.std.proofs.Math.Nat.{mul-le-mul_left, mul-le-mul_right}
 use Rattle.bm_base.specs.declared.ids.MuxId.{MuxId}
 use Rattle.bm_base.specs.declared.ids.ServerId.{ServerId}
 use Rattle.bm_table.specs.Tables.{next_change, same_server}
-use Rattle.bm_table.proofs.Tables.{same_server-true, eq-same_server}
+use Rattle.bm_table.proofs.Tables.{same_server-true}
 use Rattle.bm_core.specs.declared.events.What.{What}
 use Rattle.bm_core.specs.declared.events.Event.{Event}
 use Rattle.bm_core.specs.declared.events.Stage.{Stage}
 use Rattle.bm_core.specs.declared.schedule.Call.{Call}
 use Rattle.bm_core.specs.declared.schedule.Due.{Due}
-use Rattle.bm_core.specs.Accounts.{count_of, counts}
+use Rattle.bm_core.specs.Accounts.{counts}
 use Rattle.bm_core.specs.Books.{Turn, add_turn, book_of, turn_of}
 use Rattle.bm_core.specs.Past.{is_switch_of, version_at}
-use Rattle.bm_core.specs.Schedule.{call_of, close_commands, closes, dropped, first_of, least, left, packets_from, retire_commands, retires, steers, switch_due, switches_due, sync_commands, syncs}
+use Rattle.bm_core.specs.Schedule.{call_of, closes, dropped, first_of, least, left, retires, steers, switch_due, switches_due, syncs}
 use Rattle.bm_replay.specs.declared.fleet.Mux.{Mux}
 use Rattle.bm_replay.specs.declared.queue.Queue.{Queue}
 use Rattle.bm_replay.specs.declared.shard.Shard.{Shard}
 use Rattle.bm_replay.specs.Connections.{empty_shard, shard_at}
 use Rattle.bm_replay.specs.Fleets.{HasTable, switches_of, version_in}
 use Rattle.bm_replay.specs.Playing.{KeepsMuxes, KeepsQueues}
-use Rattle.bm_replay.specs.Players.{switch_for}
 use Rattle.bm_replay.specs.Queues.{IsHead}
 use Rattle.bm_replay.specs.Shards.{IsLeftBy, KeepsBooks, place_of}
 use Rattle.bm_replay.proofs.Coming.{head_first}

@@ -1,9 +1,9 @@
 -- The moments and the servers of a sound script are in range.
-use Rattle.std.proofs.Common.{◌≡◌, ℕ, zero, suc, ◌+◌, ◌-◌, ◌*◌, ◌%◌, ◌^◌, ◌<◌, ◌≤◌, true, false, inl, inr, List, [], ◌∷◌, Option, Some, None, length, slice_get, get_or, refl, sym, ap, subst, ◌∙◌, arith}
+use Rattle.std.proofs.Common.{◌≡◌, ℕ, zero, suc, ◌+◌, ◌-◌, ◌*◌, ◌%◌, ◌^◌, ◌≤◌, true, inl, inr, List, [], ◌∷◌, Option, Some, None, length, slice_get, get_or, sym, subst, arith}
 use Rattle.std.specs.Prelude.{IfSome, All, map}
 use Rattle.std.specs.List.{AllByRecursion}
 use Rattle.std.proofs.lemmas.Bool.{cases_lt, or_cases, eqb-true}
-use Rattle.std.proofs.lemmas.Option.{same_Some, slice_get_cases}
+use Rattle.std.proofs.lemmas.Option.{slice_get_cases}
 use Rattle.std.proofs.lemmas.List.Elements.{All-get_or}
 use Rattle.std.proofs.Math.ListN.{get_or-eq_default}
 use Rattle.bm_base.specs.declared.ids.ServerId.{ServerId}
@@ -17,7 +17,7 @@ use Rattle.bm_table.specs.declared.script.Command.TheVariants.{Change as ChangeC
 use Rattle.bm_table.specs.declared.script.Script.{Script}
 use Rattle.bm_table.specs.Planned.{Planned}
 use Rattle.bm_table.specs.Scripts.{moment_of_command, IsSoundScript, NamesServer, NamesVersions}
-use Rattle.bm_table.specs.Tables.{adds, brings, is_add, is_among, is_known, moment_of, moved, next_change, opening, same_server, table, IsOrderly}
+use Rattle.bm_table.specs.Tables.{adds, brings, is_add, is_among, is_known, moment_of, moved, next_change, opening, same_server, table}
 
 -- MOMENTS
 

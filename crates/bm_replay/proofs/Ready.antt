@@ -1,5 +1,5 @@
 -- What is known where something comes next, and that it leads to a replay with one event more.
-use Rattle.std.proofs.Common.{◌≡◌, true, ℕ, zero, suc, ◌+◌, ◌*◌, ◌^◌, ◌<◌, ◌≤◌, inl, inr, List, [], ◌∷◌, ◌++◌, Option, Some, None, length, refl, sym, ap, subst, ◌∙◌, arith}
+use Rattle.std.proofs.Common.{◌≡◌, true, ℕ, ◌*◌, ◌^◌, ◌≤◌, List, [], ◌∷◌, ◌++◌, Option, Some, None, length, refl, sym, ap, subst, ◌∙◌, arith}
 use Rattle.std.specs.Prelude.{IfSome, reverse}
 use Rattle.std.proofs.lemmas.List.{length-append, reverse-append}
 use Rattle.bm_base.specs.declared.ids.Moment.{Moment}
@@ -16,11 +16,11 @@ use Rattle.bm_core.specs.declared.schedule.Call.{Call as Calls}
 use Rattle.bm_core.specs.declared.schedule.Call.TheVariants.{Publishes, Switches, Closes, Retires, Syncs, Arrives, Steers, Loses}
 use Rattle.bm_core.specs.declared.schedule.Due.{Due}
 use Rattle.bm_core.specs.declared.schedule.Underway.{Underway}
-use Rattle.bm_core.specs.Accounts.{Routes, Rules, IsRouted, counts, fate_now, before}
+use Rattle.bm_core.specs.Accounts.{Routes, Rules, IsRouted, counts}
 use Rattle.bm_core.specs.Past.{Sending, sending_of, newest}
 use Rattle.bm_core.specs.Runs.{last_clock, next}
-use Rattle.bm_core.specs.Schedule.{arrival_due, call_of, can_come, close_commands, closes, first_of, least, left, owed, packets_from, publish_due, retire_commands, retires, steers, switches_due, sync_commands, syncs, wire, Follows, IsAnswered, IsNextBy}
-use Rattle.bm_core.specs.Weights.{AreSoon, IsSoon}
+use Rattle.bm_core.specs.Schedule.{arrival_due, call_of, can_come, close_commands, closes, first_of, least, left, owed, packets_from, publish_due, retire_commands, retires, steers, switches_due, sync_commands, syncs, wire, IsAnswered, IsNextBy}
+use Rattle.bm_core.specs.Weights.{IsSoon}
 use Rattle.bm_core.proofs.Existing.{clock_law}
 use Rattle.bm_core.proofs.Schedules.{IsFrom, each_from, least_is}
 use Rattle.bm_core.proofs.Stepping.{step}
@@ -28,7 +28,7 @@ use Rattle.bm_fault.specs.Wires.{first_due}
 use Rattle.bm_replay.specs.declared.player.Loss.{Loss}
 use Rattle.bm_replay.specs.declared.player.Player.{Player}
 use Rattle.bm_replay.specs.declared.turn.Turn.{Turn}
-use Rattle.bm_replay.specs.declared.turn.Turn.TheVariants.{Arrive, Call, Over}
+use Rattle.bm_replay.specs.declared.turn.Turn.TheVariants.{Arrive, Call}
 use Rattle.bm_replay.specs.Players.{publish_after, soonest_command, turn_for}
 use Rattle.bm_replay.specs.Playing.{HasPlayed, IsComing, IsPlayed, IsPlaying, KeepsState, lost_call, past_of}
 use Rattle.bm_replay.specs.Turns.{sooner_of}
@@ -58,7 +58,7 @@ command_least fates past p keeps =
     (λ i. sooner_of (sooner_of (sooner_of (sooner_of (publish_same p past keeps.published i) (keeps.muxes.soonest i))
     (sym (head_least _ _ p.close.head keeps.queues.due_closes) i)) (sym (head_least _ _ p.retire.head keeps.queues.due_retires) i)) (sym (head_least _ _ p.sync.head keeps.queues.due_syncs) i))
     ∙ sym (commands_parts (publish_due (newest past) (next_change p.stage.script.plan (newest past))) (switches_due p.stage past p.stage.script.setting.muxes)
-      (first_of (left (close_commands p.stage.script.commands) past closes)) (first_of (left (retire_commands p.stage.script.setting.shards p.stage.script.commands) past retires)) (first_of (left (sync_commands p.stage.script.commands) past syncs)))
+    (first_of (left (close_commands p.stage.script.commands) past closes)) (first_of (left (retire_commands p.stage.script.setting.shards p.stage.script.commands) past retires)) (first_of (left (sync_commands p.stage.script.commands) past syncs)))
 
 -- the least of what can come, by the state
 pub come_least : (fates : List Fate) (past : List Event) (p : Player) → KeepsState fates past p → least (can_come (wire fates past) p.stage past) ≡ sooner_of (sooner_of (soonest_command p) (least (arrival_due (wire fates past)))) p.packet.head
@@ -72,7 +72,7 @@ state_turn fates past p keeps =
     turn_is (soonest_command p) p.packet.head (first_due p.wire) (wire fates past)
     (subst (λ (o : Option Due). IfSome o IsCommand) (sym (command_least fates past p keeps)) (least_is IsCommand (commands_due p.stage past) (commands_are p.stage past)))
     (subst (λ (o : Option Due). IfSome o (HasRank 6)) (head_least _ _ p.packet.head keeps.queues.due_packets)
-      (least_is (HasRank 6) _ (left_rank 6 _ (counts past (λ what. steers (call_of what))) (packets_rank 1 p.stage.capture.records))))
+    (least_is (HasRank 6) _ (left_rank 6 _ (counts past (λ what. steers (call_of what))) (packets_rank 1 p.stage.capture.records))))
     (first_due_is p.stage past p.wire (wire fates past) keeps.flights)
 
 not_owed : (fates : List Fate) (past : List Event) (p : Player) → KeepsState fates past p → p.loss ≡ None → owed fates past ≡ None

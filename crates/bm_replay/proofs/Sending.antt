@@ -1,21 +1,16 @@
 -- A packet is steered, and a loss recorded.
-use Rattle.std.proofs.Common.{◌≡◌, ℕ, zero, suc, ◌+◌, ◌*◌, ◌^◌, ◌<◌, ◌≤◌, Bool, true, false, inl, inr, List, [], ◌∷◌, ◌++◌, Option, Some, None, is_some, length, slice_get, eqb, refl, sym, ap, subst, ◌∙◌, arith}
-use Rattle.std.specs.Prelude.{IfSome, if◌then◌else◌, ◌==◌}
+use Rattle.std.proofs.Common.{◌≡◌, ℕ, suc, ◌+◌, ◌*◌, ◌^◌, ◌<◌, ◌≤◌, true, inl, inr, List, [], ◌∷◌, Option, Some, None, is_some, length, slice_get, eqb, refl, sym, ap, subst, ◌∙◌, arith}
+use Rattle.std.specs.Prelude.{IfSome}
 use Rattle.std.proofs.lemmas.Bool.{cases_Bool, eq-eqb}
 use Rattle.std.proofs.lemmas.Option.{same_Some}
 use Rattle.bm_base.specs.declared.ids.Moment.{Moment}
 use Rattle.bm_base.specs.declared.ids.MuxId.{MuxId}
-use Rattle.bm_base.specs.declared.ids.Version.{Version}
 use Rattle.bm_base.specs.declared.flow.Segment.{Segment}
-use Rattle.bm_base.specs.declared.label.Entry.{Entry}
 use Rattle.bm_base.specs.declared.label.Hop.{Hop}
 use Rattle.bm_base.specs.declared.label.Hop.TheVariants.{Direct}
 use Rattle.bm_base.specs.declared.label.Label.{Label}
-use Rattle.bm_base.specs.declared.label.Tag.{Tag}
 use Rattle.bm_base.specs.declared.receive.Fate.{Fate}
-use Rattle.bm_base.specs.Labels.{tag_of}
 use Rattle.bm_fault.specs.declared.wire.Flight.{Flight}
-use Rattle.bm_fault.specs.Flying.{Flying}
 use Rattle.bm_table.specs.Tables.{table}
 use Rattle.bm_core.specs.declared.events.What.TheVariants.{Steer, Lose}
 use Rattle.bm_core.specs.declared.events.Event.{Event}
@@ -23,12 +18,10 @@ use Rattle.bm_core.specs.declared.events.Stage.{Stage}
 use Rattle.bm_core.specs.declared.schedule.Call.{Call as Calls}
 use Rattle.bm_core.specs.declared.schedule.Call.TheVariants.{Steers, Loses}
 use Rattle.bm_core.specs.declared.schedule.Due.{Due}
-use Rattle.bm_core.specs.declared.schedule.Underway.{Underway}
 use Rattle.bm_core.specs.Accounts.{Routes, Rules, counts}
-use Rattle.bm_core.specs.Past.{Sending, bucket, is_switch_of, label_of, labelled, label_after, segment_of, version_at}
+use Rattle.bm_core.specs.Past.{Sending, bucket, is_switch_of, label_of, labelled, segment_of, version_at}
 use Rattle.bm_core.specs.Runs.{last_clock}
-use Rattle.bm_core.specs.Schedule.{barren, closes, first_of, left, owed, packets_from, put_all, retires, steers, syncs, wire, IsNextBy}
-use Rattle.bm_core.specs.Weights.{IsSoon}
+use Rattle.bm_core.specs.Schedule.{barren, closes, first_of, left, owed, packets_from, retires, steers, syncs, wire, IsNextBy}
 use Rattle.bm_core.proofs.Existing.{clock_law}
 use Rattle.bm_core.proofs.Schedules.{IsFrom}
 use Rattle.bm_core.proofs.Stepping.{new_packet}
@@ -36,9 +29,9 @@ use Rattle.bm_replay.specs.declared.fleet.Mux.{Mux}
 use Rattle.bm_replay.specs.declared.player.Loss.{Loss}
 use Rattle.bm_replay.specs.declared.player.Player.{Player}
 use Rattle.bm_replay.specs.Fleets.{HasTable, IsWritten}
-use Rattle.bm_replay.specs.Flights.{AreFlying, IsFlying, copies_put}
+use Rattle.bm_replay.specs.Flights.{IsFlying}
 use Rattle.bm_replay.specs.Players.{CanSteer, HasSteered, after_loss, happened, loss_of, sent}
-use Rattle.bm_replay.specs.Playing.{HasPlayed, IsPlayed, IsPlaying, KeepsMuxes, KeepsState, lost_call, past_of}
+use Rattle.bm_replay.specs.Playing.{HasPlayed, IsPlayed, IsPlaying, KeepsState, lost_call, past_of}
 use Rattle.bm_replay.proofs.Flights.{HasStopAt, all_stay, copies_fly, tag_stop}
 use Rattle.bm_replay.proofs.Keeping.{books_stay, muxes_stay, part_next, part_stays, queues_stay}
 use Rattle.bm_replay.proofs.Ready.{IsReady, clock_low, packaged, plain, plain_soon, played_more, told}

@@ -33,7 +33,6 @@ use Rattle.bm_replay.specs.declared.fleet.Mux.{Mux}
 use Rattle.bm_replay.specs.declared.player.Loss.{Loss}
 use Rattle.bm_replay.specs.declared.player.Player.{Player}
 use Rattle.bm_replay.specs.declared.queue.Queue.{Queue}
-use Rattle.bm_replay.specs.declared.shard.Shard.{Shard}
 use Rattle.bm_replay.specs.declared.turn.Turn.{Turn}
 use Rattle.bm_replay.specs.Connections.{closed_shard, empty_shard, local_of, look_up, retired_at, shard_after, shard_at}
 use Rattle.bm_replay.specs.Fleets.{HasTable, IsMoved, IsWritten, switches_of}

@@ -1,10 +1,9 @@
 -- What a replay on its way keeps.
-use Rattle.std.specs.Prelude.{◌≡◌, ℕ, zero, suc, ◌<◌, Bool, true, false, List, [], ◌∷◌, length, reverse, Option, Some, None, slice_get}
+use Rattle.std.specs.Prelude.{◌≡◌, ℕ, suc, ◌<◌, Bool, true, false, List, length, reverse, Option, Some, None, slice_get}
 use Rattle.bm_base.specs.declared.ids.Moment.{Moment}
 use Rattle.bm_base.specs.declared.receive.Fate.{Fate}
 use Rattle.bm_table.specs.Plans.{IsPlan}
 use Rattle.bm_core.specs.declared.events.Event.{Event}
-use Rattle.bm_core.specs.declared.events.History.{History}
 use Rattle.bm_core.specs.declared.events.Stage.{Stage}
 use Rattle.bm_core.specs.declared.schedule.Call.{Call as Calls}
 use Rattle.bm_core.specs.declared.schedule.Call.TheVariants.{Loses}

@@ -50,12 +50,11 @@ impl Player {
         ensures { IfOk result (λ _. HasRetired clock server shard at self.old self.new) }
     {
         let setting = &self.stage.script.setting;
-        let result = self.stage.script.plan.retirement(
-            Version(self.published),
-            server,
-            at,
-            setting.timeout,
-        );
+        let result = self
+            .stage
+            .script
+            .plan
+            .retirement(Version(self.published), server, at, setting.timeout);
         self.retire = later_retire(
             self.stage.script.commands.items(),
             setting.shards,

@@ -95,11 +95,7 @@ impl Player {
         requires { length self.now.stage.script.plan.changes ≤ 4096 }
         ensures { result ≡ publish_after self.now.published (next_change self.now.stage.script.plan self.now.published) }
     {
-        let change = self
-            .stage
-            .script
-            .plan
-            .next_change(Version(self.published))?;
+        let change = self.stage.script.plan.next_change(Version(self.published))?;
         Some(Due {
             moment: change.moment.0,
             rank: 0,

@@ -31,8 +31,7 @@ fn comes_first(a: &Due, b: &Due) -> bool
     ensures { result ≡ comes_first a.now b.now }
 {
     a.moment < b.moment
-        || a.moment == b.moment
-            && (a.rank < b.rank || a.rank == b.rank && a.number < b.number)
+        || a.moment == b.moment && (a.rank < b.rank || a.rank == b.rank && a.number < b.number)
 }
 
 /// Of the soonest command, the moment of the first copy under way and the next packet: a copy

@@ -1,4 +1,4 @@
-use Rattle.std.proofs.Common.{◌≡◌, ◌++◌, [], List, sym, ap, subst}
+use Rattle.std.proofs.Common.{◌≡◌, ◌++◌, [], List, sym, subst}
 use Rattle.bm_core.specs.declared.schedule.Due.{Due}
 use Rattle.bm_replay.specs.Queues.{IsHead, behind, retires_after, retires_from}
 use Rattle.bm_replay.proofs.queue.later_retire.Goals as goal

@@ -1,4 +1,4 @@
-use Rattle.std.proofs.Common.{◌≡◌, ℕ, subst, sym, ◌∙◌, ap, ◌+◌, ◌∷◌, ◌++◌, List}
+use Rattle.std.proofs.Common.{◌≡◌, subst, sym, ◌∙◌, ◌+◌, ◌∷◌, ◌++◌}
 use Rattle.bm_core.specs.declared.schedule.Due.{Due}
 use Rattle.bm_replay.specs.Queues.{later_shards, retires_from}
 use Rattle.bm_replay.proofs.Heads.{retires_head}

@@ -1,6 +1,5 @@
-use Rattle.std.proofs.Common.{◌≡◌, ℕ, suc, ◌+◌, ◌<◌, ◌≤◌, [], List, Option, length, get_or, sym, ap, ◌∙◌, subst, arith}
+use Rattle.std.proofs.Common.{◌≡◌, ℕ, suc, ◌+◌, ◌<◌, [], List, length, get_or, sym, ap, ◌∙◌, subst, arith}
 use Rattle.std.proofs.lemmas.List.{get_or_default}
-use Rattle.bm_core.specs.declared.schedule.Due.{Due}
 use Rattle.bm_core.specs.Schedule.{least}
 use Rattle.bm_table.specs.Tables.{next_change}
 use Rattle.bm_replay.specs.declared.fleet.Mux.{Mux}

@@ -1,4 +1,4 @@
-use Rattle.std.proofs.Common.{◌≡◌, ◌*◌, ◌<◌, ℕ, List, refl, ap, ◌∙◌, subst, arith}
+use Rattle.std.proofs.Common.{◌*◌, ℕ, List, refl, ap, ◌∙◌, subst, arith}
 use Rattle.bm_base.specs.declared.capture.Record.{Record}
 use Rattle.bm_table.specs.declared.script.Command.{Command}
 use Rattle.bm_core.specs.Schedule.{least}
