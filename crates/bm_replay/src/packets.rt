@@ -7,7 +7,7 @@ ghost use Rattle.bm_route.specs.Routes.{Answers, IsRoute};
 ghost use Rattle.bm_replay.specs.Connections.{shard_after, shard_at};
 ghost use Rattle.bm_replay.specs.Flights.{copies_put};
 ghost use Rattle.bm_replay.specs.Players as players;
-ghost use Rattle.bm_replay.specs.Players.{CanArrive, CanSteer, HasArrived, HasPlaces, HasSent, HasSteered, place_for, verdict_for};
+ghost use Rattle.bm_replay.specs.Players.{CanArrive, CanSteer, HasArrived, HasGoneOn, HasPlaces, HasSent, HasSteered, place_for, verdict_for};
 
 use crate::player::{Loss, Player};
 use crate::queue::next_packet;
@@ -71,24 +71,31 @@ impl Player {
                 verdict,
             },
         )?;
-        match verdict {
-            Verdict::Forward(server) => {
-                let tag = Tag {
-                    hop: Hop::Chained,
-                    dest: server,
-                    ..flight.tag
-                };
-                self.send(
-                    clock,
-                    Flight {
-                        packet: flight.packet,
-                        tag,
-                    },
-                    faults,
-                )
-            }
-            _ => Ok(()),
+        self.go_on(clock, flight, verdict, faults)
+    }
+
+    /// A copy that is forwarded is sent on.
+    fn go_on<F: Fn(u32, Hop) -> Fate>(
+        &mut self,
+        clock: Moment,
+        flight: Flight,
+        verdict: Verdict,
+        faults: &Faults<F>,
+    ) -> Result<(), Memory>
+        requires clock { clock.0 ≤ 5 * 10 ^ 18 }
+        requires faults { IsRule F.Fn faults.now.rule }
+        ensures { IfOk result (λ _. HasGoneOn (Gives F.Fn faults.now.rule) clock flight verdict self.old self.new) }
+    {
+        if let Verdict::Forward(server) = verdict {
+            let tag = Tag {
+                hop: Hop::Chained,
+                dest: server,
+                ..flight.tag
+            };
+            let packet = flight.packet;
+            self.send(clock, Flight { packet, tag }, faults)?;
         }
+        Ok(())
     }
 
     /// The destination's shard of the segment's flow decides, and the verdict takes effect.
