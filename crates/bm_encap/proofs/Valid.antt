@@ -63,7 +63,9 @@ direct_some addr dest is d =
       server = (omega (arith, a.0, a.1), omega (arith, a.0, a.1));
       right = λ e. (let same : addr ≡ dest = same_server addr dest a d (same_Some (server_of_address addr) (server_of_address dest) e) in grind (arith, nat_tests, both.1, same));
       none = λ e. absurd (none-some (server_of_address addr) (sym e));
-      hop_is = refl; code_is = refl; address_is = omega (arith, a.0, a.1);
+      hop_is = refl;
+      code_is = refl;
+      address_is = omega (arith, a.0, a.1);
     }
 
 chained_some : (addr dest : ℕ) → IsPrev 1 1 addr dest → Within dest → IsRight 1 1 addr dest
@@ -75,7 +77,9 @@ chained_some addr dest is d =
       server = (omega (arith, a.0, a.1), omega (arith, a.0, a.1));
       right = ap (λ (x : ℕ). Some (server_of_address x)) same;
       none = λ e. absurd (none-some (server_of_address addr) (sym e));
-      hop_is = refl; code_is = refl; address_is = omega (arith, a.0, a.1);
+      hop_is = refl;
+      code_is = refl;
+      address_is = omega (arith, a.0, a.1);
     }
 
 -- nothing else passes
@@ -116,23 +120,54 @@ spells octets are is =
     let long : (n : ℕ) → n ≤ 44 → n ≤ length octets = λ n below. omega (arith, is.long, below) in
     let outer = is.outer in
     all_stand octets 0 (fields (tag_in octets) (length octets) (u16_at octets 10)) (
-        stands2 octets 0 0x4b00 (long 2 (omega arith)) are (pair octets 0 0x4b 0x00 outer.0 outer.1.0),
-        (stands2 octets 2 (length octets) (long 4 (omega arith)) are is.total,
-        (stands2 octets 4 0 (long 6 (omega arith)) are (pair octets 4 0 0 outer.1.1.0 outer.1.1.1.0),
-        (stands2 octets 6 0x4000 (long 8 (omega arith)) are (pair octets 6 0x40 0 outer.1.1.1.1.0 outer.1.1.1.1.1.0),
-        (stands2 octets 8 0x4004 (long 10 (omega arith)) are (pair octets 8 0x40 0x04 outer.1.1.1.1.1.1.0 outer.1.1.1.1.1.1.1.0),
-        (stands2 octets 10 (u16_at octets 10) (long 12 (omega arith)) are refl,
-        (stands4 octets 12 (0xac1f_0000 + u16_at octets 40) (long 16 (omega arith)) are (sym is.same_mux),
-        (stands4 octets 16 (0xac10_0000 + (u32_at octets 16 - 0xac10_0000)) (long 20 (omega arith)) are (omega (arith, is.dest.0)),
-        (stands2 octets 20 0x9e18 (long 22 (omega arith)) are (pair octets 20 0x9e 0x18 is.option.0 is.option.1.0),
-        (stands1 octets 22 (hop_code (hop_of (octet_at octets 22))) (long 23 (omega arith)) are (sym prev.hop_is),
-        (stands1 octets 23 (prev_code (prev_in octets)) (long 24 (omega arith)) are (sym prev.code_is),
-        (stands4 octets 24 (prev_address (prev_in octets)) (long 28 (omega arith)) are (sym prev.address_is),
-        (stands8 octets 28 (u64_at octets 28) (long 36 (omega arith)) are refl,
-        (stands4 octets 36 (u32_at octets 36) (long 40 (omega arith)) are refl,
-        (stands2 octets 40 (u16_at octets 40) (long 42 (omega arith)) are refl,
-        (stands2 octets 42 0 (long 44 (omega arith)) are is.spare,
-        tt))))))))))))))))
+      stands2 octets 0 0x4b00 (long 2 (omega arith)) are (pair octets 0 0x4b 0x00 outer.0 outer.1.0),
+      (
+        stands2 octets 2 (length octets) (long 4 (omega arith)) are is.total,
+        (
+          stands2 octets 4 0 (long 6 (omega arith)) are (pair octets 4 0 0 outer.1.1.0 outer.1.1.1.0),
+          (
+            stands2 octets 6 0x4000 (long 8 (omega arith)) are (pair octets 6 0x40 0 outer.1.1.1.1.0 outer.1.1.1.1.1.0),
+            (
+              stands2 octets 8 0x4004 (long 10 (omega arith)) are (pair octets 8 0x40 0x04 outer.1.1.1.1.1.1.0 outer.1.1.1.1.1.1.1.0),
+              (
+                stands2 octets 10 (u16_at octets 10) (long 12 (omega arith)) are refl,
+                (
+                  stands4 octets 12 (0xac1f_0000 + u16_at octets 40) (long 16 (omega arith)) are (sym is.same_mux),
+                  (
+                    stands4 octets 16 (0xac10_0000 + (u32_at octets 16 - 0xac10_0000)) (long 20 (omega arith)) are (omega (arith, is.dest.0)),
+                    (
+                      stands2 octets 20 0x9e18 (long 22 (omega arith)) are (pair octets 20 0x9e 0x18 is.option.0 is.option.1.0),
+                      (
+                        stands1 octets 22 (hop_code (hop_of (octet_at octets 22))) (long 23 (omega arith)) are (sym prev.hop_is),
+                        (
+                          stands1 octets 23 (prev_code (prev_in octets)) (long 24 (omega arith)) are (sym prev.code_is),
+                          (
+                            stands4 octets 24 (prev_address (prev_in octets)) (long 28 (omega arith)) are (sym prev.address_is),
+                            (
+                              stands8 octets 28 (u64_at octets 28) (long 36 (omega arith)) are refl,
+                              (
+                                stands4 octets 36 (u32_at octets 36) (long 40 (omega arith)) are refl,
+                                (
+                                  stands2 octets 40 (u16_at octets 40) (long 42 (omega arith)) are refl,
+                                  (
+                                    stands2 octets 42 0 (long 44 (omega arith)) are is.spare,
+                                    tt,
+                                  ),
+                                ),
+                              ),
+                            ),
+                          ),
+                        ),
+                      ),
+                    ),
+                  ),
+                ),
+              ),
+            ),
+          ),
+        ),
+      ),
+    )
 
 -- the header with zero for its checksum
 pub blank : (tag : Tag) (total sum : ℕ) (inner : List ℕ) → without_sum (header tag total sum ++ inner) ≡ header tag total 0

@@ -8,8 +8,6 @@ mod header;
 pub mod laws;
 mod read;
 
-
-
 pub use address::{mux_addr, server_addr, server_of};
 pub use fault::EncapFault;
 pub use header::{set_chained, wrap};
