@@ -1,6 +1,6 @@
 -- Looking up a flow in a list of connections that was changed.
-use Rattle.std.proofs.Common.{◌≡◌, ℕ, zero, suc, ◌+◌, ◌-◌, ◌<◌, ◌≤◌, Bool, true, false, cond, List, [], ◌∷◌, ◌++◌, length, Option, Some, None, is_some, get_or, set, refl, sym, ap, subst, ◌∙◌, inl, inr, arith}
-use Rattle.std.specs.Prelude.{◌==◌, ◌&&◌, if◌then◌else◌, option_map, ◌⊎◌}
+use Rattle.std.proofs.Common.{◌≡◌, ℕ, suc, ◌+◌, ◌<◌, Bool, true, false, List, [], ◌∷◌, ◌++◌, length, Option, Some, None, is_some, get_or, set, refl, sym, ap, ◌∙◌, inl, inr, arith}
+use Rattle.std.specs.Prelude.{if◌then◌else◌, option_map, ◌⊎◌}
 use Rattle.std.specs.List.{remove}
 use Rattle.std.proofs.lemmas.Bool.{cases_Bool, both_ways}
 use Rattle.std.proofs.lemmas.Option.{none-some, same_Some}
@@ -176,4 +176,18 @@ distinct_set (c ∷ connections) f r p distinct is = elim (place_cases (same_flo
   | inl here ↦ rw here.1 (ap (receiver_in connections) (sym (same_flow-true c.flow f here.0)) ∙ distinct.0, distinct.1)
   | inr there ↦
       rw there.1.2 (receiver_set connections f r there.1.0 there.1.1 c.flow ∙ rw (apart_back c.flow f there.0) distinct.0, distinct_set connections f r there.1.0 distinct.1 there.1.1)
+]
+
+-- NOT THERE
+
+none_from : (r : Option Receiver) → false ≡ is_some r → r ≡ None
+none_from None is = refl
+none_from (Some r) is = absurd (both_ways _ (sym is) refl)
+
+-- where the flow isn't there, taking it away changes nothing
+pub none_stays : (connections : List Connection) (f : Flow) → false ≡ is_some (receiver_in connections f)
+    → (g : Flow) → receiver_in connections g ≡ (if same_flow f g then None else receiver_in connections g)
+none_stays connections f is g = elim (cases_Bool (same_flow f g)) [
+  | inl same ↦ rw same (ap (receiver_in connections) (sym (same_flow-true f g same)) ∙ none_from (receiver_in connections f) is)
+  | inr other ↦ rw other refl
 ]

@@ -1,5 +1,5 @@
 //! A table of connections: a finite map from flows to receivers.
-ghost use Rattle.std.specs.Prelude.{◌≡◌, ◌==◌, ◌<◌, ◌≤◌, ◌+◌, ◌⊎◌, [], length, is_some, if◌then◌else◌, IsSome, IfOk, OnOk, Some, None};
+ghost use Rattle.std.specs.Prelude.{◌≡◌, ◌==◌, ◌<◌, ◌≤◌, ◌+◌, ◌⊎◌, [], length, is_some, if◌then◌else◌, IsSome, IfOk, OnOk, Some, None, false};
 ghost use Rattle.bm_conn.specs.Connections.{IsMap, IsSame, Puts, place_in, receiver_in};
 
 use bm_base::{Flow, Memory};
@@ -68,7 +68,8 @@ impl ConnTable {
 
     /// Whether there are as many flows as the capacity.
     pub fn is_full(&self) -> bool
-        ensures { result ≡ (length self.now.connections == self.now.capacity) }
+        ensures full { result ≡ (length self.now.connections == self.now.capacity) }
+        ensures free { result ≡ false → length self.now.connections < self.now.capacity }
     {
         self.len() == self.capacity
     }
@@ -79,7 +80,9 @@ impl ConnTable {
         ensures room { OnOk result ((1 ≤ self.new.spare) ⊎ (length self.new.connections ≡ self.new.capacity)) }
         ensures same { IsSame self.old self.new }
     {
-        self.connections.reserve(1)?;
+        if !self.is_full() {
+            self.connections.reserve(1)?;
+        }
         Ok(())
     }
 
@@ -92,6 +95,7 @@ impl ConnTable {
         ensures count { length self.new.connections ≡ length self.old.connections + 1 }
         ensures room { self.old.spare ≤ self.new.spare + 1 }
     {
+        // There is room, so nothing is refused.
         let _ = self.connections.push(Connection {
             flow: f,
             receiver: r,
