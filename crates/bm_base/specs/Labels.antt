@@ -1,11 +1,17 @@
 -- Where copies of a packet arrive, and what is written on them (Beamer's design).
-use Rattle.std.specs.Prelude.{Option, Some, option_map}
+use Rattle.std.specs.Prelude.{Bool, true, false, Option, Some, option_map}
 use Rattle.bm_base.specs.declared.ids.ServerId.{ServerId}
 use Rattle.bm_base.specs.declared.label.Entry.{Entry}
 use Rattle.bm_base.specs.declared.label.Hop.{Hop}
 use Rattle.bm_base.specs.declared.label.Hop.TheVariants.{Direct, Chained}
 use Rattle.bm_base.specs.declared.label.Label.{Label}
 use Rattle.bm_base.specs.declared.label.Tag.{Tag}
+
+-- these are the same hop
+abbrev pub same_hop : Hop → Hop → Bool
+same_hop Direct Direct = true
+same_hop Chained Chained = true
+same_hop _ _ = false
 
 -- where a copy of this hop arrives: a direct one at the bucket's server, a chained one at the server before that
 abbrev pub stop : Entry → Hop → Option ServerId

@@ -25,7 +25,7 @@ use Rattle.std.proofs.Math.Nat.{mod-lt}
 use Rattle.bm_table.specs.declared.setting.RouteKind.{RouteKind}
 use Rattle.bm_table.specs.declared.setting.RouteKind.TheVariants.{Port, Turn}
 use Rattle.bm_core.specs.Stages.{IsSound}
-use Rattle.bm_core.specs.Rules.{mux_by, mux_of, RouteBy, RuleBy}
+use Rattle.bm_core.specs.Rules.{mux_of_kind, mux_of, RouteBy, RuleBy}
 use Rattle.bm_core.specs.Schedule.{call_of, least, wire, can_come, owed, ComesNext, IsAnswered}
 use Rattle.bm_core.proofs.Determined.{IsTold}
 use Rattle.bm_core.proofs.Retiring.{retirement_of, retirement_is}
@@ -196,9 +196,9 @@ play_told mux fate stage orderly within (suc n) past t =
     play_step mux fate stage orderly within n past t (λ e more. play_told mux fate stage orderly within n (e ∷ past) more) (next_event mux fate stage past) refl
 
 -- the muxes of a sound stage's route are there
-mux_by_within : (r : RouteKind) (muxes k : ℕ) (f : Flow) → 0 < muxes → mux_by r muxes k f < muxes
-mux_by_within Port muxes k f some = mod-lt f.sport some
-mux_by_within Turn muxes k f some = mod-lt k some
+mux_of_kind_within : (r : RouteKind) (muxes k : ℕ) (f : Flow) → 0 < muxes → mux_of_kind r muxes k f < muxes
+mux_of_kind_within Port muxes k f some = mod-lt f.sport some
+mux_of_kind_within Turn muxes k f some = mod-lt k some
 
 pub mux_within : (stage : Stage) → IsSound stage → IsWithinMuxes stage (mux_of stage.script.setting)
-mux_within stage sound k f = let some = sound.script.setting.muxes.0 in mux_by_within stage.script.setting.route stage.script.setting.muxes k f some
+mux_within stage sound k f = let some = sound.script.setting.muxes.0 in mux_of_kind_within stage.script.setting.route stage.script.setting.muxes k f some

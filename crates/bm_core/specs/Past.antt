@@ -25,6 +25,7 @@ use Rattle.bm_base.specs.Segments.{same_flow}
 use Rattle.bm_hash.specs.Buckets.{bucket_of, shard_of}
 use Rattle.bm_seq.specs.Receivers.{opened, receiver_after}
 pub use Rattle.bm_base.specs.Captures.{steerable}
+pub use Rattle.bm_base.specs.Labels.{same_hop}
 
 -- the segment of packet k, which is the record of that number, counted from 1
 abbrev pub segment_of : Stage → ℕ → Option Segment
@@ -110,12 +111,6 @@ is_forward _ = false
 abbrev pub is_direct : Hop → Bool
 is_direct Direct = true
 is_direct Chained = false
-
--- these are the same hop
-abbrev pub same_hop : Hop → Hop → Bool
-same_hop Direct Direct = true
-same_hop Chained Chained = true
-same_hop _ _ = false
 
 -- the hop that a forwarded copy makes next
 abbrev pub hop_after : Hop → Option Hop

@@ -3,12 +3,8 @@ use Rattle.std.specs.Prelude.{ℕ, Bool, true, false, ◌&&◌, ◌==◌, if◌t
 use Rattle.bm_base.specs.declared.label.Hop.{Hop}
 use Rattle.bm_base.specs.declared.label.Hop.TheVariants.{Direct, Chained}
 use Rattle.bm_base.specs.declared.receive.Fate.{Fate}
+pub use Rattle.bm_base.specs.Labels.{same_hop}
 use Rattle.bm_table.specs.declared.setting.FaultRow.{FaultRow}
-
-abbrev pub same_hop : Hop → Hop → Bool
-same_hop Direct Direct = true
-same_hop Chained Chained = true
-same_hop _ _ = false
 
 -- one copy without delay
 abbrev pub plain_fate : Fate

@@ -4,3 +4,4 @@ pub mod Named
 pub mod MemNames
 pub mod SureNames
 pub mod Calls
+pub mod Fill

@@ -3,6 +3,7 @@
 
 mod fault;
 mod files;
+mod filling;
 mod give;
 mod mem;
 mod mem_file;
@@ -18,6 +19,7 @@ mod system;
 
 pub use fault::{Failed, IoFault};
 pub use files::Files;
+pub use filling::fill;
 pub use mem::{MemSink, MemSource};
 pub use mem_file::MemFile;
 pub use mem_files::MemFiles;

@@ -9,7 +9,7 @@ use Rattle.bm_pcap.specs.declared.fault.PcapFault.TheVariants as fault
 use Rattle.bm_pcap.specs.declared.form.Form.{Form}
 use Rattle.bm_pcap.specs.declared.form.Order.{Order}
 use Rattle.bm_pcap.specs.declared.form.Unit.{Unit as Unit_of_time}
-use Rattle.bm_pcap.specs.Fill.{Fills}
+use Rattle.bm_io.specs.Fill.{Fills}
 use Rattle.bm_pcap.specs.Header.{form_of, form_by, magic_of}
 use Rattle.bm_pcap.specs.Parts.{FormGives}
 

@@ -1,4 +1,3 @@
-pub mod Filled
 pub mod Steps
 pub mod Forms
 pub mod Loop

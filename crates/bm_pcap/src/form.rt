@@ -6,8 +6,7 @@ ghost use Rattle.bm_pcap.specs.Header.{form_by, magic_of, nanoseconds_in, number
 ghost use Rattle.bm_pcap.specs.Parts.{FormGives};
 
 use crate::PcapFault;
-use crate::fill::fill;
-use bm_io::Source;
+use bm_io::{Source, fill};
 use bm_link::is_link;
 use byteorder::{BigEndian, ByteOrder, LittleEndian};
 

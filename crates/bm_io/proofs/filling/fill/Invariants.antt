@@ -1,6 +1,6 @@
 use Rattle.std.proofs.Common.{◌≤◌, ◌-◌, length}
-use Rattle.bm_pcap.specs.Fill.{FilledSoFar}
-use Rattle.bm_pcap.proofs.fill.fill.Given as goal
+use Rattle.bm_io.specs.Fill.{FilledSoFar}
+use Rattle.bm_io.proofs.filling.fill.Given as goal
 
 abbrev pub invariant-loop-at : goal.invariant-loop-at
 invariant-loop-at g l = record {

@@ -1,6 +1,6 @@
 use Rattle.std.proofs.Common.{arith}
-use Rattle.bm_pcap.proofs.Filled.{filled_more, filled_within}
-use Rattle.bm_pcap.proofs.fill.fill.Goals as goal
+use Rattle.bm_io.proofs.Filled.{filled_more, filled_within}
+use Rattle.bm_io.proofs.filling.fill.Goals as goal
 
 pub loop-at-preserved : goal.loop-at-preserved
 loop-at-preserved g c = record {

@@ -1,0 +1,122 @@
+-- A script that the definition gives is sound, beside what the controller says of its plan.
+use Rattle.std.proofs.Common.{◌≡◌, ◌≢◌, ℕ, ◌+◌, ◌*◌, ◌^◌, ◌≤◌, List, [], length, map, Option, Some, None, Result, Ok, Err, IfOk, IfErr, refl, ap, ◌∙◌, subst, arith}
+use Rattle.std.specs.List.{AllByRecursion}
+use Rattle.toml.specs.Data.{Items, Members}
+use Rattle.bm_base.specs.Captures.{AreRising}
+use Rattle.bm_controller.specs.Fleets.{IsFleet}
+use Rattle.bm_script.proofs.Ordered.{commands-ordered, AreOrdered, AreRising-higher}
+use Rattle.bm_script.proofs.Sound.{Any, AreRows, Meets, meets-only_keys, meets-tables, meets-then, rows-sound, setting-sound}
+use Rattle.bm_script.specs.declared.fault.Place.TheVariants.{Top}
+use Rattle.bm_script.specs.declared.fault.ScriptFault.{ScriptFault}
+use Rattle.bm_script.specs.declared.fault.ScriptFault.TheVariants.{NotToml, Missing, BadValue, Unknown, Refused, Memory}
+use Rattle.bm_script.specs.declared.key.Key.TheVariants as key
+use Rattle.bm_script.specs.Faults.{Gives, IsOfScript}
+use Rattle.bm_script.specs.Keys.{top_keys}
+use Rattle.bm_script.specs.Scripts.{of_tree, opened, script_in, script_of, tree_of}
+use Rattle.bm_script.specs.Values as values
+use Rattle.bm_table.specs.declared.script.Script.{Script}
+use Rattle.bm_table.specs.declared.setting.FaultRow.{FaultRow}
+use Rattle.bm_table.specs.declared.setting.Setting.{Setting}
+use Rattle.bm_table.specs.Scripts.{moment_of_command, IsOfKnown, IsSoundScript, NamesVersions}
+use Rattle.bm_table.specs.Settings.{IsSetting}
+
+-- what is sound of a script, its plan's own laws aside
+pub record IsRead (script : Script) : Type 0 where
+  pub setting : IsSetting script.setting
+  pub buckets : script.plan.buckets ≡ script.setting.buckets
+  pub servers : script.plan.servers ≡ script.setting.servers
+  pub few : length script.commands ≤ 65536
+  pub rise : AreRising 0 (4 * 10 ^ 18) (map (λ c. moment_of_command script.plan c) script.commands)
+  pub versions : NamesVersions 1 (length script.plan.changes) script.commands
+  pub of_known : AllByRecursion (λ c. IsOfKnown script.plan c) script.commands
+
+opened-ordered : (setting : Setting) → AreOrdered (opened setting).plan 0 (opened setting)
+opened-ordered setting = record {
+  few = refl;
+  buckets = refl;
+  servers = refl;
+  last = omega arith;
+  plan_last = omega arith;
+  rise = tt;
+  versions = refl;
+  of_known = tt;
+}
+
+with_rows : (setting : Setting) (items : Items) (rows : List FaultRow) → IsSetting setting → values.count items ≤ 4096 → AreRows items rows → IsSetting (record setting { faults = rows })
+with_rows setting items rows h few are = record {
+  buckets = h.buckets;
+  servers = h.servers;
+  rising = h.rising;
+  numbers = h.numbers;
+  muxes = h.muxes;
+  shards = h.shards;
+  capacity = h.capacity;
+  timeout = h.timeout;
+  vips = h.vips;
+  ports = h.ports;
+  lag_of_each = h.lag_of_each;
+  lags = h.lags;
+  rows = omega (arith, are.1);
+  faults = are.0;
+}
+
+read-tree : (inside : Members) → Meets IsRead (script_in inside)
+read-tree inside =
+    meets-then Any IsRead _ _ (meets-only_keys Top top_keys inside) λ only _.
+    meets-then IsSetting IsRead _ _ (setting-sound inside) λ setting is_setting.
+    meets-then (λ items. values.count items ≤ 4096) IsRead _ _ (meets-tables key.Fault 4096 inside) λ fault_tables few_rows.
+    meets-then (λ items. values.count items ≤ 65536) IsRead _ _ (meets-tables key.Command 65536 inside) λ command_tables few.
+    meets-then (AreRows fault_tables) IsRead _ _ (rows-sound 1 fault_tables) λ rows are_rows.
+    meets-then (AreOrdered (opened setting).plan (values.count command_tables)) IsRead _ _ (commands-ordered (opened setting).plan 0 (values.count command_tables) (opened setting) command_tables (omega arith) (opened-ordered setting)) λ p are.
+    record {
+      setting = with_rows setting fault_tables rows is_setting few_rows are_rows;
+      buckets = are.buckets;
+      servers = are.servers;
+      few = omega (arith, are.few);
+      rise = AreRising-higher 0 p.last (4 * 10 ^ 18) (map (λ c. moment_of_command p.plan c) p.commands) are.rise are.last;
+      versions = are.versions;
+      of_known = are.of_known;
+    }
+
+read-of_tree : (tree : Option Members) → Meets IsRead (of_tree tree)
+read-of_tree None = tt
+read-of_tree (Some inside) = read-tree inside
+
+pub script-read : (text : List ℕ) → Meets IsRead (script_of text)
+script-read text = read-of_tree (tree_of text)
+
+script-sound : (text : List ℕ) (script : Script) → script_of text ≡ Ok script → IsFleet script.plan → IsSoundScript script
+script-sound text script is fleet =
+    let h : Meets IsRead (Ok script) = subst (Meets IsRead) is (script-read text) in
+    record {
+      setting = h.setting;
+      buckets = h.buckets;
+      servers = h.servers;
+      adds = fleet.adds;
+      plan = fleet.orderly;
+      few_commands = h.few;
+      commands_rise = h.rise;
+      versions = h.versions;
+      of_known = h.of_known;
+    }
+
+script-fault : (text : List ℕ) (fault : ScriptFault) → script_of text ≡ Err fault → IsOfScript fault
+script-fault text fault is = subst (Meets IsRead) is (script-read text)
+
+fault-sound : (text : List ℕ) (fault : ScriptFault) → (fault ≢ Memory → script_of text ≡ Err fault) → IsOfScript fault
+fault-sound text NotToml is = tt
+fault-sound text (Missing place key) is = tt
+fault-sound text (BadValue place key) is = tt
+fault-sound text (Unknown place name) is = tt
+fault-sound text (Refused n r) is = script-fault text (Refused n r) (is (λ e. cc))
+fault-sound text Memory is = tt
+
+-- of an answer that is what the definition gives
+module _ (text : List ℕ) (inside : Members) (tree : tree_of text ≡ Some inside) where
+  pub answer-sound : (result : Result Script ScriptFault) → Gives result (script_in inside) → IfOk result (λ script. IsFleet script.plan) → IfOk result IsSoundScript
+  answer-sound (Ok script) gives fleet = script-sound text script (ap of_tree tree ∙ gives) fleet
+  answer-sound (Err fault) gives fleet = tt
+
+  pub answer-fault : (result : Result Script ScriptFault) → Gives result (script_in inside) → IfErr result IsOfScript
+  answer-fault (Ok script) gives = tt
+  answer-fault (Err fault) gives = fault-sound text fault (λ other. ap of_tree tree ∙ gives other)

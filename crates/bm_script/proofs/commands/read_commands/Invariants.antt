@@ -1,0 +1,13 @@
+use Rattle.std.proofs.Common.{◌≡◌, drop, length}
+use Rattle.bm_script.specs.Commands.{after_commands}
+use Rattle.bm_script.specs.Readings.{IsCounted, progress}
+use Rattle.bm_script.specs.Scripts.{opened}
+use Rattle.toml.specs.View.{items_view}
+use Rattle.bm_script.proofs.commands.read_commands.Given as goal
+
+abbrev pub invariant-loop-value : goal.invariant-loop-value
+invariant-loop-value l = record {
+  so_far : after_commands (progress l.reading) (items_view (drop l.value-index l.tables)) ≡ after_commands (opened l.setting) (items_view l.tables);
+  counted : IsCounted l.reading;
+  count : length l.reading.commands.items ≡ l.value-index;
+}

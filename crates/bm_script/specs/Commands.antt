@@ -1,0 +1,113 @@
+-- What the fault tables and the command tables of a script say.
+-- Commands are read in their order, each beside the plan that those before it made.
+use Rattle.std.specs.Prelude.{ℕ, ◌+◌, ◌*◌, ◌^◌, List, [], ◌∷◌, ◌++◌, length, Option, Some, None, Result, Ok, Err, if◌then◌else◌}
+use Rattle.toml.specs.Data.{Data, as_table, Items, no_items, item, Members}
+use Rattle.bm_base.specs.declared.ids.ServerId.{ServerId}
+use Rattle.bm_controller.specs.Commands as controller
+use Rattle.bm_controller.specs.Fleets.{knows}
+use Rattle.bm_quota.specs.declared.refusal.Refusal.{Refusal}
+use Rattle.bm_quota.specs.declared.refusal.Refusal.TheVariants.{UnknownServer}
+use Rattle.bm_script.specs.declared.commands.Verb.{Verb}
+use Rattle.bm_script.specs.declared.commands.Verb.TheVariants.{Add, Drain, Move, Close, Retire, Sync}
+use Rattle.bm_script.specs.declared.fault.Place.TheVariants as at_
+use Rattle.bm_script.specs.declared.fault.ScriptFault.{ScriptFault}
+use Rattle.bm_script.specs.declared.fault.ScriptFault.TheVariants.{BadValue, Refused}
+use Rattle.bm_script.specs.declared.key.Key.TheVariants as key
+use Rattle.bm_script.specs.Faults.{◌>>=◌, only_keys, required, valued}
+use Rattle.bm_script.specs.Keys.{row_keys, verb_keys}
+use Rattle.bm_script.specs.Values.{endpoint_value, hop, number, server, verb}
+use Rattle.bm_table.specs.declared.plan.Change.{Change}
+use Rattle.bm_table.specs.declared.script.Command.{Command}
+use Rattle.bm_table.specs.declared.script.Command.TheVariants.{Change as ChangeCommand, Close as CloseCommand, Retire as RetireCommand, Sync as SyncCommand}
+use Rattle.bm_table.specs.declared.setting.FaultRow.{FaultRow}
+use Rattle.bm_table.specs.Planned.{Planned}
+use Rattle.bm_table.specs.Plans.{with_change}
+
+-- FAULT ROWS
+
+-- the row of the fault table number n
+abbrev pub row_of : ℕ → Members → Result FaultRow ScriptFault
+row_of n members = do
+  only ← only_keys (at_.Fault n) row_keys members
+  packet ← required (at_.Fault n) key.Packet (number 1 200000) members
+  hop ← required (at_.Fault n) key.Hop hop members
+  copies ← required (at_.Fault n) key.Copies (number 0 3) members
+  delay ← required (at_.Fault n) key.Delay (number 0 60000000000) members
+  Ok (record { packet = packet; hop = hop; fate = record { copies = copies; delay = delay } })
+
+-- the rows of these tables, the first of which is number n
+abbrev pub rows_from : ℕ → Items → Result (List FaultRow) ScriptFault
+rows_from n no_items = Ok []
+rows_from n (item d items) = do
+  members ← valued at_.Top key.Fault (as_table d)
+  row ← row_of n members
+  rows ← rows_from (n + 1) items
+  Ok (row ∷ rows)
+
+-- COMMANDS
+
+-- what was read so far
+pub record Progress : Type 0 where
+  pub plan : Planned
+  -- the moment of the last command, or 0
+  pub last : ℕ
+  pub commands : List Command
+
+-- the number of the command that comes next
+abbrev pub next : Progress → ℕ
+next p = length p.commands + 1
+
+-- one more command
+abbrev pub with_command : Progress → ℕ → Command → Progress
+with_command p at command = record { plan = p.plan; last = at; commands = p.commands ++ command ∷ [] }
+
+-- one more change of the plan, to which a command leads, unless it is refused
+abbrev pub changed : Progress → ℕ → Change → Option Refusal → Result Progress ScriptFault
+changed p at change (Some refusal) = Err (Refused (next p) refusal)
+changed p at change None = Ok (record {
+  plan = with_change p.plan change;
+  last = at;
+  commands = p.commands ++ ChangeCommand (record { 0 = length p.plan.changes + 1 }) ∷ [];
+})
+
+-- a command to a server that has to be known
+abbrev pub told : Progress → ℕ → ServerId → Command → Result Progress ScriptFault
+told p at s command = if knows p.plan s then Ok (with_command p at command) else Err (Refused (next p) UnknownServer)
+
+-- after a command with this verb, at this moment
+abbrev pub carried : Progress → ℕ → Verb → Members → Result Progress ScriptFault
+carried p at Add entries = do
+  s ← required (at_.Command (next p)) key.Server server entries
+  changed p at (controller.addition p.plan (record { 0 = at }) s) (controller.add_refusal p.plan (record { 0 = at }) s)
+carried p at Drain entries = do
+  s ← required (at_.Command (next p)) key.Server server entries
+  changed p at (controller.removal p.plan (record { 0 = at }) s) (controller.drain_refusal p.plan (record { 0 = at }) s)
+carried p at Move entries = do
+  bucket ← required (at_.Command (next p)) key.Bucket (number 0 65535) entries
+  s ← required (at_.Command (next p)) key.Server server entries
+  changed p at (controller.shift_of (record { 0 = at }) bucket s) (controller.shift_refusal p.plan (record { 0 = at }) bucket s)
+carried p at Close entries = do
+  s ← required (at_.Command (next p)) key.Server server entries
+  from ← required (at_.Command (next p)) key.From endpoint_value entries
+  to ← required (at_.Command (next p)) key.To endpoint_value entries
+  told p at s (CloseCommand (record { 0 = at }) s (record { src = from.addr; dst = to.addr; sport = from.port; dport = to.port }))
+carried p at Retire entries = do
+  s ← required (at_.Command (next p)) key.Server server entries
+  told p at s (RetireCommand (record { 0 = at }) s)
+carried p at Sync entries = Ok (with_command p at (SyncCommand (record { 0 = at })))
+
+-- after the command of a table; its moment isn't below that of the command before it
+abbrev pub after_command : Progress → Members → Result Progress ScriptFault
+after_command p members = do
+  at ← required (at_.Command (next p)) key.At (number p.last 4000000000000000000) members
+  verb ← required (at_.Command (next p)) key.Do verb members
+  only ← only_keys (at_.Command (next p)) (verb_keys verb) members
+  carried p at verb members
+
+-- after the commands of these tables
+abbrev pub after_commands : Progress → Items → Result Progress ScriptFault
+after_commands p no_items = Ok p
+after_commands p (item d items) = do
+  members ← valued at_.Top key.Command (as_table d)
+  q ← after_command p members
+  after_commands q items

@@ -1,0 +1,79 @@
+-- The faults of a script: their texts, and the readers that end at the first one.
+use Rattle.std.specs.Prelude.{◌≡◌, ◌≢◌, ℕ, List, [], ◌∷◌, ◌++◌, Option, Some, None, Result, Ok, Err, ok_or, codes, decimal}
+use Rattle.bm_quota.specs.declared.refusal.Refusal.{Refusal}
+use Rattle.bm_quota.specs.declared.refusal.Refusal.TheVariants.{KnownServer, UnknownServer, NotActive, LastServer, BadBucket, SameServer, StampFell, TooMany, Memory as no_memory}
+use Rattle.bm_script.specs.declared.fault.Place.{Place}
+use Rattle.bm_script.specs.declared.fault.Place.TheVariants.{Top, Fault, Command}
+use Rattle.bm_script.specs.declared.fault.ScriptFault.{ScriptFault}
+use Rattle.bm_script.specs.declared.fault.ScriptFault.TheVariants.{NotToml, Missing, BadValue, Unknown, Refused, Memory}
+use Rattle.bm_script.specs.declared.key.Key.{Key}
+use Rattle.bm_script.specs.Keys.{first_unknown, key_word, value_at}
+use Rattle.toml.specs.Data.{Data, Members}
+
+abbrev pub place_text : Place → List ℕ
+place_text Top = codes "script: "
+place_text (Fault n) = codes "script fault " ++ decimal n ++ codes ": "
+place_text (Command n) = codes "script command " ++ decimal n ++ codes ": "
+
+abbrev pub refusal_word : Refusal → List ℕ
+refusal_word KnownServer = codes "known server"
+refusal_word UnknownServer = codes "unknown server"
+refusal_word NotActive = codes "not active"
+refusal_word LastServer = codes "last server"
+refusal_word BadBucket = codes "bad bucket"
+refusal_word SameServer = codes "same server"
+refusal_word StampFell = codes "stamp fell"
+refusal_word (TooMany limit) = codes "too many"
+refusal_word no_memory = codes "want of memory"
+
+-- the place of a fault, and what it is
+abbrev pub fault_text : ScriptFault → List ℕ
+fault_text NotToml = codes "script: not toml"
+fault_text (Missing place key) = place_text place ++ codes "missing " ++ key_word key
+fault_text (BadValue place key) = place_text place ++ codes "bad value of " ++ key_word key
+fault_text (Unknown place name) = place_text place ++ codes "unknown key " ++ name
+fault_text (Refused n refusal) = place_text (Command n) ++ refusal_word refusal
+fault_text Memory = codes "script: want of memory"
+
+-- a refusal that a script may meet
+abbrev pub IsOfScript : ScriptFault → Type 0
+IsOfScript (Refused n StampFell) = ⊥
+IsOfScript (Refused n no_memory) = ⊥
+IsOfScript _ = Unit {0}
+
+-- what was answered is what the definition gives, unless memory was refused
+abbrev pub Gives : {A : Type 0} → Result A ScriptFault → Result A ScriptFault → Type 0
+Gives (Ok x) wanted = wanted ≡ Ok x
+Gives (Err fault) wanted = fault ≢ Memory → wanted ≡ Err fault
+
+-- what comes after a value; a fault ends it
+infixl 10 ◌>>=◌
+abbrev pub ◌>>=◌ : {A B : Type 0} → Result A ScriptFault → (A → Result B ScriptFault) → Result B ScriptFault
+Ok x >>= f = f x
+Err fault >>= f = Err fault
+
+-- what a value reads as, or a bad value
+abbrev pub valued : {A : Type 0} → Place → Key → Option A → Result A ScriptFault
+valued place key x = ok_or x (BadValue place key)
+
+-- the value of a key that has to be there
+abbrev pub required : {A : Type 0} → Place → Key → (Data → Option A) → Members → Result A ScriptFault
+required place key read members = do
+  d ← ok_or (value_at key members) (Missing place key)
+  valued place key (read d)
+
+abbrev pub of_optional : {A : Type 0} → Key → A → (Data → Option A) → Option Data → Result A ScriptFault
+of_optional key plain read None = Ok plain
+of_optional key plain read (Some d) = valued Top key (read d)
+
+-- the value of a key at the top, or what stands where the key isn't there
+abbrev pub optional : {A : Type 0} → Key → A → (Data → Option A) → Members → Result A ScriptFault
+optional key plain read members = of_optional key plain read (value_at key members)
+
+abbrev pub none_unknown : Place → Option (List ℕ) → Result (Unit {0}) ScriptFault
+none_unknown place None = Ok tt
+none_unknown place (Some name) = Err (Unknown place name)
+
+-- no key but these stands in a table
+abbrev pub only_keys : Place → List Key → Members → Result (Unit {0}) ScriptFault
+only_keys place keys members = none_unknown place (first_unknown keys members)

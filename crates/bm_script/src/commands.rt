@@ -1,0 +1,299 @@
+//! The commands of a script, read in their order.
+ghost use Rattle.std.specs.Prelude.{◌≡◌, ◌≢◌, ◌≤◌, ◌<◌, Ok, Err, OnOk, IfOk, IfErr, length};
+ghost use Rattle.bm_controller.specs.Fleets.{IsFleet};
+ghost use Rattle.bm_script.specs.Commands as commands;
+ghost use Rattle.bm_script.specs.Faults as faults;
+ghost use Rattle.bm_script.specs.Keys.{verb_keys};
+ghost use Rattle.bm_script.specs.Readings.{IsCounted, IsPublished, Reads, command_fault, progress};
+ghost use Rattle.bm_script.specs.Scripts.{opened};
+ghost use Rattle.bm_script.specs.Values as values;
+ghost use Rattle.bm_script.specs.declared.fault.ScriptFault.TheVariants.{Memory as memory};
+ghost use Rattle.bm_script.specs.declared.key.Key.TheVariants as key_;
+ghost use Rattle.bm_table.specs.Settings.{IsSetting};
+ghost use Rattle.toml.specs.View.{items_view, table_view, view};
+
+use crate::key::only_keys;
+use crate::value::{required, required_endpoint, required_number, required_server};
+use crate::{Key, Place, ScriptFault};
+use bm_base::{Flow, List, Moment, ServerId, Version};
+use bm_controller::Controller;
+use bm_quota::Refusal;
+use bm_table::{Command, Plan, Setting};
+use std::alloc::Global;
+use toml::{Table, Value};
+
+/// The latest moment of a command, in nanoseconds.
+const MAX_MOMENT: u64 = 4_000_000_000_000_000_000;
+
+/// What a command does.
+#[derive(Clone, Copy, Debug, PartialEq, Eq)]
+pub(crate) enum Verb {
+    Add,
+    Drain,
+    Move,
+    Close,
+    Retire,
+    Sync,
+}
+
+impl Verb {
+    fn from_word(word: &str) -> Option<Verb>
+        ensures { result ≡ values.verb_of word.now }
+    {
+        match word {
+            "add" => Some(Verb::Add),
+            "drain" => Some(Verb::Drain),
+            "move" => Some(Verb::Move),
+            "close" => Some(Verb::Close),
+            "retire" => Some(Verb::Retire),
+            "sync" => Some(Verb::Sync),
+            _ => None,
+        }
+    }
+
+    /// The keys of a command.
+    fn keys(self) -> &'static [Key]
+        ensures { result.now ≡ verb_keys self }
+    {
+        match self {
+            Verb::Add | Verb::Drain | Verb::Retire => &[Key::At, Key::Do, Key::Server],
+            Verb::Move => &[Key::At, Key::Do, Key::Bucket, Key::Server],
+            Verb::Close => &[Key::At, Key::Do, Key::Server, Key::From, Key::To],
+            Verb::Sync => &[Key::At, Key::Do],
+        }
+    }
+}
+
+fn required_verb(table: &Table, place: Place) -> Result<Verb, ScriptFault>
+    ensures { result ≡ faults.required place key_.Do values.verb (table_view table.now) }
+{
+    let value = required(table, place, Key::Do)?;
+    verb_of(value).ok_or(ScriptFault::BadValue(place, Key::Do))
+}
+
+fn verb_of(value: &Value) -> Option<Verb>
+    ensures { result ≡ values.verb (view value.now) }
+{
+    Verb::from_word(value.as_str()?)
+}
+
+/// The commands read so far, and the controller that carries them out.
+#[derive(Debug, Drop)]
+pub(crate) struct Reading {
+    controller: Controller,
+    /// The moment of the last command, or 0.
+    last: u64,
+    /// How many changes the controller's plan has.
+    versions: u32,
+    commands: Vec<Command>,
+}
+
+/// The commands of these tables, carried out on the setting's servers.
+pub(crate) fn read_commands(
+    alloc: Global,
+    setting: &Setting,
+    tables: &[Value],
+) -> Result<Reading, ScriptFault>
+    requires setting { IsSetting setting.now }
+    requires few { length tables.now ≤ 65536 }
+    ensures ok { IfOk result (λ reading.
+        commands.after_commands (opened setting.now) (items_view tables.now) ≡ Ok (progress reading)) }
+    ensures err { IfErr result (λ fault. fault ≢ memory
+        → commands.after_commands (opened setting.now) (items_view tables.now) ≡ Err fault) }
+{
+    let mut reading = Reading {
+        controller: Controller::new(alloc, setting.buckets, setting.servers.items())?,
+        last: 0,
+        versions: 0,
+        commands: Vec::new(alloc),
+    };
+    for value in tables {
+        let Some(table) = value.as_table() else {
+            return Err(ScriptFault::BadValue(Place::Top, Key::Command));
+        };
+        reading.read(alloc, table)?;
+    }
+    Ok(reading)
+}
+
+impl Reading {
+    /// Reads the command of a table, and carries it out.
+    fn read(&mut self, alloc: Global, table: &Table) -> Result<(), ScriptFault>
+        requires few { length self.old.commands.items < 65536 }
+        requires counted { IsCounted self.old }
+        ensures { Reads self.old self.new
+            (commands.after_command (progress self.old) (table_view table.now)) result }
+    {
+        let place = Place::Command(self.number());
+        let at = required_number(table, place, Key::At, self.last, MAX_MOMENT)?;
+        let verb = required_verb(table, place)?;
+        only_keys(alloc, table, place, verb.keys())?;
+        self.carry_out(at, verb, table)
+    }
+
+    /// The plan that the commands made, and the commands.
+    pub(crate) fn into_parts(self) -> (Plan, List<Command>)
+        ensures plan { result.0 ≡ self.controller }
+        ensures fleet { IsFleet result.0 }
+        ensures commands { result.1 ≡ self.commands.items }
+    {
+        let Reading {
+            controller,
+            last: _,
+            versions: _,
+            commands,
+        } = self;
+        (controller.into_plan(), List::of(commands))
+    }
+
+    /// The number of the command that comes next.
+    fn number(&self) -> u32
+        requires { length self.now.commands.items < 65536 }
+        ensures { result ≡ commands.next (progress self.now) }
+    {
+        self.commands.len() as u32 + 1
+    }
+
+    fn carry_out(&mut self, at: u64, verb: Verb, table: &Table) -> Result<(), ScriptFault>
+        requires few { length self.old.commands.items < 65536 }
+        requires counted { IsCounted self.old }
+        ensures { Reads self.old self.new
+            (commands.carried (progress self.old) at verb (table_view table.now)) result }
+    {
+        match verb {
+            Verb::Add => self.add(at, table),
+            Verb::Drain => self.drain(at, table),
+            Verb::Move => self.shift(at, table),
+            Verb::Close => self.close(at, table),
+            Verb::Retire => self.retire(at, table),
+            Verb::Sync => self.push(at, Command::Sync { at: Moment(at) }),
+        }
+    }
+
+    fn add(&mut self, at: u64, table: &Table) -> Result<(), ScriptFault>
+        requires few { length self.old.commands.items < 65536 }
+        requires counted { IsCounted self.old }
+        ensures { Reads self.old self.new
+            (commands.carried (progress self.old) at Verb.Add (table_view table.now)) result }
+    {
+        let number = self.number();
+        let server = required_server(table, Place::Command(number))?;
+        match self.controller.add(Moment(at), server) {
+            Ok(()) => self.publish(at),
+            Err(refusal) => Err(fault_of(number, refusal)),
+        }
+    }
+
+    fn drain(&mut self, at: u64, table: &Table) -> Result<(), ScriptFault>
+        requires few { length self.old.commands.items < 65536 }
+        requires counted { IsCounted self.old }
+        ensures { Reads self.old self.new
+            (commands.carried (progress self.old) at Verb.Drain (table_view table.now)) result }
+    {
+        let number = self.number();
+        let server = required_server(table, Place::Command(number))?;
+        match self.controller.drain(Moment(at), server) {
+            Ok(()) => self.publish(at),
+            Err(refusal) => Err(fault_of(number, refusal)),
+        }
+    }
+
+    fn shift(&mut self, at: u64, table: &Table) -> Result<(), ScriptFault>
+        requires few { length self.old.commands.items < 65536 }
+        requires counted { IsCounted self.old }
+        ensures { Reads self.old self.new
+            (commands.carried (progress self.old) at Verb.Move (table_view table.now)) result }
+    {
+        let number = self.number();
+        let place = Place::Command(number);
+        let bucket = required_number(table, place, Key::Bucket, 0, 65_535)?;
+        let server = required_server(table, place)?;
+        match self.controller.shift(Moment(at), bucket as u32, server) {
+            Ok(()) => self.publish(at),
+            Err(refusal) => Err(fault_of(number, refusal)),
+        }
+    }
+
+    fn close(&mut self, at: u64, table: &Table) -> Result<(), ScriptFault>
+        requires few { length self.old.commands.items < 65536 }
+        requires counted { IsCounted self.old }
+        ensures { Reads self.old self.new
+            (commands.carried (progress self.old) at Verb.Close (table_view table.now)) result }
+    {
+        let place = Place::Command(self.number());
+        let server = required_server(table, place)?;
+        let from = required_endpoint(table, place, Key::From)?;
+        let to = required_endpoint(table, place, Key::To)?;
+        let flow = Flow {
+            src: from.addr,
+            dst: to.addr,
+            sport: from.port,
+            dport: to.port,
+        };
+        let command = Command::Close {
+            at: Moment(at),
+            server,
+            flow,
+        };
+        self.tell(at, server, command)
+    }
+
+    fn retire(&mut self, at: u64, table: &Table) -> Result<(), ScriptFault>
+        requires few { length self.old.commands.items < 65536 }
+        requires counted { IsCounted self.old }
+        ensures { Reads self.old self.new
+            (commands.carried (progress self.old) at Verb.Retire (table_view table.now)) result }
+    {
+        let place = Place::Command(self.number());
+        let server = required_server(table, place)?;
+        let command = Command::Retire {
+            at: Moment(at),
+            server,
+        };
+        self.tell(at, server, command)
+    }
+
+    /// One more command, which leads to the change that the controller made last.
+    fn publish(&mut self, at: u64) -> Result<(), ScriptFault>
+        requires { self.old.versions < 65536 }
+        ensures ok { OnOk result (IsPublished self.old self.new at) }
+        ensures err { IfErr result (λ fault. fault ≡ memory) }
+    {
+        let version = self.versions + 1;
+        self.commands.push(Command::Change(Version(version)))?;
+        self.versions = version;
+        self.last = at;
+        Ok(())
+    }
+
+    /// One more command, to a server that has to be known.
+    fn tell(&mut self, at: u64, server: ServerId, command: Command) -> Result<(), ScriptFault>
+        requires few { length self.old.commands.items < 65536 }
+        requires counted { IsCounted self.old }
+        ensures { Reads self.old self.new (commands.told (progress self.old) at server command) result }
+    {
+        if !self.controller.knows(server) {
+            return Err(ScriptFault::Refused(self.number(), Refusal::UnknownServer));
+        }
+        self.push(at, command)
+    }
+
+    fn push(&mut self, at: u64, command: Command) -> Result<(), ScriptFault>
+        requires { IsCounted self.old }
+        ensures { Reads self.old self.new (Ok (commands.with_command (progress self.old) at command)) result }
+    {
+        self.commands.push(command)?;
+        self.last = at;
+        Ok(())
+    }
+}
+
+/// What a refusal is as a fault of the command of this number.
+fn fault_of(number: u32, refusal: Refusal) -> ScriptFault
+    ensures { result ≡ command_fault number refusal }
+{
+    match refusal {
+        Refusal::Memory => ScriptFault::Memory,
+        _ => ScriptFault::Refused(number, refusal),
+    }
+}

@@ -1,0 +1,112 @@
+//! What is wrong with a script.
+ghost use Rattle.std.specs.Prelude.{◌≡◌, Some};
+ghost use Rattle.bm_script.specs.Faults as faults;
+ghost use Rattle.bm_script.specs.declared.fault.ScriptFault.TheVariants.{Memory as memory};
+
+use crate::Key;
+use bm_base::{Memory, Text};
+use bm_quota::Refusal;
+use std::alloc::{AllocError, AllocFailed};
+use std::error::Error;
+use std::fmt;
+
+/// Where a fault stands: at the top of a script, or in the fault table or the command table of this
+/// number, from 1.
+#[derive(Clone, Copy, Debug, PartialEq, Eq)]
+pub enum Place {
+    Top,
+    Fault(u32),
+    Command(u32),
+}
+
+impl fmt::Display for Place {
+    ghost output = { λ place. Some (faults.place_text place) };
+
+    fn fmt<W: fmt::Write>(&self, f: &mut fmt::Formatter<W>) -> fmt::Result {
+        match self {
+            Place::Top => write!(f, "script: "),
+            Place::Fault(number) => write!(f, "script fault {number}: "),
+            Place::Command(number) => write!(f, "script command {number}: "),
+        }
+    }
+}
+
+/// The first fault of a script. Its text names the place and the key, as in
+/// `script command 3: missing server`.
+#[derive(Debug, Drop)]
+pub enum ScriptFault {
+    /// The text isn't UTF-8, or it isn't TOML.
+    NotToml,
+    /// A key that has to be there isn't.
+    Missing(Place, Key),
+    /// The value of a key is of another kind, or out of its range.
+    BadValue(Place, Key),
+    /// A key that isn't known there, the least in byte order.
+    Unknown(Place, Text),
+    /// The command of this number is refused. The refusal is neither Memory nor StampFell.
+    Refused(u32, Refusal),
+    /// Memory was refused.
+    Memory,
+}
+
+impl Error for ScriptFault {}
+
+impl fmt::Display for ScriptFault {
+    ghost output = { λ fault. Some (faults.fault_text fault) };
+
+    fn fmt<W: fmt::Write>(&self, f: &mut fmt::Formatter<W>) -> fmt::Result {
+        match self {
+            ScriptFault::NotToml => write!(f, "script: not toml"),
+            ScriptFault::Missing(place, key) => write!(f, "{place}missing {key}"),
+            ScriptFault::BadValue(place, key) => write!(f, "{place}bad value of {key}"),
+            ScriptFault::Unknown(place, key) => {
+                let key = key.as_str();
+                write!(f, "{place}unknown key {key}")
+            }
+            ScriptFault::Refused(number, refusal) => {
+                write!(f, "script command {number}: {}", refusal_word(*refusal))
+            }
+            ScriptFault::Memory => write!(f, "script: want of memory"),
+        }
+    }
+}
+
+fn refusal_word(refusal: Refusal) -> &'static str
+    ensures { result.now ≡ faults.refusal_word refusal }
+{
+    match refusal {
+        Refusal::KnownServer => "known server",
+        Refusal::UnknownServer => "unknown server",
+        Refusal::NotActive => "not active",
+        Refusal::LastServer => "last server",
+        Refusal::BadBucket => "bad bucket",
+        Refusal::SameServer => "same server",
+        Refusal::StampFell => "stamp fell",
+        Refusal::TooMany(_) => "too many",
+        Refusal::Memory => "want of memory",
+    }
+}
+
+impl From<Memory> for ScriptFault {
+    ghost from_gives = { λ _ fault. fault ≡ memory };
+
+    fn from(_e: Memory) -> ScriptFault {
+        ScriptFault::Memory
+    }
+}
+
+impl From<AllocError> for ScriptFault {
+    ghost from_gives = { λ _ fault. fault ≡ memory };
+
+    fn from(_e: AllocError) -> ScriptFault {
+        ScriptFault::Memory
+    }
+}
+
+impl<T: Drop> From<AllocFailed<T>> for ScriptFault {
+    ghost from_gives = { λ _ fault. fault ≡ memory };
+
+    fn from(_e: AllocFailed<T>) -> ScriptFault {
+        ScriptFault::Memory
+    }
+}

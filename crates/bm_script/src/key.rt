@@ -1,0 +1,115 @@
+//! The keys of a script.
+ghost use Rattle.std.specs.Prelude.{◌≡◌, Some, option_map};
+ghost use Rattle.bm_script.specs.Faults as faults;
+ghost use Rattle.bm_script.specs.Keys as known;
+ghost use Rattle.toml.specs.View.{table_view};
+
+use crate::{Place, ScriptFault};
+use bm_base::Text;
+use std::alloc::Global;
+use std::fmt;
+use toml::Table;
+
+/// A key of a script. Those up to Command stand at its top, those up to Delay in a fault's table,
+/// and the others in a command's.
+#[derive(Clone, Copy, Debug, PartialEq, Eq)]
+pub enum Key {
+    Version,
+    Buckets,
+    Servers,
+    Muxes,
+    Shards,
+    Capacity,
+    Timeout,
+    Vips,
+    Route,
+    Lags,
+    Fault,
+    Command,
+    Packet,
+    Hop,
+    Copies,
+    Delay,
+    At,
+    Do,
+    Server,
+    Bucket,
+    From,
+    To,
+}
+
+impl Key {
+    /// The key as a script has it.
+    pub fn word(self) -> &'static str
+        ensures { result.now ≡ known.key_word self }
+    {
+        match self {
+            Key::Version => "version",
+            Key::Buckets => "buckets",
+            Key::Servers => "servers",
+            Key::Muxes => "muxes",
+            Key::Shards => "shards",
+            Key::Capacity => "capacity",
+            Key::Timeout => "timeout_s",
+            Key::Vips => "vips",
+            Key::Route => "route",
+            Key::Lags => "lags_ns",
+            Key::Fault => "fault",
+            Key::Command => "command",
+            Key::Packet => "packet",
+            Key::Hop => "hop",
+            Key::Copies => "copies",
+            Key::Delay => "delay_ns",
+            Key::At => "at_ns",
+            Key::Do => "do",
+            Key::Server => "server",
+            Key::Bucket => "bucket",
+            Key::From => "from",
+            Key::To => "to",
+        }
+    }
+}
+
+impl fmt::Display for Key {
+    ghost output = { λ key. Some (known.key_word key) };
+
+    fn fmt<W: fmt::Write>(&self, f: &mut fmt::Formatter<W>) -> fmt::Result {
+        f.write_str(self.word())
+    }
+}
+
+/// No key but these stands in a table.
+pub(crate) fn only_keys(
+    alloc: Global,
+    table: &Table,
+    place: Place,
+    keys: &[Key],
+) -> Result<(), ScriptFault>
+    ensures { faults.Gives result (faults.only_keys place keys.now (table_view table.now)) }
+{
+    match first_unknown(table, keys) {
+        None => Ok(()),
+        Some(name) => {
+            let name = String::from_str(alloc, name)?;
+            Err(ScriptFault::Unknown(place, Text::of(name)))
+        }
+    }
+}
+
+/// The least key in byte order that is none of these.
+fn first_unknown<'a>(table: &'a Table, keys: &[Key]) -> Option<&'a str>
+    ensures { option_map (λ name. name.now) result ≡ known.first_unknown keys.now (table_view table.now) }
+{
+    for (name, _) in table {
+        if !is_key(keys, name.as_str()) {
+            return Some(name.as_str());
+        }
+    }
+    None
+}
+
+fn is_key(keys: &[Key], name: &str) -> bool
+    ensures { result ≡ known.is_key keys.now name.now }
+{
+    keys.iter().any(|key| name == key.word())
+}

@@ -1,0 +1,16 @@
+//! Reads a script: the setting of a fleet, and what is done to it.
+#![tactic(auto)]
+
+mod commands;
+mod endpoint;
+mod fault;
+mod key;
+mod lists;
+mod rows;
+mod script;
+mod top;
+mod value;
+
+pub use fault::{Place, ScriptFault};
+pub use key::Key;
+pub use script::read_script;

@@ -1,0 +1,60 @@
+//! Reads the words.
+ghost use Rattle.std.specs.Prelude.{◌≡◌, IfOk, map, option_map, string_bytes};
+ghost use Rattle.clap.specs.Words.{app_of};
+ghost use Rattle.bm_words.specs.Command.{beamer};
+ghost use Rattle.bm_words.specs.Form.{form_of, named};
+
+use crate::form::is_form;
+use clap::error::ErrorKind;
+use clap::{Arg, Command};
+use std::alloc::{AllocError, Global};
+
+/// The replay of a capture, through the fleet of a script or through the plain one. Both are names
+/// of files.
+#[derive(Debug, Drop)]
+pub struct Form<'a> {
+    pub capture: &'a str,
+    pub script: Option<&'a str>,
+}
+
+/// What the words ask for: `replay CAPTURE` or `replay CAPTURE SCRIPT`, or nothing where they are
+/// of no form. A name isn't empty and doesn't begin with `-`. The words are without the program's
+/// own name.
+pub fn read_words<'a>(alloc: Global, words: &'a [String]) -> Result<Option<Form<'a>>, AllocError>
+    ensures { IfOk result (λ form. option_map named form ≡ form_of (map string_bytes words.entry.now)) }
+{
+    if !is_form(words) {
+        return Ok(None);
+    }
+    let command = command(alloc)?;
+    let matches = match command.try_get_matches_from(words) {
+        Ok(matches) => matches,
+        Err(e) if e.kind() == ErrorKind::OutOfMemory => return Err(AllocError),
+        // The words are of a form, which clap takes.
+        Err(_) => unreachable!(),
+    };
+    let Some((_, found)) = matches.subcommand() else {
+        unreachable!()
+    };
+    let Some(capture) = found.get_str("capture") else {
+        unreachable!()
+    };
+    Ok(Some(Form {
+        capture,
+        script: found.get_str("script"),
+    }))
+}
+
+/// The command that reads the words.
+fn command<'a>(alloc: Global) -> Result<Command<'a>, AllocError>
+    ensures { IfOk result (λ command. app_of command ≡ beamer) }
+{
+    let capture = Arg::new(alloc, "capture");
+    let script = Arg::new(alloc, "script");
+    let replay = Command::new(alloc, "replay").arg(capture)?.arg(script)?;
+    let top = Command::new(alloc, "beamer")
+        .no_binary_name(true)
+        .disable_help_subcommand(true)
+        .subcommand(replay)?;
+    Ok(top)
+}
