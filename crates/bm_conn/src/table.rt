@@ -1,5 +1,6 @@
 //! A table of connections: a finite map from flows to receivers.
 ghost use Rattle.std.specs.Prelude.{◌≡◌, ◌==◌, ◌<◌, ◌≤◌, ◌+◌, [], length, map, is_some, if◌then◌else◌, IsSome, IfOk, MatchResult, Some, None};
+ghost use Rattle.std.specs.Bool.{OnFalse};
 ghost use Rattle.std.specs.Vec.{vec_capacity};
 ghost use Rattle.bm_conn.specs.Connections.{AreOnce, HasRoom, IsMap, IsSame, Puts, receiver_in, with_receiver, without};
 
@@ -72,7 +73,8 @@ impl ConnTable {
 
     /// Whether there are as many flows as the capacity.
     pub fn is_full(&self) -> bool
-        ensures { result ≡ (length self.now.connections == self.now.capacity) }
+        ensures full { result ≡ (length self.now.connections == self.now.capacity) }
+        ensures free { OnFalse result (length self.now.connections < self.now.capacity) }
     {
         self.len() == self.capacity
     }

@@ -20,25 +20,41 @@ fn receiver(start: u16) -> Receiver {
     }
 }
 
+/// Puts a flow that isn't there where there is a place for it, and says whether it did.
+fn put(table: &mut ConnTable, flow: Flow, receiver: Receiver) -> Result<bool, Memory> {
+    table.ready()?;
+    let free = !table.is_full();
+    let absent = table.find(&flow).is_none();
+    if free && absent {
+        table.insert(flow, receiver);
+    }
+    Ok(free && absent)
+}
+
+/// Gives a flow another receiver where it is there, and says whether it was.
+fn set(table: &mut ConnTable, flow: &Flow, receiver: Receiver) -> bool {
+    if table.find(flow).is_none() {
+        return false;
+    }
+    table.replace(flow, receiver);
+    true
+}
+
 #[test]
 fn a_table_holds_what_was_put_up_to_its_capacity(rt: HostRuntime) -> Result<(), Fail> {
     let made = ConnTable::new(rt.alloc(), 2);
     assert!(rt; made.is_ok());
     let Ok(mut table) = made else { return Ok(()) };
-    for (port, start) in [(1000, 1), (1001, 2), (1002, 3)] {
-        assert!(rt; table.ready() == Ok(()));
-        if !table.is_full() && table.find(&flow(port)).is_none() {
-            table.insert(flow(port), receiver(start));
-        }
-    }
+    assert!(rt; put(&mut table, flow(1000), receiver(1)) == Ok(true));
+    assert!(rt; put(&mut table, flow(1000), receiver(7)) == Ok(false));
+    assert!(rt; put(&mut table, flow(1001), receiver(2)) == Ok(true));
+    assert!(rt; put(&mut table, flow(1002), receiver(3)) == Ok(false));
     assert_eq!(rt; table.len(), 2);
     assert!(rt; table.is_full());
     assert_eq!(rt; table.find(&flow(1000)), Some(receiver(1)));
-    assert_eq!(rt; table.find(&flow(1001)), Some(receiver(2)));
     assert_eq!(rt; table.find(&flow(1002)), None);
-    if table.find(&flow(1001)).is_some() {
-        table.replace(&flow(1001), receiver(9));
-    }
+    assert!(rt; set(&mut table, &flow(1001), receiver(9)));
+    assert!(rt; !set(&mut table, &flow(1002), receiver(9)));
     assert_eq!(rt; table.find(&flow(1001)), Some(receiver(9)));
     assert!(rt; table.remove(&flow(1000)));
     assert!(rt; !table.remove(&flow(1000)));
