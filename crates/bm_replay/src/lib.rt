@@ -15,3 +15,6 @@ mod steps;
 mod turn;
 
 pub use replaying::replay;
+
+#[cfg(test)]
+mod tests;
