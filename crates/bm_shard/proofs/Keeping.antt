@@ -43,7 +43,7 @@ left_by_turn turn book old new left takes = record {
 }
 
 -- what happened says the turn
-turn_is_kept : (shard : Shard) (knows : Flow → Local) (clock : Moment) (call : ShardCall) → turn_kept call (what_of shard knows clock call) ≡ Some (turn_of shard knows clock call)
+pub turn_is_kept : (shard : Shard) (knows : Flow → Local) (clock : Moment) (call : ShardCall) → turn_kept call (what_of shard knows clock call) ≡ Some (turn_of shard knows clock call)
 turn_is_kept shard knows clock (Arrive packet tag segment due) = refl
 turn_is_kept shard knows clock (Close flow at) = refl
 turn_is_kept shard knows clock (Retire at result) = refl

@@ -3,3 +3,4 @@ pub mod Replies
 pub mod Books
 pub mod Holdings
 pub mod Views
+pub mod Laws

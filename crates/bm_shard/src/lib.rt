@@ -4,6 +4,7 @@
 mod book;
 mod calls;
 mod holding;
+pub mod laws;
 
 pub use book::{Shard, ShardBook};
 pub use calls::{ShardCall, ShardEntry, ShardReply};
