@@ -1,5 +1,5 @@
 -- What the entries of a book say of a history, and of a shard that is retired.
-use Rattle.std.proofs.Common.{◌≡◌, ℕ, Bool, true, false, cond, ◌&&◌, List, [], ◌∷◌, Option, Some, None, is_some, inl, inr, refl, sym, ap, subst, ◌∙◌, reverse}
+use Rattle.std.proofs.Common.{◌≡◌, ℕ, Bool, true, false, cond, ◌&&◌, List, [], ◌∷◌, Option, Some, None, is_some, inl, inr, refl, sym, ap, subst, ◌∙◌}
 use Rattle.std.proofs.lemmas.Bool.{cases_Bool}
 use Rattle.bm_base.specs.declared.flow.Flow.{Flow}
 use Rattle.bm_base.specs.declared.flow.Segment.{Segment}
@@ -19,14 +19,14 @@ use Rattle.bm_core.specs.declared.events.What.{What}
 use Rattle.bm_core.specs.declared.events.Why.TheVariants.{Retired as BecauseRetired}
 use Rattle.bm_core.specs.Books.{Turn, Took, add_turn, book_held, book_local, book_of, book_retired, turn_held}
 use Rattle.bm_core.specs.Past.{held, shard, is_done, Holding}
-use Rattle.bm_core.specs.Verdicts.{receiver_of, local_at, verdict_at, verdict_on, verdict_of, onward}
+use Rattle.bm_core.specs.Verdicts.{receiver_of, local_at, verdict_at, verdict_on}
 use Rattle.bm_core.proofs.Books.{local_in_book}
 use Rattle.bm_core.proofs.Tagged.{verdict_by_tag}
 use Rattle.bm_shard.specs.declared.book.Shard.{Shard}
 use Rattle.bm_shard.specs.declared.calls.ShardCall.{ShardCall}
 use Rattle.bm_shard.specs.declared.calls.ShardCall.TheVariants.{Arrive, Close, Retire}
 use Rattle.bm_shard.specs.declared.calls.ShardEntry.{ShardEntry}
-use Rattle.bm_shard.specs.Books.{Replays, clock_after, event_after, knows_after}
+use Rattle.bm_shard.specs.Books.{Replays, clock_after, knows_after}
 use Rattle.bm_shard.specs.Replies.{is_held_by, turn_of, verdict_by, what_of}
 use Rattle.bm_shard.specs.Turns.{turn_kept, turns}
 use Rattle.bm_shard.proofs.Keeping.{turn_is_kept}
