@@ -81,9 +81,10 @@ impl ConnTable {
 
     /// Makes room for one more flow, unless the table is full. Where memory is refused, the table stays as it was.
     pub fn ready(&mut self) -> Result<(), Memory>
-        ensures { MatchResult result
+        ensures room { MatchResult result
             (λ _. IsSame self.old self.new × HasRoom self.new)
             (λ _. self.new ≡ self.old) }
+        ensures map { IsMap self.new }
     {
         self.connections.reserve(1)?;
         Ok(())

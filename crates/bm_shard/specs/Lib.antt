@@ -1,0 +1,6 @@
+pub mod Turns
+pub mod Replies
+pub mod Books
+pub mod Holdings
+pub mod Views
+pub mod Laws

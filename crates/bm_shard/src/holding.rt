@@ -1,0 +1,172 @@
+//! What a shard holds.
+ghost use Rattle.std.specs.Prelude.{◌≡◌, ◌==◌, ◌<◌, ◌≤◌, length, is_some};
+ghost use Rattle.std.specs.Bool.{OnFalse};
+ghost use Rattle.bm_conn.specs.Connections.{HasRoom, IsMap, receiver_in};
+ghost use Rattle.bm_core.specs.Books.{Closed, RetiredAs, Took};
+ghost use Rattle.bm_core.specs.Verdicts.{verdict_on};
+ghost use Rattle.bm_shard.specs.Holdings.{CanOpen, CanServe, CanTake, Takes, TakesTurn, local_in};
+ghost use Rattle.bm_shard.specs.Replies.{reply_of, turn_of, what_of};
+
+use crate::calls::answer_to;
+use crate::{Shard, ShardCall, ShardReply};
+use bm_base::{Flow, Moment, Segment, Tag, Taken};
+use bm_conn::ConnTable;
+use bm_core::{Local, Verdict, What, decide};
+use bm_seq::Receiver;
+use bm_table::Retirement;
+
+/// The connections of a shard, and whether it is retired.
+#[derive(Debug, Drop)]
+pub(crate) struct Holding {
+    pub(crate) table: ConnTable,
+    pub(crate) retired: bool,
+}
+
+impl Holding {
+    /// What the shard knows of a flow.
+    fn local(&self, flow: &Flow) -> Local
+        ensures local { result ≡ local_in self.now flow.now }
+        ensures free { OnFalse result.full (length self.now.table.connections < self.now.table.capacity) }
+    {
+        Local {
+            retired: self.retired,
+            held: self.table.find(flow),
+            full: self.table.is_full(),
+        }
+    }
+
+    /// The call has its effect: what happened, and the reply.
+    pub(crate) fn serve(
+        &mut self,
+        shard: &Shard,
+        clock: Moment,
+        call: &ShardCall,
+    ) -> (What, ShardReply)
+        requires { CanServe call.now self.old }
+        ensures what { result.0 ≡ what_of shard.now (local_in self.old) clock call.now }
+        ensures reply { result.1 ≡ reply_of shard.now (local_in self.old) clock call.now }
+        ensures effect { TakesTurn (turn_of shard.now (local_in self.old) clock call.now) self.old self.new }
+    {
+        let server = shard.server;
+        match *call {
+            ShardCall::Arrive {
+                packet,
+                tag,
+                segment,
+                ..
+            } => {
+                let verdict = self.arrive(&tag, &segment, clock, shard.timeout);
+                let answer = answer_to(verdict, &segment);
+                (
+                    What::Arrive {
+                        packet,
+                        hop: tag.hop,
+                        server,
+                        verdict,
+                    },
+                    ShardReply::Arrived {
+                        clock,
+                        verdict,
+                        answer,
+                    },
+                )
+            }
+            ShardCall::Close { flow, .. } => {
+                let closed = self.close(&flow);
+                (
+                    What::Close {
+                        server,
+                        flow,
+                        closed,
+                    },
+                    ShardReply::Closed { clock, closed },
+                )
+            }
+            ShardCall::Retire {
+                at,
+                result: outcome,
+            } => {
+                self.retire(outcome);
+                (
+                    What::Retire {
+                        server,
+                        shard: shard.number,
+                        at,
+                        result: outcome,
+                    },
+                    ShardReply::Retired { clock },
+                )
+            }
+        }
+    }
+
+    /// The verdict on a copy of a packet, which takes effect.
+    fn arrive(&mut self, tag: &Tag, segment: &Segment, clock: Moment, timeout: u64) -> Verdict
+        requires room { HasRoom self.old.table }
+        requires len { segment.now.len ≤ 1048576 }
+        ensures verdict { result ≡ verdict_on (local_in self.old segment.now.flow) timeout clock.0 tag.now segment.now }
+        ensures effect { TakesTurn (Took segment.now result) self.old self.new }
+    {
+        let local = self.local(&segment.flow);
+        let verdict = decide(&local, tag, segment, clock, timeout);
+        self.settle(verdict, segment);
+        verdict
+    }
+
+    fn settle(&mut self, verdict: Verdict, segment: &Segment)
+        requires can { CanTake verdict segment.now self.old }
+        requires len { segment.now.len ≤ 1048576 }
+        ensures { TakesTurn (Took segment.now verdict) self.old self.new }
+    {
+        match verdict {
+            Verdict::Accept => self.accept(segment),
+            Verdict::Process(Taken::Ended) => {
+                self.table.remove(&segment.flow);
+            }
+            Verdict::Process(_) => self.take(segment),
+            Verdict::Forward(_) | Verdict::Reset(_) | Verdict::Drop(_) => {}
+        }
+    }
+
+    /// The flow's connection begins, in place of one that it may have had.
+    fn accept(&mut self, segment: &Segment)
+        requires { CanOpen segment.now.flow self.old }
+        ensures { TakesTurn (Took segment.now Verdict.Accept) self.old self.new }
+    {
+        let receiver = Receiver::open(segment);
+        if self.table.find(&segment.flow).is_some() {
+            self.table.replace(&segment.flow, receiver);
+        } else {
+            self.table.insert(segment.flow, receiver);
+        }
+    }
+
+    /// The flow's receiver takes the segment, if the flow is held.
+    fn take(&mut self, segment: &Segment)
+        requires { segment.now.len ≤ 1048576 }
+        ensures { Takes segment.now self.old self.new }
+    {
+        if let Some(mut receiver) = self.table.find(&segment.flow) {
+            receiver.take(segment);
+            self.table.replace(&segment.flow, receiver);
+        }
+    }
+
+    /// Whether the flow was held; it no longer is.
+    fn close(&mut self, flow: &Flow) -> bool
+        ensures closed { result ≡ is_some (receiver_in self.old.table.connections flow.now) }
+        ensures effect { TakesTurn (Closed flow.now result) self.old self.new }
+    {
+        self.table.remove(flow)
+    }
+
+    /// A retirement that is done ends all connections.
+    fn retire(&mut self, outcome: Retirement)
+        ensures { TakesTurn (RetiredAs outcome) self.old self.new }
+    {
+        if outcome == Retirement::Done {
+            self.table.clear();
+            self.retired = true;
+        }
+    }
+}
