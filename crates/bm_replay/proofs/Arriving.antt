@@ -1,12 +1,13 @@
 -- A copy arrives, and goes on where it is forwarded.
 use Rattle.std.proofs.Common.{◌≡◌, ℕ, zero, suc, ◌+◌, ◌<◌, ◌≤◌, List, [], ◌∷◌, Option, Some, None, length, set, refl, sym, ap, subst, ◌∙◌, arith}
-use Rattle.std.specs.Prelude.{IfSome}
+use Rattle.std.specs.Prelude.{IfSome, slice_get}
 use Rattle.std.specs.List.{AllByRecursion}
 use Rattle.std.proofs.lemmas.Option.{same_Some}
 use Rattle.bm_base.specs.declared.ids.Moment.{Moment}
 use Rattle.bm_base.specs.declared.ids.ServerId.{ServerId}
 use Rattle.bm_base.specs.declared.flow.Segment.{Segment}
 use Rattle.bm_base.specs.declared.capture.Record.{Record}
+use Rattle.bm_base.specs.declared.capture.Vip.{Vip}
 use Rattle.bm_base.specs.declared.label.Entry.{Entry}
 use Rattle.bm_base.specs.declared.label.Hop.{Hop}
 use Rattle.bm_base.specs.declared.label.Hop.TheVariants.{Direct, Chained}
@@ -17,6 +18,7 @@ use Rattle.bm_base.specs.Labels.{stop, tag_for, tag_of}
 use Rattle.bm_fault.specs.declared.wire.Flight.{Flight}
 use Rattle.bm_fault.specs.Flying.{Flying}
 use Rattle.bm_fault.specs.Wires.{first_flight, others}
+use Rattle.bm_table.specs.Tables.{table}
 use Rattle.bm_core.specs.declared.events.Local.{Local}
 use Rattle.bm_core.specs.declared.events.Verdict.{Verdict}
 use Rattle.bm_core.specs.declared.events.Verdict.TheVariants.{Accept, Process, Forward, Reset, Drop}
@@ -28,7 +30,7 @@ use Rattle.bm_core.specs.declared.schedule.Call.TheVariants.{Arrives}
 use Rattle.bm_core.specs.declared.schedule.Underway.{Underway}
 use Rattle.bm_core.specs.Accounts.{Routes, Rules}
 use Rattle.bm_core.specs.Books.{Took, book_of}
-use Rattle.bm_core.specs.Past.{Sending, label_of, segment_of, sending_of, shard, timeout}
+use Rattle.bm_core.specs.Past.{Sending, label_of, segment_of, sending_of, shard, timeout, steerable}
 use Rattle.bm_core.specs.Runs.{Run}
 use Rattle.bm_core.specs.Schedule.{barren, put_sent, rest, wire, IsAnswered}
 use Rattle.bm_core.specs.Stages.{IsFit, IsService}
@@ -38,6 +40,7 @@ use Rattle.bm_core.proofs.Books.{local_in_book}
 use Rattle.bm_core.proofs.Pasts.{IsLabel, label_is, label_stays}
 use Rattle.bm_core.proofs.Stops.{HasStop, first_stop}
 use Rattle.bm_core.proofs.Tagged.{verdict_by_tag}
+use Rattle.bm_replay.specs.declared.player.Loss.{Loss}
 use Rattle.bm_replay.specs.declared.player.Player.{Player}
 use Rattle.bm_replay.specs.Connections.{local_of, shard_after, shard_at}
 use Rattle.bm_replay.specs.Flights.{AreFlying, IsFlying}
@@ -86,12 +89,12 @@ stop_number : (e : Entry) (hop : Hop) (s : ServerId) → HasNumbers e → stop e
 stop_number e Direct s numbers is = let same : e.cur ≡ s = same_Some _ _ is in subst (λ (x : ServerId). x.0 ≤ 1024) same numbers.cur
 stop_number e Chained s numbers is = subst (λ (o : Option ServerId). IfSome o (λ x. x.0 ≤ 1024)) is numbers.prev
 
-landing_number : (stage : Stage) (past : List Event) (flight : Flight) (u : Underway) → Run stage past → ((v b : ℕ) → HasNumbers (Rattle.bm_table.specs.Tables.table stage.script.plan v b)) → IsLanding stage past flight u → flight.tag.dest.0 ≤ 1024
+landing_number : (stage : Stage) (past : List Event) (flight : Flight) (u : Underway) → Run stage past → ((v b : ℕ) → HasNumbers (table stage.script.plan v b)) → IsLanding stage past flight u → flight.tag.dest.0 ≤ 1024
 landing_number stage past flight u run numbers is =
     let l : IsLabel stage past flight.packet is.label = label_is stage past run flight.packet is.label is.is_label
     in stop_number is.label.entry flight.tag.hop flight.tag.dest (subst HasNumbers (sym l.entry) (numbers is.label.version.0 _)) is.place
 
-fit_len : (vips : List _) (records : List Record) (i : ℕ) (s : Segment) → AllByRecursion (λ r. IsFit vips r) records → Rattle.bm_core.specs.Past.steerable (Rattle.std.specs.Prelude.slice_get records i) ≡ Some s → s.len ≤ 1048576
+fit_len : (vips : List Vip) (records : List Record) (i : ℕ) (s : Segment) → AllByRecursion (λ r. IsFit vips r) records → steerable (slice_get records i) ≡ Some s → s.len ≤ 1048576
 fit_len vips [] i s fit is = absurd (cc)
 fit_len vips (r ∷ records) zero s fit is =
     let h : IsService vips s.flow × (s.len ≤ 1048576) = subst (λ (o : Option Segment). IfSome o (λ x. IsService vips x.flow × (x.len ≤ 1048576))) is fit.0
@@ -205,7 +208,7 @@ told_arrival R F p at flight s c f given soon =
     told R F p at (copy_due c.copy.copy) c.copy.ready (arrive_what at flight s p) f (λ i. Arrives (c.is_landing.packet i) (c.is_landing.hop i))
     (arrive_answered p (past_of p) at flight s c.copy.copy c.is_landing c.number c.some c.copy.ready.state.books c.is_segment) tt given soon
 
-kept_arrival : (R : Routes) (F : Rules) (p : Player) (at : Moment) (flight : Flight) (s : Segment) (c : IsAtStop R F p at flight s) (f : Fate) (o : Option Sending) (flying : List Flying) (loss : Option _) → sending_of (arrive_what at flight s p) ≡ o
+kept_arrival : (R : Routes) (F : Rules) (p : Player) (at : Moment) (flight : Flight) (s : Segment) (c : IsAtStop R F p at flight s) (f : Fate) (o : Option Sending) (flying : List Flying) (loss : Option Loss) → sending_of (arrive_what at flight s p) ≡ o
     → AreFlying p.stage (arrive_event at flight s p ∷ past_of p) flying (put_sent f (length (past_of p)) at.0 o (rest (wire c.copy.ready.fates (past_of p)))) → lost_call loss ≡ barren f o
     → KeepsState (f ∷ c.copy.ready.fates) (arrive_event at flight s p ∷ past_of p) (record (after_arrival at flight s p) { wire = flying; loss = loss })
 kept_arrival R F p at flight s c f o flying loss is are owes = record {

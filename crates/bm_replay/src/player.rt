@@ -24,23 +24,33 @@ pub(crate) struct Loss {
     pub(crate) hop: Hop,
 }
 
-/// A replay on its way: the events so far and the clock of the last, a loss that is recorded next,
-/// the copies under way, the newest version, the muxes and their soonest switch, what comes next of
-/// the commands of each kind and of the packets, and the shards of all servers.
+/// A replay on its way.
 #[derive(Drop)]
 pub(crate) struct Player {
     pub(crate) stage: Stage,
+    /// What happened so far.
     pub(crate) events: Events,
+    /// The clock of the last event.
     pub(crate) clock: Moment,
+    /// A loss that is recorded next.
     pub(crate) loss: Option<Loss>,
+    /// The copies under way.
     pub(crate) wire: Wire,
+    /// The newest version that was published.
     pub(crate) published: u32,
+    /// The muxes.
     pub(crate) fleet: Fleet,
+    /// The soonest switch of a mux.
     pub(crate) switch: Option<Due>,
+    /// What comes next of the closes.
     pub(crate) close: Queue,
+    /// What comes next of the retires, each for one shard.
     pub(crate) retire: Queue,
+    /// What comes next of the syncs.
     pub(crate) sync: Queue,
+    /// What comes next of the packets.
     pub(crate) packet: Queue,
+    /// The shards of all servers.
     pub(crate) shards: Shards,
 }
 
@@ -53,6 +63,7 @@ impl Player {
         let setting = &stage.script.setting;
         let plan = &stage.script.plan;
         let commands = stage.script.commands.items();
+        // Each change is published.
         let events = Events::with_room(alloc, plan.versions() as usize)?;
         let fleet = Fleet::new(alloc, plan, setting.muxes)?;
         let switch = fleet.soonest(plan, setting.lags.items(), setting.muxes);
