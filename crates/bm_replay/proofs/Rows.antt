@@ -12,7 +12,7 @@ use Rattle.bm_base.specs.declared.capture.Vip.{Vip}
 use Rattle.bm_table.specs.declared.plan.Kind.TheVariants.{Shift}
 use Rattle.bm_table.specs.declared.setting.Setting.{Setting}
 use Rattle.bm_table.specs.declared.script.Command.{Command}
-use Rattle.bm_table.specs.declared.script.Command.TheVariants.{Change as ChangeCommand, Close as CloseCommand}
+use Rattle.bm_table.specs.declared.script.Command.TheVariants.{Change as ChangeCommand, Close as CloseCommand, Retire as RetireCommand, Sync as SyncCommand}
 use Rattle.bm_table.specs.Planned.{Planned}
 use Rattle.bm_table.specs.Scripts.{IsSoundScript}
 use Rattle.bm_table.specs.Settings.{IsSetting, IsWithin, plain_setting}
@@ -114,10 +114,15 @@ moved_orderly at = record {
 abbrev row_flow : Flow
 row_flow = record { src = 0x0a00_0001; dst = 0xc000_0201; sport = 1000; dport = 80 }
 
-abbrev row_closes : List Command
-row_closes = CloseCommand (record { 0 = 500 }) (record { 0 = 1 }) row_flow ∷ CloseCommand (record { 0 = 600 }) (record { 0 = 1 }) row_flow ∷ []
+abbrev row_orders : List Command
+row_orders =
+    CloseCommand (record { 0 = 500 }) (record { 0 = 1 }) row_flow
+    ∷ CloseCommand (record { 0 = 600 }) (record { 0 = 1 }) row_flow
+    ∷ RetireCommand (record { 0 = 700 }) (record { 0 = 1 })
+    ∷ SyncCommand (record { 0 = 800 })
+    ∷ []
 
-bare_script : (capacity : ℕ) → IsWithin 1 65536 capacity → (closing : Bool) → IsSoundScript (record { setting = record plain_setting { shards = 1; capacity = capacity }; plan = bare_plan; commands = if closing then row_closes else [] })
+bare_script : (capacity : ℕ) → IsWithin 1 65536 capacity → (ordered : Bool) → IsSoundScript (record { setting = record plain_setting { shards = 1; capacity = capacity }; plan = bare_plan; commands = if ordered then row_orders else [] })
 bare_script capacity within true = record {
   setting = row_setting capacity within;
   buckets = refl;
@@ -125,9 +130,9 @@ bare_script capacity within true = record {
   adds = tt;
   plan = bare_orderly;
   few_commands = omega arith;
-  commands_rise = (omega arith, omega arith, (omega arith, omega arith, tt));
+  commands_rise = (omega arith, omega arith, (omega arith, omega arith, (omega arith, omega arith, (omega arith, omega arith, tt))));
   versions = refl;
-  of_known = (refl, (refl, tt));
+  of_known = (refl, (refl, (refl, (tt, tt))));
 }
 bare_script capacity within false = record {
   setting = row_setting capacity within;
@@ -141,9 +146,9 @@ bare_script capacity within false = record {
   of_known = tt;
 }
 
-pub bare_sound : (capacity : ℕ) → IsWithin 1 65536 capacity → (closing : Bool) (capture : Capture) → IsReplayable plain_setting.vips capture
-    → IsSound (record { script = record { setting = record plain_setting { shards = 1; capacity = capacity }; plan = bare_plan; commands = if closing then row_closes else [] }; capture = capture })
-bare_sound capacity within closing capture fit = record { script = bare_script capacity within closing; few_records = fit.few; records_rise = fit.rise; records_fit = fit.fit }
+pub bare_sound : (capacity : ℕ) → IsWithin 1 65536 capacity → (ordered : Bool) (capture : Capture) → IsReplayable plain_setting.vips capture
+    → IsSound (record { script = record { setting = record plain_setting { shards = 1; capacity = capacity }; plan = bare_plan; commands = if ordered then row_orders else [] }; capture = capture })
+bare_sound capacity within ordered capture fit = record { script = bare_script capacity within ordered; few_records = fit.few; records_rise = fit.rise; records_fit = fit.fit }
 
 pub moved_sound : (setting : Setting) (at : ℕ) (capture : Capture) → IsSetting setting → (setting.buckets ≡ 8) × (setting.servers ≡ plain_setting.servers) × (setting.vips ≡ plain_setting.vips) → at ≤ 1000 → IsReplayable plain_setting.vips capture
     → IsSound (record { script = record { setting = setting; plan = moved_plan at; commands = ChangeCommand (record { 0 = 1 }) ∷ [] }; capture = capture })

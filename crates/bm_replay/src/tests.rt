@@ -2,7 +2,7 @@ ghost use Rattle.std.specs.Prelude.{◌≡◌, ◌<◌, ◌≤◌, ◌∷◌, []
 ghost use Rattle.bm_base.specs.Captures.{IsReplayable};
 ghost use Rattle.bm_core.specs.Stages.{IsSound};
 ghost use Rattle.bm_table.specs.Settings.{IsSetting, IsWithin, plain_setting};
-ghost use Rattle.bm_table.specs.declared.script.Command.TheVariants.{Close as closes};
+ghost use Rattle.bm_table.specs.declared.script.Command.TheVariants.{Close as closes, Retire as retires, Sync as syncs};
 ghost use Rattle.bm_table.specs.declared.plan.Kind.TheVariants.{Shift as shift};
 
 use super::*;
@@ -10,7 +10,7 @@ use bm_base::*;
 use bm_core::{Event, Stage, Verdict, What, Why};
 use bm_fault::Faults;
 use bm_route::Route;
-use bm_table::{Change, Command, Kind, Move, Plan, Script, Setting};
+use bm_table::{Change, Command, Kind, Move, Plan, Retirement, Script, Setting};
 use std::alloc::Global;
 use std::process::Abort;
 use std::test::Fail;
@@ -80,36 +80,37 @@ fn setting(alloc: Global, capacity: u32) -> Result<Setting, Memory>
     Ok(setting)
 }
 
-/// Two closes of a flow at server 1, or none.
-fn two_closes(alloc: Global, wanted: bool) -> Result<Vec<Command>, Memory>
+/// Two closes of a flow at server 1, a wish to retire the server, and a sync; or nothing.
+fn orders(alloc: Global, wanted: bool) -> Result<Vec<Command>, Memory>
     ensures { IfOk result (λ commands. commands.items ≡ (if wanted
         then closes (record { 0 = 500 }) (record { 0 = 1 }) (record { src = 0x0a00_0001; dst = 0xc000_0201; sport = 1000; dport = 80 })
-        ∷ closes (record { 0 = 600 }) (record { 0 = 1 }) (record { src = 0x0a00_0001; dst = 0xc000_0201; sport = 1000; dport = 80 }) ∷ []
+        ∷ closes (record { 0 = 600 }) (record { 0 = 1 }) (record { src = 0x0a00_0001; dst = 0xc000_0201; sport = 1000; dport = 80 })
+        ∷ retires (record { 0 = 700 }) (record { 0 = 1 })
+        ∷ syncs (record { 0 = 800 })
+        ∷ []
         else [])) }
 {
     let mut commands = Vec::new(alloc);
     if wanted {
         let flow = flow(1000);
         let server = ServerId(1);
-        commands.push(Command::Close {
-            at: Moment(500),
-            server,
-            flow,
-        })?;
-        commands.push(Command::Close {
-            at: Moment(600),
-            server,
-            flow,
-        })?;
+        let at = Moment(500);
+        commands.push(Command::Close { at, server, flow })?;
+        let at = Moment(600);
+        commands.push(Command::Close { at, server, flow })?;
+        let at = Moment(700);
+        commands.push(Command::Retire { at, server })?;
+        let at = Moment(800);
+        commands.push(Command::Sync { at })?;
     }
     Ok(commands)
 }
 
-/// No changes, and two closes or no command.
+/// No changes, and the orders or no command.
 fn bare_stage(
     alloc: Global,
     capacity: u32,
-    closing: bool,
+    ordered: bool,
     capture: Capture,
 ) -> Result<Stage, Memory>
     requires capacity { IsWithin 1 65536 capacity }
@@ -120,7 +121,7 @@ fn bare_stage(
     let script = Script {
         setting: setting(alloc, capacity)?,
         plan: Plan::new(alloc, 8, &[ServerId(1), ServerId(2)])?,
-        commands: List::of(two_closes(alloc, closing)?),
+        commands: List::of(orders(alloc, ordered)?),
     };
     Ok(Stage { script, capture })
 }
@@ -205,6 +206,18 @@ fn close(clock: u64, closed: bool) -> Event {
     )
 }
 
+fn retire(clock: u64, at: u64, answer: Retirement) -> Event {
+    event(
+        clock,
+        What::Retire {
+            server: ServerId(1),
+            shard: 0,
+            at: Moment(at),
+            result: answer,
+        },
+    )
+}
+
 fn lose(clock: u64, packet: u32) -> Event {
     let hop = Hop::Direct;
     event(clock, What::Lose { packet, hop })
@@ -242,7 +255,7 @@ fn check(
 }
 
 #[test]
-fn a_connection_is_closed_once(rt: HostRuntime) -> Result<(), Fail> {
+fn orders_are_carried_out(rt: HostRuntime) -> Result<(), Fail> {
     let alloc = rt.alloc();
     let stage = bare_stage(alloc, 4_096, true, capture(alloc, &[OPENING, DATA])?)?;
     let direct = Hop::Direct;
@@ -251,6 +264,8 @@ fn a_connection_is_closed_once(rt: HostRuntime) -> Result<(), Fail> {
         arrive(2, 1, direct, 1, Verdict::Accept),
         close(501, true),
         close(601, false),
+        retire(701, 700, Retirement::NotDrained),
+        event(801, What::Sync),
         steer(1_001, 2, 0),
         arrive(1_002, 2, direct, 1, Verdict::Reset(Why::NoPrevious)),
     ];
