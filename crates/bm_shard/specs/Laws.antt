@@ -1,12 +1,13 @@
 -- What the laws on books speak of.
-use Rattle.std.specs.Prelude.{◌≡◌, true, List, reverse}
+use Rattle.std.specs.Prelude.{◌≡◌, ◌<◌, true, List, [], ◌∷◌, reverse}
 use Rattle.bm_core.specs.declared.events.Event.{Event}
 use Rattle.bm_core.specs.declared.events.Stage.{Stage}
 use Rattle.bm_core.specs.Books.{book_of, book_retired}
 use Rattle.bm_core.specs.Past.{timeout}
 use Rattle.bm_shard.specs.declared.book.Shard.{Shard}
-use Rattle.bm_shard.specs.Books.{Book}
-use Rattle.bm_shard.specs.Turns.{turns}
+use Rattle.bm_shard.specs.declared.calls.ShardEntry.{ShardEntry}
+use Rattle.bm_shard.specs.Books.{Book, clock_of}
+use Rattle.bm_shard.specs.Turns.{moment_of, turns}
 
 -- the shard has the capacity and the timeout of the stage
 pub record IsOf (stage : Stage) (shard : Shard) : Type 0 where
@@ -20,3 +21,8 @@ AreOf stage past book = turns (reverse book.entries) ≡ book_of stage past book
 -- a retirement of the shard was done
 abbrev pub IsRetired : Book → Type 0
 IsRetired book = book_retired (turns (reverse book.entries)) ≡ true
+
+-- each entry's clock is above that of the entry before it, and above its call's moment; the newest entry comes first
+abbrev pub Rise : List ShardEntry → Type 0
+Rise [] = Unit {0}
+Rise (e ∷ past) = ((clock_of past).0 < e.event.clock.0) × ((moment_of e.call).0 < e.event.clock.0) × Rise past

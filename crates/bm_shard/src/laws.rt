@@ -13,7 +13,7 @@ ghost use Rattle.bm_core.specs.declared.events.Event.{Event};
 ghost use Rattle.bm_core.specs.declared.events.Verdict.TheVariants.{Drop};
 ghost use Rattle.bm_core.specs.declared.events.Why.TheVariants.{Retired};
 ghost use Rattle.bm_shard.specs.Books.{clock_after, knows_after};
-ghost use Rattle.bm_shard.specs.Laws.{AreOf, IsOf, IsRetired};
+ghost use Rattle.bm_shard.specs.Laws.{AreOf, IsOf, IsRetired, Rise};
 ghost use Rattle.bm_shard.specs.Replies.{is_held_by, verdict_by};
 
 use crate::ShardBook;
@@ -45,6 +45,13 @@ pub fn retired(book: &ShardBook)
     ensures dropped { (clock : Moment) (tag : Tag) (s : Segment)
         → verdict_by book.now.shard (knows_after book.now.shard (reverse book.now.entries)) clock tag s
         ≡ Drop Retired }
+{
+    let _entries = book.history();
+}
+
+/// Each entry's clock is above the clock of the entry before it, and above the moment of its call.
+pub fn clocks(book: &ShardBook)
+    ensures { Rise (reverse book.now.entries) }
 {
     let _entries = book.history();
 }
