@@ -1,25 +1,28 @@
 -- All that the program does, by its words.
-use Rattle.std.proofs.Common.{◌≡◌, ◌≢◌, ◌⊎◌, inl, inr, ℕ, List, [], ◌∷◌, Option, Some, None, Ok, Err, IfSome, IsOk, IsSome, sym, ap, subst, ◌∙◌, refl}
+use Rattle.std.proofs.Common.{◌≡◌, ◌≢◌, ◌⊎◌, inl, inr, ℕ, List, [], Option, Some, None, Ok, Err, IfSome, IsOk, IsSome, sym, ap, ◌∙◌, refl}
 use Rattle.std.specs.Io.KnownBytes.{Appends}
 use Rattle.bm_io.specs.Causes.{Rose}
-use Rattle.bm_pcap.specs.declared.fault.PcapFault.TheVariants.{ReadFault as SourceFault}
-use Rattle.bm_pcap.specs.Capture.{Captured}
+use Rattle.bm_words.specs.Form.{Named}
+use Rattle.bm_cli.specs.declared.fault.StageFault.TheVariants.{Files}
 use Rattle.bm_cli.specs.declared.status.Status.{Status}
-use Rattle.bm_cli.specs.declared.status.Status.TheVariants.{Done, Usage, ReadFault, BadCapture, WriteFault, Memory, Limit}
+use Rattle.bm_cli.specs.declared.status.Status.TheVariants.{Done, Usage, ReadFault, BadCapture, BadScript, WriteFault, Memory, Limit}
 use Rattle.bm_cli.specs.Lines.{fault_line, usage_line}
-use Rattle.bm_cli.specs.Replaying.{IsReplaying}
+use Rattle.bm_cli.specs.Reading.{Octets, Reading, reading}
+use Rattle.bm_cli.specs.Replaying.{IsRefusal, IsReplaying}
 use Rattle.bm_cli.specs.Statuses.{Says, code_of}
-use Rattle.bm_cli.specs.Top.{IsAccepted, Octets, RefusesFile, ShowsFile, WritesDue, due_status, reading, status_of}
+use Rattle.bm_cli.proofs.Writing.{appends_nothing}
+use Rattle.bm_cli.specs.Top.{IsAccepted, RefusesFiles, ShowsFiles, WritesDue, due_status, status_of}
 
 -- the status is one of these
-pub is_known : (s : Status) → (code_of s ≡ 0) ⊎ (code_of s ≡ 1) ⊎ (code_of s ≡ 2) ⊎ (code_of s ≡ 3) ⊎ (code_of s ≡ 5) ⊎ (code_of s ≡ 6) ⊎ (code_of s ≡ 7)
+pub is_known : (s : Status) → (code_of s ≡ 0) ⊎ (code_of s ≡ 1) ⊎ (code_of s ≡ 2) ⊎ (code_of s ≡ 3) ⊎ (code_of s ≡ 4) ⊎ (code_of s ≡ 5) ⊎ (code_of s ≡ 6) ⊎ (code_of s ≡ 7)
 is_known Done = inl refl
 is_known Usage = inr (inl refl)
 is_known ReadFault = inr (inr (inl refl))
 is_known BadCapture = inr (inr (inr (inl refl)))
-is_known WriteFault = inr (inr (inr (inr (inl refl))))
-is_known Memory = inr (inr (inr (inr (inr (inl refl)))))
-is_known Limit = inr (inr (inr (inr (inr (inr refl)))))
+is_known BadScript = inr (inr (inr (inr (inl refl))))
+is_known WriteFault = inr (inr (inr (inr (inr (inl refl)))))
+is_known Memory = inr (inr (inr (inr (inr (inr (inl refl))))))
+is_known Limit = inr (inr (inr (inr (inr (inr (inr refl))))))
 
 -- no two statuses have one code
 pub same_code : (s t : Status) → code_of s ≡ code_of t → s ≡ t
@@ -27,85 +30,105 @@ same_code Done Done e = refl
 same_code Usage Usage e = refl
 same_code ReadFault ReadFault e = refl
 same_code BadCapture BadCapture e = refl
+same_code BadScript BadScript e = refl
 same_code WriteFault WriteFault e = refl
 same_code Memory Memory e = refl
 same_code Limit Limit e = refl
 same_code Done Usage e = absurd (cc)
 same_code Done ReadFault e = absurd (cc)
 same_code Done BadCapture e = absurd (cc)
+same_code Done BadScript e = absurd (cc)
 same_code Done WriteFault e = absurd (cc)
 same_code Done Memory e = absurd (cc)
 same_code Done Limit e = absurd (cc)
 same_code Usage Done e = absurd (cc)
 same_code Usage ReadFault e = absurd (cc)
 same_code Usage BadCapture e = absurd (cc)
+same_code Usage BadScript e = absurd (cc)
 same_code Usage WriteFault e = absurd (cc)
 same_code Usage Memory e = absurd (cc)
 same_code Usage Limit e = absurd (cc)
 same_code ReadFault Done e = absurd (cc)
 same_code ReadFault Usage e = absurd (cc)
 same_code ReadFault BadCapture e = absurd (cc)
+same_code ReadFault BadScript e = absurd (cc)
 same_code ReadFault WriteFault e = absurd (cc)
 same_code ReadFault Memory e = absurd (cc)
 same_code ReadFault Limit e = absurd (cc)
 same_code BadCapture Done e = absurd (cc)
 same_code BadCapture Usage e = absurd (cc)
 same_code BadCapture ReadFault e = absurd (cc)
+same_code BadCapture BadScript e = absurd (cc)
 same_code BadCapture WriteFault e = absurd (cc)
 same_code BadCapture Memory e = absurd (cc)
 same_code BadCapture Limit e = absurd (cc)
+same_code BadScript Done e = absurd (cc)
+same_code BadScript Usage e = absurd (cc)
+same_code BadScript ReadFault e = absurd (cc)
+same_code BadScript BadCapture e = absurd (cc)
+same_code BadScript WriteFault e = absurd (cc)
+same_code BadScript Memory e = absurd (cc)
+same_code BadScript Limit e = absurd (cc)
 same_code WriteFault Done e = absurd (cc)
 same_code WriteFault Usage e = absurd (cc)
 same_code WriteFault ReadFault e = absurd (cc)
 same_code WriteFault BadCapture e = absurd (cc)
+same_code WriteFault BadScript e = absurd (cc)
 same_code WriteFault Memory e = absurd (cc)
 same_code WriteFault Limit e = absurd (cc)
 same_code Memory Done e = absurd (cc)
 same_code Memory Usage e = absurd (cc)
 same_code Memory ReadFault e = absurd (cc)
 same_code Memory BadCapture e = absurd (cc)
+same_code Memory BadScript e = absurd (cc)
 same_code Memory WriteFault e = absurd (cc)
 same_code Memory Limit e = absurd (cc)
 same_code Limit Done e = absurd (cc)
 same_code Limit Usage e = absurd (cc)
 same_code Limit ReadFault e = absurd (cc)
 same_code Limit BadCapture e = absurd (cc)
+same_code Limit BadScript e = absurd (cc)
 same_code Limit WriteFault e = absurd (cc)
 same_code Limit Memory e = absurd (cc)
 
 -- what the program does, but for the files
-pub record Does (name : Option (List ℕ)) (told : Octets) (before now : Option (List ℕ)) (faults later : ℕ) (result : ℕ) : Type 0 where
-  pub shown : result ≡ 0 → ShowsFile name told before now
-  pub status : IfSome (due_status name told) (λ due. (result ≡ due) ⊎ (result ≡ 2) ⊎ (result ≡ 5) ⊎ (result ≡ 6))
-  pub usage : result ≡ 1 → name ≡ None
-  pub named : result ≡ 2 → IsSome name
+pub record Does (form : Option Named) (told : Octets) (before now : Option (List ℕ)) (faults later : ℕ) (result : ℕ) : Type 0 where
+  pub shown : result ≡ 0 → ShowsFiles form told before now
+  pub status : IfSome (due_status form told) (λ due. (result ≡ due) ⊎ (result ≡ 2) ⊎ (result ≡ 5) ⊎ (result ≡ 6))
+  pub usage : result ≡ 1 → form ≡ None
+  pub named : result ≡ 2 → IsSome form
   pub write : result ≡ 5 → Rose faults later
   pub usage_line : result ≡ 1 → Appends before now usage_line
-  pub read_line : result ≡ 2 → Appends before now (fault_line SourceFault)
-  pub line : (result ≡ 3) ⊎ (result ≡ 7) → RefusesFile name told before now
-  pub part : (result ≡ 5) ⊎ (result ≡ 6) → WritesDue name told before now
+  pub read_line : result ≡ 2 → Appends before now (fault_line Files)
+  pub line : (result ≡ 3) ⊎ (result ≡ 4) ⊎ (result ≡ 7) → RefusesFiles form told before now
+  pub part : (result ≡ 5) ⊎ (result ≡ 6) → WritesDue form told before now
 
-replay_status : (name : List ℕ) (told : Octets) (s : Status) → IfSome told (λ octets. (s ≡ status_of (reading (octets name))) ⊎ (s ≡ ReadFault) ⊎ (s ≡ WriteFault) ⊎ (s ≡ Memory)) → IfSome (due_status (Some name) told) (λ due. (code_of s ≡ due) ⊎ (code_of s ≡ 2) ⊎ (code_of s ≡ 5) ⊎ (code_of s ≡ 6))
-replay_status name None s h = tt
-replay_status name (Some octets) s (inl e) = inl (ap code_of e)
-replay_status name (Some octets) s (inr (inl e)) = inr (inl (ap code_of e))
-replay_status name (Some octets) s (inr (inr (inl e))) = inr (inr (inl (ap code_of e)))
-replay_status name (Some octets) s (inr (inr (inr e))) = inr (inr (inr (ap code_of e)))
+replay_status : (form : Named) (told : Octets) (s : Status) → IfSome told (λ octets. (s ≡ status_of (reading form octets)) ⊎ (s ≡ ReadFault) ⊎ (s ≡ WriteFault) ⊎ (s ≡ Memory)) → IfSome (due_status (Some form) told) (λ due. (code_of s ≡ due) ⊎ (code_of s ≡ 2) ⊎ (code_of s ≡ 5) ⊎ (code_of s ≡ 6))
+replay_status form None s h = tt
+replay_status form (Some octets) s (inl e) = inl (ap code_of e)
+replay_status form (Some octets) s (inr (inl e)) = inr (inl (ap code_of e))
+replay_status form (Some octets) s (inr (inr (inl e))) = inr (inr (inl (ap code_of e)))
+replay_status form (Some octets) s (inr (inr (inr e))) = inr (inr (inr (ap code_of e)))
 
 either : (s a b : Status) → (code_of s ≡ code_of a) ⊎ (code_of s ≡ code_of b) → (s ≡ a) ⊎ (s ≡ b)
 either s a b (inl e) = inl (same_code s a e)
 either s a b (inr e) = inr (same_code s b e)
 
-pub does_replay : (name : List ℕ) (told : Octets) (before now : Option (List ℕ)) (faults later : ℕ) (s : Status) → IsReplaying name told before now faults later s → Does (Some name) told before now faults later (code_of s)
-does_replay name told before now faults later s replaying = record {
+refusal : (s : Status) → (code_of s ≡ 3) ⊎ (code_of s ≡ 4) ⊎ (code_of s ≡ 7) → IsRefusal s
+refusal s (inl e) = inl (same_code s BadCapture e)
+refusal s (inr (inl e)) = inr (inl (same_code s BadScript e))
+refusal s (inr (inr e)) = inr (inr (same_code s Limit e))
+
+pub does_replay : (form : Named) (told : Octets) (before now : Option (List ℕ)) (faults later : ℕ) (s : Status) → IsReplaying form told before now faults later s → Does (Some form) told before now faults later (code_of s)
+does_replay form told before now faults later s replaying = record {
   shown = λ e. replaying.shown (same_code s Done e);
-  status = replay_status name told s replaying.status;
+  status = replay_status form told s replaying.status;
   usage = λ e. absurd (replaying.words (same_code s Usage e));
   named = λ e. refl;
   write = λ e. replaying.write (same_code s WriteFault e);
   usage_line = λ e. absurd (replaying.words (same_code s Usage e));
   read_line = λ e. replaying.read_line (same_code s ReadFault e);
-  line = λ e. replaying.line (either s BadCapture Limit e);
+  line = λ e. replaying.line (refusal s e);
   part = λ e. replaying.part (either s WriteFault Memory e);
 }
 
@@ -114,9 +137,10 @@ usage_no s t usage write memory (inl e) is = absurd (usage (sym is ∙ e))
 usage_no s t usage write memory (inr (inl e)) is = absurd (write (sym is ∙ e))
 usage_no s t usage write memory (inr (inr e)) is = absurd (memory (sym is ∙ e))
 
-usage_neither : {A : Type 0} (s : Status) → (s ≡ Usage) ⊎ (s ≡ WriteFault) ⊎ (s ≡ Memory) → (s ≡ BadCapture) ⊎ (s ≡ Limit) → A
+usage_neither : {A : Type 0} (s : Status) → (s ≡ Usage) ⊎ (s ≡ WriteFault) ⊎ (s ≡ Memory) → IsRefusal s → A
 usage_neither s ends (inl is) = usage_no s BadCapture (λ e. cc) (λ e. cc) (λ e. cc) ends is
-usage_neither s ends (inr is) = usage_no s Limit (λ e. cc) (λ e. cc) (λ e. cc) ends is
+usage_neither s ends (inr (inl is)) = usage_no s BadScript (λ e. cc) (λ e. cc) (λ e. cc) ends is
+usage_neither s ends (inr (inr is)) = usage_no s Limit (λ e. cc) (λ e. cc) (λ e. cc) ends is
 
 usage_status : (s : Status) → (s ≡ Usage) ⊎ (s ≡ WriteFault) ⊎ (s ≡ Memory) → (code_of s ≡ 1) ⊎ (code_of s ≡ 2) ⊎ (code_of s ≡ 5) ⊎ (code_of s ≡ 6)
 usage_status s (inl e) = inl (ap code_of e)
@@ -132,7 +156,7 @@ does_usage told before now faults later s said = record {
   write = λ e. said.cause (same_code s WriteFault e);
   usage_line = λ e. said.whole (same_code s Usage e);
   read_line = λ e. usage_no s ReadFault (λ e. cc) (λ e. cc) (λ e. cc) said.ends (same_code s ReadFault e);
-  line = λ e. usage_neither s said.ends (either s BadCapture Limit e);
+  line = λ e. usage_neither s said.ends (refusal s e);
   part = λ e. record { text = usage_line; due = refl; part = said.part (either s WriteFault Memory e) };
 }
 
@@ -140,17 +164,42 @@ does_usage told before now faults later s said = record {
 pub usage_reads_nothing : {A : Type 0} (before now : Option (List ℕ)) (faults later : ℕ) (s : Status) → Says Usage usage_line before now faults later s → code_of s ≡ 2 → A
 usage_reads_nothing before now faults later s said e = usage_no s ReadFault (λ e. cc) (λ e. cc) (λ e. cc) said.ends (same_code s ReadFault e)
 
-accepted_is_done : (r : Captured) → IsOk r → status_of r ≡ Done
-accepted_is_done (Ok read) is = refl
+accepted_is_done : (r : Reading) → IsOk r → status_of r ≡ Done
+accepted_is_done (Ok stage) is = refl
 accepted_is_done (Err fault) is = absurd (cc)
 
 -- an accepted capture's report is written, but where something failed or memory was refused
-pub is_complete : (name : Option (List ℕ)) (told : Octets) (before now : Option (List ℕ)) (faults later reads read : ℕ) (result : ℕ) → Does name told before now faults later result → (result ≡ 2 → Rose reads read) → IsAccepted name told → (result ≡ 0) ⊎ (result ≡ 6) ⊎ Rose reads read ⊎ Rose faults later
+pub is_complete : (form : Option Named) (told : Octets) (before now : Option (List ℕ)) (faults later reads read : ℕ) (result : ℕ) → Does form told before now faults later result → (result ≡ 2 → Rose reads read) → IsAccepted form told → (result ≡ 0) ⊎ (result ≡ 6) ⊎ Rose reads read ⊎ Rose faults later
 is_complete None told before now faults later reads read result does rose accepted = absurd accepted
-is_complete (Some name) None before now faults later reads read result does rose accepted = absurd accepted
-is_complete (Some name) (Some octets) before now faults later reads read result does rose accepted = by does.status where
-  by : (result ≡ code_of (status_of (reading (octets name)))) ⊎ (result ≡ 2) ⊎ (result ≡ 5) ⊎ (result ≡ 6) → (result ≡ 0) ⊎ (result ≡ 6) ⊎ Rose reads read ⊎ Rose faults later
-  by (inl is) = inl (is ∙ ap code_of (accepted_is_done (reading (octets name)) accepted))
+is_complete (Some form) None before now faults later reads read result does rose accepted = absurd accepted
+is_complete (Some form) (Some octets) before now faults later reads read result does rose accepted = by does.status where
+  by : (result ≡ code_of (status_of (reading form octets))) ⊎ (result ≡ 2) ⊎ (result ≡ 5) ⊎ (result ≡ 6) → (result ≡ 0) ⊎ (result ≡ 6) ⊎ Rose reads read ⊎ Rose faults later
+  by (inl is) = inl (is ∙ ap code_of (accepted_is_done (reading form octets) accepted))
   by (inr (inl is)) = inr (inr (inl (rose is)))
   by (inr (inr (inl is))) = inr (inr (inr (does.write is)))
   by (inr (inr (inr is))) = inr (inl is)
+
+-- NOTHING WAS DONE, SINCE MEMORY WAS REFUSED
+
+nothing_status : (form : Option Named) (told : Octets) → IfSome (due_status form told) (λ due. (code_of Memory ≡ due) ⊎ (code_of Memory ≡ 2) ⊎ (code_of Memory ≡ 5) ⊎ (code_of Memory ≡ 6))
+nothing_status None told = inr (inr (inr refl))
+nothing_status (Some form) None = tt
+nothing_status (Some form) (Some octets) = inr (inr (inr refl))
+
+pub nothing_due : (form : Option Named) (told : Octets) (before : Option (List ℕ)) → WritesDue form told before before
+nothing_due None told before = record { text = usage_line; due = refl; part = (0, appends_nothing before) }
+nothing_due (Some form) None before = record { text = []; due = tt; part = (0, appends_nothing before) }
+nothing_due (Some form) (Some octets) before = record { text = []; due = inl refl; part = (0, appends_nothing before) }
+
+pub does_nothing : (form : Option Named) (told : Octets) (before : Option (List ℕ)) (faults : ℕ) → Does form told before before faults faults (code_of Memory)
+does_nothing form told before faults = record {
+  shown = λ e. absurd (cc);
+  status = nothing_status form told;
+  usage = λ e. absurd (cc);
+  named = λ e. absurd (cc);
+  write = λ e. absurd (cc);
+  usage_line = λ e. absurd (cc);
+  read_line = λ e. absurd (cc);
+  line = λ e. absurd (elim e [ inl is ↦ (cc) | inr r ↦ elim r [ inl is ↦ (cc) | inr is ↦ (cc) ] ]);
+  part = λ e. nothing_due form told before;
+}

@@ -1,5 +1,5 @@
 -- What is read of a capture, from its source and from the files.
-use Rattle.std.proofs.Common.{◌≡◌, ℕ, ◌≤◌, List, [], ◌∷◌, Option, Some, None, Result, Ok, Err, IfOk, sym, ap, subst, ◌∙◌, refl, arith}
+use Rattle.std.proofs.Common.{◌≡◌, ℕ, ◌≤◌, List, [], ◌∷◌, Option, Some, None, Result, Ok, Err, sym, ap, subst, ◌∙◌, arith}
 use Rattle.std.proofs.lemmas.List.{append-nil}
 use Rattle.bm_base.specs.declared.capture.Capture.{Capture}
 use Rattle.bm_base.specs.declared.capture.Vip.{Vip}
@@ -12,7 +12,7 @@ use Rattle.bm_pcap.specs.Capture.{Captured, behind_form, capture}
 use Rattle.bm_pcap.specs.Causes.{HasStepCause}
 use Rattle.bm_pcap.specs.Header.{form_of}
 use Rattle.bm_pcap.specs.Parts.{FormGives}
-use Rattle.bm_pcap.specs.Reader.{Captures, StandsIn}
+use Rattle.bm_pcap.specs.Reader.{Captures}
 use Rattle.bm_cli.specs.Asked.{AsksPrefix}
 use Rattle.bm_cli.specs.Captures.{IsRead, ReadsFile, ReadsRecords, ReadsSource}
 

@@ -1,26 +1,30 @@
 -- What replaying a capture leaves, by how it went.
-use Rattle.std.proofs.Common.{◌≡◌, ◌≢◌, ◌⊎◌, inl, inr, ℕ, ◌≤◌, List, [], Option, Some, None, Ok, Err, IfSome, IfErr, sym, ap, subst, ◌∙◌, refl, arith}
+use Rattle.std.proofs.Common.{◌≡◌, ◌≢◌, ◌⊎◌, inl, inr, ℕ, List, [], Option, Some, None, Ok, Err, IfSome, IfErr, sym, ap, subst, ◌∙◌, refl, arith}
 use Rattle.std.specs.Io.KnownBytes.{Appends}
-use Rattle.bm_base.specs.declared.capture.Capture.{Capture}
-use Rattle.bm_table.specs.Settings.{plain_setting}
+use Rattle.bm_core.specs.declared.events.Stage.{Stage}
 use Rattle.bm_pcap.specs.declared.fault.PcapFault.{PcapFault}
 use Rattle.bm_pcap.specs.declared.fault.PcapFault.TheVariants.{NotACapture, BadVersion, BadLink, ReadFault as SourceFault, TooLarge, BadLength, TooManyPackets, Memory as NoMemory}
-use Rattle.bm_pcap.specs.Capture.{Captured}
+use Rattle.bm_quota.specs.declared.refusal.Refusal.{Refusal}
+use Rattle.bm_quota.specs.declared.refusal.Refusal.TheVariants.{KnownServer, UnknownServer, NotActive, LastServer, BadBucket, SameServer, StampFell, TooMany, Memory as RefusalMemory}
+use Rattle.bm_script.specs.declared.fault.ScriptFault.{ScriptFault}
+use Rattle.bm_script.specs.declared.fault.ScriptFault.TheVariants.{NotToml, Missing, BadValue, Unknown, Refused, Memory as ScriptMemory}
+use Rattle.bm_words.specs.Form.{Named}
+use Rattle.bm_cli.specs.declared.fault.StageFault.{StageFault}
+use Rattle.bm_cli.specs.declared.fault.StageFault.TheVariants.{Files, LongScript, Script as OfScript, Capture as OfCapture, Memory as WantsMemory}
 use Rattle.bm_cli.specs.declared.status.Status.{Status}
-use Rattle.bm_cli.specs.declared.status.Status.TheVariants.{Done, Usage, ReadFault, BadCapture, WriteFault, Memory, Limit}
-use Rattle.bm_cli.specs.Captures.{IsRead, ReadsFile}
-use Rattle.bm_cli.specs.Fleet.{plain_stage}
-use Rattle.bm_cli.specs.Lines.{fault_line, fault_status}
+use Rattle.bm_cli.specs.declared.status.Status.TheVariants.{Done, Usage, ReadFault, BadCapture, BadScript, WriteFault, Memory, Limit}
+use Rattle.bm_cli.specs.Lines.{capture_line, capture_status, fault_line, fault_status, refusal_status, script_line, script_status}
+use Rattle.bm_cli.specs.Reading.{Octets, Reading, ReadsStage, reading}
 use Rattle.bm_cli.specs.Refusing.{Refuses}
-use Rattle.bm_cli.specs.Replaying.{IsReplaying}
+use Rattle.bm_cli.specs.Replaying.{IsRefusal, IsReplaying}
 use Rattle.bm_cli.specs.Showing.{IsShowing}
-use Rattle.bm_cli.specs.Statuses.{Says, WritesPart}
-use Rattle.bm_cli.specs.Top.{IsDue, IsDueOf, Octets, RefusesFile, ShowsFile, ShowsReading, reading, status_of}
+use Rattle.bm_cli.specs.Statuses.{Says}
+use Rattle.bm_cli.specs.Top.{IsDue, IsDueOf, RefusesFiles, ShowsFiles, ShowsReading, status_of}
 use Rattle.bm_cli.proofs.Writing.{appends_nothing}
 
--- REFUSING
+-- WRITING THE LINE OF A FAULT
 
-pub refuses_nothing : (fault : PcapFault) (before : Option (List ℕ)) (faults : ℕ) → Refuses fault before before faults faults Memory
+pub refuses_nothing : (fault : StageFault) (before : Option (List ℕ)) (faults : ℕ) → Refuses fault before before faults faults Memory
 refuses_nothing fault before faults = record {
   count = omega arith;
   ends = inr (inr refl);
@@ -29,7 +33,7 @@ refuses_nothing fault before faults = record {
   cause = λ e. absurd (cc);
 }
 
-pub refuses_said : (fault : PcapFault) (before now : Option (List ℕ)) (faults later : ℕ) (result : Status) → Says (fault_status fault) (fault_line fault) before now faults later result → Refuses fault before now faults later result
+pub refuses_said : (fault : StageFault) (before now : Option (List ℕ)) (faults later : ℕ) (result : Status) → Says (fault_status fault) (fault_line fault) before now faults later result → Refuses fault before now faults later result
 refuses_said fault before now faults later result said = record {
   count = said.count;
   ends = said.ends;
@@ -40,35 +44,122 @@ refuses_said fault before now faults later result said = record {
 
 -- FAULTS AND THEIR STATUSES
 
-not_usage : (fault : PcapFault) → fault_status fault ≢ Usage
-not_usage NotACapture = λ e. cc
-not_usage BadVersion = λ e. cc
-not_usage (BadLink link) = λ e. cc
-not_usage SourceFault = λ e. cc
-not_usage TooLarge = λ e. cc
-not_usage (BadLength number n) = λ e. cc
-not_usage TooManyPackets = λ e. cc
-not_usage NoMemory = λ e. cc
+-- a status of a fault: neither of the words, nor of a report, nor of the sink
+pub record IsOfFault (s : Status) : Type 0 where
+  pub usage : s ≢ Usage
+  pub done : s ≢ Done
+  pub write : s ≢ WriteFault
 
-not_done : (fault : PcapFault) → fault_status fault ≢ Done
-not_done NotACapture = λ e. cc
-not_done BadVersion = λ e. cc
-not_done (BadLink link) = λ e. cc
-not_done SourceFault = λ e. cc
-not_done TooLarge = λ e. cc
-not_done (BadLength number n) = λ e. cc
-not_done TooManyPackets = λ e. cc
-not_done NoMemory = λ e. cc
+refusal_of_fault : (refusal : Refusal) → IsOfFault (refusal_status refusal)
+refusal_of_fault KnownServer = record { usage = λ e. cc; done = λ e. cc; write = λ e. cc }
+refusal_of_fault UnknownServer = record { usage = λ e. cc; done = λ e. cc; write = λ e. cc }
+refusal_of_fault NotActive = record { usage = λ e. cc; done = λ e. cc; write = λ e. cc }
+refusal_of_fault LastServer = record { usage = λ e. cc; done = λ e. cc; write = λ e. cc }
+refusal_of_fault BadBucket = record { usage = λ e. cc; done = λ e. cc; write = λ e. cc }
+refusal_of_fault SameServer = record { usage = λ e. cc; done = λ e. cc; write = λ e. cc }
+refusal_of_fault StampFell = record { usage = λ e. cc; done = λ e. cc; write = λ e. cc }
+refusal_of_fault (TooMany limit) = record { usage = λ e. cc; done = λ e. cc; write = λ e. cc }
+refusal_of_fault RefusalMemory = record { usage = λ e. cc; done = λ e. cc; write = λ e. cc }
 
-source_fault : (fault : PcapFault) → fault_status fault ≡ ReadFault → fault ≡ SourceFault
-source_fault NotACapture e = absurd (cc)
-source_fault BadVersion e = absurd (cc)
-source_fault (BadLink link) e = absurd (cc)
-source_fault SourceFault e = refl
-source_fault TooLarge e = absurd (cc)
-source_fault (BadLength number n) e = absurd (cc)
-source_fault TooManyPackets e = absurd (cc)
-source_fault NoMemory e = absurd (cc)
+script_of_fault : (fault : ScriptFault) → IsOfFault (script_status fault)
+script_of_fault NotToml = record { usage = λ e. cc; done = λ e. cc; write = λ e. cc }
+script_of_fault (Missing place key) = record { usage = λ e. cc; done = λ e. cc; write = λ e. cc }
+script_of_fault (BadValue place key) = record { usage = λ e. cc; done = λ e. cc; write = λ e. cc }
+script_of_fault (Unknown place name) = record { usage = λ e. cc; done = λ e. cc; write = λ e. cc }
+script_of_fault (Refused n refusal) = refusal_of_fault refusal
+script_of_fault ScriptMemory = record { usage = λ e. cc; done = λ e. cc; write = λ e. cc }
+
+capture_of_fault : (fault : PcapFault) → IsOfFault (capture_status fault)
+capture_of_fault NotACapture = record { usage = λ e. cc; done = λ e. cc; write = λ e. cc }
+capture_of_fault BadVersion = record { usage = λ e. cc; done = λ e. cc; write = λ e. cc }
+capture_of_fault (BadLink link) = record { usage = λ e. cc; done = λ e. cc; write = λ e. cc }
+capture_of_fault SourceFault = record { usage = λ e. cc; done = λ e. cc; write = λ e. cc }
+capture_of_fault TooLarge = record { usage = λ e. cc; done = λ e. cc; write = λ e. cc }
+capture_of_fault (BadLength number n) = record { usage = λ e. cc; done = λ e. cc; write = λ e. cc }
+capture_of_fault TooManyPackets = record { usage = λ e. cc; done = λ e. cc; write = λ e. cc }
+capture_of_fault NoMemory = record { usage = λ e. cc; done = λ e. cc; write = λ e. cc }
+
+pub of_fault : (fault : StageFault) → IsOfFault (fault_status fault)
+of_fault Files = record { usage = λ e. cc; done = λ e. cc; write = λ e. cc }
+of_fault LongScript = record { usage = λ e. cc; done = λ e. cc; write = λ e. cc }
+of_fault (OfScript fault) = script_of_fault fault
+of_fault (OfCapture fault) = capture_of_fault fault
+of_fault WantsMemory = record { usage = λ e. cc; done = λ e. cc; write = λ e. cc }
+
+refusal_reads : (refusal : Refusal) → refusal_status refusal ≢ ReadFault
+refusal_reads KnownServer = λ e. cc
+refusal_reads UnknownServer = λ e. cc
+refusal_reads NotActive = λ e. cc
+refusal_reads LastServer = λ e. cc
+refusal_reads BadBucket = λ e. cc
+refusal_reads SameServer = λ e. cc
+refusal_reads StampFell = λ e. cc
+refusal_reads (TooMany limit) = λ e. cc
+refusal_reads RefusalMemory = λ e. cc
+
+-- no fault of a script is one of the files
+pub script_reads : (fault : ScriptFault) → script_status fault ≢ ReadFault
+script_reads NotToml = λ e. cc
+script_reads (Missing place key) = λ e. cc
+script_reads (BadValue place key) = λ e. cc
+script_reads (Unknown place name) = λ e. cc
+script_reads (Refused n refusal) = refusal_reads refusal
+script_reads ScriptMemory = λ e. cc
+
+refusal_memory : (refusal : Refusal) → refusal_status refusal ≢ Memory
+refusal_memory KnownServer = λ e. cc
+refusal_memory UnknownServer = λ e. cc
+refusal_memory NotActive = λ e. cc
+refusal_memory LastServer = λ e. cc
+refusal_memory BadBucket = λ e. cc
+refusal_memory SameServer = λ e. cc
+refusal_memory StampFell = λ e. cc
+refusal_memory (TooMany limit) = λ e. cc
+refusal_memory RefusalMemory = λ e. cc
+
+capture_read_line : (fault : PcapFault) → capture_status fault ≡ ReadFault → capture_line fault ≡ fault_line Files
+capture_read_line NotACapture e = absurd (cc)
+capture_read_line BadVersion e = absurd (cc)
+capture_read_line (BadLink link) e = absurd (cc)
+capture_read_line SourceFault e = refl
+capture_read_line TooLarge e = absurd (cc)
+capture_read_line (BadLength number n) e = absurd (cc)
+capture_read_line TooManyPackets e = absurd (cc)
+capture_read_line NoMemory e = absurd (cc)
+
+-- the line of a read that failed
+read_line : (fault : StageFault) → fault_status fault ≡ ReadFault → fault_line fault ≡ fault_line Files
+read_line Files e = refl
+read_line LongScript e = absurd (cc)
+read_line (OfScript fault) e = absurd (script_reads fault e)
+read_line (OfCapture fault) e = capture_read_line fault e
+read_line WantsMemory e = absurd (cc)
+
+script_no_line : (fault : ScriptFault) → script_status fault ≡ Memory → script_line fault ≡ []
+script_no_line NotToml e = absurd (cc)
+script_no_line (Missing place key) e = absurd (cc)
+script_no_line (BadValue place key) e = absurd (cc)
+script_no_line (Unknown place name) e = absurd (cc)
+script_no_line (Refused n refusal) e = absurd (refusal_memory refusal e)
+script_no_line ScriptMemory e = refl
+
+capture_no_line : (fault : PcapFault) → capture_status fault ≡ Memory → capture_line fault ≡ []
+capture_no_line NotACapture e = absurd (cc)
+capture_no_line BadVersion e = absurd (cc)
+capture_no_line (BadLink link) e = absurd (cc)
+capture_no_line SourceFault e = absurd (cc)
+capture_no_line TooLarge e = absurd (cc)
+capture_no_line (BadLength number n) e = absurd (cc)
+capture_no_line TooManyPackets e = absurd (cc)
+capture_no_line NoMemory e = refl
+
+-- want of memory has no line
+memory_line : (fault : StageFault) → fault_status fault ≡ Memory → fault_line fault ≡ []
+memory_line Files e = absurd (cc)
+memory_line LongScript e = absurd (cc)
+memory_line (OfScript fault) e = script_no_line fault e
+memory_line (OfCapture fault) e = capture_no_line fault e
+memory_line WantsMemory e = refl
 
 -- the status of a refusal that isn't the sink's or memory's is the fault's
 own_status : (s r : Status) → r ≢ WriteFault → r ≢ Memory → (r ≡ s) ⊎ (r ≡ WriteFault) ⊎ (r ≡ Memory) → r ≡ s
@@ -76,62 +167,26 @@ own_status s r write memory (inl e) = e
 own_status s r write memory (inr (inl e)) = absurd (write e)
 own_status s r write memory (inr (inr e)) = absurd (memory e)
 
-pub fault_of_read : (fault : PcapFault) (before now : Option (List ℕ)) (faults later : ℕ) (result : Status) → Refuses fault before now faults later result → result ≡ ReadFault → fault ≡ SourceFault
-fault_of_read fault before now faults later result refused is =
-    source_fault fault (sym (own_status (fault_status fault) result (λ e. cc) (λ e. cc) refused.ends) ∙ is)
+pub status_of_read : (fault : StageFault) (before now : Option (List ℕ)) (faults later : ℕ) (result : Status) → Refuses fault before now faults later result → result ≡ ReadFault → fault_status fault ≡ ReadFault
+status_of_read fault before now faults later result refused is =
+    sym (own_status (fault_status fault) result (λ e. cc) (λ e. cc) refused.ends) ∙ is
 
--- what a fault says of what the capture is
-fault_says : (wanted : Captured) (fault : PcapFault) → IsRead wanted (Err fault) → (fault ≡ SourceFault) ⊎ (fault ≡ NoMemory) ⊎ (wanted ≡ Err fault)
-fault_says wanted SourceFault h = inl refl
-fault_says wanted NoMemory h = inr (inl refl)
-fault_says wanted NotACapture h = inr (inr h)
-fault_says wanted BadVersion h = inr (inr h)
-fault_says wanted (BadLink link) h = inr (inr h)
-fault_says wanted TooLarge h = inr (inr h)
-fault_says wanted (BadLength number n) h = inr (inr h)
-fault_says wanted TooManyPackets h = inr (inr h)
+-- THE STAGE WAS READ
 
--- MEMORY REFUSED BEFORE THE CAPTURE WAS READ
+shown_status : (form : Named) (told : Octets) (stage : Stage) (result : Status) → ReadsStage told form (Ok stage) → (result ≡ Done) ⊎ (result ≡ WriteFault) ⊎ (result ≡ Memory) → IfSome told (λ octets. (result ≡ status_of (reading form octets)) ⊎ (result ≡ ReadFault) ⊎ (result ≡ WriteFault) ⊎ (result ≡ Memory))
+shown_status form None stage result read ends = tt
+shown_status form (Some octets) stage result read (inl e) = inl (e ∙ ap status_of (sym read))
+shown_status form (Some octets) stage result read (inr (inl e)) = inr (inr (inl e))
+shown_status form (Some octets) stage result read (inr (inr e)) = inr (inr (inr e))
 
-nothing_due : (name : List ℕ) (told : Octets) → IsDue (Some name) told []
-nothing_due name None = tt
-nothing_due name (Some octets) = inl refl
+shown_files : (form : Named) (told : Octets) (stage : Stage) (before now : Option (List ℕ)) → ReadsStage told form (Ok stage) → ShowsReading (Ok stage) before now → ShowsFiles (Some form) told before now
+shown_files form None stage before now read shows = tt
+shown_files form (Some octets) stage before now read shows = subst (λ r. ShowsReading r before now) (sym read) shows
 
-memory_status : (name : List ℕ) (told : Octets) → IfSome told (λ octets. (Memory ≡ status_of (reading (octets name))) ⊎ (Memory ≡ ReadFault) ⊎ (Memory ≡ WriteFault) ⊎ (Memory ≡ Memory))
-memory_status name None = tt
-memory_status name (Some octets) = inr (inr (inr refl))
-
-no_line : {A : Type 0} → (Memory ≡ BadCapture) ⊎ (Memory ≡ Limit) → A
-no_line (inl e) = absurd (cc)
-no_line (inr e) = absurd (cc)
-
-pub replaying_nothing : (name : List ℕ) (told : Octets) (before : Option (List ℕ)) (faults : ℕ) → IsReplaying name told before before faults faults Memory
-replaying_nothing name told before faults = record {
-  status = memory_status name told;
-  words = λ e. cc;
-  shown = λ e. absurd (cc);
-  read_line = λ e. absurd (cc);
-  line = no_line;
-  part = λ e. record { text = []; due = nothing_due name told; part = (0, appends_nothing before) };
-  write = λ e. absurd (cc);
-}
-
--- THE CAPTURE WAS READ
-
-shown_status : (name : List ℕ) (told : Octets) (capture : Capture) (result : Status) → ReadsFile told name plain_setting.vips (Ok capture) → (result ≡ Done) ⊎ (result ≡ WriteFault) ⊎ (result ≡ Memory) → IfSome told (λ octets. (result ≡ status_of (reading (octets name))) ⊎ (result ≡ ReadFault) ⊎ (result ≡ WriteFault) ⊎ (result ≡ Memory))
-shown_status name None capture result read ends = tt
-shown_status name (Some octets) capture result read (inl e) = inl (e ∙ ap status_of (sym read.1))
-shown_status name (Some octets) capture result read (inr (inl e)) = inr (inr (inl e))
-shown_status name (Some octets) capture result read (inr (inr e)) = inr (inr (inr e))
-
-shown_file : (name : List ℕ) (told : Octets) (capture : Capture) (before now : Option (List ℕ)) → ReadsFile told name plain_setting.vips (Ok capture) → ShowsReading (Ok (capture, [])) before now → ShowsFile (Some name) told before now
-shown_file name None capture before now read shows = tt
-shown_file name (Some octets) capture before now read shows = subst (λ r. ShowsReading r before now) (sym read.1) shows
-
-shown_due : (name : List ℕ) (told : Octets) (capture : Capture) (text : List ℕ) → ReadsFile told name plain_setting.vips (Ok capture) → (IsDueOf (Ok (capture, [])) text) ⊎ (text ≡ []) → IsDue (Some name) told text
-shown_due name None capture text read due = tt
-shown_due name (Some octets) capture text read (inl report) = inr (inr (subst (λ r. IsDueOf r text) (sym read.1) report))
-shown_due name (Some octets) capture text read (inr none) = inl none
+shown_due : (form : Named) (told : Octets) (stage : Stage) (text : List ℕ) → ReadsStage told form (Ok stage) → (IsDueOf (Ok stage) text) ⊎ (text ≡ []) → IsDue (Some form) told text
+shown_due form None stage text read due = tt
+shown_due form (Some octets) stage text read (inl report) = inr (inr (subst (λ r. IsDueOf r text) (sym read) report))
+shown_due form (Some octets) stage text read (inr none) = inl none
 
 -- a status that is none of these three
 no_other : {A : Type 0} (s r : Status) → s ≢ Done → s ≢ WriteFault → s ≢ Memory → (r ≡ Done) ⊎ (r ≡ WriteFault) ⊎ (r ≡ Memory) → r ≡ s → A
@@ -139,74 +194,71 @@ no_other s r done write memory (inl e) is = absurd (done (sym is ∙ e))
 no_other s r done write memory (inr (inl e)) is = absurd (write (sym is ∙ e))
 no_other s r done write memory (inr (inr e)) is = absurd (memory (sym is ∙ e))
 
-shown_no_line : {A : Type 0} (r : Status) → (r ≡ Done) ⊎ (r ≡ WriteFault) ⊎ (r ≡ Memory) → (r ≡ BadCapture) ⊎ (r ≡ Limit) → A
+shown_no_line : {A : Type 0} (r : Status) → (r ≡ Done) ⊎ (r ≡ WriteFault) ⊎ (r ≡ Memory) → IsRefusal r → A
 shown_no_line r ends (inl is) = no_other BadCapture r (λ e. cc) (λ e. cc) (λ e. cc) ends is
-shown_no_line r ends (inr is) = no_other Limit r (λ e. cc) (λ e. cc) (λ e. cc) ends is
+shown_no_line r ends (inr (inl is)) = no_other BadScript r (λ e. cc) (λ e. cc) (λ e. cc) ends is
+shown_no_line r ends (inr (inr is)) = no_other Limit r (λ e. cc) (λ e. cc) (λ e. cc) ends is
 
-pub replaying_shown : (name : List ℕ) (told : Octets) (before now : Option (List ℕ)) (faults later : ℕ) (capture : Capture) (result : Status) → ReadsFile told name plain_setting.vips (Ok capture) → IsShowing (plain_stage capture) before now faults later result → IsReplaying name told before now faults later result
-replaying_shown name told before now faults later capture result read showing = record {
-  status = shown_status name told capture result read showing.ends;
+pub replaying_shown : (form : Named) (told : Octets) (before now : Option (List ℕ)) (faults later : ℕ) (stage : Stage) (result : Status) → ReadsStage told form (Ok stage) → IsShowing stage before now faults later result → IsReplaying form told before now faults later result
+replaying_shown form told before now faults later stage result read showing = record {
+  status = shown_status form told stage result read showing.ends;
   words = λ is. no_other Usage result (λ e. cc) (λ e. cc) (λ e. cc) showing.ends is;
-  shown = λ is. shown_file name told capture before now read (showing.whole is);
+  shown = λ is. shown_files form told stage before now read (showing.whole is);
   read_line = λ is. no_other ReadFault result (λ e. cc) (λ e. cc) (λ e. cc) showing.ends is;
   line = λ is. shown_no_line result showing.ends is;
   part = λ is.
       let part = showing.part is in
-      record { text = part.octets; due = shown_due name told capture part.octets read part.report; part = part.written };
+      record { text = part.octets; due = shown_due form told stage part.octets read part.report; part = part.written };
   write = showing.cause;
 }
 
--- THE CAPTURE WAS REFUSED
+-- A FILE WAS REFUSED
 
-refused_status : (name : List ℕ) (told : Octets) (fault : PcapFault) (result : Status) → ReadsFile told name plain_setting.vips (Err fault) → (result ≡ fault_status fault) ⊎ (result ≡ WriteFault) ⊎ (result ≡ Memory) → IfSome told (λ octets. (result ≡ status_of (reading (octets name))) ⊎ (result ≡ ReadFault) ⊎ (result ≡ WriteFault) ⊎ (result ≡ Memory))
-refused_status name None fault result read ends = tt
-refused_status name (Some octets) fault result read (inr (inl e)) = inr (inr (inl e))
-refused_status name (Some octets) fault result read (inr (inr e)) = inr (inr (inr e))
-refused_status name (Some octets) fault result read (inl e) = by (fault_says (reading (octets name)) fault read) where
-  by : (fault ≡ SourceFault) ⊎ (fault ≡ NoMemory) ⊎ (reading (octets name) ≡ Err fault) → (result ≡ status_of (reading (octets name))) ⊎ (result ≡ ReadFault) ⊎ (result ≡ WriteFault) ⊎ (result ≡ Memory)
-  by (inl is) = inr (inl (e ∙ ap fault_status is))
-  by (inr (inl is)) = inr (inr (inr (e ∙ ap fault_status is)))
-  by (inr (inr is)) = inl (e ∙ sym (ap status_of is))
+refused_status : (form : Named) (told : Octets) (fault : StageFault) (result : Status) → ReadsStage told form (Err fault) → (result ≡ fault_status fault) ⊎ (result ≡ WriteFault) ⊎ (result ≡ Memory) → IfSome told (λ octets. (result ≡ status_of (reading form octets)) ⊎ (result ≡ ReadFault) ⊎ (result ≡ WriteFault) ⊎ (result ≡ Memory))
+refused_status form None fault result read ends = tt
+refused_status form (Some octets) fault result read (inr (inl e)) = inr (inr (inl e))
+refused_status form (Some octets) fault result read (inr (inr e)) = inr (inr (inr e))
+refused_status form (Some octets) fault result (inl (inl is)) (inl e) = inr (inl (e ∙ is))
+refused_status form (Some octets) fault result (inl (inr is)) (inl e) = inr (inr (inr (e ∙ is)))
+refused_status form (Some octets) fault result (inr is) (inl e) = inl (e ∙ sym (ap status_of is))
 
-refused_due : (name : List ℕ) (told : Octets) (fault : PcapFault) → ReadsFile told name plain_setting.vips (Err fault) → IsDue (Some name) told (fault_line fault)
-refused_due name None fault read = tt
-refused_due name (Some octets) fault read = by (fault_says (reading (octets name)) fault read) where
-  by : (fault ≡ SourceFault) ⊎ (fault ≡ NoMemory) ⊎ (reading (octets name) ≡ Err fault) → (fault_line fault ≡ []) ⊎ (fault_line fault ≡ fault_line SourceFault) ⊎ IsDueOf (reading (octets name)) (fault_line fault)
-  by (inl is) = inr (inl (ap fault_line is))
-  by (inr (inl is)) = inl (ap fault_line is)
-  by (inr (inr is)) = inr (inr (subst (λ r. IsDueOf r (fault_line fault)) (sym is) refl))
+refused_due : (form : Named) (told : Octets) (fault : StageFault) → ReadsStage told form (Err fault) → IsDue (Some form) told (fault_line fault)
+refused_due form None fault read = tt
+refused_due form (Some octets) fault (inl (inl is)) = inr (inl (read_line fault is))
+refused_due form (Some octets) fault (inl (inr is)) = inl (memory_line fault is)
+refused_due form (Some octets) fault (inr is) = inr (inr (subst (λ r. IsDueOf r (fault_line fault)) (sym is) refl))
 
-refused_line : (name : List ℕ) (told : Octets) (fault : PcapFault) (before now : Option (List ℕ)) → fault_status fault ≢ ReadFault → fault_status fault ≢ Memory → ReadsFile told name plain_setting.vips (Err fault) → Appends before now (fault_line fault) → RefusesFile (Some name) told before now
-refused_line name None fault before now source memory read line = tt
-refused_line name (Some octets) fault before now source memory read line = by (fault_says (reading (octets name)) fault read) where
-  by : (fault ≡ SourceFault) ⊎ (fault ≡ NoMemory) ⊎ (reading (octets name) ≡ Err fault) → IfErr (reading (octets name)) (λ fault. Appends before now (fault_line fault))
-  by (inl is) = absurd (source (ap fault_status is))
-  by (inr (inl is)) = absurd (memory (ap fault_status is))
-  by (inr (inr is)) = subst (λ (r : Captured). IfErr r (λ fault. Appends before now (fault_line fault))) (sym is) line
+refused_line : (form : Named) (told : Octets) (fault : StageFault) (before now : Option (List ℕ)) → fault_status fault ≢ ReadFault → fault_status fault ≢ Memory → ReadsStage told form (Err fault) → Appends before now (fault_line fault) → RefusesFiles (Some form) told before now
+refused_line form None fault before now source memory read line = tt
+refused_line form (Some octets) fault before now source memory (inl (inl is)) line = absurd (source is)
+refused_line form (Some octets) fault before now source memory (inl (inr is)) line = absurd (memory is)
+refused_line form (Some octets) fault before now source memory (inr is) line =
+    subst (λ (r : Reading). IfErr r (λ fault. Appends before now (fault_line fault))) (sym is) line
 
-refused_no : {A : Type 0} (fault : PcapFault) (s r : Status) → s ≢ WriteFault → s ≢ Memory → fault_status fault ≢ s → (r ≡ fault_status fault) ⊎ (r ≡ WriteFault) ⊎ (r ≡ Memory) → r ≡ s → A
+refused_no : {A : Type 0} (fault : StageFault) (s r : Status) → s ≢ WriteFault → s ≢ Memory → fault_status fault ≢ s → (r ≡ fault_status fault) ⊎ (r ≡ WriteFault) ⊎ (r ≡ Memory) → r ≡ s → A
 refused_no fault s r write memory not (inl e) is = absurd (not (sym e ∙ is))
 refused_no fault s r write memory not (inr (inl e)) is = absurd (write (sym is ∙ e))
 refused_no fault s r write memory not (inr (inr e)) is = absurd (memory (sym is ∙ e))
 
-line_at : (name : List ℕ) (told : Octets) (before now : Option (List ℕ)) (faults later : ℕ) (fault : PcapFault) (s result : Status) → s ≢ WriteFault → s ≢ Memory → s ≢ ReadFault → ReadsFile told name plain_setting.vips (Err fault) → Refuses fault before now faults later result → result ≡ s → RefusesFile (Some name) told before now
-line_at name told before now faults later fault s result write memory source read refused is =
+line_at : (form : Named) (told : Octets) (before now : Option (List ℕ)) (faults later : ℕ) (fault : StageFault) (s result : Status) → s ≢ WriteFault → s ≢ Memory → s ≢ ReadFault → ReadsStage told form (Err fault) → Refuses fault before now faults later result → result ≡ s → RefusesFiles (Some form) told before now
+line_at form told before now faults later fault s result write memory source read refused is =
     let own = own_status (fault_status fault) result (λ e. write (sym is ∙ e)) (λ e. memory (sym is ∙ e)) refused.ends in
-    refused_line name told fault before now (λ e. source (sym is ∙ own ∙ e)) (λ e. memory (sym is ∙ own ∙ e)) read (refused.whole own (λ e. memory (sym is ∙ e)))
+    refused_line form told fault before now (λ e. source (sym is ∙ own ∙ e)) (λ e. memory (sym is ∙ own ∙ e)) read (refused.whole own (λ e. memory (sym is ∙ e)))
 
-either_line : (name : List ℕ) (told : Octets) (before now : Option (List ℕ)) (faults later : ℕ) (fault : PcapFault) (result : Status) → ReadsFile told name plain_setting.vips (Err fault) → Refuses fault before now faults later result → (result ≡ BadCapture) ⊎ (result ≡ Limit) → RefusesFile (Some name) told before now
-either_line name told before now faults later fault result read refused (inl is) = line_at name told before now faults later fault BadCapture result (λ e. cc) (λ e. cc) (λ e. cc) read refused is
-either_line name told before now faults later fault result read refused (inr is) = line_at name told before now faults later fault Limit result (λ e. cc) (λ e. cc) (λ e. cc) read refused is
+each_line : (form : Named) (told : Octets) (before now : Option (List ℕ)) (faults later : ℕ) (fault : StageFault) (result : Status) → ReadsStage told form (Err fault) → Refuses fault before now faults later result → IsRefusal result → RefusesFiles (Some form) told before now
+each_line form told before now faults later fault result read refused (inl is) = line_at form told before now faults later fault BadCapture result (λ e. cc) (λ e. cc) (λ e. cc) read refused is
+each_line form told before now faults later fault result read refused (inr (inl is)) = line_at form told before now faults later fault BadScript result (λ e. cc) (λ e. cc) (λ e. cc) read refused is
+each_line form told before now faults later fault result read refused (inr (inr is)) = line_at form told before now faults later fault Limit result (λ e. cc) (λ e. cc) (λ e. cc) read refused is
 
-pub replaying_refused : (name : List ℕ) (told : Octets) (before now : Option (List ℕ)) (faults later : ℕ) (fault : PcapFault) (result : Status) → ReadsFile told name plain_setting.vips (Err fault) → Refuses fault before now faults later result → IsReplaying name told before now faults later result
-replaying_refused name told before now faults later fault result read refused = record {
-  status = refused_status name told fault result read refused.ends;
-  words = λ is. refused_no fault Usage result (λ e. cc) (λ e. cc) (not_usage fault) refused.ends is;
-  shown = λ is. refused_no fault Done result (λ e. cc) (λ e. cc) (not_done fault) refused.ends is;
+pub replaying_refused : (form : Named) (told : Octets) (before now : Option (List ℕ)) (faults later : ℕ) (fault : StageFault) (result : Status) → ReadsStage told form (Err fault) → Refuses fault before now faults later result → IsReplaying form told before now faults later result
+replaying_refused form told before now faults later fault result read refused = record {
+  status = refused_status form told fault result read refused.ends;
+  words = λ is. refused_no fault Usage result (λ e. cc) (λ e. cc) (of_fault fault).usage refused.ends is;
+  shown = λ is. refused_no fault Done result (λ e. cc) (λ e. cc) (of_fault fault).done refused.ends is;
   read_line = λ is.
       let own = own_status (fault_status fault) result (λ e. cc) (λ e. cc) refused.ends in
-      subst (λ f. Appends before now (fault_line f)) (source_fault fault (sym own ∙ is)) (refused.whole own (λ e. cc));
-  line = λ is. either_line name told before now faults later fault result read refused is;
-  part = λ is. record { text = fault_line fault; due = refused_due name told fault read; part = refused.part is };
+      subst (λ l. Appends before now l) (read_line fault (sym own ∙ is)) (refused.whole own (λ e. cc));
+  line = λ is. each_line form told before now faults later fault result read refused is;
+  part = λ is. record { text = fault_line fault; due = refused_due form told fault read; part = refused.part is };
   write = refused.cause;
 }

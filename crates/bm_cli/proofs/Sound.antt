@@ -1,16 +1,14 @@
--- The replay of a capture without a script is about a sound stage.
-use Rattle.std.proofs.Common.{◌≡◌, ◌≢◌, ℕ, zero, suc, ◌≤◌, ◌<◌, Bool, true, false, List, [], length, refl, sym, ◌∙◌, arith}
+-- The stage that was read is sound.
+use Rattle.std.proofs.Common.{◌≡◌, ℕ, zero, suc, Bool, true, false, refl, sym, ◌∙◌, arith}
 use Rattle.bm_base.specs.declared.capture.Capture.{Capture}
 use Rattle.bm_base.specs.declared.ids.ServerId.{ServerId}
-use Rattle.bm_table.specs.Planned.{Planned}
-use Rattle.bm_table.specs.Settings.{plain_setting}
-use Rattle.bm_table.specs.Tables.{IsOrderly, is_drained, table}
+use Rattle.bm_table.specs.declared.script.Script.{Script}
+use Rattle.bm_table.specs.Tables.{IsOrderly, is_drained}
 use Rattle.bm_table.proofs.SettingLemmas.{IsSetting-plain_setting}
 use Rattle.bm_table.specs.Scripts.{IsSoundScript}
 use Rattle.bm_core.specs.Stages.{IsSound}
-use Rattle.bm_replay.specs.Replays.{IsBare}
 use Rattle.bm_base.specs.Captures.{IsReplayable}
-use Rattle.bm_cli.specs.Fleet.{plain_script, plain_stage}
+use Rattle.bm_cli.specs.Fleet.{plain_script}
 
 never_drained : (n : ℕ) (s : ServerId) → is_drained plain_script.plan n s ≡ false
 never_drained zero s = refl
@@ -24,7 +22,7 @@ plain_orderly = record {
   drained = λ n v b s is low inside bucket. absurd (let h : ◌≡◌ {A = Bool} false true = sym (never_drained n s) ∙ is in cc);
 }
 
-plain_script_sound : IsSoundScript plain_script
+pub plain_script_sound : IsSoundScript plain_script
 plain_script_sound = record {
   setting = IsSetting-plain_setting;
   buckets = refl;
@@ -37,13 +35,11 @@ plain_script_sound = record {
   of_known = tt;
 }
 
-pub plain_sound : (capture : Capture) → IsReplayable plain_setting.vips capture → IsSound (plain_stage capture)
-plain_sound capture fit = record {
-  script = plain_script_sound;
+-- a sound script and a capture that can be replayed make a sound stage
+pub stage_sound : (script : Script) (capture : Capture) → IsSoundScript script → IsReplayable script.setting.vips capture → IsSound (record { script = script; capture = capture })
+stage_sound script capture sound fit = record {
+  script = sound;
   few_records = fit.few;
   records_rise = fit.rise;
   records_fit = fit.fit;
 }
-
-pub plain_bare : (capture : Capture) → IsBare (plain_stage capture)
-plain_bare capture = record { changes = refl; commands = refl; faults = refl }

@@ -1,11 +1,12 @@
-pub mod Words
 pub mod Fleet
 pub mod Captures
+pub mod Reading
+pub mod Asked
+pub mod Counts
 pub mod Statuses
 pub mod Headline
 pub mod Replaying
 pub mod Showing
 pub mod Lines
 pub mod Refusing
-pub mod Asked
 pub mod Top

@@ -4,7 +4,7 @@ use Rattle.std.specs.declared.option.Option.{Option}
 use Rattle.std.specs.Io.KnownBytes.{Appends}
 use Rattle.bm_io.specs.Causes.{Rose}
 use Rattle.bm_cli.specs.declared.status.Status.{Status}
-use Rattle.bm_cli.specs.declared.status.Status.TheVariants.{Done, Usage, ReadFault, BadCapture, WriteFault, Memory, Limit}
+use Rattle.bm_cli.specs.declared.status.Status.TheVariants.{Done, Usage, ReadFault, BadCapture, BadScript, WriteFault, Memory, Limit}
 
 -- the exit status
 abbrev pub code_of : Status → ℕ
@@ -12,6 +12,7 @@ code_of Done = 0
 code_of Usage = 1
 code_of ReadFault = 2
 code_of BadCapture = 3
+code_of BadScript = 4
 code_of WriteFault = 5
 code_of Memory = 6
 code_of Limit = 7

@@ -1,16 +1,19 @@
 //! The lines that the program writes in place of a report.
 ghost use Rattle.std.specs.Prelude.{◌≡◌, ◌≢◌, IfOk, string_bytes};
-ghost use Rattle.bm_cli.specs.Lines.{fault_line, fault_status};
+ghost use Rattle.bm_cli.specs.Lines as lines;
 ghost use Rattle.bm_cli.specs.Refusing.{Refuses};
 
+use crate::fault::StageFault;
 use crate::status::{Status, say};
 use bm_io::Sink;
 use bm_pcap::PcapFault;
+use bm_quota::Refusal;
+use bm_script::ScriptFault;
 use std::alloc::{AllocError, Global};
 
-/// Writes the line of a capture's fault, or of a limit that it passes. Nothing where memory was refused.
-pub(crate) fn refuse<K: Sink>(alloc: Global, fault: PcapFault, out: &mut K) -> Status
-    ensures { Refuses fault (K.written out.old) (K.written out.new) (K.faults out.old) (K.faults out.new) result }
+/// Writes the line of a fault, or of a limit that is passed. Nothing where memory was refused.
+pub(crate) fn refuse<K: Sink>(alloc: Global, fault: &StageFault, out: &mut K) -> Status
+    ensures { Refuses fault.now (K.written out.old) (K.written out.new) (K.faults out.old) (K.faults out.new) result }
 {
     let status = status_of(fault);
     if status == Status::Memory {
@@ -22,9 +25,43 @@ pub(crate) fn refuse<K: Sink>(alloc: Global, fault: PcapFault, out: &mut K) -> S
     }
 }
 
-/// The status that a fault of the capture ends with.
-fn status_of(fault: PcapFault) -> Status
-    ensures status { result ≡ fault_status fault }
+/// The status that a fault ends with.
+fn status_of(fault: &StageFault) -> Status
+    ensures status { result ≡ lines.fault_status fault.now }
+    ensures write { result ≢ Status.WriteFault }
+{
+    match fault {
+        StageFault::Files => Status::ReadFault,
+        StageFault::LongScript => Status::Limit,
+        StageFault::Script(fault) => script_status(fault),
+        StageFault::Capture(fault) => capture_status(*fault),
+        StageFault::Memory => Status::Memory,
+    }
+}
+
+fn script_status(fault: &ScriptFault) -> Status
+    ensures status { result ≡ lines.script_status fault.now }
+    ensures write { result ≢ Status.WriteFault }
+{
+    match fault {
+        ScriptFault::Refused(_, refusal) => refusal_status(*refusal),
+        ScriptFault::Memory => Status::Memory,
+        _ => Status::BadScript,
+    }
+}
+
+fn refusal_status(refusal: Refusal) -> Status
+    ensures status { result ≡ lines.refusal_status refusal }
+    ensures write { result ≢ Status.WriteFault }
+{
+    match refusal {
+        Refusal::TooMany(_) => Status::Limit,
+        _ => Status::BadScript,
+    }
+}
+
+fn capture_status(fault: PcapFault) -> Status
+    ensures status { result ≡ lines.capture_status fault }
     ensures write { result ≢ Status.WriteFault }
 {
     match fault {
@@ -38,9 +75,33 @@ fn status_of(fault: PcapFault) -> Status
     }
 }
 
-/// The line of a fault of the capture.
-fn line_of(alloc: Global, fault: PcapFault) -> Result<String, AllocError>
-    ensures { IfOk result (λ line. string_bytes line ≡ fault_line fault) }
+/// The line of a fault.
+fn line_of(alloc: Global, fault: &StageFault) -> Result<String, AllocError>
+    ensures { IfOk result (λ line. string_bytes line ≡ lines.fault_line fault.now) }
+{
+    match fault {
+        StageFault::Files => String::from_str(alloc, "beamer: read fault\n"),
+        StageFault::LongScript => String::from_str(alloc, "beamer: limit script-octets\n"),
+        StageFault::Script(fault) => script_line(alloc, fault),
+        StageFault::Capture(fault) => capture_line(alloc, *fault),
+        StageFault::Memory => Ok(String::new(alloc)),
+    }
+}
+
+fn script_line(alloc: Global, fault: &ScriptFault) -> Result<String, AllocError>
+    ensures { IfOk result (λ line. string_bytes line ≡ lines.script_line fault.now) }
+{
+    match fault {
+        ScriptFault::Refused(_, Refusal::TooMany(limit)) => {
+            format!(in alloc; "beamer: limit {limit}\n")
+        }
+        ScriptFault::Memory => Ok(String::new(alloc)),
+        fault => format!(in alloc; "beamer: {fault}\n"),
+    }
+}
+
+fn capture_line(alloc: Global, fault: PcapFault) -> Result<String, AllocError>
+    ensures { IfOk result (λ line. string_bytes line ≡ lines.capture_line fault) }
 {
     match fault {
         PcapFault::NotACapture => String::from_str(alloc, "beamer: capture: not a capture\n"),

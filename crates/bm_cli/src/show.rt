@@ -1,23 +1,23 @@
-//! The replay of a capture, shown.
-ghost use Rattle.std.specs.Prelude.{◌≡◌, ◌⊎◌, ◌≤◌, IfOk};
+//! The replay of a stage, shown.
+ghost use Rattle.std.specs.Prelude.{◌≡◌, ◌<◌, IfOk};
+ghost use Rattle.bm_core.specs.Rules.{fate_in, mux_of_kind};
 ghost use Rattle.bm_core.specs.Stages.{IsSound};
-ghost use Rattle.bm_io.specs.Causes.{Rose};
-ghost use Rattle.bm_replay.specs.Replays.{IsBare};
 ghost use Rattle.bm_cli.specs.Headline.{IsReportOf};
 ghost use Rattle.bm_cli.specs.Showing.{IsShowing};
 
 use crate::status::{Status, say};
-use bm_base::Memory;
+use bm_base::{Fate, Flow, Hop, Memory};
 use bm_core::Stage;
+use bm_fault::{FaultRows, Faults};
 use bm_io::Sink;
 use bm_replay::replay;
+use bm_route::{Route, mux_by};
 use bm_trace::report;
 use std::alloc::Global;
 
 /// Writes the report of the stage's replay.
 pub(crate) fn show<K: Sink>(alloc: Global, stage: Stage, out: &mut K) -> Status
     requires sound { IsSound stage }
-    requires bare { IsBare stage }
     ensures { IsShowing stage (K.written out.old) (K.written out.new) (K.faults out.old) (K.faults out.new) result }
 {
     match report_of(alloc, stage) {
@@ -26,13 +26,29 @@ pub(crate) fn show<K: Sink>(alloc: Global, stage: Stage, out: &mut K) -> Status
     }
 }
 
-/// The report of the stage's replay.
+/// The report of the stage's replay, in which the setting says to which mux a packet goes, and what
+/// becomes of its copies.
 fn report_of(alloc: Global, stage: Stage) -> Result<Vec<u8>, Memory>
     requires sound { IsSound stage }
-    requires bare { IsBare stage }
     ensures { IfOk result (λ text. IsReportOf stage text.items) }
 {
-    let history = replay(alloc, stage)?;
+    let setting = &stage.script.setting;
+    let (kind, muxes) = (setting.route, setting.muxes);
+    let rows = FaultRows::new(alloc, setting.faults.items())?;
+    let route = Route::new(
+        |packet: u32, flow: &Flow| -> u16
+            requires { 0 < muxes }
+            ensures mux { result ≡ mux_of_kind kind muxes packet flow.now }
+            ensures below { result < muxes }
+        { mux_by(kind, muxes, packet, flow) },
+        muxes,
+    );
+    let faults = Faults::new(
+        |packet: u32, hop: Hop| -> Fate
+            ensures { result ≡ fate_in rows packet hop }
+        { rows.fate(packet, hop) },
+    );
+    let history = replay(alloc, stage, &route, &faults)?;
     let mut text = Vec::new(alloc);
     report(&history, &mut text)?;
     Ok(text)

@@ -15,6 +15,8 @@ pub(crate) enum Status {
     ReadFault,
     /// The capture has a fault.
     BadCapture,
+    /// The script has a fault.
+    BadScript,
     /// The sink failed.
     WriteFault,
     /// Memory was refused.
@@ -33,6 +35,7 @@ impl Status {
             Status::Usage => 1,
             Status::ReadFault => 2,
             Status::BadCapture => 3,
+            Status::BadScript => 4,
             Status::WriteFault => 5,
             Status::Memory => 6,
             Status::Limit => 7,

@@ -1,50 +1,82 @@
 -- How a replay begins, and what it is at its end.
-use Rattle.std.proofs.Common.{◌≡◌, ◌≤◌, List, [], length, refl, ap, arith}
+use Rattle.std.proofs.Common.{◌≡◌, ◌≤◌, List, [], Option, None, length, refl, sym, ap, subst, ◌∙◌, arith}
 use Rattle.std.specs.Prelude.{reverse}
+use Rattle.std.proofs.lemmas.List.{length-reverse}
 use Rattle.bm_core.specs.declared.events.Event.{Event}
 use Rattle.bm_core.specs.declared.events.Stage.{Stage}
-use Rattle.bm_core.specs.declared.schedule.Underway.{Underway}
-use Rattle.bm_core.specs.Stages.{IsSound}
-use Rattle.bm_core.specs.Schedule.{IsOver, can_come, wire}
-use Rattle.bm_core.proofs.Accounted.{accounted}
-use Rattle.bm_replay.specs.declared.player.Player.{Player}
-use Rattle.bm_replay.specs.Players.{IsNew, IsPlaying, past_of, place_of}
+use Rattle.bm_core.specs.declared.schedule.Due.{Due}
+use Rattle.bm_core.specs.Accounts.{Routes, Rules}
 use Rattle.bm_core.specs.Histories.{IsReplay}
-use Rattle.bm_replay.specs.Replays.{IsBare, setting_route, setting_rule}
-use Rattle.bm_replay.proofs.Playing.{never_owed}
+use Rattle.bm_core.specs.Schedule.{IsOver, arrival_due, can_come, least, wire}
+use Rattle.bm_core.specs.Stages.{IsSound}
+use Rattle.bm_core.proofs.Accounted.{accounted}
+use Rattle.bm_core.proofs.Existing.{length_law}
+use Rattle.bm_replay.specs.declared.player.Loss.{Loss}
+use Rattle.bm_replay.specs.declared.player.Player.{Player}
+use Rattle.bm_replay.specs.declared.shard.Shard.{Shard}
+use Rattle.bm_replay.specs.declared.turn.Turn.{Turn}
+use Rattle.bm_replay.specs.declared.turn.Turn.TheVariants.{Over}
+use Rattle.bm_replay.specs.Players.{IsNew, soonest_command, turn_for}
+use Rattle.bm_replay.specs.Playing.{IsPlaying, KeepsState, lost_call, past_of}
+use Rattle.bm_replay.specs.Shards.{IsLeftBy, place_of}
+use Rattle.bm_replay.specs.Turns.{sooner_of}
+use Rattle.bm_replay.proofs.Coming.{IsTurn}
+use Rattle.bm_replay.proofs.Keeping.{switches_are}
+use Rattle.bm_replay.proofs.Least.{least_none}
+use Rattle.bm_replay.proofs.Ready.{come_least, state_turn}
 
-pub begins : (stage : Stage) (p : Player) → IsSound stage → IsBare stage → IsNew stage p → IsPlaying p
-begins stage p sound bare new =
+new_state : (stage : Stage) (p : Player) → IsNew stage p → p.stage ≡ stage → KeepsState [] [] p
+new_state stage p new about = record {
+  clock = new.clock;
+  loss = ap (λ (o : Option Loss). lost_call o) new.loss;
+  flights = rw new.wire tt;
+  published = new.published;
+  muxes = rw about (record {
+    count = new.muxes;
+    tables = new.tables;
+    versions = λ m. refl;
+    soonest = new.switch ∙ ap (λ (l : List Due). least l) (switches_are stage [] p.fleet new.tables stage.script.setting.muxes (omega arith));
+  });
+  queues = rw about (record { due_closes = new.close; due_retires = new.retire; due_syncs = new.sync; due_packets = new.packet });
+  books = rw about (record {
+    lie = let h = new.shards in omega arith;
+    books = λ s h few in_it. subst (λ (x : Shard). IsLeftBy [] x) (sym (new.empty (place_of stage s h))) (record { held = λ f. refl; flows = refl; retired = refl });
+  });
+}
+
+pub begins : (R : Routes) (F : Rules) (stage : Stage) (p : Player) → IsSound stage → IsNew stage p → IsPlaying R F p
+begins R F stage p sound new =
     let past : past_of p ≡ [] = ap (λ (l : List Event). reverse l) new.events
-    in let waiting : length p.waiting.items ≡ 0 = ap (λ (l : List Underway). length l) new.waiting
-    in let events : length p.events.items ≡ 0 = ap (λ (l : List Event). length l) new.events
-    in let few : length stage.capture.records ≤ 200000 = sound.few_records
     in record {
-      sound = rw new.about sound;
-      bare = rw new.about bare;
-      run = rw past tt;
-      follows = rw past tt;
-      answered = rw past tt;
-      waiting = rw (past, new.waiting) refl;
-      packets = rw (past, new.cursor) refl;
-      clock = rw (past, new.clock) refl;
-      books = λ s h few in_it. rw (past, new.empty (place_of p.stage s h)) (record { held = λ f. refl; flows = refl; not_retired = refl });
-      shards = new.shards;
-      paced = record {
-        cursor = rw new.cursor (omega arith);
-        events = rw (new.about, new.cursor, waiting, events) (omega arith);
-        clock = rw (new.clock, events) (omega arith);
-        waiting = rw new.waiting tt;
-      };
+      fates = [];
+      played = rw (new.about, past) (record { sound = sound; plan = new.plan; run = tt; follows = tt; answered = tt; soon = tt });
+      state = subst (λ (l : List Event). KeepsState [] l p) (sym past) (new_state stage p new new.about);
     }
 
-pub ends : (p : Player) → IsPlaying p → can_come (wire [] (past_of p)) p.stage (past_of p) ≡ [] → IsReplay (setting_route p.stage.script.setting) (setting_rule p.stage.script.setting) (record { stage = p.stage; events = p.events.items })
-ends p playing none =
-    let over : IsOver [] p.stage (past_of p) = record { none = none; not_owed = never_owed (past_of p) }
-    in record {
-      run = record { sound = playing.sound; run = playing.run };
-      fates = [];
-      follows = playing.follows;
-      over = over;
-      account = accounted (setting_route p.stage.script.setting) (setting_rule p.stage.script.setting) [] p.stage (past_of p) playing.run playing.follows over playing.answered;
-    }
+-- nothing can come where the turn is over
+pub ends : (R : Routes) (F : Rules) (p : Player) → IsPlaying R F p → p.loss ≡ None → turn_for p ≡ Over → IsReplay R F (record { stage = p.stage; events = p.events })
+ends R F p playing none over = record {
+  run = record { sound = playing.played.sound; run = playing.played.run };
+  fates = playing.fates;
+  follows = playing.played.follows;
+  over = is_over;
+  account = accounted R F playing.fates p.stage (past_of p) playing.played.run playing.played.follows is_over playing.played.answered;
+} where
+  turn : IsTurn (soonest_command p) (wire playing.fates (past_of p)) p.packet.head Over
+  turn = subst (λ (t : Turn). IsTurn (soonest_command p) (wire playing.fates (past_of p)) p.packet.head t) over (state_turn playing.fates (past_of p) p playing.state)
+
+  no_least : least (can_come (wire playing.fates (past_of p)) p.stage (past_of p)) ≡ None
+  no_least = come_least playing.fates (past_of p) p playing.state ∙ (λ i. sooner_of (sooner_of (turn.0 i) (least (arrival_due (turn.1 i)))) (turn.2 i))
+
+  is_over : IsOver playing.fates p.stage (past_of p)
+  is_over = record {
+    none = least_none (can_come (wire playing.fates (past_of p)) p.stage (past_of p)) no_least;
+    not_owed = sym playing.state.loss ∙ ap (λ (o : Option Loss). lost_call o) none;
+  }
+
+-- a replay on its way has few events
+pub few_events : (R : Routes) (F : Rules) (p : Player) → IsPlaying R F p → length p.events ≤ 6859840
+few_events R F p playing =
+    let few : length (past_of p) ≤ 6859840 = length_law playing.fates p.stage (past_of p) playing.played.sound playing.played.follows playing.played.soon
+    in let same : length (past_of p) ≡ length p.events = length-reverse p.events
+    in omega arith

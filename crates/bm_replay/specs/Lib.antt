@@ -1,5 +1,9 @@
 pub mod Connections
+pub mod Fleets
+pub mod Flights
+pub mod Players
+pub mod Playing
+pub mod Queues
+pub mod Replays
 pub mod Shards
 pub mod Turns
-pub mod Replays
-pub mod Players

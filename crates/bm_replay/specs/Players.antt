@@ -1,194 +1,233 @@
--- A replay on its way: what its state keeps.
-use Rattle.std.specs.Prelude.{◌≡◌, ℕ, suc, ◌+◌, ◌-◌, ◌*◌, ◌^◌, ◌<◌, ◌≤◌, Bool, true, false, List, [], ◌∷◌, ◌++◌, length, reverse, Option, Some, None, slice_index_or, slice_set}
-use Rattle.std.specs.List.{AllByRecursion}
+-- The state of a replay on its way, and what each step does to it.
+use Rattle.std.specs.Prelude.{◌≡◌, ◌≢◌, ℕ, suc, ◌+◌, ◌-◌, ◌*◌, ◌^◌, ◌<◌, ◌≤◌, ◌==◌, true, All, if◌then◌else◌, List, [], ◌∷◌, ◌++◌, length, Option, Some, None, is_some, slice_get, slice_set}
+use Rattle.bm_base.specs.declared.ids.Moment.{Moment}
+use Rattle.bm_base.specs.declared.ids.MuxId.{MuxId}
 use Rattle.bm_base.specs.declared.ids.ServerId.{ServerId}
+use Rattle.bm_base.specs.declared.flow.Flow.{Flow}
 use Rattle.bm_base.specs.declared.flow.Segment.{Segment}
-use Rattle.bm_base.specs.declared.label.Hop.TheVariants.{Direct}
+use Rattle.bm_base.specs.declared.label.Hop.TheVariants.{Direct, Chained}
+use Rattle.bm_base.specs.declared.label.Label.{Label}
+use Rattle.bm_base.specs.declared.label.Tag.{Tag}
+use Rattle.bm_base.specs.declared.receive.Fate.{Fate}
+use Rattle.bm_base.specs.Labels.{tag_of}
+use Rattle.bm_fault.specs.declared.wire.Flight.{Flight}
+use Rattle.bm_fault.specs.Wires.{first_due, first_flight, others}
+use Rattle.bm_table.specs.declared.plan.Change.{Change}
+use Rattle.bm_table.specs.declared.plan.Retirement.{Retirement}
+use Rattle.bm_table.specs.Plans.{IsPlan}
 use Rattle.bm_table.specs.Settings.{IsWithin}
-use Rattle.bm_table.specs.Tables.{opening}
-use Rattle.bm_hash.specs.Buckets.{bucket_of, shard_of}
-use Rattle.bm_core.specs.declared.events.Local.{Local}
+use Rattle.bm_table.specs.Tables.{moment_of, next_change, IsRetirement}
 use Rattle.bm_core.specs.declared.events.Verdict.{Verdict}
-use Rattle.bm_core.specs.declared.events.What.TheVariants.{Steer, Arrive}
-use Rattle.bm_core.specs.declared.events.Event.{Event}
+use Rattle.bm_core.specs.declared.events.Verdict.TheVariants.{Forward}
+use Rattle.bm_core.specs.declared.events.What.{What}
+use Rattle.bm_core.specs.declared.events.What.TheVariants.{Publish, Switch, Steer, Lose, Arrive, Close, Retire, Sync}
 use Rattle.bm_core.specs.declared.events.Stage.{Stage}
-use Rattle.bm_core.specs.declared.schedule.Underway.{Underway}
-use Rattle.bm_core.specs.Accounts.{AreAnswered}
-use Rattle.bm_core.specs.Books.{book_of}
-use Rattle.bm_core.specs.Past.{is_sent}
-use Rattle.bm_core.specs.Runs.{Run, last_clock, next}
-use Rattle.bm_core.specs.Schedule.{Follows, dropped, left, packets_from, steers, wire, can_come}
-use Rattle.bm_core.specs.Stages.{IsSound}
-use Rattle.bm_core.specs.Verdicts.{verdict_of}
-use Rattle.bm_replay.specs.declared.packet.Packet.{Packet}
+use Rattle.bm_core.specs.declared.schedule.Call.TheVariants.{Publishes}
+use Rattle.bm_core.specs.declared.schedule.Due.{Due}
+use Rattle.bm_core.specs.Accounts.{Routes, Rules}
+use Rattle.bm_core.specs.Past.{bucket, segment_of, shard}
+use Rattle.bm_core.specs.Schedule.{least}
+use Rattle.bm_core.specs.Verdicts.{verdict_on}
+use Rattle.bm_core.specs.Weights.{IsSoon}
+use Rattle.bm_replay.specs.declared.fleet.Mux.{Mux}
+use Rattle.bm_replay.specs.declared.player.Loss.{Loss}
 use Rattle.bm_replay.specs.declared.player.Player.{Player}
-use Rattle.bm_replay.specs.declared.shard.Connection.{Connection}
-use Rattle.bm_replay.specs.Connections.{IsLeftBy, local_of}
-use Rattle.bm_replay.specs.Replays.{IsBare, setting_route, setting_rule}
-use Rattle.bm_replay.specs.Shards.{AreLeftBy}
-use Rattle.bm_core.specs.Rules.{mux_of}
-use Rattle.bm_replay.specs.Turns.{IsNextPacket, segment_at}
+use Rattle.bm_replay.specs.declared.queue.Queue.{Queue}
+use Rattle.bm_replay.specs.declared.turn.Turn.{Turn}
+use Rattle.bm_replay.specs.Connections.{closed_shard, empty_shard, local_of, look_up, retired_at, shard_after, shard_at}
+use Rattle.bm_replay.specs.Fleets.{HasTable, IsMoved, IsWritten, switches_of}
+use Rattle.bm_replay.specs.Flights.{copies_put}
+use Rattle.bm_replay.specs.Queues.{IsHead, closes_from, packets_after, retires_after, retires_from, syncs_from}
+use Rattle.bm_replay.specs.Shards.{place_of}
+use Rattle.bm_replay.specs.Turns.{next_turn, sooner_of}
 
--- THE STATE
-
--- the events so far, the newest first
-abbrev pub past_of : Player → List Event
-past_of p = reverse p.events.items
-
--- where the connections of a server's shard lie
-abbrev pub place_of : Stage → ServerId → ℕ → ℕ
-place_of stage s h = s.0 * stage.script.setting.shards + h
-
-abbrev pub connections_of : Player → ServerId → ℕ → List Connection
-connections_of p s h = slice_index_or p.shards.items (place_of p.stage s h) []
-
--- there are shards for servers 0 to 1,024
-abbrev pub HasShards : Player → Type 0
-HasShards p = 1025 * p.stage.script.setting.shards ≤ length p.shards.items
-
--- each shard has the connections that its turns left
-abbrev pub KeepsBooks : Player → List Event → Type 0
-KeepsBooks p past =
-    (s : ServerId) (h : ℕ) → s.0 ≤ 1024 → h < p.stage.script.setting.shards → AreLeftBy (book_of p.stage past s h) (connections_of p s h)
-
--- a copy that is under way is a direct one of a packet that was steered, and was due by now
-pub record IsWaiting (clock : ℕ) (past : List Event) (u : Underway) : Type 0 where
-  pub due : u.moment ≤ clock
-  pub direct : u.hop ≡ Direct
-  pub sent : is_sent past u.packet Direct ≡ true
-
--- the numbers stay in range: each packet is steered and arrives once, and each event adds one to the clock
-pub record IsPaced (p : Player) : Type 0 where
-  pub cursor : p.next ≤ length p.stage.capture.records
-  pub events : 2 * (length p.stage.capture.records - p.next) + length p.waiting.items + length p.events.items ≤ 400000
-  pub clock : p.clock ≤ 44 * 10 ^ 17 + length p.events.items
-  pub waiting : AllByRecursion (λ u. IsWaiting p.clock (past_of p) u) p.waiting.items
-
--- the events so far are a run that follows the script, and the state is what they leave
-pub record IsPlaying (p : Player) : Type 0 where
-  pub sound : IsSound p.stage
-  pub bare : IsBare p.stage
-  pub run : Run p.stage (past_of p)
-  pub follows : Follows [] p.stage (past_of p)
-  pub answered : AreAnswered (setting_route p.stage.script.setting) (setting_rule p.stage.script.setting) p.stage [] (past_of p)
-  pub waiting : p.waiting.items ≡ wire [] (past_of p)
-  pub packets : left (packets_from 1 p.stage.capture.records) (past_of p) steers ≡ packets_from (suc p.next) (dropped p.next p.stage.capture.records)
-  pub clock : p.clock ≡ last_clock (past_of p)
-  pub books : KeepsBooks p (past_of p)
-  pub shards : HasShards p
-  pub paced : IsPaced p
+-- the soonest switch of these muxes
+abbrev pub switch_for : Stage → List Mux → Option Due
+switch_for stage fleet = least (switches_of stage.script.plan stage.script.setting.lags stage.script.setting.muxes fleet stage.script.setting.muxes)
 
 -- nothing happened yet
 pub record IsNew (stage : Stage) (p : Player) : Type 0 where
   pub about : p.stage ≡ stage
-  pub events : p.events.items ≡ []
-  pub waiting : p.waiting.items ≡ []
-  pub cursor : p.next ≡ 0
-  pub clock : p.clock ≡ 0
-  pub shards : HasShards p
-  pub empty : (i : ℕ) → slice_index_or p.shards.items i [] ≡ []
+  pub plan : IsPlan stage.script.plan
+  pub events : p.events ≡ []
+  pub clock : p.clock.0 ≡ 0
+  pub loss : p.loss ≡ None
+  pub wire : p.wire ≡ []
+  pub published : p.published ≡ 0
+  pub muxes : length p.fleet ≡ stage.script.setting.muxes
+  pub tables : (m : ℕ) → m < stage.script.setting.muxes → HasTable stage.script.plan 0 (slice_get p.fleet m)
+  pub switch : p.switch ≡ switch_for stage p.fleet
+  pub close : IsHead (closes_from stage.script.commands 0) (closes_from stage.script.commands p.close.next) p.close.head
+  pub retire : IsHead (retires_from stage.script.setting.shards stage.script.commands 0) (retires_after stage.script.setting.shards stage.script.commands p.retire) p.retire.head
+  pub sync : IsHead (syncs_from stage.script.commands 0) (syncs_from stage.script.commands p.sync.next) p.sync.head
+  pub packet : IsHead (packets_after stage.capture.records 0) (packets_after stage.capture.records p.packet.next) p.packet.head
+  pub shards : length p.shards ≡ 1025 * stage.script.setting.shards
+  pub empty : (i : ℕ) → shard_at p.shards i ≡ empty_shard
 
--- THE STEPS
+-- WHAT COMES NEXT
 
-abbrev pub next_after : Player → Option Packet → ℕ
-next_after p None = length p.stage.capture.records
-next_after p (Some packet) = packet.number - 1
+-- the publication of a change, which leads from version v to the next
+abbrev pub publish_after : ℕ → Option Change → Option Due
+publish_after v None = None
+publish_after v (Some c) = Some (record { moment = c.moment.0; rank = 0; number = v; call = Publishes (suc v) })
 
--- the records that aren't steered were passed over
-pub record HasSought (p q : Player) (packet : Option Packet) : Type 0 where
-  pub player : q ≡ record p { next = next_after p packet }
-  pub found : IsNextPacket p.stage.capture.records p.next packet
+-- the soonest of the changes and commands
+abbrev pub soonest_command : Player → Option Due
+soonest_command p =
+    sooner_of (sooner_of (sooner_of (sooner_of (publish_after p.published (next_change p.stage.script.plan p.published)) p.switch) p.close.head) p.retire.head) p.sync.head
 
--- what is needed to steer a packet
-pub record CanSteer (packet : Packet) (p : Player) : Type 0 where
-  pub clock : p.clock < 2 ^ 63
-  pub moment : packet.moment < 2 ^ 63
-  pub muxes : 0 < p.stage.script.setting.muxes
+abbrev pub turn_for : Player → Turn
+turn_for p = next_turn (soonest_command p) (first_due p.wire) p.packet.head
 
-abbrev pub steer_event : Packet → Player → Event
-steer_event packet p = record {
-  clock = record { 0 = next p.clock packet.moment };
-  what = Steer packet.number (record { 0 = mux_of p.stage.script.setting packet.number packet.segment.flow });
+-- STEPS
+
+-- this happened
+abbrev pub happened : Moment → What → Player → Player
+happened clock what p = record p { events = p.events ++ record { clock = clock; what = what } ∷ []; clock = clock }
+
+-- the version was published
+abbrev pub after_publish : Moment → ℕ → Player → Player
+after_publish clock v p = happened clock (Publish (record { 0 = v })) (record p { published = v })
+
+-- the mux switched to the version
+pub record HasSwitched (clock : Moment) (m v : ℕ) (p q : Player) : Type 0 where
+  pub change : Change
+  pub is_change : next_change p.stage.script.plan (v - 1) ≡ Some change
+  pub fleet : List Mux
+  pub count : length fleet ≡ length p.fleet
+  pub others : (n : ℕ) → n ≢ m → slice_get fleet n ≡ slice_get p.fleet n
+  pub moved : (x : Mux) → slice_get p.fleet m ≡ Some x → IsMoved change v x (slice_get fleet m)
+  pub is : q ≡ happened clock (Switch (record { 0 = m }) (record { 0 = v })) (record p { fleet = fleet; switch = switch_for p.stage fleet })
+
+-- the server was asked to close the connection
+pub record HasClosed (clock : Moment) (s : ServerId) (f : Flow) (p q : Player) : Type 0 where
+  pub queue : Queue
+  pub next : IsHead (closes_from p.stage.script.commands p.close.next) (closes_from p.stage.script.commands queue.next) queue.head
+  pub is : q ≡ happened clock (Close s f (is_some (look_up f (shard_at p.shards (place_of p.stage s (shard p.stage f))).connections)))
+      (record p { close = queue; shards = slice_set p.shards (place_of p.stage s (shard p.stage f)) (closed_shard f (shard_at p.shards (place_of p.stage s (shard p.stage f)))) })
+
+-- the server's shard was asked to retire
+pub record HasRetired (clock : Moment) (s : ServerId) (h : ℕ) (at : Moment) (p q : Player) : Type 0 where
+  pub queue : Queue
+  pub next : IsHead (retires_after p.stage.script.setting.shards p.stage.script.commands p.retire) (retires_after p.stage.script.setting.shards p.stage.script.commands queue) queue.head
+  pub result : Retirement
+  pub answer : IsRetirement p.stage.script.plan p.stage.script.setting.timeout p.published s at.0 result
+  pub is : q ≡ happened clock (Retire s h at result) (record p { retire = queue; shards = retired_at result (place_of p.stage s h) p.shards })
+
+-- a phase ended
+pub record HasSynced (clock : Moment) (p q : Player) : Type 0 where
+  pub queue : Queue
+  pub next : IsHead (syncs_from p.stage.script.commands p.sync.next) (syncs_from p.stage.script.commands queue.next) queue.head
+  pub is : q ≡ happened clock Sync (record p { sync = queue })
+
+-- the loss was recorded
+abbrev pub after_loss : Loss → Player → Player
+after_loss loss p = happened (record { 0 = suc p.clock.0 }) (Lose loss.packet loss.hop) (record p { loss = None })
+
+-- a sending without copies is lost
+abbrev pub loss_of : Fate → Flight → Option Loss
+loss_of fate flight = if fate.copies == 0 then Some (record { packet = flight.packet; hop = flight.tag.hop }) else None
+
+-- the copies of a sending are under way
+abbrev pub sent : Fate → Moment → Flight → Player → Player
+sent fate clock flight p = record p {
+  wire = copies_put fate.copies (record { due = record { 0 = clock.0 + fate.delay }; flight = flight }) p.wire;
+  loss = loss_of fate flight;
 }
 
-abbrev pub steered_copy : Packet → Player → Underway
-steered_copy packet p = record { moment = next p.clock packet.moment; place = length p.events.items; packet = packet.number; hop = Direct }
+-- the flight was sent, with a fate that the rule may give
+pub record HasSent (F : Rules) (clock : Moment) (flight : Flight) (p q : Player) : Type 0 where
+  pub fate : Fate
+  pub gives : F flight.packet flight.tag.hop fate
+  pub soon : IsSoon fate
+  pub is : q ≡ sent fate clock flight p
 
--- the packet was steered
-pub record HasSteered (packet : Packet) (p q : Player) : Type 0 where
-  pub about : q.stage ≡ p.stage
-  pub events : q.events.items ≡ p.events.items ++ steer_event packet p ∷ []
-  pub waiting : q.waiting.items ≡ p.waiting.items ++ steered_copy packet p ∷ []
-  pub cursor : q.next ≡ packet.number
-  pub clock : q.clock ≡ next p.clock packet.moment
-  pub shards : q.shards.items ≡ p.shards.items
+-- the packet was steered, and sent with its tag
+pub record HasSteered (R : Routes) (F : Rules) (clock : Moment) (k : ℕ) (p q : Player) : Type 0 where
+  pub segment : Segment
+  pub is_segment : segment_of p.stage k ≡ Some segment
+  pub mux : MuxId
+  pub routed : R k segment.flow mux.0
+  pub below : mux.0 < p.stage.script.setting.muxes
+  pub label : Label
+  pub written : (x : Mux) → slice_get p.fleet mux.0 ≡ Some x → IsWritten x mux (bucket p.stage segment.flow) label
+  pub tag : Tag
+  pub is_tag : tag_of label Direct ≡ Some tag
+  pub queue : Queue
+  pub next : IsHead (packets_after p.stage.capture.records p.packet.next) (packets_after p.stage.capture.records queue.next) queue.head
+  pub sending : HasSent F clock (record { packet = k; tag = tag }) (happened clock (Steer k mux) (record p { packet = queue })) q
 
--- a server and its shards are there for each segment
-pub record HasServers (p : Player) : Type 0 where
-  pub buckets : IsWithin 1 65536 p.stage.script.plan.buckets
+-- where a flight's flow is kept at its destination
+abbrev pub place_for : Player → Flight → Segment → ℕ
+place_for p flight s = place_of p.stage flight.tag.dest (shard p.stage s.flow)
+
+-- the verdict of the shard at the flight's destination
+abbrev pub verdict_for : Player → Moment → Flight → Segment → Verdict
+verdict_for p clock flight s =
+    verdict_on (local_of p.stage.script.setting.capacity (shard_at p.shards (place_for p flight s)) s.flow) p.stage.script.setting.timeout clock.0 flight.tag s
+
+-- the copy arrived, and its verdict took effect
+abbrev pub after_arrival : Moment → Flight → Segment → Player → Player
+after_arrival clock flight s p =
+    happened clock (Arrive flight.packet flight.tag.hop flight.tag.dest (verdict_for p clock flight s))
+    (record p { wire = others p.wire; shards = slice_set p.shards (place_for p flight s) (shard_after (verdict_for p clock flight s) s (shard_at p.shards (place_for p flight s))) })
+
+-- a copy of a flight that goes on to the server
+abbrev pub chained : ServerId → Flight → Flight
+chained to flight = record flight { tag = record flight.tag { hop = Chained; dest = to } }
+
+-- a copy that is forwarded is sent on
+abbrev pub HasGoneOn : Rules → Moment → Flight → Verdict → Player → Player → Type 0
+HasGoneOn F clock flight (Forward to) p q = HasSent F clock (chained to flight) p q
+HasGoneOn F clock flight _ p q = q ≡ p
+
+-- the first copy arrived, and went on where it was forwarded
+pub record HasArrived (F : Rules) (clock : Moment) (p q : Player) : Type 0 where
+  pub flight : Flight
+  pub is_flight : first_flight p.wire ≡ Some flight
+  pub segment : Segment
+  pub is_segment : segment_of p.stage flight.packet ≡ Some segment
+  pub is : HasGoneOn F clock flight (verdict_for p clock flight segment) (after_arrival clock flight segment p) q
+
+-- WHAT THE STEPS NEED
+
+-- a server's shard lies among the shards
+pub record HasPlaces (p : Player) : Type 0 where
   pub shards : IsWithin 1 64 p.stage.script.setting.shards
-  pub numbers : (b : ℕ) → (opening p.stage.script.plan b).cur.0 ≤ 1024
-  pub lie : HasShards p
+  pub lie : 1025 * p.stage.script.setting.shards ≤ length p.shards
 
-abbrev pub server_for : Stage → Segment → ServerId
-server_for stage s = (opening stage.script.plan (bucket_of stage.script.plan.buckets s.flow)).cur
+-- what the soonest switch is found by
+pub record HasLags (stage : Stage) : Type 0 where
+  pub few : length stage.script.plan.changes ≤ 4096
+  pub count : stage.script.setting.muxes ≤ length stage.script.setting.lags
+  pub lags : All (λ lag. lag ≤ 86400 * 10 ^ 9) stage.script.setting.lags
+  pub moments : (v : ℕ) → moment_of (next_change stage.script.plan v) ≤ 4 * 10 ^ 18
 
-abbrev pub shard_for : Stage → Segment → ℕ
-shard_for stage s = shard_of stage.script.setting.shards s.flow
+-- the mux is there, and so is the change
+pub record CanSwitch (m v : ℕ) (p : Player) : Type 0 where
+  pub mux : m < length p.fleet
+  pub muxes : p.stage.script.setting.muxes ≤ length p.fleet
+  pub version : 0 < v
+  pub change : is_some (next_change p.stage.script.plan (v - 1)) ≡ true
+  pub lags : HasLags p.stage
 
-abbrev pub local_for : Player → ServerId → Segment → Local
-local_for p server s = local_of p.stage.script.setting.capacity (connections_of p server (shard_for p.stage s)) s.flow
-
--- a direct copy whose bucket never moved
-abbrev pub verdict_for : Player → ServerId → ℕ → Segment → Verdict
-verdict_for p server clock s = verdict_of (local_for p server s) p.stage.script.setting.timeout clock Direct None s
-
--- the verdict took effect at the server's shard
-pub record HasSettled (server : ServerId) (s : Segment) (verdict : Verdict) (p q : Player) : Type 0 where
-  pub about : q.stage ≡ p.stage
-  pub events : q.events.items ≡ p.events.items
-  pub waiting : q.waiting.items ≡ p.waiting.items
-  pub cursor : q.next ≡ p.next
-  pub clock : q.clock ≡ p.clock
-  pub connections : List Connection
-  pub effect : IsLeftBy verdict s (connections_of p server (shard_for p.stage s)) connections
-  pub shards : q.shards.items ≡ slice_set p.shards.items (place_of p.stage server (shard_for p.stage s)) connections
-
--- what is needed for the copy to arrive
-pub record CanArrive (copy : Underway) (p : Player) : Type 0 where
-  pub clock : p.clock < 2 ^ 63
-  pub moment : copy.moment < 2 ^ 63
-  pub servers : HasServers p
+-- the packet has a segment, and each mux an entry for its bucket
+pub record CanSteer (at : Moment) (k : ℕ) (p : Player) : Type 0 where
   pub segment : Segment
-  pub is_segment : segment_at p.stage.capture.records copy.packet ≡ Some segment
+  pub is_segment : segment_of p.stage k ≡ Some segment
+  pub clock : at.0 ≤ 5 * 10 ^ 18
+  pub buckets : IsWithin 1 65536 p.stage.script.setting.buckets
+  pub muxes : p.stage.script.setting.muxes ≤ length p.fleet
+  pub tables : (m : ℕ) (x : Mux) → m < p.stage.script.setting.muxes → slice_get p.fleet m ≡ Some x → length x.table ≡ p.stage.script.setting.buckets
+  pub few : length p.stage.capture.records ≤ 200000
+
+-- there is a copy under way, for a server whose shards are there
+pub record CanArrive (at : Moment) (p : Player) : Type 0 where
+  pub flight : Flight
+  pub is_flight : first_flight p.wire ≡ Some flight
+  pub segment : Segment
+  pub is_segment : segment_of p.stage flight.packet ≡ Some segment
+  pub clock : at.0 ≤ 5 * 10 ^ 18
   pub len : segment.len ≤ 1048576
-
-abbrev pub arrive_event : Underway → Segment → Player → Event
-arrive_event copy s p = record {
-  clock = record { 0 = next p.clock copy.moment };
-  what = Arrive copy.packet Direct (server_for p.stage s) (verdict_for p (server_for p.stage s) (next p.clock copy.moment) s);
-}
-
--- the copy arrived
-pub record HasArrived (copy : Underway) (p q : Player) : Type 0 where
-  pub segment : Segment
-  pub is_segment : segment_at p.stage.capture.records copy.packet ≡ Some segment
-  pub about : q.stage ≡ p.stage
-  pub events : q.events.items ≡ p.events.items ++ arrive_event copy segment p ∷ []
-  pub waiting : p.waiting.items ≡ copy ∷ q.waiting.items
-  pub cursor : q.next ≡ p.next
-  pub clock : q.clock ≡ next p.clock copy.moment
-  pub connections : List Connection
-  pub effect : IsLeftBy (verdict_for p (server_for p.stage segment) (next p.clock copy.moment) segment) segment (connections_of p (server_for p.stage segment) (shard_for p.stage segment)) connections
-  pub shards : q.shards.items ≡ slice_set p.shards.items (place_of p.stage (server_for p.stage segment) (shard_for p.stage segment)) connections
-
--- THE LOOP
-
--- how much is left to do
-abbrev pub work : Player → ℕ
-work p = 2 * (length p.stage.capture.records - p.next) + length p.waiting.items
-
--- something happened, or nothing is left
-abbrev pub HasStepped : Player → Player → Bool → Type 0
-HasStepped p q true = (q.stage ≡ p.stage) × IsPlaying q × (work q < work p)
-HasStepped p q false = (q.stage ≡ p.stage) × IsPlaying q × (can_come (wire [] (past_of q)) q.stage (past_of q) ≡ [])
+  pub dest : flight.tag.dest.0 ≤ 1024
+  pub places : HasPlaces p

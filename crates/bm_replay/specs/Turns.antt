@@ -1,47 +1,30 @@
--- The packets of a capture in their order, and what comes first.
-use Rattle.std.specs.Prelude.{◌≡◌, ℕ, zero, suc, ◌-◌, ◌%◌, ◌<◌, ◌≤◌, nat_le, if◌then◌else◌, List, [], ◌∷◌, length, Option, Some, None, slice_get}
-use Rattle.bm_base.specs.declared.flow.Segment.{Segment}
-use Rattle.bm_base.specs.declared.capture.Record.{Record}
-use Rattle.bm_core.specs.declared.schedule.Call.TheVariants.{Steers}
+-- What comes first: of the commands, the copies under way and the packets.
+use Rattle.std.specs.Prelude.{ℕ, Bool, true, ◌&&◌, nat_le, nat_lt, if◌then◌else◌, Option, Some, None}
+use Rattle.bm_base.specs.declared.ids.Moment.{Moment}
 use Rattle.bm_core.specs.declared.schedule.Due.{Due}
-use Rattle.bm_core.specs.declared.schedule.Underway.{Underway}
-use Rattle.bm_core.specs.Past.{steerable}
-use Rattle.bm_core.specs.Schedule.{dropped, packets_from}
-use Rattle.bm_replay.specs.declared.packet.Packet.{Packet}
-use Rattle.bm_replay.specs.declared.packet.Turn.{Turn}
-use Rattle.bm_replay.specs.declared.packet.Turn.TheVariants.{Arrive, Steer, Over}
+use Rattle.bm_core.specs.Schedule.{sooner}
+use Rattle.bm_replay.specs.declared.turn.Turn.{Turn}
+use Rattle.bm_replay.specs.declared.turn.Turn.TheVariants.{Arrive, Call, Over}
 
--- the segment of the packet of this number
-abbrev pub segment_at : List Record → ℕ → Option Segment
-segment_at records zero = None
-segment_at records (suc i) = steerable (slice_get records i)
+-- the sooner of those that are there, and the first of two alike
+abbrev pub sooner_of : Option Due → Option Due → Option Due
+sooner_of a None = a
+sooner_of a (Some d) = sooner a d
 
--- the packet, as what can come
-abbrev pub packet_due : Packet → Due
-packet_due p = record { moment = p.moment; rank = 6; number = p.number; call = Steers p.number }
+abbrev pub is_before : ℕ → Option Due → Bool
+is_before moment None = true
+is_before moment (Some d) = nat_lt moment d.moment
 
--- the packet is the first steerable record from the index on
-pub record IsFound (records : List Record) (next : ℕ) (p : Packet) : Type 0 where
-  pub after : next < p.number
-  pub within : p.number ≤ length records
-  pub segment : segment_at records p.number ≡ Some p.segment
-  pub from : Record
-  pub is_from : slice_get records (p.number - 1) ≡ Some from
-  pub moment : from.moment.0 ≡ p.moment
-  pub others : packets_from (suc next) (dropped next records) ≡ packet_due p ∷ packets_from (suc p.number) (dropped p.number records)
+abbrev pub is_no_later : ℕ → Option Due → Bool
+is_no_later moment None = true
+is_no_later moment (Some d) = nat_le moment d.moment
 
-abbrev pub IsNextPacket : List Record → ℕ → Option Packet → Type 0
-IsNextPacket records next None = packets_from (suc next) (dropped next records) ≡ []
-IsNextPacket records next (Some p) = IsFound records next p
+abbrev pub turn_of : Option Due → Turn
+turn_of None = Over
+turn_of (Some d) = Call d
 
--- the copy that is due first
-abbrev pub front_of : List Underway → Option Underway
-front_of [] = None
-front_of (u ∷ waiting) = Some u
-
--- of the copy that is due first and the next packet: at equal moments the copy arrives first
-abbrev pub first_turn : Option Underway → Option Packet → Turn
-first_turn None None = Over
-first_turn (Some c) None = Arrive c
-first_turn None (Some p) = Steer p
-first_turn (Some c) (Some p) = if nat_le c.moment p.moment then Arrive c else Steer p
+-- a copy arrives after the commands of its moment, and before the packets
+abbrev pub next_turn : Option Due → Option Moment → Option Due → Turn
+next_turn command None packet = turn_of (sooner_of command packet)
+next_turn command (Some m) packet =
+    if is_before m.0 command && is_no_later m.0 packet then Arrive m else turn_of (sooner_of command packet)

@@ -1,9 +1,20 @@
-//! The replay of a capture: one thread, one event after the other.
+//! The replay of a stage: one thread, one event after the other.
 #![tactic(auto)]
 
-mod packet;
+mod changes;
+mod commands;
+mod events;
+mod fleet;
+mod packets;
 mod player;
+mod queue;
 mod replaying;
 mod shard;
+mod shards;
+mod steps;
+mod turn;
 
 pub use replaying::replay;
+
+#[cfg(test)]
+mod tests;

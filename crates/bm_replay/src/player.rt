@@ -1,179 +1,136 @@
-//! A replay on its way.
-ghost use Rattle.std.specs.Prelude.{◌≡◌, ◌≤◌, ◌<◌, IfOk, Some, length, slice_get};
-ghost use Rattle.bm_base.specs.declared.label.Hop.TheVariants.{Direct};
-ghost use Rattle.bm_replay.specs.Players.{CanArrive, CanSteer, HasArrived, HasServers, HasSettled, HasSought, HasSteered, HasStepped, IsNew, IsPlaying, server_for, verdict_for};
-ghost use Rattle.bm_replay.specs.Turns.{first_turn, front_of};
+//! A replay on its way: its state, and what comes next.
+ghost use Rattle.std.specs.Prelude.{◌≡◌, ◌≤◌, IfOk, length};
+ghost use Rattle.bm_core.specs.Stages.{IsSound};
+ghost use Rattle.bm_table.specs.Tables.{next_change};
+ghost use Rattle.bm_replay.specs.Players.{IsNew, happened, publish_after, turn_for};
 
-use crate::packet::{Packet, Turn, first, mux_of, next_packet, segment_of};
-use crate::shard::Shard;
-use bm_base::{Hop, Memory, Moment, MuxId, Segment, ServerId, Tag, Version};
-use bm_core::{Event, Stage, Underway, Verdict, What, decide, next_clock};
-use bm_hash::{bucket_of, shard_of};
+use crate::events::Events;
+use crate::fleet::Fleet;
+use crate::queue::{Queue, next_close, next_packet, next_retire, next_sync};
+use crate::shards::Shards;
+use crate::turn::{Turn, next_turn, sooner};
+use bm_base::{Hop, Memory, Moment, Version};
+use bm_core::{Call, Due, Event, History, Stage, What};
+use bm_fault::Wire;
 use std::alloc::Global;
-use std::collections::VecDeque;
 
 /// How many servers there may be, and one more, since they count from 1.
 const SERVERS: usize = 1_025;
 
-/// A replay on its way: the events so far, the copies that are under way, the first record that
-/// may still be steered, the last clock, and the shards of all servers.
+/// A sending without copies, whose loss is recorded next.
+#[derive(Clone, Copy, Debug, PartialEq, Eq)]
+pub(crate) struct Loss {
+    pub(crate) packet: u32,
+    pub(crate) hop: Hop,
+}
+
+/// A replay on its way.
 #[derive(Drop)]
 pub(crate) struct Player {
     pub(crate) stage: Stage,
-    pub(crate) events: Vec<Event>,
-    pub(crate) waiting: VecDeque<Underway>,
-    pub(crate) next: usize,
-    pub(crate) clock: u64,
-    pub(crate) shards: Vec<Shard>,
+    /// What happened so far.
+    pub(crate) events: Events,
+    /// The clock of the last event.
+    pub(crate) clock: Moment,
+    /// A loss that is recorded next.
+    pub(crate) loss: Option<Loss>,
+    /// The copies under way.
+    pub(crate) wire: Wire,
+    /// The newest version that was published.
+    pub(crate) published: u32,
+    /// The muxes.
+    pub(crate) fleet: Fleet,
+    /// The soonest switch of a mux.
+    pub(crate) switch: Option<Due>,
+    /// What comes next of the closes.
+    pub(crate) close: Queue,
+    /// What comes next of the retires, each for one shard.
+    pub(crate) retire: Queue,
+    /// What comes next of the syncs.
+    pub(crate) sync: Queue,
+    /// What comes next of the packets.
+    pub(crate) packet: Queue,
+    /// The shards of all servers.
+    pub(crate) shards: Shards,
 }
 
 impl Player {
     /// Nothing happened yet.
     pub(crate) fn new(alloc: Global, stage: Stage) -> Result<Player, Memory>
-        requires { stage.script.setting.shards ≤ 64 }
+        requires { IsSound stage }
         ensures { IfOk result (IsNew stage) }
     {
-        let mut shards = Vec::new(alloc);
-        for _ in 0..SERVERS * usize::from(stage.script.setting.shards) {
-            shards.push(Shard::new(alloc))?;
-        }
+        let setting = &stage.script.setting;
+        let plan = &stage.script.plan;
+        let commands = stage.script.commands.items();
+        // Each change is published.
+        let events = Events::with_room(alloc, plan.versions() as usize)?;
+        let fleet = Fleet::new(alloc, plan, setting.muxes)?;
+        let switch = fleet.soonest(plan, setting.lags.items(), setting.muxes);
+        let shards = Shards::new(alloc, SERVERS * usize::from(setting.shards))?;
+        let close = next_close(commands, 0);
+        let retire = next_retire(commands, 0);
+        let sync = next_sync(commands, 0);
+        let packet = next_packet(stage.capture.records.items(), 0);
         Ok(Player {
             stage,
-            events: Vec::new(alloc),
-            waiting: VecDeque::new(alloc),
-            next: 0,
-            clock: 0,
+            events,
+            clock: Moment(0),
+            loss: None,
+            wire: Wire::new(alloc),
+            published: 0,
+            fleet,
+            switch,
+            close,
+            retire,
+            sync,
+            packet,
             shards,
         })
     }
 
-    /// What comes next happens; false where nothing is left.
-    pub(crate) fn step(&mut self) -> Result<bool, Memory>
-        requires { IsPlaying self.old }
-        ensures { IfOk result (HasStepped self.old self.new) }
+    /// What comes next.
+    pub(crate) fn turn(&self) -> Turn
+        requires { length self.now.stage.script.plan.changes ≤ 4096 }
+        ensures { result ≡ turn_for self.now }
     {
-        let packet = self.seek();
-        match self.turn(packet) {
-            Turn::Arrive(copy) => self.arrive(copy)?,
-            Turn::Steer(packet) => self.steer(packet)?,
-            Turn::Over => return Ok(false),
+        let change = sooner(self.publication(), self.switch);
+        let close = sooner(change, self.close.head);
+        let retire = sooner(close, self.retire.head);
+        let command = sooner(retire, self.sync.head);
+        next_turn(command, self.wire.least(), self.packet.head)
+    }
+
+    /// The publication of the next change.
+    fn publication(&self) -> Option<Due>
+        requires { length self.now.stage.script.plan.changes ≤ 4096 }
+        ensures { result ≡ publish_after self.now.published (next_change self.now.stage.script.plan self.now.published) }
+    {
+        let change = self.stage.script.plan.next_change(Version(self.published))?;
+        Some(Due {
+            moment: change.moment.0,
+            rank: 0,
+            number: self.published as usize,
+            call: Call::Publishes(self.published + 1),
+        })
+    }
+
+    /// This happens at this clock.
+    pub(crate) fn write(&mut self, clock: Moment, what: What) -> Result<(), Memory>
+        ensures { IfOk result (λ _. self.new ≡ happened clock what self.old) }
+    {
+        self.events.push(Event { clock, what })?;
+        self.clock = clock;
+        Ok(())
+    }
+
+    /// The history of what happened.
+    pub(crate) fn into_history(self) -> History
+        ensures { result ≡ record { stage = self.stage; events = self.events } }
+    {
+        History {
+            stage: self.stage,
+            events: self.events.into_list(),
         }
-        Ok(true)
-    }
-
-    /// What comes first: the copy that is due first, or the packet.
-    fn turn(&self, packet: Option<Packet>) -> Turn
-        ensures { result ≡ first_turn (front_of self.now.waiting.items) packet }
-    {
-        first(self.waiting.front().copied(), packet)
-    }
-
-    /// Passes over the records that aren't steered, and finds the next packet.
-    fn seek(&mut self) -> Option<Packet>
-        requires { length self.old.stage.capture.records ≤ 200000 }
-        ensures { HasSought self.old self.new result }
-    {
-        let records = self.stage.capture.records.items();
-        let packet = next_packet(records, self.next);
-        self.next = match packet {
-            Some(packet) => packet.number as usize - 1,
-            None => records.len(),
-        };
-        packet
-    }
-
-    /// The packet is steered by its mux, and a copy of it is under way.
-    fn steer(&mut self, packet: Packet) -> Result<(), Memory>
-        requires { CanSteer packet self.old }
-        ensures { IfOk result (λ _. HasSteered packet self.old self.new) }
-    {
-        let clock = next_clock(Moment(self.clock), Moment(packet.moment));
-        let place = self.events.len();
-        self.events.push(Event {
-            clock,
-            what: What::Steer {
-                packet: packet.number,
-                mux: mux_of(
-                    &self.stage.script.setting,
-                    packet.number,
-                    &packet.segment.flow,
-                ),
-            },
-        })?;
-        self.waiting.push_back(Underway {
-            moment: clock.0,
-            place,
-            packet: packet.number,
-            hop: Hop::Direct,
-        })?;
-        self.clock = clock.0;
-        self.next = packet.number as usize;
-        Ok(())
-    }
-
-    /// The copy arrives at the server of its bucket, which decides.
-    fn arrive(&mut self, copy: Underway) -> Result<(), Memory>
-        requires can { CanArrive copy self.old }
-        requires first { slice_get self.old.waiting.items 0 ≡ Some copy }
-        ensures { IfOk result (λ _. HasArrived copy self.old self.new) }
-    {
-        let Some(segment) = segment_of(self.stage.capture.records.items(), copy.packet) else {
-            unreachable!()
-        };
-        self.waiting.pop_front();
-        let clock = next_clock(Moment(self.clock), Moment(copy.moment));
-        let server = self.server_of(&segment);
-        let verdict = self.settle(server, &segment, clock)?;
-        self.events.push(Event {
-            clock,
-            what: What::Arrive {
-                packet: copy.packet,
-                hop: Hop::Direct,
-                server,
-                verdict,
-            },
-        })?;
-        self.clock = clock.0;
-        Ok(())
-    }
-
-    /// The server that the segment's bucket opens on.
-    fn server_of(&self, segment: &Segment) -> ServerId
-        requires { HasServers self.now }
-        ensures { result ≡ server_for self.now.stage segment.now }
-    {
-        let bucket = bucket_of(&segment.flow, self.stage.script.plan.buckets());
-        self.stage.script.plan.opening(bucket)
-    }
-
-    /// The server's shard of the segment's flow decides, and the verdict takes effect.
-    fn settle(
-        &mut self,
-        server: ServerId,
-        segment: &Segment,
-        clock: Moment,
-    ) -> Result<Verdict, Memory>
-        requires servers { HasServers self.old }
-        requires number { server.0 ≤ 1024 }
-        requires len { segment.now.len ≤ 1048576 }
-        ensures verdict { IfOk result (λ v. v ≡ verdict_for self.old server clock.0 segment.now) }
-        ensures effect { IfOk result (λ v. HasSettled server segment.now v self.old self.new) }
-    {
-        let setting = &self.stage.script.setting;
-        let place = usize::from(server.0) * usize::from(setting.shards)
-            + usize::from(shard_of(&segment.flow, setting.shards));
-        let shard = &mut self.shards[place];
-        let tag = Tag {
-            hop: Hop::Direct,
-            dest: server,
-            prev: None,
-            stamp: Moment(0),
-            version: Version(0),
-            mux: MuxId(0),
-        };
-        let local = shard.local(&segment.flow, setting.capacity);
-        let verdict = decide(&local, &tag, segment, clock, setting.timeout);
-        shard.settle(verdict, segment)?;
-        Ok(verdict)
     }
 }

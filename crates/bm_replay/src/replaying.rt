@@ -2,25 +2,33 @@
 ghost use Rattle.std.specs.Prelude.{◌≡◌, IfOk};
 ghost use Rattle.bm_core.specs.Histories.{IsReplay};
 ghost use Rattle.bm_core.specs.Stages.{IsSound};
-ghost use Rattle.bm_replay.specs.Replays.{IsBare, setting_route, setting_rule};
+ghost use Rattle.bm_fault.specs.Faults.{Gives, IsRule};
+ghost use Rattle.bm_route.specs.Routes.{Answers, IsRoute};
 
 use crate::player::Player;
-use bm_base::{List, Memory};
+use bm_base::{Fate, Flow, Hop, Memory};
 use bm_core::{History, Stage};
+use bm_fault::Faults;
+use bm_route::Route;
 use std::alloc::Global;
 
-/// The history of the stage's replay, which is a run that follows the script and is accounted for.
-/// The stage has no changes, no commands and no fault rows. `Memory` where memory was refused.
-pub fn replay(alloc: Global, stage: Stage) -> Result<History, Memory>
+/// The history of the stage's replay: a run that follows the script, with the muxes that the route
+/// answers and the fates that the faults give, and in which every packet, copy and command is
+/// accounted for. `Memory` where memory was refused.
+pub fn replay<R: Fn(u32, &Flow) -> u16, F: Fn(u32, Hop) -> Fate>(
+    alloc: Global,
+    stage: Stage,
+    route: &Route<R>,
+    faults: &Faults<F>,
+) -> Result<History, Memory>
     requires sound { IsSound stage }
-    requires bare { IsBare stage }
+    requires route { IsRoute R.Fn route.now.rule route.now.muxes }
+    requires muxes { route.now.muxes ≡ stage.script.setting.muxes }
+    requires faults { IsRule F.Fn faults.now.rule }
     ensures stage { IfOk result (λ h. h.stage ≡ stage) }
-    ensures replay { IfOk result (IsReplay (setting_route stage.script.setting) (setting_rule stage.script.setting)) }
+    ensures replay { IfOk result (IsReplay (Answers R.Fn route.now.rule) (Gives F.Fn faults.now.rule)) }
 {
     let mut player = Player::new(alloc, stage)?;
-    while player.step()? {}
-    Ok(History {
-        stage: player.stage,
-        events: List::of(player.events),
-    })
+    while player.step(route, faults)? {}
+    Ok(player.into_history())
 }

@@ -1,5 +1,5 @@
 -- Items read one after the other, as a loop does.
-use Rattle.std.proofs.Common.{◌≡◌, ℕ, suc, ◌+◌, ◌<◌, ◌≤◌, Bool, true, false, ◌&&◌, nat_le, List, [], ◌∷◌, ◌++◌, length, get_or, drop, Option, Some, None, Result, Ok, Err, refl, sym, ap, ◌∙◌, append_assoc, arith, cond}
+use Rattle.std.proofs.Common.{◌≡◌, ℕ, ◌+◌, ◌<◌, ◌≤◌, Bool, true, false, ◌&&◌, nat_le, List, [], ◌∷◌, ◌++◌, length, get_or, drop, Option, Some, None, Result, Ok, Err, refl, sym, ap, ◌∙◌, append_assoc, arith, cond}
 use Rattle.std.proofs.lemmas.List.{append-nil, drop_all}
 use Rattle.toml.specs.declared.value.Value.{Value}
 use Rattle.toml.specs.Data.{Data, Items, item, as_array, as_table, Members}
@@ -80,9 +80,9 @@ rising-turn : (low : ℕ) (vs : List Value) (i : ℕ) (d : Value) (front : List 
     → total ≡ with_front front (then_rest (server_at n) (values.rising (n + 1) (items_view (drop (i + 1) vs))))
 rising-turn low vs i d front total n lt is so_far =
     sym so_far ∙ rw (items_view-drop vs i d lt, ← is) (ap (with_front front) (split_rest (values.rising (n + 1) (items_view (drop (i + 1) vs))))) where
-  split_rest : (rest : Option (List ServerId)) → values.◌>>=◌ rest (λ ys. Some (record { 0 = n } ∷ ys)) ≡ then_rest (server_at n) rest
-  split_rest None = refl
-  split_rest (Some xs) = refl
+      split_rest : (rest : Option (List ServerId)) → values.◌>>=◌ rest (λ ys. Some (record { 0 = n } ∷ ys)) ≡ then_rest (server_at n) rest
+      split_rest None = refl
+      split_rest (Some xs) = refl
 
 pub rising-more : (low : ℕ) (vs : List Value) (i : ℕ) (d : Value) (front : List ServerId) (total : Option (List ServerId)) (n : ℕ) → i < length vs
     → Some n ≡ values.number low 1024 (view (get_or vs i d)) → with_front front (values.rising low (items_view (drop i vs))) ≡ total

@@ -1,11 +1,10 @@
 -- The commands that the definition gives are in order, and are refused as a script's are.
-use Rattle.std.proofs.Common.{◌≡◌, ℕ, suc, ◌+◌, ◌-◌, ◌*◌, ◌^◌, ◌<◌, ◌≤◌, Bool, true, false, not, ◌||◌, nat_le, nat_lt, cond, List, [], ◌∷◌, ◌++◌, length, map, Option, Some, None, Result, Ok, Err, refl, sym, ap, subst, ◌∙◌, arith, add-one, lt-ltb, le-ltb}
+use Rattle.std.proofs.Common.{◌≡◌, ℕ, ◌+◌, ◌-◌, ◌*◌, ◌^◌, ◌<◌, ◌≤◌, Bool, true, false, not, nat_le, nat_lt, cond, List, [], ◌∷◌, ◌++◌, length, map, Option, Some, None, Ok, Err, refl, sym, ap, subst, ◌∙◌, arith, le-ltb}
 use Rattle.std.proofs.lemmas.Bool.{or_right}
 use Rattle.std.proofs.lemmas.List.{length_push, map-append}
 use Rattle.std.specs.List.{AllByRecursion}
 use Rattle.toml.specs.Data.{as_table, Items, no_items, item, Members}
 use Rattle.bm_base.specs.Captures.{AreRising}
-use Rattle.bm_base.specs.declared.ids.Moment.{Moment}
 use Rattle.bm_base.specs.declared.ids.ServerId.{ServerId}
 use Rattle.bm_controller.proofs.FleetPlans.{knows-push}
 use Rattle.bm_controller.specs.Commands as controller
@@ -16,11 +15,10 @@ use Rattle.bm_quota.specs.declared.refusal.Refusal.TheVariants.{KnownServer, Unk
 use Rattle.bm_script.specs.declared.commands.Verb.{Verb}
 use Rattle.bm_script.specs.declared.commands.Verb.TheVariants.{Add, Drain, Move, Close, Retire, Sync}
 use Rattle.bm_script.specs.declared.fault.Place.TheVariants as at_
-use Rattle.bm_script.specs.declared.fault.ScriptFault.{ScriptFault}
 use Rattle.bm_script.specs.declared.fault.ScriptFault.TheVariants.{Refused}
 use Rattle.bm_script.specs.declared.key.Key.TheVariants as key
 use Rattle.bm_script.proofs.Sound.{Any, Meets, meets-only_keys, meets-required, meets-then, meets_valued, reads-number, reads_any}
-use Rattle.bm_script.specs.Commands.{after_command, after_commands, carried, changed, next, told, with_command, Progress}
+use Rattle.bm_script.specs.Commands.{after_command, after_commands, carried, changed, next, with_command, Progress}
 use Rattle.bm_script.specs.Faults.{IsOfScript}
 use Rattle.bm_script.specs.Keys.{verb_keys}
 use Rattle.bm_script.specs.Values as values
@@ -140,11 +138,11 @@ with_change-ordered first n p c h range =
     let command : Command = ChangeCommand (record { 0 = length p.plan.changes + 1 }) in
     let plan : Planned = with_change p.plan c in
     let at_last : moment_of_command plan command ≡ c.moment.0 =
-        ap (λ (v : ℕ). moment_of (next_change plan v)) (omega arith) ∙ moment-last p.plan c in
+    ap (λ (v : ℕ). moment_of (next_change plan v)) (omega arith) ∙ moment-last p.plan c in
     let moments : map (λ d. moment_of_command plan d) (p.commands ++ command ∷ []) ≡ map (λ d. moment_of_command p.plan d) p.commands ++ c.moment.0 ∷ [] =
-        map-append (λ d. moment_of_command plan d) p.commands (command ∷ [])
-        ∙ ap (λ (ms : List ℕ). ms ++ moment_of_command plan command ∷ []) (moments-push p.plan c 1 p.commands (omega arith) h.versions)
-        ∙ ap (λ (m : ℕ). map (λ d. moment_of_command p.plan d) p.commands ++ m ∷ []) at_last in
+    map-append (λ d. moment_of_command plan d) p.commands (command ∷ [])
+    ∙ ap (λ (ms : List ℕ). ms ++ moment_of_command plan command ∷ []) (moments-push p.plan c 1 p.commands (omega arith) h.versions)
+    ∙ ap (λ (m : ℕ). map (λ d. moment_of_command p.plan d) p.commands ++ m ∷ []) at_last in
     record {
       few = length_push p.commands command ∙ ap (λ (k : ℕ). k + 1) h.few;
       buckets = h.buckets;
@@ -160,8 +158,8 @@ with_command-ordered : (first : Planned) (n : ℕ) (p : Progress) (at : ℕ) (co
     → moment_of_command p.plan command ≡ at → IsOfKnown p.plan command → AreOrdered first (n + 1) (with_command p at command)
 with_command-ordered first n p at command h range other moment known =
     let moments : map (λ d. moment_of_command p.plan d) (p.commands ++ command ∷ []) ≡ map (λ d. moment_of_command p.plan d) p.commands ++ at ∷ [] =
-        map-append (λ d. moment_of_command p.plan d) p.commands (command ∷ [])
-        ∙ ap (λ (m : ℕ). map (λ d. moment_of_command p.plan d) p.commands ++ m ∷ []) moment in
+    map-append (λ d. moment_of_command p.plan d) p.commands (command ∷ [])
+    ∙ ap (λ (m : ℕ). map (λ d. moment_of_command p.plan d) p.commands ++ m ∷ []) moment in
     record {
       few = length_push p.commands command ∙ ap (λ (k : ℕ). k + 1) h.few;
       buckets = h.buckets;
@@ -190,15 +188,15 @@ refuses-limits : (plan : Planned) (c : Change) → last_moment plan ≤ c.moment
 refuses-limits plan c le =
     let later : nat_lt c.moment.0 (last_moment plan) ≡ false = le-ltb _ _ le in
     subst (λ (b : Bool). Refuses (when b StampFell ∷ when (nat_le 4096 (length plan.changes)) (TooMany Changes) ∷ when (nat_lt 1000000 (total_moves plan.changes + length c.moves)) (TooMany Moves) ∷ [])) (sym later)
-        (λ n r e. refuses-when (nat_le 4096 (length plan.changes)) (TooMany Changes) _ (λ m. tt)
-            (refuses-when (nat_lt 1000000 (total_moves plan.changes + length c.moves)) (TooMany Moves) [] (λ m. tt) refuses-none) n r e)
+    (λ n r e. refuses-when (nat_le 4096 (length plan.changes)) (TooMany Changes) _ (λ m. tt)
+    (refuses-when (nat_lt 1000000 (total_moves plan.changes + length c.moves)) (TooMany Moves) [] (λ m. tt) refuses-none) n r e)
 
 changed-ordered : (first : Planned) (n : ℕ) (p : Progress) (at : ℕ) (c : Change) (refusals : List (Option Refusal)) (answer : Option Refusal) → AreOrdered first n p → IsWithin p.last (4 * 10 ^ 18) at → c.moment.0 ≡ at
     → Refuses refusals → first_refusal refusals ≡ answer → Meets (AreOrdered first (n + 1)) (changed p at c answer)
 changed-ordered first n p at c refusals (Some refusal) h range moment refuses e = refuses (next p) refusal e
 changed-ordered first n p at c refusals None h range moment refuses e =
     subst (λ (m : ℕ). AreOrdered first (n + 1) (record { plan = with_change p.plan c; last = m; commands = p.commands ++ ChangeCommand (record { 0 = length p.plan.changes + 1 }) ∷ [] })) moment
-        (with_change-ordered first n p c h (subst (IsWithin p.last (4 * 10 ^ 18)) (sym moment) range))
+    (with_change-ordered first n p c h (subst (IsWithin p.last (4 * 10 ^ 18)) (sym moment) range))
 
 told-ordered : (first : Planned) (n : ℕ) (p : Progress) (at : ℕ) (s : ServerId) (command : Command) (known : Bool) → AreOrdered first n p → IsWithin p.last (4 * 10 ^ 18) at → IsOther command
     → moment_of_command p.plan command ≡ at → (known ≡ true → IsOfKnown p.plan command) → Meets (AreOrdered first (n + 1)) (cond known (Ok (with_command p at command)) (Err (Refused (next p) UnknownServer)))
@@ -212,13 +210,13 @@ carried-ordered first n p at Add inside h range =
     meets-then Any (AreOrdered first (n + 1)) _ _ (meets-required (at_.Command (next p)) key.Server values.server Any inside (reads_any values.server)) λ s _.
     let c = controller.addition p.plan (record { 0 = at }) s in
     changed-ordered first n p at c (when (knows p.plan s) KnownServer ∷ limits p.plan c) _ h range refl
-        (refuses-when (knows p.plan s) KnownServer _ (λ n. tt) (refuses-limits p.plan c (omega (arith, h.plan_last, range.0)))) refl
+    (refuses-when (knows p.plan s) KnownServer _ (λ n. tt) (refuses-limits p.plan c (omega (arith, h.plan_last, range.0)))) refl
 carried-ordered first n p at Drain inside h range =
     meets-then Any (AreOrdered first (n + 1)) _ _ (meets-required (at_.Command (next p)) key.Server values.server Any inside (reads_any values.server)) λ s _.
     let c = controller.removal p.plan (record { 0 = at }) s in
     changed-ordered first n p at c (when (not (knows p.plan s)) UnknownServer ∷ when (not (is_active p.plan s)) NotActive ∷ when (nat_le (length (active_now p.plan)) 1) LastServer ∷ limits p.plan c) _ h range refl
-        (refuses-when (not (knows p.plan s)) UnknownServer _ (λ n. tt) (refuses-when (not (is_active p.plan s)) NotActive _ (λ n. tt)
-            (refuses-when (nat_le (length (active_now p.plan)) 1) LastServer _ (λ n. tt) (refuses-limits p.plan c (omega (arith, h.plan_last, range.0)))))) refl
+    (refuses-when (not (knows p.plan s)) UnknownServer _ (λ n. tt) (refuses-when (not (is_active p.plan s)) NotActive _ (λ n. tt)
+    (refuses-when (nat_le (length (active_now p.plan)) 1) LastServer _ (λ n. tt) (refuses-limits p.plan c (omega (arith, h.plan_last, range.0)))))) refl
 carried-ordered first n p at Move inside h range =
     meets-then Any (AreOrdered first (n + 1)) _ _ (meets-required (at_.Command (next p)) key.Bucket (values.number 0 65535) Any inside (reads_any (values.number 0 65535))) λ bucket _.
     meets-then Any (AreOrdered first (n + 1)) _ _ (meets-required (at_.Command (next p)) key.Server values.server Any inside (reads_any values.server)) λ s _.
@@ -227,11 +225,11 @@ carried-ordered first n p at Move inside h range =
     let inactive = when (not (is_active p.plan s)) NotActive in
     let unknown = when (not (knows p.plan s)) UnknownServer in
     changed-ordered first n p at c (when (nat_le p.plan.buckets bucket) BadBucket ∷ unknown ∷ inactive ∷ home ∷ limits p.plan c) _ h range refl
-        (refuses-when (nat_le p.plan.buckets bucket) BadBucket (unknown ∷ inactive ∷ home ∷ limits p.plan c) (λ k. tt)
-            (refuses-when (not (knows p.plan s)) UnknownServer (inactive ∷ home ∷ limits p.plan c) (λ k. tt)
-                (refuses-when (not (is_active p.plan s)) NotActive (home ∷ limits p.plan c) (λ k. tt)
-                    (refuses-when (same_server (server_now p.plan bucket) s) SameServer (limits p.plan c) (λ k. tt)
-                        (refuses-limits p.plan c (omega (arith, h.plan_last, range.0))))))) refl
+    (refuses-when (nat_le p.plan.buckets bucket) BadBucket (unknown ∷ inactive ∷ home ∷ limits p.plan c) (λ k. tt)
+    (refuses-when (not (knows p.plan s)) UnknownServer (inactive ∷ home ∷ limits p.plan c) (λ k. tt)
+    (refuses-when (not (is_active p.plan s)) NotActive (home ∷ limits p.plan c) (λ k. tt)
+    (refuses-when (same_server (server_now p.plan bucket) s) SameServer (limits p.plan c) (λ k. tt)
+    (refuses-limits p.plan c (omega (arith, h.plan_last, range.0))))))) refl
 carried-ordered first n p at Close inside h range =
     meets-then Any (AreOrdered first (n + 1)) _ _ (meets-required (at_.Command (next p)) key.Server values.server Any inside (reads_any values.server)) λ s _.
     meets-then Any (AreOrdered first (n + 1)) _ _ (meets-required (at_.Command (next p)) key.From values.endpoint_value Any inside (reads_any values.endpoint_value)) λ from _.
@@ -245,7 +243,7 @@ carried-ordered first n p at Sync inside h range = with_command-ordered first n 
 after_command-ordered : (first : Planned) (n : ℕ) (p : Progress) (inside : Members) → AreOrdered first n p → Meets (AreOrdered first (n + 1)) (after_command p inside)
 after_command-ordered first n p inside h =
     meets-then (IsWithin p.last (4 * 10 ^ 18)) (AreOrdered first (n + 1)) _ _
-        (meets-required (at_.Command (next p)) key.At (values.number p.last (4 * 10 ^ 18)) (IsWithin p.last (4 * 10 ^ 18)) inside (reads-number p.last (4 * 10 ^ 18))) λ at range.
+    (meets-required (at_.Command (next p)) key.At (values.number p.last (4 * 10 ^ 18)) (IsWithin p.last (4 * 10 ^ 18)) inside (reads-number p.last (4 * 10 ^ 18))) λ at range.
     meets-then Any (AreOrdered first (n + 1)) _ _ (meets-required (at_.Command (next p)) key.Do values.verb Any inside (reads_any values.verb)) λ verb _.
     meets-then Any (AreOrdered first (n + 1)) _ _ (meets-only_keys (at_.Command (next p)) (verb_keys verb) inside) λ only _.
     carried-ordered first n p at verb inside h range

@@ -1,5 +1,5 @@
 -- The parts of a text, with a front that was passed over.
-use Rattle.std.proofs.Common.{◌≡◌, ℕ, ◌+◌, ◌<◌, ◌≤◌, Bool, true, false, List, [], ◌∷◌, ◌++◌, length, get_or, take, drop, Option, Some, None, option_map, ◌==◌, refl, sym, ap, ◌∙◌, append_assoc}
+use Rattle.std.proofs.Common.{◌≡◌, ℕ, ◌+◌, ◌<◌, ◌≤◌, true, false, List, [], ◌∷◌, ◌++◌, length, get_or, take, drop, Option, Some, None, option_map, ◌==◌, refl, ap, append_assoc}
 use Rattle.std.proofs.lemmas.List.{drop_more, take_more, drop_all, append-nil}
 use Rattle.bm_script.specs.Values.{parted}
 

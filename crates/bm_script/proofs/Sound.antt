@@ -1,8 +1,7 @@
 -- What the definition gives is sound: a setting in its ranges, commands in their order, refusals of a script.
-use Rattle.std.proofs.Common.{◌≡◌, ◌≢◌, ◌⊎◌, ℕ, ℤ, pos, negsuc, zero, suc, ◌+◌, ◌*◌, ◌<◌, ◌≤◌, Bool, true, false, ◌&&◌, nat_le, cond, List, [], ◌∷◌, ◌++◌, length, map, replicate, Option, Some, None, option_map, ok_or, Result, Ok, Err, refl, sym, ap, subst, ◌∙◌, inl, inr, arith, le-leb, All}
+use Rattle.std.proofs.Common.{◌≡◌, ℕ, ℤ, pos, negsuc, zero, suc, ◌+◌, ◌≤◌, Bool, true, false, ◌&&◌, nat_le, cond, List, [], ◌∷◌, length, replicate, Option, Some, None, ok_or, Result, Ok, Err, refl, sym, ap, subst, arith, All}
 use Rattle.std.proofs.lemmas.Bool.{and_parts, leb-true}
-use Rattle.std.proofs.lemmas.List.Elements.{All-nil, All-cons, All-from_recursion}
-use Rattle.std.specs.List.{AllByRecursion}
+use Rattle.std.proofs.lemmas.List.Elements.{All-nil, All-cons}
 use Rattle.toml.specs.Data.{Data, as_array, as_integer, as_table, Items, no_items, item, Members}
 use Rattle.bm_base.specs.declared.capture.Vip.{Vip}
 use Rattle.bm_base.specs.declared.ids.ServerId.{ServerId}
@@ -19,8 +18,6 @@ use Rattle.bm_script.specs.Scripts.{setting_of}
 use Rattle.bm_script.specs.Values as values
 use Rattle.bm_table.proofs.SettingLemmas.{IsSetting-plain_setting}
 use Rattle.bm_table.specs.declared.setting.FaultRow.{FaultRow}
-use Rattle.bm_table.specs.declared.setting.RouteKind.{RouteKind}
-use Rattle.bm_table.specs.declared.setting.Setting.{Setting}
 use Rattle.bm_table.specs.Settings.{plain_setting, seconds, IsFaultRow, IsSetting, IsWithin, RiseFrom}
 
 -- a value of which P holds, or a fault that a script may have
@@ -200,13 +197,13 @@ setting-sound inside =
     meets-then (IsWithin 1 1) IsSetting _ _ (meets-optional key.Version 1 (values.number 1 1) (IsWithin 1 1) inside (omega arith, omega arith) (reads-number 1 1)) λ version _.
     meets-then (IsWithin 1 65536) IsSetting _ _ (meets-optional key.Buckets plain_setting.buckets (values.number 1 65536) (IsWithin 1 65536) inside IsSetting-plain_setting.buckets (reads-number 1 65536)) λ buckets is_buckets.
     meets-then (λ ss. IsWithin 1 1024 (length ss) × RiseFrom 1 ss × All (λ s. s.0 ≤ 1024) ss) IsSetting _ _
-        (meets-optional key.Servers plain_setting.servers values.servers _ inside (IsSetting-plain_setting.servers, IsSetting-plain_setting.rising, IsSetting-plain_setting.numbers) reads-servers) λ servers are_servers.
+    (meets-optional key.Servers plain_setting.servers values.servers _ inside (IsSetting-plain_setting.servers, IsSetting-plain_setting.rising, IsSetting-plain_setting.numbers) reads-servers) λ servers are_servers.
     meets-then (IsWithin 1 64) IsSetting _ _ (meets-optional key.Muxes plain_setting.muxes (values.number 1 64) (IsWithin 1 64) inside IsSetting-plain_setting.muxes (reads-number 1 64)) λ muxes is_muxes.
     meets-then (IsWithin 1 64) IsSetting _ _ (meets-optional key.Shards plain_setting.shards (values.number 1 64) (IsWithin 1 64) inside IsSetting-plain_setting.shards (reads-number 1 64)) λ shards is_shards.
     meets-then (IsWithin 1 65536) IsSetting _ _ (meets-optional key.Capacity plain_setting.capacity (values.number 1 65536) (IsWithin 1 65536) inside IsSetting-plain_setting.capacity (reads-number 1 65536)) λ capacity is_capacity.
     meets-then (IsWithin 1 86400) IsSetting _ _ (meets-optional key.Timeout 240 (values.number 1 86400) (IsWithin 1 86400) inside (omega arith, omega arith) (reads-number 1 86400)) λ timeout is_timeout.
     meets-then (λ vs. IsWithin 1 64 (length vs) × All (λ v. 1 ≤ v.port) vs) IsSetting _ _
-        (meets-optional key.Vips plain_setting.vips values.vips _ inside (IsSetting-plain_setting.vips, IsSetting-plain_setting.ports) reads-vips) λ vips are_vips.
+    (meets-optional key.Vips plain_setting.vips values.vips _ inside (IsSetting-plain_setting.vips, IsSetting-plain_setting.ports) reads-vips) λ vips are_vips.
     meets-then Any IsSetting _ _ (meets-optional key.Route plain_setting.route values.route Any inside tt (reads_any values.route)) λ route _.
     meets-then (AreLags muxes) IsSetting _ _ (meets-optional key.Lags (replicate muxes 0) (values.lags muxes) (AreLags muxes) inside (no_lags muxes) (reads-lags muxes)) λ lags are_lags.
     record {

@@ -1,7 +1,7 @@
 -- What the fault tables and the command tables of a script say.
 -- Commands are read in their order, each beside the plan that those before it made.
-use Rattle.std.specs.Prelude.{ℕ, ◌+◌, ◌*◌, ◌^◌, List, [], ◌∷◌, ◌++◌, length, Option, Some, None, Result, Ok, Err, if◌then◌else◌}
-use Rattle.toml.specs.Data.{Data, as_table, Items, no_items, item, Members}
+use Rattle.std.specs.Prelude.{ℕ, ◌+◌, List, [], ◌∷◌, ◌++◌, length, Option, Some, None, Result, Ok, Err, if◌then◌else◌}
+use Rattle.toml.specs.Data.{as_table, Items, no_items, item, Members}
 use Rattle.bm_base.specs.declared.ids.ServerId.{ServerId}
 use Rattle.bm_controller.specs.Commands as controller
 use Rattle.bm_controller.specs.Fleets.{knows}
@@ -11,7 +11,7 @@ use Rattle.bm_script.specs.declared.commands.Verb.{Verb}
 use Rattle.bm_script.specs.declared.commands.Verb.TheVariants.{Add, Drain, Move, Close, Retire, Sync}
 use Rattle.bm_script.specs.declared.fault.Place.TheVariants as at_
 use Rattle.bm_script.specs.declared.fault.ScriptFault.{ScriptFault}
-use Rattle.bm_script.specs.declared.fault.ScriptFault.TheVariants.{BadValue, Refused}
+use Rattle.bm_script.specs.declared.fault.ScriptFault.TheVariants.{Refused}
 use Rattle.bm_script.specs.declared.key.Key.TheVariants as key
 use Rattle.bm_script.specs.Faults.{◌>>=◌, only_keys, required, valued}
 use Rattle.bm_script.specs.Keys.{row_keys, verb_keys}

@@ -1,5 +1,5 @@
 -- The faults of a script: their texts, and the readers that end at the first one.
-use Rattle.std.specs.Prelude.{◌≡◌, ◌≢◌, ℕ, List, [], ◌∷◌, ◌++◌, Option, Some, None, Result, Ok, Err, ok_or, codes, decimal}
+use Rattle.std.specs.Prelude.{◌≡◌, ◌≢◌, ℕ, List, ◌++◌, Option, Some, None, Result, Ok, Err, ok_or, codes, decimal}
 use Rattle.bm_quota.specs.declared.refusal.Refusal.{Refusal}
 use Rattle.bm_quota.specs.declared.refusal.Refusal.TheVariants.{KnownServer, UnknownServer, NotActive, LastServer, BadBucket, SameServer, StampFell, TooMany, Memory as no_memory}
 use Rattle.bm_script.specs.declared.fault.Place.{Place}
@@ -8,6 +8,7 @@ use Rattle.bm_script.specs.declared.fault.ScriptFault.{ScriptFault}
 use Rattle.bm_script.specs.declared.fault.ScriptFault.TheVariants.{NotToml, Missing, BadValue, Unknown, Refused, Memory}
 use Rattle.bm_script.specs.declared.key.Key.{Key}
 use Rattle.bm_script.specs.Keys.{first_unknown, key_word, value_at}
+use Rattle.bm_table.specs.declared.plan.Limit.TheVariants.{Changes, Moves}
 use Rattle.toml.specs.Data.{Data, Members}
 
 abbrev pub place_text : Place → List ℕ
@@ -23,7 +24,8 @@ refusal_word LastServer = codes "last server"
 refusal_word BadBucket = codes "bad bucket"
 refusal_word SameServer = codes "same server"
 refusal_word StampFell = codes "stamp fell"
-refusal_word (TooMany limit) = codes "too many"
+refusal_word (TooMany Changes) = codes "too many changes"
+refusal_word (TooMany Moves) = codes "too many moves"
 refusal_word no_memory = codes "want of memory"
 
 -- the place of a fault, and what it is

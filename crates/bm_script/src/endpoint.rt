@@ -52,7 +52,11 @@ fn decimal_number(text: &[u8], high: u32) -> Option<u32>
     ensures gives { result ≡ values.decimal_number high text.now }
     ensures within { IfSome result (λ n. n ≤ high) }
 {
-    if is_plain(text) { digits(text, high) } else { None }
+    if is_plain(text) {
+        digits(text, high)
+    } else {
+        None
+    }
 }
 
 /// Whether the text isn't empty, and begins with no 0 that others follow.

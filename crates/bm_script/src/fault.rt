@@ -6,6 +6,7 @@ ghost use Rattle.bm_script.specs.declared.fault.ScriptFault.TheVariants.{Memory 
 use crate::Key;
 use bm_base::{Memory, Text};
 use bm_quota::Refusal;
+use bm_table::Limit;
 use std::alloc::{AllocError, AllocFailed};
 use std::error::Error;
 use std::fmt;
@@ -82,7 +83,8 @@ fn refusal_word(refusal: Refusal) -> &'static str
         Refusal::BadBucket => "bad bucket",
         Refusal::SameServer => "same server",
         Refusal::StampFell => "stamp fell",
-        Refusal::TooMany(_) => "too many",
+        Refusal::TooMany(Limit::Changes) => "too many changes",
+        Refusal::TooMany(Limit::Moves) => "too many moves",
         Refusal::Memory => "want of memory",
     }
 }

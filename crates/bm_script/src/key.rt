@@ -87,13 +87,11 @@ pub(crate) fn only_keys(
 ) -> Result<(), ScriptFault>
     ensures { faults.Gives result (faults.only_keys place keys.now (table_view table.now)) }
 {
-    match first_unknown(table, keys) {
-        None => Ok(()),
-        Some(name) => {
-            let name = String::from_str(alloc, name)?;
-            Err(ScriptFault::Unknown(place, Text::of(name)))
-        }
-    }
+    let Some(name) = first_unknown(table, keys) else {
+        return Ok(());
+    };
+    let name = String::from_str(alloc, name)?;
+    Err(ScriptFault::Unknown(place, Text::of(name)))
 }
 
 /// The least key in byte order that is none of these.

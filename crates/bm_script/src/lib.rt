@@ -14,3 +14,6 @@ mod value;
 pub use fault::{Place, ScriptFault};
 pub use key::Key;
 pub use script::read_script;
+
+#[cfg(test)]
+mod tests;

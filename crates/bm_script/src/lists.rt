@@ -67,10 +67,7 @@ fn are_tables(items: &[Value]) -> bool
 }
 
 /// Server numbers that rise.
-pub(crate) fn server_list(
-    alloc: Global,
-    items: &[Value],
-) -> Result<List<ServerId>, ScriptFault>
+pub(crate) fn server_list(alloc: Global, items: &[Value]) -> Result<List<ServerId>, ScriptFault>
     ensures { faults.Gives result (faults.valued Top key_.Servers (values.rising 1 (items_view items.now))) }
 {
     let mut servers = Vec::new(alloc);

@@ -19,10 +19,7 @@ const ROW_KEYS: [Key; 4] = [Key::Packet, Key::Hop, Key::Copies, Key::Delay];
 const MAX_DELAY: u64 = 60_000_000_000;
 
 /// The rows of these tables.
-pub(crate) fn read_rows(
-    alloc: Global,
-    tables: &[Value],
-) -> Result<List<FaultRow>, ScriptFault>
+pub(crate) fn read_rows(alloc: Global, tables: &[Value]) -> Result<List<FaultRow>, ScriptFault>
     requires { length tables.now ≤ 4096 }
     ensures { faults.Gives result (commands.rows_from 1 (items_view tables.now)) }
 {

@@ -53,13 +53,7 @@ pub(crate) fn read_setting(alloc: Global, table: &Table) -> Result<Setting, Scri
 }
 
 /// The number of a key, or `plain` where the key isn't there.
-fn top_number(
-    table: &Table,
-    key: Key,
-    plain: u64,
-    low: u64,
-    high: u64,
-) -> Result<u64, ScriptFault>
+fn top_number(table: &Table, key: Key, plain: u64, low: u64, high: u64) -> Result<u64, ScriptFault>
     requires { IsWithin low high plain }
     ensures gives { result ≡ faults.optional key plain (values.number low high) (table_view table.now) }
     ensures within { IfOk result (IsWithin low high) }

@@ -1,6 +1,6 @@
 -- A text names one history of its stage.
-use Rattle.std.proofs.Common.{◌≡◌, ℕ, suc, ◌<◌, ◌^◌, Bool, true, false, List, [], ◌∷◌, ◌++◌, refl, ap, ◌∙◌, sym, arith, append_assoc}
-use Rattle.std.specs.Prelude.{decimal, codes, reverse, Option, Some, None}
+use Rattle.std.proofs.Common.{◌≡◌, ℕ, Bool, true, false, List, [], ◌∷◌, ◌++◌, refl, ap, ◌∙◌, sym, append_assoc}
+use Rattle.std.specs.Prelude.{decimal, reverse, Option, Some, None}
 use Rattle.std.proofs.lemmas.List.{append-nil, reverse-append}
 use Rattle.std.proofs.lemmas.Fmt.{decimal_injective}
 use Rattle.bm_base.specs.declared.capture.Record.{Record}
@@ -10,8 +10,7 @@ use Rattle.bm_core.specs.declared.events.Stage.{Stage}
 use Rattle.bm_trace.specs.Report.{event_line, event_lines, event_words, note_line, record_lines, text, totals_line}
 use Rattle.bm_trace.specs.Totals.{totals_of}
 use Rattle.bm_trace.specs.declared.sums.Totals.{Totals}
-use Rattle.bm_trace.specs.Words.{line}
-use Rattle.bm_trace.specs.Types.{AreEvents, IsEvent}
+use Rattle.bm_trace.specs.Types.{AreEvents}
 use Rattle.bm_trace.proofs.Decoding.{event_are, same_what}
 use Rattle.bm_trace.proofs.Reading.{decimal_starts_low, is_word_decimal, read_line, starts_low}
 

@@ -10,3 +10,4 @@ pub mod Running
 pub mod Parts
 pub mod Ends
 pub mod Seen
+pub mod Sent

@@ -1,25 +1,31 @@
--- What the code keeps of the events while it writes their lines, so that no line needs a look back but where a cause is asked for.
+-- What the code keeps of the events while it writes their lines, so that a line needs a look back only where it asks what servers hold.
 use Rattle.std.specs.Prelude.{◌≡◌, ℕ, suc, ◌<◌, List, length, Option, None, option_map, slice_index_or}
 use Rattle.std.specs.BTreeMap as tree
 use Rattle.bm_base.specs.contracts.flow.FlowOrd.TheImpl as flow_order
 use Rattle.bm_base.specs.declared.flow.Flow.{Flow}
 use Rattle.bm_base.specs.declared.ids.MuxId.{MuxId}
-use Rattle.bm_base.specs.declared.ids.ServerId.{ServerId}
 use Rattle.bm_base.specs.declared.ids.Version.{Version}
 use Rattle.bm_core.specs.declared.events.Event.{Event}
 use Rattle.bm_core.specs.declared.events.Stage.{Stage}
-use Rattle.bm_core.specs.Past.{Accepted, accept_of, owner, version_at}
+use Rattle.bm_core.specs.Past.{accept_of, label_of, newest, owner, segment_of, version_at}
+use Rattle.bm_trace.specs.declared.past.Owner.{Owner}
+use Rattle.bm_trace.specs.declared.past.Sent.{Sent}
 use Rattle.bm_trace.specs.declared.running.Running.{Running}
+use Rattle.bm_trace.specs.Seen.{as_accepted}
+use Rattle.bm_trace.specs.Sent.{label_from, owner_from}
 
-abbrev pub server_of : Option Accepted → Option ServerId
-server_of accepted = option_map (λ a. a.server) accepted
+-- these are the versions of the muxes, as many as there are
+abbrev pub AreVersions : List Event → List Version → Type 0
+AreVersions past versions = (m : MuxId) → m.0 < length versions → slice_index_or versions m.0 (record { 0 = 0 }) ≡ version_at past m
 
--- the versions of the muxes, the servers of the flows' last Accepts, and the owners' servers of the packets, after these events
-pub record IsKept (stage : Stage) (past : List Event) (versions : List Version) (accepts : Flow → Option ServerId) (owners : List (Option ServerId)) : Type 0 where
-  pub version_of_each : (m : MuxId) → m.0 < length versions → slice_index_or versions m.0 (record { 0 = 0 }) ≡ version_at past m
-  pub accept_of_each : (f : Flow) → accepts f ≡ server_of (accept_of stage past f)
-  pub owner_of_each : (k : ℕ) → k < length owners → slice_index_or owners k None ≡ server_of (owner stage past (suc k))
+-- the newest version, the versions of the muxes, the flows' last Accepts, and what is known of the packets, after these events
+pub record IsKept (stage : Stage) (past : List Event) (published : Version) (versions : List Version) (accepts : Flow → Option Owner) (packets : List (Option Sent)) : Type 0 where
+  pub newest_one : published.0 ≡ newest past
+  pub version_of_each : AreVersions past versions
+  pub accept_of_each : (f : Flow) → option_map as_accepted (accepts f) ≡ accept_of stage past f
+  pub label_of_each : (k : ℕ) → k < length packets → label_from stage (segment_of stage (suc k)) (slice_index_or packets k None) ≡ label_of stage past (suc k)
+  pub owner_of_each : (k : ℕ) → k < length packets → owner_from (slice_index_or packets k None) ≡ owner stage past (suc k)
 
 -- they are what is kept here
 abbrev pub Keeps : Stage → List Event → Running → Type 0
-Keeps stage past r = IsKept stage past r.versions.items (tree.get (flow_order.ghosts).cmp r.accepts.servers) r.owners.items
+Keeps stage past r = IsKept stage past r.newest r.versions.items (tree.get (flow_order.ghosts).cmp r.accepts.owners) r.packets.items

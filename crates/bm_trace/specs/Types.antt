@@ -1,5 +1,5 @@
 -- The numbers of an event are within their types.
-use Rattle.std.specs.Prelude.{ℕ, ◌<◌, ◌^◌, List, [], ◌∷◌}
+use Rattle.std.specs.Prelude.{◌<◌, ◌^◌, List, [], ◌∷◌}
 use Rattle.bm_base.specs.declared.flow.Flow.{Flow}
 use Rattle.bm_table.specs.declared.plan.Retirement.{Retirement}
 use Rattle.bm_table.specs.declared.plan.Retirement.TheVariants.{TooEarly}

@@ -7,29 +7,14 @@ ghost use Rattle.bm_core.specs.Runs.{IsRun};
 ghost use Rattle.bm_trace.specs.CauseOf.{cause_of, is_fault_at};
 ghost use Rattle.bm_trace.specs.Wants.{IsWish};
 ghost use Rattle.bm_trace.specs.Seen.{as_accepted};
+ghost use Rattle.bm_trace.specs.Sent.{label_sent};
 
 use crate::entries::{entry_at, moves};
 use crate::held::{held_place, is_elsewhere};
-use crate::past::{Owner, newest, owner_of, owner_server, segment_of, steer_of, version_at};
-use bm_base::{Flow, Label, Moment, ServerId, is_opening};
+use crate::past::{Sent, newest, owner_server, segment_of, sent_of};
+use bm_base::{Flow, Moment, ServerId, is_opening};
 use bm_core::{Cause, Event, History, Stage, Verdict, What, Why};
 use bm_hash::bucket_of;
-
-/// The label that the packet got at its Steer.
-fn label_of(stage: &Stage, events: &[Event], packet: u32) -> Option<Label>
-    requires { HasRanges stage.now }
-    ensures { result ≡ past.label_of stage.now (reverse events.now) packet }
-{
-    let steered = steer_of(events, packet)?;
-    let segment = segment_of(stage, packet)?;
-    let version = version_at(steered.before, steered.mux);
-    let bucket = bucket_of(&segment.flow, stage.script.setting.buckets);
-    Some(Label {
-        mux: steered.mux,
-        version,
-        entry: entry_at(&stage.script.plan, version, bucket),
-    })
-}
 
 fn is_refusal(verdict: &Verdict) -> bool
     ensures { result ≡ causes.is_refusal verdict.now }
@@ -71,11 +56,11 @@ pub(crate) fn wants_cause(
     match wish(stage, packet, verdict) {
         Wants::Never => false,
         Wants::Always => true,
-        Wants::UnlessOwned => owner_server(stage, events, packet) != Some(server),
+        Wants::UnlessOwned => owner_server(sent_of(stage, events, packet)) != Some(server),
     }
 }
 
-fn opening_cause(verdict: &Verdict, version: u32, newest: u32) -> Option<Cause>
+pub(crate) fn opening_cause(verdict: &Verdict, version: u32, newest: u32) -> Option<Cause>
     ensures { result ≡ causes.opening_cause verdict.now version newest }
 {
     match verdict {
@@ -85,36 +70,38 @@ fn opening_cause(verdict: &Verdict, version: u32, newest: u32) -> Option<Cause>
     }
 }
 
-fn is_late(stage: &Stage, label: &Label, clock: Moment) -> bool
-    ensures { result ≡ causes.is_late stage.now label.now clock.0 }
+fn is_late(stage: &Stage, flow: &Flow, sent: &Sent, clock: Moment) -> bool
+    requires { HasRanges stage.now }
+    ensures { result ≡ causes.is_late stage.now (label_sent stage.now flow.now sent.now) clock.0 }
 {
-    u128::from(label.entry.stamp.0) + u128::from(stage.script.setting.timeout) < u128::from(clock.0)
+    let bucket = bucket_of(flow, stage.script.setting.buckets);
+    let entry = entry_at(&stage.script.plan, sent.version, bucket);
+    u128::from(entry.stamp.0) + u128::from(stage.script.setting.timeout) < u128::from(clock.0)
 }
 
 /// The first premise that is broken where a packet arrives that isn't opening.
-fn first_broken(
+pub(crate) fn first_broken(
     stage: &Stage,
     events: &[Event],
     clock: Moment,
-    label: &Label,
     flow: &Flow,
     server: ServerId,
-    owner: Option<Owner>,
+    sent: &Sent,
 ) -> Option<Cause>
     requires { HasRanges stage.now }
-    ensures { result ≡ causes.first_broken stage.now (reverse events.now) clock.0 label.now flow.now server (option_map as_accepted owner) }
+    ensures { result ≡ causes.first_broken stage.now (reverse events.now) clock.0 (label_sent stage.now flow.now sent.now) flow.now server (option_map as_accepted sent.now.owner) }
 {
-    let Some(owner) = owner else {
+    let Some(owner) = sent.owner else {
         return Some(Cause::NeverAccepted);
     };
     let bucket = bucket_of(flow, stage.script.setting.buckets);
     if held_place(stage, events, owner.server, flow) != Some(owner.place) {
         Some(Cause::NotHeld)
-    } else if label.version.0 < owner.version {
+    } else if sent.version.0 < owner.version {
         Some(Cause::StaleMux)
-    } else if moves(&stage.script.plan, bucket, owner.version, label.version.0) >= 2 {
+    } else if moves(&stage.script.plan, bucket, owner.version, sent.version.0) >= 2 {
         Some(Cause::MovedTwice)
-    } else if server != owner.server && is_late(stage, label, clock) {
+    } else if server != owner.server && is_late(stage, flow, sent, clock) {
         Some(Cause::ChainLate)
     } else if is_elsewhere(stage, events, flow, owner.server) {
         Some(Cause::SynElsewhere)
@@ -124,7 +111,7 @@ fn first_broken(
 }
 
 /// The cause of an arrival that wants one.
-pub(crate) fn wanted_cause(
+fn wanted_cause(
     stage: &Stage,
     events: &[Event],
     clock: Moment,
@@ -138,12 +125,11 @@ pub(crate) fn wanted_cause(
         (past.owner stage.now (reverse events.now) packet) (past.segment_of stage.now packet) (past.label_of stage.now (reverse events.now) packet) }
 {
     let segment = segment_of(stage, packet)?;
-    let label = label_of(stage, events, packet)?;
+    let sent = sent_of(stage, events, packet)?;
     if is_opening(&segment) {
-        opening_cause(verdict, label.version.0, newest(events))
+        opening_cause(verdict, sent.version.0, newest(events))
     } else {
-        let owner = owner_of(stage, events, packet);
-        first_broken(stage, events, clock, &label, &segment.flow, server, owner)
+        first_broken(stage, events, clock, &segment.flow, server, &sent)
     }
 }
 

@@ -45,7 +45,7 @@ fn put_events(h: &History, out: &mut Vec<u8>) -> Result<u64, Memory>
         if running.is_stray(&h.stage, before, &event.what) {
             strays += 1;
         }
-        running.note(&h.stage, event)?;
+        running.note(&h.stage, before, event)?;
         put_line(out, &line)?;
     }
     Ok(strays)

@@ -6,6 +6,7 @@ ghost use Rattle.bm_core.specs.declared.events.Stage.{Stage};
 ghost use Rattle.bm_core.specs.Past as past;
 ghost use Rattle.bm_base.specs.Segments.{same_flow};
 ghost use Rattle.bm_trace.specs.Seen.{as_accepted};
+ghost use Rattle.bm_trace.specs.Sent.{IsSent, owner_from};
 
 use bm_base::{Body, Flow, MuxId, Segment, ServerId, Version};
 use bm_core::{Event, Stage, Verdict, What};
@@ -163,26 +164,43 @@ pub(crate) struct Owner {
     pub(crate) place: usize,
 }
 
-/// The server of the packet's owner.
-pub(crate) fn owner_server(stage: &Stage, events: &[Event], packet: u32) -> Option<ServerId>
-    ensures { result ≡ option_map (λ a. a.server) (past.owner stage.now (reverse events.now) packet) }
-{
-    let steered = steer_of(events, packet)?;
-    let segment = segment_of(stage, packet)?;
-    let accepting = accept_of(stage, steered.before, &segment.flow)?;
-    Some(accepting.server)
+/// What is known of a packet by its Steer.
+#[derive(Clone, Copy)]
+pub(crate) struct Sent {
+    pub(crate) mux: MuxId,
+    pub(crate) version: Version,
+    pub(crate) owner: Option<Owner>,
 }
 
-/// The packet's owner.
-pub(crate) fn owner_of(stage: &Stage, events: &[Event], packet: u32) -> Option<Owner>
-    ensures { option_map as_accepted result ≡ past.owner stage.now (reverse events.now) packet }
+/// The last Accept of the packet's flow.
+fn owner_before(stage: &Stage, events: &[Event], packet: u32) -> Option<Owner>
+    ensures { option_map as_accepted result ≡ past.accept_before stage.now (reverse events.now) (past.segment_of stage.now packet) }
 {
-    let steered = steer_of(events, packet)?;
     let segment = segment_of(stage, packet)?;
-    let accepting = accept_of(stage, steered.before, &segment.flow)?;
+    let accepting = accept_of(stage, events, &segment.flow)?;
     Some(Owner {
         server: accepting.server,
         version: version_of(stage, accepting.before, accepting.packet),
         place: accepting.before.len(),
     })
+}
+
+/// What is known of the packet by its last Steer.
+pub(crate) fn sent_of(stage: &Stage, events: &[Event], packet: u32) -> Option<Sent>
+    ensures { IsSent stage.now (reverse events.now) packet result }
+{
+    let steered = steer_of(events, packet)?;
+    Some(Sent {
+        mux: steered.mux,
+        version: version_at(steered.before, steered.mux),
+        owner: owner_before(stage, steered.before, packet),
+    })
+}
+
+/// The server of the owner.
+pub(crate) fn owner_server(sent: Option<Sent>) -> Option<ServerId>
+    ensures { result ≡ option_map (λ a. a.server) (owner_from sent) }
+{
+    let owner = sent?.owner?;
+    Some(owner.server)
 }

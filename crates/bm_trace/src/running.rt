@@ -9,48 +9,48 @@ ghost use Rattle.bm_core.specs.Past as past;
 ghost use Rattle.bm_trace.specs.Ranges.{HasRanges};
 ghost use Rattle.bm_trace.specs.Totals as totals;
 ghost use Rattle.bm_core.specs.Past.{is_accept};
-ghost use Rattle.bm_trace.specs.Accepts.{server_before};
+ghost use Rattle.bm_trace.specs.Accepts.{owner_before};
 
-use crate::causes::{Wants, wanted_cause, wish};
-use crate::past::{owner_server, segment_of, version_at};
-use bm_base::{Flow, Hop, Moment, MuxId, Segment, ServerId, Version};
+use crate::causes::{Wants, first_broken, opening_cause, wish};
+use crate::past::{Owner, Sent, owner_server, segment_of, sent_of, version_at};
+use bm_base::{Flow, Hop, Moment, MuxId, Segment, ServerId, Version, is_opening};
 use bm_core::{Cause, Event, Stage, Verdict, What};
 use std::alloc::{AllocError, Global};
 use std::collections::BTreeMap;
 
-/// The server of each flow's last Accept.
+/// Each flow's last Accept.
 #[derive(Drop)]
 pub(crate) struct Accepts {
-    servers: BTreeMap<Flow, ServerId>,
+    owners: BTreeMap<Flow, Owner>,
 }
 
 impl Accepts {
     fn new(alloc: Global) -> Accepts
-        ensures { (f : Flow) → tree.get ⟦<Flow as Ord>⟧.cmp result.servers f ≡ None }
+        ensures { (f : Flow) → tree.get ⟦<Flow as Ord>⟧.cmp result.owners f ≡ None }
     {
         Accepts {
-            servers: BTreeMap::new(alloc),
+            owners: BTreeMap::new(alloc),
         }
     }
 
-    fn get(&self, flow: &Flow) -> Option<ServerId>
-        ensures { result ≡ tree.get ⟦<Flow as Ord>⟧.cmp self.now.servers flow.now }
+    fn get(&self, flow: &Flow) -> Option<Owner>
+        ensures { result ≡ tree.get ⟦<Flow as Ord>⟧.cmp self.now.owners flow.now }
     {
-        self.servers.get(flow).copied()
+        self.owners.get(flow).copied()
     }
 
-    /// The server of the last Accept of the segment's flow.
-    fn get_for(&self, segment: Option<Segment>) -> Option<ServerId>
-        ensures { result ≡ server_before (tree.get ⟦<Flow as Ord>⟧.cmp self.now.servers) segment }
+    /// The last Accept of the segment's flow.
+    fn get_for(&self, segment: Option<Segment>) -> Option<Owner>
+        ensures { result ≡ owner_before (tree.get ⟦<Flow as Ord>⟧.cmp self.now.owners) segment }
     {
         self.get(&segment?.flow)
     }
 
-    fn put(&mut self, flow: Flow, server: ServerId) -> Result<(), AllocError>
-        ensures { OnOk result ((q : Flow) → tree.get ⟦<Flow as Ord>⟧.cmp self.new.servers q
-            ≡ (if same_flow flow q then Some server else tree.get ⟦<Flow as Ord>⟧.cmp self.old.servers q)) }
+    fn put(&mut self, flow: Flow, owner: Owner) -> Result<(), AllocError>
+        ensures { OnOk result ((q : Flow) → tree.get ⟦<Flow as Ord>⟧.cmp self.new.owners q
+            ≡ (if same_flow flow q then Some owner else tree.get ⟦<Flow as Ord>⟧.cmp self.old.owners q)) }
     {
-        self.servers.insert(flow, server)?;
+        self.owners.insert(flow, owner)?;
         Ok(())
     }
 
@@ -58,14 +58,14 @@ impl Accepts {
     fn put_for(
         &mut self,
         segment: Option<Segment>,
-        server: ServerId,
+        owner: Owner,
         verdict: Verdict,
     ) -> Result<(), AllocError>
-        ensures { OnOk result ((q : Flow) → tree.get ⟦<Flow as Ord>⟧.cmp self.new.servers q
-            ≡ (if is_accept verdict && past.is_of segment q then Some server else tree.get ⟦<Flow as Ord>⟧.cmp self.old.servers q)) }
+        ensures { OnOk result ((q : Flow) → tree.get ⟦<Flow as Ord>⟧.cmp self.new.owners q
+            ≡ (if is_accept verdict && past.is_of segment q then Some owner else tree.get ⟦<Flow as Ord>⟧.cmp self.old.owners q)) }
     {
         match (segment, verdict) {
-            (Some(segment), Verdict::Accept) => self.put(segment.flow, server),
+            (Some(segment), Verdict::Accept) => self.put(segment.flow, owner),
             _ => Ok(()),
         }
     }
@@ -80,40 +80,45 @@ fn set_version(versions: &mut Vec<Version>, mux: MuxId, version: Version)
     }
 }
 
-fn set_owner(owners: &mut Vec<Option<ServerId>>, packet: u32, owner: Option<ServerId>)
-    ensures { owners.new.items ≡ (if packet == 0 then owners.old.items else slice_set owners.old.items (packet - 1) owner) }
+fn set_sent(packets: &mut Vec<Option<Sent>>, packet: u32, sent: Sent)
+    ensures { packets.new.items ≡ (if packet == 0 then packets.old.items else slice_set packets.old.items (packet - 1) (Some sent)) }
 {
     let packet = packet as usize;
-    if 0 < packet && packet <= owners.len() {
-        owners[packet - 1] = owner;
+    if 0 < packet && packet <= packets.len() {
+        packets[packet - 1] = Some(sent);
     }
 }
 
-/// The versions of the muxes, and the servers of the packets' owners, after some events.
+/// The newest version, the versions of the muxes, the flows' last Accepts and what is known of the
+/// packets, after some events.
 #[derive(Drop)]
 pub(crate) struct Running {
+    newest: Version,
     versions: Vec<Version>,
     accepts: Accepts,
-    owners: Vec<Option<ServerId>>,
+    packets: Vec<Option<Sent>>,
 }
 
 impl Running {
-    ghost use Rattle.bm_trace.specs.Running.{Keeps, server_of};
+    ghost use Rattle.bm_trace.specs.Running.{AreVersions, Keeps};
+    ghost use Rattle.bm_trace.specs.Sent.{IsSent};
 
     /// Before the first event, with so many muxes and packets.
     pub(crate) fn new(alloc: Global, muxes: usize, packets: usize) -> Result<Running, AllocError>
         ensures { (stage : Stage) → IfOk result (λ r. Keeps stage [] r) }
     {
         Ok(Running {
+            newest: Version(0),
             versions: vec![in alloc; Version(0); muxes]?,
             accepts: Accepts::new(alloc),
-            owners: vec![in alloc; None; packets]?,
+            packets: vec![in alloc; None; packets]?,
         })
     }
 
     /// The version of the mux after these events.
     pub(crate) fn version(&self, events: &[Event], mux: MuxId) -> Version
-        ensures { (stage : Stage) → Keeps stage (reverse events.now) self.now → result ≡ past.version_at (reverse events.now) mux }
+        requires { AreVersions (reverse events.now) self.now.versions.items }
+        ensures { result ≡ past.version_at (reverse events.now) mux }
     {
         let place = mux.0 as usize;
         if place < self.versions.len() {
@@ -123,17 +128,36 @@ impl Running {
         }
     }
 
-    /// The server of the packet's owner after these events.
-    pub(crate) fn owner(&self, stage: &Stage, events: &[Event], packet: u32) -> Option<ServerId>
+    /// What is known of the packet after these events.
+    fn sent(&self, stage: &Stage, events: &[Event], packet: u32) -> Option<Sent>
         requires { Keeps stage.now (reverse events.now) self.now }
-        ensures { result ≡ server_of (past.owner stage.now (reverse events.now) packet) }
+        ensures { IsSent stage.now (reverse events.now) packet result }
     {
         let place = packet as usize;
-        if 0 < place && place <= self.owners.len() {
-            self.owners[place - 1]
+        if 0 < place && place <= self.packets.len() {
+            self.packets[place - 1]
         } else {
-            owner_server(stage, events, packet)
+            sent_of(stage, events, packet)
         }
+    }
+
+    /// The version that steered the packet, or 0.
+    fn version_sent(&self, stage: &Stage, events: &[Event], packet: u32) -> u32
+        requires { Keeps stage.now (reverse events.now) self.now }
+        ensures { result ≡ past.version_of (past.label_of stage.now (reverse events.now) packet) }
+    {
+        match (segment_of(stage, packet), self.sent(stage, events, packet)) {
+            (Some(_), Some(sent)) => sent.version.0,
+            _ => 0,
+        }
+    }
+
+    #[tactic(auto, using(crate::proofs::Keeping::kept_publish))]
+    fn note_publish(&mut self, stage: &Stage, version: Version)
+        ensures { (past : List Event) (e : Event) → e.what ≡ What.Publish version
+            → Keeps stage.now past self.old → Keeps stage.now (e ∷ past) self.new }
+    {
+        self.newest = version;
     }
 
     #[tactic(auto, using(crate::proofs::Keeping::kept_switch))]
@@ -144,50 +168,62 @@ impl Running {
         set_version(&mut self.versions, mux, version)
     }
 
-    #[tactic(auto, using(crate::proofs::Keeping::kept_steer))]
-    fn note_steer(&mut self, stage: &Stage, packet: u32, mux: MuxId)
-        ensures { (past : List Event) (e : Event) → e.what ≡ What.Steer packet mux
-            → Keeps stage.now past self.old → Keeps stage.now (e ∷ past) self.new }
+    fn note_steer(&mut self, stage: &Stage, events: &[Event], packet: u32, mux: MuxId)
+        requires { Keeps stage.now (reverse events.now) self.old }
+        ensures { (e : Event) → e.what ≡ What.Steer packet mux → Keeps stage.now (e ∷ reverse events.now) self.new }
     {
-        let owner = self.accepts.get_for(segment_of(stage, packet));
-        set_owner(&mut self.owners, packet, owner)
+        let sent = Sent {
+            mux,
+            version: self.version(events, mux),
+            owner: self.accepts.get_for(segment_of(stage, packet)),
+        };
+        set_sent(&mut self.packets, packet, sent)
     }
 
     #[tactic(auto, using(crate::proofs::Keeping::kept_arrival))]
     fn note_arrival(
         &mut self,
         stage: &Stage,
+        events: &[Event],
         packet: u32,
         hop: Hop,
         server: ServerId,
         verdict: Verdict,
     ) -> Result<(), AllocError>
-        ensures { (past : List Event) (e : Event) → e.what ≡ What.Arrive packet hop server verdict
-            → Keeps stage.now past self.old → OnOk result (Keeps stage.now (e ∷ past) self.new) }
+        requires { Keeps stage.now (reverse events.now) self.old }
+        ensures { (e : Event) → e.what ≡ What.Arrive packet hop server verdict
+            → OnOk result (Keeps stage.now (e ∷ reverse events.now) self.new) }
     {
+        let owner = Owner {
+            server,
+            version: self.version_sent(stage, events, packet),
+            place: events.len(),
+        };
         self.accepts
-            .put_for(segment_of(stage, packet), server, verdict)
+            .put_for(segment_of(stage, packet), owner, verdict)
     }
 
-    /// Takes note of one event more.
-    pub(crate) fn note(&mut self, stage: &Stage, event: &Event) -> Result<(), AllocError>
-        ensures { (past : List Event) → Keeps stage.now past self.old
-            → OnOk result (Keeps stage.now (event.now ∷ past) self.new) }
+    /// Takes note of the event that comes after these.
+    pub(crate) fn note(
+        &mut self,
+        stage: &Stage,
+        events: &[Event],
+        event: &Event,
+    ) -> Result<(), AllocError>
+        requires { Keeps stage.now (reverse events.now) self.old }
+        ensures { OnOk result (Keeps stage.now (event.now ∷ reverse events.now) self.new) }
     {
         match event.what {
+            What::Publish(version) => self.note_publish(stage, version),
             What::Switch { mux, version } => self.note_switch(stage, mux, version),
-            What::Steer { packet, mux } => self.note_steer(stage, packet, mux),
+            What::Steer { packet, mux } => self.note_steer(stage, events, packet, mux),
             What::Arrive {
                 packet,
                 hop,
                 server,
                 verdict,
-            } => return self.note_arrival(stage, packet, hop, server, verdict),
-            What::Publish(_)
-            | What::Lose { .. }
-            | What::Close { .. }
-            | What::Retire { .. }
-            | What::Sync => {}
+            } => return self.note_arrival(stage, events, packet, hop, server, verdict),
+            What::Lose { .. } | What::Close { .. } | What::Retire { .. } | What::Sync => {}
         }
         Ok(())
     }
@@ -206,7 +242,7 @@ impl Running {
         match wish(stage, packet, verdict) {
             Wants::Never => false,
             Wants::Always => true,
-            Wants::UnlessOwned => self.owner(stage, events, packet) != Some(server),
+            Wants::UnlessOwned => owner_server(self.sent(stage, events, packet)) != Some(server),
         }
     }
 
@@ -225,10 +261,15 @@ impl Running {
         ensures { result ≡ causes.cause_at stage.now (reverse events.now) clock.0 server verdict.now
             (past.owner stage.now (reverse events.now) packet) (past.segment_of stage.now packet) (past.label_of stage.now (reverse events.now) packet) }
     {
-        if self.wants_cause(stage, events, packet, server, verdict) {
-            wanted_cause(stage, events, clock, packet, server, verdict)
+        if !self.wants_cause(stage, events, packet, server, verdict) {
+            return None;
+        }
+        let segment = segment_of(stage, packet)?;
+        let sent = self.sent(stage, events, packet)?;
+        if is_opening(&segment) {
+            opening_cause(verdict, sent.version.0, self.newest.0)
         } else {
-            None
+            first_broken(stage, events, clock, &segment.flow, server, &sent)
         }
     }
 

@@ -1,4 +1,4 @@
-use Rattle.std.proofs.Common.{[], inl, inr, refl, arith}
+use Rattle.std.proofs.Common.{[], inr, refl, arith}
 use Rattle.bm_cli.proofs.Writing.{appends_nothing}
 use Rattle.bm_cli.proofs.show.show.Goals as goal
 

@@ -1,9 +1,11 @@
-use Rattle.std.proofs.Common.{◌≡◌}
-use Rattle.bm_replay.specs.Players.{IsPlaying, work}
+use Rattle.std.proofs.Common.{◌≡◌, ◌-◌, length}
+use Rattle.bm_fault.specs.Faults.{Gives}
+use Rattle.bm_route.specs.Routes.{Answers}
+use Rattle.bm_replay.specs.Playing.{IsPlaying}
 use Rattle.bm_replay.proofs.replaying.replay.Given as goal
 
 abbrev pub invariant-loop-player : goal.invariant-loop-player
-invariant-loop-player l = (l.player.stage ≡ l.fn.stage) × IsPlaying l.player
+invariant-loop-player g l = (l.player.stage ≡ l.fn.stage) × IsPlaying (Answers g.R.Fn l.route.rule) (Gives g.F.Fn l.faults.rule) l.player
 
 abbrev pub decreases-loop-player : goal.decreases-loop-player
-decreases-loop-player l = work l.player
+decreases-loop-player g l = 6859841 - length l.player.events

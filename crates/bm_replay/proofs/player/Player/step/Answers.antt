@@ -1,21 +1,67 @@
-use Rattle.bm_replay.proofs.Turning.{turn_arrives, turn_arrived, turn_steers, turn_steered, turn_over}
+use Rattle.std.proofs.Common.{◌≡◌, refl, sym, arith}
+use Rattle.bm_fault.specs.Faults.{Gives}
+use Rattle.bm_route.specs.Routes.{Answers}
+use Rattle.bm_replay.specs.declared.turn.Turn.TheVariants.{Arrive, Call, Over}
+use Rattle.bm_replay.specs.Players.{turn_for}
+use Rattle.bm_replay.proofs.Arriving.{arrived, can_arrive}
+use Rattle.bm_replay.proofs.Ends.{ends}
+use Rattle.bm_replay.proofs.Ready.{ready_copy}
+use Rattle.bm_replay.proofs.Sending.{lost, loss_low}
+use Rattle.bm_replay.proofs.Turning.{call_fits, copy_fits}
 use Rattle.bm_replay.proofs.player.Player.step.Goals as goal
 
-pub arrive-requires : goal.arrive-requires
-arrive-requires c =
-    let can = turn_arrives c.args.self.now c.seek-packet.new.self c.seek-packet.result c.in-Arrive.copy c.requires c.seek-packet.ensures c.in-Arrive.ensures
-    in record { can = can.0; first = can.1 }
+pub lose-requires : goal.lose-requires
+lose-requires g c =
+    let h = loss_low (Answers g.R.Fn c.args.route.now.rule) (Gives g.F.Fn c.args.faults.now.rule) c.args.self.now c.requires.playing in omega arith
 
-pub steer-requires : goal.steer-requires
-steer-requires c = turn_steers c.args.self.now c.seek-packet.new.self c.seek-packet.result c.in-Steer.packet c.requires c.seek-packet.ensures c.in-Steer.ensures
+pub returns-in-Some : goal.returns-in-Some
+returns-in-Some g c =
+    lost (Answers g.R.Fn c.args.route.now.rule) (Gives g.F.Fn c.args.faults.now.rule) c.args.self.now c.lose.new.self c.in-Some.loss c.requires.playing c.in-Some.is c.in_ok-lose.ensures
+
+pub next_clock-clock-requires-clause-last : goal.next_clock-clock-requires-clause-last
+next_clock-clock-requires-clause-last g c =
+    let turn : Arrive c.in-Arrive.moment ≡ turn_for c.args.self.now = c.in-Arrive.ensures
+    in let h = copy_fits (Answers g.R.Fn c.args.route.now.rule) (Gives g.F.Fn c.args.faults.now.rule) c.args.self.now c.in-Arrive.moment c.requires.playing c.in_default.is (sym turn)
+    in omega arith
+
+pub next_clock-clock-requires-clause-cause : goal.next_clock-clock-requires-clause-cause
+next_clock-clock-requires-clause-cause g c =
+    let turn : Arrive c.in-Arrive.moment ≡ turn_for c.args.self.now = c.in-Arrive.ensures
+    in let h = copy_fits (Answers g.R.Fn c.args.route.now.rule) (Gives g.F.Fn c.args.faults.now.rule) c.args.self.now c.in-Arrive.moment c.requires.playing c.in_default.is (sym turn)
+    in omega arith
+
+pub arrive-requires-clause-can : goal.arrive-requires-clause-can
+arrive-requires-clause-can g c =
+    let turn : Arrive c.in-Arrive.moment ≡ turn_for c.args.self.now = c.in-Arrive.ensures
+    in can_arrive (Answers g.R.Fn c.args.route.now.rule) (Gives g.F.Fn c.args.faults.now.rule) c.args.self.now c.next_clock-clock.result (ready_copy (Answers g.R.Fn c.args.route.now.rule) (Gives g.F.Fn c.args.faults.now.rule) c.args.self.now c.next_clock-clock.result c.in-Arrive.moment (record { playing = c.requires.playing; none_lost = c.in_default.is; is_turn = sym turn; is_clock = c.next_clock-clock.ensures }))
+
+pub next_clock-clock-requires-in-Call-clause-last : goal.next_clock-clock-requires-in-Call-clause-last
+next_clock-clock-requires-in-Call-clause-last g c =
+    let turn : Call c.in-Call.due ≡ turn_for c.args.self.now = c.in-Call.ensures
+    in let h = call_fits (Answers g.R.Fn c.args.route.now.rule) (Gives g.F.Fn c.args.faults.now.rule) c.args.self.now c.in-Call.due c.requires.playing c.in_default.is (sym turn)
+    in omega arith
+
+pub next_clock-clock-requires-in-Call-clause-cause : goal.next_clock-clock-requires-in-Call-clause-cause
+next_clock-clock-requires-in-Call-clause-cause g c =
+    let turn : Call c.in-Call.due ≡ turn_for c.args.self.now = c.in-Call.ensures
+    in let h = call_fits (Answers g.R.Fn c.args.route.now.rule) (Gives g.F.Fn c.args.faults.now.rule) c.args.self.now c.in-Call.due c.requires.playing c.in_default.is (sym turn)
+    in omega arith
+
+pub carry_out-requires-clause-coming : goal.carry_out-requires-clause-coming
+carry_out-requires-clause-coming g c =
+    let turn : Call c.in-Call.due ≡ turn_for c.args.self.now = c.in-Call.ensures
+    in record { playing = c.requires.playing; none_lost = c.in_default.is; is_turn = sym turn; is_clock = c.next_clock-clock-in-Call.ensures }
 
 pub returns-in-Over : goal.returns-in-Over
-returns-in-Over c = turn_over c.args.self.now c.seek-packet.new.self c.seek-packet.result c.requires c.seek-packet.ensures c.in-Over.ensures
+returns-in-Over g c =
+    let turn : Over ≡ turn_for c.args.self.now = c.in-Over.ensures
+    in (refl, ends (Answers g.R.Fn c.args.route.now.rule) (Gives g.F.Fn c.args.faults.now.rule) c.args.self.now c.requires.playing c.in_default.is (sym turn))
 
 pub returns-in_ok-arrive-in-Arrive : goal.returns-in_ok-arrive-in-Arrive
-returns-in_ok-arrive-in-Arrive c =
-    turn_arrived c.args.self.now c.seek-packet.new.self c.arrive.new.self c.seek-packet.result c.in-Arrive.copy c.requires c.seek-packet.ensures c.in-Arrive.ensures c.in_ok-arrive-in-Arrive.ensures
+returns-in_ok-arrive-in-Arrive g c =
+    let turn : Arrive c.in-Arrive.moment ≡ turn_for c.args.self.now = c.in-Arrive.ensures
+    in arrived (Answers g.R.Fn c.args.route.now.rule) (Gives g.F.Fn c.args.faults.now.rule) c.args.self.now c.arrive.new.self c.next_clock-clock.result (ready_copy (Answers g.R.Fn c.args.route.now.rule) (Gives g.F.Fn c.args.faults.now.rule) c.args.self.now c.next_clock-clock.result c.in-Arrive.moment (record { playing = c.requires.playing; none_lost = c.in_default.is; is_turn = sym turn; is_clock = c.next_clock-clock.ensures })) c.in_ok-arrive-in-Arrive.ensures
 
-pub returns-in_ok-steer-in-Steer : goal.returns-in_ok-steer-in-Steer
-returns-in_ok-steer-in-Steer c =
-    turn_steered c.args.self.now c.seek-packet.new.self c.steer.new.self c.seek-packet.result c.in-Steer.packet c.requires c.seek-packet.ensures c.in-Steer.ensures c.in_ok-steer-in-Steer.ensures
+pub returns-in_ok-carry_out-in-Call : goal.returns-in_ok-carry_out-in-Call
+returns-in_ok-carry_out-in-Call g c =
+    c.in_ok-carry_out-in-Call.ensures

@@ -1,0 +1,83 @@
+-- What is read of a script, from its source and from the files.
+use Rattle.std.proofs.Common.{◌≡◌, inl, inr, ℕ, zero, suc, ◌≤◌, ◌<◌, List, Option, Some, None, Result, Ok, Err, IsErrAnd, take, length, min, true, false, sym, ap, subst, ◌∙◌, refl, arith, nat_lt}
+use Rattle.bm_io.specs.Causes.{Rose}
+use Rattle.std.proofs.lemmas.Bool.Decides.{nat_tests}
+use Rattle.std.proofs.lemmas.List.{length-take, take_min}
+use Rattle.std.proofs.Math.Seq.{take-length}
+use Rattle.bm_script.specs.declared.fault.ScriptFault.{ScriptFault}
+use Rattle.bm_script.specs.declared.fault.ScriptFault.TheVariants.{NotToml, Missing, BadValue, Unknown, Refused, Memory as ScriptMemory}
+use Rattle.bm_script.specs.Faults.{Gives}
+use Rattle.bm_script.specs.Scripts.{script_of}
+use Rattle.bm_table.specs.declared.script.Script.{Script}
+use Rattle.bm_cli.specs.declared.fault.StageFault.{StageFault}
+use Rattle.bm_cli.specs.declared.fault.StageFault.TheVariants.{LongScript, Script as OfScript}
+use Rattle.bm_cli.specs.Counts.{IsLater}
+use Rattle.bm_cli.specs.Fleet.{plain_script}
+use Rattle.bm_cli.specs.Reading.{HasFront, IsOutside, IsRead, Octets, ReadsScript, script_in, with_script_fault}
+
+-- a source that was closed leaves the files' count no lower
+pub closed_later : (before opened after faults : ℕ) → before ≤ opened → (0 < faults → Rose opened after) → (faults ≡ 0 → after ≡ opened) → IsLater before after
+closed_later before opened after zero low counted same = let e : after ≡ opened = same refl in omega (arith, low, e)
+closed_later before opened after (suc n) low counted same = let rose : Rose opened after = counted (omega arith) in omega (arith, low, rose)
+
+-- a fault of a source is one of the files once it was closed
+pub closed_rose : (before opened after start faults : ℕ) → before ≤ opened → start ≡ 0 → Rose start faults → (0 < faults → Rose opened after) → Rose before after
+closed_rose before opened after start faults low new rose counted =
+    let some : 0 < faults = omega (arith, new, rose) in
+    let more : Rose opened after = counted some in
+    omega (arith, low, more)
+
+-- what rose later rose
+pub rose_behind : (a b c : ℕ) → IsLater a b → Rose b c → Rose a c
+rose_behind a b c later rose = omega (arith, later, rose)
+
+-- THE TEXT
+
+-- more octets than there may be were read
+pub too_long : (octets text : List ℕ) → text ≡ take 1048577 octets → 1048576 < length text → script_in octets ≡ Err LongScript
+too_long octets text front more =
+    let len : length text ≡ min 1048577 (length octets) = ap length front ∙ length-take 1048577 octets in
+    let long : nat_lt 1048576 (length octets) ≡ true = grind (arith, nat_tests, len, more) in
+    rw long refl
+
+-- no more octets were read than there may be, so these are all
+pub all_read : (octets text : List ℕ) → text ≡ take 1048577 octets → length text ≤ 1048576 → script_in octets ≡ with_script_fault (script_of text)
+all_read octets text front few =
+    let len : length text ≡ min 1048577 (length octets) = ap length front ∙ length-take 1048577 octets in
+    let short : nat_lt 1048576 (length octets) ≡ false = grind (arith, nat_tests, len, few) in
+    let least : min 1048577 (length octets) ≡ length octets = omega (arith, len, few) in
+    let whole : take 1048577 octets ≡ octets = sym (take_min 1048577 octets) ∙ ap (λ n. take n octets) least ∙ take-length octets in
+    rw short (ap (λ (t : List ℕ). with_script_fault (script_of t)) (sym (front ∙ whole)))
+
+pub script_is : (octets text : List ℕ) (script : Script) → text ≡ take 1048577 octets → length text ≤ 1048576 → Gives (Ok script) (script_of text) → script_in octets ≡ Ok script
+script_is octets text script front few gives = all_read octets text front few ∙ ap with_script_fault gives
+
+fault_is : (octets text : List ℕ) (fault : ScriptFault) → text ≡ take 1048577 octets → length text ≤ 1048576 → script_of text ≡ Err fault → IsRead (script_in octets) (Err (OfScript fault))
+fault_is octets text fault front few is = inr (all_read octets text front few ∙ ap with_script_fault is)
+
+pub script_fault : (octets text : List ℕ) (fault : ScriptFault) → text ≡ take 1048577 octets → length text ≤ 1048576 → Gives (Err fault) (script_of text) → IsRead (script_in octets) (Err (OfScript fault))
+script_fault octets text NotToml front few gives = fault_is octets text NotToml front few (gives (λ e. cc))
+script_fault octets text (Missing place key) front few gives = fault_is octets text (Missing place key) front few (gives (λ e. cc))
+script_fault octets text (BadValue place key) front few gives = fault_is octets text (BadValue place key) front few (gives (λ e. cc))
+script_fault octets text (Unknown place name) front few gives = fault_is octets text (Unknown place name) front few (gives (λ e. cc))
+script_fault octets text (Refused n refusal) front few gives = fault_is octets text (Refused n refusal) front few (gives (λ e. cc))
+script_fault octets text ScriptMemory front few gives = inl (inr refl)
+
+-- THE FILE
+
+pub script_read : (told : Octets) (name text : List ℕ) (result : Result Script StageFault) → HasFront told name 1048577 text → ((octets : List ℕ) → text ≡ take 1048577 octets → IsRead (script_in octets) result) → ReadsScript told (Some name) result
+script_read None name text result front reads = tt
+script_read (Some octets) name text result front reads = reads (octets name) front
+
+pub script_unread : (told : Octets) (name : Option (List ℕ)) (fault : StageFault) → IsOutside fault → ReadsScript told name (Err fault)
+script_unread None name fault outside = tt
+script_unread (Some octets) name fault outside = inl outside
+
+pub script_plain : (told : Octets) → ReadsScript told None (Ok plain_script)
+script_plain None = tt
+script_plain (Some octets) = refl
+
+-- a fault that came through `?`
+pub read_err : {A : Type 0} (due r : Result A StageFault) (fault : StageFault) → IsErrAnd r (λ e. e ≡ fault) → IsRead due (Err fault) → IsRead due r
+read_err due (Ok x) fault is read = absurd is
+read_err due (Err e) fault is read = subst (λ f. IsRead due (Err f)) (sym is) read

@@ -1,0 +1,4 @@
+pub mod Addresses
+pub mod Faults
+pub mod Spellings
+pub mod Tags

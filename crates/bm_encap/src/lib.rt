@@ -1,0 +1,17 @@
+//! Carrier headers: a packet on its way to a server, with what a mux wrote on it (IPv4 in IPv4, with
+//! an option).
+#![tactic(auto)]
+
+mod address;
+mod fault;
+mod header;
+pub mod laws;
+mod read;
+
+pub use address::{mux_addr, server_addr, server_of};
+pub use fault::EncapFault;
+pub use header::{set_chained, wrap};
+pub use read::unwrap;
+
+#[cfg(test)]
+mod tests;

@@ -1,0 +1,372 @@
+ghost use Rattle.std.specs.Prelude.{◌≡◌, ◌<◌, ◌≤◌, length};
+
+use super::EncapFault::{BadLength, BadOption, BadOuter, BadSum, Short};
+use super::*;
+use bm_base::{Hop, Moment, MuxId, ServerId, Tag, Version};
+use bm_ipv4::header_sum;
+use std::process::Abort;
+use std::test::Fail;
+
+// The carrier header of a packet of 50 octets from mux 0 at version 1, direct to server 2, where
+// server 1 had the bucket until the moment 500.
+const DIRECT: [u8; 44] = [
+    0x4b, 0x00, 0x00, 0x5e, 0x00, 0x00, 0x40, 0x00, 0x40, 0x04, 0x90, 0x4a, 0xac, 0x1f, 0x00, 0x00,
+    0xac, 0x10, 0x00, 0x02, 0x9e, 0x18, 0x00, 0x01, 0xac, 0x10, 0x00, 0x01, 0x00, 0x00, 0x00, 0x00,
+    0x00, 0x00, 0x01, 0xf4, 0x00, 0x00, 0x00, 0x01, 0x00, 0x00, 0x00, 0x00,
+];
+
+// The header of its next hop, to server 1.
+const CHAINED: [u8; 44] = [
+    0x4b, 0x00, 0x00, 0x5e, 0x00, 0x00, 0x40, 0x00, 0x40, 0x04, 0x8f, 0x4b, 0xac, 0x1f, 0x00, 0x00,
+    0xac, 0x10, 0x00, 0x01, 0x9e, 0x18, 0x01, 0x01, 0xac, 0x10, 0x00, 0x01, 0x00, 0x00, 0x00, 0x00,
+    0x00, 0x00, 0x01, 0xf4, 0x00, 0x00, 0x00, 0x01, 0x00, 0x00, 0x00, 0x00,
+];
+
+fn tag() -> Tag {
+    Tag {
+        hop: Hop::Direct,
+        dest: ServerId(2),
+        prev: Some(ServerId(1)),
+        stamp: Moment(500),
+        version: Version(1),
+        mux: MuxId(0),
+    }
+}
+
+// The header and 50 octets behind it.
+fn packet(header: &[u8; 44]) -> [u8; 94] {
+    let mut octets = [7; 94];
+    for (octet, given) in octets.iter_mut().zip(header) {
+        *octet = *given;
+    }
+    octets
+}
+
+// Makes the checksum right.
+fn mend(octets: &mut [u8; 94]) {
+    octets[10] = 0;
+    octets[11] = 0;
+    let [high, low] = header_sum(&octets[..44]).to_be_bytes();
+    octets[10] = high;
+    octets[11] = low;
+}
+
+// At each place of a range, the header with that octet changed has this fault.
+fn assert_damaged(
+    rt: &impl Abort,
+    header: &[u8; 44],
+    mended: bool,
+    change: u8,
+    rows: &[(usize, usize, Option<EncapFault>)],
+) {
+    for (first, last, want) in rows {
+        for place in *first..last.saturating_add(1) {
+            let mut octets = packet(header);
+            if let Some(octet) = octets.get_mut(place) {
+                *octet ^= change;
+            }
+            if mended {
+                mend(&mut octets);
+            }
+            assert_eq!(rt; unwrap(&octets).err(), *want, "at {place}");
+        }
+    }
+}
+
+#[test]
+fn an_octet_is_changed_01(rt: HostRuntime) {
+    let rows = [
+        (0, 0, Some(BadOuter(0))),
+        (1, 1, Some(BadOuter(1))),
+        (2, 3, Some(BadSum)),
+        (4, 4, Some(BadOuter(4))),
+        (5, 5, Some(BadOuter(5))),
+        (6, 6, Some(BadOuter(6))),
+        (7, 7, Some(BadOuter(7))),
+        (8, 8, Some(BadOuter(8))),
+        (9, 9, Some(BadOuter(9))),
+        (10, 11, Some(BadSum)),
+        (12, 14, Some(BadOuter(12))),
+        (15, 15, Some(BadSum)),
+        (16, 17, Some(BadOuter(16))),
+        (18, 43, Some(BadSum)),
+    ];
+    assert_damaged(&rt, &DIRECT, false, 0x01, &rows);
+}
+
+#[test]
+fn an_octet_is_changed_80(rt: HostRuntime) {
+    let rows = [
+        (0, 0, Some(BadOuter(0))),
+        (1, 1, Some(BadOuter(1))),
+        (2, 3, Some(BadSum)),
+        (4, 4, Some(BadOuter(4))),
+        (5, 5, Some(BadOuter(5))),
+        (6, 6, Some(BadOuter(6))),
+        (7, 7, Some(BadOuter(7))),
+        (8, 8, Some(BadOuter(8))),
+        (9, 9, Some(BadOuter(9))),
+        (10, 11, Some(BadSum)),
+        (12, 15, Some(BadOuter(12))),
+        (16, 18, Some(BadOuter(16))),
+        (19, 43, Some(BadSum)),
+    ];
+    assert_damaged(&rt, &DIRECT, false, 0x80, &rows);
+}
+
+#[test]
+fn an_octet_is_changed_ff(rt: HostRuntime) {
+    let rows = [
+        (0, 0, Some(BadOuter(0))),
+        (1, 1, Some(BadOuter(1))),
+        (2, 3, Some(BadSum)),
+        (4, 4, Some(BadOuter(4))),
+        (5, 5, Some(BadOuter(5))),
+        (6, 6, Some(BadOuter(6))),
+        (7, 7, Some(BadOuter(7))),
+        (8, 8, Some(BadOuter(8))),
+        (9, 9, Some(BadOuter(9))),
+        (10, 11, Some(BadSum)),
+        (12, 15, Some(BadOuter(12))),
+        (16, 18, Some(BadOuter(16))),
+        (19, 43, Some(BadSum)),
+    ];
+    assert_damaged(&rt, &DIRECT, false, 0xff, &rows);
+}
+
+#[test]
+fn an_octet_is_changed_and_the_checksum_too_01(rt: HostRuntime) {
+    let rows = [
+        (0, 0, Some(BadOuter(0))),
+        (1, 1, Some(BadOuter(1))),
+        (2, 3, Some(BadLength)),
+        (4, 4, Some(BadOuter(4))),
+        (5, 5, Some(BadOuter(5))),
+        (6, 6, Some(BadOuter(6))),
+        (7, 7, Some(BadOuter(7))),
+        (8, 8, Some(BadOuter(8))),
+        (9, 9, Some(BadOuter(9))),
+        (10, 11, None),
+        (12, 14, Some(BadOuter(12))),
+        (15, 15, Some(BadOption(40))),
+        (16, 17, Some(BadOuter(16))),
+        (18, 19, None),
+        (20, 20, Some(BadOption(20))),
+        (21, 21, Some(BadOption(21))),
+        (22, 25, Some(BadOption(24))),
+        (26, 26, None),
+        (27, 27, Some(BadOption(24))),
+        (28, 39, None),
+        (40, 41, Some(BadOption(40))),
+        (42, 43, Some(BadOption(42))),
+    ];
+    assert_damaged(&rt, &DIRECT, true, 0x01, &rows);
+}
+
+#[test]
+fn an_octet_is_changed_and_the_checksum_too_80(rt: HostRuntime) {
+    let rows = [
+        (0, 0, Some(BadOuter(0))),
+        (1, 1, Some(BadOuter(1))),
+        (2, 3, Some(BadLength)),
+        (4, 4, Some(BadOuter(4))),
+        (5, 5, Some(BadOuter(5))),
+        (6, 6, Some(BadOuter(6))),
+        (7, 7, Some(BadOuter(7))),
+        (8, 8, Some(BadOuter(8))),
+        (9, 9, Some(BadOuter(9))),
+        (10, 11, None),
+        (12, 15, Some(BadOuter(12))),
+        (16, 18, Some(BadOuter(16))),
+        (19, 19, None),
+        (20, 20, Some(BadOption(20))),
+        (21, 21, Some(BadOption(21))),
+        (22, 22, Some(BadOption(22))),
+        (23, 23, Some(BadOption(23))),
+        (24, 26, Some(BadOption(24))),
+        (27, 39, None),
+        (40, 41, Some(BadOption(40))),
+        (42, 43, Some(BadOption(42))),
+    ];
+    assert_damaged(&rt, &DIRECT, true, 0x80, &rows);
+}
+
+#[test]
+fn an_octet_is_changed_and_the_checksum_too_ff(rt: HostRuntime) {
+    let rows = [
+        (0, 0, Some(BadOuter(0))),
+        (1, 1, Some(BadOuter(1))),
+        (2, 3, Some(BadLength)),
+        (4, 4, Some(BadOuter(4))),
+        (5, 5, Some(BadOuter(5))),
+        (6, 6, Some(BadOuter(6))),
+        (7, 7, Some(BadOuter(7))),
+        (8, 8, Some(BadOuter(8))),
+        (9, 9, Some(BadOuter(9))),
+        (10, 11, None),
+        (12, 15, Some(BadOuter(12))),
+        (16, 18, Some(BadOuter(16))),
+        (19, 19, None),
+        (20, 20, Some(BadOption(20))),
+        (21, 21, Some(BadOption(21))),
+        (22, 22, Some(BadOption(22))),
+        (23, 23, Some(BadOption(23))),
+        (24, 26, Some(BadOption(24))),
+        (27, 39, None),
+        (40, 41, Some(BadOption(40))),
+        (42, 43, Some(BadOption(42))),
+    ];
+    assert_damaged(&rt, &DIRECT, true, 0xff, &rows);
+}
+
+#[test]
+fn an_octet_of_a_chained_header_is_changed_and_the_checksum_too_01(rt: HostRuntime) {
+    let rows = [
+        (0, 0, Some(BadOuter(0))),
+        (1, 1, Some(BadOuter(1))),
+        (2, 3, Some(BadLength)),
+        (4, 4, Some(BadOuter(4))),
+        (5, 5, Some(BadOuter(5))),
+        (6, 6, Some(BadOuter(6))),
+        (7, 7, Some(BadOuter(7))),
+        (8, 8, Some(BadOuter(8))),
+        (9, 9, Some(BadOuter(9))),
+        (10, 11, None),
+        (12, 14, Some(BadOuter(12))),
+        (15, 15, Some(BadOption(40))),
+        (16, 17, Some(BadOuter(16))),
+        (18, 18, Some(BadOption(24))),
+        (19, 19, Some(BadOuter(16))),
+        (20, 20, Some(BadOption(20))),
+        (21, 21, Some(BadOption(21))),
+        (22, 22, Some(BadOption(24))),
+        (23, 23, Some(BadOption(23))),
+        (24, 27, Some(BadOption(24))),
+        (28, 39, None),
+        (40, 41, Some(BadOption(40))),
+        (42, 43, Some(BadOption(42))),
+    ];
+    assert_damaged(&rt, &CHAINED, true, 0x01, &rows);
+}
+
+#[test]
+fn an_octet_of_a_chained_header_is_changed_and_the_checksum_too_80(rt: HostRuntime) {
+    let rows = [
+        (0, 0, Some(BadOuter(0))),
+        (1, 1, Some(BadOuter(1))),
+        (2, 3, Some(BadLength)),
+        (4, 4, Some(BadOuter(4))),
+        (5, 5, Some(BadOuter(5))),
+        (6, 6, Some(BadOuter(6))),
+        (7, 7, Some(BadOuter(7))),
+        (8, 8, Some(BadOuter(8))),
+        (9, 9, Some(BadOuter(9))),
+        (10, 11, None),
+        (12, 15, Some(BadOuter(12))),
+        (16, 18, Some(BadOuter(16))),
+        (19, 19, Some(BadOption(24))),
+        (20, 20, Some(BadOption(20))),
+        (21, 21, Some(BadOption(21))),
+        (22, 22, Some(BadOption(22))),
+        (23, 23, Some(BadOption(23))),
+        (24, 27, Some(BadOption(24))),
+        (28, 39, None),
+        (40, 41, Some(BadOption(40))),
+        (42, 43, Some(BadOption(42))),
+    ];
+    assert_damaged(&rt, &CHAINED, true, 0x80, &rows);
+}
+
+#[test]
+fn an_octet_of_a_chained_header_is_changed_and_the_checksum_too_ff(rt: HostRuntime) {
+    let rows = [
+        (0, 0, Some(BadOuter(0))),
+        (1, 1, Some(BadOuter(1))),
+        (2, 3, Some(BadLength)),
+        (4, 4, Some(BadOuter(4))),
+        (5, 5, Some(BadOuter(5))),
+        (6, 6, Some(BadOuter(6))),
+        (7, 7, Some(BadOuter(7))),
+        (8, 8, Some(BadOuter(8))),
+        (9, 9, Some(BadOuter(9))),
+        (10, 11, None),
+        (12, 15, Some(BadOuter(12))),
+        (16, 18, Some(BadOuter(16))),
+        (19, 19, Some(BadOption(24))),
+        (20, 20, Some(BadOption(20))),
+        (21, 21, Some(BadOption(21))),
+        (22, 22, Some(BadOption(22))),
+        (23, 23, Some(BadOption(23))),
+        (24, 27, Some(BadOption(24))),
+        (28, 39, None),
+        (40, 41, Some(BadOption(40))),
+        (42, 43, Some(BadOption(42))),
+    ];
+    assert_damaged(&rt, &CHAINED, true, 0xff, &rows);
+}
+
+#[test]
+fn a_header_is_read_and_spelled(rt: HostRuntime) -> Result<(), Fail> {
+    let octets = packet(&DIRECT);
+    let (read, inner) = unwrap(&octets)?;
+    assert_eq!(rt; read, tag());
+    assert!(rt; inner == [7; 50].as_slice());
+    let mut out = vec![in rt.alloc(); 9]?;
+    wrap(&read, inner, &mut out)?;
+    assert_eq!(rt; out.first().copied(), Some(9));
+    assert!(rt; &out[1..] == octets.as_slice());
+    Ok(())
+}
+
+#[test]
+fn the_next_hop_is_written_in_place(rt: HostRuntime) {
+    let mut octets = packet(&DIRECT);
+    assert!(rt; set_chained(&mut octets) == Ok(()));
+    assert!(rt; octets == packet(&CHAINED));
+    assert!(rt; set_chained(&mut octets) == Err(BadOption(22)));
+    assert!(rt; octets == packet(&CHAINED));
+    // A direct packet without a previous server.
+    let mut alone = packet(&DIRECT);
+    alone[23] = 0;
+    alone[26] = 0;
+    alone[25] = 0;
+    alone[24] = 0;
+    alone[27] = 0;
+    alone[34] = 0;
+    alone[35] = 0;
+    mend(&mut alone);
+    let before = alone;
+    assert!(rt; unwrap(&alone).is_ok());
+    assert!(rt; set_chained(&mut alone) == Err(BadOption(23)));
+    assert!(rt; alone == before);
+}
+
+#[test]
+fn octets_are_cut_or_added(rt: HostRuntime) {
+    let octets = packet(&DIRECT);
+    for len in 0..94 {
+        let want = if len < 44 { Short } else { BadLength };
+        assert_eq!(rt; unwrap(&octets[..len]).err(), Some(want), "at {len}");
+    }
+    let mut longer = [7; 95];
+    for (octet, given) in longer.iter_mut().zip(&octets) {
+        *octet = *given;
+    }
+    assert_eq!(rt; unwrap(&longer).err(), Some(BadLength));
+}
+
+#[test]
+fn servers_and_muxes_have_addresses(rt: HostRuntime) {
+    let rows = [
+        (0xac10_0000, None),
+        (0xac10_0001, Some(ServerId(1))),
+        (0xac10_0400, Some(ServerId(1_024))),
+        (0xac10_0401, None),
+        (0xac0f_ffff, None),
+    ];
+    for (addr, server) in rows {
+        assert_eq!(rt; server_of(addr), server);
+    }
+    assert_eq!(rt; server_addr(ServerId(2)), 0xac10_0002);
+    assert_eq!(rt; mux_addr(MuxId(63)), 0xac1f_003f);
+}

@@ -1,0 +1,158 @@
+-- What an event leaves alone in the state.
+use Rattle.std.proofs.Common.{◌≡◌, ◌≢◌, ℕ, zero, suc, ◌+◌, ◌*◌, ◌<◌, ◌≤◌, Bool, true, false, cond, ◌&&◌, inl, inr, List, [], ◌∷◌, ◌++◌, Option, Some, None, length, slice_get, set, length-set, eqb, refl, sym, ap, subst, ◌∙◌, arith}
+use Rattle.std.specs.Prelude.{slice_index_or}
+use Rattle.std.proofs.lemmas.Bool.{cases_lt, and_parts, both_ways, eq-eqb, eqb-true}
+use Rattle.std.proofs.lemmas.List.{get_or-set_same, get_or-set_other}
+use Rattle.std.proofs.Math.Nat.{mul-le-mul_left, mul-le-mul_right}
+use Rattle.bm_base.specs.declared.ids.MuxId.{MuxId}
+use Rattle.bm_base.specs.declared.ids.ServerId.{ServerId}
+use Rattle.bm_table.specs.Tables.{next_change, same_server}
+use Rattle.bm_table.proofs.Tables.{same_server-true}
+use Rattle.bm_core.specs.declared.events.What.{What}
+use Rattle.bm_core.specs.declared.events.Event.{Event}
+use Rattle.bm_core.specs.declared.events.Stage.{Stage}
+use Rattle.bm_core.specs.declared.schedule.Call.{Call}
+use Rattle.bm_core.specs.declared.schedule.Due.{Due}
+use Rattle.bm_core.specs.Accounts.{counts}
+use Rattle.bm_core.specs.Books.{Turn, add_turn, book_of, turn_of}
+use Rattle.bm_core.specs.Past.{is_switch_of, version_at}
+use Rattle.bm_core.specs.Schedule.{call_of, closes, dropped, first_of, least, left, retires, steers, switch_due, switches_due, syncs}
+use Rattle.bm_replay.specs.declared.fleet.Mux.{Mux}
+use Rattle.bm_replay.specs.declared.queue.Queue.{Queue}
+use Rattle.bm_replay.specs.declared.shard.Shard.{Shard}
+use Rattle.bm_replay.specs.Connections.{empty_shard, shard_at}
+use Rattle.bm_replay.specs.Fleets.{HasTable, switches_of, version_in}
+use Rattle.bm_replay.specs.Playing.{KeepsMuxes, KeepsQueues}
+use Rattle.bm_replay.specs.Queues.{IsHead}
+use Rattle.bm_replay.specs.Shards.{IsLeftBy, KeepsBooks, place_of}
+use Rattle.bm_replay.proofs.Coming.{head_first}
+
+-- COUNTS
+
+pub count_stays : (test : What → Bool) (e : Event) (past : List Event) → test e.what ≡ false → counts (e ∷ past) test ≡ counts past test
+count_stays test e past other = rw other (omega arith)
+
+pub count_grows : (test : What → Bool) (e : Event) (past : List Event) → test e.what ≡ true → counts (e ∷ past) test ≡ suc (counts past test)
+count_grows test e past is = rw is (omega arith)
+
+-- QUEUES
+
+dropped_more : {X : Type 0} (n : ℕ) (xs : List X) → dropped (suc n) xs ≡ dropped 1 (dropped n xs)
+dropped_more zero xs = refl
+dropped_more (suc n) [] = refl
+dropped_more (suc n) (x ∷ xs) = dropped_more n xs
+
+-- what is left of another kind is left
+pub part_stays : (dues others : List Due) (h : Option Due) (past : List Event) (e : Event) (K : Call → Bool) → K (call_of e.what) ≡ false → IsHead (left dues past K) others h → IsHead (left dues (e ∷ past) K) others h
+part_stays dues others h past e K other is =
+    subst (λ (n : ℕ). IsHead (dropped n dues) others h) (sym (count_stays (λ what. K (call_of what)) e past other)) is
+
+-- the first of its kind came
+pub part_next : (dues others later : List Due) (h next : Option Due) (d : Due) (past : List Event) (e : Event) (K : Call → Bool) → K (call_of e.what) ≡ true → first_of (left dues past K) ≡ d ∷ []
+    → IsHead (left dues past K) others h → IsHead others later next → IsHead (left dues (e ∷ past) K) later next
+part_next dues others later h next d past e K is first old new =
+    let rest : left dues (e ∷ past) K ≡ others =
+    ap (λ (n : ℕ). dropped n dues) (count_grows (λ what. K (call_of what)) e past is)
+    ∙ (dropped_more (counts past (λ what. K (call_of what))) dues ∙ (head_first (left dues past K) others h d old first).1)
+    in subst (λ (l : List Due). IsHead l later next) (sym rest) new
+
+pub queues_stay : (stage : Stage) (past : List Event) (e : Event) (a b c d : Queue) → closes (call_of e.what) ≡ false → retires (call_of e.what) ≡ false → syncs (call_of e.what) ≡ false → steers (call_of e.what) ≡ false
+    → KeepsQueues stage past a b c d → KeepsQueues stage (e ∷ past) a b c d
+queues_stay stage past e a b c d w x y z keeps = record {
+  due_closes = part_stays _ _ _ past e closes w keeps.due_closes;
+  due_retires = part_stays _ _ _ past e retires x keeps.due_retires;
+  due_syncs = part_stays _ _ _ past e syncs y keeps.due_syncs;
+  due_packets = part_stays _ _ _ past e steers z keeps.due_packets;
+}
+
+-- MUXES
+
+same_switches : (stage : Stage) (past : List Event) (e : Event) → ((m : ℕ) → is_switch_of e.what m ≡ false) → (n : ℕ) → switches_due stage (e ∷ past) n ≡ switches_due stage past n
+same_switches stage past e none zero = refl
+same_switches stage past e none (suc m) =
+    let same : counts (e ∷ past) (λ what. is_switch_of what m) ≡ counts past (λ what. is_switch_of what m) = count_stays (λ what. is_switch_of what m) e past (none m)
+    in λ i. same_switches stage past e none m i
+    ++ switch_due stage.script.setting.muxes (slice_index_or stage.script.setting.lags m 0) m (same i) (next_change stage.script.plan (same i))
+
+pub muxes_stay : (stage : Stage) (past : List Event) (e : Event) (fleet : List Mux) (switch : Option Due) → ((m : ℕ) → is_switch_of e.what m ≡ false) → ((m : MuxId) → version_at (e ∷ past) m ≡ version_at past m)
+    → KeepsMuxes stage past fleet switch → KeepsMuxes stage (e ∷ past) fleet switch
+muxes_stay stage past e fleet switch none same keeps = record {
+  count = keeps.count;
+  tables = λ m below. subst (λ (n : ℕ). HasTable stage.script.plan n (slice_get fleet m)) (sym (count_stays (λ what. is_switch_of what m) e past (none m))) (keeps.tables m below);
+  versions = λ m. ap (λ (v : _). v.0) (same (record { 0 = m })) ∙ (keeps.versions m ∙ sym (count_stays (λ what. is_switch_of what m) e past (none m)));
+  soonest = keeps.soonest ∙ ap (λ (l : List Due). least l) (sym (same_switches stage past e none stage.script.setting.muxes));
+}
+
+version_here : (fleet : List Mux) (m : ℕ) (x : Mux) → slice_get fleet m ≡ Some x → version_in fleet m ≡ x.version
+version_here [] m x is = absurd (cc)
+version_here (y ∷ fleet) zero x is = let same : y ≡ x = cc in ap (λ (z : Mux). z.version) same
+version_here (y ∷ fleet) (suc m) x is = version_here fleet m x is
+
+-- the switches of muxes at these versions
+pub switches_are : (stage : Stage) (past : List Event) (fleet : List Mux) → ((m : ℕ) → m < stage.script.setting.muxes → HasTable stage.script.plan (counts past (λ what. is_switch_of what m)) (slice_get fleet m))
+    → (n : ℕ) → n ≤ stage.script.setting.muxes → switches_of stage.script.plan stage.script.setting.lags stage.script.setting.muxes fleet n ≡ switches_due stage past n
+switches_are stage past fleet tables zero below = refl
+switches_are stage past fleet tables (suc m) below =
+    let t = tables m (omega arith)
+    in let same : version_in fleet m ≡ counts past (λ what. is_switch_of what m) = version_here fleet m t.mux t.is_mux ∙ t.version
+    in λ i. switches_are stage past fleet tables m (omega arith) i
+    ++ switch_due stage.script.setting.muxes (slice_index_or stage.script.setting.lags m 0) m (same i) (next_change stage.script.plan (same i))
+
+-- BOOKS
+
+pub books_stay : (stage : Stage) (past : List Event) (e : Event) (shards : List Shard) → ((s : ServerId) (h : ℕ) → turn_of stage e.what s h ≡ None) → KeepsBooks stage past shards → KeepsBooks stage (e ∷ past) shards
+books_stay stage past e shards none keeps = record {
+  lie = keeps.lie;
+  books = λ s h few in_it. subst (λ (o : Option Turn). IsLeftBy (add_turn o (book_of stage past s h)) (shard_at shards (place_of stage s h))) (sym (none s h)) (keeps.books s h few in_it);
+}
+
+-- the place is one of the first 1025 times so many
+pub place_inside : (s shards h n : ℕ) → s ≤ 1024 → h < shards → 1025 * shards ≤ n → s * shards + h < n
+place_inside s shards h n few in_it lie = omega (arith, mul-le-mul_left shards few)
+
+place_unique : (a b shards x y : ℕ) → x < shards → y < shards → a * shards + x ≡ b * shards + y → (a ≡ b) × (x ≡ y)
+place_unique a b shards x y lx ly same = elim (cases_lt a b) [
+  | inl below ↦ let h : suc a * shards ≤ b * shards = mul-le-mul_right shards below in absurd (omega arith)
+  | inr up ↦ elim (cases_lt b a) [
+    | inl above ↦ let h : suc b * shards ≤ a * shards = mul-le-mul_right shards above in absurd (omega arith)
+    | inr down ↦ let e : a ≡ b = omega arith in (e, (let f : a * shards ≡ b * shards = ap (λ (n : ℕ). n * shards) e in omega arith))
+  ]
+]
+
+-- these shards are those, but for one
+pub record AreBut (place : ℕ) (x : Shard) (old new : List Shard) : Type 0 where
+  pub count : length new ≡ length old
+  pub here : shard_at new place ≡ x
+  pub others : (i : ℕ) → i ≢ place → shard_at new i ≡ shard_at old i
+
+pub set_one : (place : ℕ) (x : Shard) (shards : List Shard) → place < length shards → AreBut place x shards (set shards place x)
+set_one place x shards inside = record {
+  count = length-set shards place x;
+  here = get_or-set_same shards place x empty_shard inside;
+  others = λ i other. get_or-set_other shards place i x empty_shard other;
+}
+
+-- a shard had a turn
+pub books_more : (stage : Stage) (past : List Event) (e : Event) (old new : List Shard) (t : Turn) (server : ServerId) (shard : ℕ) (x : Shard) → server.0 ≤ 1024 → shard < stage.script.setting.shards
+    → ((s : ServerId) (h : ℕ) → turn_of stage e.what s h ≡ cond (same_server server s && eqb shard h) (Some t) None)
+    → AreBut (place_of stage server shard) x old new → IsLeftBy (t ∷ book_of stage past server shard) x → KeepsBooks stage past old → KeepsBooks stage (e ∷ past) new
+books_more stage past e old new t server shard x number in_range turn but left keeps = record {
+  lie = rw but.count keeps.lie;
+  books = λ s h few in_it. subst (λ (o : Option Turn). IsLeftBy (add_turn o (book_of stage past s h)) (shard_at new (place_of stage s h))) (sym (turn s h)) (by s h few in_it (same_server server s && eqb shard h) refl);
+} where
+  by : (s : ServerId) (h : ℕ) → s.0 ≤ 1024 → h < stage.script.setting.shards → (b : Bool) → (same_server server s && eqb shard h) ≡ b → IsLeftBy (add_turn (cond b (Some t) None) (book_of stage past s h)) (shard_at new (place_of stage s h))
+  by s h few in_it true is =
+      let parts = and_parts (same_server server s) (eqb shard h) is
+      in let a : server ≡ s = same_server-true server s parts.0
+      in let b : shard ≡ h = eqb-true shard h parts.1
+      in let there : IsLeftBy (t ∷ book_of stage past server shard) (shard_at new (place_of stage server shard)) = subst (λ (y : Shard). IsLeftBy (t ∷ book_of stage past server shard) y) (sym but.here) left
+      in subst (λ (n : ℕ). IsLeftBy (t ∷ book_of stage past s n) (shard_at new (place_of stage s n))) b
+      (subst (λ (r : ServerId). IsLeftBy (t ∷ book_of stage past r shard) (shard_at new (place_of stage r shard))) a there)
+  by s h few in_it false is =
+      let other : place_of stage s h ≢ place_of stage server shard = λ same.
+      (let both = place_unique s.0 server.0 stage.script.setting.shards h shard in_it in_range same
+      in let a : same_server server s ≡ true = eq-eqb _ _ (sym both.0)
+      in let b : eqb shard h ≡ true = eq-eqb _ _ (sym both.1)
+      in let bad : same_server server s && eqb shard h ≡ true = rw (a, b) refl
+      in both_ways _ is bad)
+      in subst (λ (y : Shard). IsLeftBy (book_of stage past s h) y) (sym (but.others (place_of stage s h) other)) (keeps.books s h few in_it)
