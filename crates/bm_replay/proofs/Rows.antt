@@ -1,5 +1,5 @@
 -- Small stages are sound.
-use Rattle.std.proofs.Common.{◌≡◌, ◌≢◌, ℕ, zero, suc, ◌<◌, ◌≤◌, Bool, true, false, if◌then◌else◌, inl, inr, List, [], ◌∷◌, ◌++◌, eqb, refl, sym, ap, subst, ◌∙◌, arith, get_or, ◌*◌, ◌^◌}
+use Rattle.std.proofs.Common.{◌≡◌, ◌≢◌, ℕ, zero, suc, ◌<◌, ◌≤◌, Bool, true, false, if◌then◌else◌, inl, inr, List, [], ◌∷◌, ◌++◌, eqb, refl, sym, ap, subst, ◌∙◌, arith}
 use Rattle.std.specs.Prelude.{IfSome}
 use Rattle.std.specs.List.{AllByRecursion}
 use Rattle.std.proofs.lemmas.Bool.{cases_Bool, eqb-true}
@@ -8,11 +8,9 @@ use Rattle.bm_base.specs.declared.flow.Flow.{Flow}
 use Rattle.bm_base.specs.declared.capture.Capture.{Capture}
 use Rattle.bm_base.specs.declared.capture.Record.{Record}
 use Rattle.bm_base.specs.Captures.{AreRising, IsFit, IsReplayable}
-use Rattle.bm_base.specs.declared.capture.Vip.{Vip}
 use Rattle.bm_table.specs.declared.plan.Kind.TheVariants.{Shift}
-use Rattle.bm_table.specs.declared.setting.Setting.{Setting}
 use Rattle.bm_table.specs.declared.script.Command.{Command}
-use Rattle.bm_table.specs.declared.script.Command.TheVariants.{Change as ChangeCommand, Close as CloseCommand, Retire as RetireCommand, Sync as SyncCommand}
+use Rattle.bm_table.specs.declared.script.Command.TheVariants.{Change as ChangeCommand, Close as CloseCommand}
 use Rattle.bm_table.specs.Planned.{Planned}
 use Rattle.bm_table.specs.Scripts.{IsSoundScript}
 use Rattle.bm_table.specs.Settings.{IsSetting, IsWithin, plain_setting}
@@ -36,7 +34,7 @@ fit_push (x ∷ records) r all is = (all.0, fit_push records r all.1 is)
 
 -- SETTINGS AND PLANS
 
-pub row_setting : (capacity : ℕ) → IsWithin 1 65536 capacity → IsSetting (record plain_setting { shards = 1; capacity = capacity })
+row_setting : (capacity : ℕ) → IsWithin 1 65536 capacity → IsSetting (record plain_setting { shards = 1; capacity = capacity })
 row_setting capacity within =
     let plain = IsSetting-plain_setting
     in record {
@@ -71,42 +69,42 @@ bare_orderly = record {
   drained = λ n v b s is low inside bucket. absurd (let h : ◌≡◌ {A = Bool} false true = sym (bare_drained n s) ∙ is in cc);
 }
 
-abbrev moved_plan : ℕ → Planned
-moved_plan at = record {
+abbrev moved_plan : Planned
+moved_plan = record {
   buckets = 8;
   servers = record { 0 = 1 } ∷ record { 0 = 2 } ∷ [];
-  changes = record { moment = record { 0 = at }; kind = Shift; moves = record { bucket = 4; to = record { 0 = 2 } } ∷ [] } ∷ [];
+  changes = record { moment = record { 0 = 500 }; kind = Shift; moves = record { bucket = 4; to = record { 0 = 2 } } ∷ [] } ∷ [];
 }
 
-moved_drained : (at n : ℕ) (s : ServerId) → is_drained (moved_plan at) n s ≡ false
-moved_drained at zero s = refl
-moved_drained at (suc zero) s = refl
-moved_drained at (suc (suc n)) s = moved_drained at (suc n) s
+moved_drained : (n : ℕ) (s : ServerId) → is_drained moved_plan n s ≡ false
+moved_drained zero s = refl
+moved_drained (suc zero) s = refl
+moved_drained (suc (suc n)) s = moved_drained (suc n) s
 
-moved_known : (at v b : ℕ) → IfSome (brings (next_change (moved_plan at) v) b) (λ to. is_known (moved_plan at) (suc v) to ≡ true)
-moved_known at (suc v) b = tt
-moved_known at zero b = elim (cases_Bool (eqb 4 b)) [ inl is ↦ rw is refl | inr other ↦ rw other tt ]
+moved_known : (v b : ℕ) → IfSome (brings (next_change moved_plan v) b) (λ to. is_known moved_plan (suc v) to ≡ true)
+moved_known (suc v) b = tt
+moved_known zero b = elim (cases_Bool (eqb 4 b)) [ inl is ↦ rw is refl | inr other ↦ rw other tt ]
 
-moved_changes : (at v b : ℕ) → IfSome (brings (next_change (moved_plan at) v) b) (λ to. to ≢ (table (moved_plan at) v b).cur)
-moved_changes at (suc v) b = tt
-moved_changes at zero b = elim (cases_Bool (eqb 4 b)) [
+moved_changes : (v b : ℕ) → IfSome (brings (next_change moved_plan v) b) (λ to. to ≢ (table moved_plan v b).cur)
+moved_changes (suc v) b = tt
+moved_changes zero b = elim (cases_Bool (eqb 4 b)) [
   | inl is ↦
       let same : 4 ≡ b = eqb-true 4 b is
-      in rw is (subst (λ (n : ℕ). record { 0 = 2 } ≢ (opening (moved_plan at) n).cur) same (λ e. absurd (let bad : ◌≡◌ {A = ℕ} 2 1 = ap (λ (s : ServerId). s.0) e in omega arith)))
+      in rw is (subst (λ (n : ℕ). record { 0 = 2 } ≢ (opening moved_plan n).cur) same (λ e. absurd (let bad : ◌≡◌ {A = ℕ} 2 1 = ap (λ (s : ServerId). s.0) e in omega arith)))
   | inr other ↦ rw other tt
 ]
 
-moved_stamps : (at v w : ℕ) → v ≤ w → w < 1 → moment_of (next_change (moved_plan at) v) ≤ moment_of (next_change (moved_plan at) w)
-moved_stamps at v (suc w) low inside = absurd (omega arith)
-moved_stamps at zero zero low inside = omega arith
-moved_stamps at (suc v) zero low inside = absurd (omega arith)
+moved_stamps : (v w : ℕ) → v ≤ w → w < 1 → moment_of (next_change moved_plan v) ≤ moment_of (next_change moved_plan w)
+moved_stamps v (suc w) low inside = absurd (omega arith)
+moved_stamps zero zero low inside = omega arith
+moved_stamps (suc v) zero low inside = absurd (omega arith)
 
-moved_orderly : (at : ℕ) → IsOrderly (moved_plan at)
-moved_orderly at = record {
-  known = moved_known at;
-  stamps = moved_stamps at;
-  changes = moved_changes at;
-  drained = λ n v b s is low inside bucket. absurd (let h : ◌≡◌ {A = Bool} false true = sym (moved_drained at n s) ∙ is in cc);
+moved_orderly : IsOrderly moved_plan
+moved_orderly = record {
+  known = moved_known;
+  stamps = moved_stamps;
+  changes = moved_changes;
+  drained = λ n v b s is low inside bucket. absurd (let h : ◌≡◌ {A = Bool} false true = sym (moved_drained n s) ∙ is in cc);
 }
 
 -- STAGES
@@ -114,15 +112,10 @@ moved_orderly at = record {
 abbrev row_flow : Flow
 row_flow = record { src = 0x0a00_0001; dst = 0xc000_0201; sport = 1000; dport = 80 }
 
-abbrev row_orders : List Command
-row_orders =
-    CloseCommand (record { 0 = 500 }) (record { 0 = 1 }) row_flow
-    ∷ CloseCommand (record { 0 = 600 }) (record { 0 = 1 }) row_flow
-    ∷ RetireCommand (record { 0 = 700 }) (record { 0 = 1 })
-    ∷ SyncCommand (record { 0 = 800 })
-    ∷ []
+abbrev row_closes : List Command
+row_closes = CloseCommand (record { 0 = 500 }) (record { 0 = 1 }) row_flow ∷ CloseCommand (record { 0 = 600 }) (record { 0 = 1 }) row_flow ∷ []
 
-bare_script : (capacity : ℕ) → IsWithin 1 65536 capacity → (ordered : Bool) → IsSoundScript (record { setting = record plain_setting { shards = 1; capacity = capacity }; plan = bare_plan; commands = if ordered then row_orders else [] })
+bare_script : (capacity : ℕ) → IsWithin 1 65536 capacity → (closing : Bool) → IsSoundScript (record { setting = record plain_setting { shards = 1; capacity = capacity }; plan = bare_plan; commands = if closing then row_closes else [] })
 bare_script capacity within true = record {
   setting = row_setting capacity within;
   buckets = refl;
@@ -130,9 +123,9 @@ bare_script capacity within true = record {
   adds = tt;
   plan = bare_orderly;
   few_commands = omega arith;
-  commands_rise = (omega arith, omega arith, (omega arith, omega arith, (omega arith, omega arith, (omega arith, omega arith, tt))));
+  commands_rise = (omega arith, omega arith, (omega arith, omega arith, tt));
   versions = refl;
-  of_known = (refl, (refl, (refl, (tt, tt))));
+  of_known = (refl, (refl, tt));
 }
 bare_script capacity within false = record {
   setting = row_setting capacity within;
@@ -146,19 +139,19 @@ bare_script capacity within false = record {
   of_known = tt;
 }
 
-pub bare_sound : (capacity : ℕ) → IsWithin 1 65536 capacity → (ordered : Bool) (capture : Capture) → IsReplayable plain_setting.vips capture
-    → IsSound (record { script = record { setting = record plain_setting { shards = 1; capacity = capacity }; plan = bare_plan; commands = if ordered then row_orders else [] }; capture = capture })
-bare_sound capacity within ordered capture fit = record { script = bare_script capacity within ordered; few_records = fit.few; records_rise = fit.rise; records_fit = fit.fit }
+pub bare_sound : (capacity : ℕ) → IsWithin 1 65536 capacity → (closing : Bool) (capture : Capture) → IsReplayable plain_setting.vips capture
+    → IsSound (record { script = record { setting = record plain_setting { shards = 1; capacity = capacity }; plan = bare_plan; commands = if closing then row_closes else [] }; capture = capture })
+bare_sound capacity within closing capture fit = record { script = bare_script capacity within closing; few_records = fit.few; records_rise = fit.rise; records_fit = fit.fit }
 
-pub moved_sound : (setting : Setting) (at : ℕ) (capture : Capture) → IsSetting setting → (setting.buckets ≡ 8) × (setting.servers ≡ plain_setting.servers) × (setting.vips ≡ plain_setting.vips) → at ≤ 1000 → IsReplayable plain_setting.vips capture
-    → IsSound (record { script = record { setting = setting; plan = moved_plan at; commands = ChangeCommand (record { 0 = 1 }) ∷ [] }; capture = capture })
-moved_sound setting at capture is plain soon fit = record {
+pub moved_sound : (capture : Capture) → IsReplayable plain_setting.vips capture
+    → IsSound (record { script = record { setting = record plain_setting { shards = 1; capacity = 4096 }; plan = moved_plan; commands = ChangeCommand (record { 0 = 1 }) ∷ [] }; capture = capture })
+moved_sound capture fit = record {
   script = record {
-    setting = is;
-    buckets = sym plain.0;
-    servers = sym plain.1;
+    setting = row_setting 4096 (omega arith, omega arith);
+    buckets = refl;
+    servers = refl;
     adds = (tt, tt);
-    plan = moved_orderly at;
+    plan = moved_orderly;
     few_commands = omega arith;
     commands_rise = (omega arith, omega arith, tt);
     versions = (refl, refl);
@@ -166,30 +159,5 @@ moved_sound setting at capture is plain soon fit = record {
   };
   few_records = fit.few;
   records_rise = fit.rise;
-  records_fit = subst (λ (vips : List Vip). AllByRecursion (λ r. IsFit vips r) capture.records) (sym plain.2) fit.fit;
+  records_fit = fit.fit;
 }
-
-two_lags : (i : ℕ) (d : ℕ) → i < 2 → get_or (1000000 ∷ 0 ∷ []) i d ≤ 86400 * 10 ^ 9
-two_lags zero d below = omega arith
-two_lags (suc zero) d below = omega arith
-two_lags (suc (suc i)) d below = absurd (omega arith)
-
-pub muxes_setting : IsSetting (record plain_setting { muxes = 2; lags = 1000000 ∷ 0 ∷ [] })
-muxes_setting =
-    let plain = IsSetting-plain_setting
-    in record {
-      buckets = plain.buckets;
-      servers = plain.servers;
-      rising = plain.rising;
-      numbers = plain.numbers;
-      muxes = (omega arith, omega arith);
-      shards = plain.shards;
-      capacity = plain.capacity;
-      timeout = plain.timeout;
-      vips = plain.vips;
-      ports = plain.ports;
-      lag_of_each = refl;
-      lags = two_lags;
-      rows = plain.rows;
-      faults = plain.faults;
-    }

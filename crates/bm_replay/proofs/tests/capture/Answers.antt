@@ -1,8 +1,10 @@
-use Rattle.std.proofs.Common.{◌≡◌, ℕ, ◌+◌, ◌*◌, ◌^◌, ◌∷◌, [], ◌++◌, List, length, map, length-append, refl, sym, ap, subst, ◌∙◌, inl, arith}
+use Rattle.std.proofs.Common.{◌≡◌, ℕ, ◌+◌, ◌*◌, ◌^◌, ◌≤◌, ◌∷◌, [], ◌++◌, List, length, map, length-append, refl, sym, ap, subst, ◌∙◌, inl, arith}
 use Rattle.std.specs.List.{AllByRecursion}
 use Rattle.std.proofs.lemmas.List.{map-append}
+use Rattle.bm_base.specs.declared.flow.Flow.{Flow}
 use Rattle.bm_base.specs.declared.capture.Record.{Record}
-use Rattle.bm_base.specs.Captures.{AreRising, IsFit}
+use Rattle.bm_base.specs.declared.capture.Body.TheVariants.{Steerable}
+use Rattle.bm_base.specs.Captures.{AreRising, IsFit, IsReplayable}
 use Rattle.bm_table.specs.Settings.{plain_setting}
 use Rattle.bm_replay.proofs.Rows.{fit_push, rising_higher, rising_push}
 use Rattle.bm_replay.proofs.tests.capture.Goals as goal
