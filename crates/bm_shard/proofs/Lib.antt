@@ -1,4 +1,3 @@
 pub mod Counting
 pub mod Keeping
 pub mod Meaning
-pub mod Calling

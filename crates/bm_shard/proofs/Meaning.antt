@@ -1,5 +1,5 @@
 -- What the entries of a book say of a history, and of a shard that is retired.
-use Rattle.std.proofs.Common.{◌≡◌, ℕ, Bool, true, false, cond, ◌&&◌, List, [], ◌∷◌, Option, Some, None, is_some, inl, inr, refl, sym, ap, subst, ◌∙◌, arith}
+use Rattle.std.proofs.Common.{◌≡◌, ℕ, Bool, true, false, cond, ◌&&◌, List, [], ◌∷◌, Option, Some, None, is_some, inl, inr, refl, sym, ap, subst, ◌∙◌}
 use Rattle.std.proofs.lemmas.Bool.{cases_Bool}
 use Rattle.bm_base.specs.declared.flow.Flow.{Flow}
 use Rattle.bm_base.specs.declared.flow.Segment.{Segment}
@@ -26,11 +26,9 @@ use Rattle.bm_shard.specs.declared.book.Shard.{Shard}
 use Rattle.bm_shard.specs.declared.calls.ShardCall.{ShardCall}
 use Rattle.bm_shard.specs.declared.calls.ShardCall.TheVariants.{Arrive, Close, Retire}
 use Rattle.bm_shard.specs.declared.calls.ShardEntry.{ShardEntry}
-use Rattle.bm_core.specs.Runs.{next}
-use Rattle.bm_shard.specs.Laws.{Rise}
-use Rattle.bm_shard.specs.Books.{Replays, clock_of, clock_after, knows_after}
+use Rattle.bm_shard.specs.Books.{Replays, clock_after, knows_after}
 use Rattle.bm_shard.specs.Replies.{is_held_by, turn_of, verdict_by, what_of}
-use Rattle.bm_shard.specs.Turns.{moment_of, turn_kept, turns}
+use Rattle.bm_shard.specs.Turns.{turn_kept, turns}
 use Rattle.bm_shard.proofs.Keeping.{turn_is_kept}
 
 -- A HISTORY
@@ -102,11 +100,3 @@ none_held about (e ∷ past) replays retired f =
     subst (λ (o : Option Turn). book_retired (add_turn o (turns past)) ≡ true) kept retired
     in subst (λ (o : Option Turn). book_held (add_turn o (turns past)) f ≡ None) (sym kept)
     (after_call about past (clock_after past e.call) e.call f (λ was. none_held about past replays.1 was f) so)
-
--- CLOCKS
-
-pub rises : (about : Shard) (past : List ShardEntry) → Replays about past → Rise past
-rises about [] replays = tt
-rises about (e ∷ past) replays =
-    let clock : e.event.clock.0 ≡ next (clock_of past).0 (moment_of e.call).0 = ap (λ (x : Event). x.clock.0) replays.0
-    in (omega arith, omega arith, rises about past replays.1)

@@ -71,8 +71,7 @@ impl ShardBook {
         })
     }
 
-    /// Makes a call under the number of a seat, and keeps it. Where memory is refused, nothing changes. A call's moment is at
-    /// most 9 × 10^18 nanoseconds, and a segment takes at most 2^20 sequence numbers.
+    /// Makes a call under the number of a seat, and keeps it. Where memory is refused, nothing changes.
     pub fn apply(&mut self, seat: u16, call: ShardCall) -> Result<ShardReply, Memory>
         requires taken { IsTaken call }
         requires few { length self.old.entries < 2 ^ 48 }

@@ -1,5 +1,5 @@
 //! What the book of a shard means. Each law is a function whose contract is the law.
-ghost use Rattle.std.specs.Prelude.{◌≡◌, ◌∷◌, ℕ, List, reverse, is_some, Some, None};
+ghost use Rattle.std.specs.Prelude.{◌≡◌, List, reverse, is_some, Some, None};
 ghost use Rattle.bm_base.specs.Labels.{tag_of};
 ghost use Rattle.bm_base.specs.declared.flow.Flow.{Flow};
 ghost use Rattle.bm_base.specs.declared.flow.Segment.{Segment};
@@ -12,9 +12,8 @@ ghost use Rattle.bm_core.specs.Verdicts.{verdict_at};
 ghost use Rattle.bm_core.specs.declared.events.Event.{Event};
 ghost use Rattle.bm_core.specs.declared.events.Verdict.TheVariants.{Drop};
 ghost use Rattle.bm_core.specs.declared.events.Why.TheVariants.{Retired};
-ghost use Rattle.bm_shard.specs.Books.{clock_after, event_after, knows_after};
-ghost use Rattle.bm_shard.specs.Laws.{AreOf, IsCallOf, IsOf, IsRetired, Rise, with_call};
-ghost use Rattle.bm_shard.specs.declared.calls.ShardCall.{ShardCall};
+ghost use Rattle.bm_shard.specs.Books.{clock_after, knows_after};
+ghost use Rattle.bm_shard.specs.Laws.{AreOf, IsOf, IsRetired};
 ghost use Rattle.bm_shard.specs.Replies.{is_held_by, verdict_by};
 
 use crate::ShardBook;
@@ -49,17 +48,3 @@ pub fn retired(book: &ShardBook)
 {
     let _entries = book.history();
 }
-
-/// Each entry's clock is above the clock of the entry before it, and above the moment of its call.
-pub fn clocks(book: &ShardBook)
-    ensures { Rise (reverse book.now.entries) }
-{
-    let _entries = book.history();
-}
-
-/// A book that has the turns of its shard in a history has them still where the same call comes in both.
-pub fn calls(book: &ShardBook, stage: &Stage)
-    ensures { (past : List Event) → AreOf stage.now past book.now
-        → (seat : ℕ) (call : ShardCall) → IsCallOf stage.now book.now.shard call
-        → AreOf stage.now (event_after book.now.shard (reverse book.now.entries) call ∷ past) (with_call book.now seat call) }
-{}
