@@ -15,3 +15,6 @@ pub struct Version(pub u32);
 /// Nanoseconds since the first record of the capture.
 #[derive(Clone, Copy, Debug, PartialEq, Eq, PartialOrd, Ord)]
 pub struct Moment(pub u64);
+
+/// The last moment that a shard or a mux may be handed: 9 * 10^18.
+pub const LAST: u64 = 9_000_000_000_000_000_000;

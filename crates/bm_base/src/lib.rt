@@ -1,6 +1,7 @@
 //! What every crate speaks of: servers, muxes, flows, segments, labels and records.
 #![tactic(auto)]
 
+mod address;
 mod capture;
 pub mod flags;
 mod flow;
@@ -12,9 +13,10 @@ mod octets;
 mod receive;
 mod text;
 
+pub use address::{mux_addr, mux_of, server_addr, server_of};
 pub use capture::{Body, Capture, Reason, Record, Vip};
 pub use flow::{Flow, Segment, is_opening};
-pub use ids::{Moment, MuxId, ServerId, Version};
+pub use ids::{LAST, Moment, MuxId, ServerId, Version};
 pub use label::{Entry, Hop, Label, Tag, tag_of};
 pub use list::List;
 pub use memory::Memory;

@@ -76,3 +76,21 @@ fn octets_give_back_what_was_pushed(rt: HostRuntime) -> Result<(), Fail> {
     assert_eq!(rt; octets.get(1), [].as_slice());
     Ok(())
 }
+
+#[test]
+fn servers_and_muxes_have_addresses(rt: HostRuntime) {
+    let rows = [
+        (0xac10_0000, None),
+        (0xac10_0001, Some(ServerId(1))),
+        (0xac10_0400, Some(ServerId(1_024))),
+        (0xac10_0401, None),
+        (0xac0f_ffff, None),
+    ];
+    for (addr, server) in rows {
+        assert_eq!(rt; server_of(addr), server);
+    }
+    assert_eq!(rt; server_addr(ServerId(2)), 0xac10_0002);
+    assert_eq!(rt; mux_addr(MuxId(63)), 0xac1f_003f);
+    assert_eq!(rt; mux_of(0xac1f_003f), Some(MuxId(63)));
+    assert_eq!(rt; mux_of(0xac1f_0040), None);
+}

@@ -6,7 +6,7 @@ use Rattle.std.proofs.lemmas.Bool.{eqb-true, le-ltb, ltb-false}
 use Rattle.std.proofs.lemmas.Bool.Decides.{nat_tests}
 use Rattle.bm_ipv4.specs.Checksum.{checksum_of}
 use Rattle.bm_ipv4.specs.Fields.{octet_at, u16_at, u32_at}
-use Rattle.bm_encap.specs.Addresses.{mux_address, mux_at, server_at}
+use Rattle.bm_base.specs.Addresses.{mux_address, mux_at, server_at}
 use Rattle.bm_encap.specs.Faults.{bad_prev_address, bad_prev_code, differing, fault_when, option_fault, option_octets, outer_fault, outer_octets, prev_fault, u64_at, without_sum}
 use Rattle.bm_encap.specs.declared.fault.EncapFault.{EncapFault}
 use Rattle.bm_encap.specs.declared.fault.EncapFault.TheVariants.{BadOuter, BadOption}

@@ -10,10 +10,10 @@ use Rattle.bm_base.specs.declared.label.Hop.TheVariants.{Direct, Chained}
 use Rattle.bm_base.specs.declared.label.Tag.{Tag}
 use Rattle.bm_ipv4.specs.Checksum.{checksum_of}
 use Rattle.bm_ipv4.specs.Fields.{octet_at, u16_at, u32_at}
-use Rattle.bm_encap.specs.Addresses.{mux_address, server_address, server_at}
+use Rattle.bm_base.specs.Addresses.{mux_address, server_address, server_at}
 use Rattle.bm_encap.specs.Faults.{hop_of, prev_in, server_of_address, tag_in, u64_at, unwrapped, without_sum}
 use Rattle.bm_encap.specs.Spellings.{fields, header, hop_code, prev_address, prev_code, spelled, spelling}
-use Rattle.bm_encap.specs.Tags.{GoesRight, IsServer, IsTag}
+use Rattle.bm_base.specs.Tags.{GoesRight, IsServer, IsTag}
 use Rattle.bm_encap.proofs.Faultless.{reads}
 use Rattle.bm_encap.proofs.Says.{HasOctets, Says, faultless_from, server_there}
 use Rattle.bm_encap.proofs.Valid.{IsPrev, blank}

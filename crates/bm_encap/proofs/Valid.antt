@@ -9,10 +9,10 @@ use Rattle.bm_base.specs.declared.ids.ServerId.{ServerId}
 use Rattle.bm_base.specs.declared.label.Tag.{Tag}
 use Rattle.bm_ipv4.specs.Checksum.{checksum_of}
 use Rattle.bm_ipv4.specs.Fields.{octet_at, u16_at, u32_at}
-use Rattle.bm_encap.specs.Addresses.{server_at}
+use Rattle.bm_base.specs.Addresses.{server_at}
 use Rattle.bm_encap.specs.Faults.{hop_of, prev_in, server_of_address, tag_in, u64_at, unwrapped, without_sum}
 use Rattle.bm_encap.specs.Spellings.{fields, header, hop_code, prev_address, prev_code, spelling}
-use Rattle.bm_encap.specs.Tags.{GoesRight, IsServer, IsTag}
+use Rattle.bm_base.specs.Tags.{GoesRight, IsServer, IsTag}
 use Rattle.bm_encap.specs.declared.fault.EncapFault.{EncapFault}
 use Rattle.bm_encap.proofs.Faultless.{read_is}
 use Rattle.bm_encap.proofs.NumberLemmas.{AreOctets, all_stand, pair_at, stands1, stands2, stands4, stands8}

@@ -7,7 +7,7 @@ use Rattle.bm_base.specs.declared.label.Hop.TheVariants.{Direct, Chained}
 use Rattle.bm_base.specs.declared.label.Tag.{Tag}
 use Rattle.bm_ipv4.specs.Checksum.{checksum_of}
 use Rattle.bm_ipv4.specs.Fields.{octet_at, u16_at, u32_at}
-use Rattle.bm_encap.specs.Addresses.{mux_address, mux_at, server_at}
+use Rattle.bm_base.specs.Addresses.{mux_address, mux_at, server_at}
 use Rattle.bm_encap.specs.Spellings.{header_length, spelling}
 use Rattle.bm_encap.specs.declared.fault.EncapFault.{EncapFault}
 use Rattle.bm_encap.specs.declared.fault.EncapFault.TheVariants.{Short, BadOuter, BadSum, BadOption, BadLength}

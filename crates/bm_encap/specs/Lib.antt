@@ -1,4 +1,2 @@
-pub mod Addresses
 pub mod Faults
 pub mod Spellings
-pub mod Tags

@@ -6,7 +6,7 @@ use Rattle.bm_base.specs.declared.label.Hop.{Hop}
 use Rattle.bm_base.specs.declared.label.Hop.TheVariants.{Direct, Chained}
 use Rattle.bm_base.specs.declared.label.Tag.{Tag}
 use Rattle.bm_ipv4.specs.Checksum.{checksum_of}
-use Rattle.bm_encap.specs.Addresses.{mux_address, server_address}
+use Rattle.bm_base.specs.Addresses.{mux_address, server_address}
 
 abbrev pub hop_code : Hop → ℕ
 hop_code Direct = 0

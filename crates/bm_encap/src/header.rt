@@ -4,12 +4,11 @@ ghost use Rattle.bm_ipv4.specs.Checksum.{checksum_of};
 ghost use Rattle.bm_encap.specs.Faults as faults;
 ghost use Rattle.bm_encap.specs.Faults.{chained};
 ghost use Rattle.bm_encap.specs.Spellings as spellings;
-ghost use Rattle.bm_encap.specs.Tags.{IsTag};
+ghost use Rattle.bm_base.specs.Tags.{IsTag};
 
-use crate::address::{mux_addr, server_addr};
 use crate::fault::EncapFault;
 use crate::read::unwrap;
-use bm_base::{Hop, Memory, Tag};
+use bm_base::{Hop, Memory, Tag, mux_addr, server_addr};
 use bm_ipv4::header_sum;
 
 /// How many octets the header has.

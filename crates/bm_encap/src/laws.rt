@@ -3,7 +3,7 @@
 ghost use Rattle.std.specs.Prelude.{◌≡◌, ◌<◌, ◌≤◌, ◌^◌, length, Ok, IfOk};
 ghost use Rattle.bm_encap.specs.Faults.{unwrapped};
 ghost use Rattle.bm_encap.specs.Spellings.{spelling};
-ghost use Rattle.bm_encap.specs.Tags.{IsTag};
+ghost use Rattle.bm_base.specs.Tags.{IsTag};
 
 use bm_base::Tag;
 

@@ -2,13 +2,11 @@
 //! an option).
 #![tactic(auto)]
 
-mod address;
 mod fault;
 mod header;
 pub mod laws;
 mod read;
 
-pub use address::{mux_addr, server_addr, server_of};
 pub use fault::EncapFault;
 pub use header::{set_chained, wrap};
 pub use read::unwrap;

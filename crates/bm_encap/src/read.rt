@@ -4,15 +4,14 @@ ghost use Rattle.std.specs.Option.{option_map};
 ghost use Rattle.bm_ipv4.specs.Fields.{octet_at, u16_at, u32_at};
 ghost use Rattle.bm_encap.specs.Faults as faults;
 ghost use Rattle.bm_encap.specs.Faults.{fault_when, hop_of, option_fault, outer_fault, prev_fault, prev_in, server_of_address, tag_in, u64_at, unwrapped, without_sum};
-ghost use Rattle.bm_encap.specs.Tags.{IsTag};
+ghost use Rattle.bm_base.specs.Tags.{IsTag};
 ghost use Rattle.bm_encap.specs.declared.fault.EncapFault.{EncapFault as Fault};
 ghost use Rattle.bm_encap.specs.declared.fault.EncapFault.TheVariants.{BadOption};
 ghost use Rattle.bm_ipv4.specs.Checksum.{checksum_of};
 
-use crate::address::{mux_addr, mux_of, server_of};
 use crate::fault::EncapFault;
 use crate::header::HEADER;
-use bm_base::{Hop, Moment, MuxId, ServerId, Tag, Version};
+use bm_base::{Hop, Moment, MuxId, ServerId, Tag, Version, mux_addr, mux_of, server_of};
 use bm_ipv4::fields::{read_u16, read_u32};
 use bm_ipv4::header_sum;
 use byteorder::{BigEndian, ByteOrder};

@@ -354,19 +354,3 @@ fn octets_are_cut_or_added(rt: HostRuntime) {
     }
     assert_eq!(rt; unwrap(&longer).err(), Some(BadLength));
 }
-
-#[test]
-fn servers_and_muxes_have_addresses(rt: HostRuntime) {
-    let rows = [
-        (0xac10_0000, None),
-        (0xac10_0001, Some(ServerId(1))),
-        (0xac10_0400, Some(ServerId(1_024))),
-        (0xac10_0401, None),
-        (0xac0f_ffff, None),
-    ];
-    for (addr, server) in rows {
-        assert_eq!(rt; server_of(addr), server);
-    }
-    assert_eq!(rt; server_addr(ServerId(2)), 0xac10_0002);
-    assert_eq!(rt; mux_addr(MuxId(63)), 0xac1f_003f);
-}

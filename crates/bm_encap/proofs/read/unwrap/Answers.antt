@@ -6,7 +6,7 @@ use Rattle.bm_base.specs.declared.label.Tag.{Tag}
 use Rattle.bm_ipv4.specs.Checksum.{checksum_of}
 use Rattle.bm_ipv4.specs.Fields.{u16_at}
 use Rattle.bm_encap.specs.Faults.{without_sum}
-use Rattle.bm_encap.specs.Tags.{IsTag}
+use Rattle.bm_base.specs.Tags.{IsTag}
 use Rattle.bm_encap.proofs.Faultless.{IsFaultless, reads}
 use Rattle.bm_encap.proofs.Says.{says}
 use Rattle.bm_encap.proofs.Valid.{valid}

@@ -1,8 +1,8 @@
 //! The addresses of servers and muxes.
 ghost use Rattle.std.specs.Prelude.{◌≡◌};
-ghost use Rattle.bm_encap.specs.Addresses as addresses;
+ghost use Rattle.bm_base.specs.Addresses as addresses;
 
-use bm_base::{MuxId, ServerId};
+use crate::{MuxId, ServerId};
 
 /// 172.16.0.0; a server's number is added to it.
 const SERVERS: u32 = 0xac10_0000;
@@ -41,8 +41,8 @@ pub fn mux_addr(m: MuxId) -> u32
     MUXES + u32::from(m.0)
 }
 
-/// The mux with this address.
-pub(crate) fn mux_of(addr: u32) -> Option<MuxId>
+/// The mux with this address; None exactly where it is no mux's.
+pub fn mux_of(addr: u32) -> Option<MuxId>
     ensures { result ≡ addresses.mux_at addr }
 {
     if MUXES <= addr && addr < MUXES + MAX_MUXES {
