@@ -1,10 +1,11 @@
 -- Records that are read one after the other can be replayed.
-use Rattle.std.proofs.Common.{◌≡◌, ◌∙◌, sym, ap, ℕ, ◌+◌, ◌≤◌, List, [], ◌∷◌, ◌++◌, map, length, length-append, Option, arith}
+use Rattle.std.proofs.Common.{◌≡◌, ℕ, ◌+◌, ◌≤◌, List, [], ◌∷◌, ◌++◌, map, length, Option, arith}
 use Rattle.std.specs.List.{AllByRecursion}
 use Rattle.std.proofs.lemmas.List.{map-append}
 use Rattle.bm_base.specs.declared.capture.Record.{Record}
 use Rattle.bm_base.specs.declared.capture.Vip.{Vip}
 use Rattle.bm_base.specs.Captures.{AreRising, IsFit, IsReplayable}
+use Rattle.bm_link.specs.Fits.{ArePackets}
 use Rattle.bm_pcap.specs.declared.place.Place.{Place}
 use Rattle.bm_pcap.specs.Limits.{latest, most_records}
 use Rattle.bm_pcap.specs.Records.{moment_of}
@@ -30,9 +31,6 @@ pub fit_more : (vips : List Vip) (records : List Record) (r : Record) → AllByR
 fit_more vips [] r all one = (one, tt)
 fit_more vips (x ∷ records) r all one = (all.0, fit_more vips records r all.1 one)
 
-pub one_more : {A B : Type 0} (xs : List A) (x : A) (ys : List B) (y : B) → length xs ≡ length ys → length (xs ++ x ∷ []) ≡ length (ys ++ y ∷ [])
-one_more xs x ys y same = length-append xs (x ∷ []) ∙ ap (λ n. n + 1) same ∙ sym (length-append ys (y ∷ []))
-
 pub moment_early : (place : Place) (time : ℕ) → place.last.0 ≤ latest → time ≤ latest → (moment_of place time).0 ≤ latest
 moment_early place time early few = omega (arith, early, few)
 
@@ -40,9 +38,9 @@ pub moment_late : (place : Place) (time : ℕ) → place.last.0 ≤ (moment_of p
 moment_late place time = omega arith
 
 -- what was read so far can be replayed
-pub replayable_so_far : (vips : List Vip) (records : List Record) (cut : Option ℕ) (packets : List (List ℕ)) (place : Place) → length packets + 1 ≡ place.number → place.number ≤ most_records + 1 → length records ≡ length packets → place.last.0 ≤ latest → ((m : ℕ) → place.last.0 ≤ m → m ≤ latest → AreRising 0 latest (moments records ++ m ∷ [])) → AllByRecursion (λ r. IsFit vips r) records → IsReplayable vips (record { records = records; cut = cut })
-replayable_so_far vips records cut packets place count few same early rise fit = record {
-  few = omega (arith, count, few, same);
+pub replayable_so_far : (vips : List Vip) (records : List Record) (cut : Option ℕ) (packets : List (List ℕ)) (place : Place) → length packets + 1 ≡ place.number → place.number ≤ most_records + 1 → ArePackets records packets → place.last.0 ≤ latest → ((m : ℕ) → place.last.0 ≤ m → m ≤ latest → AreRising 0 latest (moments records ++ m ∷ [])) → AllByRecursion (λ r. IsFit vips r) records → IsReplayable vips (record { records = records; cut = cut })
+replayable_so_far vips records cut packets place count few packed early rise fit = record {
+  few = omega (arith, count, few, packed.count);
   rise = rising_front 0 latest latest (moments records) (rise latest early (omega arith));
   fit = fit;
 }

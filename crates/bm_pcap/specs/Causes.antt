@@ -20,13 +20,18 @@ IsHeaderFault TooLarge = ⊥
 IsHeaderFault (BadLength number n) = ⊥
 IsHeaderFault TooManyPackets = ⊥
 
--- the faults of a capture's records
+-- the faults of a capture's records, none of which takes memory
 abbrev pub IsRecordFault : PcapFault → Type 0
 IsRecordFault ReadFault = Unit {0}
 IsRecordFault TooLarge = Unit {0}
 IsRecordFault (BadLength number n) = Unit {0}
 IsRecordFault TooManyPackets = Unit {0}
-IsRecordFault Memory = Unit {0}
+IsRecordFault Memory = ⊥
 IsRecordFault NotACapture = ⊥
 IsRecordFault BadVersion = ⊥
 IsRecordFault (BadLink link) = ⊥
+
+-- what the reading of all records may end with: one of these, or want of memory
+abbrev pub IsCaptureFault : PcapFault → Type 0
+IsCaptureFault Memory = Unit {0}
+IsCaptureFault e = IsRecordFault e

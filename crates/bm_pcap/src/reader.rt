@@ -1,8 +1,9 @@
 //! A reader of captures.
 ghost use Rattle.std.specs.Prelude.{◌≡◌, ◌≤◌, ◌+◌, length, IfOk, IfErr, IsTrue};
 ghost use Rattle.bm_base.specs.Captures.{IsReplayable};
+ghost use Rattle.bm_link.specs.Fits.{ArePackets};
 ghost use Rattle.bm_link.specs.Links.{is_link};
-ghost use Rattle.bm_pcap.specs.Causes.{HasStepCause, IsHeaderFault, IsRecordFault};
+ghost use Rattle.bm_pcap.specs.Causes.{HasStepCause, IsCaptureFault, IsHeaderFault, IsRecordFault};
 ghost use Rattle.bm_pcap.specs.Reader.{Advances, GivesNext, IsFresh, IsShort, ReadsCapture, Starts, StartsWithCause};
 
 use crate::PcapFault;
@@ -157,7 +158,8 @@ pub fn read_capture<S: Source>(
     requires { IsFresh r.old }
     ensures capture { ReadsCapture S.left r.old vips.now result }
     ensures replayable { IfOk result (λ read. IsReplayable vips.now read.0) }
-    ensures others { IfErr result IsRecordFault }
+    ensures packets { IfOk result (λ read. ArePackets read.0.records read.1) }
+    ensures others { IfErr result IsCaptureFault }
     ensures cause { HasStepCause (S.faults r.old.source) (S.faults r.new.source) result }
 {
     let link = r.link();

@@ -10,7 +10,8 @@ use Rattle.bm_pcap.specs.declared.item.Item.TheVariants as item
 use Rattle.bm_pcap.specs.declared.step.Step.TheVariants as step
 use Rattle.bm_pcap.specs.Records.{moment_of}
 use Rattle.bm_pcap.specs.Limits.{latest}
-use Rattle.bm_pcap.proofs.Rising.{rising_more, fit_more, one_more, moment_early, moment_late, replayable_so_far}
+use Rattle.bm_pcap.proofs.Rising.{rising_more, fit_more, moment_early, moment_late, replayable_so_far}
+use Rattle.bm_pcap.proofs.Packets.{none_yet, packets_more}
 use Rattle.bm_pcap.proofs.Loop.{starts, first_number, gave, stepped, failed, at_cut, at_end, at_fault, goes_on}
 use Rattle.bm_pcap.proofs.reader.read_capture.Goals as goal
 
@@ -22,7 +23,7 @@ loop-packets-init g c =
       count = rw c.new-packets.ensures (sym one);
       few = omega (arith, one);
       form = refl;
-      same = ap length c.new-records.ensures.items ∙ sym (ap length c.new-packets.ensures);
+      packed = rw (c.new-records.ensures.items, c.new-packets.ensures) none_yet;
       rise = λ m low few. rw c.new-records.ensures.items (omega arith, few, tt);
       early = rw c.requires.0 (omega arith);
       fit = rw c.new-records.ensures.items tt;
@@ -55,7 +56,7 @@ loop-packets-preserved g c =
       count = omega (arith, ap length c.in_ok-push-in-Record-2.ensures.ok, length-append c.loop-packets.packets (c.classify-body.result.1.now ∷ []), number, c.loop-packets.invariant.count);
       few = omega (arith, number, f.2.0.0);
       form = f.2.1 ∙ c.loop-packets.invariant.form;
-      same = ap length c.in_ok-push-in-Record.ensures.items ∙ one_more c.loop-packets.records.items _ c.loop-packets.packets _ c.loop-packets.invariant.same ∙ sym (ap length c.in_ok-push-in-Record-2.ensures.ok);
+      packed = rw (c.in_ok-push-in-Record.ensures.items, c.in_ok-push-in-Record-2.ensures.ok) (packets_more c.loop-packets.records.items c.loop-packets.packets _ c.classify-body.result.1.now c.loop-packets.invariant.packed c.classify-body.ensures.packet);
       rise = λ m early few. rw c.in_ok-push-in-Record.ensures.items (rising_more 0 latest m c.loop-packets.records.items _ (omega (arith, now, last, early)) few (c.loop-packets.invariant.rise c.in-Record.moment.0 (omega (arith, now, low)) (omega (arith, now, high))));
       early = omega (arith, last, high);
       fit = rw c.in_ok-push-in-Record.ensures.items (fit_more c.args.vips.now c.loop-packets.records.items _ c.loop-packets.invariant.fit (c.classify-body.ensures.fit c.in-Record.moment.0));
@@ -76,7 +77,7 @@ returns-in-End-clause-capture g c octets stands =
     ap (λ (x : Capture). Ok (x, c.loop-packets.packets)) c.captured-in-End.ensures ∙ at_end _ _ c.loop-packets.r.form c.args.vips.now _ c.loop-packets.r.place c.loop-packets.records.items c.loop-packets.packets _ (c.loop-packets.invariant.so_far octets stands) f.0
 
 pub returns-in-Cut-clause-replayable : goal.returns-in-Cut-clause-replayable
-returns-in-Cut-clause-replayable g c = rw c.captured.ensures (replayable_so_far c.args.vips.now c.loop-packets.records.items (Some c.in-Cut.number) c.loop-packets.packets c.loop-packets.r.place c.loop-packets.invariant.count c.loop-packets.invariant.few c.loop-packets.invariant.same c.loop-packets.invariant.early c.loop-packets.invariant.rise c.loop-packets.invariant.fit)
+returns-in-Cut-clause-replayable g c = rw c.captured.ensures (replayable_so_far c.args.vips.now c.loop-packets.records.items (Some c.in-Cut.number) c.loop-packets.packets c.loop-packets.r.place c.loop-packets.invariant.count c.loop-packets.invariant.few c.loop-packets.invariant.packed c.loop-packets.invariant.early c.loop-packets.invariant.rise c.loop-packets.invariant.fit)
 
 pub returns-in-End-clause-replayable : goal.returns-in-End-clause-replayable
-returns-in-End-clause-replayable g c = rw c.captured-in-End.ensures (replayable_so_far c.args.vips.now c.loop-packets.records.items None c.loop-packets.packets c.loop-packets.r.place c.loop-packets.invariant.count c.loop-packets.invariant.few c.loop-packets.invariant.same c.loop-packets.invariant.early c.loop-packets.invariant.rise c.loop-packets.invariant.fit)
+returns-in-End-clause-replayable g c = rw c.captured-in-End.ensures (replayable_so_far c.args.vips.now c.loop-packets.records.items None c.loop-packets.packets c.loop-packets.r.place c.loop-packets.invariant.count c.loop-packets.invariant.few c.loop-packets.invariant.packed c.loop-packets.invariant.early c.loop-packets.invariant.rise c.loop-packets.invariant.fit)

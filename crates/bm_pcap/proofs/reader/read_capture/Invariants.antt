@@ -1,6 +1,7 @@
 use Rattle.std.proofs.Common.{◌≡◌, ◌+◌, ◌-◌, ◌≤◌, ◌++◌, ◌∷◌, [], List, ℕ, length, None}
 use Rattle.std.specs.List.{AllByRecursion}
 use Rattle.bm_base.specs.Captures.{AreRising, IsFit}
+use Rattle.bm_link.specs.Fits.{ArePackets}
 use Rattle.bm_pcap.specs.Limits.{latest, most_records}
 use Rattle.bm_pcap.proofs.Rising.{moments}
 use Rattle.bm_pcap.specs.Capture.{capture}
@@ -14,7 +15,7 @@ invariant-loop-packets g l = record {
   count : length l.packets + 1 ≡ l.r.place.number;
   few : l.r.place.number ≤ most_records + 1;
   form : l.r.form ≡ l.fn.r.form;
-  same : length l.records.items ≡ length l.packets;
+  packed : ArePackets l.records.items l.packets;
   rise : (m : ℕ) → l.r.place.last.0 ≤ m → m ≤ latest → AreRising 0 latest (moments l.records.items ++ m ∷ []);
   early : l.r.place.last.0 ≤ latest;
   fit : AllByRecursion (λ r. IsFit l.vips r) l.records.items;
