@@ -1,8 +1,8 @@
 -- A copy arrives, and goes on where it is forwarded.
-use Rattle.std.proofs.Common.{◌≡◌, ℕ, zero, suc, ◌+◌, ◌<◌, ◌≤◌, List, [], ◌∷◌, Option, Some, None, length, set, refl, sym, ap, subst, ◌∙◌, arith}
-use Rattle.std.specs.Prelude.{IfSome, slice_get}
+use Rattle.std.proofs.Common.{◌≡◌, ℕ, zero, suc, ◌+◌, ◌-◌, ◌<◌, ◌≤◌, List, [], ◌∷◌, Option, Some, None, length, inl, inr, refl, sym, ap, subst, ◌∙◌, arith}
+use Rattle.std.specs.Prelude.{IfSome, slice_get, slice_index_or}
 use Rattle.std.specs.List.{AllByRecursion}
-use Rattle.std.proofs.lemmas.Option.{same_Some}
+use Rattle.std.proofs.lemmas.Option.{same_Some, slice_get_cases}
 use Rattle.bm_base.specs.declared.ids.Moment.{Moment}
 use Rattle.bm_base.specs.declared.ids.ServerId.{ServerId}
 use Rattle.bm_base.specs.declared.flow.Segment.{Segment}
@@ -29,30 +29,31 @@ use Rattle.bm_core.specs.declared.events.Stage.{Stage}
 use Rattle.bm_core.specs.declared.schedule.Call.TheVariants.{Arrives}
 use Rattle.bm_core.specs.declared.schedule.Underway.{Underway}
 use Rattle.bm_core.specs.Accounts.{Routes, Rules}
-use Rattle.bm_core.specs.Books.{Took, book_of}
+use Rattle.bm_core.specs.Books.{Took}
 use Rattle.bm_core.specs.Past.{Sending, label_of, segment_of, sending_of, shard, timeout, steerable}
-use Rattle.bm_core.specs.Runs.{Run}
+use Rattle.bm_core.specs.Runs.{Run, last_clock}
 use Rattle.bm_core.specs.Schedule.{barren, put_sent, rest, wire, IsAnswered}
 use Rattle.bm_core.specs.Stages.{IsFit, IsService}
-use Rattle.bm_core.specs.Verdicts.{Onward, local_at, onward, onward_with, verdict_at, verdict_of, verdict_on}
+use Rattle.bm_core.specs.Verdicts.{Onward, local_at, onward, onward_with, verdict_at, verdict_of}
 use Rattle.bm_core.specs.Weights.{IsSoon}
-use Rattle.bm_core.proofs.Books.{local_in_book}
 use Rattle.bm_core.proofs.Pasts.{IsLabel, label_is, label_stays}
 use Rattle.bm_core.proofs.Stops.{HasStop, first_stop}
-use Rattle.bm_core.proofs.Tagged.{verdict_by_tag}
 use Rattle.bm_replay.specs.declared.player.Loss.{Loss}
 use Rattle.bm_replay.specs.declared.player.Player.{Player}
-use Rattle.bm_replay.specs.Connections.{local_of, shard_after, shard_at}
 use Rattle.bm_replay.specs.Flights.{AreFlying, IsFlying}
 use Rattle.bm_replay.specs.Players.{CanArrive, HasArrived, HasGoneOn, HasSent, after_arrival, chained, place_for, sent, verdict_for}
 use Rattle.bm_replay.specs.Playing.{HasPlayed, IsPlayed, KeepsState, lost_call, past_of}
-use Rattle.bm_replay.specs.Shards.{KeepsBooks}
-use Rattle.bm_replay.proofs.Books.{local_is, settled}
+use Rattle.bm_replay.specs.Shards.{KeepsBooks, arrival, book_at, books_after}
+use Rattle.bm_replay.proofs.Books.{places_of, shard_below, verdict_as}
 use Rattle.bm_replay.proofs.Coming.{copy_due}
 use Rattle.bm_replay.proofs.Flights.{HasStopAt, all_stay, copies_fly, first_flies, others_fly, tag_stop}
-use Rattle.bm_replay.proofs.Keeping.{books_more, muxes_stay, place_inside, queues_stay, set_one}
+use Rattle.bm_replay.proofs.Keeping.{books_more, muxes_stay, queues_stay}
+use Rattle.bm_link.specs.Fits.{ArePackets, IsPacketOf}
+use Rattle.bm_base.specs.declared.capture.Body.TheVariants.{Steerable, Unsteered}
+use Rattle.bm_base.specs.declared.capture.Body.{Body}
 use Rattle.bm_replay.proofs.Moments.{HasNumbers, table_numbers}
-use Rattle.bm_replay.proofs.Ready.{IsReadyCopy, clock_low, packaged, plain, plain_soon, told}
+use Rattle.bm_replay.proofs.Tags.{landing_fits, landing_tag}
+use Rattle.bm_replay.proofs.Ready.{IsReadyCopy, clock_later, clock_low, packaged, plain, plain_soon, told}
 use Rattle.bm_replay.proofs.Sending.{loss_owed}
 
 -- THE FIRST COPY
@@ -105,6 +106,38 @@ segment_len : (stage : Stage) (k : ℕ) (s : Segment) → AllByRecursion (λ r. 
 segment_len stage zero s fit is = absurd (cc)
 segment_len stage (suc i) s fit is = fit_len stage.script.setting.vips stage.capture.records i s fit is
 
+-- THE PACKET
+
+record_body : (m : Moment) (b : Body) (s : Segment) → steerable (Some (record { moment = m; body = b })) ≡ Some s → b ≡ Steerable s
+record_body m (Steerable x) s is = ap (λ (y : Segment). Steerable y) (same_Some _ _ is)
+record_body m (Unsteered why) s is = absurd (cc)
+
+record_of : (o : Option Record) (s : Segment) → steerable o ≡ Some s → (r : Record) × (o ≡ Some r) × (r.body ≡ Steerable s)
+record_of None s is = absurd (cc)
+record_of (Some r) s is = (r, refl, record_body r.moment r.body s is)
+
+-- a steerable record's packet is there
+packet_at : (records : List Record) (i : ℕ) (s : Segment) (packets : List (List ℕ)) → ArePackets records packets → steerable (slice_get records i) ≡ Some s → (i < length packets) × IsPacketOf (Steerable s) (slice_index_or packets i [])
+packet_at records i s packets are is =
+    let there = record_of (slice_get records i) s is
+    in let packet : IsPacketOf there.0.body (slice_index_or packets i []) = are.each i there.0 there.1
+    in (inside, subst (λ (b : Body). IsPacketOf b (slice_index_or packets i [])) there.2 packet) where
+      inside : i < length packets
+      inside = elim (slice_get_cases records i).1 [
+        | inl here ↦ let c = are.count in let h = here.1 in omega arith
+        | inr beyond ↦ absurd (let bad : steerable None ≡ Some s = rw beyond.1 at is in cc)
+      ]
+
+packet_number : (stage : Stage) (k : ℕ) (s : Segment) (packets : List (List ℕ)) → ArePackets stage.capture.records packets → segment_of stage k ≡ Some s → (1 ≤ k) × (k ≤ length packets)
+packet_number stage zero s packets are is = absurd (cc)
+packet_number stage (suc i) s packets are is = let h = (packet_at stage.capture.records i s packets are is).0 in (omega arith, omega arith)
+
+packet_is : (stage : Stage) (k : ℕ) (s : Segment) (packets : List (List ℕ)) → ArePackets stage.capture.records packets → segment_of stage k ≡ Some s → IsPacketOf (Steerable s) (slice_index_or packets (k - 1) [])
+packet_is stage zero s packets are is = absurd (cc)
+packet_is stage (suc i) s packets are is =
+    let same : suc i - 1 ≡ i = omega arith
+    in subst (λ (n : ℕ). IsPacketOf (Steerable s) (slice_index_or packets n [])) (sym same) (packet_at stage.capture.records i s packets are is).1
+
 pub can_arrive : (R : Routes) (F : Rules) (p : Player) (at : Moment) → IsReadyCopy R F p at → CanArrive at p
 can_arrive R F p at c =
     let f = first_flies p.stage (past_of p) p.wire (wire c.ready.fates (past_of p)) c.copy c.others c.ready.state.flights c.is_wire
@@ -118,36 +151,29 @@ can_arrive R F p at c =
       is_segment = seg;
       clock = clock_low R F p at (copy_due c.copy) c.ready;
       len = segment_len p.stage f.0.flight.packet st.segment c.ready.played.sound.records_fit seg;
-      dest = landing_number p.stage (past_of p) f.0.flight c.copy c.ready.played.run (λ v b. table_numbers p.stage.script c.ready.played.sound.script v b) is;
-      places = record { shards = c.ready.played.sound.script.setting.shards; lie = c.ready.state.books.lie };
+      tag = landing_tag p.stage (past_of p) f.0.flight is.label c.ready.played.sound.script c.ready.played.run is.is_label is.tag;
+      fits = landing_fits p.stage (past_of p) f.0.flight is.label c.ready.played.sound.script c.ready.played.plan.count c.ready.played.run is.is_label is.tag;
+      number = packet_number p.stage f.0.flight.packet st.segment p.packets.now c.ready.state.packets seg;
+      packet = packet_is p.stage f.0.flight.packet st.segment p.packets.now c.ready.state.packets seg;
+      places = places_of R F p c.ready.fates (past_of p) c.ready.played c.ready.state;
     }
 
 -- THE VERDICT
 
-shard_below : (stage : Stage) (s : Segment) → 1 ≤ stage.script.setting.shards → shard stage s.flow < stage.script.setting.shards
-shard_below stage s some = omega arith
-
-local_same : (p : Player) (past : List Event) (flight : Flight) (s : Segment) → flight.tag.dest.0 ≤ 1024 → 1 ≤ p.stage.script.setting.shards → KeepsBooks p.stage past p.shards
-    → local_of p.stage.script.setting.capacity (shard_at p.shards (place_for p flight s)) s.flow ≡ local_at p.stage past flight.tag.dest s.flow
-local_same p past flight s number some keeps =
-    local_is p.stage.script.setting.capacity (book_of p.stage past flight.tag.dest (shard p.stage s.flow)) (shard_at p.shards (place_for p flight s)) s.flow (keeps.books flight.tag.dest (shard p.stage s.flow) number (shard_below p.stage s some))
-    ∙ sym (local_in_book p.stage past flight.tag.dest s.flow)
-
-verdict_same : (p : Player) (past : List Event) (at : Moment) (flight : Flight) (s : Segment) (u : Underway) (is : IsLanding p.stage past flight u) → flight.tag.dest.0 ≤ 1024 → 1 ≤ p.stage.script.setting.shards → KeepsBooks p.stage past p.shards
+verdict_same : (p : Player) (past : List Event) (at : Moment) (flight : Flight) (s : Segment) (u : Underway) (is : IsLanding p.stage past flight u) → flight.tag.dest.0 ≤ 1024 → 1 ≤ p.stage.script.setting.shards → last_clock past < at.0 → KeepsBooks p.stage past p.shards
     → verdict_for p at flight s ≡ verdict_at p.stage past at.0 is.label flight.tag.hop flight.tag.dest s
-verdict_same p past at flight s u is number some keeps =
-    ap (λ (l : Local). verdict_on l p.stage.script.setting.timeout at.0 flight.tag s) (local_same p past flight s number some keeps)
-    ∙ verdict_by_tag (local_at p.stage past flight.tag.dest s.flow) p.stage.script.setting.timeout at.0 is.label flight.tag.hop flight.tag s is.tag
+verdict_same p past at flight s u is number some later keeps =
+    verdict_as p.stage past (shard p.stage s.flow) (book_at p.shards (place_for p flight s)) at is.label flight s (keeps.each flight.tag.dest (shard p.stage s.flow) number (shard_below p.stage s.flow some)) refl is.tag later
 
-arrive_answered : (p : Player) (past : List Event) (at : Moment) (flight : Flight) (s : Segment) (u : Underway) → IsLanding p.stage past flight u → flight.tag.dest.0 ≤ 1024 → 1 ≤ p.stage.script.setting.shards → KeepsBooks p.stage past p.shards
+arrive_answered : (p : Player) (past : List Event) (at : Moment) (flight : Flight) (s : Segment) (u : Underway) → IsLanding p.stage past flight u → flight.tag.dest.0 ≤ 1024 → 1 ≤ p.stage.script.setting.shards → last_clock past < at.0 → KeepsBooks p.stage past p.shards
     → segment_of p.stage flight.packet ≡ Some s → IsAnswered p.stage past at.0 (Arrive flight.packet flight.tag.hop flight.tag.dest (verdict_for p at flight s))
-arrive_answered p past at flight s u is number some keeps seg = record {
+arrive_answered p past at flight s u is number some later keeps seg = record {
   segment = s;
   is_segment = seg;
   label = is.label;
   is_label = is.is_label;
   place = is.place;
-  verdict_is = verdict_same p past at flight s u is number some keeps;
+  verdict_is = verdict_same p past at flight s u is number some later keeps;
 }
 
 -- WHERE IT IS FORWARDED TO
@@ -192,21 +218,20 @@ record IsAtStop (R : Routes) (F : Rules) (p : Player) (at : Moment) (flight : Fl
   is_landing : IsLanding p.stage (past_of p) flight copy.copy
   number : flight.tag.dest.0 ≤ 1024
   some : 1 ≤ p.stage.script.setting.shards
+  later : last_clock (past_of p) < at.0
   is_segment : segment_of p.stage flight.packet ≡ Some s
 
-books_arrived : (p : Player) (past : List Event) (at : Moment) (flight : Flight) (s : Segment) → flight.tag.dest.0 ≤ 1024 → 1 ≤ p.stage.script.setting.shards → segment_of p.stage flight.packet ≡ Some s → KeepsBooks p.stage past p.shards
-    → KeepsBooks p.stage (arrive_event at flight s p ∷ past) (set p.shards (place_for p flight s) (shard_after (verdict_for p at flight s) s (shard_at p.shards (place_for p flight s))))
-books_arrived p past at flight s number some seg keeps =
-    books_more p.stage past (arrive_event at flight s p) p.shards _ (Took s (verdict_for p at flight s)) flight.tag.dest (shard p.stage s.flow) (shard_after (verdict_for p at flight s) s (shard_at p.shards (place_for p flight s)))
-    number (shard_below p.stage s some) (λ t h. rw seg refl)
-    (set_one (place_for p flight s) _ p.shards (place_inside flight.tag.dest.0 p.stage.script.setting.shards (shard p.stage s.flow) (length p.shards) number (shard_below p.stage s some) keeps.lie))
-    (settled (verdict_for p at flight s) s (book_of p.stage past flight.tag.dest (shard p.stage s.flow)) _ (keeps.books flight.tag.dest (shard p.stage s.flow) number (shard_below p.stage s some))) keeps
+books_arrived : (p : Player) (past : List Event) (at : Moment) (flight : Flight) (s : Segment) → flight.tag.dest.0 ≤ 1024 → 1 ≤ p.stage.script.setting.shards → segment_of p.stage flight.packet ≡ Some s → last_clock past < at.0 → KeepsBooks p.stage past p.shards
+    → KeepsBooks p.stage (arrive_event at flight s p ∷ past) (books_after p.shards (place_for p flight s) (arrival flight s at))
+books_arrived p past at flight s number some seg later keeps =
+    books_more p.stage past (arrive_event at flight s p) p.shards (arrival flight s at) (Took s (verdict_for p at flight s)) flight.tag.dest (shard p.stage s.flow)
+    number (shard_below p.stage s.flow some) (λ t h. rw seg refl) refl later (omega arith) keeps
 
 told_arrival : (R : Routes) (F : Rules) (p : Player) (at : Moment) (flight : Flight) (s : Segment) (c : IsAtStop R F p at flight s) (f : Fate) → IfSome (sending_of (arrive_what at flight s p)) (λ x. F x.packet x.hop f) → IsSoon f
     → IsPlayed R F p.stage (f ∷ c.copy.ready.fates) (arrive_event at flight s p ∷ past_of p)
 told_arrival R F p at flight s c f given soon =
     told R F p at (copy_due c.copy.copy) c.copy.ready (arrive_what at flight s p) f (λ i. Arrives (c.is_landing.packet i) (c.is_landing.hop i))
-    (arrive_answered p (past_of p) at flight s c.copy.copy c.is_landing c.number c.some c.copy.ready.state.books c.is_segment) tt given soon
+    (arrive_answered p (past_of p) at flight s c.copy.copy c.is_landing c.number c.some c.later c.copy.ready.state.books c.is_segment) tt given soon
 
 kept_arrival : (R : Routes) (F : Rules) (p : Player) (at : Moment) (flight : Flight) (s : Segment) (c : IsAtStop R F p at flight s) (f : Fate) (o : Option Sending) (flying : List Flying) (loss : Option Loss) → sending_of (arrive_what at flight s p) ≡ o
     → AreFlying p.stage (arrive_event at flight s p ∷ past_of p) flying (put_sent f (length (past_of p)) at.0 o (rest (wire c.copy.ready.fates (past_of p)))) → lost_call loss ≡ barren f o
@@ -218,7 +243,8 @@ kept_arrival R F p at flight s c f o flying loss is are owes = record {
   published = c.copy.ready.state.published;
   muxes = muxes_stay p.stage (past_of p) (arrive_event at flight s p) p.fleet p.switch (λ m. refl) (λ m. refl) c.copy.ready.state.muxes;
   queues = queues_stay p.stage (past_of p) (arrive_event at flight s p) p.close p.retire p.sync p.packet refl refl refl refl c.copy.ready.state.queues;
-  books = books_arrived p (past_of p) at flight s c.number c.some c.is_segment c.copy.ready.state.books;
+  books = books_arrived p (past_of p) at flight s c.number c.some c.is_segment c.later c.copy.ready.state.books;
+  packets = c.copy.ready.state.packets;
 }
 
 others_arrived : (R : Routes) (F : Rules) (p : Player) (at : Moment) (flight : Flight) (s : Segment) (c : IsAtStop R F p at flight s) (f : Fate) → IsPlayed R F p.stage (f ∷ c.copy.ready.fates) (arrive_event at flight s p ∷ past_of p)
@@ -249,7 +275,7 @@ went_on R F p q at flight s to c forward sending =
     (loss_owed sending.fate (chained to flight) (record { packet = flight.packet; hop = Chained }) refl refl))) where
       is_passed : IsPassed c.is_landing.label.entry flight.tag.hop to
       is_passed = passed (local_at p.stage (past_of p) flight.tag.dest s.flow) (timeout p.stage) at.0 c.is_landing.label.entry flight.tag.hop s to
-          (sym (verdict_same p (past_of p) at flight s c.copy.copy c.is_landing c.number c.some c.copy.ready.state.books) ∙ forward)
+          (sym (verdict_same p (past_of p) at flight s c.copy.copy c.is_landing c.number c.some c.later c.copy.ready.state.books) ∙ forward)
 
       sends : sending_of (arrive_what at flight s p) ≡ Some (record { packet = flight.packet; hop = Chained })
       sends = ap (λ (v : Verdict). sending_of (Arrive flight.packet flight.tag.hop flight.tag.dest v)) forward ∙ sends_on flight.packet flight.tag.hop flight.tag.dest to is_passed.direct
@@ -288,5 +314,6 @@ arrived R F p q at c come =
       is_landing = is;
       number = landing_number p.stage (past_of p) come.flight c.copy c.ready.played.run (λ v b. table_numbers p.stage.script c.ready.played.sound.script v b) is;
       some = c.ready.played.sound.script.setting.shards.0;
+      later = (clock_later R F p at (copy_due c.copy) c.ready).0;
       is_segment = come.is_segment;
     }) (verdict_for p at come.flight come.segment) refl come.is

@@ -1,209 +1,156 @@
--- What is done to a shard leaves in it what its turn leaves in the book.
-use Rattle.std.proofs.Common.{is_some, ◌&&◌, ◌≡◌, ℕ, Bool, true, false, cond, not, List, [], ◌∷◌, ◌++◌, map, Option, Some, None, length, refl, sym, ap, ◌∙◌, inl, inr, ◌==◌}
-use Rattle.std.specs.Prelude.{reverse, filter, option_map}
-use Rattle.std.proofs.lemmas.Bool.{cases_Bool, both_ways}
-use Rattle.std.proofs.lemmas.List.{length-map, length-reverse, map-append, append-nil, reverse-append}
-use Rattle.std.proofs.lemmas.List.Elements.{filter-append}
+-- The books of the shards: at the beginning, and after a call.
+use Rattle.std.proofs.Common.{◌≡◌, ℕ, zero, suc, ◌+◌, ◌-◌, ◌*◌, ◌^◌, ◌<◌, ◌≤◌, List, [], ◌∷◌, ◌++◌, length, Option, Some, is_some, max, refl, sym, ap, subst, ◌∙◌, inl, inr, get_or, mul-le-mul_left, mul-le-mul_right, arith}
+use Rattle.std.specs.Prelude.{reverse}
+use Rattle.std.proofs.lemmas.Bool.{cases_lt}
+use Rattle.std.proofs.lemmas.List.{length-append, reverse-append, get_or-append-add}
+use Rattle.std.proofs.Math.ListN.{get_or-append}
+use Rattle.std.proofs.Math.Seq.{get_or-append_seam}
+use Rattle.bm_base.specs.declared.ids.ServerId.{ServerId}
+use Rattle.bm_table.specs.declared.setting.Setting.{Setting}
+use Rattle.bm_core.specs.declared.events.Event.{Event}
+use Rattle.bm_core.specs.declared.events.Stage.{Stage}
+use Rattle.bm_core.specs.Books.{Turn, add_turn, book_of, turn_of}
+use Rattle.bm_core.specs.Runs.{last_clock}
+use Rattle.bm_shard.specs.Books.{Book, clock_after, clock_of, entry_after}
+use Rattle.bm_shard.specs.Replies.{turn_of as turn_by, verdict_by, what_of}
+use Rattle.bm_shard.specs.Turns.{moment_of, turn_kept, turns}
+use Rattle.bm_shard.specs.declared.calls.ShardCall.{ShardCall}
+use Rattle.bm_shard.specs.declared.calls.ShardEntry.{ShardEntry}
+use Rattle.bm_shard.proofs.Keeping.{turn_is_kept}
 use Rattle.bm_base.specs.declared.flow.Flow.{Flow}
 use Rattle.bm_base.specs.declared.flow.Segment.{Segment}
-use Rattle.bm_base.specs.declared.receive.Taken.{Taken}
-use Rattle.bm_base.specs.declared.receive.Taken.TheVariants.{Advance, Duplicate, Ahead, Outside, Challenge, Ended}
-use Rattle.bm_base.specs.Segments.{same_flow}
-use Rattle.bm_seq.specs.declared.receiver.Receiver.{Receiver}
-use Rattle.bm_seq.specs.Receivers.{receiver_after}
-use Rattle.bm_core.specs.declared.events.Verdict.{Verdict}
-use Rattle.bm_core.specs.declared.events.Verdict.TheVariants.{Accept, Process, Forward, Reset, Drop}
-use Rattle.bm_core.specs.Past.{without}
-use Rattle.bm_table.specs.declared.plan.Retirement.{Retirement}
-use Rattle.bm_table.specs.declared.plan.Retirement.TheVariants.{Done, NotDrained, TooEarly}
-use Rattle.bm_core.specs.Books.{Turn, Took, Closed, RetiredAs, book_held, book_flows, book_local}
-use Rattle.bm_core.proofs.Pasts.{same_flow-true, same_flow_refl}
-use Rattle.bm_replay.specs.declared.shard.Connection.{Connection}
-use Rattle.bm_replay.specs.declared.shard.Shard.{Shard}
-use Rattle.bm_replay.specs.Connections.{look_up, local_of, closed_shard, connection_of, after_segment, retired_after, shard_after, without_flow}
-use Rattle.bm_replay.specs.Shards.{IsLeftBy}
+use Rattle.bm_base.specs.declared.ids.Moment.{Moment}
+use Rattle.bm_base.specs.declared.label.Label.{Label}
+use Rattle.bm_base.specs.Labels.{tag_of}
+use Rattle.bm_fault.specs.declared.wire.Flight.{Flight}
+use Rattle.bm_core.specs.Past.{held, shard}
+use Rattle.bm_core.specs.Verdicts.{verdict_at}
+use Rattle.bm_shard.specs.declared.book.Shard.{Shard}
+use Rattle.bm_shard.proofs.Meaning.{held_same, verdict_same}
+use Rattle.bm_core.specs.Accounts.{Routes, Rules}
+use Rattle.bm_core.proofs.Existing.{length_law}
+use Rattle.bm_base.specs.declared.receive.Fate.{Fate}
+use Rattle.bm_replay.specs.declared.player.Player.{Player}
+use Rattle.bm_replay.specs.Players.{HasPlaces}
+use Rattle.bm_replay.specs.Playing.{IsPlayed, KeepsState}
+use Rattle.bm_replay.specs.Shards.{IsBookOf, IsReady, all_books, arrival, book_after, book_at, empty_book, holds, known_in, no_book, place_of, server_books, verdict_in}
 
--- LOOKING UP
+-- AT THE BEGINNING
 
--- a flow that is f is no flow that isn't f
-apart : (g x f : Flow) → same_flow g x ≡ false → same_flow x f ≡ true → same_flow g f ≡ false
-apart g x f other same = elim (cases_Bool (same_flow g f)) [
-  | inl bad ↦
-      let a : g ≡ f = same_flow-true g f bad
-      in let b : x ≡ f = same_flow-true x f same
-      in let c : same_flow g x ≡ true = rw (a, b) (same_flow_refl f)
-      in absurd (both_ways _ other c)
-  | inr fine ↦ fine
+length_server : (setting : Setting) (s : ServerId) (n : ℕ) → length (server_books setting s n) ≡ n
+length_server setting s zero = refl
+length_server setting s (suc n) =
+    let e = length_server setting s n
+    in let l : length (server_books setting s (suc n)) ≡ length (server_books setting s n) + 1 = length-append (server_books setting s n) (empty_book setting s n ∷ [])
+    in omega arith
+
+book_of_server : (setting : Setting) (s : ServerId) (n h : ℕ) → h < n → get_or (server_books setting s n) h no_book ≡ empty_book setting s h
+book_of_server setting s zero h below = absurd (omega arith)
+book_of_server setting s (suc n) h below = elim (cases_lt h n) [
+  | inl earlier ↦ get_or-append (server_books setting s n) (empty_book setting s n ∷ []) no_book h (let e = length_server setting s n in omega arith) ∙ book_of_server setting s n h earlier
+  | inr last ↦
+      let same : n ≡ h = omega arith
+      in let seam : get_or (server_books setting s n ++ empty_book setting s n ∷ []) n no_book ≡ empty_book setting s n =
+      subst (λ (m : ℕ). get_or (server_books setting s n ++ empty_book setting s n ∷ []) m no_book ≡ empty_book setting s n) (length_server setting s n)
+      (get_or-append_seam (server_books setting s n) (empty_book setting s n) [] no_book)
+      in subst (λ (m : ℕ). get_or (server_books setting s n ++ empty_book setting s n ∷ []) m no_book ≡ empty_book setting s m) same seam
 ]
 
-together : (g x f : Flow) → same_flow g x ≡ true → same_flow x f ≡ same_flow g f
-together g x f same = ap (λ (y : Flow). same_flow y f) (sym (same_flow-true g x same))
+pub length_all : (setting : Setting) (n : ℕ) → length (all_books setting n) ≡ n * setting.shards
+unfolding all_books
+length_all setting zero = omega arith
+length_all setting (suc n) =
+    let e = length_all setting n
+    in let s = length_server setting (record { 0 = n }) setting.shards
+    in let l : length (all_books setting (suc n)) ≡ length (all_books setting n) + length (server_books setting (record { 0 = n }) setting.shards) = length-append (all_books setting n) (server_books setting (record { 0 = n }) setting.shards)
+    in omega arith
 
-look_up-without : (f g : Flow) (cs : List Connection) → look_up f (without_flow g cs) ≡ cond (same_flow g f) None (look_up f cs)
-look_up-without f g [] = elim (cases_Bool (same_flow g f)) [ inl same ↦ rw same refl | inr other ↦ rw other refl ]
-look_up-without f g (x ∷ cs) = elim (cases_Bool (same_flow g x.flow)) [
-  | inl gone ↦ rw (gone, together g x.flow f gone) (look_up-without f g cs ∙ (elim (cases_Bool (same_flow g f)) [ inl same ↦ rw same refl | inr other ↦ rw other refl ]))
-  | inr kept ↦ rw kept (elim (cases_Bool (same_flow x.flow f)) [
-    | inl here ↦ rw (here, apart g x.flow f kept here) refl
-    | inr there ↦ rw there (look_up-without f g cs)
-  ])
-]
+pub book_at_first : (setting : Setting) (n : ℕ) (s : ServerId) (h : ℕ) → s.0 < n → h < setting.shards → book_at (all_books setting n) (s.0 * setting.shards + h) ≡ empty_book setting s h
+unfolding all_books
+book_at_first setting zero s h few below = absurd (omega arith)
+book_at_first setting (suc n) s h few below = elim (cases_lt s.0 n) [
+  | inl earlier ↦
+      let room : suc s.0 * setting.shards ≤ n * setting.shards = mul-le-mul_right setting.shards earlier
+      in get_or-append (all_books setting n) (server_books setting (record { 0 = n }) setting.shards) no_book (s.0 * setting.shards + h) (let e = length_all setting n in omega arith) ∙ book_at_first setting n s h earlier below
+  | inr last ↦
+      let same : n ≡ s.0 = omega arith
+      in subst (λ (m : ℕ). get_or (all_books setting n ++ server_books setting (record { 0 = n }) setting.shards) (m * setting.shards + h) no_book ≡ empty_book setting (record { 0 = m }) h) same here
+] where
+  here : get_or (all_books setting n ++ server_books setting (record { 0 = n }) setting.shards) (n * setting.shards + h) no_book ≡ empty_book setting (record { 0 = n }) h
+  here =
+      subst (λ (m : ℕ). get_or (all_books setting n ++ server_books setting (record { 0 = n }) setting.shards) (m + h) no_book ≡ get_or (server_books setting (record { 0 = n }) setting.shards) h no_book) (length_all setting n)
+      (get_or-append-add (all_books setting n) (server_books setting (record { 0 = n }) setting.shards) h no_book)
+      ∙ book_of_server setting (record { 0 = n }) setting.shards h below
 
-look_up-with : (f : Flow) (c : Connection) (cs : List Connection) → look_up f (without_flow c.flow cs ++ c ∷ []) ≡ cond (same_flow c.flow f) (Some c.receiver) (look_up f cs)
-look_up-with f c [] = refl
-look_up-with f c (x ∷ cs) = elim (cases_Bool (same_flow c.flow x.flow)) [
-  | inl gone ↦ rw (gone, together c.flow x.flow f gone) (look_up-with f c cs ∙ (elim (cases_Bool (same_flow c.flow f)) [ inl same ↦ rw same refl | inr other ↦ rw other refl ]))
-  | inr kept ↦ rw kept (elim (cases_Bool (same_flow x.flow f)) [
-    | inl here ↦ rw (here, apart c.flow x.flow f kept here) refl
-    | inr there ↦ rw there (look_up-with f c cs)
-  ])
-]
+-- AFTER A CALL
 
--- where x is f, what isn't x isn't f
-apart_from : (x s f : Flow) → same_flow x s ≡ false → same_flow x f ≡ true → same_flow s f ≡ false
-apart_from x s f other same = elim (cases_Bool (same_flow s f)) [
-  | inl bad ↦
-      let a : s ≡ f = same_flow-true s f bad
-      in let b : x ≡ f = same_flow-true x f same
-      in let c : same_flow x s ≡ true = rw (a, b) (same_flow_refl f)
-      in absurd (both_ways _ other c)
-  | inr fine ↦ fine
-]
+-- a call whose turn is the event's
+pub after_call : (stage : Stage) (past : List Event) (e : Event) (s : ServerId) (h : ℕ) (book : Book) (call : ShardCall) (t : Turn) → turn_of stage e.what s h ≡ Some t → turn_by book.shard (known_in book) (clock_after (reverse book.entries) call) call ≡ t
+    → last_clock past < e.clock.0 → (moment_of call).0 < e.clock.0 → IsBookOf stage past s h book → IsBookOf stage (e ∷ past) s h (book_after book call)
+after_call stage past e s h book call t turn by later early is = record {
+  shard = is.shard;
+  calls = ap (λ (l : List ShardEntry). turns l) reversed ∙ (ap (λ (o : Option Turn). add_turn o (turns (reverse book.entries))) kept ∙ ((λ i. t ∷ is.calls i) ∙ ap (λ (o : Option Turn). add_turn o (book_of stage past s h)) (sym turn)));
+  clock = subst (λ (l : List ShardEntry). (clock_of l).0 ≤ e.clock.0) (sym reversed) (let c = is.clock in omega arith);
+  few = let l = length-append book.entries (entry ∷ []) in let f = is.few in omega arith;
+} where
+  entry : ShardEntry
+  entry = entry_after book.shard (reverse book.entries) 0 call
 
-look_up-after : (f : Flow) (s : Segment) (cs : List Connection) → look_up f (map (λ c. after_segment s c) cs) ≡ cond (same_flow s.flow f) (option_map (λ r. receiver_after r s) (look_up f cs)) (look_up f cs)
-look_up-after f s [] = elim (cases_Bool (same_flow s.flow f)) [ inl same ↦ rw same refl | inr other ↦ rw other refl ]
-look_up-after f s (x ∷ cs) = elim (cases_Bool (same_flow x.flow s.flow)) [
-  | inl this ↦ rw this (elim (cases_Bool (same_flow x.flow f)) [
-    | inl here ↦
-        let same : same_flow s.flow f ≡ true = together x.flow s.flow f this ∙ here
-        in rw (here, same) refl
-    | inr there ↦
-        let same : same_flow s.flow f ≡ false = together x.flow s.flow f this ∙ there
-        in rw (there, same) (look_up-after f s cs ∙ rw same refl)
-  ])
-  | inr other ↦ rw other (elim (cases_Bool (same_flow x.flow f)) [
-    | inl here ↦ rw (here, apart_from x.flow s.flow f other here) refl
-    | inr there ↦ rw there (look_up-after f s cs)
-  ])
-]
+  reversed : reverse (book.entries ++ entry_after book.shard (reverse book.entries) 0 call ∷ []) ≡ entry_after book.shard (reverse book.entries) 0 call ∷ reverse book.entries
+  reversed = reverse-append book.entries (entry_after book.shard (reverse book.entries) 0 call ∷ [])
 
--- THE FLOWS
+  kept : turn_kept call (what_of book.shard (known_in book) (clock_after (reverse book.entries) call) call) ≡ Some t
+  kept = turn_is_kept book.shard (known_in book) (clock_after (reverse book.entries) call) call ∙ ap (λ (x : Turn). Some x) by
 
-reverse_more : (f : Flow) (fs : List Flow) → reverse (f ∷ fs) ≡ reverse fs ++ f ∷ []
-reverse_more f fs = reverse-append (f ∷ []) fs
+-- WHAT THEY SAY
 
-filter-reverse : (p : Flow → Bool) (fs : List Flow) → filter p (reverse fs) ≡ reverse (filter p fs)
-filter-reverse p [] = refl
-filter-reverse p (f ∷ fs) = elim (cases_Bool (p f)) [
-  | inl in_it ↦ ap (λ (l : List Flow). filter p l) (reverse_more f fs) ∙ (filter-append p (reverse fs) (f ∷ []) ∙ rw (in_it, filter-reverse p fs) (sym (reverse_more f (filter p fs))))
-  | inr out ↦ ap (λ (l : List Flow). filter p l) (reverse_more f fs) ∙ (filter-append p (reverse fs) (f ∷ []) ∙ rw (out, filter-reverse p fs) (append-nil (reverse (filter p fs))))
-]
+-- its turns, by its own numbers
+calls_of : (stage : Stage) (past : List Event) (s : ServerId) (h : ℕ) (book : Book) → IsBookOf stage past s h book → turns (reverse book.entries) ≡ book_of stage past book.shard.server book.shard.number
+calls_of stage past s h book is = is.calls ∙ sym (ap (λ (x : Shard). book_of stage past x.server x.number) is.shard)
 
-flows-without : (g : Flow) (cs : List Connection) → map (λ c. c.flow) (without_flow g cs) ≡ without g (map (λ c. c.flow) cs)
-flows-without g [] = refl
-flows-without g (x ∷ cs) = elim (cases_Bool (same_flow g x.flow)) [
-  | inl gone ↦ rw gone (flows-without g cs)
-  | inr kept ↦ rw kept (ap (λ (l : List Flow). x.flow ∷ l) (flows-without g cs))
-]
+-- a book of a shard holds the flows that the history says
+pub holds_same : (stage : Stage) (past : List Event) (s : ServerId) (h : ℕ) (book : Book) (f : Flow) → IsBookOf stage past s h book → shard stage f ≡ h → holds book f ≡ is_some (held stage past s f)
+holds_same stage past s h book f is here =
+    held_same stage past book.shard (reverse book.entries) (ap (λ (x : Shard). x.capacity) is.shard) (calls_of stage past s h book is) f (here ∙ sym (ap (λ (x : Shard). x.number) is.shard))
+    ∙ ap (λ (x : Shard). is_some (held stage past x.server f)) is.shard
 
-flows-after : (s : Segment) (cs : List Connection) → map (λ c. c.flow) (map (λ c. after_segment s c) cs) ≡ map (λ c. c.flow) cs
-flows-after s [] = refl
-flows-after s (x ∷ cs) = elim (cases_Bool (same_flow x.flow s.flow)) [
-  | inl this ↦ rw this (ap (λ (l : List Flow). x.flow ∷ l) (flows-after s cs))
-  | inr other ↦ rw other (ap (λ (l : List Flow). x.flow ∷ l) (flows-after s cs))
-]
+-- its clock after an arrival is that of the event
+clock_same : (past : List ShardEntry) (flight : Flight) (s : Segment) (at : Moment) → (clock_of past).0 < at.0 → clock_after past (arrival flight s at) ≡ at
+clock_same past flight s at later = (λ i. record { 0 = e i }) where
+  e : suc (max (clock_of past).0 (at.0 - 1)) ≡ at.0
+  e = omega arith
 
-flows-ended : (g : Flow) (flows : List Flow) (cs : List Connection) → map (λ c. c.flow) cs ≡ reverse flows → map (λ c. c.flow) (without_flow g cs) ≡ reverse (without g flows)
-flows-ended g flows cs e = flows-without g cs ∙ (ap (λ (l : List Flow). without g l) e ∙ filter-reverse (λ x. not (same_flow g x)) flows)
+-- its verdict on a copy is that of the history
+pub verdict_as : (stage : Stage) (past : List Event) (h : ℕ) (book : Book) (at : Moment) (label : Label) (flight : Flight) (s : Segment) → IsBookOf stage past flight.tag.dest h book → shard stage s.flow ≡ h → tag_of label flight.tag.hop ≡ Some flight.tag → last_clock past < at.0
+    → verdict_in book flight s at ≡ verdict_at stage past at.0 label flight.tag.hop flight.tag.dest s
+verdict_as stage past h book at label flight s is here tagged later =
+    ap (λ (m : Moment). verdict_by book.shard (known_in book) m flight.tag s) (clock_same (reverse book.entries) flight s at (let c = is.clock in omega arith))
+    ∙ (verdict_same stage past book.shard (reverse book.entries) (ap (λ (x : Shard). x.capacity) is.shard) (ap (λ (x : Shard). x.timeout) is.shard) (calls_of stage past flight.tag.dest h book is)
+    label flight.tag.hop flight.tag s at tagged (here ∙ sym (ap (λ (x : Shard). x.number) is.shard))
+    ∙ ap (λ (x : Shard). verdict_at stage past at.0 label flight.tag.hop x.server s) is.shard)
 
--- THE VERDICTS
+-- WHAT THEY NEED
 
-no_choice : (b : Bool) (o : Option Receiver) → cond b o o ≡ o
-no_choice true o = refl
-no_choice false o = refl
+pub shard_below : (stage : Stage) (f : Flow) → 1 ≤ stage.script.setting.shards → shard stage f < stage.script.setting.shards
+shard_below stage f some = omega arith
 
--- a flow that isn't held isn't there
-pub without_none : (f : Flow) (cs : List Connection) → is_some (look_up f cs) ≡ false → without_flow f cs ≡ cs
-without_none f [] none = refl
-without_none f (x ∷ cs) none = elim (cases_Bool (same_flow x.flow f)) [
-  | inl here ↦ absurd (let bad : ◌≡◌ {A = Bool} true false = rw here at none in cc)
-  | inr there ↦
-      let other : same_flow f x.flow ≡ false = apart_from x.flow f x.flow there (same_flow_refl x.flow)
-      in rw other (ap (λ (l : List Connection). x ∷ l) (without_none f cs (rw there at none)))
-]
+-- the shard of a flow takes a call
+pub ready_at : (p : Player) (s : ServerId) (h : ℕ) (at : Moment) (place : ℕ) → HasPlaces p → s.0 ≤ 1024 → h < p.stage.script.setting.shards → at.0 ≤ 9 * 10 ^ 18 → place ≡ place_of p.stage s h → IsReady place at p.shards
+ready_at p s h at place places number below early is = subst (λ (n : ℕ). IsReady n at p.shards) (sym is) (places.ready s h at number below early)
 
--- TURNS
+-- the place is one of the first 1025 times so many
+pub place_inside : (s shards h n : ℕ) → s ≤ 1024 → h < shards → 1025 * shards ≤ n → s * shards + h < n
+place_inside s shards h n few in_it lie = omega (arith, mul-le-mul_left shards few)
 
-unchanged : (verdict : Verdict) (s : Segment) (book : List Turn) (x : Shard) → IsLeftBy book x → ((f : Flow) → book_held (Took s verdict ∷ book) f ≡ book_held book f) → book_flows (Took s verdict ∷ book) ≡ book_flows book
-    → IsLeftBy (Took s verdict ∷ book) x
-unchanged verdict s book x is held flows = record {
-  held = λ f. is.held f ∙ sym (held f);
-  flows = is.flows ∙ ap (λ (l : List Flow). reverse l) (sym flows);
-  retired = is.retired;
+-- each server's shards are there, and were asked few things
+pub places_of : (R : Routes) (F : Rules) (p : Player) (fates : List Fate) (past : List Event) → IsPlayed R F p.stage fates past → KeepsState fates past p → HasPlaces p
+places_of R F p fates past played state = record {
+  shards = played.sound.script.setting.shards;
+  ready = λ s h at few below early. record {
+    inside = place_inside s.0 p.stage.script.setting.shards h (length p.shards) few below state.books.lie;
+    few = (let events : length past ≤ 6859840 = length_law fates p.stage past played.sound played.follows played.soon
+        in let entries = (state.books.each s h few below).few
+        in omega arith);
+    moment = early;
+  };
 }
-
-processed : (t : Taken) (s : Segment) (book : List Turn) (x : Shard) → IsLeftBy book x → book_flows (Took s (Process t) ∷ book) ≡ book_flows book
-    → ((f : Flow) → book_held (Took s (Process t) ∷ book) f ≡ cond (same_flow s.flow f) (option_map (λ r. receiver_after r s) (book_held book f)) (book_held book f))
-    → IsLeftBy (Took s (Process t) ∷ book) (record x { connections = map (λ c. after_segment s c) x.connections })
-processed t s book x is flows held = record {
-  held = λ f. look_up-after f s x.connections ∙ (rw (is.held f) (sym (held f)));
-  flows = flows-after s x.connections ∙ (is.flows ∙ ap (λ (l : List Flow). reverse l) (sym flows));
-  retired = is.retired;
-}
-
--- a verdict
-pub settled : (verdict : Verdict) (s : Segment) (book : List Turn) (x : Shard) → IsLeftBy book x → IsLeftBy (Took s verdict ∷ book) (shard_after verdict s x)
-settled Accept s book x is = record {
-  held = λ f. look_up-with f (connection_of s) x.connections ∙ rw (is.held f) refl;
-  flows = map-append (λ (c : Connection). c.flow) (without_flow s.flow x.connections) (connection_of s ∷ []) ∙ rw (flows-ended s.flow (book_flows book) x.connections is.flows) (sym (reverse_more s.flow (without s.flow (book_flows book))));
-  retired = is.retired;
-}
-settled (Process Ended) s book x is = record {
-  held = λ f. look_up-without f s.flow x.connections ∙ rw (is.held f) refl;
-  flows = flows-ended s.flow (book_flows book) x.connections is.flows;
-  retired = is.retired;
-}
-settled (Process Advance) s book x is = processed Advance s book x is refl (λ f. refl)
-settled (Process Duplicate) s book x is = processed Duplicate s book x is refl (λ f. refl)
-settled (Process Ahead) s book x is = processed Ahead s book x is refl (λ f. refl)
-settled (Process Outside) s book x is = processed Outside s book x is refl (λ f. refl)
-settled (Process Challenge) s book x is = processed Challenge s book x is refl (λ f. refl)
-settled (Forward to) s book x is = unchanged (Forward to) s book x is (λ f. no_choice (same_flow s.flow f) (book_held book f)) refl
-settled (Reset why) s book x is = unchanged (Reset why) s book x is (λ f. no_choice (same_flow s.flow f) (book_held book f)) refl
-settled (Drop why) s book x is = unchanged (Drop why) s book x is (λ f. no_choice (same_flow s.flow f) (book_held book f)) refl
-
-and_true : (b : Bool) (o : Option Receiver) → cond b None o ≡ cond (b && true) None o
-and_true true o = refl
-and_true false o = refl
-
-and_false : (b : Bool) (o : Option Receiver) → o ≡ cond (b && false) None o
-and_false true o = refl
-and_false false o = refl
-
--- a wish to close a connection
-pub closed : (f : Flow) (book : List Turn) (x : Shard) → IsLeftBy book x → IsLeftBy (Closed f (is_some (look_up f x.connections)) ∷ book) (closed_shard f x)
-closed f book x is = elim (cases_Bool (is_some (look_up f x.connections))) [
-  | inl some ↦ rw some (record {
-    held = λ g. look_up-without g f x.connections ∙ rw (is.held g) (and_true (same_flow f g) (book_held book g));
-    flows = flows-ended f (book_flows book) x.connections is.flows;
-    retired = is.retired;
-  })
-  | inr none ↦ rw none (record {
-    held = λ g. is.held g ∙ and_false (same_flow f g) (book_held book g);
-    flows = is.flows;
-    retired = is.retired;
-  })
-]
-
--- a wish to retire
-pub retired : (result : Retirement) (book : List Turn) (x : Shard) → IsLeftBy book x → IsLeftBy (RetiredAs result ∷ book) (retired_after result x)
-retired Done book x is = record { held = λ f. refl; flows = refl; retired = refl }
-retired NotDrained book x is = record { held = is.held; flows = is.flows; retired = is.retired }
-retired (TooEarly b) book x is = record { held = is.held; flows = is.flows; retired = is.retired }
-
--- what the shard says of a flow is what the book says
-pub local_is : (capacity : ℕ) (book : List Turn) (x : Shard) (f : Flow) → IsLeftBy book x → local_of capacity x f ≡ book_local capacity book f
-local_is capacity book x f is =
-    let count : length x.connections ≡ length (book_flows book) =
-    sym (length-map x.connections (λ (c : Connection). c.flow)) ∙ (ap (λ (l : List Flow). length l) is.flows ∙ length-reverse (book_flows book))
-    in λ i. record { retired = is.retired i; held = is.held f i; full = count i == capacity }

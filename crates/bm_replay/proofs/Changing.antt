@@ -24,7 +24,7 @@ use Rattle.bm_replay.specs.Playing.{HasPlayed, IsPlayed, KeepsMuxes, KeepsState,
 use Rattle.bm_replay.proofs.Flights.{all_stay}
 use Rattle.bm_replay.proofs.Keeping.{books_stay, count_grows, count_stays, muxes_stay, queues_stay, switches_are}
 use Rattle.bm_replay.proofs.Moments.{change_early}
-use Rattle.bm_replay.proofs.Ready.{IsReady, packaged, plain, plain_soon, told}
+use Rattle.bm_replay.proofs.Ready.{clock_later, IsReady, packaged, plain, plain_soon, told}
 
 -- A VERSION IS PUBLISHED
 
@@ -41,7 +41,8 @@ published R F p q at d v ready call is = subst (λ (x : Player). HasPlayed R F p
     published = refl;
     muxes = muxes_stay p.stage (past_of p) _ p.fleet p.switch (λ m. refl) (λ m. refl) ready.state.muxes;
     queues = queues_stay p.stage (past_of p) _ p.close p.retire p.sync p.packet refl refl refl refl ready.state.queues;
-    books = books_stay p.stage (past_of p) _ p.shards (λ s h. refl) ready.state.books;
+    books = books_stay p.stage (past_of p) _ p.shards (λ s h. refl) (omega (arith, (clock_later R F p at d ready).0)) ready.state.books;
+    packets = ready.state.packets;
   }
 
 -- A MUX SWITCHES
@@ -149,5 +150,6 @@ switched R F p q at d m v ready call come =
             published = ready.state.published;
             muxes = muxes_more p.stage (past_of p) at come.change m v p.fleet come.fleet p.switch ready.played.plan from.0 from.2 come.is_change come.count come.others come.moved ready.state.muxes;
             queues = queues_stay p.stage (past_of p) event p.close p.retire p.sync p.packet refl refl refl refl ready.state.queues;
-            books = books_stay p.stage (past_of p) event p.shards (λ s h. refl) ready.state.books;
+            books = books_stay p.stage (past_of p) event p.shards (λ s h. refl) (omega (arith, (clock_later R F p at d ready).0)) ready.state.books;
+            packets = ready.state.packets;
           }

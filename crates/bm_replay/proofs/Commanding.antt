@@ -1,11 +1,10 @@
 -- A connection is closed, a shard asked to retire, a phase ended.
-use Rattle.std.proofs.Common.{◌≡◌, ℕ, zero, suc, ◌<◌, ◌≤◌, List, [], ◌∷◌, Option, Some, None, is_some, length, set, refl, sym, ap, subst, ◌∙◌, arith}
+use Rattle.std.proofs.Common.{◌≡◌, ℕ, zero, suc, ◌<◌, ◌≤◌, List, [], ◌∷◌, Option, Some, None, is_some, length, refl, sym, subst, ◌∙◌, arith}
 use Rattle.std.specs.List.{AllByRecursion}
 use Rattle.bm_base.specs.declared.ids.Moment.{Moment}
 use Rattle.bm_base.specs.declared.ids.ServerId.{ServerId}
 use Rattle.bm_base.specs.declared.flow.Flow.{Flow}
 use Rattle.bm_table.specs.declared.plan.Retirement.{Retirement}
-use Rattle.bm_table.specs.declared.plan.Retirement.TheVariants.{Done, NotDrained, TooEarly}
 use Rattle.bm_table.specs.declared.script.Command.{Command}
 use Rattle.bm_table.specs.declared.script.Command.TheVariants.{Change as ChangeCommand, Close as CloseCommand, Retire as RetireCommand, Sync as SyncCommand}
 use Rattle.bm_table.specs.declared.script.Script.{Script}
@@ -18,60 +17,60 @@ use Rattle.bm_core.specs.declared.schedule.Call.{Call as Calls}
 use Rattle.bm_core.specs.declared.schedule.Call.TheVariants.{Closes, Retires, Syncs}
 use Rattle.bm_core.specs.declared.schedule.Due.{Due}
 use Rattle.bm_core.specs.Accounts.{Routes, Rules, counts}
-use Rattle.bm_core.specs.Books.{Closed, RetiredAs, book_of}
+use Rattle.bm_core.specs.Books.{Closed, RetiredAs}
+use Rattle.bm_core.specs.Runs.{last_clock}
 use Rattle.bm_core.specs.Past.{Holding, held, shard, timeout}
 use Rattle.bm_core.specs.Schedule.{call_of, close_commands, closes, first_of, left, retire_commands, retire_dues, retires, steers, sync_commands, syncs, wire}
 use Rattle.bm_core.specs.Verdicts.{receiver_of}
-use Rattle.bm_core.proofs.Books.{held_in_book}
 use Rattle.bm_core.proofs.Pasts.{newest_within}
 use Rattle.bm_core.proofs.Schedules.{Each, IsFrom, each_append, each_dropped}
-use Rattle.bm_seq.specs.declared.receiver.Receiver.{Receiver}
 use Rattle.bm_replay.specs.declared.player.Player.{Player}
-use Rattle.bm_replay.specs.declared.shard.Shard.{Shard}
-use Rattle.bm_replay.specs.Connections.{closed_shard, look_up, retired_after, retired_at, retired_shard, shard_at}
+use Rattle.bm_shard.specs.Books.{Book}
+use Rattle.bm_shard.specs.declared.calls.ShardCall.TheVariants.{Close as AsksClose, Retire as AsksRetire}
 use Rattle.bm_replay.specs.Players.{HasClosed, HasPlaces, HasRetired, HasSynced, happened}
 use Rattle.bm_replay.specs.Playing.{HasPlayed, IsPlayed, KeepsState, past_of}
-use Rattle.bm_replay.specs.Shards.{KeepsBooks, place_of}
-use Rattle.bm_replay.proofs.Books.{closed, retired}
+use Rattle.bm_replay.specs.Shards.{KeepsBooks, before, book_at, books_after, holds, place_of}
+use Rattle.bm_replay.proofs.Books.{holds_same, places_of, shard_below}
 use Rattle.bm_replay.proofs.Flights.{all_stay}
-use Rattle.bm_replay.proofs.Keeping.{AreBut, books_more, books_stay, muxes_stay, part_next, part_stays, place_inside, set_one}
+use Rattle.bm_replay.proofs.Keeping.{books_more, books_stay, muxes_stay, part_next, part_stays}
 use Rattle.bm_replay.proofs.Moments.{known_number}
-use Rattle.bm_replay.proofs.Ready.{IsReady, packaged, plain, plain_soon, told}
+use Rattle.bm_replay.proofs.Ready.{clock_later, IsReady, packaged, plain, plain_soon, told}
 
 -- THE SERVERS AND SHARDS OF COMMANDS
 
-abbrev IsInRange : ℕ → Calls → Type 0
-IsInRange shards (Closes s f) = s.0 ≤ 1024
-IsInRange shards (Retires s h at) = (s.0 ≤ 1024) × (h < shards)
-IsInRange shards _ = Unit {0}
+-- the server and the shard are there, and a retire is due at its moment
+abbrev IsInRange : ℕ → Due → Calls → Type 0
+IsInRange shards d (Closes s f) = s.0 ≤ 1024
+IsInRange shards d (Retires s h at) = (s.0 ≤ 1024) × (h < shards) × (d.moment ≡ at)
+IsInRange shards d _ = Unit {0}
 
-closes_range : (script : Script) → IsSoundScript script → (shards : ℕ) (commands : List Command) → AllByRecursion (λ c. IsOfKnown script.plan c) commands → Each (λ d. IsInRange shards d.call) (close_commands commands)
+closes_range : (script : Script) → IsSoundScript script → (shards : ℕ) (commands : List Command) → AllByRecursion (λ c. IsOfKnown script.plan c) commands → Each (λ d. IsInRange shards d d.call) (close_commands commands)
 closes_range script sound shards [] known = tt
 closes_range script sound shards (CloseCommand at s f ∷ commands) known = (known_number script sound (length script.plan.changes) s known.0, closes_range script sound shards commands known.1)
 closes_range script sound shards (ChangeCommand v ∷ commands) known = closes_range script sound shards commands known.1
 closes_range script sound shards (RetireCommand at s ∷ commands) known = closes_range script sound shards commands known.1
 closes_range script sound shards (SyncCommand at ∷ commands) known = closes_range script sound shards commands known.1
 
-retire_range : (s : ServerId) (at shards n : ℕ) → s.0 ≤ 1024 → n ≤ shards → Each (λ d. IsInRange shards d.call) (retire_dues s at n)
+retire_range : (s : ServerId) (at shards n : ℕ) → s.0 ≤ 1024 → n ≤ shards → Each (λ d. IsInRange shards d d.call) (retire_dues s at n)
 retire_range s at shards zero number below = tt
 retire_range s at shards (suc n) number below =
-    each_append (λ d. IsInRange shards d.call) (retire_dues s at n) _ (retire_range s at shards n number (omega arith)) ((number, omega arith), tt)
+    each_append (λ d. IsInRange shards d d.call) (retire_dues s at n) _ (retire_range s at shards n number (omega arith)) ((number, omega arith, refl), tt)
 
-retires_range : (script : Script) → IsSoundScript script → (shards : ℕ) (commands : List Command) → AllByRecursion (λ c. IsOfKnown script.plan c) commands → Each (λ d. IsInRange shards d.call) (retire_commands shards commands)
+retires_range : (script : Script) → IsSoundScript script → (shards : ℕ) (commands : List Command) → AllByRecursion (λ c. IsOfKnown script.plan c) commands → Each (λ d. IsInRange shards d d.call) (retire_commands shards commands)
 retires_range script sound shards [] known = tt
 retires_range script sound shards (CloseCommand at s f ∷ commands) known = retires_range script sound shards commands known.1
 retires_range script sound shards (ChangeCommand v ∷ commands) known = retires_range script sound shards commands known.1
 retires_range script sound shards (RetireCommand at s ∷ commands) known =
-    each_append (λ d. IsInRange shards d.call) (retire_dues s at.0 shards) _ (retire_range s at.0 shards shards (known_number script sound (length script.plan.changes) s known.0) (omega arith))
+    each_append (λ d. IsInRange shards d d.call) (retire_dues s at.0 shards) _ (retire_range s at.0 shards shards (known_number script sound (length script.plan.changes) s known.0) (omega arith))
     (retires_range script sound shards commands known.1)
 retires_range script sound shards (SyncCommand at ∷ commands) known = retires_range script sound shards commands known.1
 
-first_range : (shards : ℕ) (dues : List Due) (d : Due) → Each (λ x. IsInRange shards x.call) dues → first_of dues ≡ d ∷ [] → IsInRange shards d.call
+first_range : (shards : ℕ) (dues : List Due) (d : Due) → Each (λ x. IsInRange shards x x.call) dues → first_of dues ≡ d ∷ [] → IsInRange shards d d.call
 first_range shards [] d each is = absurd (cc)
-first_range shards (x ∷ dues) d each is = let same : x ≡ d = cc in subst (λ (y : Due). IsInRange shards y.call) same each.0
+first_range shards (x ∷ dues) d each is = let same : x ≡ d = cc in subst (λ (y : Due). IsInRange shards y y.call) same each.0
 
 pub has_places : (R : Routes) (F : Rules) (p : Player) (at : Moment) (d : Due) → IsReady R F p at d → HasPlaces p
-has_places R F p at d ready = record { shards = ready.played.sound.script.setting.shards; lie = ready.state.books.lie }
+has_places R F p at d ready = places_of R F p ready.fates (past_of p) ready.played ready.state
 
 -- A CONNECTION IS CLOSED
 
@@ -80,38 +79,33 @@ close_from R F p at d s f ready call = subst (λ (c : Calls). IsFrom (wire ready
 
 pub close_number : (R : Routes) (F : Rules) (p : Player) (at : Moment) (d : Due) (s : ServerId) (f : Flow) → IsReady R F p at d → d.call ≡ Closes s f → s.0 ≤ 1024
 close_number R F p at d s f ready call =
-    subst (λ (c : Calls). IsInRange 0 c) call (first_range 0 _ d
-    (each_dropped (λ x. IsInRange 0 x.call) (counts (past_of p) (λ what. closes (call_of what))) _ (closes_range p.stage.script ready.played.sound.script 0 p.stage.script.commands ready.played.sound.script.of_known))
+    subst (λ (c : Calls). IsInRange 0 d c) call (first_range 0 _ d
+    (each_dropped (λ x. IsInRange 0 x x.call) (counts (past_of p) (λ what. closes (call_of what))) _ (closes_range p.stage.script ready.played.sound.script 0 p.stage.script.commands ready.played.sound.script.of_known))
     (close_from R F p at d s f ready call))
 
 some_receiver : (o : Option Holding) → is_some (receiver_of o) ≡ is_some o
 some_receiver None = refl
 some_receiver (Some h) = refl
 
-shard_below : (stage : Stage) (f : Flow) → 1 ≤ stage.script.setting.shards → shard stage f < stage.script.setting.shards
-shard_below stage f some = omega arith
-
 abbrev close_event : Moment → ServerId → Flow → Player → Event
-close_event at s f p = record { clock = at; what = Close s f (is_some (look_up f (shard_at p.shards (place_of p.stage s (shard p.stage f))).connections)) }
+close_event at s f p = record { clock = at; what = Close s f (holds (book_at p.shards (place_of p.stage s (shard p.stage f))) f) }
 
-abbrev shards_closed : ServerId → Flow → Player → List Shard
-shards_closed s f p = set p.shards (place_of p.stage s (shard p.stage f)) (closed_shard f (shard_at p.shards (place_of p.stage s (shard p.stage f))))
+abbrev shards_closed : Moment → ServerId → Flow → Player → List Book
+shards_closed at s f p = books_after p.shards (place_of p.stage s (shard p.stage f)) (AsksClose f (before at))
 
-close_answered : (stage : Stage) (past : List Event) (shards : List Shard) (s : ServerId) (f : Flow) → s.0 ≤ 1024 → 1 ≤ stage.script.setting.shards → KeepsBooks stage past shards
-    → is_some (look_up f (shard_at shards (place_of stage s (shard stage f))).connections) ≡ is_some (held stage past s f)
-close_answered stage past shards s f number some keeps =
-    ap (λ (o : Option Receiver). is_some o) ((keeps.books s (shard stage f) number (shard_below stage f some)).held f ∙ sym (held_in_book stage past s f)) ∙ some_receiver (held stage past s f)
+close_answered : (stage : Stage) (past : List Event) (books : List Book) (s : ServerId) (f : Flow) → s.0 ≤ 1024 → 1 ≤ stage.script.setting.shards → KeepsBooks stage past books
+    → holds (book_at books (place_of stage s (shard stage f))) f ≡ is_some (held stage past s f)
+close_answered stage past books s f number some keeps =
+    holds_same stage past s (shard stage f) (book_at books (place_of stage s (shard stage f))) f (keeps.each s (shard stage f) number (shard_below stage f some)) refl
 
-close_books : (p : Player) (past : List Event) (at : Moment) (s : ServerId) (f : Flow) → s.0 ≤ 1024 → 1 ≤ p.stage.script.setting.shards → KeepsBooks p.stage past p.shards → KeepsBooks p.stage (close_event at s f p ∷ past) (shards_closed s f p)
-close_books p past at s f number some keeps =
-    books_more p.stage past (close_event at s f p) p.shards (shards_closed s f p) (Closed f (is_some (look_up f (shard_at p.shards (place_of p.stage s (shard p.stage f))).connections))) s (shard p.stage f)
-    (closed_shard f (shard_at p.shards (place_of p.stage s (shard p.stage f)))) number (shard_below p.stage f some) (λ t h. refl)
-    (set_one (place_of p.stage s (shard p.stage f)) _ p.shards (place_inside s.0 p.stage.script.setting.shards (shard p.stage f) (length p.shards) number (shard_below p.stage f some) keeps.lie))
-    (closed f (book_of p.stage past s (shard p.stage f)) _ (keeps.books s (shard p.stage f) number (shard_below p.stage f some))) keeps
+close_books : (p : Player) (past : List Event) (at : Moment) (s : ServerId) (f : Flow) → s.0 ≤ 1024 → 1 ≤ p.stage.script.setting.shards → last_clock past < at.0 → KeepsBooks p.stage past p.shards → KeepsBooks p.stage (close_event at s f p ∷ past) (shards_closed at s f p)
+close_books p past at s f number some later keeps =
+    books_more p.stage past (close_event at s f p) p.shards (AsksClose f (before at)) (Closed f (holds (book_at p.shards (place_of p.stage s (shard p.stage f))) f)) s (shard p.stage f)
+    number (shard_below p.stage f some) (λ t h. refl) refl later (omega arith) keeps
 
 pub closed_one : (R : Routes) (F : Rules) (p q : Player) (at : Moment) (d : Due) (s : ServerId) (f : Flow) → IsReady R F p at d → d.call ≡ Closes s f → HasClosed at s f p q → HasPlayed R F p q
 closed_one R F p q at d s f ready call come =
-    subst (λ (x : Player). HasPlayed R F p x) (sym come.is) (packaged R F p (happened at (close_event at s f p).what (record p { close = come.queue; shards = shards_closed s f p })) plain ready.fates (close_event at s f p) refl refl played state) where
+    subst (λ (x : Player). HasPlayed R F p x) (sym come.is) (packaged R F p (happened at (close_event at s f p).what (record p { close = come.queue; shards = shards_closed at s f p })) plain ready.fates (close_event at s f p) refl refl played state) where
       number : s.0 ≤ 1024
       number = close_number R F p at d s f ready call
 
@@ -121,7 +115,7 @@ closed_one R F p q at d s f ready call come =
       played : IsPlayed R F p.stage (plain ∷ ready.fates) (close_event at s f p ∷ past_of p)
       played = told R F p at d ready (close_event at s f p).what plain (sym call) (close_answered p.stage (past_of p) p.shards s f number some ready.state.books) tt tt plain_soon
 
-      state : KeepsState (plain ∷ ready.fates) (close_event at s f p ∷ past_of p) (happened at (close_event at s f p).what (record p { close = come.queue; shards = shards_closed s f p }))
+      state : KeepsState (plain ∷ ready.fates) (close_event at s f p ∷ past_of p) (happened at (close_event at s f p).what (record p { close = come.queue; shards = shards_closed at s f p }))
       state = record {
         clock = refl;
         loss = ready.state.loss ∙ ready.not_owed;
@@ -134,7 +128,8 @@ closed_one R F p q at d s f ready call come =
           due_syncs = part_stays _ _ _ (past_of p) (close_event at s f p) syncs refl ready.state.queues.due_syncs;
           due_packets = part_stays _ _ _ (past_of p) (close_event at s f p) steers refl ready.state.queues.due_packets;
         };
-        books = close_books p (past_of p) at s f number some ready.state.books;
+        books = close_books p (past_of p) at s f number some (clock_later R F p at d ready).0 ready.state.books;
+        packets = ready.state.packets;
       }
 
 -- A SHARD IS ASKED TO RETIRE
@@ -143,43 +138,42 @@ retire_from : (R : Routes) (F : Rules) (p : Player) (at : Moment) (d : Due) (s :
     → first_of (left (retire_commands p.stage.script.setting.shards p.stage.script.commands) (past_of p) retires) ≡ d ∷ []
 retire_from R F p at d s h since ready call = subst (λ (c : Calls). IsFrom (wire ready.fates (past_of p)) p.stage (past_of p) d c) call ready.from
 
-pub retire_numbers : (R : Routes) (F : Rules) (p : Player) (at : Moment) (d : Due) (s : ServerId) (h since : ℕ) → IsReady R F p at d → d.call ≡ Retires s h since → (s.0 ≤ 1024) × (h < p.stage.script.setting.shards)
+pub retire_numbers : (R : Routes) (F : Rules) (p : Player) (at : Moment) (d : Due) (s : ServerId) (h since : ℕ) → IsReady R F p at d → d.call ≡ Retires s h since → (s.0 ≤ 1024) × (h < p.stage.script.setting.shards) × (d.moment ≡ since)
 retire_numbers R F p at d s h since ready call =
-    subst (λ (c : Calls). IsInRange p.stage.script.setting.shards c) call (first_range p.stage.script.setting.shards _ d
-    (each_dropped (λ x. IsInRange p.stage.script.setting.shards x.call) (counts (past_of p) (λ what. retires (call_of what))) _
+    subst (λ (c : Calls). IsInRange p.stage.script.setting.shards d c) call (first_range p.stage.script.setting.shards _ d
+    (each_dropped (λ x. IsInRange p.stage.script.setting.shards x x.call) (counts (past_of p) (λ what. retires (call_of what))) _
     (retires_range p.stage.script ready.played.sound.script p.stage.script.setting.shards p.stage.script.commands ready.played.sound.script.of_known))
     (retire_from R F p at d s h since ready call))
 
 pub published_within : (R : Routes) (F : Rules) (p : Player) (at : Moment) (d : Due) → IsReady R F p at d → p.published ≤ length p.stage.script.plan.changes
 published_within R F p at d ready = let within = newest_within p.stage (past_of p) ready.played.run in let same = ready.state.published in omega arith
 
-retired_but : (result : Retirement) (place : ℕ) (shards : List Shard) → place < length shards → AreBut place (retired_after result (shard_at shards place)) shards (retired_at result place shards)
-retired_but Done place shards inside = set_one place retired_shard shards inside
-retired_but NotDrained place shards inside = record { count = refl; here = refl; others = λ i other. refl }
-retired_but (TooEarly b) place shards inside = record { count = refl; here = refl; others = λ i other. refl }
-
 abbrev retire_event : Moment → ServerId → ℕ → Moment → Retirement → Event
 retire_event at s h since result = record { clock = at; what = Retire s h since result }
 
-retire_books : (p : Player) (past : List Event) (at : Moment) (s : ServerId) (h : ℕ) (since : Moment) (result : Retirement) → s.0 ≤ 1024 → h < p.stage.script.setting.shards → KeepsBooks p.stage past p.shards
-    → KeepsBooks p.stage (retire_event at s h since result ∷ past) (retired_at result (place_of p.stage s h) p.shards)
-retire_books p past at s h since result number below keeps =
-    books_more p.stage past (retire_event at s h since result) p.shards (retired_at result (place_of p.stage s h) p.shards) (RetiredAs result) s h (retired_after result (shard_at p.shards (place_of p.stage s h))) number below (λ t x. refl)
-    (retired_but result (place_of p.stage s h) p.shards (place_inside s.0 p.stage.script.setting.shards h (length p.shards) number below keeps.lie))
-    (retired result (book_of p.stage past s h) _ (keeps.books s h number below)) keeps
+retire_books : (p : Player) (past : List Event) (at : Moment) (s : ServerId) (h : ℕ) (since : Moment) (result : Retirement) → s.0 ≤ 1024 → h < p.stage.script.setting.shards → last_clock past < at.0 → since.0 < at.0 → KeepsBooks p.stage past p.shards
+    → KeepsBooks p.stage (retire_event at s h since result ∷ past) (books_after p.shards (place_of p.stage s h) (AsksRetire since result))
+retire_books p past at s h since result number below later early keeps =
+    books_more p.stage past (retire_event at s h since result) p.shards (AsksRetire since result) (RetiredAs result) s h number below (λ t x. refl) refl later early keeps
+
+pub retire_early : (R : Routes) (F : Rules) (p : Player) (at : Moment) (d : Due) (s : ServerId) (h since : ℕ) → IsReady R F p at d → d.call ≡ Retires s h since → since < at.0
+retire_early R F p at d s h since ready call =
+    let same = (retire_numbers R F p at d s h since ready call).2
+    in let early = (clock_later R F p at d ready).1
+    in omega arith
 
 pub retired_one : (R : Routes) (F : Rules) (p q : Player) (at : Moment) (d : Due) (s : ServerId) (h : ℕ) (since : Moment) → IsReady R F p at d → d.call ≡ Retires s h since.0 → HasRetired at s h since p q → HasPlayed R F p q
 retired_one R F p q at d s h since ready call come =
     subst (λ (x : Player). HasPlayed R F p x) (sym come.is)
-    (packaged R F p (happened at (Retire s h since come.result) (record p { retire = come.queue; shards = retired_at come.result (place_of p.stage s h) p.shards })) plain ready.fates (retire_event at s h since come.result) refl refl played state) where
-      numbers : (s.0 ≤ 1024) × (h < p.stage.script.setting.shards)
+    (packaged R F p (happened at (Retire s h since come.result) (record p { retire = come.queue; shards = books_after p.shards (place_of p.stage s h) (AsksRetire since come.result) })) plain ready.fates (retire_event at s h since come.result) refl refl played state) where
+      numbers : (s.0 ≤ 1024) × (h < p.stage.script.setting.shards) × (d.moment ≡ since.0)
       numbers = retire_numbers R F p at d s h since.0 ready call
 
       played : IsPlayed R F p.stage (plain ∷ ready.fates) (retire_event at s h since come.result ∷ past_of p)
       played = told R F p at d ready (Retire s h since come.result) plain (sym call)
           (subst (λ (n : ℕ). IsRetirement p.stage.script.plan (timeout p.stage) n s since.0 come.result) ready.state.published come.answer) tt tt plain_soon
 
-      state : KeepsState (plain ∷ ready.fates) (retire_event at s h since come.result ∷ past_of p) (happened at (Retire s h since come.result) (record p { retire = come.queue; shards = retired_at come.result (place_of p.stage s h) p.shards }))
+      state : KeepsState (plain ∷ ready.fates) (retire_event at s h since come.result ∷ past_of p) (happened at (Retire s h since come.result) (record p { retire = come.queue; shards = books_after p.shards (place_of p.stage s h) (AsksRetire since come.result) }))
       state = record {
         clock = refl;
         loss = ready.state.loss ∙ ready.not_owed;
@@ -192,7 +186,8 @@ retired_one R F p q at d s h since ready call come =
           due_syncs = part_stays _ _ _ (past_of p) (retire_event at s h since come.result) syncs refl ready.state.queues.due_syncs;
           due_packets = part_stays _ _ _ (past_of p) (retire_event at s h since come.result) steers refl ready.state.queues.due_packets;
         };
-        books = retire_books p (past_of p) at s h since come.result numbers.0 numbers.1 ready.state.books;
+        books = retire_books p (past_of p) at s h since come.result numbers.0 numbers.1 (clock_later R F p at d ready).0 (retire_early R F p at d s h since.0 ready call) ready.state.books;
+        packets = ready.state.packets;
       }
 
 -- A PHASE ENDS
@@ -219,5 +214,6 @@ synced R F p q at d ready call come =
           due_syncs = part_next _ _ _ p.sync.head come.queue.head d (past_of p) (record { clock = at; what = Sync }) syncs refl (sync_from R F p at d ready call) ready.state.queues.due_syncs come.next;
           due_packets = part_stays _ _ _ (past_of p) (record { clock = at; what = Sync }) steers refl ready.state.queues.due_packets;
         };
-        books = books_stay p.stage (past_of p) (record { clock = at; what = Sync }) p.shards (λ s h. refl) ready.state.books;
+        books = books_stay p.stage (past_of p) (record { clock = at; what = Sync }) p.shards (λ s h. refl) (omega (arith, (clock_later R F p at d ready).0)) ready.state.books;
+        packets = ready.state.packets;
       }

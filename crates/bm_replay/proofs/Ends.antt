@@ -13,17 +13,24 @@ use Rattle.bm_core.proofs.Accounted.{accounted}
 use Rattle.bm_core.proofs.Existing.{length_law}
 use Rattle.bm_replay.specs.declared.player.Loss.{Loss}
 use Rattle.bm_replay.specs.declared.player.Player.{Player}
-use Rattle.bm_replay.specs.declared.shard.Shard.{Shard}
 use Rattle.bm_replay.specs.declared.turn.Turn.{Turn}
 use Rattle.bm_replay.specs.declared.turn.Turn.TheVariants.{Over}
 use Rattle.bm_replay.specs.Players.{IsNew, soonest_command, turn_for}
 use Rattle.bm_replay.specs.Playing.{IsPlaying, KeepsState, lost_call, past_of}
-use Rattle.bm_replay.specs.Shards.{IsLeftBy, place_of}
+use Rattle.bm_replay.specs.Shards.{IsBookOf, KeepsBooks, all_books}
+use Rattle.bm_shard.specs.Books.{Book}
+use Rattle.bm_replay.proofs.Books.{book_at_first, length_all}
 use Rattle.bm_replay.specs.Turns.{sooner_of}
 use Rattle.bm_replay.proofs.Coming.{IsTurn}
 use Rattle.bm_replay.proofs.Keeping.{switches_are}
 use Rattle.bm_replay.proofs.Least.{least_none}
 use Rattle.bm_replay.proofs.Ready.{come_least, state_turn}
+
+first_books : (stage : Stage) → KeepsBooks stage [] (all_books stage.script.setting 1025)
+first_books stage = record {
+  lie = let l = length_all stage.script.setting 1025 in omega arith;
+  each = λ s h few below. subst (λ (x : Book). IsBookOf stage [] s h x) (sym (book_at_first stage.script.setting 1025 s h (omega arith) below)) (record { shard = refl; calls = refl; clock = omega arith; few = omega arith });
+}
 
 new_state : (stage : Stage) (p : Player) → IsNew stage p → p.stage ≡ stage → KeepsState [] [] p
 new_state stage p new about = record {
@@ -38,10 +45,8 @@ new_state stage p new about = record {
     soonest = new.switch ∙ ap (λ (l : List Due). least l) (switches_are stage [] p.fleet new.tables stage.script.setting.muxes (omega arith));
   });
   queues = rw about (record { due_closes = new.close; due_retires = new.retire; due_syncs = new.sync; due_packets = new.packet });
-  books = rw about (record {
-    lie = let h = new.shards in omega arith;
-    books = λ s h few in_it. subst (λ (x : Shard). IsLeftBy [] x) (sym (new.empty (place_of stage s h))) (record { held = λ f. refl; flows = refl; retired = refl });
-  });
+  books = rw about (rw new.shards (first_books stage));
+  packets = rw about new.packets;
 }
 
 pub begins : (R : Routes) (F : Rules) (stage : Stage) (p : Player) → IsSound stage → IsNew stage p → IsPlaying R F p

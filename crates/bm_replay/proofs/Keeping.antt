@@ -1,9 +1,9 @@
 -- What an event leaves alone in the state.
-use Rattle.std.proofs.Common.{◌≡◌, ◌≢◌, ℕ, zero, suc, ◌+◌, ◌*◌, ◌<◌, ◌≤◌, Bool, true, false, cond, ◌&&◌, inl, inr, List, [], ◌∷◌, ◌++◌, Option, Some, None, length, slice_get, set, length-set, eqb, refl, sym, ap, subst, ◌∙◌, arith}
-use Rattle.std.specs.Prelude.{slice_index_or}
+use Rattle.std.proofs.Common.{◌≡◌, ◌≢◌, ℕ, zero, suc, ◌+◌, ◌*◌, ◌<◌, ◌≤◌, Bool, true, false, cond, ◌&&◌, inl, inr, List, [], ◌∷◌, ◌++◌, Option, Some, None, length, slice_get, length-set, eqb, refl, sym, ap, subst, ◌∙◌, arith}
+use Rattle.std.specs.Prelude.{slice_index_or, reverse}
 use Rattle.std.proofs.lemmas.Bool.{cases_lt, and_parts, both_ways, eq-eqb, eqb-true}
 use Rattle.std.proofs.lemmas.List.{get_or-set_same, get_or-set_other}
-use Rattle.std.proofs.Math.Nat.{mul-le-mul_left, mul-le-mul_right}
+use Rattle.std.proofs.Math.Nat.{mul-le-mul_right}
 use Rattle.bm_base.specs.declared.ids.MuxId.{MuxId}
 use Rattle.bm_base.specs.declared.ids.ServerId.{ServerId}
 use Rattle.bm_table.specs.Tables.{next_change, same_server}
@@ -19,12 +19,16 @@ use Rattle.bm_core.specs.Past.{is_switch_of, version_at}
 use Rattle.bm_core.specs.Schedule.{call_of, closes, dropped, first_of, least, left, retires, steers, switch_due, switches_due, syncs}
 use Rattle.bm_replay.specs.declared.fleet.Mux.{Mux}
 use Rattle.bm_replay.specs.declared.queue.Queue.{Queue}
-use Rattle.bm_replay.specs.declared.shard.Shard.{Shard}
-use Rattle.bm_replay.specs.Connections.{empty_shard, shard_at}
 use Rattle.bm_replay.specs.Fleets.{HasTable, switches_of, version_in}
 use Rattle.bm_replay.specs.Playing.{KeepsMuxes, KeepsQueues}
 use Rattle.bm_replay.specs.Queues.{IsHead}
-use Rattle.bm_replay.specs.Shards.{IsLeftBy, KeepsBooks, place_of}
+use Rattle.bm_replay.specs.Shards.{IsBookOf, KeepsBooks, book_after, book_at, books_after, known_in, no_book, place_of}
+use Rattle.bm_shard.specs.Books.{Book, clock_after}
+use Rattle.bm_shard.specs.Replies.{turn_of as turn_by}
+use Rattle.bm_shard.specs.Turns.{moment_of}
+use Rattle.bm_shard.specs.declared.calls.ShardCall.{ShardCall}
+use Rattle.bm_core.specs.Runs.{last_clock}
+use Rattle.bm_replay.proofs.Books.{after_call, place_inside}
 use Rattle.bm_replay.proofs.Coming.{head_first}
 
 -- COUNTS
@@ -100,15 +104,19 @@ switches_are stage past fleet tables (suc m) below =
 
 -- BOOKS
 
-pub books_stay : (stage : Stage) (past : List Event) (e : Event) (shards : List Shard) → ((s : ServerId) (h : ℕ) → turn_of stage e.what s h ≡ None) → KeepsBooks stage past shards → KeepsBooks stage (e ∷ past) shards
-books_stay stage past e shards none keeps = record {
-  lie = keeps.lie;
-  books = λ s h few in_it. subst (λ (o : Option Turn). IsLeftBy (add_turn o (book_of stage past s h)) (shard_at shards (place_of stage s h))) (sym (none s h)) (keeps.books s h few in_it);
+book_stays : (stage : Stage) (past : List Event) (e : Event) (s : ServerId) (h : ℕ) (book : Book) → turn_of stage e.what s h ≡ None → last_clock past ≤ e.clock.0 → IsBookOf stage past s h book → IsBookOf stage (e ∷ past) s h book
+book_stays stage past e s h book none later is = record {
+  shard = is.shard;
+  calls = is.calls ∙ ap (λ (o : Option Turn). add_turn o (book_of stage past s h)) (sym none);
+  clock = let c = is.clock in omega arith;
+  few = let f = is.few in omega arith;
 }
 
--- the place is one of the first 1025 times so many
-pub place_inside : (s shards h n : ℕ) → s ≤ 1024 → h < shards → 1025 * shards ≤ n → s * shards + h < n
-place_inside s shards h n few in_it lie = omega (arith, mul-le-mul_left shards few)
+pub books_stay : (stage : Stage) (past : List Event) (e : Event) (books : List Book) → ((s : ServerId) (h : ℕ) → turn_of stage e.what s h ≡ None) → last_clock past ≤ e.clock.0 → KeepsBooks stage past books → KeepsBooks stage (e ∷ past) books
+books_stay stage past e books none later keeps = record {
+  lie = keeps.lie;
+  each = λ s h few in_it. book_stays stage past e s h (book_at books (place_of stage s h)) (none s h) later (keeps.each s h few in_it);
+}
 
 place_unique : (a b shards x y : ℕ) → x < shards → y < shards → a * shards + x ≡ b * shards + y → (a ≡ b) × (x ≡ y)
 place_unique a b shards x y lx ly same = elim (cases_lt a b) [
@@ -119,40 +127,37 @@ place_unique a b shards x y lx ly same = elim (cases_lt a b) [
   ]
 ]
 
--- these shards are those, but for one
-pub record AreBut (place : ℕ) (x : Shard) (old new : List Shard) : Type 0 where
-  pub count : length new ≡ length old
-  pub here : shard_at new place ≡ x
-  pub others : (i : ℕ) → i ≢ place → shard_at new i ≡ shard_at old i
-
-pub set_one : (place : ℕ) (x : Shard) (shards : List Shard) → place < length shards → AreBut place x shards (set shards place x)
-set_one place x shards inside = record {
-  count = length-set shards place x;
-  here = get_or-set_same shards place x empty_shard inside;
-  others = λ i other. get_or-set_other shards place i x empty_shard other;
-}
-
--- a shard had a turn
-pub books_more : (stage : Stage) (past : List Event) (e : Event) (old new : List Shard) (t : Turn) (server : ServerId) (shard : ℕ) (x : Shard) → server.0 ≤ 1024 → shard < stage.script.setting.shards
+-- a shard was asked, with the turn that the event is
+pub books_more : (stage : Stage) (past : List Event) (e : Event) (books : List Book) (call : ShardCall) (t : Turn) (server : ServerId) (shard : ℕ) → server.0 ≤ 1024 → shard < stage.script.setting.shards
     → ((s : ServerId) (h : ℕ) → turn_of stage e.what s h ≡ cond (same_server server s && eqb shard h) (Some t) None)
-    → AreBut (place_of stage server shard) x old new → IsLeftBy (t ∷ book_of stage past server shard) x → KeepsBooks stage past old → KeepsBooks stage (e ∷ past) new
-books_more stage past e old new t server shard x number in_range turn but left keeps = record {
-  lie = rw but.count keeps.lie;
-  books = λ s h few in_it. subst (λ (o : Option Turn). IsLeftBy (add_turn o (book_of stage past s h)) (shard_at new (place_of stage s h))) (sym (turn s h)) (by s h few in_it (same_server server s && eqb shard h) refl);
+    → turn_by (book_at books (place_of stage server shard)).shard (known_in (book_at books (place_of stage server shard))) (clock_after (reverse (book_at books (place_of stage server shard)).entries) call) call ≡ t
+    → last_clock past < e.clock.0 → (moment_of call).0 < e.clock.0 → KeepsBooks stage past books → KeepsBooks stage (e ∷ past) (books_after books (place_of stage server shard) call)
+books_more stage past e books call t server shard number in_range turn by later early keeps = record {
+  lie = rw (length-set books (place_of stage server shard) (book_after (book_at books (place_of stage server shard)) call)) keeps.lie;
+  each = λ s h few in_it. at s h few in_it (same_server server s && eqb shard h) refl;
 } where
-  by : (s : ServerId) (h : ℕ) → s.0 ≤ 1024 → h < stage.script.setting.shards → (b : Bool) → (same_server server s && eqb shard h) ≡ b → IsLeftBy (add_turn (cond b (Some t) None) (book_of stage past s h)) (shard_at new (place_of stage s h))
-  by s h few in_it true is =
+  at : (s : ServerId) (h : ℕ) → s.0 ≤ 1024 → h < stage.script.setting.shards → (b : Bool) → (same_server server s && eqb shard h) ≡ b
+      → IsBookOf stage (e ∷ past) s h (book_at (books_after books (place_of stage server shard) call) (place_of stage s h))
+  at s h few in_it true is =
       let parts = and_parts (same_server server s) (eqb shard h) is
       in let a : server ≡ s = same_server-true server s parts.0
       in let b : shard ≡ h = eqb-true shard h parts.1
-      in let there : IsLeftBy (t ∷ book_of stage past server shard) (shard_at new (place_of stage server shard)) = subst (λ (y : Shard). IsLeftBy (t ∷ book_of stage past server shard) y) (sym but.here) left
-      in subst (λ (n : ℕ). IsLeftBy (t ∷ book_of stage past s n) (shard_at new (place_of stage s n))) b
-      (subst (λ (r : ServerId). IsLeftBy (t ∷ book_of stage past r shard) (shard_at new (place_of stage r shard))) a there)
-  by s h few in_it false is =
+      in let inside : place_of stage server shard < length books = place_inside server.0 stage.script.setting.shards shard (length books) number in_range keeps.lie
+      in let p : same_server server server ≡ true = eq-eqb _ _ refl
+      in let q : eqb shard shard ≡ true = eq-eqb _ _ refl
+      in let own : turn_of stage e.what server shard ≡ Some t = turn server shard ∙ rw (p, q) refl
+      in let there : IsBookOf stage (e ∷ past) server shard (book_at (books_after books (place_of stage server shard) call) (place_of stage server shard)) =
+      subst (λ (x : Book). IsBookOf stage (e ∷ past) server shard x) (sym (get_or-set_same books (place_of stage server shard) _ no_book inside))
+      (after_call stage past e server shard (book_at books (place_of stage server shard)) call t own by later early (keeps.each server shard number in_range))
+      in subst (λ (n : ℕ). IsBookOf stage (e ∷ past) s n (book_at (books_after books (place_of stage server shard) call) (place_of stage s n))) b
+      (subst (λ (r : ServerId). IsBookOf stage (e ∷ past) r shard (book_at (books_after books (place_of stage server shard) call) (place_of stage r shard))) a there)
+  at s h few in_it false is =
       let other : place_of stage s h ≢ place_of stage server shard = λ same.
       (let both = place_unique s.0 server.0 stage.script.setting.shards h shard in_it in_range same
       in let a : same_server server s ≡ true = eq-eqb _ _ (sym both.0)
       in let b : eqb shard h ≡ true = eq-eqb _ _ (sym both.1)
       in let bad : same_server server s && eqb shard h ≡ true = rw (a, b) refl
       in both_ways _ is bad)
-      in subst (λ (y : Shard). IsLeftBy (book_of stage past s h) y) (sym (but.others (place_of stage s h) other)) (keeps.books s h few in_it)
+      in let none : turn_of stage e.what s h ≡ None = turn s h ∙ rw is refl
+      in subst (λ (x : Book). IsBookOf stage (e ∷ past) s h x) (sym (get_or-set_other books (place_of stage server shard) (place_of stage s h) _ no_book other))
+      (book_stays stage past e s h (book_at books (place_of stage s h)) none (omega arith) (keeps.each s h few in_it))

@@ -1,5 +1,5 @@
 -- What is known where something comes next, and that it leads to a replay with one event more.
-use Rattle.std.proofs.Common.{◌≡◌, true, ℕ, ◌*◌, ◌^◌, ◌≤◌, List, [], ◌∷◌, ◌++◌, Option, Some, None, length, refl, sym, ap, subst, ◌∙◌, arith}
+use Rattle.std.proofs.Common.{◌≡◌, true, ℕ, ◌*◌, ◌^◌, ◌<◌, ◌≤◌, List, [], ◌∷◌, ◌++◌, Option, Some, None, length, refl, sym, ap, subst, ◌∙◌, arith}
 use Rattle.std.specs.Prelude.{IfSome, reverse}
 use Rattle.std.proofs.lemmas.List.{length-append, reverse-append}
 use Rattle.bm_base.specs.declared.ids.Moment.{Moment}
@@ -135,6 +135,10 @@ ready_copy R F p at m coming =
       others = turn.1;
       is_wire = turn.2;
     }
+
+-- its clock is later than the last event's and than its moment
+pub clock_later : (R : Routes) (F : Rules) (p : Player) (at : Moment) (d : Due) → IsReady R F p at d → (last_clock (past_of p) < at.0) × (d.moment < at.0)
+clock_later R F p at d ready = let c = ready.is_clock in (omega arith, omega arith)
 
 -- ONE EVENT MORE
 

@@ -34,7 +34,7 @@ use Rattle.bm_replay.specs.Players.{CanSteer, HasSteered, after_loss, happened, 
 use Rattle.bm_replay.specs.Playing.{HasPlayed, IsPlayed, IsPlaying, KeepsState, lost_call, past_of}
 use Rattle.bm_replay.proofs.Flights.{HasStopAt, all_stay, copies_fly, tag_stop}
 use Rattle.bm_replay.proofs.Keeping.{books_stay, muxes_stay, part_next, part_stays, queues_stay}
-use Rattle.bm_replay.proofs.Ready.{IsReady, clock_low, packaged, plain, plain_soon, played_more, told}
+use Rattle.bm_replay.proofs.Ready.{clock_later, IsReady, clock_low, packaged, plain, plain_soon, played_more, told}
 
 -- A LOSS
 
@@ -66,7 +66,8 @@ lost R F p q loss playing some is = subst (λ (x : Player). HasPlayed R F p x) (
     published = playing.state.published;
     muxes = muxes_stay p.stage (past_of p) (lose_event loss p) p.fleet p.switch (λ m. refl) (λ m. refl) playing.state.muxes;
     queues = queues_stay p.stage (past_of p) (lose_event loss p) p.close p.retire p.sync p.packet refl refl refl refl playing.state.queues;
-    books = books_stay p.stage (past_of p) (lose_event loss p) p.shards (λ s h. refl) playing.state.books;
+    books = books_stay p.stage (past_of p) (lose_event loss p) p.shards (λ s h. refl) (omega (arith, playing.state.clock)) playing.state.books;
+    packets = playing.state.packets;
   }
 
 -- A PACKET IS STEERED
@@ -172,5 +173,6 @@ steered R F p q at d k ready call come =
           due_syncs = part_stays _ _ _ (past_of p) (steer_event at k come.mux) syncs refl ready.state.queues.due_syncs;
           due_packets = part_next _ _ _ p.packet.head come.queue.head d (past_of p) (steer_event at k come.mux) steers refl (steer_from R F p at d k ready call) ready.state.queues.due_packets come.next;
         };
-        books = books_stay p.stage (past_of p) (steer_event at k come.mux) p.shards (λ s h. refl) ready.state.books;
+        books = books_stay p.stage (past_of p) (steer_event at k come.mux) p.shards (λ s h. refl) (omega (arith, (clock_later R F p at d ready).0)) ready.state.books;
+        packets = ready.state.packets;
       }

@@ -1,4 +1,4 @@
-pub mod Connections
+pub mod Carriers
 pub mod Fleets
 pub mod Flights
 pub mod Players

@@ -1,5 +1,5 @@
 -- The state of a replay on its way, and what each step does to it.
-use Rattle.std.specs.Prelude.{◌≡◌, ◌≢◌, ℕ, suc, ◌+◌, ◌-◌, ◌*◌, ◌^◌, ◌<◌, ◌≤◌, ◌==◌, true, All, if◌then◌else◌, List, [], ◌∷◌, ◌++◌, length, Option, Some, None, is_some, slice_get, slice_set}
+use Rattle.std.specs.Prelude.{◌≡◌, ◌≢◌, ℕ, suc, ◌+◌, ◌-◌, ◌*◌, ◌^◌, ◌<◌, ◌≤◌, ◌==◌, true, All, if◌then◌else◌, List, [], ◌∷◌, ◌++◌, length, Option, Some, None, is_some, slice_get, slice_index_or}
 use Rattle.bm_base.specs.declared.ids.Moment.{Moment}
 use Rattle.bm_base.specs.declared.ids.MuxId.{MuxId}
 use Rattle.bm_base.specs.declared.ids.ServerId.{ServerId}
@@ -10,6 +10,8 @@ use Rattle.bm_base.specs.declared.label.Label.{Label}
 use Rattle.bm_base.specs.declared.label.Tag.{Tag}
 use Rattle.bm_base.specs.declared.receive.Fate.{Fate}
 use Rattle.bm_base.specs.Labels.{tag_of}
+use Rattle.bm_base.specs.Tags.{IsTag}
+use Rattle.bm_base.specs.declared.capture.Body.TheVariants.{Steerable}
 use Rattle.bm_fault.specs.declared.wire.Flight.{Flight}
 use Rattle.bm_fault.specs.Wires.{first_due, first_flight, others}
 use Rattle.bm_table.specs.declared.plan.Change.{Change}
@@ -27,18 +29,18 @@ use Rattle.bm_core.specs.declared.schedule.Due.{Due}
 use Rattle.bm_core.specs.Accounts.{Routes, Rules}
 use Rattle.bm_core.specs.Past.{bucket, segment_of, shard}
 use Rattle.bm_core.specs.Schedule.{least}
-use Rattle.bm_core.specs.Verdicts.{verdict_on}
 use Rattle.bm_core.specs.Weights.{IsSoon}
 use Rattle.bm_replay.specs.declared.fleet.Mux.{Mux}
 use Rattle.bm_replay.specs.declared.player.Loss.{Loss}
 use Rattle.bm_replay.specs.declared.player.Player.{Player}
 use Rattle.bm_replay.specs.declared.queue.Queue.{Queue}
 use Rattle.bm_replay.specs.declared.turn.Turn.{Turn}
-use Rattle.bm_replay.specs.Connections.{closed_shard, empty_shard, local_of, look_up, retired_at, shard_after, shard_at}
+use Rattle.bm_link.specs.Fits.{ArePackets, IsPacketOf}
+use Rattle.bm_shard.specs.declared.calls.ShardCall.TheVariants.{Close as AsksClose, Retire as AsksRetire}
 use Rattle.bm_replay.specs.Fleets.{HasTable, IsMoved, IsWritten, switches_of}
 use Rattle.bm_replay.specs.Flights.{copies_put}
 use Rattle.bm_replay.specs.Queues.{IsHead, closes_from, packets_after, retires_after, retires_from, syncs_from}
-use Rattle.bm_replay.specs.Shards.{place_of}
+use Rattle.bm_replay.specs.Shards.{all_books, arrival, before, book_at, books_after, holds, place_of, verdict_in, IsReady}
 use Rattle.bm_replay.specs.Turns.{next_turn, sooner_of}
 
 -- the soonest switch of these muxes
@@ -61,8 +63,8 @@ pub record IsNew (stage : Stage) (p : Player) : Type 0 where
   pub retire : IsHead (retires_from stage.script.setting.shards stage.script.commands 0) (retires_after stage.script.setting.shards stage.script.commands p.retire) p.retire.head
   pub sync : IsHead (syncs_from stage.script.commands 0) (syncs_from stage.script.commands p.sync.next) p.sync.head
   pub packet : IsHead (packets_after stage.capture.records 0) (packets_after stage.capture.records p.packet.next) p.packet.head
-  pub shards : length p.shards ≡ 1025 * stage.script.setting.shards
-  pub empty : (i : ℕ) → shard_at p.shards i ≡ empty_shard
+  pub shards : p.shards ≡ all_books stage.script.setting 1025
+  pub packets : ArePackets stage.capture.records p.packets.now
 
 -- WHAT COMES NEXT
 
@@ -103,8 +105,8 @@ pub record HasSwitched (clock : Moment) (m v : ℕ) (p q : Player) : Type 0 wher
 pub record HasClosed (clock : Moment) (s : ServerId) (f : Flow) (p q : Player) : Type 0 where
   pub queue : Queue
   pub next : IsHead (closes_from p.stage.script.commands p.close.next) (closes_from p.stage.script.commands queue.next) queue.head
-  pub is : q ≡ happened clock (Close s f (is_some (look_up f (shard_at p.shards (place_of p.stage s (shard p.stage f))).connections)))
-      (record p { close = queue; shards = slice_set p.shards (place_of p.stage s (shard p.stage f)) (closed_shard f (shard_at p.shards (place_of p.stage s (shard p.stage f)))) })
+  pub is : q ≡ happened clock (Close s f (holds (book_at p.shards (place_of p.stage s (shard p.stage f))) f))
+      (record p { close = queue; shards = books_after p.shards (place_of p.stage s (shard p.stage f)) (AsksClose f (before clock)) })
 
 -- the server's shard was asked to retire
 pub record HasRetired (clock : Moment) (s : ServerId) (h : ℕ) (at : Moment) (p q : Player) : Type 0 where
@@ -112,7 +114,7 @@ pub record HasRetired (clock : Moment) (s : ServerId) (h : ℕ) (at : Moment) (p
   pub next : IsHead (retires_after p.stage.script.setting.shards p.stage.script.commands p.retire) (retires_after p.stage.script.setting.shards p.stage.script.commands queue) queue.head
   pub result : Retirement
   pub answer : IsRetirement p.stage.script.plan p.stage.script.setting.timeout p.published s at.0 result
-  pub is : q ≡ happened clock (Retire s h at result) (record p { retire = queue; shards = retired_at result (place_of p.stage s h) p.shards })
+  pub is : q ≡ happened clock (Retire s h at result) (record p { retire = queue; shards = books_after p.shards (place_of p.stage s h) (AsksRetire at result) })
 
 -- a phase ended
 pub record HasSynced (clock : Moment) (p q : Player) : Type 0 where
@@ -163,14 +165,13 @@ place_for p flight s = place_of p.stage flight.tag.dest (shard p.stage s.flow)
 
 -- the verdict of the shard at the flight's destination
 abbrev pub verdict_for : Player → Moment → Flight → Segment → Verdict
-verdict_for p clock flight s =
-    verdict_on (local_of p.stage.script.setting.capacity (shard_at p.shards (place_for p flight s)) s.flow) p.stage.script.setting.timeout clock.0 flight.tag s
+verdict_for p clock flight s = verdict_in (book_at p.shards (place_for p flight s)) flight s clock
 
 -- the copy arrived, and its verdict took effect
 abbrev pub after_arrival : Moment → Flight → Segment → Player → Player
 after_arrival clock flight s p =
     happened clock (Arrive flight.packet flight.tag.hop flight.tag.dest (verdict_for p clock flight s))
-    (record p { wire = others p.wire; shards = slice_set p.shards (place_for p flight s) (shard_after (verdict_for p clock flight s) s (shard_at p.shards (place_for p flight s))) })
+    (record p { wire = others p.wire; shards = books_after p.shards (place_for p flight s) (arrival flight s clock) })
 
 -- a copy of a flight that goes on to the server
 abbrev pub chained : ServerId → Flight → Flight
@@ -191,10 +192,10 @@ pub record HasArrived (F : Rules) (clock : Moment) (p q : Player) : Type 0 where
 
 -- WHAT THE STEPS NEED
 
--- a server's shard lies among the shards
+-- the shards of each server lie among the shards, and were asked few things
 pub record HasPlaces (p : Player) : Type 0 where
   pub shards : IsWithin 1 64 p.stage.script.setting.shards
-  pub lie : 1025 * p.stage.script.setting.shards ≤ length p.shards
+  pub ready : (s : ServerId) (h : ℕ) (at : Moment) → s.0 ≤ 1024 → h < p.stage.script.setting.shards → at.0 ≤ 9 * 10 ^ 18 → IsReady (place_of p.stage s h) at p.shards
 
 -- what the soonest switch is found by
 pub record HasLags (stage : Stage) : Type 0 where
@@ -221,13 +222,16 @@ pub record CanSteer (at : Moment) (k : ℕ) (p : Player) : Type 0 where
   pub tables : (m : ℕ) (x : Mux) → m < p.stage.script.setting.muxes → slice_get p.fleet m ≡ Some x → length x.table ≡ p.stage.script.setting.buckets
   pub few : length p.stage.capture.records ≤ 200000
 
--- there is a copy under way, for a server whose shards are there
+-- there is a copy under way with a valid tag, of a packet that is there, for a server whose shards are there
 pub record CanArrive (at : Moment) (p : Player) : Type 0 where
   pub flight : Flight
   pub is_flight : first_flight p.wire ≡ Some flight
   pub segment : Segment
   pub is_segment : segment_of p.stage flight.packet ≡ Some segment
   pub clock : at.0 ≤ 5 * 10 ^ 18
+  pub tag : IsTag flight.tag
+  pub fits : (flight.tag.stamp.0 < 2 ^ 64) × (flight.tag.version.0 < 2 ^ 32)
   pub len : segment.len ≤ 1048576
-  pub dest : flight.tag.dest.0 ≤ 1024
+  pub number : (1 ≤ flight.packet) × (flight.packet ≤ length p.packets.now)
+  pub packet : IsPacketOf (Steerable segment) (slice_index_or p.packets.now (flight.packet - 1) [])
   pub places : HasPlaces p

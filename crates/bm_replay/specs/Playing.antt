@@ -3,6 +3,7 @@ use Rattle.std.specs.Prelude.{◌≡◌, ℕ, suc, ◌<◌, Bool, true, false, L
 use Rattle.bm_base.specs.declared.ids.Moment.{Moment}
 use Rattle.bm_base.specs.declared.receive.Fate.{Fate}
 use Rattle.bm_table.specs.Plans.{IsPlan}
+use Rattle.bm_link.specs.Fits.{ArePackets}
 use Rattle.bm_core.specs.declared.events.Event.{Event}
 use Rattle.bm_core.specs.declared.events.Stage.{Stage}
 use Rattle.bm_core.specs.declared.schedule.Call.{Call as Calls}
@@ -63,6 +64,7 @@ pub record KeepsState (fates : List Fate) (past : List Event) (p : Player) : Typ
   pub muxes : KeepsMuxes p.stage past p.fleet p.switch
   pub queues : KeepsQueues p.stage past p.close p.retire p.sync p.packet
   pub books : KeepsBooks p.stage past p.shards
+  pub packets : ArePackets p.stage.capture.records p.packets.now
 
 -- the events so far, the newest first
 abbrev pub past_of : Player → List Event

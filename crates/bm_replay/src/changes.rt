@@ -6,7 +6,7 @@ use crate::player::Player;
 use bm_base::{Memory, Moment, MuxId, Version};
 use bm_core::What;
 
-impl Player {
+impl Player<'_> {
     /// The version is published.
     pub(crate) fn publish(&mut self, clock: Moment, version: u32) -> Result<(), Memory>
         ensures { IfOk result (λ _. self.new ≡ after_publish clock version self.old) }

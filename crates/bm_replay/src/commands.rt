@@ -1,5 +1,5 @@
 //! The steps of the script's commands.
-ghost use Rattle.std.specs.Prelude.{◌≡◌, ◌<◌, ◌≤◌, IfOk, length};
+ghost use Rattle.std.specs.Prelude.{◌≡◌, ◌*◌, ◌^◌, ◌<◌, ◌≤◌, IfOk, length};
 ghost use Rattle.bm_replay.specs.Players.{HasClosed, HasPlaces, HasRetired, HasSynced};
 ghost use Rattle.bm_replay.specs.Shards.{place_of};
 
@@ -9,7 +9,7 @@ use bm_base::{Flow, Memory, Moment, ServerId, Version};
 use bm_core::What;
 use bm_hash::shard_of;
 
-impl Player {
+impl Player<'_> {
     /// The server closes the flow's connection, if it holds one.
     pub(crate) fn close(
         &mut self,
@@ -19,11 +19,12 @@ impl Player {
     ) -> Result<(), Memory>
         requires places { HasPlaces self.old }
         requires server { server.0 ≤ 1024 }
+        requires clock { clock.0 ≤ 5 * 10 ^ 18 }
         ensures { IfOk result (λ _. HasClosed clock server flow.now self.old self.new) }
     {
         let shard = shard_of(flow, self.stage.script.setting.shards);
         let place = self.place(server, shard);
-        let closed = self.shards.close(place, flow);
+        let closed = self.shards.close(place, flow, clock)?;
         self.close = next_close(self.stage.script.commands.items(), self.close.next);
         self.write(
             clock,
@@ -46,6 +47,7 @@ impl Player {
         requires places { HasPlaces self.old }
         requires server { server.0 ≤ 1024 }
         requires shard { shard < self.old.stage.script.setting.shards }
+        requires at { at.0 ≤ 5 * 10 ^ 18 }
         requires published { self.old.published ≤ length self.old.stage.script.plan.changes }
         ensures { IfOk result (λ _. HasRetired clock server shard at self.old self.new) }
     {
@@ -61,7 +63,7 @@ impl Player {
             &self.retire,
         );
         let place = self.place(server, shard);
-        self.shards.retire(place, result);
+        self.shards.retire(place, at, result)?;
         self.write(
             clock,
             What::Retire {

@@ -1,6 +1,7 @@
 //! The replay of a stage: one thread, one event after the other.
 #![tactic(auto)]
 
+mod carrier;
 mod changes;
 mod commands;
 mod events;
@@ -9,7 +10,6 @@ mod packets;
 mod player;
 mod queue;
 mod replaying;
-mod shard;
 mod shards;
 mod steps;
 mod turn;

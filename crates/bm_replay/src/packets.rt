@@ -1,23 +1,27 @@
 //! The steps of the packets: a mux steers one, and its copies arrive and go on.
-ghost use Rattle.std.specs.Prelude.{◌≡◌, ◌*◌, ◌^◌, ◌≤◌, IfOk, slice_set};
+ghost use Rattle.std.specs.Prelude.{◌≡◌, ◌*◌, ◌^◌, ◌≤◌, Some, IfOk, OnOk};
 ghost use Rattle.bm_core.specs.Past as past;
 ghost use Rattle.bm_core.specs.Weights.{IsSoon};
 ghost use Rattle.bm_fault.specs.Faults.{Gives, IsRule};
 ghost use Rattle.bm_route.specs.Routes.{Answers, IsRoute};
-ghost use Rattle.bm_replay.specs.Connections.{shard_after, shard_at};
+ghost use Rattle.bm_base.specs.declared.ids.ServerId.{ServerId};
+ghost use Rattle.bm_core.specs.declared.events.Verdict.TheVariants.{Forward};
+ghost use Rattle.bm_replay.specs.Carriers.{next_tag};
+ghost use Rattle.bm_replay.specs.Shards.{arrival, books_after};
 ghost use Rattle.bm_replay.specs.Flights.{copies_put};
 ghost use Rattle.bm_replay.specs.Players as players;
-ghost use Rattle.bm_replay.specs.Players.{CanArrive, CanSteer, HasArrived, HasGoneOn, HasPlaces, HasSent, HasSteered, place_for, verdict_for};
+ghost use Rattle.bm_replay.specs.Players.{CanArrive, CanSteer, HasArrived, HasGoneOn, HasPlaces, HasSent, HasSteered, chained, place_for, verdict_for};
 
+use crate::carrier::Carrier;
 use crate::player::{Loss, Player};
 use crate::queue::next_packet;
-use bm_base::{Body, Fate, Flow, Hop, Memory, Moment, Segment, Tag, tag_of};
-use bm_core::{Stage, Verdict, What, decide};
+use bm_base::{Body, Fate, Flow, Hop, Memory, Moment, Segment, tag_of};
+use bm_core::{Stage, Verdict, What};
 use bm_fault::{Faults, Flight, Wire};
 use bm_hash::{bucket_of, shard_of};
 use bm_route::Route;
 
-impl Player {
+impl Player<'_> {
     /// The packet is steered by the mux that the route gives it, and sent.
     pub(crate) fn steer<R: Fn(u32, &Flow) -> u16, F: Fn(u32, Hop) -> Fate>(
         &mut self,
@@ -58,39 +62,44 @@ impl Player {
         let Some(flight) = self.wire.pop() else {
             unreachable!()
         };
-        let Some(segment) = segment_of(&self.stage, flight.packet) else {
+        let packet = flight.packet;
+        let octets = self.packets.get(packet - 1);
+        let carrier = Carrier::new(self.alloc, &flight.tag, octets)?;
+        let Some((tag, segment)) = carrier.read() else {
             unreachable!()
         };
-        let verdict = self.serve(clock, &flight, &segment)?;
+        let arrived = Flight { packet, tag };
+        let verdict = self.serve(clock, &arrived, &segment)?;
         self.write(
             clock,
             What::Arrive {
-                packet: flight.packet,
-                hop: flight.tag.hop,
-                server: flight.tag.dest,
+                packet,
+                hop: tag.hop,
+                server: tag.dest,
                 verdict,
             },
         )?;
-        self.go_on(clock, flight, verdict, faults)
+        self.go_on(clock, arrived, carrier, verdict, faults)?;
+        Ok(())
     }
 
-    /// A copy that is forwarded is sent on.
+    /// A copy that is forwarded is sent on: its octets turn to the next hop.
     fn go_on<F: Fn(u32, Hop) -> Fate>(
         &mut self,
         clock: Moment,
         flight: Flight,
+        mut carrier: Carrier,
         verdict: Verdict,
         faults: &Faults<F>,
     ) -> Result<(), Memory>
         requires clock { clock.0 ≤ 5 * 10 ^ 18 }
+        requires next { (to : ServerId) → verdict ≡ Forward to → next_tag carrier ≡ Some (chained to flight).tag }
         requires faults { IsRule F.Fn faults.now.rule }
         ensures { IfOk result (λ _. HasGoneOn (Gives F.Fn faults.now.rule) clock flight verdict self.old self.new) }
     {
-        if let Verdict::Forward(server) = verdict {
-            let tag = Tag {
-                hop: Hop::Chained,
-                dest: server,
-                ..flight.tag
+        if let Verdict::Forward(_) = verdict {
+            let Some(tag) = carrier.go_on() else {
+                unreachable!()
             };
             let packet = flight.packet;
             self.send(clock, Flight { packet, tag }, faults)?;
@@ -107,19 +116,16 @@ impl Player {
     ) -> Result<Verdict, Memory>
         requires places { HasPlaces self.old }
         requires dest { flight.now.tag.dest.0 ≤ 1024 }
+        requires clock { clock.0 ≤ 5 * 10 ^ 18 }
         requires len { segment.now.len ≤ 1048576 }
         ensures verdict { IfOk result (λ v. v ≡ verdict_for self.old clock flight.now segment.now) }
-        ensures effect { IfOk result (λ v. let place = place_for self.old flight.now segment.now in
-            self.new ≡ record self.old { shards = slice_set self.old.shards place (shard_after v segment.now (shard_at self.old.shards place)) }) }
+        ensures effect { OnOk result (self.new ≡ record self.old {
+          shards = books_after self.old.shards (place_for self.old flight.now segment.now) (arrival flight.now segment.now clock);
+        }) }
     {
-        let setting = &self.stage.script.setting;
-        let (capacity, timeout) = (setting.capacity, setting.timeout);
-        let place = self.place(flight.tag.dest, shard_of(&segment.flow, setting.shards));
-        let local = self.shards.local(place, &segment.flow, capacity);
-        let verdict = decide(&local, &flight.tag, segment, clock, timeout);
-        self.shards
-            .settle(place, local.held.is_some(), verdict, segment)?;
-        Ok(verdict)
+        let shard = shard_of(&segment.flow, self.stage.script.setting.shards);
+        let place = self.place(flight.tag.dest, shard);
+        self.shards.arrive(place, flight, segment, clock)
     }
 
     /// The flight is sent, with the fate that the faults give it.

@@ -1,6 +1,7 @@
 //! A replay on its way: its state, and what comes next.
 ghost use Rattle.std.specs.Prelude.{◌≡◌, ◌≤◌, IfOk, length};
 ghost use Rattle.bm_core.specs.Stages.{IsSound};
+ghost use Rattle.bm_link.specs.Fits.{ArePackets};
 ghost use Rattle.bm_table.specs.Tables.{next_change};
 ghost use Rattle.bm_replay.specs.Players.{IsNew, happened, publish_after, turn_for};
 
@@ -9,13 +10,13 @@ use crate::fleet::Fleet;
 use crate::queue::{Queue, next_close, next_packet, next_retire, next_sync};
 use crate::shards::Shards;
 use crate::turn::{Turn, next_turn, sooner};
-use bm_base::{Hop, Memory, Moment, Version};
+use bm_base::{Hop, Memory, Moment, Octets, Version};
 use bm_core::{Call, Due, Event, History, Stage, What};
 use bm_fault::Wire;
 use std::alloc::Global;
 
 /// How many servers there may be, and one more, since they count from 1.
-const SERVERS: usize = 1_025;
+const SERVERS: u16 = 1_025;
 
 /// A sending without copies, whose loss is recorded next.
 #[derive(Clone, Copy, Debug, PartialEq, Eq)]
@@ -26,8 +27,11 @@ pub(crate) struct Loss {
 
 /// A replay on its way.
 #[derive(Drop)]
-pub(crate) struct Player {
+pub(crate) struct Player<'a> {
+    pub(crate) alloc: Global,
     pub(crate) stage: Stage,
+    /// The packet of each record.
+    pub(crate) packets: &'a Octets,
     /// What happened so far.
     pub(crate) events: Events,
     /// The clock of the last event.
@@ -54,10 +58,15 @@ pub(crate) struct Player {
     pub(crate) shards: Shards,
 }
 
-impl Player {
+impl<'a> Player<'a> {
     /// Nothing happened yet.
-    pub(crate) fn new(alloc: Global, stage: Stage) -> Result<Player, Memory>
-        requires { IsSound stage }
+    pub(crate) fn new(
+        alloc: Global,
+        stage: Stage,
+        packets: &'a Octets,
+    ) -> Result<Player<'a>, Memory>
+        requires sound { IsSound stage }
+        requires packets { ArePackets stage.capture.records packets.now }
         ensures { IfOk result (IsNew stage) }
     {
         let setting = &stage.script.setting;
@@ -67,13 +76,15 @@ impl Player {
         let events = Events::with_room(alloc, plan.versions() as usize)?;
         let fleet = Fleet::new(alloc, plan, setting.muxes)?;
         let switch = fleet.soonest(plan, setting.lags.items(), setting.muxes);
-        let shards = Shards::new(alloc, SERVERS * usize::from(setting.shards))?;
+        let shards = Shards::new(alloc, setting, SERVERS)?;
         let close = next_close(commands, 0);
         let retire = next_retire(commands, 0);
         let sync = next_sync(commands, 0);
         let packet = next_packet(stage.capture.records.items(), 0);
         Ok(Player {
+            alloc,
             stage,
+            packets,
             events,
             clock: Moment(0),
             loss: None,
@@ -126,7 +137,7 @@ impl Player {
 
     /// The history of what happened.
     pub(crate) fn into_history(self) -> History
-        ensures { result ≡ record { stage = self.stage; events = self.events } }
+        ensures { result ≡ record { stage = self.entry.stage; events = self.entry.events } }
     {
         History {
             stage: self.stage,

@@ -3,10 +3,11 @@ ghost use Rattle.std.specs.Prelude.{◌≡◌, IfOk};
 ghost use Rattle.bm_core.specs.Histories.{IsReplay};
 ghost use Rattle.bm_core.specs.Stages.{IsSound};
 ghost use Rattle.bm_fault.specs.Faults.{Gives, IsRule};
+ghost use Rattle.bm_link.specs.Fits.{ArePackets};
 ghost use Rattle.bm_route.specs.Routes.{Answers, IsRoute};
 
 use crate::player::Player;
-use bm_base::{Fate, Flow, Hop, Memory};
+use bm_base::{Fate, Flow, Hop, Memory, Octets};
 use bm_core::{History, Stage};
 use bm_fault::Faults;
 use bm_route::Route;
@@ -14,21 +15,23 @@ use std::alloc::Global;
 
 /// The history of the stage's replay: a run that follows the script, with the muxes that the route
 /// answers and the fates that the faults give, and in which every packet, copy and command is
-/// accounted for. `Memory` where memory was refused.
+/// accounted for. `octets` has the packet of each record. `Memory` where memory was refused.
 pub fn replay<R: Fn(u32, &Flow) -> u16, F: Fn(u32, Hop) -> Fate>(
     alloc: Global,
     stage: Stage,
+    octets: &Octets,
     route: &Route<R>,
     faults: &Faults<F>,
 ) -> Result<History, Memory>
     requires sound { IsSound stage }
+    requires packets { ArePackets stage.capture.records octets.now }
     requires route { IsRoute R.Fn route.now.rule route.now.muxes }
     requires muxes { route.now.muxes ≡ stage.script.setting.muxes }
     requires faults { IsRule F.Fn faults.now.rule }
     ensures stage { IfOk result (λ h. h.stage ≡ stage) }
     ensures replay { IfOk result (IsReplay (Answers R.Fn route.now.rule) (Gives F.Fn faults.now.rule)) }
 {
-    let mut player = Player::new(alloc, stage)?;
+    let mut player = Player::new(alloc, stage, octets)?;
     while player.step(route, faults)? {}
     Ok(player.into_history())
 }

@@ -13,7 +13,7 @@ use bm_core::{Call, Due, What, next_clock};
 use bm_fault::Faults;
 use bm_route::Route;
 
-impl Player {
+impl Player<'_> {
     /// What comes next happens; false where nothing is left.
     pub(crate) fn step<R: Fn(u32, &Flow) -> u16, F: Fn(u32, Hop) -> Fate>(
         &mut self,

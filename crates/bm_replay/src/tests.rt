@@ -1,6 +1,7 @@
-ghost use Rattle.std.specs.Prelude.{◌≡◌, ◌≤◌, ◌∷◌, [], if◌then◌else◌, IfOk, length};
+ghost use Rattle.std.specs.Prelude.{◌≡◌, ◌<◌, ◌≤◌, ◌^◌, ◌∷◌, [], if◌then◌else◌, IfOk, length};
 ghost use Rattle.bm_base.specs.Captures.{IsReplayable};
 ghost use Rattle.bm_core.specs.Stages.{IsSound};
+ghost use Rattle.bm_link.specs.Fits.{ArePackets};
 ghost use Rattle.bm_table.specs.Settings.{IsWithin, plain_setting};
 ghost use Rattle.bm_table.specs.declared.script.Command.TheVariants.{Close as closes};
 ghost use Rattle.bm_table.specs.declared.plan.Kind.TheVariants.{Shift as shift};
@@ -9,6 +10,7 @@ use super::*;
 use bm_base::*;
 use bm_core::{Event, Stage, Verdict, What, Why};
 use bm_fault::Faults;
+use bm_link::classify;
 use bm_route::Route;
 use bm_table::{Change, Command, Kind, Move, Plan, Script, Setting};
 use std::alloc::Global;
@@ -37,37 +39,57 @@ fn flow(sport: u16) -> Flow
     }
 }
 
-fn segment(sport: u16, flags: u8, seq: u32, len: u16) -> Segment
-    ensures dst { result.flow.dst ≡ 0xc000_0201 }
-    ensures dport { result.flow.dport ≡ 80 }
-    ensures len { result.len ≤ 65535 }
-{
-    Segment {
-        flow: flow(sport),
-        seq,
-        ack: 501,
-        len: u32::from(len),
-        flags,
-    }
+/// The header of a packet from 10.0.0.1 to 192.0.2.1 that has so many octets.
+fn ip_header(total: u16) -> [u8; 20] {
+    let [high, low] = total.to_be_bytes();
+    [
+        0x45, 0, high, low, 0, 0, 0x40, 0, 64, 6, 0, 0, 10, 0, 0, 1, 192, 0, 2, 1,
+    ]
 }
 
-/// These segments, a microsecond apart.
-fn capture(alloc: Global, rows: &[Row]) -> Result<Capture, Memory>
-    requires { length rows.now ≤ 100 }
-    ensures { IfOk result (IsReplayable plain_setting.vips) }
+/// The header of a segment to port 80, with 501 as its acknowledgment number.
+fn tcp_header(sport: u16, flags: u8, seq: u32) -> [u8; 20] {
+    let [s0, s1] = sport.to_be_bytes();
+    let [n0, n1, n2, n3] = seq.to_be_bytes();
+    [
+        s0, s1, 0, 80, n0, n1, n2, n3, 0, 0, 1, 0xf5, 0x50, flags, 0, 0, 0, 0, 0, 0,
+    ]
+}
+
+/// The packet of this segment, with zeros as its data.
+fn packet(alloc: Global, row: Row) -> Result<Vec<u8>, Memory>
+    ensures { IfOk result (λ octets. length octets.items < 2 ^ 32) }
 {
+    let (sport, flags, seq, len) = row;
+    let data = len.saturating_sub(u16::from(flags == SYN));
+    let total = data.saturating_add(40);
+    let mut octets = Vec::from_slice(alloc, &ip_header(total))?;
+    octets.extend_from_slice(&tcp_header(sport, flags, seq))?;
+    octets.resize(usize::from(total), 0)?;
+    Ok(octets)
+}
+
+/// These segments, a microsecond apart, and their packets.
+fn capture(alloc: Global, rows: &[Row]) -> Result<(Capture, Octets), Memory>
+    requires { length rows.now ≤ 100 }
+    ensures fit { IfOk result (λ read. IsReplayable plain_setting.vips read.0) }
+    ensures packets { IfOk result (λ read. ArePackets read.0.records read.1) }
+{
+    let vip = Vip {
+        addr: 0xc000_0201,
+        port: 80,
+    };
     let mut records = Vec::new(alloc);
+    let mut packets = Octets::new(alloc);
     for i in 0..rows.len() {
-        let (sport, flags, seq, len) = rows[i];
-        records.push(Record {
-            moment: Moment(i as u64 * 1_000),
-            body: Body::Steerable(segment(sport, flags, seq, len)),
-        })?;
+        let octets = packet(alloc, rows[i])?;
+        let (body, packet) = classify(101, &octets, &[vip]);
+        packets.push(packet)?;
+        let moment = Moment(i as u64 * 1_000);
+        records.push(Record { moment, body })?;
     }
-    Ok(Capture {
-        records: List::of(records),
-        cut: None,
-    })
+    let records = List::of(records);
+    Ok((Capture { records, cut: None }, packets))
 }
 
 /// The plain setting with one shard of this capacity.
@@ -115,6 +137,7 @@ fn bare_stage(
     requires capacity { IsWithin 1 65536 capacity }
     requires capture { IsReplayable plain_setting.vips capture }
     ensures sound { IfOk result IsSound }
+    ensures capture { IfOk result (λ stage. stage.capture ≡ capture) }
     ensures muxes { IfOk result (λ stage. stage.script.setting.muxes ≡ 1) }
 {
     let script = Script {
@@ -146,6 +169,7 @@ fn moved_plan(alloc: Global) -> Result<Plan, Fail>
 fn moved_stage(alloc: Global, capture: Capture) -> Result<Stage, Fail>
     requires { IsReplayable plain_setting.vips capture }
     ensures sound { IfOk result IsSound }
+    ensures capture { IfOk result (λ stage. stage.capture ≡ capture) }
     ensures muxes { IfOk result (λ stage. stage.script.setting.muxes ≡ 1) }
 {
     let script = Script {
@@ -203,10 +227,12 @@ fn check(
     rt: &impl Abort,
     alloc: Global,
     stage: Stage,
+    packets: &Octets,
     faulty: bool,
     events: &[Event],
 ) -> Result<(), Fail>
     requires sound { IsSound stage }
+    requires packets { ArePackets stage.capture.records packets.now }
     requires muxes { stage.script.setting.muxes ≡ 1 }
 {
     let route = Route::new(|_packet: u32, _flow: &Flow| -> u16 { 0 }, 1);
@@ -218,7 +244,7 @@ fn check(
         };
         Fate { copies, delay: 0 }
     });
-    let history = replay(alloc, stage, &route, &faults)?;
+    let history = replay(alloc, stage, packets, &route, &faults)?;
     assert_eq!(rt; history.events.items(), events);
     Ok(())
 }
@@ -226,7 +252,8 @@ fn check(
 #[test]
 fn a_connection_is_closed_once(rt: HostRuntime) -> Result<(), Fail> {
     let alloc = rt.alloc();
-    let stage = bare_stage(alloc, 4_096, true, capture(alloc, &[OPENING, DATA])?)?;
+    let (capture, packets) = capture(alloc, &[OPENING, DATA])?;
+    let stage = bare_stage(alloc, 4_096, true, capture)?;
     let direct = Hop::Direct;
     let want = [
         steer(1, 1),
@@ -236,14 +263,15 @@ fn a_connection_is_closed_once(rt: HostRuntime) -> Result<(), Fail> {
         steer(1_001, 2),
         arrive(1_002, 2, direct, 1, Verdict::Reset(Why::NoPrevious)),
     ];
-    check(&rt, alloc, stage, false, &want)
+    check(&rt, alloc, stage, &packets, false, &want)
 }
 
 #[test]
 fn a_full_shard_drops(rt: HostRuntime) -> Result<(), Fail> {
     let alloc = rt.alloc();
     let other = (1002, SYN, 100, 1);
-    let stage = bare_stage(alloc, 1, false, capture(alloc, &[OPENING, other])?)?;
+    let (capture, packets) = capture(alloc, &[OPENING, other])?;
+    let stage = bare_stage(alloc, 1, false, capture)?;
     let direct = Hop::Direct;
     let want = [
         steer(1, 1),
@@ -251,13 +279,14 @@ fn a_full_shard_drops(rt: HostRuntime) -> Result<(), Fail> {
         steer(1_001, 2),
         arrive(1_002, 2, direct, 1, Verdict::Drop(Why::Full)),
     ];
-    check(&rt, alloc, stage, false, &want)
+    check(&rt, alloc, stage, &packets, false, &want)
 }
 
 #[test]
 fn copies_are_lost_or_come_again(rt: HostRuntime) -> Result<(), Fail> {
     let alloc = rt.alloc();
-    let stage = bare_stage(alloc, 4_096, false, capture(alloc, &[OPENING, DATA, DATA])?)?;
+    let (capture, packets) = capture(alloc, &[OPENING, DATA, DATA])?;
+    let stage = bare_stage(alloc, 4_096, false, capture)?;
     let direct = Hop::Direct;
     let again = Verdict::Process(Taken::Duplicate);
     let want = [
@@ -270,13 +299,14 @@ fn copies_are_lost_or_come_again(rt: HostRuntime) -> Result<(), Fail> {
         arrive(2_003, 3, direct, 1, again),
         arrive(2_004, 3, direct, 1, again),
     ];
-    check(&rt, alloc, stage, true, &want)
+    check(&rt, alloc, stage, &packets, true, &want)
 }
 
 #[test]
 fn a_packet_is_forwarded_after_a_move(rt: HostRuntime) -> Result<(), Fail> {
     let alloc = rt.alloc();
-    let stage = moved_stage(alloc, capture(alloc, &[OPENING, DATA])?)?;
+    let (capture, packets) = capture(alloc, &[OPENING, DATA])?;
+    let stage = moved_stage(alloc, capture)?;
     let mux = MuxId(0);
     let version = Version(1);
     let forward = Verdict::Forward(ServerId(1));
@@ -289,5 +319,5 @@ fn a_packet_is_forwarded_after_a_move(rt: HostRuntime) -> Result<(), Fail> {
         arrive(1_002, 2, Hop::Direct, 2, forward),
         arrive(1_003, 2, Hop::Chained, 1, Verdict::Process(Taken::Advance)),
     ];
-    check(&rt, alloc, stage, false, &want)
+    check(&rt, alloc, stage, &packets, false, &want)
 }

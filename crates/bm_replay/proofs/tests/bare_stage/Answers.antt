@@ -1,5 +1,4 @@
-use Rattle.std.proofs.Common.{◌≡◌, ◌∷◌, [], List, if◌then◌else◌, sym, subst, ◌∙◌}
-use Rattle.bm_table.specs.declared.script.Command.{Command}
+use Rattle.std.proofs.Common.{sym, subst, ◌∙◌}
 use Rattle.bm_core.specs.declared.events.Stage.{Stage}
 use Rattle.bm_core.specs.Stages.{IsSound}
 use Rattle.bm_replay.proofs.Rows.{bare_sound}

@@ -1,9 +1,9 @@
-use Rattle.std.proofs.Common.{inl, inr}
+use Rattle.std.proofs.Common.{inl, inr, arith}
 use Rattle.bm_fault.specs.Faults.{Gives}
 use Rattle.bm_route.specs.Routes.{Answers}
 use Rattle.bm_replay.proofs.Changing.{can_switch, published, switched}
-use Rattle.bm_replay.proofs.Commanding.{close_number, closed_one, has_places, published_within, retire_numbers, retired_one, synced}
-use Rattle.bm_replay.proofs.Ready.{ready_call}
+use Rattle.bm_replay.proofs.Commanding.{close_number, closed_one, has_places, published_within, retire_early, retire_numbers, retired_one, synced}
+use Rattle.bm_replay.proofs.Ready.{clock_low, ready_call}
 use Rattle.bm_replay.proofs.Sending.{can_steer, steered}
 use Rattle.bm_replay.proofs.Turning.{no_arrival, no_loss}
 use Rattle.bm_replay.proofs.player.Player.carry_out.Goals as goal
@@ -19,6 +19,16 @@ close-requires-clause-server g c =
 pub close-requires-clause-places : goal.close-requires-clause-places
 close-requires-clause-places g c =
     has_places (Answers g.R.Fn c.args.route.now.rule) (Gives g.F.Fn c.args.faults.now.rule) c.args.self.now c.args.clock c.args.due (ready_call (Answers g.R.Fn c.args.route.now.rule) (Gives g.F.Fn c.args.faults.now.rule) c.args.self.now c.args.clock c.args.due c.requires.coming).ready
+
+pub close-requires-clause-clock : goal.close-requires-clause-clock
+close-requires-clause-clock g c =
+    clock_low (Answers g.R.Fn c.args.route.now.rule) (Gives g.F.Fn c.args.faults.now.rule) c.args.self.now c.args.clock c.args.due (ready_call (Answers g.R.Fn c.args.route.now.rule) (Gives g.F.Fn c.args.faults.now.rule) c.args.self.now c.args.clock c.args.due c.requires.coming).ready
+
+pub retire-requires-clause-at : goal.retire-requires-clause-at
+retire-requires-clause-at g c =
+    let low = clock_low (Answers g.R.Fn c.args.route.now.rule) (Gives g.F.Fn c.args.faults.now.rule) c.args.self.now c.args.clock c.args.due (ready_call (Answers g.R.Fn c.args.route.now.rule) (Gives g.F.Fn c.args.faults.now.rule) c.args.self.now c.args.clock c.args.due c.requires.coming).ready
+    in let early = retire_early (Answers g.R.Fn c.args.route.now.rule) (Gives g.F.Fn c.args.faults.now.rule) c.args.self.now c.args.clock c.args.due c.in-Retires.server c.in-Retires.shard c.in-Retires.at (ready_call (Answers g.R.Fn c.args.route.now.rule) (Gives g.F.Fn c.args.faults.now.rule) c.args.self.now c.args.clock c.args.due c.requires.coming).ready c.in-Retires.is
+    in omega arith
 
 pub retire-requires-clause-places : goal.retire-requires-clause-places
 retire-requires-clause-places g c =

@@ -1,4 +1,4 @@
-use Rattle.std.proofs.Common.{◌*◌, ℕ, List, refl, ap, ◌∙◌, subst, arith}
+use Rattle.std.proofs.Common.{ℕ, List, refl, ap, ◌∙◌, subst, arith}
 use Rattle.bm_base.specs.declared.capture.Record.{Record}
 use Rattle.bm_table.specs.declared.script.Command.{Command}
 use Rattle.bm_core.specs.Schedule.{least}
@@ -8,7 +8,7 @@ use Rattle.bm_replay.proofs.Moments.{change_early}
 use Rattle.bm_replay.proofs.player.Player.new.Goals as goal
 
 pub soonest-switch-requires-clause-moments : goal.soonest-switch-requires-clause-moments
-soonest-switch-requires-clause-moments c = change_early c.args.stage.script c.requires.script
+soonest-switch-requires-clause-moments c = change_early c.args.stage.script c.requires.sound.script
 
 pub returns : goal.returns
 returns c = record {
@@ -24,9 +24,9 @@ returns c = record {
   switch = c.soonest-switch.ensures ∙ ap (λ (lags : List ℕ). least (switches_of c.args.stage.script.plan lags c.args.stage.script.setting.muxes c.in_ok-fleet.fleet c.args.stage.script.setting.muxes)) c.items.ensures;
   close = subst (λ (l : List Command). IsHead (closes_from l 0) (closes_from l c.next_close-close.result.next) c.next_close-close.result.head) c.items-commands.ensures c.next_close-close.ensures;
   retire = subst (λ (l : List Command). IsHead (retires_from c.args.stage.script.setting.shards l 0) (retires_after c.args.stage.script.setting.shards l c.next_retire-retire.result) c.next_retire-retire.result.head) c.items-commands.ensures
-      (c.next_retire-retire.ensures c.args.stage.script.setting.shards (let h = c.requires.script.setting.shards.0 in omega arith));
+      (c.next_retire-retire.ensures c.args.stage.script.setting.shards (let h = c.requires.sound.script.setting.shards.0 in omega arith));
   sync = subst (λ (l : List Command). IsHead (syncs_from l 0) (syncs_from l c.next_sync-sync.result.next) c.next_sync-sync.result.head) c.items-commands.ensures c.next_sync-sync.ensures;
   packet = subst (λ (l : List Record). IsHead (packets_after l 0) (packets_after l c.next_packet-packet.result.next) c.next_packet-packet.result.head) c.items-2.ensures c.next_packet-packet.ensures;
-  shards = c.in_ok-shards.ensures.count ∙ ap (λ (n : ℕ). 1025 * n) c.from.ensures;
-  empty = c.in_ok-shards.ensures.empty;
+  shards = c.in_ok-shards.ensures;
+  packets = c.requires.packets;
 }

@@ -1,0 +1,63 @@
+//! The octets of a packet on its way.
+ghost use Rattle.std.specs.Prelude.{◌≡◌, ◌≤◌, length, IfOk, IfSome};
+ghost use Rattle.bm_base.specs.Tags.{IsTag};
+ghost use Rattle.bm_encap.specs.Spellings.{spelling};
+ghost use Rattle.bm_replay.specs.Carriers.{carried, next_tag};
+
+use bm_base::{Memory, Segment, Tag};
+use bm_encap::{set_chained, unwrap, wrap};
+use bm_ipv4::read_ipv4;
+use bm_tcp::read_tcp;
+use std::alloc::Global;
+use std::marker::Model;
+
+/// A packet on its way: a carrier header, and the packet within.
+#[derive(Debug, Drop)]
+pub(crate) struct Carrier {
+    octets: Vec<u8>,
+}
+
+impl Model for Carrier {
+    ghost use Rattle.std.specs.Prelude.{All, List, ℕ, ◌<◌};
+
+    ghost Value = { List ℕ };
+
+    ghost view = { λ carrier. carrier.octets.items };
+
+    ghost invariant = { λ carrier. All (λ octet. octet < 256) carrier.octets.items };
+}
+
+impl Carrier {
+    /// The packet behind the header of the tag.
+    pub(crate) fn new(alloc: Global, tag: &Tag, packet: &[u8]) -> Result<Carrier, Memory>
+        requires tag { IsTag tag.now }
+        requires short { length packet.now ≤ 65491 }
+        ensures { IfOk result (λ carrier. carrier ≡ spelling tag.now packet.now) }
+    {
+        let mut octets = Vec::new(alloc);
+        wrap(tag, packet, &mut octets)?;
+        Ok(Carrier { octets })
+    }
+
+    /// The tag and the segment that the octets carry.
+    pub(crate) fn read(&self) -> Option<(Tag, Segment)>
+        ensures carried { result ≡ carried self.now }
+        ensures tag { IfSome result (λ read. IsTag read.0) }
+    {
+        let (tag, packet) = unwrap(&self.octets).ok()?;
+        let view = read_ipv4(packet).ok()?;
+        if view.is_fragment() || view.protocol() != 6 {
+            return None;
+        }
+        let segment = read_tcp(&view).ok()?;
+        Some((tag, segment))
+    }
+
+    /// Turns the octets to the next hop, and reads the tag there.
+    pub(crate) fn go_on(&mut self) -> Option<Tag>
+        ensures { result ≡ next_tag self.old }
+    {
+        set_chained(&mut self.octets).ok()?;
+        unwrap(&self.octets).ok().map(|(tag, _)| tag)
+    }
+}
