@@ -1,6 +1,6 @@
 use super::*;
-use bm_base::{Flow, Hop, Moment, ServerId, Version};
-use bm_table::{Command, Kind, RouteKind, Script};
+use bm_base::{Fate, Flow, Hop, Moment, ServerId, Version, Vip};
+use bm_table::{Command, FaultRow, Kind, Move, Plan, RouteKind, Script, Setting};
 use std::alloc::{AllocError, Global};
 use std::process::Abort;
 use std::test::Fail;
@@ -138,142 +138,160 @@ fn other_octets_than_utf_8_are_no_toml(rt: HostRuntime) -> Result<(), Fail> {
     Ok(())
 }
 
+/// The numbers of a setting, in the order of their keys.
+fn numbers_of(setting: &Setting) -> [u64; 5] {
+    [
+        u64::from(setting.buckets),
+        u64::from(setting.muxes),
+        u64::from(setting.shards),
+        u64::from(setting.capacity),
+        setting.timeout,
+    ]
+}
+
+fn assert_numbers(rt: &impl Abort, setting: &Setting, want: &[u64]) {
+    assert!(rt; numbers_of(setting).as_slice() == want);
+}
+
+fn assert_lists(
+    rt: &impl Abort,
+    setting: &Setting,
+    servers: &[ServerId],
+    vips: &[Vip],
+    lags: &[u64],
+    faults: &[FaultRow],
+) {
+    assert!(rt; setting.servers.items() == servers);
+    assert!(rt; setting.vips.items() == vips);
+    assert!(rt; setting.lags.items() == lags);
+    assert!(rt; setting.faults.items() == faults);
+}
+
 fn assert_plain(rt: &impl Abort, script: &Script) {
     let setting = &script.setting;
-    assert_eq!(rt; setting.buckets, 8);
-    assert!(rt; setting.servers.items() == [ServerId(1), ServerId(2)].as_slice());
-    assert_eq!(rt;
-        (setting.muxes, setting.shards, setting.capacity),
-        (1, 4, 4_096)
+    assert_numbers(rt, setting, &[8, 1, 4, 4_096, 240_000_000_000]);
+    assert_lists(
+        rt,
+        setting,
+        &[ServerId(1), ServerId(2)],
+        &[Vip {
+            addr: 0xc000_0201,
+            port: 80,
+        }],
+        &[0],
+        &[],
     );
-    assert_eq!(rt; setting.timeout, 240_000_000_000);
-    assert_eq!(rt; setting.vips.items().len(), 1);
-    for vip in setting.vips.items() {
-        assert_eq!(rt; (vip.addr, vip.port), (0xc000_0201, 80));
-    }
     assert!(rt; setting.route == RouteKind::Port);
-    assert!(rt; setting.lags.items() == [0].as_slice());
-    assert!(rt; setting.faults.items().is_empty());
-    assert_eq!(rt; script.plan.versions(), 0);
+    assert!(rt; script.plan.versions() == 0);
     assert!(rt; script.commands.items().is_empty());
 }
 
 #[test]
 fn keys_may_be_left_out(rt: HostRuntime) -> Result<(), Fail> {
-    let alloc = rt.alloc();
     for text in ["", "# nothing\n", "fault = []\ncommand = []\n"] {
-        match read_script(alloc, text.as_bytes()) {
-            Ok(script) => assert_plain(&rt, &script),
-            Err(_) => assert!(rt; false, "refused: {text}"),
-        }
+        let script = read_script(rt.alloc(), text.as_bytes())?;
+        assert_plain(&rt, &script);
     }
     Ok(())
+}
+
+fn row(packet: u32, hop: Hop, copies: u8) -> FaultRow {
+    FaultRow {
+        packet,
+        hop,
+        fate: Fate { copies, delay: 11 },
+    }
 }
 
 #[test]
 fn the_setting_is_what_the_keys_say(rt: HostRuntime) -> Result<(), Fail> {
-    let alloc = rt.alloc();
-    match read_script(alloc, top::WHOLE.as_bytes()) {
-        Ok(script) => {
-            let setting = &script.setting;
-            assert_eq!(rt; setting.buckets, 16);
-            assert!(rt; setting.servers.items() == [ServerId(3), ServerId(7)].as_slice());
-            assert_eq!(rt;
-                (setting.muxes, setting.shards, setting.capacity),
-                (2, 5, 6)
-            );
-            assert_eq!(rt; setting.timeout, 9_000_000_000);
-            for vip in setting.vips.items() {
-                assert_eq!(rt; (vip.addr, vip.port), (0x0102_0304, 443));
-            }
-            assert!(rt; setting.route == RouteKind::Turn);
-            assert!(rt; setting.lags.items() == [10, 20].as_slice());
-            assert_eq!(rt; setting.faults.items().len(), 2);
-            for (row, (packet, hop, copies)) in setting
-                .faults
-                .items()
-                .iter()
-                .zip([(9, Hop::Chained, 0), (8, Hop::Direct, 3)])
-            {
-                assert_eq!(rt;
-                    (row.packet, row.hop, row.fate.copies),
-                    (packet, hop, copies)
-                );
-                assert_eq!(rt; row.fate.delay, 11);
-            }
-        }
-        Err(_) => assert!(rt; false, "refused"),
-    }
+    let script = read_script(rt.alloc(), top::WHOLE.as_bytes())?;
+    let setting = &script.setting;
+    assert_numbers(&rt, setting, &[16, 2, 5, 6, 9_000_000_000]);
+    assert_lists(
+        &rt,
+        setting,
+        &[ServerId(3), ServerId(7)],
+        &[Vip {
+            addr: 0x0102_0304,
+            port: 443,
+        }],
+        &[10, 20],
+        &[row(9, Hop::Chained, 0), row(8, Hop::Direct, 3)],
+    );
+    assert!(rt; setting.route == RouteKind::Turn);
     Ok(())
 }
 
-fn assert_change(
-    rt: &impl Abort,
-    script: &Script,
-    version: u32,
-    at: u64,
-    kind: Kind,
-    moves: &[(u32, u16)],
-) {
-    if let Some(change) = script.plan.next_change(Version(version)) {
-        assert_eq!(rt; (change.moment, change.kind), (Moment(at), kind));
-        assert_eq!(rt; change.moves.items().len(), moves.len());
-        for (m, (bucket, to)) in change.moves.items().iter().zip(moves) {
-            assert_eq!(rt; (m.bucket, m.to.0), (*bucket, *to));
+fn to(bucket: u32, server: u16) -> Move {
+    Move {
+        bucket,
+        to: ServerId(server),
+    }
+}
+
+fn assert_change(rt: &impl Abort, plan: &Plan, version: u32, at: u64, kind: Kind, moves: &[Move]) {
+    match plan.next_change(Version(version)) {
+        Some(change) => {
+            assert!(rt; change.moment == Moment(at));
+            assert!(rt; change.kind == kind);
+            assert!(rt; change.moves.items() == moves);
         }
-    } else {
-        assert!(rt; false, "no change after version {version}");
+        None => assert!(rt; false, "no such change"),
     }
 }
 
 // 8 buckets on servers 1 and 2; server 3 is added at 500, server 1 is drained at 600, and more.
+fn assert_plan(rt: &impl Abort, plan: &Plan) {
+    assert!(rt; plan.versions() == 3);
+    assert_change(
+        rt,
+        plan,
+        0,
+        500,
+        Kind::Add(ServerId(3)),
+        &[to(6, 3), to(7, 3)],
+    );
+    assert_change(
+        rt,
+        plan,
+        1,
+        600,
+        Kind::Drain(ServerId(1)),
+        &[to(0, 2), to(2, 3), to(4, 3)],
+    );
+    assert_change(rt, plan, 2, 700, Kind::Shift, &[to(5, 3)]);
+}
+
+fn assert_commands(rt: &impl Abort, commands: &[Command]) {
+    let flow = Flow {
+        src: 0x0a00_0001,
+        dst: 0xc000_0201,
+        sport: 1_000,
+        dport: 80,
+    };
+    let want = [
+        Command::Change(Version(1)),
+        Command::Close {
+            at: Moment(550),
+            server: ServerId(1),
+            flow,
+        },
+        Command::Change(Version(2)),
+        Command::Retire {
+            at: Moment(600),
+            server: ServerId(1),
+        },
+        Command::Change(Version(3)),
+        Command::Sync { at: Moment(700) },
+    ];
+    assert!(rt; commands == want.as_slice());
+}
+
 #[test]
 fn commands_make_the_plan(rt: HostRuntime) -> Result<(), Fail> {
-    let alloc = rt.alloc();
-    match read_script(alloc, commands::WHOLE.as_bytes()) {
-        Ok(script) => {
-            assert_eq!(rt; script.plan.versions(), 3);
-            assert_change(
-                &rt,
-                &script,
-                0,
-                500,
-                Kind::Add(ServerId(3)),
-                &[(6, 3), (7, 3)],
-            );
-            assert_change(
-                &rt,
-                &script,
-                1,
-                600,
-                Kind::Drain(ServerId(1)),
-                &[(0, 2), (2, 3), (4, 3)],
-            );
-            assert_change(&rt, &script, 2, 700, Kind::Shift, &[(5, 3)]);
-            let flow = Flow {
-                src: 0x0a00_0001,
-                dst: 0xc000_0201,
-                sport: 1_000,
-                dport: 80,
-            };
-            let want = [
-                Command::Change(Version(1)),
-                Command::Close {
-                    at: Moment(550),
-                    server: ServerId(1),
-                    flow,
-                },
-                Command::Change(Version(2)),
-                Command::Retire {
-                    at: Moment(600),
-                    server: ServerId(1),
-                },
-                Command::Change(Version(3)),
-                Command::Sync { at: Moment(700) },
-            ];
-            assert!(rt; script.commands.items() == want.as_slice());
-        }
-        Err(_) => assert!(rt; false, "refused"),
-    }
+    let script = read_script(rt.alloc(), commands::WHOLE.as_bytes())?;
+    assert_plan(&rt, &script.plan);
+    assert_commands(&rt, script.commands.items());
     Ok(())
 }

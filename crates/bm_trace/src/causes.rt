@@ -16,12 +16,6 @@ use bm_base::{Flow, Moment, ServerId, is_opening};
 use bm_core::{Cause, Event, History, Stage, Verdict, What, Why};
 use bm_hash::bucket_of;
 
-fn is_refusal(verdict: &Verdict) -> bool
-    ensures { result ≡ causes.is_refusal verdict.now }
-{
-    matches!(verdict, Verdict::Reset(_) | Verdict::Drop(_))
-}
-
 /// Whether an arrival wants a cause: an arrival that is no refusal does so unless its server is
 /// its owner's.
 #[derive(Clone, Copy)]

@@ -1,9 +1,11 @@
-ghost use Rattle.std.specs.Prelude.{◌≡◌, ◌≤◌, length, IfOk, OnOk};
+ghost use Rattle.bm_table.specs.Settings.{IsWithin};
+ghost use Rattle.bm_trace.specs.Ranges.{HasRanges};
+ghost use Rattle.std.specs.Prelude.{◌≡◌, ◌≤◌, length, IfOk};
 
 use crate::document::put_report;
 use bm_base::*;
 use bm_core::{Event, History, Stage, Verdict, What, Why};
-use bm_table::{Change, Kind, Move, Plan, Retirement, Script, Setting};
+use bm_table::{Change, Command, Kind, Move, Plan, Retirement, Script, Setting};
 use std::alloc::Global;
 use std::process::Abort;
 use std::test::Fail;
@@ -123,26 +125,29 @@ fn close(clock: u64, server: u16, sport: u16, closed: bool) -> Event {
     )
 }
 
-/// Eight buckets on two or on three servers.
-fn plan(alloc: Global, three: bool) -> Result<Plan, Fail>
-    ensures { IfOk result (λ plan. plan.buckets ≡ 8) }
+/// Two muxes and eight buckets.
+fn setting(alloc: Global, one_shard: bool) -> Result<Setting, Fail>
+    ensures { IfOk result (λ setting. (setting.buckets ≡ 8) × IsWithin 1 64 setting.shards) }
 {
-    if three {
+    let mut setting = Setting::plain(alloc)?;
+    setting.muxes = 2;
+    if one_shard {
+        setting.shards = 1;
+        setting.timeout = 1_000_000_000;
+    }
+    Ok(setting)
+}
+
+/// Eight buckets on two or on three servers.
+fn opening(alloc: Global, three_servers: bool) -> Result<Plan, Fail> {
+    if three_servers {
         Ok(Plan::new(alloc, 8, &[ServerId(1), ServerId(2), ServerId(3)])?)
     } else {
         Ok(Plan::new(alloc, 8, &[ServerId(1), ServerId(2)])?)
     }
 }
 
-fn change(
-    plan: &mut Plan,
-    alloc: Global,
-    moment: u64,
-    kind: Kind,
-    moves: &[(u32, u16)],
-) -> Result<(), Fail>
-    ensures { OnOk result (plan.new.buckets ≡ plan.old.buckets) }
-{
+fn moves_of(alloc: Global, moves: &[(u32, u16)]) -> Result<List<Move>, Fail> {
     let mut list = Vec::new(alloc);
     for (bucket, to) in moves {
         list.push(Move {
@@ -150,57 +155,78 @@ fn change(
             to: ServerId(*to),
         })?;
     }
-    plan.push(Change {
-        moment: Moment(moment),
-        kind,
-        moves: List::of(list),
-    })?;
-    Ok(())
+    Ok(List::of(list))
+}
+
+/// A moment, a kind of change, and the buckets that move with the servers that get them.
+type Changed<'a> = (u64, Kind, &'a [(u32, u16)]);
+
+fn plan(alloc: Global, three_servers: bool, changes: &[Changed]) -> Result<Plan, Fail> {
+    let mut plan = opening(alloc, three_servers)?;
+    for (moment, kind, moves) in changes {
+        plan.push(Change {
+            moment: Moment(*moment),
+            kind: *kind,
+            moves: moves_of(alloc, moves)?,
+        })?;
+    }
+    Ok(plan)
+}
+
+fn stage(setting: Setting, plan: Plan, commands: List<Command>, capture: Capture) -> Stage
+    requires buckets { (setting.buckets ≡ 8) × (plan.buckets ≡ 8) }
+    requires shards { IsWithin 1 64 setting.shards }
+    requires few { length capture.records ≤ 100 }
+    ensures { HasRanges result }
+{
+    Stage {
+        script: Script {
+            setting,
+            plan,
+            commands,
+        },
+        capture,
+    }
+}
+
+fn report_of(alloc: Global, h: &History) -> Result<Vec<u8>, Fail>
+    requires { HasRanges h.now.stage }
+{
+    let mut out = Vec::new(alloc);
+    put_report(h, &mut out)?;
+    Ok(out)
 }
 
 /// Tests that the report of these events is this text.
 fn check(
     rt: &impl Abort,
     alloc: Global,
+    three_servers: bool,
     one_shard: bool,
-    plan: Plan,
+    changes: &[Changed],
     records: &[Record],
     cut: Option<u32>,
     events: &[Event],
     text: &str,
-) -> Result<(), Fail>
-    requires buckets { plan.buckets ≡ 8 }
-    requires few { length records.now ≤ 100 }
-{
-    let mut setting = Setting::plain(alloc)?;
-    if one_shard {
-        setting.shards = 1;
-        setting.timeout = 1_000_000_000;
-    }
-    setting.muxes = 2;
-    let script = Script {
-        setting,
-        plan,
-        commands: List::of(Vec::new(alloc)),
-    };
-    let capture = Capture {
-        records: List::of(Vec::from_slice(alloc, records)?),
-        cut,
-    };
+) -> Result<(), Fail> {
+    let plan = plan(alloc, three_servers, changes)?;
+    assert!(rt; plan.buckets() == 8);
+    assert!(rt; records.len() <= 100);
+    let records = List::of(Vec::from_slice(alloc, records)?);
+    let events = List::of(Vec::from_slice(alloc, events)?);
+    let setting = setting(alloc, one_shard)?;
+    let commands = List::of(Vec::new(alloc));
     let h = History {
-        stage: Stage { script, capture },
-        events: List::of(Vec::from_slice(alloc, events)?),
+        stage: stage(setting, plan, commands, Capture { records, cut }),
+        events,
     };
-    let mut out = Vec::new(alloc);
-    put_report(&h, &mut out)?;
-    assert_eq!(rt; out.as_slice(), text.as_bytes());
+    let report = report_of(alloc, &h)?;
+    assert_eq!(rt; report.as_slice(), text.as_bytes());
     Ok(())
 }
 
 #[test]
 fn a_connection_of_two_packets(rt: HostRuntime) -> Result<(), Fail> {
-    let alloc = rt.alloc();
-    let buckets = plan(alloc, false)?;
     let events = [
         steer(1, 1, 0),
         direct(2, 1, 1, Verdict::Accept),
@@ -209,9 +235,10 @@ fn a_connection_of_two_packets(rt: HostRuntime) -> Result<(), Fail> {
     ];
     check(
         &rt,
-        alloc,
+        rt.alloc(),
         false,
-        buckets,
+        false,
+        &[],
         &[packet(1000, SYN, 100, 1), packet(1000, PSH_ACK, 101, 10)],
         None,
         &events,
@@ -221,15 +248,14 @@ fn a_connection_of_two_packets(rt: HostRuntime) -> Result<(), Fail> {
 
 #[test]
 fn an_empty_capture_has_totals_alone(rt: HostRuntime) -> Result<(), Fail> {
-    let alloc = rt.alloc();
-    let buckets = plan(alloc, false)?;
     let events: [Event; 0] = [];
     let records: [Record; 0] = [];
     check(
         &rt,
-        alloc,
+        rt.alloc(),
         false,
-        buckets,
+        false,
+        &[],
         &records,
         None,
         &events,
@@ -239,8 +265,6 @@ fn an_empty_capture_has_totals_alone(rt: HostRuntime) -> Result<(), Fail> {
 
 #[test]
 fn eight_connections_have_a_bucket_each(rt: HostRuntime) -> Result<(), Fail> {
-    let alloc = rt.alloc();
-    let buckets = plan(alloc, false)?;
     let events = [
         steer(1, 1, 0),
         direct(2, 1, 1, Verdict::Accept),
@@ -261,9 +285,10 @@ fn eight_connections_have_a_bucket_each(rt: HostRuntime) -> Result<(), Fail> {
     ];
     check(
         &rt,
-        alloc,
+        rt.alloc(),
         false,
-        buckets,
+        false,
+        &[],
         &[
             packet(1000, SYN, 100, 1),
             packet(1001, SYN, 100, 1),
@@ -282,17 +307,16 @@ fn eight_connections_have_a_bucket_each(rt: HostRuntime) -> Result<(), Fail> {
 
 #[test]
 fn data_that_no_server_accepted_is_reset(rt: HostRuntime) -> Result<(), Fail> {
-    let alloc = rt.alloc();
-    let buckets = plan(alloc, false)?;
     let events = [
         steer(1, 1, 0),
         direct(2, 1, 2, Verdict::Reset(Why::NoPrevious)),
     ];
     check(
         &rt,
-        alloc,
+        rt.alloc(),
         false,
-        buckets,
+        false,
+        &[],
         &[packet(1001, PSH_ACK, 101, 10)],
         None,
         &events,
@@ -302,8 +326,6 @@ fn data_that_no_server_accepted_is_reset(rt: HostRuntime) -> Result<(), Fail> {
 
 #[test]
 fn copies_are_lost_and_repeated(rt: HostRuntime) -> Result<(), Fail> {
-    let alloc = rt.alloc();
-    let buckets = plan(alloc, false)?;
     let events = [
         steer(1, 1, 0),
         direct(2, 1, 1, Verdict::Accept),
@@ -322,9 +344,10 @@ fn copies_are_lost_and_repeated(rt: HostRuntime) -> Result<(), Fail> {
     ];
     check(
         &rt,
-        alloc,
+        rt.alloc(),
         false,
-        buckets,
+        false,
+        &[],
         &[
             packet(1000, SYN, 100, 1),
             packet(1000, PSH_ACK, 101, 10),
@@ -338,8 +361,6 @@ fn copies_are_lost_and_repeated(rt: HostRuntime) -> Result<(), Fail> {
 
 #[test]
 fn records_are_not_steered_and_cut_short(rt: HostRuntime) -> Result<(), Fail> {
-    let alloc = rt.alloc();
-    let buckets = plan(alloc, false)?;
     let events = [
         steer(4001, 5, 0),
         direct(4002, 5, 1, Verdict::Accept),
@@ -348,9 +369,10 @@ fn records_are_not_steered_and_cut_short(rt: HostRuntime) -> Result<(), Fail> {
     ];
     check(
         &rt,
-        alloc,
+        rt.alloc(),
         false,
-        buckets,
+        false,
+        &[],
         &[
             unsteered(Reason::NotIpv4),
             unsteered(Reason::NotIpv4),
@@ -367,9 +389,6 @@ fn records_are_not_steered_and_cut_short(rt: HostRuntime) -> Result<(), Fail> {
 
 #[test]
 fn the_previous_server_takes_the_packet(rt: HostRuntime) -> Result<(), Fail> {
-    let alloc = rt.alloc();
-    let mut buckets = plan(alloc, false)?;
-    change(&mut buckets, alloc, 500, Kind::Shift, &[(4, 2)])?;
     let events = [
         steer(1, 1, 0),
         direct(2, 1, 1, Verdict::Accept),
@@ -381,9 +400,10 @@ fn the_previous_server_takes_the_packet(rt: HostRuntime) -> Result<(), Fail> {
     ];
     check(
         &rt,
-        alloc,
+        rt.alloc(),
         false,
-        buckets,
+        false,
+        &[(500, Kind::Shift, &[(4, 2)])],
         &[packet(1000, SYN, 100, 1), packet(1000, PSH_ACK, 101, 10)],
         None,
         &events,
@@ -393,9 +413,6 @@ fn the_previous_server_takes_the_packet(rt: HostRuntime) -> Result<(), Fail> {
 
 #[test]
 fn the_chain_ends_with_the_timeout(rt: HostRuntime) -> Result<(), Fail> {
-    let alloc = rt.alloc();
-    let mut buckets = plan(alloc, false)?;
-    change(&mut buckets, alloc, 500, Kind::Shift, &[(4, 2)])?;
     let events = [
         steer(1, 1, 0),
         direct(2, 1, 1, Verdict::Accept),
@@ -409,9 +426,10 @@ fn the_chain_ends_with_the_timeout(rt: HostRuntime) -> Result<(), Fail> {
     ];
     check(
         &rt,
-        alloc,
+        rt.alloc(),
+        false,
         true,
-        buckets,
+        &[(500, Kind::Shift, &[(4, 2)])],
         &[
             packet(1000, SYN, 100, 1),
             packet(1000, PSH_ACK, 101, 10),
@@ -425,10 +443,6 @@ fn the_chain_ends_with_the_timeout(rt: HostRuntime) -> Result<(), Fail> {
 
 #[test]
 fn a_bucket_moved_twice(rt: HostRuntime) -> Result<(), Fail> {
-    let alloc = rt.alloc();
-    let mut buckets = plan(alloc, true)?;
-    change(&mut buckets, alloc, 500, Kind::Shift, &[(4, 3)])?;
-    change(&mut buckets, alloc, 600, Kind::Shift, &[(4, 1)])?;
     let events = [
         steer(1, 1, 0),
         direct(2, 1, 2, Verdict::Accept),
@@ -442,9 +456,10 @@ fn a_bucket_moved_twice(rt: HostRuntime) -> Result<(), Fail> {
     ];
     check(
         &rt,
-        alloc,
+        rt.alloc(),
+        true,
         false,
-        buckets,
+        &[(500, Kind::Shift, &[(4, 3)]), (600, Kind::Shift, &[(4, 1)])],
         &[packet(1000, SYN, 100, 1), packet(1000, PSH_ACK, 101, 10)],
         None,
         &events,
@@ -454,9 +469,6 @@ fn a_bucket_moved_twice(rt: HostRuntime) -> Result<(), Fail> {
 
 #[test]
 fn a_mux_is_behind(rt: HostRuntime) -> Result<(), Fail> {
-    let alloc = rt.alloc();
-    let mut buckets = plan(alloc, false)?;
-    change(&mut buckets, alloc, 0, Kind::Shift, &[(4, 2)])?;
     let events = [
         publish(1, 1),
         switch(2, 1, 1),
@@ -468,9 +480,10 @@ fn a_mux_is_behind(rt: HostRuntime) -> Result<(), Fail> {
     ];
     check(
         &rt,
-        alloc,
+        rt.alloc(),
         false,
-        buckets,
+        false,
+        &[(0, Kind::Shift, &[(4, 2)])],
         &[packet(1000, SYN, 100, 1), packet(1000, PSH_ACK, 101, 10)],
         None,
         &events,
@@ -480,9 +493,6 @@ fn a_mux_is_behind(rt: HostRuntime) -> Result<(), Fail> {
 
 #[test]
 fn data_comes_before_its_syn(rt: HostRuntime) -> Result<(), Fail> {
-    let alloc = rt.alloc();
-    let mut buckets = plan(alloc, false)?;
-    change(&mut buckets, alloc, 0, Kind::Shift, &[(4, 2)])?;
     let events = [
         publish(1, 1),
         switch(2, 0, 1),
@@ -494,9 +504,10 @@ fn data_comes_before_its_syn(rt: HostRuntime) -> Result<(), Fail> {
     ];
     check(
         &rt,
-        alloc,
+        rt.alloc(),
         false,
-        buckets,
+        false,
+        &[(0, Kind::Shift, &[(4, 2)])],
         &[packet(1000, PSH_ACK, 101, 10), packet(1000, SYN, 100, 1)],
         None,
         &events,
@@ -506,10 +517,6 @@ fn data_comes_before_its_syn(rt: HostRuntime) -> Result<(), Fail> {
 
 #[test]
 fn two_servers_hold_a_connection(rt: HostRuntime) -> Result<(), Fail> {
-    let alloc = rt.alloc();
-    let mut buckets = plan(alloc, false)?;
-    change(&mut buckets, alloc, 500, Kind::Shift, &[(4, 2)])?;
-    change(&mut buckets, alloc, 1500, Kind::Shift, &[(4, 1)])?;
     let events = [
         steer(1, 1, 0),
         direct(2, 1, 1, Verdict::Accept),
@@ -524,9 +531,13 @@ fn two_servers_hold_a_connection(rt: HostRuntime) -> Result<(), Fail> {
     ];
     check(
         &rt,
-        alloc,
+        rt.alloc(),
         false,
-        buckets,
+        false,
+        &[
+            (500, Kind::Shift, &[(4, 2)]),
+            (1500, Kind::Shift, &[(4, 1)]),
+        ],
         &[
             packet(1000, SYN, 100, 1),
             packet(1000, SYN, 100, 1),
@@ -540,16 +551,6 @@ fn two_servers_hold_a_connection(rt: HostRuntime) -> Result<(), Fail> {
 
 #[test]
 fn a_server_retires(rt: HostRuntime) -> Result<(), Fail> {
-    let alloc = rt.alloc();
-    let mut buckets = plan(alloc, false)?;
-    change(&mut buckets, alloc, 500, Kind::Shift, &[(4, 2)])?;
-    change(
-        &mut buckets,
-        alloc,
-        2000,
-        Kind::Drain(ServerId(2)),
-        &[(1, 1), (3, 1), (4, 1), (5, 1), (7, 1)],
-    )?;
     let events = [
         steer(1, 1, 0),
         direct(2, 1, 1, Verdict::Accept),
@@ -565,9 +566,17 @@ fn a_server_retires(rt: HostRuntime) -> Result<(), Fail> {
     ];
     check(
         &rt,
-        alloc,
+        rt.alloc(),
+        false,
         true,
-        buckets,
+        &[
+            (500, Kind::Shift, &[(4, 2)]),
+            (
+                2000,
+                Kind::Drain(ServerId(2)),
+                &[(1, 1), (3, 1), (4, 1), (5, 1), (7, 1)],
+            ),
+        ],
         &[packet(1000, SYN, 100, 1), packet(1000, PSH_ACK, 101, 10)],
         None,
         &events,
@@ -577,15 +586,6 @@ fn a_server_retires(rt: HostRuntime) -> Result<(), Fail> {
 
 #[test]
 fn a_syn_comes_to_a_retired_server(rt: HostRuntime) -> Result<(), Fail> {
-    let alloc = rt.alloc();
-    let mut buckets = plan(alloc, false)?;
-    change(
-        &mut buckets,
-        alloc,
-        500,
-        Kind::Drain(ServerId(1)),
-        &[(0, 2), (2, 2), (4, 2), (6, 2)],
-    )?;
     let events = [
         steer(1, 1, 0),
         publish(501, 1),
@@ -595,9 +595,14 @@ fn a_syn_comes_to_a_retired_server(rt: HostRuntime) -> Result<(), Fail> {
     ];
     check(
         &rt,
-        alloc,
+        rt.alloc(),
+        false,
         true,
-        buckets,
+        &[(
+            500,
+            Kind::Drain(ServerId(1)),
+            &[(0, 2), (2, 2), (4, 2), (6, 2)],
+        )],
         &[packet(1000, SYN, 100, 1)],
         None,
         &events,
@@ -607,8 +612,6 @@ fn a_syn_comes_to_a_retired_server(rt: HostRuntime) -> Result<(), Fail> {
 
 #[test]
 fn resets_are_judged(rt: HostRuntime) -> Result<(), Fail> {
-    let alloc = rt.alloc();
-    let buckets = plan(alloc, false)?;
     let events = [
         steer(1, 1, 0),
         direct(2, 1, 1, Verdict::Accept),
@@ -625,9 +628,10 @@ fn resets_are_judged(rt: HostRuntime) -> Result<(), Fail> {
     ];
     check(
         &rt,
-        alloc,
+        rt.alloc(),
         false,
-        buckets,
+        false,
+        &[],
         &[
             packet(1000, SYN, 100, 1),
             packet(1000, RST, 66000, 0),
@@ -644,8 +648,6 @@ fn resets_are_judged(rt: HostRuntime) -> Result<(), Fail> {
 
 #[test]
 fn a_connection_replaces_one_that_finished(rt: HostRuntime) -> Result<(), Fail> {
-    let alloc = rt.alloc();
-    let buckets = plan(alloc, false)?;
     let events = [
         steer(1, 1, 0),
         direct(2, 1, 1, Verdict::Accept),
@@ -660,9 +662,10 @@ fn a_connection_replaces_one_that_finished(rt: HostRuntime) -> Result<(), Fail> 
     ];
     check(
         &rt,
-        alloc,
+        rt.alloc(),
         false,
-        buckets,
+        false,
+        &[],
         &[
             packet(1000, SYN, 4294967290, 1),
             packet(1000, PSH_ACK, 4294967291, 10),
@@ -678,8 +681,6 @@ fn a_connection_replaces_one_that_finished(rt: HostRuntime) -> Result<(), Fail> 
 
 #[test]
 fn a_shard_is_full(rt: HostRuntime) -> Result<(), Fail> {
-    let alloc = rt.alloc();
-    let buckets = plan(alloc, false)?;
     let events = [
         steer(1, 1, 0),
         direct(2, 1, 1, Verdict::Accept),
@@ -689,9 +690,10 @@ fn a_shard_is_full(rt: HostRuntime) -> Result<(), Fail> {
     ];
     check(
         &rt,
-        alloc,
+        rt.alloc(),
+        false,
         true,
-        buckets,
+        &[],
         &[packet(1000, SYN, 100, 1), packet(1002, SYN, 100, 1)],
         None,
         &events,
@@ -701,8 +703,6 @@ fn a_shard_is_full(rt: HostRuntime) -> Result<(), Fail> {
 
 #[test]
 fn a_connection_is_closed_once(rt: HostRuntime) -> Result<(), Fail> {
-    let alloc = rt.alloc();
-    let buckets = plan(alloc, false)?;
     let events = [
         steer(1, 1, 0),
         direct(2, 1, 1, Verdict::Accept),
@@ -713,9 +713,10 @@ fn a_connection_is_closed_once(rt: HostRuntime) -> Result<(), Fail> {
     ];
     check(
         &rt,
-        alloc,
+        rt.alloc(),
         false,
-        buckets,
+        false,
+        &[],
         &[packet(1000, SYN, 100, 1), packet(1000, PSH_ACK, 101, 10)],
         None,
         &events,
