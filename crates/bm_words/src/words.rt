@@ -1,5 +1,5 @@
 //! Reads the words.
-ghost use Rattle.std.specs.Prelude.{◌≡◌, IfOk, map, option_map, string_bytes};
+ghost use Rattle.std.specs.Prelude.{◌≡◌, IfErr, IfOk, IsSome, map, option_map, string_bytes};
 ghost use Rattle.clap.specs.Words.{app_of};
 ghost use Rattle.bm_words.specs.Command.{beamer};
 ghost use Rattle.bm_words.specs.Form.{form_of, named};
@@ -21,7 +21,9 @@ pub struct Form<'a> {
 /// of no form. A name isn't empty and doesn't begin with `-`. The words are without the program's
 /// own name.
 pub fn read_words<'a>(alloc: Global, words: &'a [String]) -> Result<Option<Form<'a>>, AllocError>
-    ensures { IfOk result (λ form. option_map named form ≡ form_of (map string_bytes words.entry.now)) }
+    ensures form { IfOk result (λ form. option_map named form ≡ form_of (map string_bytes words.entry.now)) }
+    // Words of no form take no memory.
+    ensures memory { IfErr result (λ _. IsSome (form_of (map string_bytes words.entry.now))) }
 {
     if !is_form(words) {
         return Ok(None);

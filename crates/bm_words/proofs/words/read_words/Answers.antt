@@ -27,8 +27,8 @@ unreachable-requires-in_default-get_str c =
     let s = c.in_default-get_str.ensures ∙ first_value-rows (found_of c.in-Some.found.now) (codes "capture") ∙ has_capture _ _ words c.in-Some.ensures.rows found in
     cc
 
-pub returns : goal.returns
-returns c =
+pub returns-clause-form : goal.returns-clause-form
+returns-clause-form c =
     let words = map string_bytes c.args.words.now in
     let rows = (c.in-Ok.ensures.matches (ap is_simple c.in_ok-command.ensures ∙ simple)).1 ∙ ap (λ a. subcommand_of a words) c.in_ok-command.ensures in
     let found = is_found (subcommand_rows_of c.in-Ok.matches) words (sym c.if-not-is_form.ensures) rows in
