@@ -92,7 +92,7 @@ same_code Limit WriteFault e = absurd (cc)
 same_code Limit Memory e = absurd (cc)
 
 -- what the program does, but for the files
-pub record Does (form : Option Named) (told : Octets) (before now : Option (List ℕ)) (faults later : ℕ) (result : ℕ) : Type 0 where
+pub record Does (form : Option Named) (told : Octets) (fails failed : ℕ) (before now : Option (List ℕ)) (faults later : ℕ) (result : ℕ) : Type 0 where
   pub shown : result ≡ 0 → ShowsFiles form told before now
   pub status : IfSome (due_status form told) (λ due. (result ≡ due) ⊎ (result ≡ 2) ⊎ (result ≡ 5) ⊎ (result ≡ 6))
   pub usage : result ≡ 1 → form ≡ None
@@ -101,7 +101,7 @@ pub record Does (form : Option Named) (told : Octets) (before now : Option (List
   pub usage_line : result ≡ 1 → Appends before now usage_line
   pub read_line : result ≡ 2 → Appends before now (fault_line Files)
   pub line : (result ≡ 3) ⊎ (result ≡ 4) ⊎ (result ≡ 7) → RefusesFiles form told before now
-  pub part : (result ≡ 5) ⊎ (result ≡ 6) → WritesDue form told before now
+  pub part : (result ≡ 5) ⊎ (result ≡ 6) → WritesDue form told fails failed before now
 
 replay_status : (form : Named) (told : Octets) (s : Status) → IfSome told (λ octets. (s ≡ status_of (reading form octets)) ⊎ (s ≡ ReadFault) ⊎ (s ≡ WriteFault) ⊎ (s ≡ Memory)) → IfSome (due_status (Some form) told) (λ due. (code_of s ≡ due) ⊎ (code_of s ≡ 2) ⊎ (code_of s ≡ 5) ⊎ (code_of s ≡ 6))
 replay_status form None s h = tt
@@ -119,8 +119,8 @@ refusal s (inl e) = inl (same_code s BadCapture e)
 refusal s (inr (inl e)) = inr (inl (same_code s BadScript e))
 refusal s (inr (inr e)) = inr (inr (same_code s Limit e))
 
-pub does_replay : (form : Named) (told : Octets) (before now : Option (List ℕ)) (faults later : ℕ) (s : Status) → IsReplaying form told before now faults later s → Does (Some form) told before now faults later (code_of s)
-does_replay form told before now faults later s replaying = record {
+pub does_replay : (form : Named) (told : Octets) (fails failed : ℕ) (before now : Option (List ℕ)) (faults later : ℕ) (s : Status) → IsReplaying form told fails failed before now faults later s → Does (Some form) told fails failed before now faults later (code_of s)
+does_replay form told fails failed before now faults later s replaying = record {
   shown = λ e. replaying.shown (same_code s Done e);
   status = replay_status form told s replaying.status;
   usage = λ e. absurd (replaying.words (same_code s Usage e));
@@ -147,8 +147,8 @@ usage_status s (inl e) = inl (ap code_of e)
 usage_status s (inr (inl e)) = inr (inr (inl (ap code_of e)))
 usage_status s (inr (inr e)) = inr (inr (inr (ap code_of e)))
 
-pub does_usage : (told : Octets) (before now : Option (List ℕ)) (faults later : ℕ) (s : Status) → Says Usage usage_line before now faults later s → Does None told before now faults later (code_of s)
-does_usage told before now faults later s said = record {
+pub does_usage : (told : Octets) (fails failed : ℕ) (before now : Option (List ℕ)) (faults later : ℕ) (s : Status) → Says Usage usage_line before now faults later s → Does None told fails failed before now faults later (code_of s)
+does_usage told fails failed before now faults later s said = record {
   shown = λ e. usage_no s Done (λ e. cc) (λ e. cc) (λ e. cc) said.ends (same_code s Done e);
   status = usage_status s said.ends;
   usage = λ e. refl;
@@ -169,7 +169,7 @@ accepted_is_done (Ok stage) is = refl
 accepted_is_done (Err fault) is = absurd (cc)
 
 -- an accepted capture's report is written, but where something failed or memory was refused
-pub is_complete : (form : Option Named) (told : Octets) (before now : Option (List ℕ)) (faults later reads read : ℕ) (result : ℕ) → Does form told before now faults later result → (result ≡ 2 → Rose reads read) → IsAccepted form told → (result ≡ 0) ⊎ (result ≡ 6) ⊎ Rose reads read ⊎ Rose faults later
+pub is_complete : (form : Option Named) (told : Octets) (before now : Option (List ℕ)) (faults later reads read : ℕ) (result : ℕ) → Does form told reads read before now faults later result → (result ≡ 2 → Rose reads read) → IsAccepted form told → (result ≡ 0) ⊎ (result ≡ 6) ⊎ Rose reads read ⊎ Rose faults later
 is_complete None told before now faults later reads read result does rose accepted = absurd accepted
 is_complete (Some form) None before now faults later reads read result does rose accepted = absurd accepted
 is_complete (Some form) (Some octets) before now faults later reads read result does rose accepted = by does.status where
@@ -186,13 +186,13 @@ nothing_status None told = inr (inr (inr refl))
 nothing_status (Some form) None = tt
 nothing_status (Some form) (Some octets) = inr (inr (inr refl))
 
-pub nothing_due : (form : Option Named) (told : Octets) (before : Option (List ℕ)) → WritesDue form told before before
-nothing_due None told before = record { text = usage_line; due = refl; part = (0, appends_nothing before) }
-nothing_due (Some form) None before = record { text = []; due = tt; part = (0, appends_nothing before) }
-nothing_due (Some form) (Some octets) before = record { text = []; due = inl refl; part = (0, appends_nothing before) }
+pub nothing_due : (form : Option Named) (told : Octets) (fails failed : ℕ) (before : Option (List ℕ)) → WritesDue form told fails failed before before
+nothing_due None told fails failed before = record { text = usage_line; due = refl; part = (0, appends_nothing before) }
+nothing_due (Some form) None fails failed before = record { text = []; due = tt; part = (0, appends_nothing before) }
+nothing_due (Some form) (Some octets) fails failed before = record { text = []; due = inl refl; part = (0, appends_nothing before) }
 
-pub does_nothing : (form : Option Named) (told : Octets) (before : Option (List ℕ)) (faults : ℕ) → Does form told before before faults faults (code_of Memory)
-does_nothing form told before faults = record {
+pub does_nothing : (form : Option Named) (told : Octets) (fails failed : ℕ) (before : Option (List ℕ)) (faults : ℕ) → Does form told fails failed before before faults faults (code_of Memory)
+does_nothing form told fails failed before faults = record {
   shown = λ e. absurd (cc);
   status = nothing_status form told;
   usage = λ e. absurd (cc);
@@ -201,5 +201,5 @@ does_nothing form told before faults = record {
   usage_line = λ e. absurd (cc);
   read_line = λ e. absurd (cc);
   line = λ e. absurd (elim e [ inl is ↦ (cc) | inr r ↦ elim r [ inl is ↦ (cc) | inr is ↦ (cc) ] ]);
-  part = λ e. nothing_due form told before;
+  part = λ e. nothing_due form told fails failed before;
 }

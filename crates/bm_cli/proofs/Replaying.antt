@@ -9,6 +9,7 @@ use Rattle.bm_quota.specs.declared.refusal.Refusal.TheVariants.{KnownServer, Unk
 use Rattle.bm_script.specs.declared.fault.ScriptFault.{ScriptFault}
 use Rattle.bm_script.specs.declared.fault.ScriptFault.TheVariants.{NotToml, Missing, BadValue, Unknown, Refused, Memory as ScriptMemory}
 use Rattle.bm_words.specs.Form.{Named}
+use Rattle.bm_io.specs.Causes.{Rose}
 use Rattle.bm_cli.specs.declared.fault.StageFault.{StageFault}
 use Rattle.bm_cli.specs.declared.fault.StageFault.TheVariants.{Files, LongScript, Script as OfScript, Capture as OfCapture, Memory as WantsMemory}
 use Rattle.bm_cli.specs.declared.status.Status.{Status}
@@ -183,10 +184,10 @@ shown_files : (form : Named) (told : Octets) (stage : Stage) (before now : Optio
 shown_files form None stage before now read shows = tt
 shown_files form (Some octets) stage before now read shows = subst (λ r. ShowsReading r before now) (sym read) shows
 
-shown_due : (form : Named) (told : Octets) (stage : Stage) (text : List ℕ) → ReadsStage told form (Ok stage) → (IsDueOf (Ok stage) text) ⊎ (text ≡ []) → IsDue (Some form) told text
-shown_due form None stage text read due = tt
-shown_due form (Some octets) stage text read (inl report) = inr (inr (subst (λ r. IsDueOf r text) (sym read) report))
-shown_due form (Some octets) stage text read (inr none) = inl none
+shown_due : (form : Named) (told : Octets) (fails failed : ℕ) (stage : Stage) (text : List ℕ) → ReadsStage told form (Ok stage) → (IsDueOf (Ok stage) text) ⊎ (text ≡ []) → IsDue (Some form) told fails failed text
+shown_due form None fails failed stage text read due = tt
+shown_due form (Some octets) fails failed stage text read (inl report) = inr (inr (subst (λ r. IsDueOf r text) (sym read) report))
+shown_due form (Some octets) fails failed stage text read (inr none) = inl none
 
 -- a status that is none of these three
 no_other : {A : Type 0} (s r : Status) → s ≢ Done → s ≢ WriteFault → s ≢ Memory → (r ≡ Done) ⊎ (r ≡ WriteFault) ⊎ (r ≡ Memory) → r ≡ s → A
@@ -199,8 +200,8 @@ shown_no_line r ends (inl is) = no_other BadCapture r (λ e. cc) (λ e. cc) (λ 
 shown_no_line r ends (inr (inl is)) = no_other BadScript r (λ e. cc) (λ e. cc) (λ e. cc) ends is
 shown_no_line r ends (inr (inr is)) = no_other Limit r (λ e. cc) (λ e. cc) (λ e. cc) ends is
 
-pub replaying_shown : (form : Named) (told : Octets) (before now : Option (List ℕ)) (faults later : ℕ) (stage : Stage) (result : Status) → ReadsStage told form (Ok stage) → IsShowing stage before now faults later result → IsReplaying form told before now faults later result
-replaying_shown form told before now faults later stage result read showing = record {
+pub replaying_shown : (form : Named) (told : Octets) (fails failed : ℕ) (before now : Option (List ℕ)) (faults later : ℕ) (stage : Stage) (result : Status) → ReadsStage told form (Ok stage) → IsShowing stage before now faults later result → IsReplaying form told fails failed before now faults later result
+replaying_shown form told fails failed before now faults later stage result read showing = record {
   status = shown_status form told stage result read showing.ends;
   words = λ is. no_other Usage result (λ e. cc) (λ e. cc) (λ e. cc) showing.ends is;
   shown = λ is. shown_files form told stage before now read (showing.whole is);
@@ -208,7 +209,7 @@ replaying_shown form told before now faults later stage result read showing = re
   line = λ is. shown_no_line result showing.ends is;
   part = λ is.
       let part = showing.part is in
-      record { text = part.octets; due = shown_due form told stage part.octets read part.report; part = part.written };
+      record { text = part.octets; due = shown_due form told fails failed stage part.octets read part.report; part = part.written };
   write = showing.cause;
 }
 
@@ -222,11 +223,11 @@ refused_status form (Some octets) fault result (inl (inl is)) (inl e) = inr (inl
 refused_status form (Some octets) fault result (inl (inr is)) (inl e) = inr (inr (inr (e ∙ is)))
 refused_status form (Some octets) fault result (inr is) (inl e) = inl (e ∙ sym (ap status_of is))
 
-refused_due : (form : Named) (told : Octets) (fault : StageFault) → ReadsStage told form (Err fault) → IsDue (Some form) told (fault_line fault)
-refused_due form None fault read = tt
-refused_due form (Some octets) fault (inl (inl is)) = inr (inl (read_line fault is))
-refused_due form (Some octets) fault (inl (inr is)) = inl (memory_line fault is)
-refused_due form (Some octets) fault (inr is) = inr (inr (subst (λ r. IsDueOf r (fault_line fault)) (sym is) refl))
+refused_due : (form : Named) (told : Octets) (fails failed : ℕ) (fault : StageFault) → (fault_status fault ≡ ReadFault → Rose fails failed) → ReadsStage told form (Err fault) → IsDue (Some form) told fails failed (fault_line fault)
+refused_due form None fails failed fault rose read = tt
+refused_due form (Some octets) fails failed fault rose (inl (inl is)) = inr (inl (read_line fault is, rose is))
+refused_due form (Some octets) fails failed fault rose (inl (inr is)) = inl (memory_line fault is)
+refused_due form (Some octets) fails failed fault rose (inr is) = inr (inr (subst (λ r. IsDueOf r (fault_line fault)) (sym is) refl))
 
 refused_line : (form : Named) (told : Octets) (fault : StageFault) (before now : Option (List ℕ)) → fault_status fault ≢ ReadFault → fault_status fault ≢ Memory → ReadsStage told form (Err fault) → Appends before now (fault_line fault) → RefusesFiles (Some form) told before now
 refused_line form None fault before now source memory read line = tt
@@ -250,8 +251,8 @@ each_line form told before now faults later fault result read refused (inl is) =
 each_line form told before now faults later fault result read refused (inr (inl is)) = line_at form told before now faults later fault BadScript result (λ e. cc) (λ e. cc) (λ e. cc) read refused is
 each_line form told before now faults later fault result read refused (inr (inr is)) = line_at form told before now faults later fault Limit result (λ e. cc) (λ e. cc) (λ e. cc) read refused is
 
-pub replaying_refused : (form : Named) (told : Octets) (before now : Option (List ℕ)) (faults later : ℕ) (fault : StageFault) (result : Status) → ReadsStage told form (Err fault) → Refuses fault before now faults later result → IsReplaying form told before now faults later result
-replaying_refused form told before now faults later fault result read refused = record {
+pub replaying_refused : (form : Named) (told : Octets) (fails failed : ℕ) (before now : Option (List ℕ)) (faults later : ℕ) (fault : StageFault) (result : Status) → (fault_status fault ≡ ReadFault → Rose fails failed) → ReadsStage told form (Err fault) → Refuses fault before now faults later result → IsReplaying form told fails failed before now faults later result
+replaying_refused form told fails failed before now faults later fault result rose read refused = record {
   status = refused_status form told fault result read refused.ends;
   words = λ is. refused_no fault Usage result (λ e. cc) (λ e. cc) (of_fault fault).usage refused.ends is;
   shown = λ is. refused_no fault Done result (λ e. cc) (λ e. cc) (of_fault fault).done refused.ends is;
@@ -259,6 +260,6 @@ replaying_refused form told before now faults later fault result read refused = 
       let own = own_status (fault_status fault) result (λ e. cc) (λ e. cc) refused.ends in
       subst (λ l. Appends before now l) (read_line fault (sym own ∙ is)) (refused.whole own (λ e. cc));
   line = λ is. each_line form told before now faults later fault result read refused is;
-  part = λ is. record { text = fault_line fault; due = refused_due form told fault read; part = refused.part is };
+  part = λ is. record { text = fault_line fault; due = refused_due form told fails failed fault rose read; part = refused.part is };
   write = refused.cause;
 }

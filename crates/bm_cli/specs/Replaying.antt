@@ -18,11 +18,11 @@ IsRefusal s = (s ≡ BadCapture) ⊎ (s ≡ BadScript) ⊎ (s ≡ Limit)
 
 -- The status is the one that is due, but where the files or the sink failed, or memory was refused; and
 -- what was written is the text of the status.
-pub record IsReplaying (form : Named) (told : Octets) (before now : Option (List ℕ)) (faults later : ℕ) (result : Status) : Type 0 where
+pub record IsReplaying (form : Named) (told : Octets) (fails failed : ℕ) (before now : Option (List ℕ)) (faults later : ℕ) (result : Status) : Type 0 where
   pub status : IfSome told (λ octets. (result ≡ status_of (reading form octets)) ⊎ (result ≡ ReadFault) ⊎ (result ≡ WriteFault) ⊎ (result ≡ Memory))
   pub words : result ≢ Usage
   pub shown : result ≡ Done → ShowsFiles (Some form) told before now
   pub read_line : result ≡ ReadFault → Appends before now (fault_line Files)
   pub line : IsRefusal result → RefusesFiles (Some form) told before now
-  pub part : (result ≡ WriteFault) ⊎ (result ≡ Memory) → WritesDue (Some form) told before now
+  pub part : (result ≡ WriteFault) ⊎ (result ≡ Memory) → WritesDue (Some form) told fails failed before now
   pub write : result ≡ WriteFault → Rose faults later

@@ -3,6 +3,7 @@ use Rattle.std.specs.Prelude.{◌≡◌, ℕ, ◌⊎◌, List, [], Ok, Err, IfEr
 use Rattle.std.specs.declared.option.Option.{Option}
 use Rattle.std.specs.declared.option.Option.TheVariants.{Some, None}
 use Rattle.std.specs.Io.KnownBytes.{Appends}
+use Rattle.bm_io.specs.Causes.{Rose}
 use Rattle.bm_words.specs.Form.{Named}
 use Rattle.bm_cli.specs.declared.fault.StageFault.TheVariants.{Files}
 use Rattle.bm_cli.specs.declared.status.Status.{Status}
@@ -57,13 +58,13 @@ IsDueOf (Ok stage) text = IsReportOf stage text
 IsDueOf (Err fault) text = text ≡ fault_line fault
 
 -- the text that is due: nothing yet, the line of a read that failed, or what the files ask for
-abbrev pub IsDue : Option Named → Octets → List ℕ → Type 0
-IsDue None told text = text ≡ usage_line
-IsDue (Some form) None text = Unit {0}
-IsDue (Some form) (Some octets) text = (text ≡ []) ⊎ (text ≡ fault_line Files) ⊎ IsDueOf (reading form octets) text
+abbrev pub IsDue : Option Named → Octets → ℕ → ℕ → List ℕ → Type 0
+IsDue None told fails failed text = text ≡ usage_line
+IsDue (Some form) None fails failed text = Unit {0}
+IsDue (Some form) (Some octets) fails failed text = (text ≡ []) ⊎ ((text ≡ fault_line Files) × Rose fails failed) ⊎ IsDueOf (reading form octets) text
 
--- a first part of the text that is due was written
-pub record WritesDue (form : Option Named) (told : Octets) (before now : Option (List ℕ)) : Type 0 where
+-- a first part of the text that is due was written, where the files had failed so often, and then so often
+pub record WritesDue (form : Option Named) (told : Octets) (fails failed : ℕ) (before now : Option (List ℕ)) : Type 0 where
   pub text : List ℕ
-  pub due : IsDue form told text
+  pub due : IsDue form told fails failed text
   pub part : WritesPart before now text

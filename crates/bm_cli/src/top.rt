@@ -41,7 +41,7 @@ pub fn beamer<F: Files, K: Sink>(alloc: Global, words: &[String], files: &mut F,
     ensures usage_line { result ≡ 1 → Appends (K.written out.old) (K.written out.new) usage_line }
     ensures read_line { result ≡ 2 → Appends (K.written out.old) (K.written out.new) (fault_line files_failed) }
     ensures line { (result ≡ 3) ⊎ (result ≡ 4) ⊎ (result ≡ 7) → RefusesFiles (form_of (map string_bytes words.now)) (F.octets files.old) (K.written out.old) (K.written out.new) }
-    ensures part { (result ≡ 5) ⊎ (result ≡ 6) → WritesDue (form_of (map string_bytes words.now)) (F.octets files.old) (K.written out.old) (K.written out.new) }
+    ensures part { (result ≡ 5) ⊎ (result ≡ 6) → WritesDue (form_of (map string_bytes words.now)) (F.octets files.old) (F.faults files.old) (F.faults files.new) (K.written out.old) (K.written out.new) }
 
     // The files are asked for the names in the words alone, each at most once, the script's first; and not for the capture behind a fault of the script.
     ensures asked { AsksPrefix (F.asked files.old) (F.asked files.new) (names_due (form_of (map string_bytes words.now)) (F.octets files.old)) }
@@ -60,12 +60,12 @@ fn replay_files<F: Files, K: Sink>(
     files: &mut F,
     out: &mut K,
 ) -> Status
-    ensures replaying { IsReplaying (named form.entry) (F.octets files.old) (K.written out.old) (K.written out.new) (K.faults out.old) (K.faults out.new) result }
+    ensures replaying { IsReplaying (named form.entry) (F.octets files.old) (F.faults files.old) (F.faults files.new) (K.written out.old) (K.written out.new) (K.faults out.old) (K.faults out.new) result }
     ensures read { result ≡ Status.ReadFault → Rose (F.faults files.old) (F.faults files.new) }
     ensures asked { AsksPrefix (F.asked files.old) (F.asked files.new) (names_due (Some (named form.entry)) (F.octets files.old)) }
 {
     match read_stage(alloc, files, form) {
-        Ok(stage) => show(alloc, stage, out),
+        Ok((stage, packets)) => show(alloc, stage, &packets, out),
         Err(fault) => refuse(alloc, &fault, out),
     }
 }
