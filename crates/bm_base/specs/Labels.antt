@@ -1,4 +1,4 @@
--- Where copies of a packet arrive, and what is written on them (Beamer's design).
+-- Where copies of a packet arrive, and what is written on them (Olteanu et al., NSDI 2018, daisy chaining; docs/DEFINITIONS.md).
 use Rattle.std.specs.Prelude.{Bool, true, false, Option, Some, option_map}
 use Rattle.bm_base.specs.declared.ids.ServerId.{ServerId}
 use Rattle.bm_base.specs.declared.label.Entry.{Entry}
@@ -14,9 +14,9 @@ same_hop Chained Chained = true
 same_hop _ _ = false
 
 -- where a copy of this hop arrives: a direct one at the bucket's server, a chained one at the server before that
-abbrev pub stop : Entry → Hop → Option ServerId
-stop e Direct = Some e.cur
-stop e Chained = e.prev
+abbrev pub arrives_at : Entry → Hop → Option ServerId
+arrives_at e Direct = Some e.cur
+arrives_at e Chained = e.prev
 
 -- the tag of a copy of this hop, for its destination
 abbrev pub tag_for : Label → Hop → ServerId → Tag
@@ -24,4 +24,4 @@ tag_for l hop dest = record { hop = hop; dest = dest; prev = l.entry.prev; stamp
 
 -- the tag of a copy of this hop, where there is such a copy
 abbrev pub tag_of : Label → Hop → Option Tag
-tag_of l hop = option_map (tag_for l hop) (stop l.entry hop)
+tag_of l hop = option_map (tag_for l hop) (arrives_at l.entry hop)

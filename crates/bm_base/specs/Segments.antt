@@ -1,8 +1,20 @@
 -- The kinds of TCP segments, by their flags (RFC 9293, section 3.1).
 use Rattle.std.specs.Prelude.{ℕ, Bool, ◌&&◌, not, nat_lt, ◌==◌, bit_and}
-use Rattle.bm_base.specs.declared.flags.TheConstants.{ACK, FIN, RST, SYN}
 use Rattle.bm_base.specs.declared.flow.Flow.{Flow}
 use Rattle.bm_base.specs.declared.flow.Segment.{Segment}
+
+-- four of the flags in octet 13 of the header
+abbrev pub FIN : ℕ
+FIN = 0x01
+
+abbrev pub SYN : ℕ
+SYN = 0x02
+
+abbrev pub RST : ℕ
+RST = 0x04
+
+abbrev pub ACK : ℕ
+ACK = 0x10
 
 -- this flag is set
 unfoldable pub has_flag : ℕ → Segment → Bool

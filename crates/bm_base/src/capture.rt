@@ -31,11 +31,11 @@ pub enum Reason {
     ShortTcp,
     /// The data offset doesn't fit.
     BadOffset,
-    /// The destination isn't the service.
+    /// The destination is none of the services.
     OtherDestination,
     /// The packet with a carrier header would pass 65,535 octets.
     TooLong,
-    /// A form that isn't read yet.
+    /// A form that isn't read. `classify` and `read_capture` give none.
     Later,
 }
 

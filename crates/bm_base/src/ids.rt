@@ -16,5 +16,5 @@ pub struct Version(pub u32);
 #[derive(Clone, Copy, Debug, PartialEq, Eq, PartialOrd, Ord)]
 pub struct Moment(pub u64);
 
-/// The last moment that a shard or a mux may be handed: 9 * 10^18.
+/// The last moment that a shard may be handed, 9 * 10^18 nanoseconds.
 pub const LAST: u64 = 9_000_000_000_000_000_000;

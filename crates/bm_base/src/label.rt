@@ -42,7 +42,7 @@ pub struct Tag {
 /// The tag of a copy of this hop. A direct copy goes to the bucket's server, a chained one to the
 /// server before that, which has to be there.
 pub fn tag_of(label: &Label, hop: Hop) -> Tag
-    requires { IsSome (labels.stop label.now.entry hop) }
+    requires { IsSome (labels.arrives_at label.now.entry hop) }
     ensures { labels.tag_of label.now hop ≡ Some result }
 {
     let entry = label.entry;

@@ -36,7 +36,7 @@ impl Octets {
         }
     }
 
-    /// Adds a list at the end.
+    /// Adds a list at the end. `Memory` where memory was refused; then nothing changes.
     pub fn push(&mut self, octets: &[u8]) -> Result<(), Memory>
         requires { length self.old < 4294967295 }
         ensures ok { OnOk result (self.new ≡ self.old ++ octets.now ∷ []) }

@@ -1,4 +1,5 @@
 use super::*;
+use crate::flags::{ACK, CWR, ECE, FIN, PSH, RST, SYN, URG};
 use std::test::Fail;
 
 #[test]
@@ -93,4 +94,13 @@ fn servers_and_muxes_have_addresses(rt: HostRuntime) {
     assert_eq!(rt; mux_addr(MuxId(63)), 0xac1f_003f);
     assert_eq!(rt; mux_of(0xac1f_003f), Some(MuxId(63)));
     assert_eq!(rt; mux_of(0xac1f_0040), None);
+}
+
+// RFC 9293, section 3.1
+#[test]
+fn flags_are_the_bits_of_their_octet(rt: HostRuntime) {
+    let all = [FIN, SYN, RST, PSH, ACK, URG, ECE, CWR];
+    let bits = [0x01, 0x02, 0x04, 0x08, 0x10, 0x20, 0x40, 0x80];
+    assert_eq!(rt; all, bits);
+    assert_eq!(rt; LAST, 9_000_000_000_000_000_000);
 }

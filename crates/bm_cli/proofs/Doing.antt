@@ -1,5 +1,6 @@
 -- All that the program does, by its words.
 use Rattle.std.proofs.Common.{◌≡◌, ◌≢◌, ◌⊎◌, inl, inr, ℕ, List, [], Option, Some, None, Ok, Err, IfSome, IsOk, IsSome, sym, ap, ◌∙◌, refl}
+use Rattle.std.specs.Prelude.{◌==◌, if◌then◌else◌}
 use Rattle.std.specs.Io.KnownBytes.{Appends}
 use Rattle.bm_io.specs.Causes.{Rose}
 use Rattle.bm_words.specs.Form.{Named}
@@ -9,7 +10,7 @@ use Rattle.bm_cli.specs.declared.status.Status.TheVariants.{Done, Usage, ReadFau
 use Rattle.bm_cli.specs.Lines.{fault_line, usage_line}
 use Rattle.bm_cli.specs.Reading.{Octets, Reading, reading}
 use Rattle.bm_cli.specs.Replaying.{IsRefusal, IsReplaying}
-use Rattle.bm_cli.specs.Statuses.{Says, code_of}
+use Rattle.bm_cli.specs.Statuses.{Writes, code_of}
 use Rattle.bm_cli.proofs.Writing.{appends_nothing}
 use Rattle.bm_cli.specs.Top.{IsAccepted, RefusesFiles, ShowsFiles, WritesDue, due_status, status_of}
 
@@ -24,72 +25,32 @@ is_known WriteFault = inr (inr (inr (inr (inr (inl refl)))))
 is_known Memory = inr (inr (inr (inr (inr (inr (inl refl))))))
 is_known Limit = inr (inr (inr (inr (inr (inr (inr refl))))))
 
+-- the status of a code
+status_with : ℕ → Status
+status_with n =
+    if n == 0 then Done
+    else if n == 1 then Usage
+    else if n == 2 then ReadFault
+    else if n == 3 then BadCapture
+    else if n == 4 then BadScript
+    else if n == 5 then WriteFault
+    else if n == 6 then Memory
+    else Limit
+
+code_back : (s : Status) → status_with (code_of s) ≡ s
+unfolding status_with
+code_back Done = refl
+code_back Usage = refl
+code_back ReadFault = refl
+code_back BadCapture = refl
+code_back BadScript = refl
+code_back WriteFault = refl
+code_back Memory = refl
+code_back Limit = refl
+
 -- no two statuses have one code
 pub same_code : (s t : Status) → code_of s ≡ code_of t → s ≡ t
-same_code Done Done e = refl
-same_code Usage Usage e = refl
-same_code ReadFault ReadFault e = refl
-same_code BadCapture BadCapture e = refl
-same_code BadScript BadScript e = refl
-same_code WriteFault WriteFault e = refl
-same_code Memory Memory e = refl
-same_code Limit Limit e = refl
-same_code Done Usage e = absurd (cc)
-same_code Done ReadFault e = absurd (cc)
-same_code Done BadCapture e = absurd (cc)
-same_code Done BadScript e = absurd (cc)
-same_code Done WriteFault e = absurd (cc)
-same_code Done Memory e = absurd (cc)
-same_code Done Limit e = absurd (cc)
-same_code Usage Done e = absurd (cc)
-same_code Usage ReadFault e = absurd (cc)
-same_code Usage BadCapture e = absurd (cc)
-same_code Usage BadScript e = absurd (cc)
-same_code Usage WriteFault e = absurd (cc)
-same_code Usage Memory e = absurd (cc)
-same_code Usage Limit e = absurd (cc)
-same_code ReadFault Done e = absurd (cc)
-same_code ReadFault Usage e = absurd (cc)
-same_code ReadFault BadCapture e = absurd (cc)
-same_code ReadFault BadScript e = absurd (cc)
-same_code ReadFault WriteFault e = absurd (cc)
-same_code ReadFault Memory e = absurd (cc)
-same_code ReadFault Limit e = absurd (cc)
-same_code BadCapture Done e = absurd (cc)
-same_code BadCapture Usage e = absurd (cc)
-same_code BadCapture ReadFault e = absurd (cc)
-same_code BadCapture BadScript e = absurd (cc)
-same_code BadCapture WriteFault e = absurd (cc)
-same_code BadCapture Memory e = absurd (cc)
-same_code BadCapture Limit e = absurd (cc)
-same_code BadScript Done e = absurd (cc)
-same_code BadScript Usage e = absurd (cc)
-same_code BadScript ReadFault e = absurd (cc)
-same_code BadScript BadCapture e = absurd (cc)
-same_code BadScript WriteFault e = absurd (cc)
-same_code BadScript Memory e = absurd (cc)
-same_code BadScript Limit e = absurd (cc)
-same_code WriteFault Done e = absurd (cc)
-same_code WriteFault Usage e = absurd (cc)
-same_code WriteFault ReadFault e = absurd (cc)
-same_code WriteFault BadCapture e = absurd (cc)
-same_code WriteFault BadScript e = absurd (cc)
-same_code WriteFault Memory e = absurd (cc)
-same_code WriteFault Limit e = absurd (cc)
-same_code Memory Done e = absurd (cc)
-same_code Memory Usage e = absurd (cc)
-same_code Memory ReadFault e = absurd (cc)
-same_code Memory BadCapture e = absurd (cc)
-same_code Memory BadScript e = absurd (cc)
-same_code Memory WriteFault e = absurd (cc)
-same_code Memory Limit e = absurd (cc)
-same_code Limit Done e = absurd (cc)
-same_code Limit Usage e = absurd (cc)
-same_code Limit ReadFault e = absurd (cc)
-same_code Limit BadCapture e = absurd (cc)
-same_code Limit BadScript e = absurd (cc)
-same_code Limit WriteFault e = absurd (cc)
-same_code Limit Memory e = absurd (cc)
+same_code s t e = sym (code_back s) ∙ ap status_with e ∙ code_back t
 
 -- what the program does, but for the files
 pub record Does (form : Option Named) (told : Octets) (fails failed : ℕ) (before now : Option (List ℕ)) (faults later : ℕ) (result : ℕ) : Type 0 where
@@ -98,6 +59,7 @@ pub record Does (form : Option Named) (told : Octets) (fails failed : ℕ) (befo
   pub usage : result ≡ 1 → form ≡ None
   pub named : result ≡ 2 → IsSome form
   pub write : result ≡ 5 → Rose faults later
+  pub kept : result ≢ 5 → later ≡ faults
   pub usage_line : result ≡ 1 → Appends before now usage_line
   pub read_line : result ≡ 2 → Appends before now (fault_line Files)
   pub line : (result ≡ 3) ⊎ (result ≡ 4) ⊎ (result ≡ 7) → RefusesFiles form told before now
@@ -126,6 +88,7 @@ does_replay form told fails failed before now faults later s replaying = record 
   usage = λ e. absurd (replaying.words (same_code s Usage e));
   named = λ e. refl;
   write = λ e. replaying.write (same_code s WriteFault e);
+  kept = λ n. replaying.kept (λ e. n (ap code_of e));
   usage_line = λ e. absurd (replaying.words (same_code s Usage e));
   read_line = λ e. replaying.read_line (same_code s ReadFault e);
   line = λ e. replaying.line (refusal s e);
@@ -147,13 +110,14 @@ usage_status s (inl e) = inl (ap code_of e)
 usage_status s (inr (inl e)) = inr (inr (inl (ap code_of e)))
 usage_status s (inr (inr e)) = inr (inr (inr (ap code_of e)))
 
-pub does_usage : (told : Octets) (fails failed : ℕ) (before now : Option (List ℕ)) (faults later : ℕ) (s : Status) → Says Usage usage_line before now faults later s → Does None told fails failed before now faults later (code_of s)
+pub does_usage : (told : Octets) (fails failed : ℕ) (before now : Option (List ℕ)) (faults later : ℕ) (s : Status) → Writes Usage usage_line before now faults later s → Does None told fails failed before now faults later (code_of s)
 does_usage told fails failed before now faults later s said = record {
   shown = λ e. usage_no s Done (λ e. cc) (λ e. cc) (λ e. cc) said.ends (same_code s Done e);
   status = usage_status s said.ends;
   usage = λ e. refl;
   named = λ e. usage_no s ReadFault (λ e. cc) (λ e. cc) (λ e. cc) said.ends (same_code s ReadFault e);
   write = λ e. said.cause (same_code s WriteFault e);
+  kept = λ n. said.kept (λ e. n (ap code_of e));
   usage_line = λ e. said.whole (same_code s Usage e);
   read_line = λ e. usage_no s ReadFault (λ e. cc) (λ e. cc) (λ e. cc) said.ends (same_code s ReadFault e);
   line = λ e. usage_neither s said.ends (refusal s e);
@@ -161,7 +125,7 @@ does_usage told fails failed before now faults later s said = record {
 }
 
 -- files that aren't opened don't fail
-pub usage_reads_nothing : {A : Type 0} (before now : Option (List ℕ)) (faults later : ℕ) (s : Status) → Says Usage usage_line before now faults later s → code_of s ≡ 2 → A
+pub usage_reads_nothing : {A : Type 0} (before now : Option (List ℕ)) (faults later : ℕ) (s : Status) → Writes Usage usage_line before now faults later s → code_of s ≡ 2 → A
 usage_reads_nothing before now faults later s said e = usage_no s ReadFault (λ e. cc) (λ e. cc) (λ e. cc) said.ends (same_code s ReadFault e)
 
 accepted_is_done : (r : Reading) → IsOk r → status_of r ≡ Done
@@ -198,6 +162,7 @@ does_nothing form told fails failed before faults = record {
   usage = λ e. absurd (cc);
   named = λ e. absurd (cc);
   write = λ e. absurd (cc);
+  kept = λ n. refl;
   usage_line = λ e. absurd (cc);
   read_line = λ e. absurd (cc);
   line = λ e. absurd (elim e [ inl is ↦ (cc) | inr r ↦ elim r [ inl is ↦ (cc) | inr is ↦ (cc) ] ]);

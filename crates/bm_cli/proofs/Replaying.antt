@@ -19,7 +19,7 @@ use Rattle.bm_cli.specs.Reading.{Octets, Reading, ReadsStage, reading}
 use Rattle.bm_cli.specs.Refusing.{Refuses}
 use Rattle.bm_cli.specs.Replaying.{IsRefusal, IsReplaying}
 use Rattle.bm_cli.specs.Showing.{IsShowing}
-use Rattle.bm_cli.specs.Statuses.{Says}
+use Rattle.bm_cli.specs.Statuses.{Writes}
 use Rattle.bm_cli.specs.Top.{IsDue, IsDueOf, RefusesFiles, ShowsFiles, ShowsReading, status_of}
 use Rattle.bm_cli.proofs.Writing.{appends_nothing}
 
@@ -32,15 +32,17 @@ refuses_nothing fault before faults = record {
   whole = λ e not. absurd (not refl);
   part = λ e. (0, appends_nothing before);
   cause = λ e. absurd (cc);
+  kept = λ n. refl;
 }
 
-pub refuses_said : (fault : StageFault) (before now : Option (List ℕ)) (faults later : ℕ) (result : Status) → Says (fault_status fault) (fault_line fault) before now faults later result → Refuses fault before now faults later result
+pub refuses_said : (fault : StageFault) (before now : Option (List ℕ)) (faults later : ℕ) (result : Status) → Writes (fault_status fault) (fault_line fault) before now faults later result → Refuses fault before now faults later result
 refuses_said fault before now faults later result said = record {
   count = said.count;
   ends = said.ends;
   whole = λ e not. said.whole e;
   part = said.part;
   cause = said.cause;
+  kept = said.kept;
 }
 
 -- FAULTS AND THEIR STATUSES
@@ -51,23 +53,36 @@ pub record IsOfFault (s : Status) : Type 0 where
   pub done : s ≢ Done
   pub write : s ≢ WriteFault
 
-refusal_of_fault : (refusal : Refusal) → IsOfFault (refusal_status refusal)
-refusal_of_fault KnownServer = record { usage = λ e. cc; done = λ e. cc; write = λ e. cc }
-refusal_of_fault UnknownServer = record { usage = λ e. cc; done = λ e. cc; write = λ e. cc }
-refusal_of_fault NotActive = record { usage = λ e. cc; done = λ e. cc; write = λ e. cc }
-refusal_of_fault LastServer = record { usage = λ e. cc; done = λ e. cc; write = λ e. cc }
-refusal_of_fault BadBucket = record { usage = λ e. cc; done = λ e. cc; write = λ e. cc }
-refusal_of_fault SameServer = record { usage = λ e. cc; done = λ e. cc; write = λ e. cc }
-refusal_of_fault StampFell = record { usage = λ e. cc; done = λ e. cc; write = λ e. cc }
-refusal_of_fault (TooMany limit) = record { usage = λ e. cc; done = λ e. cc; write = λ e. cc }
-refusal_of_fault RefusalMemory = record { usage = λ e. cc; done = λ e. cc; write = λ e. cc }
+-- a refused command is a fault of the script, or passes a limit
+refused_by : (refusal : Refusal) → (refusal_status refusal ≡ BadScript) ⊎ (refusal_status refusal ≡ Limit)
+refused_by KnownServer = inl refl
+refused_by UnknownServer = inl refl
+refused_by NotActive = inl refl
+refused_by LastServer = inl refl
+refused_by BadBucket = inl refl
+refused_by SameServer = inl refl
+refused_by StampFell = inl refl
+refused_by (TooMany limit) = inr refl
+refused_by RefusalMemory = inl refl
+
+neither : (s t : Status) → BadScript ≢ t → Limit ≢ t → (s ≡ BadScript) ⊎ (s ≡ Limit) → s ≢ t
+neither s t script limit (inl e) = λ is. script (sym e ∙ is)
+neither s t script limit (inr e) = λ is. limit (sym e ∙ is)
+
+-- and so it has no other status
+refusal_is_not : (refusal : Refusal) (s : Status) → BadScript ≢ s → Limit ≢ s → refusal_status refusal ≢ s
+refusal_is_not refusal s script limit = neither (refusal_status refusal) s script limit (refused_by refusal)
 
 script_of_fault : (fault : ScriptFault) → IsOfFault (script_status fault)
 script_of_fault NotToml = record { usage = λ e. cc; done = λ e. cc; write = λ e. cc }
 script_of_fault (Missing place key) = record { usage = λ e. cc; done = λ e. cc; write = λ e. cc }
 script_of_fault (BadValue place key) = record { usage = λ e. cc; done = λ e. cc; write = λ e. cc }
 script_of_fault (Unknown place name) = record { usage = λ e. cc; done = λ e. cc; write = λ e. cc }
-script_of_fault (Refused n refusal) = refusal_of_fault refusal
+script_of_fault (Refused n refusal) = record {
+  usage = refusal_is_not refusal Usage (λ e. cc) (λ e. cc);
+  done = refusal_is_not refusal Done (λ e. cc) (λ e. cc);
+  write = refusal_is_not refusal WriteFault (λ e. cc) (λ e. cc);
+}
 script_of_fault ScriptMemory = record { usage = λ e. cc; done = λ e. cc; write = λ e. cc }
 
 capture_of_fault : (fault : PcapFault) → IsOfFault (capture_status fault)
@@ -87,36 +102,14 @@ of_fault (OfScript fault) = script_of_fault fault
 of_fault (OfCapture fault) = capture_of_fault fault
 of_fault WantsMemory = record { usage = λ e. cc; done = λ e. cc; write = λ e. cc }
 
-refusal_reads : (refusal : Refusal) → refusal_status refusal ≢ ReadFault
-refusal_reads KnownServer = λ e. cc
-refusal_reads UnknownServer = λ e. cc
-refusal_reads NotActive = λ e. cc
-refusal_reads LastServer = λ e. cc
-refusal_reads BadBucket = λ e. cc
-refusal_reads SameServer = λ e. cc
-refusal_reads StampFell = λ e. cc
-refusal_reads (TooMany limit) = λ e. cc
-refusal_reads RefusalMemory = λ e. cc
-
 -- no fault of a script is one of the files
 pub script_reads : (fault : ScriptFault) → script_status fault ≢ ReadFault
 script_reads NotToml = λ e. cc
 script_reads (Missing place key) = λ e. cc
 script_reads (BadValue place key) = λ e. cc
 script_reads (Unknown place name) = λ e. cc
-script_reads (Refused n refusal) = refusal_reads refusal
+script_reads (Refused n refusal) = refusal_is_not refusal ReadFault (λ e. cc) (λ e. cc)
 script_reads ScriptMemory = λ e. cc
-
-refusal_memory : (refusal : Refusal) → refusal_status refusal ≢ Memory
-refusal_memory KnownServer = λ e. cc
-refusal_memory UnknownServer = λ e. cc
-refusal_memory NotActive = λ e. cc
-refusal_memory LastServer = λ e. cc
-refusal_memory BadBucket = λ e. cc
-refusal_memory SameServer = λ e. cc
-refusal_memory StampFell = λ e. cc
-refusal_memory (TooMany limit) = λ e. cc
-refusal_memory RefusalMemory = λ e. cc
 
 capture_read_line : (fault : PcapFault) → capture_status fault ≡ ReadFault → capture_line fault ≡ fault_line Files
 capture_read_line NotACapture e = absurd (cc)
@@ -141,7 +134,7 @@ script_no_line NotToml e = absurd (cc)
 script_no_line (Missing place key) e = absurd (cc)
 script_no_line (BadValue place key) e = absurd (cc)
 script_no_line (Unknown place name) e = absurd (cc)
-script_no_line (Refused n refusal) e = absurd (refusal_memory refusal e)
+script_no_line (Refused n refusal) e = absurd (refusal_is_not refusal Memory (λ e. cc) (λ e. cc) e)
 script_no_line ScriptMemory e = refl
 
 capture_no_line : (fault : PcapFault) → capture_status fault ≡ Memory → capture_line fault ≡ []
@@ -211,6 +204,7 @@ replaying_shown form told fails failed before now faults later stage result read
       let part = showing.part is in
       record { text = part.octets; due = shown_due form told fails failed stage part.octets read part.report; part = part.written };
   write = showing.cause;
+  kept = showing.kept;
 }
 
 -- A FILE WAS REFUSED
@@ -262,4 +256,5 @@ replaying_refused form told fails failed before now faults later fault result ro
   line = λ is. each_line form told before now faults later fault result read refused is;
   part = λ is. record { text = fault_line fault; due = refused_due form told fails failed fault rose read; part = refused.part is };
   write = refused.cause;
+  kept = refused.kept;
 }

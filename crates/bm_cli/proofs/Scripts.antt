@@ -1,5 +1,5 @@
 -- What is read of a script, from its source and from the files.
-use Rattle.std.proofs.Common.{◌≡◌, inl, inr, ℕ, zero, suc, ◌≤◌, ◌<◌, List, Option, Some, None, Result, Ok, Err, IsErrAnd, take, length, min, true, false, sym, ap, subst, ◌∙◌, refl, arith, nat_lt}
+use Rattle.std.proofs.Common.{◌≡◌, inl, inr, ℕ, ◌≤◌, ◌<◌, List, Option, Some, None, Result, Ok, Err, IsErrAnd, take, length, min, true, false, sym, ap, subst, ◌∙◌, refl, arith, nat_lt}
 use Rattle.bm_io.specs.Causes.{Rose}
 use Rattle.std.proofs.lemmas.Bool.Decides.{nat_tests}
 use Rattle.std.proofs.lemmas.List.{length-take, take_min}
@@ -11,14 +11,12 @@ use Rattle.bm_script.specs.Scripts.{script_of}
 use Rattle.bm_table.specs.declared.script.Script.{Script}
 use Rattle.bm_cli.specs.declared.fault.StageFault.{StageFault}
 use Rattle.bm_cli.specs.declared.fault.StageFault.TheVariants.{LongScript, Script as OfScript}
-use Rattle.bm_cli.specs.Counts.{IsLater}
-use Rattle.bm_cli.specs.Fleet.{plain_script}
+use Rattle.bm_cli.specs.Plain.{plain_script}
 use Rattle.bm_cli.specs.Reading.{HasFront, IsOutside, IsRead, Octets, ReadsScript, script_in, with_script_fault}
 
--- a source that was closed leaves the files' count no lower
-pub closed_later : (before opened after faults : ℕ) → before ≤ opened → (0 < faults → Rose opened after) → (faults ≡ 0 → after ≡ opened) → IsLater before after
-closed_later before opened after zero low counted same = let e : after ≡ opened = same refl in omega (arith, low, e)
-closed_later before opened after (suc n) low counted same = let rose : Rose opened after = counted (omega arith) in omega (arith, low, rose)
+-- a source that was opened and closed leaves the files' count no lower
+pub closed_later : (before opened after : ℕ) → before ≤ opened → opened ≤ after → before ≤ after
+closed_later before opened after low high = omega (arith, low, high)
 
 -- a fault of a source is one of the files once it was closed
 pub closed_rose : (before opened after start faults : ℕ) → before ≤ opened → start ≡ 0 → Rose start faults → (0 < faults → Rose opened after) → Rose before after
@@ -26,10 +24,6 @@ closed_rose before opened after start faults low new rose counted =
     let some : 0 < faults = omega (arith, new, rose) in
     let more : Rose opened after = counted some in
     omega (arith, low, more)
-
--- what rose later rose
-pub rose_behind : (a b c : ℕ) → IsLater a b → Rose b c → Rose a c
-rose_behind a b c later rose = omega (arith, later, rose)
 
 -- THE TEXT
 

@@ -7,7 +7,7 @@ use Rattle.bm_words.specs.Form.{Named}
 use Rattle.bm_cli.specs.declared.fault.StageFault.{StageFault}
 use Rattle.bm_cli.specs.Reading.{Octets, script_for}
 
--- The names asked for are those before, and then the first of these.
+-- The names asked for are those before, and then a first part of these, perhaps none.
 abbrev pub AsksPrefix : Option (List (List ℕ)) → Option (List (List ℕ)) → List (List ℕ) → Type 0
 AsksPrefix None new names = Unit {0}
 AsksPrefix (Some before) new names = (n : ℕ) × (new ≡ Some (before ++ take n names))

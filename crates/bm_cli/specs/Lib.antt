@@ -1,8 +1,7 @@
-pub mod Fleet
+pub mod Plain
 pub mod Captures
 pub mod Reading
 pub mod Asked
-pub mod Counts
 pub mod Statuses
 pub mod Headline
 pub mod Replaying

@@ -11,7 +11,7 @@ use Rattle.bm_words.specs.Form.{Named}
 use Rattle.bm_cli.specs.declared.fault.StageFault.{StageFault}
 use Rattle.bm_cli.specs.declared.fault.StageFault.TheVariants.{LongScript, Script as of_script, Capture as of_capture}
 use Rattle.bm_cli.specs.declared.status.Status.TheVariants.{ReadFault, Memory}
-use Rattle.bm_cli.specs.Fleet.{plain_script}
+use Rattle.bm_cli.specs.Plain.{plain_script}
 use Rattle.bm_cli.specs.Lines.{fault_status}
 
 -- the octets of each name, where the files tell them

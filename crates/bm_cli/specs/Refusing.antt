@@ -16,3 +16,4 @@ pub record Refuses (fault : StageFault) (before now : Option (List ℕ)) (faults
   pub whole : result ≡ fault_status fault → result ≢ Memory → Appends before now (fault_line fault)
   pub part : (result ≡ WriteFault) ⊎ (result ≡ Memory) → WritesPart before now (fault_line fault)
   pub cause : result ≡ WriteFault → Rose faults later
+  pub kept : result ≢ WriteFault → later ≡ faults

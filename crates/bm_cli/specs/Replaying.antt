@@ -26,3 +26,4 @@ pub record IsReplaying (form : Named) (told : Octets) (fails failed : ℕ) (befo
   pub line : IsRefusal result → RefusesFiles (Some form) told before now
   pub part : (result ≡ WriteFault) ⊎ (result ≡ Memory) → WritesDue (Some form) told fails failed before now
   pub write : result ≡ WriteFault → Rose faults later
+  pub kept : result ≢ WriteFault → later ≡ faults

@@ -1,5 +1,5 @@
 -- What showing a replay leaves.
-use Rattle.std.specs.Prelude.{◌≡◌, ℕ, ◌≤◌, ◌⊎◌, List, []}
+use Rattle.std.specs.Prelude.{◌≡◌, ◌≢◌, ℕ, ◌≤◌, ◌⊎◌, List, []}
 use Rattle.std.specs.declared.option.Option.{Option}
 use Rattle.bm_io.specs.Causes.{Rose}
 use Rattle.bm_core.specs.declared.events.Stage.{Stage}
@@ -21,3 +21,4 @@ pub record IsShowing (stage : Stage) (before now : Option (List ℕ)) (faults la
   pub whole : result ≡ Done → Shows stage before now
   pub part : (result ≡ WriteFault) ⊎ (result ≡ Memory) → ShowsPart stage before now
   pub cause : result ≡ WriteFault → Rose faults later
+  pub kept : result ≢ WriteFault → later ≡ faults

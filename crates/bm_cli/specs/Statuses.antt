@@ -1,5 +1,5 @@
 -- How the program ends, and what it then has written.
-use Rattle.std.specs.Prelude.{◌≡◌, ℕ, ◌≤◌, ◌⊎◌, List, take}
+use Rattle.std.specs.Prelude.{◌≡◌, ◌≢◌, ℕ, ◌≤◌, ◌⊎◌, List, take}
 use Rattle.std.specs.declared.option.Option.{Option}
 use Rattle.std.specs.Io.KnownBytes.{Appends}
 use Rattle.bm_io.specs.Causes.{Rose}
@@ -23,9 +23,10 @@ WritesPart before now text = (n : ℕ) × Appends before now (take n text)
 
 -- The text was written, and the status is this; or a first part of it was, where the sink failed or
 -- memory was refused.
-pub record Says (status : Status) (text : List ℕ) (before now : Option (List ℕ)) (faults later : ℕ) (result : Status) : Type 0 where
+pub record Writes (status : Status) (text : List ℕ) (before now : Option (List ℕ)) (faults later : ℕ) (result : Status) : Type 0 where
   pub count : faults ≤ later
   pub ends : (result ≡ status) ⊎ (result ≡ WriteFault) ⊎ (result ≡ Memory)
   pub whole : result ≡ status → Appends before now text
   pub part : (result ≡ WriteFault) ⊎ (result ≡ Memory) → WritesPart before now text
   pub cause : result ≡ WriteFault → Rose faults later
+  pub kept : result ≢ WriteFault → later ≡ faults

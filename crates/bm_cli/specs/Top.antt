@@ -37,7 +37,7 @@ abbrev pub ShowsReading : Reading → Option (List ℕ) → Option (List ℕ) �
 ShowsReading (Ok stage) before now = Shows stage before now
 ShowsReading (Err fault) before now = ⊥
 
--- what the sink has is what it had, and then the report of a replay of the named capture through the named script's fleet
+-- what the sink has is what it had, and then the report of a replay of the named capture through the servers of the named script
 abbrev pub ShowsFiles : Option Named → Octets → Option (List ℕ) → Option (List ℕ) → Type 0
 ShowsFiles None told before now = ⊥
 ShowsFiles (Some form) None before now = Unit {0}

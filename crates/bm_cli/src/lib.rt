@@ -2,8 +2,8 @@
 #![tactic(auto)]
 
 mod fault;
-mod fleet;
 mod lines;
+mod plain;
 mod reading;
 mod script;
 mod show;
@@ -12,8 +12,3 @@ mod status;
 mod top;
 
 pub use top::beamer;
-
-#[cfg(test)]
-mod script_tests;
-#[cfg(test)]
-mod tests;

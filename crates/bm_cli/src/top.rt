@@ -1,5 +1,5 @@
 //! The top call.
-ghost use Rattle.std.specs.Prelude.{◌≡◌, ◌⊎◌, map, string_bytes, None, Some, IfSome, IsSome};
+ghost use Rattle.std.specs.Prelude.{◌≡◌, ◌≢◌, ◌⊎◌, map, string_bytes, None, Some, IfSome, IsSome};
 ghost use Rattle.std.specs.Io.KnownBytes.{Appends};
 ghost use Rattle.bm_io.specs.Causes.{Rose};
 ghost use Rattle.bm_words.specs.Form.{form_of, named};
@@ -24,7 +24,7 @@ const USAGE: &str = "usage: beamer replay CAPTURE [SCRIPT] | run CAPTURE SCRIPT 
 /// 0: the report was written. 1: the words are of no form. 2: the files failed. 3: the capture has a
 /// fault. 4: the script has a fault. 5: the sink failed. 6: memory was refused. 7: a limit is passed.
 pub fn beamer<F: Files, K: Sink>(alloc: Global, words: &[String], files: &mut F, out: &mut K) -> u8
-    // On status 0 what was written is the report of a replay of the named capture through the named script's fleet.
+    // On status 0 what was written is the report of a replay of the named capture through the servers of the named script.
     ensures shown { result ≡ 0 → ShowsFiles (form_of (map string_bytes words.now)) (F.octets files.old) (K.written out.old) (K.written out.new) }
 
     // The status is the one that is due, but where the files or the sink failed, or memory was refused.
@@ -35,7 +35,9 @@ pub fn beamer<F: Files, K: Sink>(alloc: Global, words: &[String], files: &mut F,
     ensures usage { result ≡ 1 → form_of (map string_bytes words.now) ≡ None }
     ensures named { result ≡ 2 → IsSome (form_of (map string_bytes words.now)) }
     ensures read { result ≡ 2 → Rose (F.faults files.old) (F.faults files.new) }
+    // 5 comes where the sink failed, and nowhere else.
     ensures write { result ≡ 5 → Rose (K.faults out.old) (K.faults out.new) }
+    ensures kept { result ≢ 5 → K.faults out.new ≡ K.faults out.old }
 
     // What was written otherwise is the line of the status, or a first part of the text that was due.
     ensures usage_line { result ≡ 1 → Appends (K.written out.old) (K.written out.new) usage_line }
@@ -53,7 +55,7 @@ pub fn beamer<F: Files, K: Sink>(alloc: Global, words: &[String], files: &mut F,
     }
 }
 
-/// Replays the capture that the words name, through the fleet of the script that they name.
+/// Replays the capture that the words name, through the servers of the script that they name.
 fn replay_files<F: Files, K: Sink>(
     alloc: Global,
     form: Form<'_>,

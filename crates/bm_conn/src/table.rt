@@ -40,7 +40,7 @@ impl Model for ConnTable {
 }
 
 impl ConnTable {
-    /// An empty table for at most `capacity` flows, 1 to 65,536.
+    /// An empty table for at most `capacity` flows, 1 to 65,536. `Memory` where memory was refused.
     pub fn new(alloc: Global, capacity: u32) -> Result<ConnTable, Memory>
         requires { (1 ≤ capacity) × (capacity ≤ 65536) }
         ensures { IfOk result (λ table. (table.capacity ≡ capacity) × (table.connections ≡ [])) }

@@ -1,5 +1,5 @@
 -- What the commands answer, and which servers are known after them.
-use Rattle.std.proofs.Common.{◌≡◌, ◌≢◌, ℕ, ◌+◌, ◌<◌, ◌≤◌, Bool, true, false, ◌&&◌, ◌||◌, ltb, leb, List, [], ◌∷◌, Some, None, length, inl, inr, refl, ap, sym, ◌∙◌, arith, replicate, get_or, drop}
+use Rattle.std.proofs.Common.{◌≡◌, ◌≢◌, ℕ, ◌+◌, ◌<◌, ◌≤◌, Bool, true, false, ◌&&◌, ◌||◌, ltb, leb, List, [], ◌∷◌, Option, Some, None, Result, Ok, Err, IfErr, length, inl, inr, refl, ap, sym, ◌∙◌, arith, replicate, get_or, drop}
 use Rattle.std.proofs.Math.ListN.{set}
 use Rattle.std.proofs.lemmas.Bool.{cases_lt, and_from, eqb-true, le-leb, lt-leb, lt-ltb}
 use Rattle.std.proofs.lemmas.List.{at_drop_more, at_drop_all, get_or-set_same, get_or-set_other, get_or-replicate, get_or_past, length-replicate}
@@ -7,11 +7,12 @@ use Rattle.std.specs.List.{list_any}
 use Rattle.std.specs.Option.{option_map}
 use Rattle.bm_base.specs.declared.ids.Moment.{Moment}
 use Rattle.bm_base.specs.declared.ids.ServerId.{ServerId}
-use Rattle.bm_controller.proofs.FleetLists.{is_among-any, RiseFrom-with, RiseFrom-without}
-use Rattle.bm_controller.proofs.FleetPlans.{knows-push, limits-refusal, rebalance-buckets, rebalance-servers}
-use Rattle.bm_controller.specs.Commands.{addition, add_refusal, drain_refusal, first_refusal, limits, removal, shift_of, shift_refusal}
-use Rattle.bm_controller.specs.Fleets.{active_now, is_active, knows, with_server, without_server, IsFleet}
+use Rattle.bm_controller.proofs.MemberLists.{is_among-any, RiseFrom-with, RiseFrom-without}
+use Rattle.bm_controller.proofs.MemberPlans.{knows-push, limits-refusal, rebalance-buckets, rebalance-servers}
+use Rattle.bm_controller.specs.Commands.{addition, add_refusal, drain_refusal, drain_refused, first_refusal, limits, removal, shift_of, shift_refusal, shift_refused}
+use Rattle.bm_controller.specs.Membership.{active_now, is_active, knows, with_server, without_server, KeepsMembership}
 use Rattle.bm_quota.proofs.RoomLemmas.{cases_server}
+use Rattle.bm_quota.specs.declared.refusal.Refusal.{Refusal}
 use Rattle.bm_quota.specs.declared.refusal.Refusal.TheVariants.{NotActive, LastServer, Memory}
 use Rattle.bm_quota.specs.Refusals.{refusal_of}
 use Rattle.bm_table.specs.declared.plan.Change.{Change}
@@ -19,7 +20,7 @@ use Rattle.bm_table.specs.declared.plan.Kind.TheVariants.{Add, Drain}
 use Rattle.bm_table.specs.declared.plan.PlanFault.{PlanFault}
 use Rattle.bm_table.specs.declared.plan.PlanFault.TheVariants.{StampFell as stamp_fell, BadBucket as bad_bucket', SameServer as same_server', TooMany as too_many, Memory as memory}
 use Rattle.bm_table.specs.Planned.{Planned}
-use Rattle.bm_table.specs.Plans.{bad_bucket, bucket_at_home, refusal, server_now, with_change, IsRefusal}
+use Rattle.bm_table.specs.Plans.{bad_bucket, bucket_already_there, refusal, server_now, with_change, IsRefusal}
 use Rattle.bm_table.specs.Tables.{is_add, is_among, same_server}
 
 -- a plan's fault is the refusal, where it isn't want of memory
@@ -31,19 +32,19 @@ refused_by_plan plan c (same_server' b) h other = ap (option_map refusal_of) h
 refused_by_plan plan c (too_many limit) h other = ap (option_map refusal_of) h
 
 -- once the servers are right, only the plan refuses
-pub add_refusal-plan : (plan : Planned) → IsFleet plan → (at : Moment) (s : ServerId) → knows plan s ≡ false → add_refusal plan at s ≡ option_map refusal_of (refusal plan (addition plan at s))
-add_refusal-plan plan fleet at s unknown =
+pub add_refusal-plan : (plan : Planned) → KeepsMembership plan → (at : Moment) (s : ServerId) → knows plan s ≡ false → add_refusal plan at s ≡ option_map refusal_of (refusal plan (addition plan at s))
+add_refusal-plan plan membership at s unknown =
     rw unknown (limits-refusal plan (addition plan at s)
     (rebalance-buckets plan at (Add s) (with_server s (active_now plan)))
-    (rebalance-servers plan at (Add s) (with_server s (active_now plan)) (RiseFrom-with s 0 (active_now plan) (omega arith) fleet.rising)))
+    (rebalance-servers plan at (Add s) (with_server s (active_now plan)) (RiseFrom-with s 0 (active_now plan) (omega arith) membership.rising)))
 
-pub drain_refusal-plan : (plan : Planned) → IsFleet plan → (at : Moment) (s : ServerId) → knows plan s ≡ true → is_active plan s ≡ true → 1 < length (active_now plan)
+pub drain_refusal-plan : (plan : Planned) → KeepsMembership plan → (at : Moment) (s : ServerId) → knows plan s ≡ true → is_active plan s ≡ true → 1 < length (active_now plan)
     → drain_refusal plan at s ≡ option_map refusal_of (refusal plan (removal plan at s))
-drain_refusal-plan plan fleet at s known is many =
+drain_refusal-plan plan membership at s known is many =
     let t : leb (length (active_now plan)) 1 ≡ false = lt-leb _ _ many
     in rw (known, is, t) (limits-refusal plan (removal plan at s)
     (rebalance-buckets plan at (Drain s) (without_server s (active_now plan)))
-    (rebalance-servers plan at (Drain s) (without_server s (active_now plan)) (RiseFrom-without s 0 (active_now plan) fleet.rising)))
+    (rebalance-servers plan at (Drain s) (without_server s (active_now plan)) (RiseFrom-without s 0 (active_now plan) membership.rising)))
 
 pub shift_refusal-plan : (plan : Planned) (at : Moment) (bucket : ℕ) (s : ServerId) → bucket < plan.buckets → knows plan s ≡ true → is_active plan s ≡ true
     → same_server (server_now plan bucket) s ≡ false → shift_refusal plan at bucket s ≡ option_map refusal_of (refusal plan (shift_of at bucket s))
@@ -51,9 +52,25 @@ shift_refusal-plan plan at bucket s below known is apart =
     let t : leb plan.buckets bucket ≡ false = lt-leb _ _ below
     in let good : (leb 0 bucket && ltb bucket plan.buckets) ≡ true = and_from _ _ (le-leb _ _ (omega arith)) (lt-ltb _ _ below)
     in let bad : bad_bucket plan.buckets 0 (record { bucket = bucket; to = s } ∷ []) ≡ None = rw good refl
-    in let home : bucket_at_home (server_now plan) (record { bucket = bucket; to = s } ∷ []) ≡ None = rw apart refl
+    in let home : bucket_already_there (server_now plan) (record { bucket = bucket; to = s } ∷ []) ≡ None = rw apart refl
     in let before : shift_refusal plan at bucket s ≡ first_refusal (limits plan (shift_of at bucket s)) = rw (t, known, is, apart) refl
     in before ∙ limits-refusal plan (shift_of at bucket s) bad home
+
+-- where want of memory may come, no refusal stands but for the plan's limits
+pub drain_refused-none : (plan : Planned) (s : ServerId) → knows plan s ≡ true → is_active plan s ≡ true → 1 < length (active_now plan) → drain_refused plan s ≡ None
+drain_refused-none plan s known is many =
+    let t : leb (length (active_now plan)) 1 ≡ false = lt-leb _ _ many
+    in rw (known, is, t) refl
+
+pub shift_refused-none : (plan : Planned) (bucket : ℕ) (s : ServerId) → bucket < plan.buckets → knows plan s ≡ true → is_active plan s ≡ true → same_server (server_now plan bucket) s ≡ false
+    → shift_refused plan bucket s ≡ None
+shift_refused-none plan bucket s below known is apart =
+    let t : leb plan.buckets bucket ≡ false = lt-leb _ _ below
+    in rw (t, known, is, apart) refl
+
+pub wanted : {T : Type 0} (r : Result T Refusal) (refused : Option Refusal) → refused ≡ None → IfErr r (λ refusal. refusal ≡ Memory → refused ≡ None)
+wanted (Ok x) refused none = tt
+wanted (Err refusal) refused none = λ is. none
 
 -- the refusals before that
 pub drain_refusal-active : (plan : Planned) (at : Moment) (s : ServerId) → knows plan s ≡ true → is_active plan s ≡ false → drain_refusal plan at s ≡ Some NotActive

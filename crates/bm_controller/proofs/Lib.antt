@@ -1,3 +1,3 @@
 pub mod Answered
-pub mod FleetLists
-pub mod FleetPlans
+pub mod MemberLists
+pub mod MemberPlans

@@ -12,7 +12,7 @@ use Rattle.bm_table.specs.declared.plan.Limit.TheVariants.{Changes, Moves}
 use Rattle.bm_table.specs.Planned.{Planned}
 use Rattle.bm_table.specs.Plans.{last_moment, owners_now, server_now, total_moves}
 use Rattle.bm_table.specs.Tables.{same_server}
-use Rattle.bm_controller.specs.Fleets.{active_after, active_now, is_active, knows}
+use Rattle.bm_controller.specs.Membership.{active_after, active_now, is_active, knows}
 
 -- the change that brings the servers which are then active to their quotas
 abbrev pub rebalance : Planned → Moment → Kind → List ServerId → Change
@@ -47,6 +47,25 @@ limits plan change =
     ∷ when (nat_le 4096 (length plan.changes)) (TooMany Changes)
     ∷ when (nat_lt 1000000 (total_moves plan.changes + length change.moves)) (TooMany Moves)
     ∷ []
+
+-- why a command is refused whatever the plan's limits
+abbrev pub add_refused : Planned → ServerId → Option Refusal
+add_refused plan s = first_refusal (when (knows plan s) KnownServer ∷ [])
+
+abbrev pub drain_refused : Planned → ServerId → Option Refusal
+drain_refused plan s = first_refusal (
+    when (not (knows plan s)) UnknownServer
+    ∷ when (not (is_active plan s)) NotActive
+    ∷ when (nat_le (length (active_now plan)) 1) LastServer
+    ∷ [])
+
+abbrev pub shift_refused : Planned → ℕ → ServerId → Option Refusal
+shift_refused plan bucket s = first_refusal (
+    when (nat_le plan.buckets bucket) BadBucket
+    ∷ when (not (knows plan s)) UnknownServer
+    ∷ when (not (is_active plan s)) NotActive
+    ∷ when (same_server (server_now plan bucket) s) SameServer
+    ∷ [])
 
 -- why a command is refused, want of memory aside
 abbrev pub add_refusal : Planned → Moment → ServerId → Option Refusal

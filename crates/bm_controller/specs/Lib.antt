@@ -1,3 +1,3 @@
 pub mod Commands
-pub mod Fleets
+pub mod Membership
 pub mod Views

@@ -2,7 +2,7 @@
 ghost use Rattle.std.specs.Prelude.{◌≡◌, ◌≢◌, ◌<◌, ◌≤◌, ℕ, [], ◌∷◌, length, Bool, false, vec_len, slice_index_or, Some, None, IfOk, IfErr, OnOk, OnErr};
 ghost use Rattle.bm_base.specs.declared.ids.ServerId.{ServerId};
 ghost use Rattle.bm_controller.specs.Commands as commands;
-ghost use Rattle.bm_controller.specs.Fleets as fleets;
+ghost use Rattle.bm_controller.specs.Membership as members;
 ghost use Rattle.bm_quota.specs.declared.refusal.Refusal.TheVariants.{Memory as memory};
 ghost use Rattle.bm_table.specs.Plans.{IsPlan, owners_now, with_change};
 ghost use Rattle.bm_table.specs.Settings.{IsWithin, RiseFrom};
@@ -42,7 +42,7 @@ impl Model for Controller {
 }
 
 impl Controller {
-    /// A controller of these servers, with a plan without changes.
+    /// A controller of these servers, with a plan without changes. `Memory` where memory was refused.
     pub fn new(alloc: Global, buckets: u32, servers: &[ServerId]) -> Result<Controller, Memory>
         requires buckets { IsWithin 1 65536 buckets }
         requires servers { 0 < length servers.now }
@@ -57,14 +57,16 @@ impl Controller {
         })
     }
 
-    /// Adds a server, and brings all active servers to their quotas. A refusal is the first of
-    /// KnownServer, StampFell, TooMany and Memory that stands, and changes nothing.
+    /// Adds a server at a moment in nanoseconds, and brings all active servers to their quotas. A
+    /// refusal is the first of KnownServer, StampFell and TooMany that stands, or Memory, which may
+    /// come where the server isn't known. It changes nothing.
     pub fn add(&mut self, at: Moment, s: ServerId) -> Result<(), Refusal>
         requires { IsWithin 1 1024 s.0 }
         ensures ok { OnOk result (self.new ≡ with_change self.old (commands.addition self.old at s)) }
         ensures accepted { OnOk result (commands.add_refusal self.old at s ≡ None) }
         ensures refused { IfErr result (λ refusal. refusal ≢ memory
             → commands.add_refusal self.old at s ≡ Some refusal) }
+        ensures want { IfErr result (λ refusal. refusal ≡ memory → commands.add_refused self.old s ≡ None) }
         ensures err { OnErr result (self.new ≡ self.old) }
     {
         if self.knows(s) {
@@ -78,14 +80,16 @@ impl Controller {
         Ok(())
     }
 
-    /// Drains a server: its buckets go to the other active servers, which come to their quotas. A
-    /// refusal is the first of UnknownServer, NotActive, LastServer, StampFell, TooMany and Memory
-    /// that stands, and changes nothing.
+    /// Drains a server at a moment in nanoseconds: its buckets go to the other active servers, which
+    /// come to their quotas. A refusal is the first of UnknownServer, NotActive, LastServer, StampFell
+    /// and TooMany that stands, or Memory, which may come where none of the first three stands. It
+    /// changes nothing.
     pub fn drain(&mut self, at: Moment, s: ServerId) -> Result<(), Refusal>
         ensures ok { OnOk result (self.new ≡ with_change self.old (commands.removal self.old at s)) }
         ensures accepted { OnOk result (commands.drain_refusal self.old at s ≡ None) }
         ensures refused { IfErr result (λ refusal. refusal ≢ memory
             → commands.drain_refusal self.old at s ≡ Some refusal) }
+        ensures want { IfErr result (λ refusal. refusal ≡ memory → commands.drain_refused self.old s ≡ None) }
         ensures err { OnErr result (self.new ≡ self.old) }
     {
         if !self.knows(s) {
@@ -104,13 +108,15 @@ impl Controller {
         Ok(())
     }
 
-    /// Moves one bucket to an active server. A refusal is the first of BadBucket, UnknownServer,
-    /// NotActive, SameServer, StampFell, TooMany and Memory that stands, and changes nothing.
+    /// Moves one bucket to an active server, at a moment in nanoseconds. A refusal is the first of
+    /// BadBucket, UnknownServer, NotActive, SameServer, StampFell and TooMany that stands, or Memory,
+    /// which may come where none of the first four stands. It changes nothing.
     pub fn shift(&mut self, at: Moment, bucket: u32, s: ServerId) -> Result<(), Refusal>
         ensures ok { OnOk result (self.new ≡ with_change self.old (commands.shift_of at bucket s)) }
         ensures accepted { OnOk result (commands.shift_refusal self.old at bucket s ≡ None) }
         ensures refused { IfErr result (λ refusal. refusal ≢ memory
             → commands.shift_refusal self.old at bucket s ≡ Some refusal) }
+        ensures want { IfErr result (λ refusal. refusal ≡ memory → commands.shift_refused self.old bucket s ≡ None) }
         ensures err { OnErr result (self.new ≡ self.old) }
     {
         if bucket >= self.plan.buckets() {
@@ -136,7 +142,7 @@ impl Controller {
 
     /// Whether the server is known.
     pub fn knows(&self, s: ServerId) -> bool
-        ensures { result ≡ fleets.knows self.now s }
+        ensures { result ≡ members.knows self.now s }
     {
         self.known[s.0 as usize]
     }
@@ -147,7 +153,7 @@ impl Controller {
         // Stamps don't fall, each move is to a known server and changes its bucket's server, and
         // from a server's drain on no bucket is at it.
         ensures orderly { tables.IsOrderly result }
-        ensures fleet { fleets.IsFleet result }
+        ensures membership { members.KeepsMembership result }
     {
         self.plan
     }

@@ -2,7 +2,7 @@
 ghost use Rattle.std.specs.Prelude.{◌≡◌, IfOk};
 ghost use Rattle.std.specs.List.{list_any};
 ghost use Rattle.bm_table.specs.Tables.{same_server};
-ghost use Rattle.bm_controller.specs.Fleets.{with_server, without_server};
+ghost use Rattle.bm_controller.specs.Membership.{with_server, without_server};
 
 use bm_base::{Memory, ServerId};
 use std::alloc::Global;

@@ -22,14 +22,14 @@ use Rattle.bm_core.specs.Past.{newest, segment_of, steerable}
 use Rattle.bm_core.specs.Runs.{Run}
 use Rattle.bm_core.specs.Accounts as acc
 use Rattle.bm_core.specs.Accounts.{Routes, Rules, count_of, counts, arrives, lost_at, retires_shard, is_sync, wants_close, wants_retire, wants_sync, AreCarriedOut}
-use Rattle.bm_core.specs.Accounts.{sent_copies, barren_at, AreAnswered, IsAccountOf}
+use Rattle.bm_core.specs.Accounts.{sent_copies, copyless_at, AreAnswered, IsAccountOf}
 use Rattle.bm_core.specs.declared.schedule.Call.{Call}
 use Rattle.bm_core.specs.declared.schedule.Call.TheVariants.{Closes, Retires, Steers}
 use Rattle.bm_core.specs.declared.schedule.Due.{Due}
 use Rattle.bm_core.specs.Schedule.{call_of, publish_due, close_commands, retire_dues, retire_commands, sync_commands, packets_from}
 use Rattle.bm_core.specs.Schedule.{wire, first_of, arrival_due, left, closes, retires, syncs, steers, can_come, Follows, IsOver}
 use Rattle.bm_core.proofs.Pasts.{newest_within}
-use Rattle.bm_core.proofs.Schedules.{counted, balance, class_of_closes, class_of_retires, class_of_syncs, class_of_steers, copies_balance, copies_sent, lost_balance, is_owed_at, waiting}
+use Rattle.bm_core.proofs.Schedules.{counted, balance, class_of_closes, class_of_retires, class_of_syncs, class_of_steers, copies_balance, copies_sent, lost_balance, is_loss_due_at, waiting}
 
 -- LISTS
 
@@ -240,9 +240,9 @@ accounted R F fates stage all run follows over answered =
             ∙ sync_list stage.script.commands);
       };
     } where
-      lost_all : (k : ℕ) (hop : Hop) (clock : ℕ) → lost_at all k hop (suc clock) ≡ barren_at fates all k hop clock
+      lost_all : (k : ℕ) (hop : Hop) (clock : ℕ) → lost_at all k hop (suc clock) ≡ copyless_at fates all k hop clock
       lost_all k hop clock =
-          let none : ◌≡◌ {A = ℕ} (cond (is_owed_at fates all k hop clock) 1 0) 0 = rw over.not_owed refl
+          let none : ◌≡◌ {A = ℕ} (cond (is_loss_due_at fates all k hop clock) 1 0) 0 = rw over.no_loss_due refl
           in let b = lost_balance fates stage all follows k hop clock
           in omega arith
 

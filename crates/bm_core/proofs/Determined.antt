@@ -24,14 +24,14 @@ use Rattle.bm_core.specs.declared.events.Event.{Event}
 use Rattle.bm_core.specs.declared.events.Stage.{Stage}
 use Rattle.bm_table.specs.Tables.{IsRetirement}
 use Rattle.bm_core.specs.Past.{segment_of, held, timeout, newest, Sending, sending_of}
-use Rattle.bm_base.specs.Labels.{stop}
+use Rattle.bm_base.specs.Labels.{arrives_at}
 use Rattle.bm_core.specs.Verdicts.{verdict_at}
 use Rattle.bm_core.specs.Runs.{IsArrival, MayCome, IsStep, Run}
 use Rattle.bm_core.specs.Accounts.{Routes, Rules, fate_now, before, IsRouted, AreAnswered}
 use Rattle.bm_core.specs.declared.schedule.Underway.{Underway}
 use Rattle.bm_core.specs.declared.schedule.Call.{Call}
 use Rattle.bm_core.specs.declared.schedule.Due.{Due}
-use Rattle.bm_core.specs.Schedule.{call_of, wire, can_come, owed, barren, put_sent, after_arrive, least, IsLeast, ComesNext, IsNextBy, Follows, IsOver}
+use Rattle.bm_core.specs.Schedule.{call_of, wire, can_come, due_loss, loss_of_fate, put_sent, after_arrive, least, IsLeast, ComesNext, IsNextBy, Follows, IsOver}
 
 -- the answer to a wish to retire is determined
 pub same_retirement : (plan : Planned) (timeout n : ℕ) (s : ServerId) (at : ℕ) (a b : Retirement) → IsRetirement plan timeout n s at a → IsRetirement plan timeout n s at b → a ≡ b
@@ -56,7 +56,7 @@ same_arrival : (stage : Stage) (past : List Event) (clock k : ℕ) (hop : Hop) (
 same_arrival stage past clock k hop s t v w a b =
     let label : a.label ≡ b.label = same_Some _ _ (sym a.is_label ∙ b.is_label)
     in let segment : a.segment ≡ b.segment = same_Some _ _ (sym a.is_segment ∙ b.is_segment)
-    in let server : s ≡ t = same_Some _ _ (sym a.place ∙ (ap (λ (x : Label). stop x.entry hop) label ∙ b.place))
+    in let server : s ≡ t = same_Some _ _ (sym a.place ∙ (ap (λ (x : Label). arrives_at x.entry hop) label ∙ b.place))
     in (server, a.verdict_is ∙ ((λ i. verdict_at stage past clock (label i) hop (server i) (segment i)) ∙ sym b.verdict_is))
 
 -- two events with one call, after the same events and at one clock, are the same, where the route gives one mux
@@ -112,7 +112,7 @@ pub same_next : (R : Routes) → ((k : ℕ) (f : Flow) (m n : ℕ) → R k f m �
     → IsStep stage past a → IsStep stage past b → IsRouted R stage a.what → IsRouted R stage b.what
     → IsNextBy fates stage past a → IsNextBy fates stage past b → a ≡ b
 same_next R one fates stage past a b sa sb ra rb na nb =
-    let same = next_step (can_come (wire fates past) stage past) past a b (owed fates past) na nb
+    let same = next_step (can_come (wire fates past) stage past) past a b (due_loss fates past) na nb
     in let sb' : MayCome stage past a.clock.0 b.what = subst (λ (x : ℕ). MayCome stage past x b.what) (sym same.1) sb.may
     in let what : a.what ≡ b.what = same_what R one stage past a.clock.0 a.what b.what same.0 sa.may sb' ra rb
     in λ i. record { clock = record { 0 = same.1 i }; what = what i }
@@ -136,19 +136,19 @@ same_wire fates gates [] alike = refl
 same_wire fates gates (e ∷ past) alike =
     same_sent (fate_now fates) (fate_now gates) _ _ (sending_of e.what) _ _ alike.0 (ap (after_arrive e.what) (same_wire (before fates) (before gates) past alike.1))
 
-same_barren : (f g : Fate) (o : Option Sending) → IsAlike f g o → barren f o ≡ barren g o
-same_barren f g None alike = refl
-same_barren f g (Some s) alike = ap (λ (x : Fate). barren x (Some s)) alike
+same_loss_of : (f g : Fate) (o : Option Sending) → IsAlike f g o → loss_of_fate f o ≡ loss_of_fate g o
+same_loss_of f g None alike = refl
+same_loss_of f g (Some s) alike = ap (λ (x : Fate). loss_of_fate x (Some s)) alike
 
-same_owed : (fates gates : List Fate) (past : List Event) → AreAlike fates gates past → owed fates past ≡ owed gates past
-same_owed fates gates [] alike = refl
-same_owed fates gates (e ∷ past) alike = same_barren (fate_now fates) (fate_now gates) (sending_of e.what) alike.0
+same_due_loss : (fates gates : List Fate) (past : List Event) → AreAlike fates gates past → due_loss fates past ≡ due_loss gates past
+same_due_loss fates gates [] alike = refl
+same_due_loss fates gates (e ∷ past) alike = same_loss_of (fate_now fates) (fate_now gates) (sending_of e.what) alike.0
 
 -- what comes next by one list of fates, comes next by another that is alike
 alike_next : (fates gates : List Fate) (stage : Stage) (past : List Event) (e : Event) → AreAlike fates gates past → IsNextBy fates stage past e → IsNextBy gates stage past e
 alike_next fates gates stage past e alike next =
-    subst (λ (w : List Underway). ComesNext (owed gates past) (can_come w stage past) past e) (same_wire fates gates past alike)
-    (subst (λ (o : Option Call). ComesNext o (can_come (wire fates past) stage past) past e) (same_owed fates gates past alike) next)
+    subst (λ (w : List Underway). ComesNext (due_loss gates past) (can_come w stage past) past e) (same_wire fates gates past alike)
+    (subst (λ (o : Option Call). ComesNext o (can_come (wire fates past) stage past) past e) (same_due_loss fates gates past alike) next)
 
 abbrev pub IsSure : Rules → Type 0
 IsSure F = (k : ℕ) (hop : Hop) (f g : Fate) → F k hop f → F k hop g → f ≡ g
@@ -191,7 +191,7 @@ same_long R one F sure stage fates gates (x ∷ xs) (y ∷ ys) long t u =
 none_after : (fates : List Fate) (stage : Stage) (past : List Event) (e : Event) → IsOver fates stage past → IsNextBy fates stage past e → ⊥
 none_after fates stage past e over next =
     subst (λ (dues : List Due). ComesNext None dues past e) over.none
-    (subst (λ (o : Option Call). ComesNext o (can_come (wire fates past) stage past) past e) over.not_owed next)
+    (subst (λ (o : Option Call). ComesNext o (can_come (wire fates past) stage past) past e) over.no_loss_due next)
 
 -- none is longer than one that is over
 not_longer : (R : Routes) → ((k : ℕ) (f : Flow) (m n : ℕ) → R k f m → R k f n → m ≡ n) → (F : Rules) → IsSure F → (stage : Stage) (fates gates : List Fate) (xs ys : List Event)

@@ -15,8 +15,8 @@ use Rattle.bm_core.specs.declared.schedule.Due.{Due}
 use Rattle.bm_core.specs.declared.schedule.Underway.{Underway}
 use Rattle.bm_core.specs.Past.{segment_of, label_of}
 use Rattle.bm_core.specs.Runs.{last_clock, next, Run}
-use Rattle.bm_core.specs.Schedule.{sooner, least, wire, arrival_due, can_come, owed, Follows, IsOver}
-use Rattle.bm_core.proofs.Schedules.{least_is, each_from, IsFrom, loss_call, owed_is_loss}
+use Rattle.bm_core.specs.Schedule.{sooner, least, wire, arrival_due, can_come, due_loss, Follows, IsOver}
+use Rattle.bm_core.proofs.Schedules.{least_is, each_from, IsFrom, loss_call, due_is_loss}
 use Rattle.bm_core.proofs.Stepping.{new_packet}
 use Rattle.bm_core.proofs.Stops.{HasStop, first_stop}
 use Rattle.bm_core.proofs.Playing.{arrive, steer, answer, at_clock, from_due, coming, fates_by, next_event, IsToldBy, IsWithinMuxes, play, play_told}
@@ -87,20 +87,20 @@ none_due mux fates stage past run follows (Some d) l from is =
     in let none : is_some (from_due mux stage past (Some d)) ≡ false = ap (λ (o : Option Event). is_some o) is
     in absurd (both_ways _ none some)
 
-is_over : (mux : ℕ → Flow → ℕ) (fates : List Fate) (stage : Stage) (past : List Event) → Run stage past → Follows fates stage past → (loss : Option Call) → owed fates past ≡ loss
+is_over : (mux : ℕ → Flow → ℕ) (fates : List Fate) (stage : Stage) (past : List Event) → Run stage past → Follows fates stage past → (loss : Option Call) → due_loss fates past ≡ loss
     → coming mux stage past loss (can_come (wire fates past) stage past) ≡ None → IsOver fates stage past
 is_over mux fates stage past run follows (Some c) o is =
-    let some : is_some (coming mux stage past (Some c) (can_come (wire fates past) stage past)) ≡ true = some_event (suc (last_clock past)) _ (loss_some mux stage past (suc (last_clock past)) c (owed_is_loss fates past c o))
+    let some : is_some (coming mux stage past (Some c) (can_come (wire fates past) stage past)) ≡ true = some_event (suc (last_clock past)) _ (loss_some mux stage past (suc (last_clock past)) c (due_is_loss fates past c o))
     in let none : is_some (coming mux stage past (Some c) (can_come (wire fates past) stage past)) ≡ false = ap (λ (x : Option Event). is_some x) is
     in absurd (both_ways _ none some)
 is_over mux fates stage past run follows None o is = record {
   none = least_none _ (none_due mux fates stage past run follows (least (can_come (wire fates past) stage past)) refl (least_is (λ d. IsFrom (wire fates past) stage past d d.call) (can_come (wire fates past) stage past) (each_from (wire fates past) stage past)) is);
-  not_owed = o;
+  no_loss_due = o;
 }
 
 -- where nothing comes next, the replay is over
 pub ended_over : (mux : ℕ → Flow → ℕ) (fate : ℕ → Hop → Fate) (stage : Stage) (past : List Event) → IsToldBy mux fate stage past → next_event mux fate stage past ≡ None → IsOver (fates_by fate past) stage past
-ended_over mux fate stage past t is = is_over mux (fates_by fate past) stage past t.run t.follows (owed (fates_by fate past) past) refl is
+ended_over mux fate stage past t is = is_over mux (fates_by fate past) stage past t.run t.follows (due_loss (fates_by fate past) past) refl is
 
 -- the events that are played to the end, in their order, are a replay
 pub played_replay : (mux : ℕ → Flow → ℕ) (fate : ℕ → Hop → Fate) (stage : Stage) (n : ℕ) → IsSound stage → IsWithinMuxes stage mux → next_event mux fate stage (play mux fate stage n []) ≡ None

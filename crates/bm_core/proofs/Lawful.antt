@@ -62,7 +62,7 @@ safe_step stage sound past clock (Arrive k hop server verdict) run later may unb
   premises : (is_opening may.segment ≡ false) × (first_broken stage past clock may.label may.segment.flow server (owner stage past k) ≡ None)
   premises = rw (may.is_segment, may.is_label) at unbroken
 
-  go : (o : Option Accepted) → owner stage past k ≡ o → (is_opening may.segment ≡ false) × (first_broken stage past clock may.label may.segment.flow server o ≡ None) → IsServedBy o server verdict
+  go : (o : Option Accepted) → owner stage past k ≡ o → (is_opening may.segment ≡ false) × (first_broken stage past clock may.label may.segment.flow server o ≡ None) → IsServedBy o hop server verdict
   go None own p = absurd (cc)
   go (Some a) own p = safe stage sound past run clock k server later a hop verdict may p.0 own p.1
 safe_step stage sound past clock (Steer k m) run later may unbroken = absurd unbroken
@@ -146,11 +146,11 @@ opening_caused stage sound past clock k Direct server verdict run later may open
       | inr full ↦ rw full refl
     ]
 
-served_no_fault : (a : Accepted) (server : ServerId) (verdict : Verdict) → IsServedBy (Some a) server verdict → is_fault verdict (Some a) server ≡ false
-served_no_fault a server verdict (inl here) = rw here.1 (process_no_fault verdict here.0) where
+served_no_fault : (a : Accepted) (hop : Hop) (server : ServerId) (verdict : Verdict) → IsServedBy (Some a) hop server verdict → is_fault verdict (Some a) server ≡ false
+served_no_fault a hop server verdict (inl here) = rw here.1 (process_no_fault verdict here.0) where
   process_no_fault : (verdict : Verdict) → is_process verdict ≡ true → is_fault verdict (Some a) a.server ≡ false
   process_no_fault verdict p = grind (arith, nat_tests)
-served_no_fault a server verdict (inr sent) = rw sent refl
+served_no_fault a hop server verdict (inr sent) = rw sent.1 refl
 
 some_or_none : (o : Option Cause) → (o ≡ None → ⊥) → is_some o ≡ true
 some_or_none None no_way = absurd (no_way refl)
@@ -162,7 +162,7 @@ plain_caused : (stage : Stage) → IsSound stage → (past : List Event) (clock 
 plain_caused stage sound past clock k hop server verdict run later may plain None own fault = refl
 plain_caused stage sound past clock k hop server verdict run later may plain (Some a) own fault =
     some_or_none (first_broken stage past clock may.label may.segment.flow server (Some a)) (λ unbroken.
-    both_ways _ (served_no_fault a server verdict (safe stage sound past run clock k server later a hop verdict may plain own unbroken)) fault)
+    both_ways _ (served_no_fault a hop server verdict (safe stage sound past run clock k server later a hop verdict may plain own unbroken)) fault)
 
 cause_step : (stage : Stage) → IsSound stage → (past : List Event) (clock : ℕ) (what : What) → Run stage past → last_clock past ≤ clock → MayCome stage past clock what → IsFault stage past what → is_some (cause stage past clock what) ≡ true
 cause_step stage sound past clock (Arrive k hop server verdict) run later may fault =

@@ -11,6 +11,7 @@ pub mod Determined
 pub mod Books
 pub mod Logs
 pub mod Listed
+pub mod Forwards
 pub mod Stops
 pub mod Retiring
 pub mod Playing

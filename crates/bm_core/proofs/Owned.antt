@@ -20,7 +20,7 @@ use Rattle.bm_core.specs.declared.events.Stage.{Stage}
 use Rattle.bm_table.specs.Tables.{same_server, table}
 use Rattle.bm_base.specs.Segments.{same_flow}
 use Rattle.bm_core.specs.Past.{segment_of, is_of, bucket, shard, timeout, newest, label_after, label_of, is_forward, hop_after, sends, is_sent, Holding, after_arrival, is_done, retired, held_after, held, is_accept, Accepted, owner_after, owner}
-use Rattle.bm_base.specs.Labels.{stop}
+use Rattle.bm_base.specs.Labels.{arrives_at}
 use Rattle.bm_core.specs.Verdicts.{Onward, onward, local_at, verdict_of, verdict_at}
 use Rattle.bm_core.specs.Stages.{IsSound}
 use Rattle.bm_core.specs.Runs.{last_clock, IsArrival, MayCome, Run}
@@ -94,7 +94,7 @@ pub record IsHome (stage : Stage) (past : List Event) (k : ℕ) (s : Segment) (l
 
 -- a copy that arrives at the server that holds its flow is not sent on
 not_sent_on : (stage : Stage) (past : List Event) (clock packet k : ℕ) (hop came next : Hop) (server : ServerId) (verdict : Verdict) (s : Segment) (l : Label) (a : Accepted)
-    → segment_of stage k ≡ Some s → stop l.entry hop ≡ Some a.server → hop_after hop ≡ Some next → IsHome stage past k s l a → IsArrival stage past clock packet came server verdict
+    → segment_of stage k ≡ Some s → arrives_at l.entry hop ≡ Some a.server → hop_after hop ≡ Some next → IsHome stage past k s l a → IsArrival stage past clock packet came server verdict
     → sends (Arrive packet came server verdict) k next ≡ true → ⊥
 not_sent_on stage past clock packet k hop came next server verdict s l a is stops onto home may e =
     let parts = arrival_sends packet k came next server verdict e
@@ -103,7 +103,7 @@ not_sent_on stage past clock packet k hop came next server verdict s l a is stop
     in let seg : may.segment ≡ s = same_Some _ _ (sym may.is_segment ∙ ap (λ (n : ℕ). segment_of stage n) eq ∙ is)
     in let lab : may.label ≡ l = same_Some _ _ (sym may.is_label ∙ ap (λ (n : ℕ). label_of stage past n) eq ∙ home.label)
     in let at : server ≡ a.server =
-    same_Some _ _ (sym may.place ∙ (ap (λ (x : Label). stop x.entry came) lab ∙ (ap (λ (x : Hop). stop l.entry x) same ∙ stops)))
+    same_Some _ _ (sym may.place ∙ (ap (λ (x : Label). arrives_at x.entry came) lab ∙ (ap (λ (x : Hop). arrives_at l.entry x) same ∙ stops)))
     in let holds : is_some (receiver_of (held stage past a.server s.flow)) ≡ true = holding_some (held stage past a.server s.flow) a.place home.holding
     in let holds' : is_some (receiver_of (held stage past server may.segment.flow)) ≡ true = rw (at, seg) holds
     in let stays : is_forward (verdict_at stage past clock may.label came server may.segment) ≡ false =
@@ -116,7 +116,7 @@ false_from_not true no_way = absurd (no_way refl)
 false_from_not false no_way = refl
 
 unsent_step : (stage : Stage) (past : List Event) (e : Event) (k : ℕ) (hop next : Hop) (s : Segment) (l : Label) (a : Accepted) (what : What)
-    → Run stage past → MayCome stage past e.clock.0 what → segment_of stage k ≡ Some s → stop l.entry hop ≡ Some a.server → hop_after hop ≡ Some next
+    → Run stage past → MayCome stage past e.clock.0 what → segment_of stage k ≡ Some s → arrives_at l.entry hop ≡ Some a.server → hop_after hop ≡ Some next
     → label_after stage past what k (label_of stage past k) ≡ Some l → owner_after stage past what k (owner stage past k) ≡ Some a
     → is_holding (held_after stage (length past) what a.server s.flow (held stage past a.server s.flow)) a.place ≡ true
     → (IsHome stage past k s l a → is_sent past k next ≡ false)
@@ -148,7 +148,7 @@ unsent_step stage past e k hop next s l a Sync run may is stops onto lab own hol
 
 -- while the server where it arrives by this hop holds its owner's Accept, a packet is not sent on from there
 pub unsent : (stage : Stage) (past : List Event) → Run stage past → (k : ℕ) (hop next : Hop) (s : Segment) (l : Label) (a : Accepted)
-    → segment_of stage k ≡ Some s → stop l.entry hop ≡ Some a.server → hop_after hop ≡ Some next → IsHome stage past k s l a → is_sent past k next ≡ false
+    → segment_of stage k ≡ Some s → arrives_at l.entry hop ≡ Some a.server → hop_after hop ≡ Some next → IsHome stage past k s l a → is_sent past k next ≡ false
 unsent stage [] run k hop next s l a is stops onto home = refl
 unsent stage (e ∷ past) run k hop next s l a is stops onto home =
     unsent_step stage past e k hop next s l a e.what run.1 run.0.may is stops onto home.label home.owner home.holding (unsent stage past run.1 k hop next s l a is stops onto)
@@ -194,13 +194,13 @@ data_unknown : (local : Local) (timeout clock : ℕ) (o : Onward) (s : Segment) 
     → verdict_of local timeout clock Direct (Some o) s ≡ Forward o.server
 data_unknown local timeout clock o s r h op c = grind (arith, nat_tests)
 
--- where no premise is broken, the packet is processed by its owner's server, or forwarded to it
-abbrev pub IsServedBy : Accepted → ServerId → Verdict → Type 0
-IsServedBy a server verdict = ((is_process verdict ≡ true) × (server ≡ a.server)) ⊎ (verdict ≡ Forward a.server)
+-- where no premise is broken, a copy is processed by its owner's server, or, where it is a direct one, forwarded to it
+abbrev pub IsServedBy : Accepted → Hop → ServerId → Verdict → Type 0
+IsServedBy a hop server verdict = ((is_process verdict ≡ true) × (server ≡ a.server)) ⊎ ((hop ≡ Direct) × (verdict ≡ Forward a.server))
 
 module _ (stage : Stage) (sound : IsSound stage) (past : List Event) (run : Run stage past) (clock k : ℕ) (server : ServerId) (later : last_clock past ≤ clock) where
   at_home : (a : Accepted) (hop : Hop) (verdict : Verdict) (may : IsArrival stage past clock k hop server verdict) → is_opening may.segment ≡ false
-      → is_holding (held stage past a.server may.segment.flow) a.place ≡ true → server ≡ a.server → IsServedBy a server verdict
+      → is_holding (held stage past a.server may.segment.flow) a.place ≡ true → server ≡ a.server → IsServedBy a hop server verdict
   at_home a hop verdict may plain holding at =
       let holds : is_some (receiver_of (held stage past server may.segment.flow)) ≡ true = rw at (holding_some (held stage past a.server may.segment.flow) a.place holding)
       in let un : retired past server (shard stage may.segment.flow) ≡ false =
@@ -284,9 +284,9 @@ module _ (stage : Stage) (sound : IsSound stage) (past : List Event) (run : Run 
         | inr before ↦ not_same a other (same_Some _ _ (sym may.place ∙ before))
       ]
 
-  -- where no premise is broken, the packet is processed by its owner's server, or forwarded to it
+  -- where no premise is broken, a copy is processed by its owner's server, or, where it is a direct one, forwarded to it
   pub safe : (a : Accepted) (hop : Hop) (verdict : Verdict) (may : IsArrival stage past clock k hop server verdict) → is_opening may.segment ≡ false → owner stage past k ≡ Some a
-      → first_broken stage past clock may.label may.segment.flow server (Some a) ≡ None → IsServedBy a server verdict
+      → first_broken stage past clock may.label may.segment.flow server (Some a) ≡ None → IsServedBy a hop server verdict
   safe a hop verdict may plain own e =
       let un = unbroken_is stage past clock may.label may.segment.flow server a e
       in let acc = owner_is stage past run k may.segment a may.is_segment own
@@ -299,8 +299,8 @@ module _ (stage : Stage) (sound : IsSound stage) (past : List Event) (run : Run 
       ] where
         away : (hop : Hop) (verdict : Verdict) (may : IsArrival stage past clock k hop server verdict) → is_opening may.segment ≡ false → owner stage past k ≡ Some a
             → IsAccepted stage past may.segment.flow a → IsUnbroken stage past clock may.label may.segment.flow server a
-            → same_server server a.server ≡ false → clock ≤ may.label.entry.stamp.0 + timeout stage → IsServedBy a server verdict
-        away Direct verdict may plain own acc un other in_time = inr (away_direct a verdict may plain acc.server un.fresh un.once (not_held a may.segment.flow other un.alone) other in_time)
+            → same_server server a.server ≡ false → clock ≤ may.label.entry.stamp.0 + timeout stage → IsServedBy a hop server verdict
+        away Direct verdict may plain own acc un other in_time = inr (refl, away_direct a verdict may plain acc.server un.fresh un.once (not_held a may.segment.flow other un.alone) other in_time)
         away Chained verdict may plain own acc un other in_time = absurd (away_chained a verdict may own acc un other)
 
   -- where its shard is retired, a packet that arrives directly is labelled by an older version than the newest, and comes late

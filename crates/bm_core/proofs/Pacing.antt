@@ -22,7 +22,7 @@ use Rattle.bm_core.specs.Past.{is_switch_of, steerable, newest, Sending, sending
 use Rattle.bm_core.specs.Stages.{AreRising, NamesVersions, moment_of_command, IsSound}
 use Rattle.bm_core.specs.Runs.{last_clock, next}
 use Rattle.bm_core.specs.Accounts.{counts, fate_now, before}
-use Rattle.bm_core.specs.Schedule.{call_of, least, put, put_all, put_sent, rest, after_arrive, wire, owed, publish_due, switch_due, switches_due, close_commands, retire_dues, retire_commands, sync_commands, packets_from, arrival_due, dropped, first_of, closes, retires, syncs, steers, can_come, ComesNext, IsLeast, Follows}
+use Rattle.bm_core.specs.Schedule.{call_of, least, put, put_all, put_sent, rest, after_arrive, wire, due_loss, publish_due, switch_due, switches_due, close_commands, retire_dues, retire_commands, sync_commands, packets_from, arrival_due, dropped, first_of, closes, retires, syncs, steers, can_come, ComesNext, IsLeast, Follows}
 use Rattle.bm_core.specs.Weights.{IsSoon, AreSoon}
 use Rattle.bm_core.proofs.Schedules.{Each, each_append, each_dropped, least_is}
 
@@ -151,7 +151,7 @@ can_come_by stage sound past w top le all =
     (low _ (first_by latest_moment (counts past (λ what. retires (call_of what))) _ (command _ (retires_by stage.script.plan (4 * 10 ^ 18) stage.script.setting.shards stage.script.commands by)))))
     (low _ (first_by latest_moment (counts past (λ what. syncs (call_of what))) _ (command _ (syncs_by stage.script.plan (4 * 10 ^ 18) stage.script.commands by)))))
     (arrival_by top w all))
-    (low _ (first_by latest_moment (counts past (λ what. steers (call_of what))) _ (each_weaker (44 * 10 ^ 17) latest_moment (omega arith) _ (packets_by 0 (44 * 10 ^ 17) 1 stage.capture.records sound.records_rise)))) where
+    (low _ (first_by latest_moment (counts past (λ what. steers (call_of what))) _ (each_weaker (44 * 10 ^ 17) latest_moment (omega arith) _ (packets_by 0 (44 * 10 ^ 17) 1 stage.capture.records sound.capture.rise)))) where
       by : AreBy stage.script.plan (4 * 10 ^ 18) stage.script.commands
       by = are_by stage.script.plan 0 (4 * 10 ^ 18) stage.script.commands sound.script.commands_rise
 
@@ -220,7 +220,7 @@ paced fates stage (e ∷ past) sound follows soon =
     let old = paced (before fates) stage past sound follows.1 soon.1
     in let last = old.clock
     in let each = can_come_by stage sound past (wire (before fates) past) (clock_bound (length past)) (omega arith) old.copies
-    in let clock : e.clock.0 ≤ suc (clock_bound (length past)) = next_clock (can_come (wire (before fates) past) stage past) past e (clock_bound (length past)) (owed (before fates) past) last each follows.0
+    in let clock : e.clock.0 ≤ suc (clock_bound (length past)) = next_clock (can_come (wire (before fates) past) stage past) past e (clock_bound (length past)) (due_loss (before fates) past) last each follows.0
     in record {
       clock = omega arith;
       copies = sent_by (clock_bound (suc (length past))) (fate_now fates) (length past) e.clock.0 (sending_of e.what) _ soon.0 (omega arith)

@@ -24,7 +24,7 @@ use Rattle.bm_core.specs.declared.events.Stage.{Stage}
 use Rattle.bm_table.specs.Tables.{same_server, table, IsRetirement}
 use Rattle.bm_base.specs.Segments.{same_flow}
 use Rattle.bm_core.specs.Past.{segment_of, is_of, bucket, shard, timeout, published_by, newest, switched, version_at, labelled, label_after, label_of, version_of, is_forward, hop_after, is_direct, sends, is_sent, Holding, after_verdict, after_arrival, is_done, retires, retired, held_after, held, is_accept, Accepted, accept_after, accept_of, accept_before, owner_after, owner}
-use Rattle.bm_base.specs.Labels.{stop}
+use Rattle.bm_base.specs.Labels.{arrives_at}
 use Rattle.bm_core.specs.Verdicts.{Onward, onward, local_at, verdict_of, verdict_at}
 use Rattle.bm_core.specs.Stages.{IsSound}
 use Rattle.bm_core.specs.Runs.{last_clock, IsArrival, MayCome, IsStep, Run}
@@ -203,7 +203,7 @@ sent_steered stage (x ∷ past) run k hop e = sent_steered_step stage past x.clo
 -- OWNERS
 
 -- an Accept is of a direct copy
-accept_direct : (hop : Hop) (entry : Entry) (server : ServerId) → is_direct hop ≡ true → stop entry hop ≡ Some server → entry.cur ≡ server
+accept_direct : (hop : Hop) (entry : Entry) (server : ServerId) → is_direct hop ≡ true → arrives_at entry hop ≡ Some server → entry.cur ≡ server
 accept_direct Direct entry server d e = cc
 accept_direct Chained entry server d e = absurd (cc)
 

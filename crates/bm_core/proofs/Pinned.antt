@@ -17,9 +17,9 @@ use Rattle.bm_core.specs.declared.events.Local.{Local}
 use Rattle.bm_core.specs.declared.events.Event.{Event}
 use Rattle.bm_core.specs.declared.events.Stage.{Stage}
 use Rattle.bm_table.specs.Tables.{same_server, table}
-use Rattle.bm_base.specs.Segments.{same_flow}
+use Rattle.bm_base.specs.Segments.{same_flow, RST}
 use Rattle.bm_core.specs.Past.{segment_of, is_of, bucket, shard, timeout, label_after, label_of, is_forward, sends, is_sent, Holding, after_arrival, is_done, retired, held_after, held, is_accept, Accepted}
-use Rattle.bm_base.specs.Labels.{stop}
+use Rattle.bm_base.specs.Labels.{arrives_at}
 use Rattle.bm_core.specs.Verdicts.{Onward, onward, local_at, verdict_of, verdict_at}
 use Rattle.bm_core.specs.Stages.{IsSound}
 use Rattle.bm_core.specs.Runs.{last_clock, IsArrival, MayCome, Run}
@@ -31,7 +31,6 @@ use Rattle.bm_core.specs.Causes.{is_process}
 use Rattle.bm_core.proofs.Pasts.{sent_steered, held_not_forwarded, arrival_sends, hop_before, steer_sends}
 use Rattle.bm_seq.specs.declared.receiver.Receiver.{Receiver}
 use Rattle.bm_base.specs.declared.receive.Taken.TheVariants.{Ended}
-use Rattle.bm_base.specs.declared.flags.TheConstants.{RST}
 use Rattle.bm_base.specs.Segments.{has_flag}
 use Rattle.bm_seq.specs.Receivers.{taken}
 use Rattle.bm_core.specs.Past.{is_of, is_accept, ends, retires, accept_of, accept_after, after_verdict}
@@ -123,7 +122,10 @@ home_step stage f packet a x past clock (Arrive k hop server verdict) quiet may 
     ]
 home_step stage f packet a x past clock (Close server flow closed) quiet may pin old e =
     some_unless' (same_server server a.server && same_flow flow f && closed) (held stage past a.server f)
-    (false_from_not _ (λ t. pin (same_flow-true flow f (and_parts (same_server server a.server) _ (and_parts _ _ t).0).1))) (old e)
+    (false_from_not _ (λ t.
+    let parts = and_parts (same_server server a.server && same_flow flow f) closed t
+    in let both = and_parts (same_server server a.server) (same_flow flow f) parts.0
+    in pin parts.1 (same_server-true server a.server both.0) (same_flow-true flow f both.1))) (old e)
 home_step stage f packet a x past clock (Retire server h at result) quiet may pin old e =
     some_unless' (same_server server a.server && eqb h (shard stage f) && is_done result) (held stage past a.server f)
     (false_from_not _ (λ t.
@@ -178,7 +180,7 @@ not_forwarded_home stage f packet a past clock k j hop server verdict s l quiet 
     in let seg : may.segment ≡ s = same_Some _ _ (sym may.is_segment ∙ ap (λ (n : ℕ). segment_of stage n) eq ∙ is)
     in let flow' : may.segment.flow ≡ f = ap (λ (y : Segment). y.flow) seg ∙ flow
     in let label : may.label ≡ l = same_Some _ _ (sym may.is_label ∙ ap (λ (n : ℕ). label_of stage past n) eq ∙ lab)
-    in let at : server ≡ a.server = same_Some _ _ (sym may.place ∙ (ap (λ (x : Hop). stop may.label.entry x) direct ∙ (ap (λ (x : Label). Some x.entry.cur) label ∙ ap (λ (x : ServerId). Some x) cur)))
+    in let at : server ≡ a.server = same_Some _ _ (sym may.place ∙ (ap (λ (x : Hop). arrives_at may.label.entry x) direct ∙ (ap (λ (x : Label). Some x.entry.cur) label ∙ ap (λ (x : ServerId). Some x) cur)))
     in let after : accept_of stage past f ≡ Some a = (pinned_arrival stage f packet a past clock j hop server verdict may.segment may.is_segment flow' pin).after (subst (λ (n : ℕ). n ≢ packet) (sym eq) other) at
     in let holds : is_some (held stage past a.server f) ≡ true = home_some stage f packet a a past quiet run pins after
     in let holds' : is_some (receiver_of (held stage past server may.segment.flow)) ≡ true = rw (at, flow') (some_receiver (held stage past a.server f) holds)
@@ -221,11 +223,10 @@ module _ (stage : Stage) (sound : IsSound stage) (packet : ℕ) (f : Flow) (a : 
     (home : (table stage.script.plan a.version (bucket stage f)).cur ≡ a.server) where
   kept_arrival : (past : List Event) (clock k : ℕ) (hop : Hop) (server : ServerId) (verdict : Verdict) → Run stage past → last_clock past ≤ clock → Each (IsPinnedEvent stage f packet a) past
       → (may : IsArrival stage past clock k hop server verdict) → IsPinnedArrival stage f packet a past clock k server verdict → may.segment.flow ≡ f → k ≢ packet
-      → ((is_process verdict ≡ true) × (server ≡ a.server)) ⊎ (verdict ≡ Forward a.server)
+      → ((is_process verdict ≡ true) × (server ≡ a.server)) ⊎ ((hop ≡ Direct) × (verdict ≡ Forward a.server))
   kept_arrival past clock k hop server verdict run later pins may pin flow other =
       let plain : is_opening may.segment ≡ false = false_from_not _ (λ o. other (only k may.segment may.is_segment flow o))
       in let version : (a.version ≤ may.label.version.0) × (moves stage.script.plan (bucket stage f) a.version may.label.version.0 ≤ 1) = rw may.is_label at (pin.version other)
-      in let in_time : clock ≤ may.label.entry.stamp.0 + timeout stage = rw may.is_label at pin.in_time
       in let home' : (table stage.script.plan a.version (bucket stage may.segment.flow)).cur ≡ a.server = rw flow home
       in let once : moves stage.script.plan (bucket stage may.segment.flow) a.version may.label.version.0 ≤ 1 = rw flow version.1
       in elim (cases_Bool (same_server server a.server)) [
@@ -237,12 +238,13 @@ module _ (stage : Stage) (sound : IsSound stage) (packet : ℕ) (f : Flow) (a : 
             in inl (rw may.verdict_is (data_held (local_at stage past server may.segment.flow) (timeout stage) clock hop (onward may.label.entry hop) may.segment stays holds' plain), at)
         | inr away ↦
             let none : held stage past server may.segment.flow ≡ None = rw flow (away_none stage f packet a past server away pins)
+            in let in_time : clock ≤ may.label.entry.stamp.0 + timeout stage = rw may.is_label at (pin.in_time other (λ at. both_ways _ away (eq-same_server server a.server at)))
             in inr (from_away hop verdict may flow plain home' version.0 once none away in_time)
       ] where
         from_away : (hop : Hop) (verdict : Verdict) (may : IsArrival stage past clock k hop server verdict) → may.segment.flow ≡ f → is_opening may.segment ≡ false
             → (table stage.script.plan a.version (bucket stage may.segment.flow)).cur ≡ a.server → a.version ≤ may.label.version.0 → moves stage.script.plan (bucket stage may.segment.flow) a.version may.label.version.0 ≤ 1
-            → held stage past server may.segment.flow ≡ None → same_server server a.server ≡ false → clock ≤ may.label.entry.stamp.0 + timeout stage → verdict ≡ Forward a.server
-        from_away Direct verdict may flow plain home' fresh once none away in_time = away_direct stage sound past run clock k server later a verdict may plain home' fresh once none away in_time
+            → held stage past server may.segment.flow ≡ None → same_server server a.server ≡ false → clock ≤ may.label.entry.stamp.0 + timeout stage → (hop ≡ Direct) × (verdict ≡ Forward a.server)
+        from_away Direct verdict may flow plain home' fresh once none away in_time = (refl, away_direct stage sound past run clock k server later a verdict may plain home' fresh once none away in_time)
         from_away Chained verdict may flow plain home' fresh once none away in_time =
             elim (moved_once stage sound past run clock k server later a Chained verdict may home' fresh once) [
               | inl here ↦ absurd (both_ways _ (unsent_home stage f packet a past k may.segment may.label quiet run pins may.is_segment flow other may.is_label here) may.sent)

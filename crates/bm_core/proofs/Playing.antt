@@ -8,7 +8,7 @@ use Rattle.bm_base.specs.declared.flow.Segment.{Segment}
 use Rattle.bm_base.specs.declared.label.Label.{Label}
 use Rattle.bm_base.specs.declared.label.Hop.{Hop}
 use Rattle.bm_base.specs.declared.receive.Fate.{Fate}
-use Rattle.bm_base.specs.Labels.{stop}
+use Rattle.bm_base.specs.Labels.{arrives_at}
 use Rattle.bm_table.specs.Tables.{IsOrderly}
 use Rattle.bm_core.specs.declared.events.What.{What}
 use Rattle.bm_core.specs.declared.events.What.TheVariants.{Publish, Switch, Steer, Lose, Arrive, Close, Retire, Sync}
@@ -26,7 +26,7 @@ use Rattle.bm_table.specs.declared.setting.RouteKind.{RouteKind}
 use Rattle.bm_table.specs.declared.setting.RouteKind.TheVariants.{Port, Turn}
 use Rattle.bm_core.specs.Stages.{IsSound}
 use Rattle.bm_core.specs.Rules.{mux_of_kind, mux_of, RouteBy, RuleBy}
-use Rattle.bm_core.specs.Schedule.{call_of, least, wire, can_come, owed, ComesNext, IsAnswered}
+use Rattle.bm_core.specs.Schedule.{call_of, least, wire, can_come, due_loss, ComesNext, IsAnswered}
 use Rattle.bm_core.proofs.Determined.{IsTold}
 use Rattle.bm_core.proofs.Retiring.{retirement_of, retirement_is}
 use Rattle.bm_core.proofs.Stepping.{step}
@@ -39,7 +39,7 @@ arrive_at stage past clock k hop l s None = None
 arrive_at stage past clock k hop l s (Some server) = Some (Arrive k hop server (verdict_at stage past clock l hop server s))
 
 abbrev pub arrive : Stage → List Event → ℕ → ℕ → Hop → Option Segment → Option Label → Option What
-arrive stage past clock k hop (Some s) (Some l) = arrive_at stage past clock k hop l s (stop l.entry hop)
+arrive stage past clock k hop (Some s) (Some l) = arrive_at stage past clock k hop l s (arrives_at l.entry hop)
 arrive stage past clock k hop (Some s) None = None
 arrive stage past clock k hop None l = None
 
@@ -66,7 +66,7 @@ abbrev pub from_due : (ℕ → Flow → ℕ) → Stage → List Event → Option
 from_due mux stage past None = None
 from_due mux stage past (Some d) = at_clock (next (last_clock past) d.moment) (answer mux stage past (next (last_clock past) d.moment) d.call)
 
--- what comes next: the loss that is owed, or else the least that can come
+-- what comes next: the loss that is due, or else the least that can come
 abbrev pub coming : (ℕ → Flow → ℕ) → Stage → List Event → Option Call → List Due → Option Event
 coming mux stage past (Some loss) dues = at_clock (suc (last_clock past)) (answer mux stage past (suc (last_clock past)) loss)
 coming mux stage past None dues = from_due mux stage past (least dues)
@@ -81,7 +81,7 @@ fates_by fate [] = []
 fates_by fate (e ∷ past) = fate_for fate (sending_of e.what) ∷ fates_by fate past
 
 abbrev pub next_event : (ℕ → Flow → ℕ) → (ℕ → Hop → Fate) → Stage → List Event → Option Event
-next_event mux fate stage past = coming mux stage past (owed (fates_by fate past) past) (can_come (wire (fates_by fate past) past) stage past)
+next_event mux fate stage past = coming mux stage past (due_loss (fates_by fate past) past) (can_come (wire (fates_by fate past) past) stage past)
 
 -- at most so many events more
 unfoldable pub play : (ℕ → Flow → ℕ) → (ℕ → Hop → Fate) → Stage → ℕ → List Event → List Event
@@ -103,7 +103,7 @@ told : (mux : ℕ → Flow → ℕ) (stage : Stage) (past : List Event) (clock :
 told mux stage past clock c w what e is = subst (λ (x : What). IsAnswer mux stage past clock c x) (same_Some _ _ e) is
 
 arrive_at_is : (mux : ℕ → Flow → ℕ) (stage : Stage) (past : List Event) (clock k : ℕ) (hop : Hop) (l : Label) (s : Segment) (o : Option ServerId) (what : What)
-    → segment_of stage k ≡ Some s → label_of stage past k ≡ Some l → stop l.entry hop ≡ o → arrive_at stage past clock k hop l s o ≡ Some what → IsAnswer mux stage past clock (Arrives k hop) what
+    → segment_of stage k ≡ Some s → label_of stage past k ≡ Some l → arrives_at l.entry hop ≡ o → arrive_at stage past clock k hop l s o ≡ Some what → IsAnswer mux stage past clock (Arrives k hop) what
 arrive_at_is mux stage past clock k hop l s None what is_s is_l at e = absurd (cc)
 arrive_at_is mux stage past clock k hop l s (Some server) what is_s is_l at e = told mux stage past clock (Arrives k hop) _ what e (record {
   call = refl;
@@ -113,7 +113,7 @@ arrive_at_is mux stage past clock k hop l s (Some server) what is_s is_l at e = 
 
 arrive_is : (mux : ℕ → Flow → ℕ) (stage : Stage) (past : List Event) (clock k : ℕ) (hop : Hop) (what : What) (o : Option Segment) (p : Option Label)
     → segment_of stage k ≡ o → label_of stage past k ≡ p → arrive stage past clock k hop o p ≡ Some what → IsAnswer mux stage past clock (Arrives k hop) what
-arrive_is mux stage past clock k hop what (Some s) (Some l) is_s is_l e = arrive_at_is mux stage past clock k hop l s (stop l.entry hop) what is_s is_l refl e
+arrive_is mux stage past clock k hop what (Some s) (Some l) is_s is_l e = arrive_at_is mux stage past clock k hop l s (arrives_at l.entry hop) what is_s is_l refl e
 arrive_is mux stage past clock k hop what (Some s) None is_s is_l e = absurd (cc)
 arrive_is mux stage past clock k hop what None p is_s is_l e = absurd (cc)
 
@@ -176,7 +176,7 @@ IsToldBy mux fate stage past = IsTold (RouteBy mux) (RuleBy fate) stage (fates_b
 
 one_more : (mux : ℕ → Flow → ℕ) (fate : ℕ → Hop → Fate) (stage : Stage) → IsOrderly stage.script.plan → IsWithinMuxes stage mux → (past : List Event) (e : Event) → IsToldBy mux fate stage past → next_event mux fate stage past ≡ Some e → IsToldBy mux fate stage (e ∷ past)
 one_more mux fate stage orderly within past e t is =
-    let played = coming_is mux stage within past (owed (fates_by fate past) past) (can_come (wire (fates_by fate past) past) stage past) e is
+    let played = coming_is mux stage within past (due_loss (fates_by fate past) past) (can_come (wire (fates_by fate past) past) stage past) e is
     in record {
       run = (step (fates_by fate past) stage past e orderly t.run t.follows played.next played.answered, t.run);
       follows = (played.next, t.follows);

@@ -24,8 +24,8 @@ use Rattle.bm_core.specs.declared.schedule.Call.{Call}
 use Rattle.bm_core.specs.declared.schedule.Call.TheVariants.{Publishes, Switches, Closes, Retires, Syncs, Arrives, Steers, Loses}
 use Rattle.bm_core.specs.declared.schedule.Due.{Due}
 use Rattle.bm_core.specs.Schedule.{call_of, sooner, least, publish_due, switch_due, switches_due, close_commands, retire_dues, retire_commands, sync_commands, packets_from, IsLeast}
-use Rattle.bm_core.specs.Accounts.{fate_now, before, sent_copies, barren_at, AreSent}
-use Rattle.bm_core.specs.Schedule.{put, put_all, put_sent, rest, after_arrive, wire, dropped, first_of, arrival_due, left, closes, retires, syncs, steers, can_come, barren, owed, ComesNext, IsNextBy, Follows}
+use Rattle.bm_core.specs.Accounts.{fate_now, before, sent_copies, copyless_at, AreSent}
+use Rattle.bm_core.specs.Schedule.{put, put_all, put_sent, rest, after_arrive, wire, dropped, first_of, arrival_due, left, closes, retires, syncs, steers, can_come, loss_of_fate, due_loss, ComesNext, IsNextBy, Follows}
 
 -- EACH OF A LIST
 
@@ -155,7 +155,7 @@ each_from w stage past =
       both : (xs ys : List Due) → Each (λ d. IsFrom w stage past d d.call) xs → Each (λ d. IsFrom w stage past d d.call) ys → Each (λ d. IsFrom w stage past d d.call) (xs ++ ys)
       both xs ys a b = each_append (λ d. IsFrom w stage past d d.call) xs ys a b
 
--- the event's call is the next of its kind, or a Lose that was owed
+-- the event's call is the next of its kind, or a Lose that was due
 pub record IsTaken (w : List Underway) (stage : Stage) (past : List Event) (clock : ℕ) (c : Call) : Type 0 where
   pub due : Due
   pub is_least : least (can_come w stage past) ≡ Some due
@@ -188,21 +188,21 @@ abbrev pub loss_call : Call → Bool
 loss_call (Loses k hop) = true
 loss_call _ = false
 
-pub owed_is_loss : (fates : List Fate) (past : List Event) (c : Call) → owed fates past ≡ Some c → loss_call c ≡ true
-owed_is_loss fates [] c e = absurd (cc)
-owed_is_loss fates (x ∷ past) c e = barren_is_loss (fate_now fates) (sending_of x.what) c e where
-  barren_is_loss : (f : Fate) (o : Option Sending) (c : Call) → barren f o ≡ Some c → loss_call c ≡ true
-  barren_is_loss f None c e = absurd (cc)
-  barren_is_loss f (Some s) c e = elim (cases_Bool (eqb f.copies 0)) [
+pub due_is_loss : (fates : List Fate) (past : List Event) (c : Call) → due_loss fates past ≡ Some c → loss_call c ≡ true
+due_is_loss fates [] c e = absurd (cc)
+due_is_loss fates (x ∷ past) c e = fate_is_loss (fate_now fates) (sending_of x.what) c e where
+  fate_is_loss : (f : Fate) (o : Option Sending) (c : Call) → loss_of_fate f o ≡ Some c → loss_call c ≡ true
+  fate_is_loss f None c e = absurd (cc)
+  fate_is_loss f (Some s) c e = elim (cases_Bool (eqb f.copies 0)) [
     | inl is ↦ let h : Loses s.packet s.hop ≡ c = same_Some _ _ (rw is at e) in rw (← h) refl
     | inr other ↦ absurd (let h : ◌≡◌ {A = Option Call} None (Some c) = rw other at e in cc)
   ]
 
 -- an event that is no Lose is the next of its kind
 pub taken_kind : (fates : List Fate) (stage : Stage) (past : List Event) (e : Event) → loss_call (call_of e.what) ≡ false → IsNextBy fates stage past e
-    → (owed fates past ≡ None) × IsTaken (wire fates past) stage past e.clock.0 (call_of e.what)
-taken_kind fates stage past e kind next = elim (taken (wire fates past) stage past e (owed fates past) next) [
-  | inl l ↦ absurd (both_ways _ kind (owed_is_loss fates past (call_of e.what) l.0))
+    → (due_loss fates past ≡ None) × IsTaken (wire fates past) stage past e.clock.0 (call_of e.what)
+taken_kind fates stage past e kind next = elim (taken (wire fates past) stage past e (due_loss fates past) next) [
+  | inl l ↦ absurd (both_ways _ kind (due_is_loss fates past (call_of e.what) l.0))
   | inr t ↦ t
 ]
 
@@ -364,13 +364,13 @@ copies_sent fates stage (e ∷ past) follows = (
 
 -- LOSSES
 
--- the Lose of the packet and hop that is owed at the clock after this one
-abbrev pub is_owed : Option Call → ℕ → Hop → Bool
-is_owed (Some (Loses j h)) k hop = j == k && same_hop h hop
-is_owed _ k hop = false
+-- the Lose of the packet and hop that is due at the clock after this one
+abbrev pub is_loss_due : Option Call → ℕ → Hop → Bool
+is_loss_due (Some (Loses j h)) k hop = j == k && same_hop h hop
+is_loss_due _ k hop = false
 
-abbrev pub is_owed_at : List Fate → List Event → ℕ → Hop → ℕ → Bool
-is_owed_at fates past k hop clock = is_owed (owed fates past) k hop && last_clock past == clock
+abbrev pub is_loss_due_at : List Fate → List Event → ℕ → Hop → ℕ → Bool
+is_loss_due_at fates past k hop clock = is_loss_due (due_loss fates past) k hop && last_clock past == clock
 
 loses_not : (what : What) (k : ℕ) (hop : Hop) → loss_call (call_of what) ≡ false → loses what k hop ≡ false
 loses_not (Publish v) k hop e = refl
@@ -383,7 +383,7 @@ loses_not (Retire server h at result) k hop e = refl
 loses_not Sync k hop e = refl
 
 -- a sending that has no copies owes a Lose
-owes : (f : Fate) (o : Option Sending) (k : ℕ) (hop : Hop) → is_owed (barren f o) k hop ≡ (is_sending o k hop && f.copies == 0)
+owes : (f : Fate) (o : Option Sending) (k : ℕ) (hop : Hop) → is_loss_due (loss_of_fate f o) k hop ≡ (is_sending o k hop && f.copies == 0)
 owes f None k hop = refl
 owes f (Some s) k hop = elim (cases_Bool (eqb f.copies 0)) [ inl is ↦ rw is (sym (and_true _)) | inr other ↦ rw other (sym (and_false _)) ] where
   and_true : (b : Bool) → (b && true) ≡ b
@@ -394,7 +394,7 @@ owes f (Some s) k hop = elim (cases_Bool (eqb f.copies 0)) [ inl is ↦ rw is (s
   and_false true = refl
   and_false false = refl
 
-lose_sends_not : (f : Fate) (what : What) → loss_call (call_of what) ≡ true → barren f (sending_of what) ≡ None
+lose_sends_not : (f : Fate) (what : What) → loss_call (call_of what) ≡ true → loss_of_fate f (sending_of what) ≡ None
 lose_sends_not f (Publish v) e = absurd (cc)
 lose_sends_not f (Switch m v) e = absurd (cc)
 lose_sends_not f (Steer j m) e = absurd (cc)
@@ -404,15 +404,15 @@ lose_sends_not f (Close server flow closed) e = absurd (cc)
 lose_sends_not f (Retire server h at result) e = absurd (cc)
 lose_sends_not f Sync e = absurd (cc)
 
-loses_owed : (what : What) (k : ℕ) (hop : Hop) (o : Option Call) → o ≡ Some (call_of what) → loss_call (call_of what) ≡ true → is_owed o k hop ≡ loses what k hop
-loses_owed (Lose j h) k hop o e is = rw e refl
-loses_owed (Publish v) k hop o e is = absurd (cc)
-loses_owed (Switch m v) k hop o e is = absurd (cc)
-loses_owed (Steer j m) k hop o e is = absurd (cc)
-loses_owed (Arrive j h server verdict) k hop o e is = absurd (cc)
-loses_owed (Close server flow closed) k hop o e is = absurd (cc)
-loses_owed (Retire server h at result) k hop o e is = absurd (cc)
-loses_owed Sync k hop o e is = absurd (cc)
+loses_due : (what : What) (k : ℕ) (hop : Hop) (o : Option Call) → o ≡ Some (call_of what) → loss_call (call_of what) ≡ true → is_loss_due o k hop ≡ loses what k hop
+loses_due (Lose j h) k hop o e is = rw e refl
+loses_due (Publish v) k hop o e is = absurd (cc)
+loses_due (Switch m v) k hop o e is = absurd (cc)
+loses_due (Steer j m) k hop o e is = absurd (cc)
+loses_due (Arrive j h server verdict) k hop o e is = absurd (cc)
+loses_due (Close server flow closed) k hop o e is = absurd (cc)
+loses_due (Retire server h at result) k hop o e is = absurd (cc)
+loses_due Sync k hop o e is = absurd (cc)
 
 pub no_loss_taken : (w : List Underway) (stage : Stage) (past : List Event) (d : Due) (c : Call) → IsFrom w stage past d c → loss_call c ≡ false
 no_loss_taken w stage past d (Publishes v) from = refl
@@ -433,32 +433,32 @@ and_three false b c = refl
 
 -- a Lose comes directly after its sending
 lost_step : (fates : List Fate) (past : List Event) (e : Event) (k : ℕ) (hop : Hop) (clock : ℕ)
-    → ((owed (before fates) past ≡ Some (call_of e.what)) × (e.clock.0 ≡ suc (last_clock past))) ⊎ ((owed (before fates) past ≡ None) × (loss_call (call_of e.what) ≡ false))
-    → lost_at past k hop (suc clock) + cond (is_owed_at (before fates) past k hop clock) 1 0 ≡ barren_at (before fates) past k hop clock
-    → lost_at (e ∷ past) k hop (suc clock) + cond (is_owed_at fates (e ∷ past) k hop clock) 1 0 ≡ barren_at fates (e ∷ past) k hop clock
+    → ((due_loss (before fates) past ≡ Some (call_of e.what)) × (e.clock.0 ≡ suc (last_clock past))) ⊎ ((due_loss (before fates) past ≡ None) × (loss_call (call_of e.what) ≡ false))
+    → lost_at past k hop (suc clock) + cond (is_loss_due_at (before fates) past k hop clock) 1 0 ≡ copyless_at (before fates) past k hop clock
+    → lost_at (e ∷ past) k hop (suc clock) + cond (is_loss_due_at fates (e ∷ past) k hop clock) 1 0 ≡ copyless_at fates (e ∷ past) k hop clock
 lost_step fates past e k hop clock (inl l) old =
-    let is : loss_call (call_of e.what) ≡ true = owed_is_loss (before fates) past (call_of e.what) l.0
-    in let none : owed fates (e ∷ past) ≡ None = lose_sends_not (fate_now fates) e.what is
+    let is : loss_call (call_of e.what) ≡ true = due_is_loss (before fates) past (call_of e.what) l.0
+    in let none : due_loss fates (e ∷ past) ≡ None = lose_sends_not (fate_now fates) e.what is
     in let quiet : (sends e.what k hop && eqb (fate_now fates).copies 0) ≡ false = sym (owes (fate_now fates) (sending_of e.what) k hop) ∙ rw none refl
-    in let same : is_owed (owed (before fates) past) k hop ≡ loses e.what k hop = loses_owed e.what k hop (owed (before fates) past) l.0 is
+    in let same : is_loss_due (due_loss (before fates) past) k hop ≡ loses e.what k hop = loses_due e.what k hop (due_loss (before fates) past) l.0 is
     in let q : (sends e.what k hop && (eqb (fate_now fates).copies 0 && eqb e.clock.0 clock)) ≡ false = sym (and_three (sends e.what k hop) (eqb (fate_now fates).copies 0) (eqb e.clock.0 clock)) ∙ rw quiet refl
-    in let t : is_owed_at (before fates) past k hop clock ≡ (loses e.what k hop && eqb e.clock.0 (suc clock)) = rw (same, l.1, same_suc (last_clock past) clock) refl
-    in let old' : lost_at past k hop (suc clock) + cond (loses e.what k hop && eqb e.clock.0 (suc clock)) 1 0 ≡ barren_at (before fates) past k hop clock = rw t at old
+    in let t : is_loss_due_at (before fates) past k hop clock ≡ (loses e.what k hop && eqb e.clock.0 (suc clock)) = rw (same, l.1, same_suc (last_clock past) clock) refl
+    in let old' : lost_at past k hop (suc clock) + cond (loses e.what k hop && eqb e.clock.0 (suc clock)) 1 0 ≡ copyless_at (before fates) past k hop clock = rw t at old
     in rw (none, q) (omega arith)
 lost_step fates past e k hop clock (inr t) old =
     let no : loses e.what k hop ≡ false = loses_not e.what k hop t.1
-    in let before_none : is_owed_at (before fates) past k hop clock ≡ false = rw t.0 refl
-    in let o : is_owed_at fates (e ∷ past) k hop clock ≡ (sends e.what k hop && (eqb (fate_now fates).copies 0 && eqb e.clock.0 clock)) =
+    in let before_none : is_loss_due_at (before fates) past k hop clock ≡ false = rw t.0 refl
+    in let o : is_loss_due_at fates (e ∷ past) k hop clock ≡ (sends e.what k hop && (eqb (fate_now fates).copies 0 && eqb e.clock.0 clock)) =
     ap (λ (b : Bool). b && eqb e.clock.0 clock) (owes (fate_now fates) (sending_of e.what) k hop) ∙ and_three (sends e.what k hop) _ _
-    in let old' : lost_at past k hop (suc clock) + 0 ≡ barren_at (before fates) past k hop clock = rw before_none at old
+    in let old' : lost_at past k hop (suc clock) + 0 ≡ copyless_at (before fates) past k hop clock = rw before_none at old
     in rw (no, o) (omega arith)
 
 pub lost_balance : (fates : List Fate) (stage : Stage) (past : List Event) → Follows fates stage past → (k : ℕ) (hop : Hop) (clock : ℕ)
-    → lost_at past k hop (suc clock) + cond (is_owed_at fates past k hop clock) 1 0 ≡ barren_at fates past k hop clock
+    → lost_at past k hop (suc clock) + cond (is_loss_due_at fates past k hop clock) 1 0 ≡ copyless_at fates past k hop clock
 lost_balance fates stage [] follows k hop clock = refl
 lost_balance fates stage (e ∷ past) follows k hop clock = lost_step fates past e k hop clock how (lost_balance (before fates) stage past follows.1 k hop clock) where
-  how : ((owed (before fates) past ≡ Some (call_of e.what)) × (e.clock.0 ≡ suc (last_clock past))) ⊎ ((owed (before fates) past ≡ None) × (loss_call (call_of e.what) ≡ false))
-  how = elim (taken (wire (before fates) past) stage past e (owed (before fates) past) follows.0) [
+  how : ((due_loss (before fates) past ≡ Some (call_of e.what)) × (e.clock.0 ≡ suc (last_clock past))) ⊎ ((due_loss (before fates) past ≡ None) × (loss_call (call_of e.what) ≡ false))
+  how = elim (taken (wire (before fates) past) stage past e (due_loss (before fates) past) follows.0) [
     | inl l ↦ inl l
     | inr t ↦ inr (t.0, no_loss_taken (wire (before fates) past) stage past t.1.due (call_of e.what) t.1.from)
   ]

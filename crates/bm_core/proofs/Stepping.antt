@@ -24,7 +24,7 @@ use Rattle.bm_core.specs.declared.schedule.Call.{Call}
 use Rattle.bm_core.specs.declared.schedule.Call.TheVariants.{Retires, Arrives, Steers, Loses}
 use Rattle.bm_core.specs.declared.schedule.Due.{Due}
 use Rattle.bm_core.specs.Schedule.{call_of, packets_from, retire_dues, retire_commands, retires}
-use Rattle.bm_core.specs.Schedule.{put, put_all, put_sent, rest, after_arrive, wire, first_of, arrival_due, left, steers, barren, owed, IsNextBy, Follows, IsAnswered}
+use Rattle.bm_core.specs.Schedule.{put, put_all, put_sent, rest, after_arrive, wire, first_of, arrival_due, left, steers, loss_of_fate, due_loss, IsNextBy, Follows, IsAnswered}
 use Rattle.bm_core.proofs.Schedules.{Each, each_append, each_dropped, IsFrom, IsTaken, taken, taken_kind, counted, balance, class_of_steers, loss_call, no_loss_taken}
 use Rattle.bm_core.proofs.Switching.{published, publish_first}
 use Rattle.bm_core.proofs.Accounted.{steer_at, steer_within, steer_records}
@@ -157,12 +157,12 @@ new_packet fates stage past k d follows c e = (fresh, known) where
     | inr other ↦ absurd (let b = bal in let h = head in let z : ◌≡◌ {A = ℕ} (cond (is_some (segment_of stage k)) 1 0) 0 = rw other refl in omega arith)
   ]
 
--- A LOSE THAT IS OWED
+-- A LOSS THAT IS DUE
 
-owed_sent : (fates : List Fate) (past : List Event) (k : ℕ) (hop : Hop) → owed fates past ≡ Some (Loses k hop) → is_sent_at past k hop (last_clock past) ≡ true
-owed_sent fates [] k hop e = absurd (cc)
-owed_sent fates (x ∷ past) k hop e = by (sending_of x.what) refl e where
-  by : (o : Option Sending) → sending_of x.what ≡ o → barren (fate_now fates) o ≡ Some (Loses k hop) → is_sent_at (x ∷ past) k hop x.clock.0 ≡ true
+due_loss_sent : (fates : List Fate) (past : List Event) (k : ℕ) (hop : Hop) → due_loss fates past ≡ Some (Loses k hop) → is_sent_at past k hop (last_clock past) ≡ true
+due_loss_sent fates [] k hop e = absurd (cc)
+due_loss_sent fates (x ∷ past) k hop e = by (sending_of x.what) refl e where
+  by : (o : Option Sending) → sending_of x.what ≡ o → loss_of_fate (fate_now fates) o ≡ Some (Loses k hop) → is_sent_at (x ∷ past) k hop x.clock.0 ≡ true
   by None is h = absurd (cc)
   by (Some s) is h = elim (cases_Bool (eqb (fate_now fates).copies 0)) [
     | inl zero_copies ↦
@@ -211,7 +211,7 @@ may_publish stage n is = elim (slice_get_cases stage.script.plan.changes n).1 [
 ]
 
 may : (fates : List Fate) (stage : Stage) (past : List Event) (clock : ℕ) (what : What) → Follows fates stage past → IsOrderly stage.script.plan → (loss_call (call_of what) ≡ false → IsTaken (wire fates past) stage past clock (call_of what))
-    → (loss_call (call_of what) ≡ true → (owed fates past ≡ Some (call_of what)) × (clock ≡ suc (last_clock past))) → IsAnswered stage past clock what → MayCome stage past clock what
+    → (loss_call (call_of what) ≡ true → (due_loss fates past ≡ Some (call_of what)) × (clock ≡ suc (last_clock past))) → IsAnswered stage past clock what → MayCome stage past clock what
 may fates stage past clock (Publish v) follows orderly t l a = let x = (t refl).from in (x.1, rw x.1 (may_publish stage (newest past) x.0))
 may fates stage past clock (Switch m v) follows orderly t l a =
     let x = t refl
@@ -220,7 +220,7 @@ may fates stage past clock (Steer k m) follows orderly t l a =
     let x = t refl
     in let n = new_packet fates stage past k x.due follows x.call x.from
     in (a, n.0, n.1)
-may fates stage past clock (Lose k hop) follows orderly t l a = let x = l refl in (last_clock past, (let e = x.1 in omega arith), owed_sent fates past k hop x.0)
+may fates stage past clock (Lose k hop) follows orderly t l a = let x = l refl in (last_clock past, (let e = x.1 in omega arith), due_loss_sent fates past k hop x.0)
 may fates stage past clock (Arrive k hop server verdict) follows orderly t l a =
     let x = t refl
     in record {
@@ -247,14 +247,14 @@ step fates stage past e orderly run follows next answered = record {
   own = own_rises stage past run e.clock.0 later (actor_of stage e.what);
   may = may fates stage past e.clock.0 e.what follows orderly
       (λ kind. (taken_kind fates stage past e kind next).1)
-      (λ kind. elim (taken (wire fates past) stage past e (owed fates past) next) [
+      (λ kind. elim (taken (wire fates past) stage past e (due_loss fates past) next) [
         | inl l ↦ l
         | inr t ↦ absurd (both_ways _ (no_loss (wire fates past) t.1.due (call_of e.what) t.1.from) kind)
       ])
       answered;
 } where
   later : last_clock past < e.clock.0
-  later = elim (taken (wire fates past) stage past e (owed fates past) next) [ inl l ↦ (let h = l.1 in omega arith) | inr t ↦ t.1.later ]
+  later = elim (taken (wire fates past) stage past e (due_loss fates past) next) [ inl l ↦ (let h = l.1 in omega arith) | inr t ↦ t.1.later ]
 
   no_loss : (w : List Underway) (d : Due) (c : Call) → IsFrom w stage past d c → loss_call c ≡ false
   no_loss w d c from = no_loss_taken w stage past d c from

@@ -9,16 +9,16 @@ use Rattle.bm_base.specs.declared.label.Entry.{Entry}
 use Rattle.bm_base.specs.declared.label.Label.{Label}
 use Rattle.bm_base.specs.declared.label.Hop.{Hop}
 use Rattle.bm_base.specs.declared.label.Hop.TheVariants.{Direct, Chained}
-use Rattle.bm_base.specs.Labels.{stop}
+use Rattle.bm_base.specs.Labels.{arrives_at}
 use Rattle.bm_core.specs.declared.events.Verdict.{Verdict}
 use Rattle.bm_core.specs.declared.events.What.{What}
 use Rattle.bm_core.specs.declared.events.What.TheVariants.{Publish, Switch, Steer, Lose, Arrive, Close, Retire, Sync}
 use Rattle.bm_core.specs.declared.events.Event.{Event}
-use Rattle.bm_core.specs.declared.events.Local.{Local}
 use Rattle.bm_core.specs.declared.events.Stage.{Stage}
 use Rattle.bm_core.specs.Past.{segment_of, timeout, labelled, label_after, label_of, sends, is_sent, is_forward, hop_after}
-use Rattle.bm_core.specs.Verdicts.{Onward, onward_with, onward, local_at, verdict_of, verdict_at}
+use Rattle.bm_core.specs.Verdicts.{onward_with, onward, local_at, verdict_at}
 use Rattle.bm_core.specs.Runs.{MayCome, IsStep, Run}
+use Rattle.bm_core.proofs.Forwards.{forward_onward}
 use Rattle.bm_core.proofs.Pasts.{label_stays, arrival_sends}
 use Rattle.bm_core.proofs.Stepping.{AllSent, wire_sent}
 use Rattle.bm_core.specs.declared.schedule.Underway.{Underway}
@@ -32,21 +32,17 @@ pub record HasStop (stage : Stage) (past : List Event) (k : ℕ) (hop : Hop) : T
   pub label : Label
   pub is_label : label_of stage past k ≡ Some label
   pub server : ServerId
-  pub place : stop label.entry hop ≡ Some server
+  pub place : arrives_at label.entry hop ≡ Some server
 
 steered_stop : (stage : Stage) (past : List Event) (e : Event) (m : MuxId) (k : ℕ) (o : Option Segment) → segment_of stage k ≡ o → is_some o ≡ true → label_of stage (e ∷ past) k ≡ labelled stage past m o → HasStop stage (e ∷ past) k Direct
 steered_stop stage past e m k None is there l = absurd (cc)
 steered_stop stage past e m k (Some s) is there l = record { segment = s; is_segment = is; label = _; is_label = l; server = _; place = refl }
 
--- what is forwarded has somewhere to go on to
-forward_onward : (local : Local) (timeout clock : ℕ) (hop : Hop) (onto : Option Onward) (s : Segment) → is_forward (verdict_of local timeout clock hop onto s) ≡ true → is_some onto ≡ true
-forward_onward local timeout clock hop onto s e = grind arith
-
 onward_stop : (stamp : ℕ) (prev : Option ServerId) → is_some (onward_with stamp prev) ≡ true → (server : ServerId) × (prev ≡ Some server)
 onward_stop stamp None e = absurd (cc)
 onward_stop stamp (Some s) e = (s, refl)
 
-next_stop : (entry : Entry) (came next : Hop) → is_some (onward entry came) ≡ true → hop_after came ≡ Some next → (server : ServerId) × (stop entry next ≡ Some server)
+next_stop : (entry : Entry) (came next : Hop) → is_some (onward entry came) ≡ true → hop_after came ≡ Some next → (server : ServerId) × (arrives_at entry next ≡ Some server)
 next_stop entry Chained next is h = absurd (cc)
 next_stop entry Direct Direct is h = absurd (cc)
 next_stop entry Direct Chained is h = onward_stop entry.stamp.0 entry.prev is

@@ -7,7 +7,7 @@ use Rattle.bm_base.specs.declared.label.Label.{Label}
 use Rattle.bm_base.specs.declared.label.Hop.{Hop}
 use Rattle.bm_base.specs.declared.label.Hop.TheVariants.{Direct, Chained}
 use Rattle.bm_base.specs.declared.label.Tag.{Tag}
-use Rattle.bm_base.specs.Labels.{stop, tag_for, tag_of}
+use Rattle.bm_base.specs.Labels.{arrives_at, tag_for, tag_of}
 use Rattle.bm_core.specs.declared.events.Local.{Local}
 use Rattle.bm_core.specs.Verdicts.{onward, verdict_of, verdict_on}
 
@@ -24,4 +24,4 @@ by_stop local timeout clock l hop t s (Some server) is =
 
 -- the verdict by the tag of a copy is that by its label
 pub verdict_by_tag : (local : Local) (timeout clock : ℕ) (l : Label) (hop : Hop) (t : Tag) (s : Segment) → tag_of l hop ≡ Some t → verdict_on local timeout clock t s ≡ verdict_of local timeout clock hop (onward l.entry hop) s
-verdict_by_tag local timeout clock l hop t s is = by_stop local timeout clock l hop t s (stop l.entry hop) is
+verdict_by_tag local timeout clock l hop t s is = by_stop local timeout clock l hop t s (arrives_at l.entry hop) is

@@ -22,7 +22,7 @@ use Rattle.bm_core.specs.declared.schedule.Due.{Due}
 use Rattle.bm_core.specs.declared.schedule.Underway.{Underway}
 use Rattle.bm_core.specs.Past.{is_switch_of, newest, Sending, sending_of}
 use Rattle.bm_core.specs.Accounts.{counts, fate_now, before}
-use Rattle.bm_core.specs.Schedule.{call_of, put, put_all, put_sent, rest, wire, owed, barren, left, dropped, first_of, arrival_due, close_commands, retire_commands, sync_commands, packets_from, closes, retires, syncs, steers, IsNextBy, Follows}
+use Rattle.bm_core.specs.Schedule.{call_of, put, put_all, put_sent, rest, wire, due_loss, loss_of_fate, left, dropped, first_of, arrival_due, close_commands, retire_commands, sync_commands, packets_from, closes, retires, syncs, steers, IsNextBy, Follows}
 use Rattle.std.proofs.Common.{length-append}
 use Rattle.bm_base.specs.declared.capture.Record.{Record}
 use Rattle.bm_table.specs.declared.script.Command.{Command}
@@ -30,7 +30,7 @@ use Rattle.bm_table.specs.declared.script.Command.TheVariants.{Change as ChangeC
 use Rattle.bm_core.specs.Past.{steerable}
 use Rattle.bm_core.specs.Schedule.{retire_dues}
 use Rattle.bm_core.specs.Stages.{NamesVersions, IsSound}
-use Rattle.bm_core.specs.Weights.{IsSoon, AreSoon, hop_weight, wire_weight, owed_weight, packets_weight, switches_weight, commands_weight, changes_weight, weight}
+use Rattle.bm_core.specs.Weights.{IsSoon, AreSoon, hop_weight, wire_weight, loss_weight, packets_weight, switches_weight, commands_weight, changes_weight, weight}
 use Rattle.bm_core.proofs.Schedules.{taken, taken_kind}
 use Rattle.bm_core.proofs.Stepping.{may_publish}
 
@@ -74,7 +74,7 @@ three : (n : ℕ) (h : Hop) → n ≤ 3 → n * hop_weight h ≤ 3 * hop_weight 
 three n Direct le = omega arith
 three n Chained le = omega arith
 
-sent_adds : (f : Fate) (place clock : ℕ) (o : Option Sending) (w : List Underway) → IfSome o (λ s. IsSoon f) → wire_weight (put_sent f place clock o w) + owed_weight (barren f o) ≤ wire_weight w + sent_weight o
+sent_adds : (f : Fate) (place clock : ℕ) (o : Option Sending) (w : List Underway) → IfSome o (λ s. IsSoon f) → wire_weight (put_sent f place clock o w) + loss_weight (loss_of_fate f o) ≤ wire_weight w + sent_weight o
 sent_adds f place clock None w soon = omega arith
 sent_adds f place clock (Some s) w soon = elim (cases_Bool (eqb f.copies 0)) [
   | inl no_copy ↦
@@ -206,7 +206,7 @@ weight_step fates stage past clock (Publish v) soon next =
     in let e : v.0 ≡ suc (newest past) = t.1.from.1
     in let le : suc (newest past) ≤ length stage.script.plan.changes = may_publish stage (newest past) t.1.from.0
     in let s = switches_same (length stage.script.plan.changes) (at clock (Publish v)) past stage.script.setting.muxes (λ m. refl)
-    in sum_third _ _ _ _ _ _ (packets_still stage past (wire (before fates) past) (owed (before fates) past)) (commands_keep stage (n_closes past) (n_retires past) (n_syncs past)) (publish_less (length stage.script.plan.changes) (newest past) v.0 _ _ e le s)
+    in sum_third _ _ _ _ _ _ (packets_still stage past (wire (before fates) past) (due_loss (before fates) past)) (commands_keep stage (n_closes past) (n_retires past) (n_syncs past)) (publish_less (length stage.script.plan.changes) (newest past) v.0 _ _ e le s)
 weight_step fates stage past clock (Switch m v) soon next =
     let t = taken_kind (before fates) stage past (at clock (Switch m v)) refl next
     in let a : v.0 ≡ suc t.1.from.1.0 = t.1.from.1.1
@@ -214,16 +214,16 @@ weight_step fates stage past clock (Switch m v) soon next =
     in let c : t.1.from.1.0 < length stage.script.plan.changes = t.1.from.1.2
     in let more : counts past (λ what. is_switch_of what m.0) < length stage.script.plan.changes = omega arith
     in let s = switches_less (length stage.script.plan.changes) clock m v past stage.script.setting.muxes t.1.from.0 more
-    in sum_third _ _ _ _ _ _ (packets_still stage past (wire (before fates) past) (owed (before fates) past)) (commands_keep stage (n_closes past) (n_retires past) (n_syncs past)) (switch_sum _ _ _ s)
+    in sum_third _ _ _ _ _ _ (packets_still stage past (wire (before fates) past) (due_loss (before fates) past)) (commands_keep stage (n_closes past) (n_retires past) (n_syncs past)) (switch_sum _ _ _ s)
 weight_step fates stage past clock (Close server flow closed) soon next =
     let t = taken_kind (before fates) stage past (at clock (Close server flow closed)) refl next
-    in sum_second _ _ _ _ _ _ (packets_still stage past (wire (before fates) past) (owed (before fates) past)) (close_less stage (n_closes past) (n_retires past) (n_syncs past) t.1.due t.1.from) (changes_keep stage (at clock (Close server flow closed)) past (λ m. refl) refl)
+    in sum_second _ _ _ _ _ _ (packets_still stage past (wire (before fates) past) (due_loss (before fates) past)) (close_less stage (n_closes past) (n_retires past) (n_syncs past) t.1.due t.1.from) (changes_keep stage (at clock (Close server flow closed)) past (λ m. refl) refl)
 weight_step fates stage past clock (Retire server h moment result) soon next =
     let t = taken_kind (before fates) stage past (at clock (Retire server h moment result)) refl next
-    in sum_second _ _ _ _ _ _ (packets_still stage past (wire (before fates) past) (owed (before fates) past)) (retire_less stage (n_closes past) (n_retires past) (n_syncs past) t.1.due t.1.from) (changes_keep stage (at clock (Retire server h moment result)) past (λ m. refl) refl)
+    in sum_second _ _ _ _ _ _ (packets_still stage past (wire (before fates) past) (due_loss (before fates) past)) (retire_less stage (n_closes past) (n_retires past) (n_syncs past) t.1.due t.1.from) (changes_keep stage (at clock (Retire server h moment result)) past (λ m. refl) refl)
 weight_step fates stage past clock Sync soon next =
     let t = taken_kind (before fates) stage past (at clock Sync) refl next
-    in sum_second _ _ _ _ _ _ (packets_still stage past (wire (before fates) past) (owed (before fates) past)) (sync_less stage (n_closes past) (n_retires past) (n_syncs past) t.1.due t.1.from) (changes_keep stage (at clock Sync) past (λ m. refl) refl)
+    in sum_second _ _ _ _ _ _ (packets_still stage past (wire (before fates) past) (due_loss (before fates) past)) (sync_less stage (n_closes past) (n_retires past) (n_syncs past) t.1.due t.1.from) (changes_keep stage (at clock Sync) past (λ m. refl) refl)
 weight_step fates stage past clock (Steer k m) soon next =
     let t = taken_kind (before fates) stage past (at clock (Steer k m)) refl next
     in let fewer_packets = fewer_left (packets_from 1 stage.capture.records) (counts past (λ what. steers (call_of what))) t.1.due t.1.from
@@ -239,9 +239,9 @@ weight_step fates stage past clock (Arrive k hop server verdict) soon next =
     in sum_first _ _ _ _ _ _ (arrive_sum _ _ _ _ _ _ _ _ _ (same_left (packets_from 1 stage.capture.records) (counts past (λ what. steers (call_of what)))) first adds less) (commands_keep stage (n_closes past) (n_retires past) (n_syncs past)) (changes_keep stage (at clock (Arrive k hop server verdict)) past (λ i. refl) refl) where
       arrive_sum : (a' a w' o' w r c h o : ℕ) → a' ≡ a → w ≡ h + r → w' + o' ≤ r + c → c < h → suc (13 * a' + (w' + o')) ≤ 13 * a + (w + o)
       arrive_sum a' a w' o' w r c h o p q s t = omega arith
-weight_step fates stage past clock (Lose k hop) soon next = elim (taken (wire (before fates) past) stage past (at clock (Lose k hop)) (owed (before fates) past) next) [
+weight_step fates stage past clock (Lose k hop) soon next = elim (taken (wire (before fates) past) stage past (at clock (Lose k hop)) (due_loss (before fates) past) next) [
   | inl l ↦
-      let one : owed_weight (owed (before fates) past) ≡ 1 = ap owed_weight l.0
+      let one : loss_weight (due_loss (before fates) past) ≡ 1 = ap loss_weight l.0
       in sum_first _ _ _ _ _ _ (lose_sum _ _ _ _ (same_left (packets_from 1 stage.capture.records) (counts past (λ what. steers (call_of what)))) one) (commands_keep stage (n_closes past) (n_retires past) (n_syncs past)) (changes_keep stage (at clock (Lose k hop)) past (λ i. refl) refl)
   | inr t ↦ absurd t.1.from
 ] where
@@ -313,7 +313,7 @@ sound_weight stage sound =
     in let all : suc (length stage.script.plan.changes) - 1 ≡ length stage.script.plan.changes = omega arith
     in let commands = rw all at (few_commands stage.script.setting.shards stage.script.setting.muxes 1 (length stage.script.plan.changes) stage.script.commands sound.script.setting.shards.1 sound.script.setting.muxes.1 sound.script.versions)
     in sound_sum (length (packets_from 1 stage.capture.records)) (length stage.capture.records) (commands_weight stage []) (length stage.script.plan.changes) (stage.script.setting.muxes * length stage.script.plan.changes)
-    (length stage.script.commands) (switches_weight (length stage.script.plan.changes) [] stage.script.setting.muxes) packets sound.few_records commands sound.script.few_commands (all_switches (length stage.script.plan.changes) stage.script.setting.muxes)
+    (length stage.script.commands) (switches_weight (length stage.script.plan.changes) [] stage.script.setting.muxes) packets sound.capture.few commands sound.script.few_commands (all_switches (length stage.script.plan.changes) stage.script.setting.muxes)
 
 -- so a replay's history is short
 pub few_events : (fates : List Fate) (stage : Stage) (past : List Event) → IsSound stage → Follows fates stage past → AreSoon fates past → length past + weight fates stage past ≤ 6859840

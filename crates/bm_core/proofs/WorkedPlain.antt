@@ -1,4 +1,4 @@
--- A connection on a plain fleet: its SYN is accepted, its data processed; and data that nobody accepted is reset.
+-- A connection through the plain setting: its SYN is accepted, its data processed; and data that nobody accepted is reset.
 use Rattle.std.proofs.Common.{◌≡◌, [], ◌∷◌, Some, None, refl}
 use Rattle.std.specs.Prelude.{reverse}
 use Rattle.bm_base.specs.declared.label.Hop.TheVariants.{Direct}

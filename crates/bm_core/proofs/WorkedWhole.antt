@@ -37,7 +37,7 @@ never_drained zero s = refl
 never_drained (suc zero) s = refl
 never_drained (suc (suc n)) s = never_drained (suc n) s
 
-moved_orderly : IsOrderly moved.script.plan
+pub moved_orderly : IsOrderly moved.script.plan
 moved_orderly = record {
   known = moves_known;
   stamps = λ v w le lt. let v0 : v ≡ 0 = omega arith in let w0 : w ≡ 0 = omega arith in rw (v0, w0) (omega arith);
@@ -61,9 +61,11 @@ moved_script_sound = record {
 pub moved_sound : IsSound moved
 moved_sound = record {
   script = moved_script_sound;
-  few_records = omega arith;
-  records_rise = (omega arith, omega arith, (omega arith, omega arith, tt));
-  records_fit = ((inl (refl, refl), omega arith), ((inl (refl, refl), omega arith), tt));
+  capture = record {
+    few = omega arith;
+    rise = (omega arith, omega arith, (omega arith, omega arith, tt));
+    fit = ((inl (refl, refl), omega arith), ((inl (refl, refl), omega arith), tt));
+  };
 }
 
 moved_ends : next_event (mux_of moved.script.setting) (fate_of moved.script.setting) moved (replayed moved 9) ≡ None

@@ -1,4 +1,4 @@
--- Accounts (Beamer's design): each steerable packet is steered once, each copy that was sent arrives or is lost, and each command is carried out.
+-- Accounts (docs/DEFINITIONS.md): each steerable packet is steered once, each copy that was sent arrives or is lost, and each command is carried out.
 -- A past has its newest event first, and so have the fates, one for each event.
 use Rattle.std.specs.Prelude.{◌≡◌, ℕ, suc, ◌+◌, ◌<◌, ◌≤◌, Bool, true, false, ◌&&◌, ◌==◌, if◌then◌else◌, List, [], ◌∷◌, length, IfSome, is_some}
 use Rattle.bm_base.specs.declared.ids.ServerId.{ServerId}
@@ -15,7 +15,7 @@ use Rattle.bm_core.specs.declared.events.Event.{Event}
 use Rattle.bm_core.specs.declared.events.Stage.{Stage}
 use Rattle.bm_core.specs.Past.{segment_of, same_hop, sending_of, sends, newest}
 
--- what the route may answer for a packet of a flow, and the fault rule for a packet and a hop
+-- what the route may answer for a packet of a flow
 abbrev pub Routes : Type 1
 Routes = ℕ → Flow → ℕ → Type 0
 
@@ -85,10 +85,10 @@ AreSent fates [] = Unit {0}
 AreSent fates (e ∷ past) = ((k : ℕ) (hop : Hop) → counts (e ∷ past) (λ what. arrives what k hop) ≤ sent_copies (before fates) past k hop) × AreSent (before fates) past
 
 -- the sendings at this clock whose fate has no copies
-abbrev pub barren_at : List Fate → List Event → ℕ → Hop → ℕ → ℕ
-barren_at fates [] k hop clock = 0
-barren_at fates (e ∷ past) k hop clock =
-    (if sends e.what k hop && ((fate_now fates).copies == 0 && e.clock.0 == clock) then 1 else 0) + barren_at (before fates) past k hop clock
+abbrev pub copyless_at : List Fate → List Event → ℕ → Hop → ℕ → ℕ
+copyless_at fates [] k hop clock = 0
+copyless_at fates (e ∷ past) k hop clock =
+    (if sends e.what k hop && ((fate_now fates).copies == 0 && e.clock.0 == clock) then 1 else 0) + copyless_at (before fates) past k hop clock
 
 -- how many Loses of the packet and hop come at this clock
 abbrev pub lost_at : List Event → ℕ → Hop → ℕ → ℕ
@@ -143,7 +143,7 @@ pub record IsAccountOf (R : Routes) (F : Rules) (stage : Stage) (fates : List Fa
   -- at a mux that the route may give; each sending has a fate that the rule may give
   pub answered : AreAnswered R F stage fates all
   -- a sending without copies, and no other, has one Lose, at its clock plus one
-  pub lost : (k : ℕ) (hop : Hop) (clock : ℕ) → lost_at all k hop (suc clock) ≡ barren_at fates all k hop clock
+  pub lost : (k : ℕ) (hop : Hop) (clock : ℕ) → lost_at all k hop (suc clock) ≡ copyless_at fates all k hop clock
   -- the copies that came are those that were sent, and none came before it was sent
   pub sent : AreSent fates all
   pub arrived : (k : ℕ) (hop : Hop) → counts all (λ what. arrives what k hop) ≡ sent_copies fates all k hop

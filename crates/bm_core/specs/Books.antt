@@ -1,4 +1,4 @@
--- The turns of one shard, and what they leave in it (Beamer's design). A book has its newest turn first.
+-- The turns of one shard, and what they leave in it (docs/DEFINITIONS.md). A book has its newest turn first.
 use Rattle.std.specs.Prelude.{◌≡◌, ℕ, Bool, false, ◌&&◌, ◌||◌, ◌==◌, if◌then◌else◌, List, [], ◌∷◌, length, Option, Some, None, option_map}
 use Rattle.bm_base.specs.declared.ids.ServerId.{ServerId}
 use Rattle.bm_base.specs.declared.flow.Flow.{Flow}

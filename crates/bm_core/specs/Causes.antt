@@ -1,4 +1,4 @@
--- Which premise is broken where a packet arrives (Beamer's design). The premises are asked in one order, and the first broken one is the cause.
+-- Which premise is broken where a packet arrives (docs/DEFINITIONS.md). The premises are asked in one order, and the first broken one is the cause.
 use Rattle.std.specs.Prelude.{ℕ, ◌+◌, Bool, true, false, ◌&&◌, ◌||◌, not, ◌==◌, nat_lt, nat_le, if◌then◌else◌, List, [], ◌∷◌, Option, Some, None, is_some}
 use Rattle.bm_base.specs.declared.ids.ServerId.{ServerId}
 use Rattle.bm_base.specs.declared.flow.Flow.{Flow}

@@ -1,4 +1,4 @@
--- The histories of a replay and of a threaded run, whole (Beamer's design).
+-- The histories of a replay and of a threaded run, whole (docs/DEFINITIONS.md).
 use Rattle.std.specs.Prelude.{ℕ, List, reverse}
 use Rattle.bm_base.specs.declared.flow.Flow.{Flow}
 use Rattle.bm_base.specs.declared.receive.Fate.{Fate}

@@ -1,9 +1,10 @@
 -- What the laws say of the event at a place of a history: where premises hold the owner serves, and where a packet is refused or processed
--- elsewhere there is a cause (Beamer's design).
+-- elsewhere there is a cause (docs/DEFINITIONS.md).
 use Rattle.std.specs.Prelude.{◌≡◌, ◌≢◌, ◌==◌, ℕ, ◌+◌, ◌<◌, ◌≤◌, Bool, true, false, ◌⊎◌, List, Option, Some, None, IsSomeAnd}
 use Rattle.bm_base.specs.declared.ids.ServerId.{ServerId}
 use Rattle.bm_base.specs.declared.flow.Segment.{Segment}
 use Rattle.bm_base.specs.declared.label.Label.{Label}
+use Rattle.bm_base.specs.declared.label.Hop.{Hop}
 use Rattle.bm_base.specs.declared.label.Hop.TheVariants.{Direct}
 use Rattle.bm_core.specs.declared.events.Why.TheVariants.{Retired}
 use Rattle.bm_core.specs.declared.events.Verdict.{Verdict}
@@ -29,14 +30,15 @@ abbrev pub IsUnbrokenArrival : Stage → List Event → ℕ → What → Type 0
 IsUnbrokenArrival stage past clock (Arrive k hop server verdict) = PremisesHold stage past clock server (owner stage past k) (segment_of stage k) (label_of stage past k)
 IsUnbrokenArrival stage past clock _ = ⊥
 
--- processed by the owner's server, or forwarded to it
-abbrev pub IsServedBy : Option Accepted → ServerId → Verdict → Type 0
-IsServedBy None server verdict = ⊥
-IsServedBy (Some a) server verdict = ((is_process verdict ≡ true) × (server ≡ a.server)) ⊎ (verdict ≡ Forward a.server)
+-- processed by the owner's server, or, where it is a direct copy, forwarded to it
+abbrev pub IsServedBy : Option Accepted → Hop → ServerId → Verdict → Type 0
+IsServedBy None hop server verdict = ⊥
+IsServedBy (Some a) hop server verdict =
+    ((is_process verdict ≡ true) × (server ≡ a.server)) ⊎ ((hop ≡ Direct) × (verdict ≡ Forward a.server))
 
--- the arrival's packet is processed by its owner's server, or forwarded to it
+-- the arriving copy is processed by its owner's server, or, where it is a direct one, forwarded to it
 abbrev pub IsServed : Stage → List Event → What → Type 0
-IsServed stage past (Arrive k hop server verdict) = IsServedBy (owner stage past k) server verdict
+IsServed stage past (Arrive k hop server verdict) = IsServedBy (owner stage past k) hop server verdict
 IsServed stage past _ = ⊥
 
 -- a packet is dropped, reset or processed elsewhere
@@ -44,13 +46,14 @@ abbrev pub IsFault : Stage → List Event → What → Type 0
 IsFault stage past (Arrive k hop server verdict) = wants_cause verdict (owner stage past k) server (segment_of stage k) ≡ true
 IsFault stage past _ = ⊥
 
--- the server is not the owner's, and the bucket was moved at most once since the owner's version
+-- the server is not the owner's, the label's version is no older than the owner's, and the changes between moved the bucket at most once
 abbrev pub IsMovedAtMostOnce : Stage → ServerId → Option Accepted → Option Segment → Option Label → Type 0
 IsMovedAtMostOnce stage server (Some a) (Some s) (Some l) =
     (server ≢ a.server) × (a.version ≤ l.version.0) × (moves stage.script.plan (bucket stage s.flow) a.version l.version.0 ≤ 1)
 IsMovedAtMostOnce stage server _ _ _ = ⊥
 
--- a direct copy is dropped by a retired shard of a server other than its owner's, whose bucket was moved at most once since
+-- a direct copy is dropped by a retired shard of a server other than its owner's, by a label no older than the owner's version, since
+-- which the bucket was moved at most once
 abbrev pub IsRetiredDrop : Stage → List Event → What → Type 0
 IsRetiredDrop stage past (Arrive k Direct server (Drop Retired)) = IsMovedAtMostOnce stage server (owner stage past k) (segment_of stage k) (label_of stage past k)
 IsRetiredDrop stage past _ = ⊥
@@ -78,6 +81,6 @@ is_arrival_of _ packet = false
 abbrev pub IsUnbrokenPacket : Stage → List Event → ℕ → Type 0
 IsUnbrokenPacket stage all packet = AtEach (λ past e. is_arrival_of e.what packet ≡ true → IsUnbrokenArrival stage past e.clock.0 e.what) all
 
--- at each of its arrivals, the packet is processed by its owner's server, or forwarded to it
+-- each arriving copy of the packet is processed by its owner's server, or, where it is a direct one, forwarded to it
 abbrev pub IsServedPacket : Stage → List Event → ℕ → Type 0
 IsServedPacket stage all packet = AtEach (λ past e. is_arrival_of e.what packet ≡ true → IsServed stage past e.what) all

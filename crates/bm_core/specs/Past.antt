@@ -1,5 +1,5 @@
 -- What a list of events says, by looking back through it: versions, labels, sendings, what a server holds, and who owns a flow
--- (Beamer's design). A past has its newest event first.
+-- (docs/DEFINITIONS.md). A past has its newest event first.
 use Rattle.std.specs.Prelude.{ℕ, zero, suc, Bool, true, false, ◌&&◌, ◌||◌, not, ◌==◌, if◌then◌else◌, List, [], ◌∷◌, length, Option, Some, None, slice_get, option_map, filter}
 use Rattle.bm_base.specs.declared.ids.ServerId.{ServerId}
 use Rattle.bm_base.specs.declared.ids.MuxId.{MuxId}

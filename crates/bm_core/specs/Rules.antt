@@ -1,4 +1,4 @@
--- What the route and the fault rule of a setting answer (Beamer's design).
+-- What the route and the fault rule of a setting answer (docs/DEFINITIONS.md).
 use Rattle.std.specs.Prelude.{◌≡◌, ℕ}
 use Rattle.bm_base.specs.declared.flow.Flow.{Flow}
 use Rattle.bm_base.specs.declared.label.Hop.{Hop}

@@ -1,4 +1,4 @@
--- Which lists of events are runs (Beamer's design).
+-- Which lists of events are runs (docs/DEFINITIONS.md).
 use Rattle.std.specs.Prelude.{◌≡◌, ℕ, suc, ◌+◌, max, ◌<◌, ◌≤◌, Bool, true, false, ◌&&◌, ◌==◌, if◌then◌else◌, List, [], ◌∷◌, length, reverse, take, Option, Some, None, slice_get, is_some, IfSome, option_map}
 use Rattle.bm_base.specs.declared.ids.ServerId.{ServerId}
 use Rattle.bm_base.specs.declared.flow.Segment.{Segment}
@@ -14,7 +14,7 @@ use Rattle.bm_core.specs.declared.events.History.{History}
 use Rattle.bm_table.specs.Tables.{IsRetirement}
 use Rattle.bm_core.specs.Stages.{IsSound}
 use Rattle.bm_core.specs.Past.{segment_of, shard, timeout, newest, label_of, is_sent, is_sent_at, held}
-use Rattle.bm_base.specs.Labels.{stop}
+use Rattle.bm_base.specs.Labels.{arrives_at}
 use Rattle.bm_core.specs.Verdicts.{verdict_at}
 
 -- who keeps a clock
@@ -67,7 +67,7 @@ pub record IsArrival (stage : Stage) (past : List Event) (clock k : ℕ) (hop : 
   pub label : Label
   pub is_label : label_of stage past k ≡ Some label
   pub sent : is_sent past k hop ≡ true
-  pub place : stop label.entry hop ≡ Some server
+  pub place : arrives_at label.entry hop ≡ Some server
   pub verdict_is : verdict ≡ verdict_at stage past clock label hop server segment
 
 -- the event may come after these

@@ -1,5 +1,5 @@
 -- The history of a replay, event by event: of what can come and hasn't, the least by moment, then kind, then number comes next
--- (Beamer's design). A past has its newest event first, and so have the fates, one for each event.
+-- (docs/DEFINITIONS.md). A past has its newest event first, and so have the fates, one for each event.
 use Rattle.std.specs.Prelude.{◌≡◌, ℕ, zero, suc, ◌+◌, ◌*◌, ◌<◌, Bool, true, false, ◌&&◌, ◌||◌, ◌==◌, nat_lt, if◌then◌else◌, List, [], ◌∷◌, ◌++◌, length, slice_index_or, Option, Some, None, is_some, fold}
 use Rattle.bm_base.specs.declared.ids.ServerId.{ServerId}
 use Rattle.bm_base.specs.declared.flow.Segment.{Segment}
@@ -21,7 +21,7 @@ use Rattle.bm_core.specs.declared.schedule.Call.TheVariants.{Publishes, Switches
 use Rattle.bm_core.specs.declared.schedule.Due.{Due}
 use Rattle.bm_core.specs.declared.schedule.Underway.{Underway}
 use Rattle.bm_core.specs.Past.{is_switch_of, steerable, newest, Sending, sending_of, segment_of, label_of, held, timeout}
-use Rattle.bm_base.specs.Labels.{stop}
+use Rattle.bm_base.specs.Labels.{arrives_at}
 use Rattle.bm_core.specs.Verdicts.{verdict_at}
 use Rattle.bm_core.specs.Runs.{last_clock, next}
 use Rattle.bm_core.specs.Accounts.{counts, fate_now, before}
@@ -184,28 +184,28 @@ can_come wire stage past =
     ++ first_of (left (packets_from 1 stage.capture.records) past steers)
 
 -- the loss of a sending without copies
-abbrev pub barren : Fate → Option Sending → Option Call
-barren fate None = None
-barren fate (Some s) = if fate.copies == 0 then Some (Loses s.packet s.hop) else None
+abbrev pub loss_of_fate : Fate → Option Sending → Option Call
+loss_of_fate fate None = None
+loss_of_fate fate (Some s) = if fate.copies == 0 then Some (Loses s.packet s.hop) else None
 
 -- the Lose that has to come next
-abbrev pub owed : List Fate → List Event → Option Call
-owed fates [] = None
-owed fates (e ∷ past) = barren (fate_now fates) (sending_of e.what)
+abbrev pub due_loss : List Fate → List Event → Option Call
+due_loss fates [] = None
+due_loss fates (e ∷ past) = loss_of_fate (fate_now fates) (sending_of e.what)
 
 -- the event is this call, with the clock after the newest event and the stated moment
 abbrev pub IsLeast : List Event → Event → Option Due → Type 0
 IsLeast past e None = ⊥
 IsLeast past e (Some d) = (call_of e.what ≡ d.call) × (e.clock.0 ≡ next (last_clock past) d.moment)
 
--- the event is the loss that is owed, or else the least that can come
+-- the event is the loss that is due, or else the least that can come
 abbrev pub ComesNext : Option Call → List Due → List Event → Event → Type 0
 ComesNext (Some loss) dues past e = (call_of e.what ≡ loss) × (e.clock.0 ≡ suc (last_clock past))
 ComesNext None dues past e = IsLeast past e (least dues)
 
 -- the event comes next after these
 abbrev pub IsNextBy : List Fate → Stage → List Event → Event → Type 0
-IsNextBy fates stage past e = ComesNext (owed fates past) (can_come (wire fates past) stage past) past e
+IsNextBy fates stage past e = ComesNext (due_loss fates past) (can_come (wire fates past) stage past) past e
 
 -- these events are those of a replay, up to here
 abbrev pub Follows : List Fate → Stage → List Event → Type 0
@@ -215,7 +215,7 @@ Follows fates stage (e ∷ past) = IsNextBy (before fates) stage past e × Follo
 -- nothing is left to come
 pub record IsOver (fates : List Fate) (stage : Stage) (past : List Event) : Type 0 where
   pub none : can_come (wire fates past) stage past ≡ []
-  pub not_owed : owed fates past ≡ None
+  pub no_loss_due : due_loss fates past ≡ None
 
 -- the arrival is where the packet's label sends it, and has the verdict that the server's shard gives it
 pub record IsServing (stage : Stage) (past : List Event) (clock k : ℕ) (hop : Hop) (server : ServerId) (verdict : Verdict) : Type 0 where
@@ -223,7 +223,7 @@ pub record IsServing (stage : Stage) (past : List Event) (clock k : ℕ) (hop : 
   pub is_segment : segment_of stage k ≡ Some segment
   pub label : Label
   pub is_label : label_of stage past k ≡ Some label
-  pub place : stop label.entry hop ≡ Some server
+  pub place : arrives_at label.entry hop ≡ Some server
   pub verdict_is : verdict ≡ verdict_at stage past clock label hop server segment
 
 -- what is answered where the event comes: by the route, the tables and the shards

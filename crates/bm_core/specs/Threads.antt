@@ -1,4 +1,4 @@
--- How the history of a threaded run follows its script (Beamer's design). Worker 0 carries out the commands, in their order; worker m + 1
+-- How the history of a threaded run follows its script (docs/DEFINITIONS.md). Worker 0 carries out the commands, in their order; worker m + 1
 -- carries the packets of mux m. A phase is the time between two Syncs, at which all workers have met. A past has its newest event first,
 -- and so have the fates, one for each event.
 use Rattle.std.specs.Prelude.{◌≡◌, ℕ, zero, suc, ◌+◌, ◌<◌, ◌≤◌, max, Bool, true, false, ◌&&◌, ◌||◌, not, ◌==◌, nat_le, nat_lt, MatchBool, if◌then◌else◌, List, [], ◌∷◌, ◌⊎◌, length, slice_get, Option, Some, None, IfSome, unwrap_or}

@@ -1,4 +1,4 @@
--- What a server does with a copy of a packet (Beamer's design): the first row of a table that applies.
+-- What a server does with a copy of a packet (Olteanu et al., NSDI 2018, daisy chaining; docs/DEFINITIONS.md): the first row of a table that applies.
 use Rattle.std.specs.Prelude.{ℕ, ◌+◌, Bool, ◌&&◌, not, ◌==◌, nat_le, if◌then◌else◌, List, Option, Some, None}
 use Rattle.bm_base.specs.declared.ids.ServerId.{ServerId}
 use Rattle.bm_base.specs.declared.flow.Flow.{Flow}
@@ -16,8 +16,7 @@ use Rattle.bm_core.specs.declared.events.Verdict.TheVariants.{Accept, Process, F
 use Rattle.bm_core.specs.declared.events.Local.{Local}
 use Rattle.bm_core.specs.declared.events.Event.{Event}
 use Rattle.bm_core.specs.declared.events.Stage.{Stage}
-use Rattle.bm_base.specs.declared.flags.TheConstants.{RST}
-use Rattle.bm_base.specs.Segments.{is_opening, has_flag}
+use Rattle.bm_base.specs.Segments.{is_opening, has_flag, RST}
 use Rattle.bm_seq.specs.Receivers.{taken}
 use Rattle.bm_core.specs.Past.{Holding, held, retired, is_full, is_direct, shard, timeout}
 

@@ -1,4 +1,4 @@
--- How much of a replay is left (Beamer's design): each event takes at least one from its weight, so a replay ends.
+-- How much of a replay is left (docs/DEFINITIONS.md): each event takes at least one from its weight, so a replay ends.
 use Rattle.std.specs.Prelude.{ℕ, zero, suc, ◌+◌, ◌-◌, ◌*◌, ◌^◌, ◌≤◌, List, [], ◌∷◌, length, Option, Some, None, IfSome}
 use Rattle.bm_base.specs.declared.label.Hop.{Hop}
 use Rattle.bm_base.specs.declared.label.Hop.TheVariants.{Direct, Chained}
@@ -9,7 +9,7 @@ use Rattle.bm_core.specs.declared.schedule.Call.{Call}
 use Rattle.bm_core.specs.declared.schedule.Underway.{Underway}
 use Rattle.bm_core.specs.Past.{is_switch_of, newest, sending_of}
 use Rattle.bm_core.specs.Accounts.{counts, fate_now, before}
-use Rattle.bm_core.specs.Schedule.{wire, owed, left, close_commands, retire_commands, sync_commands, packets_from, closes, retires, syncs, steers}
+use Rattle.bm_core.specs.Schedule.{wire, due_loss, left, close_commands, retire_commands, sync_commands, packets_from, closes, retires, syncs, steers}
 
 -- at most three copies, each delayed at most a minute
 abbrev pub IsSoon : Fate → Type 0
@@ -29,13 +29,13 @@ abbrev pub wire_weight : List Underway → ℕ
 wire_weight [] = 0
 wire_weight (u ∷ w) = hop_weight u.hop + wire_weight w
 
-abbrev pub owed_weight : Option Call → ℕ
-owed_weight None = 0
-owed_weight (Some loss) = 1
+abbrev pub loss_weight : Option Call → ℕ
+loss_weight None = 0
+loss_weight (Some loss) = 1
 
--- the packets that are left, each with a Steer and three direct copies, the copies under way, and a loss that is owed
+-- the packets that are left, each with a Steer and three direct copies, the copies under way, and a loss that is due
 abbrev pub packets_weight : ℕ → List Underway → Option Call → ℕ
-packets_weight packets w loss = 13 * packets + (wire_weight w + owed_weight loss)
+packets_weight packets w loss = 13 * packets + (wire_weight w + loss_weight loss)
 
 -- the Switches that the first n muxes have left, of so many
 abbrev pub switches_weight : ℕ → List Event → ℕ → ℕ
@@ -57,5 +57,5 @@ changes_weight stage past =
 -- at most so many events are left
 abbrev pub weight : List Fate → Stage → List Event → ℕ
 weight fates stage past =
-    packets_weight (length (left (packets_from 1 stage.capture.records) past steers)) (wire fates past) (owed fates past)
+    packets_weight (length (left (packets_from 1 stage.capture.records) past steers)) (wire fates past) (due_loss fates past)
     + (commands_weight stage past + changes_weight stage past)

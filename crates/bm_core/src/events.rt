@@ -1,5 +1,8 @@
 //! The events of a history.
-use bm_base::{Capture, Flow, Hop, List, Moment, MuxId, ServerId, Taken, Version};
+ghost use Rattle.std.specs.Prelude.{◌≡◌};
+ghost use Rattle.bm_core.specs.Past as past;
+
+use bm_base::{Body, Capture, Flow, Hop, List, Moment, MuxId, Segment, ServerId, Taken, Version};
 use bm_seq::Receiver;
 use bm_table::{Retirement, Script};
 
@@ -93,6 +96,19 @@ pub enum Cause {
 pub struct Stage {
     pub script: Script,
     pub capture: Capture,
+}
+
+impl Stage {
+    /// The segment of the packet of this number, counted from 1, where it is steered.
+    pub fn segment(&self, packet: u32) -> Option<Segment>
+        ensures { result ≡ past.segment_of self.now packet }
+    {
+        let place = packet.checked_sub(1)? as usize;
+        match self.capture.records.items().get(place)?.body {
+            Body::Steerable(segment) => Some(segment),
+            Body::Unsteered(_) => None,
+        }
+    }
 }
 
 /// What happened, in order.

@@ -26,16 +26,17 @@ ghost use Rattle.bm_core.specs.Weights.{AreSoon};
 
 use crate::{History, Stage};
 
-/// A packet whose premises hold where it arrives is processed by its owner's server, or forwarded
-/// to it.
+/// A packet whose premises hold where a copy of it arrives is processed by its owner's server, or,
+/// where it is a direct copy, forwarded to it.
 pub fn safety(h: &History, place: usize)
     requires run { IsRun h.now }
     requires unbroken { At h.now place IsUnbrokenArrival }
     ensures { At h.now place (λ stage past clock what. IsServed stage past what) }
 {}
 
-/// A packet whose premises hold at all its arrivals is processed by its owner's server and by no
-/// other, and is never dropped or reset.
+/// A packet whose premises hold at all its arrivals is at each of them processed by its owner's
+/// server or, as a direct copy, forwarded to it: no other server processes it, and none drops or
+/// resets it.
 pub fn served(h: &History, packet: u32)
     requires run { IsRun h.now }
     requires unbroken { IsUnbrokenPacket h.now.stage (reverse h.now.events) packet }
@@ -56,14 +57,16 @@ pub fn only_faults(stage: &Stage)
 {}
 
 /// What a retired shard drops comes late: the clock is past the stamp of its label by more than the
-/// timeout.
+/// timeout. This is said of a direct copy at a server that isn't its owner's, by a label no older than
+/// the owner's version, since which the bucket moved at most once.
 pub fn retired_late(h: &History, place: usize)
     requires run { IsRun h.now }
     requires dropped { At h.now place (λ stage past clock what. IsRetiredDrop stage past what) }
     ensures { At h.now place IsLate }
 {}
 
-/// A connection whose packets keep to the premises is served by the server that accepted it.
+/// A connection whose packets keep to the premises is served by the server that accepted it: each
+/// copy of its other packets is processed there or, as a direct copy, forwarded there.
 pub fn pinned(h: &History, packet: u32)
     requires { IsRun h.now }
     ensures { (pin : IsPinned h.now.stage (reverse h.now.events) packet)
@@ -94,9 +97,9 @@ pub fn one_next(stage: &Stage)
         → a ≡ b }
 {}
 
-/// A replay of a sound stage, whose sendings have few copies that are due soon, has at most 13
-/// events for each of 200,000 packets and 65 for each of 65,536 commands, and its clocks are at
-/// most 5 × 10^18.
+/// A replay of a sound stage, whose sendings have at most three copies each, a minute late at most,
+/// has at most 13 events for each of 200,000 packets and 65 for each of 65,536 commands, and its
+/// clocks are at most 5 × 10^18 nanoseconds.
 pub fn short_replay(stage: &Stage)
     requires { IsSound stage.now }
     ensures events { (fates : List Fate) (past : List Event)
@@ -121,7 +124,7 @@ pub fn held_flows(stage: &Stage)
     ensures once { (past : List Event) (s : ServerId) (h : ℕ) → AreDistinct (flows_held stage.now past s h) }
 {}
 
-/// A mux's version, and the label of its packets, are what the mux's own log says.
+/// A mux's version, and the label of each packet that has one, are what the mux's own log says.
 pub fn mux_log(stage: &Stage)
     ensures version { (past : List Event) (m : MuxId)
         → version_at (log_of stage.now past (MuxOf m.0)) m ≡ version_at past m }

@@ -2,6 +2,7 @@ use super::*;
 use bm_base::{Capture, Flow, Hop, List, Moment, MuxId, Segment, ServerId, Tag, Taken, Version};
 use bm_seq::Receiver;
 use bm_table::{Plan, Script, Setting};
+use std::process::Abort;
 use std::test::Fail;
 
 const SYN: u8 = 0x02;
@@ -22,14 +23,6 @@ const FINISHED: Receiver = Receiver {
     finished: true,
 };
 
-fn local(retired: bool, held: Option<Receiver>, full: bool) -> Local {
-    Local {
-        retired,
-        held,
-        full,
-    }
-}
-
 fn flow() -> Flow {
     Flow {
         src: 0x0a00_0001,
@@ -39,109 +32,37 @@ fn flow() -> Flow {
     }
 }
 
-// A bucket went from server 1 to server 2 at 500, and the timeout is a second.
-#[test]
-fn a_verdict_is_the_first_row_that_applies(rt: HostRuntime) {
-    let empty = local(false, None, false);
-    let moved = (Hop::Direct, Some(ServerId(1)));
-    let unmoved = (Hop::Direct, None);
-    let chained = (Hop::Chained, Some(ServerId(1)));
-    // local, hop and previous server, flags, sequence number and length, clock
-    let rows: [(Local, (Hop, Option<ServerId>), (u8, u32, u16), u64, Verdict); 14] = [
-        (
-            local(true, None, true),
-            unmoved,
-            (SYN, 100, 1),
-            1,
-            Verdict::Drop(Why::Retired),
-        ),
-        (empty, moved, (SYN, 100, 1), 1_002, Verdict::Accept),
-        (
-            local(false, None, true),
-            moved,
-            (SYN, 100, 1),
-            1_002,
-            Verdict::Drop(Why::Full),
-        ),
-        (
-            local(false, Some(OPEN), true),
-            moved,
-            (SYN, 100, 1),
-            1_002,
-            Verdict::Process(Taken::Duplicate),
-        ),
-        (
-            local(false, Some(OPEN), true),
-            moved,
-            (SYN, 900, 1),
-            1_002,
-            Verdict::Process(Taken::Challenge),
-        ),
-        (
-            local(false, Some(FINISHED), true),
-            moved,
-            (SYN, 900, 1),
-            1_002,
-            Verdict::Accept,
-        ),
-        (
-            local(false, Some(OPEN), false),
-            chained,
-            (PSH_ACK, 101, 10),
-            1_003,
-            Verdict::Process(Taken::Advance),
-        ),
-        (
-            empty,
-            moved,
-            (PSH_ACK, 101, 10),
-            1_000_000_500,
-            Verdict::Forward(ServerId(1)),
-        ),
-        (
-            empty,
-            moved,
-            (PSH_ACK, 111, 10),
-            1_000_000_501,
-            Verdict::Reset(Why::ChainExpired),
-        ),
-        (
-            empty,
-            chained,
-            (PSH_ACK, 101, 10),
-            1_003,
-            Verdict::Reset(Why::ChainedUnknown),
-        ),
-        (
-            empty,
-            unmoved,
-            (PSH_ACK, 101, 10),
-            2,
-            Verdict::Reset(Why::NoPrevious),
-        ),
-        (
-            empty,
-            unmoved,
-            (RST, 101, 0),
-            5_002,
-            Verdict::Drop(Why::Silent),
-        ),
-        (
-            empty,
-            moved,
-            (RST, 101, 0),
-            1_002,
-            Verdict::Forward(ServerId(1)),
-        ),
-        (
-            empty,
-            chained,
-            (RST, 101, 0),
-            1_003,
-            Verdict::Drop(Why::Silent),
-        ),
-    ];
-    for (known, (hop, prev), (flags, seq, len), clock, want) in rows {
+/// What a shard knows, the hop and the previous server, the flags, sequence number and length, the
+/// clock, and the verdict.
+type Row = (Local, (Hop, Option<ServerId>), (u8, u32, u16), u64, Verdict);
+
+const MOVED: (Hop, Option<ServerId>) = (Hop::Direct, Some(ServerId(1)));
+
+const UNMOVED: (Hop, Option<ServerId>) = (Hop::Direct, None);
+
+const CHAINED: (Hop, Option<ServerId>) = (Hop::Chained, Some(ServerId(1)));
+
+const OPENING: (u8, u32, u16) = (SYN, 100, 1);
+
+const OTHER: (u8, u32, u16) = (SYN, 900, 1);
+
+const DATA: (u8, u32, u16) = (PSH_ACK, 101, 10);
+
+const END: (u8, u32, u16) = (RST, 101, 0);
+
+fn knows(held: Option<Receiver>, full: bool) -> Local {
+    let retired = false;
+    Local {
+        retired,
+        held,
+        full,
+    }
+}
+
+/// Tests the verdicts where a bucket went from server 1 to server 2 at 500, and the timeout is a
+/// second.
+fn check(rt: &impl Abort, rows: &[Row]) {
+    for &(known, (hop, prev), (flags, seq, len), clock, want) in rows {
         let tag = Tag {
             hop,
             dest: ServerId(2),
@@ -160,6 +81,54 @@ fn a_verdict_is_the_first_row_that_applies(rt: HostRuntime) {
         let got = decide(&known, &tag, &segment, Moment(clock), 1_000_000_000);
         assert_eq!(rt; got, want, "at {known:?} {tag:?} {segment:?}");
     }
+}
+
+#[test]
+fn an_opening_segment_is_accepted_or_dropped(rt: HostRuntime) {
+    let mut retired = knows(None, true);
+    retired.retired = true;
+    let free = knows(None, false);
+    let full = knows(None, true);
+    let finished = knows(Some(FINISHED), true);
+    let rows = [
+        (retired, UNMOVED, OPENING, 1, Verdict::Drop(Why::Retired)),
+        (free, MOVED, OPENING, 1_002, Verdict::Accept),
+        (full, MOVED, OPENING, 1_002, Verdict::Drop(Why::Full)),
+        (finished, MOVED, OTHER, 1_002, Verdict::Accept),
+    ];
+    check(&rt, &rows);
+}
+
+#[test]
+fn a_held_connection_processes(rt: HostRuntime) {
+    let duplicate = Verdict::Process(Taken::Duplicate);
+    let challenge = Verdict::Process(Taken::Challenge);
+    let advance = Verdict::Process(Taken::Advance);
+    let open = knows(Some(OPEN), true);
+    let rows = [
+        (open, MOVED, OPENING, 1_002, duplicate),
+        (open, MOVED, OTHER, 1_002, challenge),
+        (knows(Some(OPEN), false), CHAINED, DATA, 1_003, advance),
+    ];
+    check(&rt, &rows);
+}
+
+#[test]
+fn a_segment_of_no_connection_is_passed_on_or_refused(rt: HostRuntime) {
+    let empty = knows(None, false);
+    let forward = Verdict::Forward(ServerId(1));
+    let expired = Verdict::Reset(Why::ChainExpired);
+    let unknown = Verdict::Reset(Why::ChainedUnknown);
+    let rows = [
+        (empty, MOVED, DATA, 1_000_000_500, forward),
+        (empty, MOVED, (PSH_ACK, 111, 10), 1_000_000_501, expired),
+        (empty, CHAINED, DATA, 1_003, unknown),
+        (empty, UNMOVED, DATA, 2, Verdict::Reset(Why::NoPrevious)),
+        (empty, UNMOVED, END, 5_002, Verdict::Drop(Why::Silent)),
+        (empty, MOVED, END, 1_002, forward),
+        (empty, CHAINED, END, 1_003, Verdict::Drop(Why::Silent)),
+    ];
+    check(&rt, &rows);
 }
 
 #[test]

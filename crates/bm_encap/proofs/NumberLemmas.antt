@@ -43,7 +43,7 @@ front8 (a ∷ b ∷ c ∷ d ∷ e ∷ f ∷ []) v len are is = absurd (omega ari
 front8 (a ∷ b ∷ c ∷ d ∷ e ∷ f ∷ g ∷ []) v len are is = absurd (omega arith)
 front8 (a ∷ b ∷ c ∷ d ∷ e ∷ f ∷ g ∷ h ∷ xs) v len are is = ap (λ (ys : List ℕ). ys ++ xs) (sym (be_bytes_8 (a ∷ b ∷ c ∷ d ∷ e ∷ f ∷ g ∷ h ∷ []) v refl (octets_front 8 (a ∷ b ∷ c ∷ d ∷ e ∷ f ∷ g ∷ h ∷ xs) are) (sym is ∙ omega arith)))
 
-octets_from : (n : ℕ) (xs : List ℕ) → AreOctets xs → AreOctets (drop n xs)
+pub octets_from : (n : ℕ) (xs : List ℕ) → AreOctets xs → AreOctets (drop n xs)
 octets_from n xs are i = subst (λ (x : ℕ). x < 256) (sym (get_or-drop n xs i 0)) (are (n + i))
 
 -- A NUMBER AT ITS PLACE SPELLS ITS OCTETS

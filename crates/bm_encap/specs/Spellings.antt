@@ -1,4 +1,4 @@
--- The carrier header of a tag (Beamer's design): an IPv4 header (RFC 791) with one option of 24 octets.
+-- The carrier header of a tag (docs/FORMATS.md): an IPv4 header (RFC 791) with one option of 24 octets.
 use Rattle.std.specs.Prelude.{ℕ, ◌+◌, List, [], ◌∷◌, ◌++◌, length, Option, Some, None}
 use Rattle.byteorder.specs.Endian.{big_bytes}
 use Rattle.bm_base.specs.declared.ids.ServerId.{ServerId}

@@ -1,3 +1,4 @@
+//! Why octets carry no tag.
 use thiserror::Error;
 
 /// Why octets are no carrier header with a packet: the first of these that stands. The numbers are

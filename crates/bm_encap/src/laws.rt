@@ -1,6 +1,6 @@
-//! What the definitions of carrier headers mean. Each law is a function that does nothing: its
-//! contract is the law.
-ghost use Rattle.std.specs.Prelude.{◌≡◌, ◌<◌, ◌≤◌, ◌^◌, length, Ok, IfOk};
+//! What the definitions of carrier headers mean. Each law is a function that does nothing, or that
+//! reads numbers for the bounds of their types: its contract is the law.
+ghost use Rattle.std.specs.Prelude.{◌≡◌, ◌≤◌, length, Ok, IfOk};
 ghost use Rattle.bm_encap.specs.Faults.{unwrapped};
 ghost use Rattle.bm_encap.specs.Spellings.{spelling};
 ghost use Rattle.bm_base.specs.Tags.{IsTag};
@@ -8,13 +8,15 @@ ghost use Rattle.bm_base.specs.Tags.{IsTag};
 use bm_base::Tag;
 
 /// The spelling of a valid tag has no fault, and says the tag and the packet. So no octets spell two
-/// tags. The stamp and the version are of 64 and 32 bits, as their types are.
+/// tags.
 pub fn spelling_is_read(tag: &Tag, inner: &[u8])
     requires tag { IsTag tag.now }
-    requires fits { (tag.now.stamp.0 < 2 ^ 64) × (tag.now.version.0 < 2 ^ 32) }
     requires inner { length inner.now ≤ 65491 }
     ensures { unwrapped (spelling tag.now inner.now) ≡ Ok (tag.now, inner.now) }
-{}
+{
+    let _stamp = tag.stamp.0;
+    let _version = tag.version.0;
+}
 
 /// Octets without a fault are the spelling of what they say, and their tag is valid.
 pub fn only_spellings_are_read(octets: &[u8])

@@ -51,14 +51,11 @@ fn mend(octets: &mut [u8; 94]) {
     octets[11] = low;
 }
 
+/// What is wrong where an octet of these places, both ends included, is changed.
+type Row = (usize, usize, Option<EncapFault>);
+
 // At each place of a range, the header with that octet changed has this fault.
-fn assert_damaged(
-    rt: &impl Abort,
-    header: &[u8; 44],
-    mended: bool,
-    change: u8,
-    rows: &[(usize, usize, Option<EncapFault>)],
-) {
+fn assert_damaged(rt: &impl Abort, header: &[u8; 44], mended: bool, change: u8, rows: &[Row]) {
     for (first, last, want) in rows {
         for place in *first..last.saturating_add(1) {
             let mut octets = packet(header);
@@ -73,236 +70,112 @@ fn assert_damaged(
     }
 }
 
-#[test]
-fn an_octet_is_changed_01(rt: HostRuntime) {
-    let rows = [
-        (0, 0, Some(BadOuter(0))),
-        (1, 1, Some(BadOuter(1))),
-        (2, 3, Some(BadSum)),
-        (4, 4, Some(BadOuter(4))),
-        (5, 5, Some(BadOuter(5))),
-        (6, 6, Some(BadOuter(6))),
-        (7, 7, Some(BadOuter(7))),
-        (8, 8, Some(BadOuter(8))),
-        (9, 9, Some(BadOuter(9))),
-        (10, 11, Some(BadSum)),
-        (12, 14, Some(BadOuter(12))),
-        (15, 15, Some(BadSum)),
-        (16, 17, Some(BadOuter(16))),
-        (18, 43, Some(BadSum)),
-    ];
-    assert_damaged(&rt, &DIRECT, false, 0x01, &rows);
-}
+// Octets that are always the same, whether or not the checksum is made right.
+const FIXED: [Row; 8] = [
+    (0, 0, Some(BadOuter(0))),
+    (1, 1, Some(BadOuter(1))),
+    (4, 4, Some(BadOuter(4))),
+    (5, 5, Some(BadOuter(5))),
+    (6, 6, Some(BadOuter(6))),
+    (7, 7, Some(BadOuter(7))),
+    (8, 8, Some(BadOuter(8))),
+    (9, 9, Some(BadOuter(9))),
+];
+
+const DAMAGED_01: [Row; 6] = [
+    (2, 3, Some(BadSum)),
+    (10, 11, Some(BadSum)),
+    (12, 14, Some(BadOuter(12))),
+    (15, 15, Some(BadSum)),
+    (16, 17, Some(BadOuter(16))),
+    (18, 43, Some(BadSum)),
+];
+
+const DAMAGED_80_FF: [Row; 5] = [
+    (2, 3, Some(BadSum)),
+    (10, 11, Some(BadSum)),
+    (12, 15, Some(BadOuter(12))),
+    (16, 18, Some(BadOuter(16))),
+    (19, 43, Some(BadSum)),
+];
 
 #[test]
-fn an_octet_is_changed_80(rt: HostRuntime) {
-    let rows = [
-        (0, 0, Some(BadOuter(0))),
-        (1, 1, Some(BadOuter(1))),
-        (2, 3, Some(BadSum)),
-        (4, 4, Some(BadOuter(4))),
-        (5, 5, Some(BadOuter(5))),
-        (6, 6, Some(BadOuter(6))),
-        (7, 7, Some(BadOuter(7))),
-        (8, 8, Some(BadOuter(8))),
-        (9, 9, Some(BadOuter(9))),
-        (10, 11, Some(BadSum)),
-        (12, 15, Some(BadOuter(12))),
-        (16, 18, Some(BadOuter(16))),
-        (19, 43, Some(BadSum)),
-    ];
-    assert_damaged(&rt, &DIRECT, false, 0x80, &rows);
+fn an_octet_is_changed(rt: HostRuntime) {
+    for change in [0x01, 0x80, 0xff] {
+        assert_damaged(&rt, &DIRECT, false, change, &FIXED);
+    }
+    assert_damaged(&rt, &DIRECT, false, 0x01, &DAMAGED_01);
+    assert_damaged(&rt, &DIRECT, false, 0x80, &DAMAGED_80_FF);
+    assert_damaged(&rt, &DIRECT, false, 0xff, &DAMAGED_80_FF);
 }
 
-#[test]
-fn an_octet_is_changed_ff(rt: HostRuntime) {
-    let rows = [
-        (0, 0, Some(BadOuter(0))),
-        (1, 1, Some(BadOuter(1))),
-        (2, 3, Some(BadSum)),
-        (4, 4, Some(BadOuter(4))),
-        (5, 5, Some(BadOuter(5))),
-        (6, 6, Some(BadOuter(6))),
-        (7, 7, Some(BadOuter(7))),
-        (8, 8, Some(BadOuter(8))),
-        (9, 9, Some(BadOuter(9))),
-        (10, 11, Some(BadSum)),
-        (12, 15, Some(BadOuter(12))),
-        (16, 18, Some(BadOuter(16))),
-        (19, 43, Some(BadSum)),
-    ];
-    assert_damaged(&rt, &DIRECT, false, 0xff, &rows);
-}
+// The same for both headers, where the checksum is made right.
+const MENDED: [Row; 6] = [
+    (2, 3, Some(BadLength)),
+    (10, 11, None),
+    (20, 20, Some(BadOption(20))),
+    (21, 21, Some(BadOption(21))),
+    (40, 41, Some(BadOption(40))),
+    (42, 43, Some(BadOption(42))),
+];
+
+const DIRECT_01: [Row; 8] = [
+    (12, 14, Some(BadOuter(12))),
+    (15, 15, Some(BadOption(40))),
+    (16, 17, Some(BadOuter(16))),
+    (18, 19, None),
+    (22, 25, Some(BadOption(24))),
+    (26, 26, None),
+    (27, 27, Some(BadOption(24))),
+    (28, 39, None),
+];
+
+const DIRECT_80_FF: [Row; 7] = [
+    (12, 15, Some(BadOuter(12))),
+    (16, 18, Some(BadOuter(16))),
+    (19, 19, None),
+    (22, 22, Some(BadOption(22))),
+    (23, 23, Some(BadOption(23))),
+    (24, 26, Some(BadOption(24))),
+    (27, 39, None),
+];
+
+const CHAINED_01: [Row; 9] = [
+    (12, 14, Some(BadOuter(12))),
+    (15, 15, Some(BadOption(40))),
+    (16, 17, Some(BadOuter(16))),
+    (18, 18, Some(BadOption(24))),
+    (19, 19, Some(BadOuter(16))),
+    (22, 22, Some(BadOption(24))),
+    (23, 23, Some(BadOption(23))),
+    (24, 27, Some(BadOption(24))),
+    (28, 39, None),
+];
+
+const CHAINED_80_FF: [Row; 7] = [
+    (12, 15, Some(BadOuter(12))),
+    (16, 18, Some(BadOuter(16))),
+    (19, 19, Some(BadOption(24))),
+    (22, 22, Some(BadOption(22))),
+    (23, 23, Some(BadOption(23))),
+    (24, 27, Some(BadOption(24))),
+    (28, 39, None),
+];
 
 #[test]
-fn an_octet_is_changed_and_the_checksum_too_01(rt: HostRuntime) {
-    let rows = [
-        (0, 0, Some(BadOuter(0))),
-        (1, 1, Some(BadOuter(1))),
-        (2, 3, Some(BadLength)),
-        (4, 4, Some(BadOuter(4))),
-        (5, 5, Some(BadOuter(5))),
-        (6, 6, Some(BadOuter(6))),
-        (7, 7, Some(BadOuter(7))),
-        (8, 8, Some(BadOuter(8))),
-        (9, 9, Some(BadOuter(9))),
-        (10, 11, None),
-        (12, 14, Some(BadOuter(12))),
-        (15, 15, Some(BadOption(40))),
-        (16, 17, Some(BadOuter(16))),
-        (18, 19, None),
-        (20, 20, Some(BadOption(20))),
-        (21, 21, Some(BadOption(21))),
-        (22, 25, Some(BadOption(24))),
-        (26, 26, None),
-        (27, 27, Some(BadOption(24))),
-        (28, 39, None),
-        (40, 41, Some(BadOption(40))),
-        (42, 43, Some(BadOption(42))),
-    ];
-    assert_damaged(&rt, &DIRECT, true, 0x01, &rows);
-}
-
-#[test]
-fn an_octet_is_changed_and_the_checksum_too_80(rt: HostRuntime) {
-    let rows = [
-        (0, 0, Some(BadOuter(0))),
-        (1, 1, Some(BadOuter(1))),
-        (2, 3, Some(BadLength)),
-        (4, 4, Some(BadOuter(4))),
-        (5, 5, Some(BadOuter(5))),
-        (6, 6, Some(BadOuter(6))),
-        (7, 7, Some(BadOuter(7))),
-        (8, 8, Some(BadOuter(8))),
-        (9, 9, Some(BadOuter(9))),
-        (10, 11, None),
-        (12, 15, Some(BadOuter(12))),
-        (16, 18, Some(BadOuter(16))),
-        (19, 19, None),
-        (20, 20, Some(BadOption(20))),
-        (21, 21, Some(BadOption(21))),
-        (22, 22, Some(BadOption(22))),
-        (23, 23, Some(BadOption(23))),
-        (24, 26, Some(BadOption(24))),
-        (27, 39, None),
-        (40, 41, Some(BadOption(40))),
-        (42, 43, Some(BadOption(42))),
-    ];
-    assert_damaged(&rt, &DIRECT, true, 0x80, &rows);
-}
-
-#[test]
-fn an_octet_is_changed_and_the_checksum_too_ff(rt: HostRuntime) {
-    let rows = [
-        (0, 0, Some(BadOuter(0))),
-        (1, 1, Some(BadOuter(1))),
-        (2, 3, Some(BadLength)),
-        (4, 4, Some(BadOuter(4))),
-        (5, 5, Some(BadOuter(5))),
-        (6, 6, Some(BadOuter(6))),
-        (7, 7, Some(BadOuter(7))),
-        (8, 8, Some(BadOuter(8))),
-        (9, 9, Some(BadOuter(9))),
-        (10, 11, None),
-        (12, 15, Some(BadOuter(12))),
-        (16, 18, Some(BadOuter(16))),
-        (19, 19, None),
-        (20, 20, Some(BadOption(20))),
-        (21, 21, Some(BadOption(21))),
-        (22, 22, Some(BadOption(22))),
-        (23, 23, Some(BadOption(23))),
-        (24, 26, Some(BadOption(24))),
-        (27, 39, None),
-        (40, 41, Some(BadOption(40))),
-        (42, 43, Some(BadOption(42))),
-    ];
-    assert_damaged(&rt, &DIRECT, true, 0xff, &rows);
-}
-
-#[test]
-fn an_octet_of_a_chained_header_is_changed_and_the_checksum_too_01(rt: HostRuntime) {
-    let rows = [
-        (0, 0, Some(BadOuter(0))),
-        (1, 1, Some(BadOuter(1))),
-        (2, 3, Some(BadLength)),
-        (4, 4, Some(BadOuter(4))),
-        (5, 5, Some(BadOuter(5))),
-        (6, 6, Some(BadOuter(6))),
-        (7, 7, Some(BadOuter(7))),
-        (8, 8, Some(BadOuter(8))),
-        (9, 9, Some(BadOuter(9))),
-        (10, 11, None),
-        (12, 14, Some(BadOuter(12))),
-        (15, 15, Some(BadOption(40))),
-        (16, 17, Some(BadOuter(16))),
-        (18, 18, Some(BadOption(24))),
-        (19, 19, Some(BadOuter(16))),
-        (20, 20, Some(BadOption(20))),
-        (21, 21, Some(BadOption(21))),
-        (22, 22, Some(BadOption(24))),
-        (23, 23, Some(BadOption(23))),
-        (24, 27, Some(BadOption(24))),
-        (28, 39, None),
-        (40, 41, Some(BadOption(40))),
-        (42, 43, Some(BadOption(42))),
-    ];
-    assert_damaged(&rt, &CHAINED, true, 0x01, &rows);
-}
-
-#[test]
-fn an_octet_of_a_chained_header_is_changed_and_the_checksum_too_80(rt: HostRuntime) {
-    let rows = [
-        (0, 0, Some(BadOuter(0))),
-        (1, 1, Some(BadOuter(1))),
-        (2, 3, Some(BadLength)),
-        (4, 4, Some(BadOuter(4))),
-        (5, 5, Some(BadOuter(5))),
-        (6, 6, Some(BadOuter(6))),
-        (7, 7, Some(BadOuter(7))),
-        (8, 8, Some(BadOuter(8))),
-        (9, 9, Some(BadOuter(9))),
-        (10, 11, None),
-        (12, 15, Some(BadOuter(12))),
-        (16, 18, Some(BadOuter(16))),
-        (19, 19, Some(BadOption(24))),
-        (20, 20, Some(BadOption(20))),
-        (21, 21, Some(BadOption(21))),
-        (22, 22, Some(BadOption(22))),
-        (23, 23, Some(BadOption(23))),
-        (24, 27, Some(BadOption(24))),
-        (28, 39, None),
-        (40, 41, Some(BadOption(40))),
-        (42, 43, Some(BadOption(42))),
-    ];
-    assert_damaged(&rt, &CHAINED, true, 0x80, &rows);
-}
-
-#[test]
-fn an_octet_of_a_chained_header_is_changed_and_the_checksum_too_ff(rt: HostRuntime) {
-    let rows = [
-        (0, 0, Some(BadOuter(0))),
-        (1, 1, Some(BadOuter(1))),
-        (2, 3, Some(BadLength)),
-        (4, 4, Some(BadOuter(4))),
-        (5, 5, Some(BadOuter(5))),
-        (6, 6, Some(BadOuter(6))),
-        (7, 7, Some(BadOuter(7))),
-        (8, 8, Some(BadOuter(8))),
-        (9, 9, Some(BadOuter(9))),
-        (10, 11, None),
-        (12, 15, Some(BadOuter(12))),
-        (16, 18, Some(BadOuter(16))),
-        (19, 19, Some(BadOption(24))),
-        (20, 20, Some(BadOption(20))),
-        (21, 21, Some(BadOption(21))),
-        (22, 22, Some(BadOption(22))),
-        (23, 23, Some(BadOption(23))),
-        (24, 27, Some(BadOption(24))),
-        (28, 39, None),
-        (40, 41, Some(BadOption(40))),
-        (42, 43, Some(BadOption(42))),
-    ];
-    assert_damaged(&rt, &CHAINED, true, 0xff, &rows);
+fn an_octet_is_changed_and_the_checksum_too(rt: HostRuntime) {
+    for header in [&DIRECT, &CHAINED] {
+        for change in [0x01, 0x80, 0xff] {
+            assert_damaged(&rt, header, true, change, &FIXED);
+            assert_damaged(&rt, header, true, change, &MENDED);
+        }
+    }
+    assert_damaged(&rt, &DIRECT, true, 0x01, &DIRECT_01);
+    assert_damaged(&rt, &DIRECT, true, 0x80, &DIRECT_80_FF);
+    assert_damaged(&rt, &DIRECT, true, 0xff, &DIRECT_80_FF);
+    assert_damaged(&rt, &CHAINED, true, 0x01, &CHAINED_01);
+    assert_damaged(&rt, &CHAINED, true, 0x80, &CHAINED_80_FF);
+    assert_damaged(&rt, &CHAINED, true, 0xff, &CHAINED_80_FF);
 }
 
 #[test]

@@ -1,4 +1,4 @@
--- What fault rows say of a sending (Beamer's design).
+-- What fault rows say of a sending (docs/FORMATS.md).
 use Rattle.std.specs.Prelude.{ℕ, Bool, true, false, ◌&&◌, ◌==◌, if◌then◌else◌, List, [], ◌∷◌, Option, Some, None}
 use Rattle.bm_base.specs.declared.label.Hop.{Hop}
 use Rattle.bm_base.specs.declared.label.Hop.TheVariants.{Direct, Chained}

@@ -35,7 +35,8 @@ impl Model for FaultRows {
 }
 
 impl FaultRows {
-    /// The rows that count: of two with the same packet and hop, the first. Takes time in proportion to n log n.
+    /// The rows that count: of two with the same packet and hop, the first. `Memory` where memory was
+    /// refused. Takes time in proportion to n log n, which no clause says.
     pub fn new(alloc: Global, rows: &[FaultRow]) -> Result<FaultRows, Memory>
         ensures { IfOk result (λ kept. (packet : ℕ) (hop : _) → fate_in kept packet hop ≡ fate_in rows.now packet hop) }
     {

@@ -1,18 +1,21 @@
 -- When a fault may be answered.
-use Rattle.std.specs.Prelude.{ℕ, ◌+◌, ◌-◌, ◌^◌, ◌≤◌, min, Result, OnErr, IsErrOf}
+use Rattle.std.specs.Prelude.{◌≡◌, ℕ, ◌+◌, ◌-◌, ◌^◌, ◌≤◌, min, Result, OnErr, OnOk, IsErrOf}
 use Rattle.bm_io.specs.declared.fault.IoFault.{IoFault}
-use Rattle.bm_io.specs.declared.fault.IoFault.TheVariants.{Failed}
+use Rattle.bm_io.specs.declared.fault.IoFault.TheVariants.{Failed, Memory}
 
 -- The count went up, or it stands at the end of its type.
 abbrev pub Rose : ℕ → ℕ → Type 0
 Rose before now = min (before + 1) (2 ^ 64 - 1) ≤ now
 
--- The count doesn't fall, and an error is answered only where it rose.
+-- The count rises where an error is answered, and stays elsewhere.
 pub record HasCause {T E : Type 0} (before now : ℕ) (result : Result T E) : Type 0 where
   pub later : before ≤ now
   pub failed : OnErr result (Rose before now)
+  pub kept : OnOk result (now ≡ before)
 
--- The count doesn't fall, and `Failed` is answered only where it rose.
+-- The count rises where `Failed` is answered, and stays elsewhere.
 pub record HasIoCause {T : Type 0} (before now : ℕ) (result : Result T IoFault) : Type 0 where
   pub later : before ≤ now
   pub failed : IsErrOf result Failed → Rose before now
+  pub kept : OnOk result (now ≡ before)
+  pub memory : IsErrOf result Memory → now ≡ before

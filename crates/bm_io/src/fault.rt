@@ -1,3 +1,4 @@
+//! Why a read, a write or an opening is refused.
 ghost use Rattle.std.specs.Prelude.{◌≡◌};
 ghost use Rattle.bm_io.specs.declared.fault.IoFault.TheVariants.{Memory};
 

@@ -1,4 +1,5 @@
-ghost use Rattle.std.specs.Prelude.{◌≡◌, ◌<◌, List, ℕ, IfOk, IsErrOf};
+//! Files that are opened by name.
+ghost use Rattle.std.specs.Prelude.{◌≡◌, ◌≤◌, ◌<◌, List, ℕ, IfOk, IsErrOf};
 ghost use Rattle.std.specs.declared.option.Option.{Option};
 ghost use Rattle.bm_io.specs.Causes.{Rose, HasIoCause};
 ghost use Rattle.bm_io.specs.Names.{HasOctetsOf, Asks};
@@ -6,6 +7,7 @@ ghost use Rattle.bm_io.specs.declared.fault.IoFault.TheVariants.{Memory};
 
 use crate::{IoFault, Source};
 
+/// Files that are opened by name.
 pub trait Files {
     type Src: Source;
 
@@ -18,7 +20,8 @@ pub trait Files {
     /// How often the files have failed, at most 2^64 - 1.
     ghost faults: { Self → ℕ };
 
-    /// A source that has the octets of the name left and has not failed.
+    /// A source that has the octets of the name left and has not failed. `Failed` where the files
+    /// failed, which is counted; `Memory` where memory was refused, which isn't.
     fn open(&mut self, name: &str) -> Result<Self::Src, IoFault>
         ensures left { IfOk result (λ src. HasOctetsOf (octets self.old) name.now (Self.Src.left src)) }
         ensures new { IfOk result (λ src. Self.Src.faults src ≡ 0) }
@@ -31,6 +34,7 @@ pub trait Files {
     fn close(&mut self, src: Self::Src)
         ensures octets { octets self.new ≡ octets self.old }
         ensures asked { asked self.new ≡ asked self.old }
+        ensures later { faults self.old ≤ faults self.new }
         ensures counted { 0 < Self.Src.faults src → Rose (faults self.old) (faults self.new) }
         ensures same { Self.Src.faults src ≡ 0 → faults self.new ≡ faults self.old };
 }

@@ -1,10 +1,12 @@
+//! Filling a buffer.
 ghost use Rattle.std.specs.Prelude.{◌≡◌, ◌≤◌, length, IfOk};
 ghost use Rattle.bm_io.specs.Causes.{HasCause};
 ghost use Rattle.bm_io.specs.Fill.{Fills};
 
 use crate::{Failed, Source};
 
-/// Fills the buffer as far as the source's octets go, and answers how many there were.
+/// Fills the buffer as far as the source's octets go, and answers how many there were. Of how many
+/// were taken before a failure nothing is said.
 pub fn fill<S: Source>(src: &mut S, buf: &mut [u8]) -> Result<usize, Failed>
     ensures bound { IfOk result (λ n. n ≤ length buf.new) }
     ensures octets { IfOk result (λ n. Fills (S.left src.old) (S.left src.new) n buf.new) }

@@ -1,8 +1,10 @@
+//! A file in memory.
 ghost use Rattle.std.specs.Prelude.{◌≤◌};
 
 use bm_base::{List, Text};
 
-/// A file in memory, with how its source gives its octets.
+/// A file in memory. Its source gives at most `step` octets at a time, and fails at the calls whose
+/// numbers, counted from 1, are in `fails`.
 #[derive(Drop)]
 pub struct MemFile {
     pub name: Text,

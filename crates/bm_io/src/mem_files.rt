@@ -1,5 +1,6 @@
+//! Files in memory that fail where they are asked to.
 ghost use Rattle.std.specs.Prelude.{◌≡◌, [], Some, IfOk, option_map};
-ghost use Rattle.bm_io.specs.MemNames.{octets_in, octets_of};
+ghost use Rattle.bm_io.specs.MemNames.{IsSourceOfFound, octets_in, octets_of};
 
 use crate::named::{Named, find};
 use crate::{Files, IoFault, MemFile, MemSource, Source};
@@ -16,10 +17,12 @@ pub struct MemFiles {
 }
 
 impl MemFiles {
+    /// These files, of which none was asked for.
     pub fn new(alloc: Global, files: Vec<MemFile>) -> MemFiles
         ensures octets { ⟦<MemFiles as Files>⟧.octets result ≡ Some (octets_of files.items) }
         ensures asked { ⟦<MemFiles as Files>⟧.asked result ≡ Some [] }
         ensures faults { ⟦<MemFiles as Files>⟧.faults result ≡ 0 }
+        ensures files { result.files ≡ files }
     {
         MemFiles {
             alloc,
@@ -41,6 +44,7 @@ impl Named for MemFile {
 fn open_found(alloc: Global, found: Option<&MemFile>) -> Result<MemSource, AllocError>
     ensures left { IfOk result (λ src. ⟦<MemSource as Source>⟧.left src ≡ Some (octets_in (option_map (λ file. file.now) found.entry))) }
     ensures new { IfOk result (λ src. ⟦<MemSource as Source>⟧.faults src ≡ 0) }
+    ensures source { IfOk result (IsSourceOfFound (option_map (λ file. file.now) found.entry)) }
 {
     match found {
         Some(file) => {
@@ -53,6 +57,12 @@ fn open_found(alloc: Global, found: Option<&MemFile>) -> Result<MemSource, Alloc
 }
 
 impl Files for MemFiles {
+    ghost use Rattle.std.specs.Prelude.{◌≤◌, nat_lt};
+    ghost use Rattle.bm_io.specs.Calls.{faults_after, has_failed};
+    ghost use Rattle.bm_io.specs.Causes.{HasIoCause};
+    ghost use Rattle.bm_io.specs.MemNames.{Opens, file_of};
+    ghost use Rattle.bm_io.specs.Names.{HasOctetsOf, Asks};
+
     type Src = MemSource;
 
     ghost octets = { λ m. Some (octets_of m.files.items) };
@@ -61,7 +71,15 @@ impl Files for MemFiles {
 
     ghost faults = { λ m. m.faults };
 
-    fn open(&mut self, name: &str) -> Result<MemSource, IoFault> {
+    fn open(&mut self, name: &str) -> Result<MemSource, IoFault>
+        ensures left { IfOk result (λ src. HasOctetsOf (Some (octets_of self.old.files.items)) name.now (⟦<MemSource as Source>⟧.left src)) }
+        ensures new { IfOk result (λ src. ⟦<MemSource as Source>⟧.faults src ≡ 0) }
+        ensures asked { Asks (Some self.old.asked.items) (Some self.new.asked.items) name.now result }
+        ensures cause { HasIoCause self.old.faults self.new.faults result }
+        ensures opens { Opens (file_of self.old.files.items name.now) result }
+        ensures faults { self.new.faults ≡ faults_after (has_failed result) self.old.faults }
+        ensures same { self.new.files ≡ self.old.files }
+    {
         let found = find(&self.files, name);
         let missing = found.is_none();
         let source = open_found(self.alloc, found)?;
@@ -74,7 +92,12 @@ impl Files for MemFiles {
         Ok(source)
     }
 
-    fn close(&mut self, src: MemSource) {
+    fn close(&mut self, src: MemSource)
+        ensures asked { Some self.new.asked.items ≡ Some self.old.asked.items }
+        ensures later { self.old.faults ≤ self.new.faults }
+        ensures faults { self.new.faults ≡ faults_after (nat_lt 0 src.faults) self.old.faults }
+        ensures files { self.new.files ≡ self.old.files }
+    {
         if src.faults() > 0 {
             self.faults = self.faults.saturating_add(1);
         }

@@ -1,3 +1,4 @@
+//! Writing a whole piece.
 ghost use Rattle.std.specs.Prelude.{◌≤◌, length, take, OnOk, OnErr, ℕ};
 ghost use Rattle.std.specs.Io.KnownBytes.{Appends};
 ghost use Rattle.bm_io.specs.Causes.{HasIoCause};

@@ -1,3 +1,4 @@
+//! What octets are written to.
 ghost use Rattle.std.specs.Prelude.{List, ℕ, ◌<◌, length, IfOk};
 ghost use Rattle.std.specs.declared.option.Option.{Option};
 ghost use Rattle.std.specs.Io.{WritesAtMost};
@@ -6,6 +7,7 @@ ghost use Rattle.bm_io.specs.Causes.{HasIoCause};
 
 use crate::IoFault;
 
+/// What octets are written to.
 pub trait Sink {
     /// The octets written so far, where the sink tells them.
     ghost written: { Self → Option (List ℕ) };

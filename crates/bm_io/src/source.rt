@@ -1,3 +1,4 @@
+//! What octets are read from.
 ghost use Rattle.std.specs.Prelude.{List, ℕ};
 ghost use Rattle.std.specs.declared.option.Option.{Option};
 ghost use Rattle.std.specs.Io.{ReadsAtMost};
@@ -6,6 +7,7 @@ ghost use Rattle.bm_io.specs.Causes.{HasCause};
 
 use crate::Failed;
 
+/// What octets are read from.
 pub trait Source {
     /// The octets that are left, where the source tells them.
     ghost left: { Self → Option (List ℕ) };
@@ -14,7 +16,7 @@ pub trait Source {
     ghost faults: { Self → ℕ };
 
     /// Moves the first octets that are left into the buffer, and answers how many. 0 for a buffer
-    /// that isn't empty means that nothing is left.
+    /// that isn't empty means that nothing is left. `Failed` where the source failed, which is counted.
     fn take(&mut self, buf: &mut [u8]) -> Result<usize, Failed>
         ensures bound { ReadsAtMost result buf.new }
         ensures octets { ReadConsumes (left self.old) (left self.new) result buf.new }

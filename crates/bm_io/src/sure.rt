@@ -16,10 +16,12 @@ pub struct SureSource {
 }
 
 impl SureSource {
+    /// A source of these octets, at most `step` at a time.
     pub fn new(octets: Vec<u8>, step: usize) -> SureSource
         requires { 1 ≤ step }
         ensures left { ⟦<SureSource as Source>⟧.left result ≡ Some octets.items }
         ensures faults { ⟦<SureSource as Source>⟧.faults result ≡ 0 }
+        ensures step { result.step ≡ step }
     {
         SureSource {
             octets,
@@ -30,11 +32,22 @@ impl SureSource {
 }
 
 impl Source for SureSource {
+    ghost use Rattle.std.specs.Prelude.{IfOk};
+    ghost use Rattle.std.specs.Io.{ReadsAtMost};
+    ghost use Rattle.std.specs.Io.KnownBytes.{ReadConsumes};
+    ghost use Rattle.bm_io.specs.Causes.{HasCause};
+
     ghost left = { λ s. Some (drop s.at s.octets.items) };
 
     ghost faults = { λ _. 0 };
 
-    fn take(&mut self, buf: &mut [u8]) -> Result<usize, Failed> {
+    fn take(&mut self, buf: &mut [u8]) -> Result<usize, Failed>
+        ensures bound { ReadsAtMost result buf.new }
+        ensures octets { ReadConsumes (Some (drop self.old.at self.old.octets.items)) (Some (drop self.new.at self.new.octets.items)) result buf.new }
+        ensures cause { HasCause 0 0 result }
+        ensures step { IfOk result (λ n. n ≤ self.old.step) }
+        ensures same { self.new.step ≡ self.old.step }
+    {
         let count = give(&self.octets[self.at..], self.step, buf);
         self.at += count;
         Ok(count)
@@ -48,6 +61,7 @@ pub struct SureSink {
 }
 
 impl SureSink {
+    /// A sink to which nothing was written.
     pub fn new(alloc: Global) -> SureSink
         ensures written { ⟦<SureSink as Sink>⟧.written result ≡ Some [] }
         ensures faults { ⟦<SureSink as Sink>⟧.faults result ≡ 0 }
@@ -66,11 +80,21 @@ impl SureSink {
 }
 
 impl Sink for SureSink {
+    ghost use Rattle.std.specs.Prelude.{IfOk};
+    ghost use Rattle.std.specs.Io.{WritesAtMost};
+    ghost use Rattle.std.specs.Io.KnownBytes.{WriteAppends};
+    ghost use Rattle.bm_io.specs.Causes.{HasIoCause};
+
     ghost written = { λ s. Some s.octets.items };
 
     ghost faults = { λ _. 0 };
 
-    fn put(&mut self, piece: &[u8]) -> Result<usize, IoFault> {
+    fn put(&mut self, piece: &[u8]) -> Result<usize, IoFault>
+        ensures bound { WritesAtMost result piece.now }
+        ensures octets { WriteAppends (Some self.old.octets.items) (Some self.new.octets.items) result piece.now }
+        ensures cause { HasIoCause 0 0 result }
+        ensures whole { IfOk result (λ n. n ≡ length piece.now) }
+    {
         self.octets.extend_from_slice(piece)?;
         Ok(piece.len())
     }

@@ -1,6 +1,6 @@
 //! Files in memory that never fail.
 ghost use Rattle.std.specs.Prelude.{◌≡◌, ◌≤◌, [], Some, IfOk, option_map};
-ghost use Rattle.bm_io.specs.SureNames.{octets_in, octets_of};
+ghost use Rattle.bm_io.specs.SureNames.{IsSourceOf, octets_in, octets_of};
 
 use crate::named::{Named, find};
 use crate::sure_file::SureFile;
@@ -18,10 +18,12 @@ pub struct SureFiles {
 }
 
 impl SureFiles {
+    /// These files, of which none was asked for.
     pub fn new(alloc: Global, files: Vec<SureFile>) -> SureFiles
         ensures octets { ⟦<SureFiles as Files>⟧.octets result ≡ Some (octets_of files.items) }
         ensures asked { ⟦<SureFiles as Files>⟧.asked result ≡ Some [] }
         ensures faults { ⟦<SureFiles as Files>⟧.faults result ≡ 0 }
+        ensures files { result.files ≡ files }
     {
         SureFiles {
             alloc,
@@ -41,6 +43,7 @@ impl Named for SureFile {
 
 fn open_found(alloc: Global, found: Option<&SureFile>) -> Result<SureSource, AllocError>
     ensures left { IfOk result (λ src. ⟦<SureSource as Source>⟧.left src ≡ Some (octets_in (option_map (λ file. file.now) found.entry))) }
+    ensures source { IfOk result (IsSourceOf (option_map (λ file. file.now) found.entry)) }
 {
     match found {
         Some(file) => {
@@ -52,6 +55,10 @@ fn open_found(alloc: Global, found: Option<&SureFile>) -> Result<SureSource, All
 }
 
 impl Files for SureFiles {
+    ghost use Rattle.bm_io.specs.Causes.{HasIoCause};
+    ghost use Rattle.bm_io.specs.Names.{HasOctetsOf, Asks};
+    ghost use Rattle.bm_io.specs.SureNames.{file_of};
+
     type Src = SureSource;
 
     ghost octets = { λ m. Some (octets_of m.files.items) };
@@ -60,14 +67,23 @@ impl Files for SureFiles {
 
     ghost faults = { λ _. 0 };
 
-    fn open(&mut self, name: &str) -> Result<SureSource, IoFault> {
+    fn open(&mut self, name: &str) -> Result<SureSource, IoFault>
+        ensures left { IfOk result (λ src. HasOctetsOf (Some (octets_of self.old.files.items)) name.now (⟦<SureSource as Source>⟧.left src)) }
+        ensures asked { Asks (Some self.old.asked.items) (Some self.new.asked.items) name.now result }
+        ensures cause { HasIoCause 0 0 result }
+        ensures source { IfOk result (IsSourceOf (file_of self.old.files.items name.now)) }
+        ensures same { self.new.files ≡ self.old.files }
+    {
         let source = open_found(self.alloc, find(&self.files, name))?;
         let asked = Text::of(String::from_str(self.alloc, name)?);
         self.asked.push(asked)?;
         Ok(source)
     }
 
-    fn close(&mut self, src: SureSource) {
+    fn close(&mut self, src: SureSource)
+        ensures asked { Some self.new.asked.items ≡ Some self.old.asked.items }
+        ensures files { self.new.files ≡ self.old.files }
+    {
         drop(src);
     }
 }

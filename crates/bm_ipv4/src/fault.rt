@@ -1,3 +1,4 @@
+//! Why octets are no IPv4 header.
 use thiserror::Error;
 
 /// Why octets are no IPv4 packet: the first of these that holds.

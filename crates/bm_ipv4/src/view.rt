@@ -120,6 +120,7 @@ impl<'a> Ipv4View<'a> {
         self.stated_payload
     }
 
+    /// Whether more fragments follow, or the fragment offset isn't 0.
     pub fn is_fragment(&self) -> bool
         ensures { result ≡ self.now.is_fragment }
     {

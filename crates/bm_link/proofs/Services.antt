@@ -1,5 +1,5 @@
 -- A flow that goes to one of the services.
-use Rattle.std.proofs.Common.{◌≡◌, ℕ, Bool, true, List, [], ◌∷◌, inl, inr, sym, ◌==◌, ◌&&◌}
+use Rattle.std.proofs.Common.{◌≡◌, true, List, [], ◌∷◌, inl, inr, sym, ◌==◌, ◌&&◌}
 use Rattle.std.proofs.lemmas.Bool.{and_parts, eqb-true, or_cases}
 use Rattle.bm_base.specs.declared.capture.Vip.{Vip}
 use Rattle.bm_base.specs.declared.flow.Flow.{Flow}

@@ -40,24 +40,32 @@ goes_to vips f = list_any (λ v. v.addr == f.dst && v.port == f.dport) vips
 abbrev pub unsteered : Reason → Body × List ℕ
 unsteered r = (Unsteered r, [])
 
--- A packet that is longer than 65,491 octets has no room for a carrier header of 44 octets below 65,535.
-abbrev pub of_segment : List Vip → Packet → Result Segment TcpFault → Body × List ℕ
-of_segment vips p (Err e) = unsteered (tcp_reason e)
-of_segment vips p (Ok s) =
-    if not (goes_to vips s.flow) then unsteered reason.OtherDestination
-    else if nat_lt 65491 (length p.packet) then unsteered reason.TooLong
-    else (Steerable s, p.packet)
+abbrev pub with_octets : List ℕ → Result Segment TcpFault → Result (Segment × List ℕ) Reason
+with_octets packet (Err e) = Err (tcp_reason e)
+with_octets packet (Ok s) = Ok (s, packet)
 
-abbrev pub of_packet : List Vip → Result Packet Ipv4Fault → Body × List ℕ
-of_packet vips (Err e) = unsteered (ipv4_reason e)
-of_packet vips (Ok p) =
-    if p.is_fragment then unsteered reason.Fragment
-    else if not (p.protocol == 6) then unsteered reason.NotTcp
-    else of_segment vips p (tcp_of p)
+abbrev pub of_packet : Result Packet Ipv4Fault → Result (Segment × List ℕ) Reason
+of_packet (Err e) = Err (ipv4_reason e)
+of_packet (Ok p) =
+    if p.is_fragment then Err reason.Fragment
+    else if not (p.protocol == 6) then Err reason.NotTcp
+    else with_octets p.packet (tcp_of p)
+
+-- the TCP segment of an IPv4 packet, and the packet without what follows it, or the first reason against steering it
+abbrev pub segment_in : List ℕ → Result (Segment × List ℕ) Reason
+segment_in octets = of_packet (ipv4_of octets)
+
+-- A packet that is longer than 65,491 octets has no room for a carrier header of 44 octets below 65,535.
+abbrev pub of_segment : List Vip → Result (Segment × List ℕ) Reason → Body × List ℕ
+of_segment vips (Err why) = unsteered why
+of_segment vips (Ok read) =
+    if not (goes_to vips read.0.flow) then unsteered reason.OtherDestination
+    else if nat_lt 65491 (length read.1) then unsteered reason.TooLong
+    else (Steerable read.0, read.1)
 
 abbrev pub of_part : List Vip → Result (List ℕ) LinkFault → Body × List ℕ
 of_part vips (Err e) = unsteered (link_reason e)
-of_part vips (Ok part) = of_packet vips (ipv4_of part)
+of_part vips (Ok part) = of_segment vips (segment_in part)
 
 -- what a record with these octets holds, and its packet
 unfoldable pub classified : ℕ → List Vip → List ℕ → Body × List ℕ

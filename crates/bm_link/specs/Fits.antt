@@ -7,7 +7,7 @@ use Rattle.bm_base.specs.declared.flow.Segment.{Segment}
 use Rattle.bm_ipv4.specs.Header.{Packet, ipv4_of}
 use Rattle.bm_tcp.specs.Header.{tcp_of}
 
--- the packet is whole, of TCP, and reads as this segment
+-- the packet is no fragment, is of TCP, and reads as this segment
 abbrev pub ReadsAs : List ℕ → Segment → Type 0
 ReadsAs packet s =
     (p : Packet) × ((ipv4_of packet ≡ Ok p) × (p.is_fragment ≡ false) × (p.protocol ≡ 6) × (tcp_of p ≡ Ok s))

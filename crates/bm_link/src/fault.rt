@@ -1,3 +1,4 @@
+//! Why a record has no network part.
 use thiserror::Error;
 
 /// Why a frame has no part for IPv4.

@@ -1,9 +1,10 @@
 //! What a record holds.
-ghost use Rattle.std.specs.Prelude.{◌≡◌, ◌≤◌, ◌<◌, ◌^◌, ℕ, length, IsTrue};
+ghost use Rattle.std.specs.Prelude.{◌≡◌, ◌≤◌, ◌<◌, ◌^◌, ℕ, max, length, IfOk, IsTrue};
+ghost use Rattle.std.specs.Result.{result_map_both};
 ghost use Rattle.bm_base.specs.Captures.{IsFit};
-ghost use Rattle.bm_link.specs.Fits.{IsPacketOf};
+ghost use Rattle.bm_link.specs.Fits.{IsPacketOf, ReadsAs};
 ghost use Rattle.bm_link.specs.Links.{is_link};
-ghost use Rattle.bm_link.specs.Classes.{classified, goes_to, unsteered, link_reason, ipv4_reason, tcp_reason};
+ghost use Rattle.bm_link.specs.Classes.{classified, goes_to, segment_in, unsteered, link_reason, ipv4_reason, tcp_reason};
 
 use crate::{LinkFault, network_part};
 use bm_base::{Body, Flow, MAX_INNER, Reason, Segment, Vip};
@@ -24,28 +25,41 @@ pub fn classify<'a>(link: u16, octets: &'a [u8], vips: &[Vip]) -> (Body, &'a [u8
         Ok(part) => part,
         Err(e) => return unsteered(link_reason(e)),
     };
-    let view = match read_ipv4(part) {
-        Ok(view) => view,
-        Err(e) => return unsteered(ipv4_reason(e)),
-    };
-    if view.is_fragment() {
-        return unsteered(Reason::Fragment);
-    }
-    if view.protocol() != 6 {
-        return unsteered(Reason::NotTcp);
-    }
-    let segment = match read_tcp(&view) {
-        Ok(segment) => segment,
-        Err(e) => return unsteered(tcp_reason(e)),
+    let (segment, packet) = match read_segment(part) {
+        Ok(read) => read,
+        Err(reason) => return unsteered(reason),
     };
     if !goes_to(vips, &segment.flow) {
         return unsteered(Reason::OtherDestination);
     }
-    let packet = view.packet();
     if packet.len() > MAX_INNER as usize {
         return unsteered(Reason::TooLong);
     }
     (Body::Steerable(segment), packet)
+}
+
+/// The TCP segment of an IPv4 packet at the front of these octets, and the packet without what follows
+/// it, or the first reason against steering it.
+pub fn read_segment(octets: &[u8]) -> Result<(Segment, &[u8]), Reason>
+    requires { length octets.now < 2 ^ 32 }
+    ensures segment { result_map_both (λ read. (read.0, read.1.now)) (λ e. e) result ≡ segment_in octets.now }
+    ensures bound { IfOk result (λ read. read.0.len ≤ max 65535 (length read.1.now)) }
+    ensures reads { IfOk result (λ read. ReadsAs read.1.now read.0) }
+{
+    let view = match read_ipv4(octets) {
+        Ok(view) => view,
+        Err(e) => return Err(ipv4_reason(e)),
+    };
+    if view.is_fragment() {
+        return Err(Reason::Fragment);
+    }
+    if view.protocol() != 6 {
+        return Err(Reason::NotTcp);
+    }
+    match read_tcp(&view) {
+        Ok(segment) => Ok((segment, view.packet())),
+        Err(e) => Err(tcp_reason(e)),
+    }
 }
 
 /// A record that isn't steered has no packet.

@@ -16,7 +16,7 @@ use Rattle.bm_pcap.specs.declared.step.Step.{Step}
 use Rattle.bm_pcap.specs.declared.step.Step.TheVariants as step
 use Rattle.bm_pcap.specs.Capture.{Captured, after_found, capture, ends, records_from, with_record}
 use Rattle.bm_pcap.specs.Causes.{HasStepCause}
-use Rattle.bm_pcap.specs.Reader.{Reader, Advances, AdvancesFrom, Captures, GivesNext, Keeps, StandsIn, StepGives}
+use Rattle.bm_pcap.specs.Reader.{Reader, Advances, AdvancesFrom, Captures, EndsWith, GivesNext, Keeps, StandsIn, StepGives}
 use Rattle.bm_pcap.specs.Records.{whole, next_of, first_place, moment_of, behind_record}
 
 -- what was read before, and what is still read
@@ -98,17 +98,17 @@ pub at_fault : (now new : Option (List ℕ)) (form : Form) (vips : List Vip) (to
 at_fault now new form vips total place records packets fault.ReadFault buffer so_far gives = tt
 at_fault now new form vips total place records packets fault.Memory buffer so_far gives = tt
 at_fault now new form vips total place records packets fault.NotACapture buffer so_far gives =
-    at_err now new form vips total place records packets fault.NotACapture buffer so_far (λ _ h. h) gives
+    at_err now new form vips total place records packets fault.NotACapture buffer so_far (λ _ h. h.0) gives
 at_fault now new form vips total place records packets fault.BadVersion buffer so_far gives =
-    at_err now new form vips total place records packets fault.BadVersion buffer so_far (λ _ h. h) gives
+    at_err now new form vips total place records packets fault.BadVersion buffer so_far (λ _ h. h.0) gives
 at_fault now new form vips total place records packets (fault.BadLink link) buffer so_far gives =
-    at_err now new form vips total place records packets (fault.BadLink link) buffer so_far (λ _ h. h) gives
+    at_err now new form vips total place records packets (fault.BadLink link) buffer so_far (λ _ h. h.0) gives
 at_fault now new form vips total place records packets fault.TooLarge buffer so_far gives =
-    at_err now new form vips total place records packets fault.TooLarge buffer so_far (λ _ h. h) gives
+    at_err now new form vips total place records packets fault.TooLarge buffer so_far (λ _ h. h.0) gives
 at_fault now new form vips total place records packets (fault.BadLength number n) buffer so_far gives =
-    at_err now new form vips total place records packets (fault.BadLength number n) buffer so_far (λ _ h. h) gives
+    at_err now new form vips total place records packets (fault.BadLength number n) buffer so_far (λ _ h. h.0) gives
 at_fault now new form vips total place records packets fault.TooManyPackets buffer so_far gives =
-    at_err now new form vips total place records packets fault.TooManyPackets buffer so_far (λ _ h. h) gives
+    at_err now new form vips total place records packets fault.TooManyPackets buffer so_far (λ _ h. h.0) gives
 
 regroup : (records : List Record) (packets : List (List ℕ)) (one : Record) (packet : List ℕ) (read : Captured)
     → with_front records packets (with_record one packet read) ≡ with_front (records ++ one ∷ []) (packets ++ packet ∷ []) read
@@ -150,6 +150,21 @@ module _ {S : Type 0} (left : S → Option (List ℕ)) (faults : S → ℕ) (old
       let P : Result Item PcapFault → Type 0 = λ r. GivesNext left faults old new r in
       let a = advances (Err e) fresh (subst P is h) in
       (a.0, a.1)
+
+  last_by : (e : PcapFault) → (before : Reader S) × ((before.ended ≡ None) × Advances left faults before new (Err e)) → EndsWith left faults (Err e) new
+  last_by fault.ReadFault h = h
+  last_by fault.Memory h = tt
+  last_by fault.NotACapture h = h
+  last_by fault.BadVersion h = h
+  last_by (fault.BadLink link) h = h
+  last_by fault.TooLarge h = h
+  last_by (fault.BadLength number n) h = h
+  last_by fault.TooManyPackets h = h
+
+  pub last_of : (result : Result Item PcapFault) (e : PcapFault) → old.ended ≡ None → GivesNext left faults old new result → result ≡ Err e → EndsWith left faults (Err e) new
+  last_of result e fresh h is =
+      let P : Result Item PcapFault → Type 0 = λ r. GivesNext left faults old new r in
+      last_by e (old, (fresh, subst P is h))
 
 pub first_number : (place : Place) → place ≡ first_place → place.number ≡ 1
 first_number place is = ap (λ (p : Place). p.number) is

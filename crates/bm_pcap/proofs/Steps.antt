@@ -56,19 +56,25 @@ short_cut room left fits = let t : nat_lt room (length left) ≡ false = grind (
 pub past_more : (old new : Option (List ℕ)) (form : Form) (place : Place) (n : ℕ) (buf : List ℕ) → most_records < place.number → FillsWithin old new 0 n buf → 0 < n → HeadGives old new form place (Err TooManyPackets)
 past_more None new form place n buf past fills some = tt
 past_more (Some left) new form place n buf past fills some =
-    let there : 0 < length left = omega (arith, fills.0, some) in next_past form place left there past
+    let there : 0 < length left = omega (arith, fills.0, some) in
+    let one : n ≡ 1 = omega (arith, fills.0, some) in
+    (next_past form place left there past, fills.2 ∙ ap (λ m. Some (drop m left)) one)
 
 pub past_end : (old new : Option (List ℕ)) (form : Form) (place : Place) (n : ℕ) (buf : List ℕ) → length buf ≡ 1 → FillsWithin old new 0 n buf → n ≤ 0 → HeadGives old new form place (Ok head.End)
 past_end None new form place n buf one fills none = tt
 past_end (Some left) new form place n buf one fills none =
-    let gone : length left ≡ 0 = omega (arith, fills.0, none, one) in next_end form place left gone
+    let gone : length left ≡ 0 = omega (arith, fills.0, none, one) in
+    let all : n ≡ length left = omega (arith, none, gone) in
+    (next_end form place left gone, fills.2 ∙ ap (λ m. Some (drop m left)) all)
 
 -- a record's header
 
 pub head_end : (old new : Option (List ℕ)) (form : Form) (place : Place) (n : ℕ) (buf : List ℕ) → length buf ≡ 16 → FillsWithin old new place.room n buf → n ≡ 0 → HeadGives old new form place (Ok head.End)
 head_end None new form place n buf size fills none = tt
 head_end (Some left) new form place n buf size fills none =
-    let gone : length left ≡ 0 = omega (arith, fills.0, none, size) in next_end form place left gone
+    let gone : length left ≡ 0 = omega (arith, fills.0, none, size) in
+    let all : n ≡ length left = omega (arith, none, gone) in
+    (next_end form place left gone, fills.2 ∙ ap (λ m. Some (drop m left)) all)
 
 pub head_large : (old new : Option (List ℕ)) (form : Form) (place : Place) (n : ℕ) (buf : List ℕ) → length buf ≡ 16 → FillsWithin old new place.room n buf → n < 16 → place.room < n → place.number ≤ most_records → HeadGives old new form place (Err TooLarge)
 head_large None new form place n buf size fills part more few = tt
@@ -76,7 +82,10 @@ head_large (Some left) new form place n buf size fills part more few =
     let there : 0 < length left = omega (arith, fills.0, more) in
     let t : (nat_lt (length left) 16 || nat_lt place.room 15) ≡ true = grind (arith, nat_tests, part, more) in
     let over : place.room < length left = omega (arith, fills.0, more) in
-    next_short form place left there few t ∙ short_large place.room left over
+    let taken : n ≡ place.room + 1 = omega (arith, fills.0, more) in (
+      next_short form place left there few t ∙ short_large place.room left over,
+      fills.2 ∙ ap (λ m. Some (drop m left)) taken,
+    )
 
 pub head_cut : (old new : Option (List ℕ)) (form : Form) (place : Place) (n : ℕ) (buf : List ℕ) → length buf ≡ 16 → FillsWithin old new place.room n buf → 0 < n → n < 16 → n ≤ place.room → place.number ≤ most_records → HeadGives old new form place (Ok head.Cut)
 head_cut None new form place n buf size fills some part fits few = tt
@@ -85,7 +94,7 @@ head_cut (Some left) new form place n buf size fills some part fits few =
     let t : (nat_lt (length left) 16 || nat_lt place.room 15) ≡ true = grind (arith, nat_tests, part, there) in
     let one : 0 < length left = omega (arith, there, some) in
     let all : length left ≤ place.room = omega (arith, there, fits) in
-    next_short form place left one few t ∙ short_cut place.room left all
+    (next_short form place left one few t ∙ short_cut place.room left all, fills.2 ∙ ap (λ m. Some (drop m left)) there)
 
 -- a header that is whole is that of the octets that were left
 whole_head : (room n : ℕ) (buf left : List ℕ) → length buf ≡ 16 → n ≡ min (min (length buf) (room + 1)) (length left) → 16 ≤ n → take n buf ≡ take n left → take 16 left ≡ buf
@@ -112,22 +121,24 @@ head_told new form place n buf left size fills full few =
     let long : 16 ≤ length left = omega (arith, fills.0, full) in
     let wide : 15 ≤ place.room = omega (arith, fills.0, full) in
     let len : ℕ = captured_length form buf in
+    let e : n ≡ 16 = omega (arith, fills.0, full, size) in
+    let rest : new ≡ Some (drop 16 left) = fills.2 ∙ ap (λ m. Some (drop m left)) e in
     let at : next_of form place left ≡ behind_header form place.number place.room (captured_length form buf) left =
     next_stated form place left long few wide ∙ ap (λ h. behind_header form place.number place.room (captured_length form h) left) b in
     elim (cases_lt longest len) [
       | inl above ↦
           let t : nat_lt longest (captured_length form buf) ≡ true = grind (arith, nat_tests, above) in
-          rw t (at ∙ refused form place len left above)
+          rw t (at ∙ refused form place len left above, rest)
       | inr fits ↦
           let t : nat_lt longest (captured_length form buf) ≡ false = grind (arith, nat_tests, fits) in
           elim (cases_lt place.room 16) [
             | inl less ↦
                 let u : nat_lt place.room 16 ≡ true = grind (arith, nat_tests, less) in
-                rw (t, u) (at ∙ narrow form place len left fits (omega (arith, less)) (omega (arith, less, long)))
+                let last : 16 ≡ place.room + 1 = omega (arith, less, wide) in
+                rw (t, u) (at ∙ narrow form place len left fits (omega (arith, less)) (omega (arith, less, long)), rest ∙ ap (λ m. Some (drop m left)) last)
             | inr more ↦
                 let u : nat_lt place.room 16 ≡ false = grind (arith, nat_tests, more) in
-                let e : n ≡ 16 = omega (arith, fills.0, full, size) in
-                rw (t, u) (at, ap (time_of form) (sym b), long, fills.2 ∙ ap (λ m. Some (drop m left)) e)
+                rw (t, u) (at, ap (time_of form) (sym b), long, rest)
           ]
     ]
 
@@ -167,3 +178,31 @@ record_read (Some left) mid new form place time len n buf rest buffer said size 
     let f = subst Q is fits in
     let within : len ≤ length buffer = omega (arith, f.2, most) in
     record_told mid new form place time len n buf rest left (size ∙ length-take-le len buffer within) (subst P is head) f.2 f.1 fills some full
+
+-- What is left behind a record's header and n octets more.
+rest_told : (mid new : Option (List ℕ)) (place : Place) (len n : ℕ) (buf left : List ℕ) (form : Form) (time : ℕ) → HeadGives (Some left) mid form place (Ok (head.States time len)) → FillsWithin mid new (place.room - 16) n buf
+    → (n ≡ min (min (length buf) (place.room - 16 + 1)) (length left - 16)) × (new ≡ Some (drop (16 + n) left))
+rest_told mid new place len n buf left form time head fills =
+    let P : Option (List ℕ) → Type 0 = λ m. FillsWithin m new (place.room - 16) n buf in
+    let read = subst P head.3 fills in
+    (omega (arith, read.0, length-drop 16 left), read.2 ∙ ap (λ z. Some z) (drop-drop n 16 left))
+
+body_large_told : (mid new : Option (List ℕ)) (form : Form) (place : Place) (time len n : ℕ) (buf left buffer : List ℕ) → length buf ≡ len → HeadGives (Some left) mid form place (Ok (head.States time len)) → len ≤ longest → 16 ≤ place.room
+    → FillsWithin mid new (place.room - 16) n buf → place.room - 16 < n → StepGives (Some left) new form place (Err TooLarge) buffer
+body_large_told mid new form place time len n buf left buffer size head fits wide fills more =
+    let told = rest_told mid new place len n buf left form time head fills in
+    let less : place.room < 16 + len = omega (arith, told.0, more, size, wide) in
+    let over : place.room < length left = omega (arith, told.0, more, wide, head.2) in
+    let taken : 16 + n ≡ place.room + 1 = omega (arith, told.0, more, wide) in
+    (head.0 ∙ narrow form place len left fits less over, told.1 ∙ ap (λ m. Some (drop m left)) taken)
+
+pub body_large : (old mid new : Option (List ℕ)) (form : Form) (place : Place) (time len n : ℕ) (buf rest buffer : List ℕ) (said : Head) → length buf ≡ length (take len buffer) → length buffer ≡ longest → said ≡ head.States time len
+    → HeadGives old mid form place (Ok said) → HeadFits place said
+    → FillsWithin mid new (place.room - 16) n buf → place.room - 16 < n → StepGives old new form place (Err TooLarge) rest
+body_large None mid new form place time len n buf rest buffer said size most is head fits fills more = tt
+body_large (Some left) mid new form place time len n buf rest buffer said size most is head fits fills more =
+    let P : Head → Type 0 = λ h. HeadGives (Some left) mid form place (Ok h) in
+    let Q : Head → Type 0 = λ h. HeadFits place h in
+    let f = subst Q is fits in
+    let within : len ≤ length buffer = omega (arith, f.2, most) in
+    body_large_told mid new form place time len n buf left rest (size ∙ length-take-le len buffer within) (subst P is head) f.2 f.1 fills more

@@ -4,5 +4,6 @@ pub mod Fill
 pub mod Header
 pub mod Records
 pub mod Capture
+pub mod Taken
 pub mod Reader
 pub mod Parts

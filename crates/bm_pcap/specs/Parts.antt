@@ -11,6 +11,7 @@ use Rattle.bm_pcap.specs.declared.step.Step.{Step}
 use Rattle.bm_pcap.specs.declared.step.Step.TheVariants as step
 use Rattle.bm_pcap.specs.Header.{form_of}
 use Rattle.bm_pcap.specs.Records.{cut, end, next_of, behind_header, time_of, captured_length}
+use Rattle.bm_pcap.specs.Taken.{fault_taken}
 
 -- What was read is what the capture's header says, and the source has the rest left. A failed read
 -- says nothing.
@@ -22,18 +23,21 @@ FormGives (Some left) new (Err Memory) = Unit {0}
 FormGives (Some left) new (Err e) = form_of left ≡ Err e
 
 -- Where a record's header states a time and a length, the rest of the definition asks what stands
--- behind it; elsewhere the header decides. A failed read says nothing.
+-- behind it; elsewhere the header decides. The source has the rest left. A failed read says nothing.
 abbrev pub HeadGives : Option (List ℕ) → Option (List ℕ) → Form → Place → Result Head PcapFault → Type 0
 HeadGives None new form place result = Unit {0}
-HeadGives (Some left) new form place (Ok head.End) = next_of form place left ≡ Ok end
-HeadGives (Some left) new form place (Ok head.Cut) = next_of form place left ≡ Ok cut
+HeadGives (Some left) new form place (Ok head.End) =
+    (next_of form place left ≡ Ok end) × (new ≡ Some (drop (length left) left))
+HeadGives (Some left) new form place (Ok head.Cut) =
+    (next_of form place left ≡ Ok cut) × (new ≡ Some (drop (length left) left))
 HeadGives (Some left) new form place (Ok (head.States time len)) =
     (next_of form place left ≡ behind_header form place.number place.room len left)
     × (time ≡ time_of form (take 16 left))
     × (16 ≤ length left)
     × (new ≡ Some (drop 16 left))
 HeadGives (Some left) new form place (Err ReadFault) = Unit {0}
-HeadGives (Some left) new form place (Err e) = next_of form place left ≡ Err e
+HeadGives (Some left) new form place (Err e) =
+    (next_of form place left ≡ Err e) × (new ≡ Some (drop (fault_taken place e) left))
 
 -- the time that a header states is no later
 abbrev pub IsEarly : Head → Type 0

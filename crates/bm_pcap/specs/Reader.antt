@@ -16,6 +16,7 @@ use Rattle.bm_pcap.specs.Causes.{HasStepCause, IsRecordFault}
 use Rattle.bm_pcap.specs.Header.{form_of}
 use Rattle.bm_pcap.specs.Parts.{FormGives, StepFits}
 use Rattle.bm_pcap.specs.Records.{Found, whole, cut, end, next_of, first_place, behind_record}
+use Rattle.bm_pcap.specs.Taken.{FormLeaves, fault_taken}
 
 -- What a reader is: the source behind what was read, what the capture's header says, the place behind
 -- what was read, what its buffer holds, and the answer that it gives from now on, if it has ended.
@@ -48,6 +49,11 @@ abbrev pub Starts : {S : Type 0} → (S → Option (List ℕ)) → S → Result 
 Starts left old (Ok reader) = FormGives (left old) (left reader.source) (Ok reader.form)
 Starts left old (Err refused) = FormGives (left old) (left refused.0) (Err refused.1)
 
+-- Behind the header, or its fault, the source has the rest left.
+abbrev pub StartLeaves : {S : Type 0} → (S → Option (List ℕ)) → S → Result (Reader S) (S × PcapFault) → Type 0
+StartLeaves left old (Ok reader) = FormLeaves (left old) (left reader.source) (Ok reader.form)
+StartLeaves left old (Err refused) = FormLeaves (left old) (left refused.0) (Err refused.1)
+
 -- the count doesn't fall, and `ReadFault` is answered only where it rose
 abbrev pub StartsWithCause : {S : Type 0} → (S → ℕ) → S → Result (Reader S) (S × PcapFault) → Type 0
 StartsWithCause faults old (Ok reader) = faults old ≤ faults reader.source
@@ -60,21 +66,22 @@ found_in (step.Record time len) buffer = whole time (take len buffer)
 found_in step.Cut buffer = cut
 found_in step.End buffer = end
 
--- behind a record the source has the rest left
-abbrev pub LeavesRest : Option (List ℕ) → List ℕ → Step → Type 0
-LeavesRest new left (step.Record time len) = new ≡ Some (drop (16 + len) left)
-LeavesRest new left step.Cut = Unit {0}
-LeavesRest new left step.End = Unit {0}
+-- A record takes its header and its octets. Where it is cut short, and at the end, nothing is left.
+abbrev pub step_taken : List ℕ → Step → ℕ
+step_taken left (step.Record time len) = 16 + len
+step_taken left step.Cut = length left
+step_taken left step.End = length left
 
--- What was answered is what stands next. Of a failed read and of want of memory nothing is said, nor
--- where the source doesn't tell its octets.
+-- What was answered is what stands next, and the source has the rest left. Of a failed read and of want
+-- of memory nothing is said, nor where the source doesn't tell its octets.
 abbrev pub StepGives : Option (List ℕ) → Option (List ℕ) → Form → Place → Result Step PcapFault → List ℕ → Type 0
 StepGives None new form place result buffer = Unit {0}
 StepGives (Some left) new form place (Ok found) buffer =
-    (next_of form place left ≡ Ok (found_in found buffer)) × LeavesRest new left found
+    (next_of form place left ≡ Ok (found_in found buffer)) × (new ≡ Some (drop (step_taken left found) left))
 StepGives (Some left) new form place (Err ReadFault) buffer = Unit {0}
 StepGives (Some left) new form place (Err Memory) buffer = Unit {0}
-StepGives (Some left) new form place (Err e) buffer = next_of form place left ≡ Err e
+StepGives (Some left) new form place (Err e) buffer =
+    (next_of form place left ≡ Err e) × (new ≡ Some (drop (fault_taken place e) left))
 
 -- Behind a record a reader stands at the next place; any other answer it keeps, and gives from then on.
 abbrev pub Keeps : {S : Type 0} → Reader S → Reader S → Result Step PcapFault → Type 0
@@ -126,3 +133,24 @@ Captures wanted (Err e) = Err e ≡ wanted
 abbrev pub ReadsCapture : {S : Type 0} → (S → Option (List ℕ)) → Reader S → List Vip → Captured → Type 0
 ReadsCapture left reader vips result =
     (octets : List ℕ) → StandsIn (left reader.source) reader.form octets → Captures (capture vips octets) result
+
+-- what a reader answers from now on, where its capture was read to the record that is cut short, or
+-- to the end
+abbrev pub last_step : Option ℕ → Step
+last_step None = step.End
+last_step (Some number) = step.Cut
+
+-- A reader whose capture was read answers the cut or the end from now on, one whose capture has a fault
+-- that fault. Of want of memory nothing is said.
+abbrev pub HasEnded : Captured → Option (Result Step PcapFault) → Type 0
+HasEnded (Ok read) ended = ended ≡ Some (Ok (last_step read.0.cut))
+HasEnded (Err Memory) ended = Unit {0}
+HasEnded (Err e) ended = ended ≡ Some (Err e)
+
+-- The last that was done to the reader is the call that answered the end, the cut or the fault: nothing
+-- was read behind it.
+abbrev pub EndsWith : {S : Type 0} → (S → Option (List ℕ)) → (S → ℕ) → Captured → Reader S → Type 0
+EndsWith {S} left faults (Ok read) new =
+    (before : Reader S) × ((before.ended ≡ None) × Advances left faults before new (Ok (last_step read.0.cut)))
+EndsWith left faults (Err Memory) new = Unit {0}
+EndsWith {S} left faults (Err e) new = (before : Reader S) × ((before.ended ≡ None) × Advances left faults before new (Err e))

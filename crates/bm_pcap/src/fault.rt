@@ -1,3 +1,4 @@
+//! Why a capture can't be read.
 ghost use Rattle.std.specs.Prelude.{◌≡◌};
 ghost use Rattle.bm_pcap.specs.declared.fault.PcapFault.TheVariants.{Memory, ReadFault};
 

@@ -1,3 +1,4 @@
+//! Filling a buffer within a limit.
 ghost use Rattle.std.specs.Prelude.{◌≡◌, ◌≤◌, ◌+◌, length, IfOk};
 ghost use Rattle.bm_io.specs.Causes.{HasCause};
 ghost use Rattle.bm_pcap.specs.Fill.{FillsWithin};

@@ -4,6 +4,7 @@ ghost use Rattle.bm_link.specs.Links.{is_link};
 ghost use Rattle.bm_pcap.specs.Causes.{HasStepCause, IsHeaderFault};
 ghost use Rattle.bm_pcap.specs.Header.{form_by, magic_of, nanoseconds_in, number_at};
 ghost use Rattle.bm_pcap.specs.Parts.{FormGives};
+ghost use Rattle.bm_pcap.specs.Taken.{FormLeaves};
 
 use crate::PcapFault;
 use bm_io::{Source, fill};
@@ -99,6 +100,7 @@ fn form_behind(order: Order, unit: Unit, header: &[u8]) -> Result<Form, PcapFaul
 /// Reads the header of a capture, and nothing behind the first fault.
 pub(crate) fn read_form<S: Source>(src: &mut S) -> Result<Form, PcapFault>
     ensures form { FormGives (S.left src.old) (S.left src.new) result }
+    ensures leaves { FormLeaves (S.left src.old) (S.left src.new) result }
     ensures link { IfOk result (λ form. IsTrue (is_link form.link)) }
     ensures others { IfErr result IsHeaderFault }
     ensures cause { HasStepCause (S.faults src.old) (S.faults src.new) result }

@@ -1,10 +1,10 @@
 //! A reader of captures.
-ghost use Rattle.std.specs.Prelude.{◌≡◌, ◌≤◌, ◌+◌, length, IfOk, IfErr, IsTrue};
+ghost use Rattle.std.specs.Prelude.{◌≡◌, ◌≤◌, ◌+◌, length, IfOk, IfErr, IfSome, IsErrOf, IsTrue, None};
 ghost use Rattle.bm_base.specs.Captures.{IsReplayable};
 ghost use Rattle.bm_link.specs.Fits.{ArePackets};
 ghost use Rattle.bm_link.specs.Links.{is_link};
 ghost use Rattle.bm_pcap.specs.Causes.{HasStepCause, IsCaptureFault, IsHeaderFault, IsRecordFault};
-ghost use Rattle.bm_pcap.specs.Reader.{Advances, GivesNext, IsFresh, IsShort, ReadsCapture, Starts, StartsWithCause};
+ghost use Rattle.bm_pcap.specs.Reader.{Advances, GivesNext, EndsWith, HasEnded, IsFresh, IsShort, ReadsCapture, StartLeaves, Starts, StartsWithCause};
 
 use crate::PcapFault;
 use crate::form::{Form, read_form};
@@ -55,6 +55,7 @@ impl<S: Source> PcapReader<S> {
     /// A reader of a capture, whose header is read. The source comes back with a fault.
     pub fn start(alloc: Global, mut src: S) -> Result<PcapReader<S>, (S, PcapFault)>
         ensures starts { Starts S.left src result }
+        ensures leaves { StartLeaves S.left src result }
         ensures fresh { IfOk result IsFresh }
         ensures others { IfErr result (λ refused. IsHeaderFault refused.1) }
         ensures cause { StartsWithCause S.faults src result }
@@ -149,7 +150,9 @@ impl<S: Source> PcapReader<S> {
 }
 
 /// Reads the records of a capture, classified for these services, and the packet of each. The reader is
-/// one that was not asked for a record yet.
+/// one that was not asked for a record yet. Afterwards it answers the end, the cut or the fault
+/// again, unless memory was refused. A fault is the first in order of place; `ReadFault` where the
+/// source failed, and `Memory` where memory was refused, may come at any place.
 pub fn read_capture<S: Source>(
     alloc: Global,
     r: &mut PcapReader<S>,
@@ -160,6 +163,11 @@ pub fn read_capture<S: Source>(
     ensures replayable { IfOk result (λ read. IsReplayable vips.now read.0) }
     ensures packets { IfOk result (λ read. ArePackets read.0.records read.1) }
     ensures others { IfErr result IsCaptureFault }
+    ensures ended { HasEnded result r.new.ended }
+    ensures form { r.new.form ≡ r.old.form }
+    ensures last { EndsWith S.left S.faults result r.new }
+    ensures number { IfOk result (λ read. IfSome read.0.cut (λ n. r.new.place.number ≡ n)) }
+    ensures open { IsErrOf result PcapFault.Memory → r.new.ended ≡ None }
     ensures cause { HasStepCause (S.faults r.old.source) (S.faults r.new.source) result }
 {
     let link = r.link();

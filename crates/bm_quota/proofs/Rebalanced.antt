@@ -9,7 +9,7 @@ use Rattle.bm_quota.proofs.QuotaLemmas.{gives-sum_below, highest-given, left-is,
 use Rattle.bm_quota.proofs.RoomLemmas.{cases_room, cases_server, handed, left-le, owned-cons, owned-handed, owners_after-handed, same_server-refl}
 use Rattle.bm_quota.specs.Rebalancing.{moves_to, owned, owners_after, quota_of, rebalancing, sum_below, surplus, takers, ReachQuotas}
 use Rattle.bm_quota.specs.Rooms.{given, kept, left}
-use Rattle.bm_table.specs.Plans.{bucket_at_home, MovesRise}
+use Rattle.bm_table.specs.Plans.{bucket_already_there, MovesRise}
 use Rattle.bm_table.specs.Settings.{RiseFrom}
 use Rattle.bm_table.specs.Tables.{is_among, same_server, target}
 use Rattle.bm_table.specs.declared.plan.Move.{Move}
@@ -121,7 +121,7 @@ no_same x p f e = let t : eqb x.0 p.0 ≡ true = eq-eqb _ _ (sym e) in let g : f
 
 -- who has no place left takes nothing, so no bucket goes to the server where it is
 not_home : (server : ℕ → ServerId) (room : ServerId → ℕ) (b : ℕ) (owners ts : List ServerId) → Serves server b owners
-    → ((s : ServerId) → left room owners s ≡ 0 → owned ts s ≡ 0) → bucket_at_home server (moves_to (given room b owners) ts) ≡ None
+    → ((s : ServerId) → left room owners s ≡ 0 → owned ts s ≡ 0) → bucket_already_there server (moves_to (given room b owners) ts) ≡ None
 not_home server room b [] ts serves h = refl
 not_home server room b (o ∷ owners) ts serves h =
     elim (cases_room (room o)) [
@@ -130,8 +130,8 @@ not_home server room b (o ∷ owners) ts serves h =
     ]
   where
     one : ltb 0 (room o) ≡ false → room o ≡ 0 → (xs : List ServerId) → ((s : ServerId) → left room (o ∷ owners) s ≡ 0 → owned xs s ≡ 0)
-        → ((rest : List ServerId) → ((s : ServerId) → left room owners s ≡ 0 → owned rest s ≡ 0) → bucket_at_home server (moves_to (given room (b + 1) owners) rest) ≡ None)
-        → bucket_at_home server (moves_to (b ∷ given room (b + 1) owners) xs) ≡ None
+        → ((rest : List ServerId) → ((s : ServerId) → left room owners s ≡ 0 → owned rest s ≡ 0) → bucket_already_there server (moves_to (given room (b + 1) owners) rest) ≡ None)
+        → bucket_already_there server (moves_to (b ∷ given room (b + 1) owners) xs) ≡ None
     one f z [] g old = refl
     one f z (x ∷ xs) g old =
         let fewer : left room owners o ≤ room o = left-le room owners o
@@ -146,9 +146,9 @@ not_home server room b (o ∷ owners) ts serves h =
         in rw home (old xs (λ s y. let all : owned (x ∷ xs) s ≡ 0 = g s (rw f y) in omega (arith, all, owned-cons x xs s)))
 
 pub rebalancing-changes : (server : ℕ → ServerId) (owners active : List ServerId) (quotas : List ℕ) → RiseFrom 0 active → Serves server 0 owners
-    → bucket_at_home server (rebalancing owners active quotas) ≡ None
+    → bucket_already_there server (rebalancing owners active quotas) ≡ None
 rebalancing-changes server owners active quotas rise serves =
-    ap (bucket_at_home server) (rebalancing-rooms owners active quotas)
+    ap (bucket_already_there server) (rebalancing-rooms owners active quotas)
     ∙ not_home server (quota_of active quotas) 0 owners (takers (left (quota_of active quotas) owners) active) serves (λ s z. takers_left owners active quotas rise s ∙ z)
 
 -- buckets go to active servers alone

@@ -17,7 +17,8 @@ const NUMBERS: usize = 65_536;
 /// The moves after which each active server owns its quota and no other server owns a bucket, as
 /// few as can be. Each server that owns more than its quota gives its highest buckets. The given
 /// buckets, in rising order, go to the servers below their quota, in rising number, each filled
-/// before the next. `owner` is the server of each bucket. The moves rise by their bucket.
+/// before the next. `owner` is the server of each bucket. The moves rise by their bucket. `Memory`
+/// where memory was refused.
 pub fn moves(
     alloc: Global,
     owner: &[ServerId],

@@ -6,7 +6,7 @@ use bm_base::{Memory, ServerId};
 use std::alloc::Global;
 
 /// The number of buckets divided by the number of servers, and one more for the first servers, as
-/// many as the remainder says.
+/// many as the remainder says. `Memory` where memory was refused.
 pub fn quotas(alloc: Global, buckets: u32, active: &[ServerId]) -> Result<Vec<u32>, Memory>
     requires { 0 < length active.now }
     ensures parts { IfOk result (λ quotas. quotas.items ≡ quotas_of buckets (length active.now)) }

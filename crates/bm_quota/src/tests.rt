@@ -1,6 +1,6 @@
 use super::*;
 use bm_base::ServerId;
-use bm_table::Move;
+use bm_table::{Limit, Move};
 use std::test::Fail;
 
 const fn to(bucket: u32, server: u16) -> Move {
@@ -48,7 +48,22 @@ fn servers_get_their_quotas_by_few_moves(rt: HostRuntime) -> Result<(), Fail> {
 #[test]
 fn refusals_print_their_names(rt: HostRuntime) -> Result<(), Fail> {
     let alloc = rt.alloc();
-    let text = format!(in alloc; "{}", Refusal::LastServer)?;
-    assert_eq!(rt; text.as_str(), "last server");
+    for (refusal, want) in [
+        (Refusal::KnownServer, "known server"),
+        (Refusal::UnknownServer, "unknown server"),
+        (Refusal::NotActive, "not active"),
+        (Refusal::LastServer, "last server"),
+        (Refusal::BadBucket, "bad bucket"),
+        (Refusal::SameServer, "same server"),
+        (
+            Refusal::StampFell,
+            "the moment is below that of the last command",
+        ),
+        (Refusal::TooMany(Limit::Changes), "too many changes"),
+        (Refusal::TooMany(Limit::Moves), "too many moves"),
+        (Refusal::Memory, "out of memory"),
+    ] {
+        assert_eq!(rt; refusal.to_string(alloc)?.as_str(), want);
+    }
     Ok(())
 }

@@ -8,18 +8,15 @@ use Rattle.bm_base.specs.declared.ids.ServerId.{ServerId}
 use Rattle.bm_base.specs.declared.flow.Segment.{Segment}
 use Rattle.bm_base.specs.declared.capture.Record.{Record}
 use Rattle.bm_base.specs.declared.capture.Vip.{Vip}
-use Rattle.bm_base.specs.declared.label.Entry.{Entry}
 use Rattle.bm_base.specs.declared.label.Hop.{Hop}
 use Rattle.bm_base.specs.declared.label.Hop.TheVariants.{Direct, Chained}
 use Rattle.bm_base.specs.declared.label.Label.{Label}
 use Rattle.bm_base.specs.declared.label.Tag.{Tag}
 use Rattle.bm_base.specs.declared.receive.Fate.{Fate}
-use Rattle.bm_base.specs.Labels.{stop, tag_for, tag_of}
+use Rattle.bm_base.specs.Labels.{arrives_at, tag_for, tag_of}
 use Rattle.bm_fault.specs.declared.wire.Flight.{Flight}
 use Rattle.bm_fault.specs.Flying.{Flying}
 use Rattle.bm_fault.specs.Wires.{first_flight, others}
-use Rattle.bm_table.specs.Tables.{table}
-use Rattle.bm_core.specs.declared.events.Local.{Local}
 use Rattle.bm_core.specs.declared.events.Verdict.{Verdict}
 use Rattle.bm_core.specs.declared.events.Verdict.TheVariants.{Accept, Process, Forward, Reset, Drop}
 use Rattle.bm_core.specs.declared.events.What.{What}
@@ -31,12 +28,13 @@ use Rattle.bm_core.specs.declared.schedule.Underway.{Underway}
 use Rattle.bm_core.specs.Accounts.{Routes, Rules}
 use Rattle.bm_core.specs.Books.{Took}
 use Rattle.bm_core.specs.Past.{Sending, label_of, segment_of, sending_of, shard, timeout, steerable}
-use Rattle.bm_core.specs.Runs.{Run, last_clock}
-use Rattle.bm_core.specs.Schedule.{barren, put_sent, rest, wire, IsAnswered}
+use Rattle.bm_core.specs.Runs.{last_clock}
+use Rattle.bm_core.specs.Schedule.{loss_of_fate, put_sent, rest, wire, IsAnswered}
 use Rattle.bm_core.specs.Stages.{IsFit, IsService}
-use Rattle.bm_core.specs.Verdicts.{Onward, local_at, onward, onward_with, verdict_at, verdict_of}
+use Rattle.bm_core.specs.Verdicts.{local_at, verdict_at}
 use Rattle.bm_core.specs.Weights.{IsSoon}
-use Rattle.bm_core.proofs.Pasts.{IsLabel, label_is, label_stays}
+use Rattle.bm_core.proofs.Forwards.{forwarded}
+use Rattle.bm_core.proofs.Pasts.{label_stays}
 use Rattle.bm_core.proofs.Stops.{HasStop, first_stop}
 use Rattle.bm_replay.specs.declared.player.Loss.{Loss}
 use Rattle.bm_replay.specs.declared.player.Player.{Player}
@@ -51,10 +49,9 @@ use Rattle.bm_replay.proofs.Keeping.{books_more, muxes_stay, queues_stay}
 use Rattle.bm_link.specs.Fits.{ArePackets, IsPacketOf}
 use Rattle.bm_base.specs.declared.capture.Body.TheVariants.{Steerable, Unsteered}
 use Rattle.bm_base.specs.declared.capture.Body.{Body}
-use Rattle.bm_replay.proofs.Moments.{HasNumbers, table_numbers}
 use Rattle.bm_replay.proofs.Tags.{landing_fits, landing_tag}
 use Rattle.bm_replay.proofs.Ready.{IsReadyCopy, clock_later, clock_low, packaged, plain, plain_soon, told}
-use Rattle.bm_replay.proofs.Sending.{loss_owed}
+use Rattle.bm_replay.proofs.Sending.{loss_is_due}
 
 -- THE FIRST COPY
 
@@ -65,7 +62,7 @@ pub record IsLanding (stage : Stage) (past : List Event) (flight : Flight) (u : 
   pub label : Label
   pub is_label : label_of stage past flight.packet ≡ Some label
   pub tag : tag_of label flight.tag.hop ≡ Some flight.tag
-  pub place : stop label.entry flight.tag.hop ≡ Some flight.tag.dest
+  pub place : arrives_at label.entry flight.tag.hop ≡ Some flight.tag.dest
 
 landed : (stage : Stage) (past : List Event) (f : Flying) (u : Underway) → IsFlying stage past f u → IsLanding stage past f.flight u
 landed stage past f u is =
@@ -76,7 +73,7 @@ landed stage past f u is =
       label = is.label;
       is_label = ap (λ (k : ℕ). label_of stage past k) is.packet ∙ is.is_label;
       tag = ap (λ (h : Hop). tag_of is.label h) at.is_hop ∙ is.tag;
-      place = ap (λ (h : Hop). stop is.label.entry h) at.is_hop ∙ at.place;
+      place = ap (λ (h : Hop). arrives_at is.label.entry h) at.is_hop ∙ at.place;
     }
 
 landing : (stage : Stage) (past : List Event) (flying : List Flying) (dues : List Underway) (u : Underway) (later : List Underway) (flight : Flight) → AreFlying stage past flying dues → dues ≡ u ∷ later → first_flight flying ≡ Some flight
@@ -85,15 +82,6 @@ landing stage past flying dues u later flight are is first =
     let f = first_flies stage past flying dues u later are is
     in let same : f.0.flight ≡ flight = same_Some _ _ (sym f.1 ∙ first)
     in subst (λ (x : Flight). IsLanding stage past x u) same (landed stage past f.0 u f.2)
-
-stop_number : (e : Entry) (hop : Hop) (s : ServerId) → HasNumbers e → stop e hop ≡ Some s → s.0 ≤ 1024
-stop_number e Direct s numbers is = let same : e.cur ≡ s = same_Some _ _ is in subst (λ (x : ServerId). x.0 ≤ 1024) same numbers.cur
-stop_number e Chained s numbers is = subst (λ (o : Option ServerId). IfSome o (λ x. x.0 ≤ 1024)) is numbers.prev
-
-landing_number : (stage : Stage) (past : List Event) (flight : Flight) (u : Underway) → Run stage past → ((v b : ℕ) → HasNumbers (table stage.script.plan v b)) → IsLanding stage past flight u → flight.tag.dest.0 ≤ 1024
-landing_number stage past flight u run numbers is =
-    let l : IsLabel stage past flight.packet is.label = label_is stage past run flight.packet is.label is.is_label
-    in stop_number is.label.entry flight.tag.hop flight.tag.dest (subst HasNumbers (sym l.entry) (numbers is.label.version.0 _)) is.place
 
 fit_len : (vips : List Vip) (records : List Record) (i : ℕ) (s : Segment) → AllByRecursion (λ r. IsFit vips r) records → steerable (slice_get records i) ≡ Some s → s.len ≤ 1048576
 fit_len vips [] i s fit is = absurd (cc)
@@ -150,7 +138,7 @@ can_arrive R F p at c =
       segment = st.segment;
       is_segment = seg;
       clock = clock_low R F p at (copy_due c.copy) c.ready;
-      len = segment_len p.stage f.0.flight.packet st.segment c.ready.played.sound.records_fit seg;
+      len = segment_len p.stage f.0.flight.packet st.segment c.ready.played.sound.capture.fit seg;
       tag = landing_tag p.stage (past_of p) f.0.flight is.label c.ready.played.sound.script c.ready.played.run is.is_label is.tag;
       fits = landing_fits p.stage (past_of p) f.0.flight is.label c.ready.played.sound.script c.ready.played.plan.count c.ready.played.run is.is_label is.tag;
       number = packet_number p.stage f.0.flight.packet st.segment p.packets.now c.ready.state.packets seg;
@@ -177,26 +165,6 @@ arrive_answered p past at flight s u is number some later keeps seg = record {
 }
 
 -- WHERE IT IS FORWARDED TO
-
-forward_onward : (local : Local) (timeout clock : ℕ) (hop : Hop) (s : Segment) (to : ServerId) → verdict_of local timeout clock hop None s ≡ Forward to → ⊥
-forward_onward local timeout clock hop s to e = grind arith
-
-forward_server : (local : Local) (timeout clock : ℕ) (hop : Hop) (o : Onward) (s : Segment) (to : ServerId) → verdict_of local timeout clock hop (Some o) s ≡ Forward to → o.server ≡ to
-forward_server local timeout clock hop o s to e = grind arith
-
--- a copy that is forwarded was a direct one, and goes to the previous server
-record IsPassed (e : Entry) (hop : Hop) (to : ServerId) : Type 0 where
-  direct : hop ≡ Direct
-  prev : e.prev ≡ Some to
-
-passed_with : (local : Local) (timeout clock : ℕ) (e : Entry) (s : Segment) (to : ServerId) (o : Option ServerId) → e.prev ≡ o → verdict_of local timeout clock Direct (onward_with e.stamp.0 o) s ≡ Forward to → IsPassed e Direct to
-passed_with local timeout clock e s to None at is = absurd (forward_onward local timeout clock Direct s to is)
-passed_with local timeout clock e s to (Some server) at is =
-    record { direct = refl; prev = at ∙ ap (λ (x : ServerId). Some x) (forward_server local timeout clock Direct (record { server = server; stamp = e.stamp.0 }) s to is) }
-
-passed : (local : Local) (timeout clock : ℕ) (e : Entry) (hop : Hop) (s : Segment) (to : ServerId) → verdict_of local timeout clock hop (onward e hop) s ≡ Forward to → IsPassed e hop to
-passed local timeout clock e Chained s to is = absurd (forward_onward local timeout clock Chained s to is)
-passed local timeout clock e Direct s to is = passed_with local timeout clock e s to e.prev refl is
 
 -- the tag of the chained copy
 chained_tag : (l : Label) (hop : Hop) (t : Tag) (to : ServerId) → l.entry.prev ≡ Some to → tag_for l hop t.dest ≡ t → tag_of l Chained ≡ Some (record t { hop = Chained; dest = to })
@@ -234,14 +202,14 @@ told_arrival R F p at flight s c f given soon =
     (arrive_answered p (past_of p) at flight s c.copy.copy c.is_landing c.number c.some c.later c.copy.ready.state.books c.is_segment) tt given soon
 
 kept_arrival : (R : Routes) (F : Rules) (p : Player) (at : Moment) (flight : Flight) (s : Segment) (c : IsAtStop R F p at flight s) (f : Fate) (o : Option Sending) (flying : List Flying) (loss : Option Loss) → sending_of (arrive_what at flight s p) ≡ o
-    → AreFlying p.stage (arrive_event at flight s p ∷ past_of p) flying (put_sent f (length (past_of p)) at.0 o (rest (wire c.copy.ready.fates (past_of p)))) → lost_call loss ≡ barren f o
+    → AreFlying p.stage (arrive_event at flight s p ∷ past_of p) flying (put_sent f (length (past_of p)) at.0 o (rest (wire c.copy.ready.fates (past_of p)))) → lost_call loss ≡ loss_of_fate f o
     → KeepsState (f ∷ c.copy.ready.fates) (arrive_event at flight s p ∷ past_of p) (record (after_arrival at flight s p) { wire = flying; loss = loss })
 kept_arrival R F p at flight s c f o flying loss is are owes = record {
   clock = refl;
-  loss = owes ∙ ap (λ (x : Option Sending). barren f x) (sym is);
+  loss = owes ∙ ap (λ (x : Option Sending). loss_of_fate f x) (sym is);
   flights = subst (λ (x : Option Sending). AreFlying p.stage (arrive_event at flight s p ∷ past_of p) flying (put_sent f (length (past_of p)) at.0 x (rest (wire c.copy.ready.fates (past_of p))))) (sym is) are;
   published = c.copy.ready.state.published;
-  muxes = muxes_stay p.stage (past_of p) (arrive_event at flight s p) p.fleet p.switch (λ m. refl) (λ m. refl) c.copy.ready.state.muxes;
+  muxes = muxes_stay p.stage (past_of p) (arrive_event at flight s p) p.muxes p.switch (λ m. refl) (λ m. refl) c.copy.ready.state.muxes;
   queues = queues_stay p.stage (past_of p) (arrive_event at flight s p) p.close p.retire p.sync p.packet refl refl refl refl c.copy.ready.state.queues;
   books = books_arrived p (past_of p) at flight s c.number c.some c.is_segment c.later c.copy.ready.state.books;
   packets = c.copy.ready.state.packets;
@@ -260,7 +228,7 @@ ended R F p q at flight s c none is =
     in let played : IsPlayed R F p.stage (plain ∷ c.copy.ready.fates) (arrive_event at flight s p ∷ past_of p) = told_arrival R F p at flight s c plain given plain_soon
     in subst (λ (x : Player). HasPlayed R F p x) (sym is)
     (packaged R F p (after_arrival at flight s p) plain c.copy.ready.fates (arrive_event at flight s p) refl refl played
-    (kept_arrival R F p at flight s c plain None (others p.wire) p.loss none (others_arrived R F p at flight s c plain played) (c.copy.ready.state.loss ∙ c.copy.ready.not_owed)))
+    (kept_arrival R F p at flight s c plain None (others p.wire) p.loss none (others_arrived R F p at flight s c plain played) (c.copy.ready.state.loss ∙ c.copy.ready.no_loss_due)))
 
 sends_on : (k : ℕ) (hop : Hop) (server to : ServerId) → hop ≡ Direct → sending_of (Arrive k hop server (Forward to)) ≡ Some (record { packet = k; hop = Chained })
 sends_on k hop server to is = rw is refl
@@ -272,13 +240,13 @@ went_on R F p q at flight s to c forward sending =
     (packaged R F p (sent sending.fate at (chained to flight) (after_arrival at flight s p)) sending.fate c.copy.ready.fates (arrive_event at flight s p) refl refl played
     (kept_arrival R F p at flight s c sending.fate (Some (record { packet = flight.packet; hop = Chained })) _ _ sends
     (copies_fly p.stage (arrive_event at flight s p ∷ past_of p) _ _ flying sending.fate.copies (others p.wire) (rest (wire c.copy.ready.fates (past_of p))) (others_arrived R F p at flight s c sending.fate played))
-    (loss_owed sending.fate (chained to flight) (record { packet = flight.packet; hop = Chained }) refl refl))) where
-      is_passed : IsPassed c.is_landing.label.entry flight.tag.hop to
-      is_passed = passed (local_at p.stage (past_of p) flight.tag.dest s.flow) (timeout p.stage) at.0 c.is_landing.label.entry flight.tag.hop s to
+    (loss_is_due sending.fate (chained to flight) (record { packet = flight.packet; hop = Chained }) refl refl))) where
+      passed : (flight.tag.hop ≡ Direct) × (c.is_landing.label.entry.prev ≡ Some to)
+      passed = forwarded (local_at p.stage (past_of p) flight.tag.dest s.flow) (timeout p.stage) at.0 c.is_landing.label.entry flight.tag.hop s to
           (sym (verdict_same p (past_of p) at flight s c.copy.copy c.is_landing c.number c.some c.later c.copy.ready.state.books) ∙ forward)
 
       sends : sending_of (arrive_what at flight s p) ≡ Some (record { packet = flight.packet; hop = Chained })
-      sends = ap (λ (v : Verdict). sending_of (Arrive flight.packet flight.tag.hop flight.tag.dest v)) forward ∙ sends_on flight.packet flight.tag.hop flight.tag.dest to is_passed.direct
+      sends = ap (λ (v : Verdict). sending_of (Arrive flight.packet flight.tag.hop flight.tag.dest v)) forward ∙ sends_on flight.packet flight.tag.hop flight.tag.dest to passed.0
 
       given : IfSome (sending_of (arrive_what at flight s p)) (λ x. F x.packet x.hop sending.fate)
       given = subst (λ (o : Option Sending). IfSome o (λ x. F x.packet x.hop sending.fate)) (sym sends) sending.gives
@@ -296,7 +264,7 @@ went_on R F p q at flight s to c forward sending =
         packet = refl;
         label = c.is_landing.label;
         is_label = label_stays p.stage (past_of p) (arrive_event at flight s p) flight.packet c.is_landing.label played.run.0 c.is_landing.is_label;
-        tag = chained_tag c.is_landing.label flight.tag.hop flight.tag to is_passed.prev stop_here.is_tag;
+        tag = chained_tag c.is_landing.label flight.tag.hop flight.tag to passed.1 stop_here.is_tag;
       }
 
 by_verdict : (R : Routes) (F : Rules) (p q : Player) (at : Moment) (flight : Flight) (s : Segment) → IsAtStop R F p at flight s → (v : Verdict) → verdict_for p at flight s ≡ v → HasGoneOn F at flight v (after_arrival at flight s p) q → HasPlayed R F p q
@@ -312,7 +280,7 @@ arrived R F p q at c come =
     in by_verdict R F p q at come.flight come.segment (record {
       copy = c;
       is_landing = is;
-      number = landing_number p.stage (past_of p) come.flight c.copy c.ready.played.run (λ v b. table_numbers p.stage.script c.ready.played.sound.script v b) is;
+      number = (landing_tag p.stage (past_of p) come.flight is.label c.ready.played.sound.script c.ready.played.run is.is_label is.tag).dest.1;
       some = c.ready.played.sound.script.setting.shards.0;
       later = (clock_later R F p at (copy_due c.copy) c.ready).0;
       is_segment = come.is_segment;

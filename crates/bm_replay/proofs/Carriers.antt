@@ -1,14 +1,13 @@
 -- What carriers carry, and where they go on to.
-use Rattle.std.proofs.Common.{◌≡◌, ℕ, zero, suc, ◌+◌, ◌^◌, ◌<◌, ◌≤◌, List, [], ◌∷◌, ◌++◌, length, take, drop, Option, Some, None, Result, Ok, Err, refl, sym, ap, subst, ◌∙◌, arith}
+use Rattle.std.proofs.Common.{◌≡◌, ℕ, zero, suc, ◌^◌, ◌<◌, ◌≤◌, List, [], ◌∷◌, ◌++◌, length, take, drop, Option, Some, None, Result, Ok, Err, refl, sym, ap, subst, ◌∙◌, arith}
 use Rattle.std.specs.Prelude.{All, IfSome, MatchResult}
 use Rattle.std.specs.Int.{byte_at, bytes_high_first}
 use Rattle.std.specs.Option.{option_map}
 use Rattle.std.specs.Result.{result_ok}
 use Rattle.std.proofs.Math.Seq.{take-append_seam}
-use Rattle.std.proofs.lemmas.List.{get_or-drop, length-drop}
+use Rattle.std.proofs.lemmas.List.{length-drop}
 use Rattle.std.proofs.lemmas.List.Elements.{All-from_get_or}
 use denote.Ref.{Bor}
-use Rattle.bm_base.specs.declared.ids.Moment.{Moment}
 use Rattle.bm_base.specs.declared.ids.ServerId.{ServerId}
 use Rattle.bm_base.specs.declared.flow.Segment.{Segment}
 use Rattle.bm_base.specs.declared.label.Hop.{Hop}
@@ -21,13 +20,10 @@ use Rattle.bm_encap.specs.declared.fault.EncapFault.{EncapFault}
 use Rattle.bm_encap.specs.Faults.{chained, chained_from, next_hop, next_of, spelling_of, u64_at, unwrapped}
 use Rattle.bm_encap.specs.Spellings.{fields, header, spelled, spelling}
 use Rattle.bm_encap.proofs.Faultless.{read_is}
-use Rattle.bm_encap.proofs.NumberLemmas.{AreOctets, u16_below}
+use Rattle.bm_encap.proofs.NumberLemmas.{AreOctets, octets_from, u16_below}
 use Rattle.bm_encap.proofs.Says.{says}
 use Rattle.bm_encap.proofs.Spelled.{spelling_read}
 use Rattle.bm_encap.proofs.Valid.{valid}
-use Rattle.bm_core.specs.declared.events.Local.{Local}
-use Rattle.bm_core.specs.declared.events.Verdict.TheVariants.{Forward}
-use Rattle.bm_core.specs.Verdicts.{Onward, onward, verdict_of, verdict_on}
 use Rattle.bm_replay.specs.Carriers.{carried, carried_by, next_by, next_tag}
 
 -- A CARRIER THAT SPELLS A TAG
@@ -44,28 +40,7 @@ goes_on tag packet to is stamp version few direct prev =
     ap next_by (spelling_read tag packet is stamp version few)
     ∙ (ap (λ (h : Hop). result_ok (next_of h tag.prev tag)) direct ∙ ap (λ (o : Option ServerId). result_ok (next_of Direct o tag)) prev)
 
--- A COPY THAT IS FORWARDED WAS A DIRECT ONE, AND GOES TO THE PREVIOUS SERVER
-
-forward_onward : (local : Local) (timeout clock : ℕ) (hop : Hop) (s : Segment) (to : ServerId) → verdict_of local timeout clock hop None s ≡ Forward to → ⊥
-forward_onward local timeout clock hop s to is = grind arith
-
-forward_server : (local : Local) (timeout clock : ℕ) (hop : Hop) (o : Onward) (s : Segment) (to : ServerId) → verdict_of local timeout clock hop (Some o) s ≡ Forward to → o.server ≡ to
-forward_server local timeout clock hop o s to is = grind arith
-
-passed : (local : Local) (timeout clock : ℕ) (hop : Hop) (cur : ServerId) (prev : Option ServerId) (stamp : Moment) (s : Segment) (to : ServerId)
-    → verdict_of local timeout clock hop (onward (record { cur = cur; prev = prev; stamp = stamp }) hop) s ≡ Forward to → (hop ≡ Direct) × (prev ≡ Some to)
-passed local timeout clock Chained cur prev stamp s to is = absurd (forward_onward local timeout clock Chained s to is)
-passed local timeout clock Direct cur None stamp s to is = absurd (forward_onward local timeout clock Direct s to is)
-passed local timeout clock Direct cur (Some server) stamp s to is =
-    (refl, ap (λ (x : ServerId). Some x) (forward_server local timeout clock Direct (record { server = server; stamp = stamp.0 }) s to is))
-
-pub forwarded : (local : Local) (timeout clock : ℕ) (tag : Tag) (s : Segment) (to : ServerId) → verdict_on local timeout clock tag s ≡ Forward to → (tag.hop ≡ Direct) × (tag.prev ≡ Some to)
-forwarded local timeout clock tag s to is = passed local timeout clock tag.hop tag.dest tag.prev tag.stamp s to is
-
 -- OCTETS ARE BELOW 256
-
-octets_from : (n : ℕ) (xs : List ℕ) → AreOctets xs → AreOctets (drop n xs)
-octets_from n xs are i = subst (λ (x : ℕ). x < 256) (sym (get_or-drop n xs i 0)) (are (n + i))
 
 octets_more : (xs ys : List ℕ) → AreOctets xs → AreOctets ys → AreOctets (xs ++ ys)
 octets_more [] ys front more i = more i

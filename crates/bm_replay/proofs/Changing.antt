@@ -16,9 +16,9 @@ use Rattle.bm_core.specs.Accounts.{Routes, Rules, counts}
 use Rattle.bm_core.specs.Past.{is_switch_of, version_at}
 use Rattle.bm_core.specs.Schedule.{least, wire}
 use Rattle.bm_core.proofs.Schedules.{IsFrom}
-use Rattle.bm_replay.specs.declared.fleet.Mux.{Mux}
+use Rattle.bm_replay.specs.declared.mux.Mux.{Mux}
 use Rattle.bm_replay.specs.declared.player.Player.{Player}
-use Rattle.bm_replay.specs.Fleets.{HasTable, IsMoved}
+use Rattle.bm_replay.specs.Muxes.{HasTable, IsMoved}
 use Rattle.bm_replay.specs.Players.{CanSwitch, HasLags, HasSwitched, after_publish, happened, switch_for}
 use Rattle.bm_replay.specs.Playing.{HasPlayed, IsPlayed, KeepsMuxes, KeepsState, past_of}
 use Rattle.bm_replay.proofs.Flights.{all_stay}
@@ -36,10 +36,10 @@ published R F p q at d v ready call is = subst (λ (x : Player). HasPlayed R F p
   state : KeepsState (plain ∷ ready.fates) (record { clock = at; what = Publish (record { 0 = v }) } ∷ past_of p) (after_publish at v p)
   state = record {
     clock = refl;
-    loss = ready.state.loss ∙ ready.not_owed;
+    loss = ready.state.loss ∙ ready.no_loss_due;
     flights = all_stay p.stage (past_of p) _ played.run.0 p.wire (wire ready.fates (past_of p)) ready.state.flights;
     published = refl;
-    muxes = muxes_stay p.stage (past_of p) _ p.fleet p.switch (λ m. refl) (λ m. refl) ready.state.muxes;
+    muxes = muxes_stay p.stage (past_of p) _ p.muxes p.switch (λ m. refl) (λ m. refl) ready.state.muxes;
     queues = queues_stay p.stage (past_of p) _ p.close p.retire p.sync p.packet refl refl refl refl ready.state.queues;
     books = books_stay p.stage (past_of p) _ p.shards (λ s h. refl) (omega (arith, (clock_later R F p at d ready).0)) ready.state.books;
     packets = ready.state.packets;
@@ -133,22 +133,22 @@ muxes_more stage past at change m v old new switch plan below version is count o
 
 pub switched : (R : Routes) (F : Rules) (p q : Player) (at : Moment) (d : Due) (m v : ℕ) → IsReady R F p at d → d.call ≡ Switches m v → HasSwitched at m v p q → HasPlayed R F p q
 switched R F p q at d m v ready call come =
-    subst (λ (x : Player). HasPlayed R F p x) (sym come.is) (packaged R F p (happened at (Switch (record { 0 = m }) (record { 0 = v })) (record p { fleet = come.fleet; switch = switch_for p.stage come.fleet })) plain ready.fates event refl refl played state) where
+    subst (λ (x : Player). HasPlayed R F p x) (sym come.is) (packaged R F p (happened at (Switch (record { 0 = m }) (record { 0 = v })) (record p { muxes = come.muxes; switch = switch_for p.stage come.muxes })) plain ready.fates event refl refl played state) where
       event : Event
       event = record { clock = at; what = Switch (record { 0 = m }) (record { 0 = v }) }
 
       played : IsPlayed R F p.stage (plain ∷ ready.fates) (event ∷ past_of p)
       played = told R F p at d ready (Switch (record { 0 = m }) (record { 0 = v })) plain (sym call) tt tt tt plain_soon
 
-      state : KeepsState (plain ∷ ready.fates) (event ∷ past_of p) (happened at (Switch (record { 0 = m }) (record { 0 = v })) (record p { fleet = come.fleet; switch = switch_for p.stage come.fleet }))
+      state : KeepsState (plain ∷ ready.fates) (event ∷ past_of p) (happened at (Switch (record { 0 = m }) (record { 0 = v })) (record p { muxes = come.muxes; switch = switch_for p.stage come.muxes }))
       state =
           let from = switch_from R F p at d m v ready call
           in record {
             clock = refl;
-            loss = ready.state.loss ∙ ready.not_owed;
+            loss = ready.state.loss ∙ ready.no_loss_due;
             flights = all_stay p.stage (past_of p) event played.run.0 p.wire (wire ready.fates (past_of p)) ready.state.flights;
             published = ready.state.published;
-            muxes = muxes_more p.stage (past_of p) at come.change m v p.fleet come.fleet p.switch ready.played.plan from.0 from.2 come.is_change come.count come.others come.moved ready.state.muxes;
+            muxes = muxes_more p.stage (past_of p) at come.change m v p.muxes come.muxes p.switch ready.played.plan from.0 from.2 come.is_change come.count come.others come.moved ready.state.muxes;
             queues = queues_stay p.stage (past_of p) event p.close p.retire p.sync p.packet refl refl refl refl ready.state.queues;
             books = books_stay p.stage (past_of p) event p.shards (λ s h. refl) (omega (arith, (clock_later R F p at d ready).0)) ready.state.books;
             packets = ready.state.packets;

@@ -33,7 +33,7 @@ use Rattle.bm_replay.specs.Shards.{KeepsBooks, before, book_at, books_after, hol
 use Rattle.bm_replay.proofs.Books.{holds_same, places_of, shard_below}
 use Rattle.bm_replay.proofs.Flights.{all_stay}
 use Rattle.bm_replay.proofs.Keeping.{books_more, books_stay, muxes_stay, part_next, part_stays}
-use Rattle.bm_replay.proofs.Moments.{known_number}
+use Rattle.bm_replay.proofs.Servers.{known_server}
 use Rattle.bm_replay.proofs.Ready.{clock_later, IsReady, packaged, plain, plain_soon, told}
 
 -- THE SERVERS AND SHARDS OF COMMANDS
@@ -46,7 +46,7 @@ IsInRange shards d _ = Unit {0}
 
 closes_range : (script : Script) → IsSoundScript script → (shards : ℕ) (commands : List Command) → AllByRecursion (λ c. IsOfKnown script.plan c) commands → Each (λ d. IsInRange shards d d.call) (close_commands commands)
 closes_range script sound shards [] known = tt
-closes_range script sound shards (CloseCommand at s f ∷ commands) known = (known_number script sound (length script.plan.changes) s known.0, closes_range script sound shards commands known.1)
+closes_range script sound shards (CloseCommand at s f ∷ commands) known = ((known_server script sound (length script.plan.changes) s known.0).1, closes_range script sound shards commands known.1)
 closes_range script sound shards (ChangeCommand v ∷ commands) known = closes_range script sound shards commands known.1
 closes_range script sound shards (RetireCommand at s ∷ commands) known = closes_range script sound shards commands known.1
 closes_range script sound shards (SyncCommand at ∷ commands) known = closes_range script sound shards commands known.1
@@ -61,7 +61,7 @@ retires_range script sound shards [] known = tt
 retires_range script sound shards (CloseCommand at s f ∷ commands) known = retires_range script sound shards commands known.1
 retires_range script sound shards (ChangeCommand v ∷ commands) known = retires_range script sound shards commands known.1
 retires_range script sound shards (RetireCommand at s ∷ commands) known =
-    each_append (λ d. IsInRange shards d d.call) (retire_dues s at.0 shards) _ (retire_range s at.0 shards shards (known_number script sound (length script.plan.changes) s known.0) (omega arith))
+    each_append (λ d. IsInRange shards d d.call) (retire_dues s at.0 shards) _ (retire_range s at.0 shards shards (known_server script sound (length script.plan.changes) s known.0).1 (omega arith))
     (retires_range script sound shards commands known.1)
 retires_range script sound shards (SyncCommand at ∷ commands) known = retires_range script sound shards commands known.1
 
@@ -118,10 +118,10 @@ closed_one R F p q at d s f ready call come =
       state : KeepsState (plain ∷ ready.fates) (close_event at s f p ∷ past_of p) (happened at (close_event at s f p).what (record p { close = come.queue; shards = shards_closed at s f p }))
       state = record {
         clock = refl;
-        loss = ready.state.loss ∙ ready.not_owed;
+        loss = ready.state.loss ∙ ready.no_loss_due;
         flights = all_stay p.stage (past_of p) (close_event at s f p) played.run.0 p.wire (wire ready.fates (past_of p)) ready.state.flights;
         published = ready.state.published;
-        muxes = muxes_stay p.stage (past_of p) (close_event at s f p) p.fleet p.switch (λ m. refl) (λ m. refl) ready.state.muxes;
+        muxes = muxes_stay p.stage (past_of p) (close_event at s f p) p.muxes p.switch (λ m. refl) (λ m. refl) ready.state.muxes;
         queues = record {
           due_closes = part_next _ _ _ p.close.head come.queue.head d (past_of p) (close_event at s f p) closes refl (close_from R F p at d s f ready call) ready.state.queues.due_closes come.next;
           due_retires = part_stays _ _ _ (past_of p) (close_event at s f p) retires refl ready.state.queues.due_retires;
@@ -176,10 +176,10 @@ retired_one R F p q at d s h since ready call come =
       state : KeepsState (plain ∷ ready.fates) (retire_event at s h since come.result ∷ past_of p) (happened at (Retire s h since come.result) (record p { retire = come.queue; shards = books_after p.shards (place_of p.stage s h) (AsksRetire since come.result) }))
       state = record {
         clock = refl;
-        loss = ready.state.loss ∙ ready.not_owed;
+        loss = ready.state.loss ∙ ready.no_loss_due;
         flights = all_stay p.stage (past_of p) (retire_event at s h since come.result) played.run.0 p.wire (wire ready.fates (past_of p)) ready.state.flights;
         published = ready.state.published;
-        muxes = muxes_stay p.stage (past_of p) (retire_event at s h since come.result) p.fleet p.switch (λ m. refl) (λ m. refl) ready.state.muxes;
+        muxes = muxes_stay p.stage (past_of p) (retire_event at s h since come.result) p.muxes p.switch (λ m. refl) (λ m. refl) ready.state.muxes;
         queues = record {
           due_closes = part_stays _ _ _ (past_of p) (retire_event at s h since come.result) closes refl ready.state.queues.due_closes;
           due_retires = part_next _ _ _ p.retire.head come.queue.head d (past_of p) (retire_event at s h since come.result) retires refl (retire_from R F p at d s h since.0 ready call) ready.state.queues.due_retires come.next;
@@ -204,10 +204,10 @@ synced R F p q at d ready call come =
       state : KeepsState (plain ∷ ready.fates) (record { clock = at; what = Sync } ∷ past_of p) (happened at Sync (record p { sync = come.queue }))
       state = record {
         clock = refl;
-        loss = ready.state.loss ∙ ready.not_owed;
+        loss = ready.state.loss ∙ ready.no_loss_due;
         flights = all_stay p.stage (past_of p) (record { clock = at; what = Sync }) played.run.0 p.wire (wire ready.fates (past_of p)) ready.state.flights;
         published = ready.state.published;
-        muxes = muxes_stay p.stage (past_of p) (record { clock = at; what = Sync }) p.fleet p.switch (λ m. refl) (λ m. refl) ready.state.muxes;
+        muxes = muxes_stay p.stage (past_of p) (record { clock = at; what = Sync }) p.muxes p.switch (λ m. refl) (λ m. refl) ready.state.muxes;
         queues = record {
           due_closes = part_stays _ _ _ (past_of p) (record { clock = at; what = Sync }) closes refl ready.state.queues.due_closes;
           due_retires = part_stays _ _ _ (past_of p) (record { clock = at; what = Sync }) retires refl ready.state.queues.due_retires;

@@ -42,7 +42,7 @@ new_state stage p new about = record {
     count = new.muxes;
     tables = new.tables;
     versions = λ m. refl;
-    soonest = new.switch ∙ ap (λ (l : List Due). least l) (switches_are stage [] p.fleet new.tables stage.script.setting.muxes (omega arith));
+    soonest = new.switch ∙ ap (λ (l : List Due). least l) (switches_are stage [] p.muxes new.tables stage.script.setting.muxes (omega arith));
   });
   queues = rw about (record { due_closes = new.close; due_retires = new.retire; due_syncs = new.sync; due_packets = new.packet });
   books = rw about (rw new.shards (first_books stage));
@@ -76,7 +76,7 @@ ends R F p playing none over = record {
   is_over : IsOver playing.fates p.stage (past_of p)
   is_over = record {
     none = least_none (can_come (wire playing.fates (past_of p)) p.stage (past_of p)) no_least;
-    not_owed = sym playing.state.loss ∙ ap (λ (o : Option Loss). lost_call o) none;
+    no_loss_due = sym playing.state.loss ∙ ap (λ (o : Option Loss). lost_call o) none;
   }
 
 -- a replay on its way has few events

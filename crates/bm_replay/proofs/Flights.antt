@@ -7,7 +7,7 @@ use Rattle.bm_base.specs.declared.ids.ServerId.{ServerId}
 use Rattle.bm_base.specs.declared.label.Hop.{Hop}
 use Rattle.bm_base.specs.declared.label.Label.{Label}
 use Rattle.bm_base.specs.declared.label.Tag.{Tag}
-use Rattle.bm_base.specs.Labels.{stop, tag_for, tag_of}
+use Rattle.bm_base.specs.Labels.{arrives_at, tag_for, tag_of}
 use Rattle.std.specs.Prelude.{option_map}
 use Rattle.bm_fault.specs.Flying.{Flying}
 use Rattle.bm_fault.specs.Wires.{first_due, first_flight, others, put_flying}
@@ -76,13 +76,13 @@ first_flies stage past (f ∷ flying) [] u later are is = absurd are
 
 -- the tag is one for this stop
 pub record HasStopAt (l : Label) (hop : Hop) (t : Tag) : Type 0 where
-  pub place : stop l.entry hop ≡ Some t.dest
+  pub place : arrives_at l.entry hop ≡ Some t.dest
   pub is_tag : tag_for l hop t.dest ≡ t
   pub is_hop : t.hop ≡ hop
 
 pub tag_stop : (l : Label) (hop : Hop) (t : Tag) → tag_of l hop ≡ Some t → HasStopAt l hop t
-tag_stop l hop t is = by (stop l.entry hop) refl is where
-  by : (o : Option ServerId) → stop l.entry hop ≡ o → option_map (tag_for l hop) o ≡ Some t → HasStopAt l hop t
+tag_stop l hop t is = by (arrives_at l.entry hop) refl is where
+  by : (o : Option ServerId) → arrives_at l.entry hop ≡ o → option_map (tag_for l hop) o ≡ Some t → HasStopAt l hop t
   by None at e = absurd (cc)
   by (Some server) at e =
       let same : tag_for l hop server ≡ t = same_Some _ _ e

@@ -5,15 +5,14 @@ use Rattle.std.proofs.lemmas.List.{length-append}
 use Rattle.std.proofs.lemmas.Bool.{cases_lt}
 use Rattle.bm_base.specs.declared.ids.Moment.{Moment}
 use Rattle.bm_base.specs.declared.ids.ServerId.{ServerId}
-use Rattle.bm_base.specs.declared.flow.Flow.{Flow}
 use Rattle.bm_table.specs.declared.script.Command.{Command}
-use Rattle.bm_table.specs.declared.script.Command.TheVariants.{Change as ChangeCommand, Close as CloseCommand, Retire as RetireCommand, Sync as SyncCommand}
+use Rattle.bm_table.specs.declared.script.Command.TheVariants.{Retire as RetireCommand}
 use Rattle.bm_table.proofs.Gets.{slice_get-append_left, slice_get-push}
 use Rattle.bm_core.specs.declared.schedule.Call.{Call}
 use Rattle.bm_core.specs.declared.schedule.Call.TheVariants.{Retires}
 use Rattle.bm_core.specs.declared.schedule.Due.{Due}
 use Rattle.bm_replay.specs.Queues.{later_shards, retire_at, retires_from}
-use Rattle.bm_core.specs.Schedule.{close_commands, dropped, retire_commands, retire_dues, sync_commands}
+use Rattle.bm_core.specs.Schedule.{dropped, retire_commands, retire_dues}
 
 pub dropped_at : {X : Type 0} (xs : List X) (i : ℕ) (x : X) → slice_get xs i ≡ Some x → dropped i xs ≡ x ∷ dropped (suc i) xs
 dropped_at {X = X} [] i x e = absurd (cc)
@@ -75,27 +74,3 @@ later_here shards s at h c e below is here =
 
 pub later_none : (shards : ℕ) (s : ServerId) (at h : ℕ) (c : Call) → shards - 1 ≤ h → c ≡ Retires s h at → later_shards shards c ≡ []
 later_none shards s at h c above is = rw is (retire_none s at shards (suc h) (omega arith))
-
-pub later_other : (shards : ℕ) (c : Call) → ((server : ServerId) (h at : ℕ) → c ≡ Retires server h at → ⊥) → later_shards shards c ≡ []
-later_other shards (Retires server h at) other = absurd (other server h at refl)
-later_other shards _ other = refl
-
--- COMMANDS AND RECORDS OF OTHER KINDS
-
-pub close_skip : (c : Command) (rest : List Command) → ((at : Moment) (server : ServerId) (flow : Flow) → c ≡ CloseCommand at server flow → ⊥) → close_commands (c ∷ rest) ≡ close_commands rest
-close_skip (CloseCommand at server flow) rest other = absurd (other at server flow refl)
-close_skip (ChangeCommand v) rest other = refl
-close_skip (RetireCommand at server) rest other = refl
-close_skip (SyncCommand at) rest other = refl
-
-pub sync_skip : (c : Command) (rest : List Command) → ((at : Moment) → c ≡ SyncCommand at → ⊥) → sync_commands (c ∷ rest) ≡ sync_commands rest
-sync_skip (SyncCommand at) rest other = absurd (other at refl)
-sync_skip (ChangeCommand v) rest other = refl
-sync_skip (RetireCommand at server) rest other = refl
-sync_skip (CloseCommand at server flow) rest other = refl
-
-pub retire_skip : (shards : ℕ) (c : Command) (rest : List Command) → ((at : Moment) (server : ServerId) → c ≡ RetireCommand at server → ⊥) → retire_commands shards (c ∷ rest) ≡ retire_commands shards rest
-retire_skip shards (RetireCommand at server) rest other = absurd (other at server refl)
-retire_skip shards (ChangeCommand v) rest other = refl
-retire_skip shards (SyncCommand at) rest other = refl
-retire_skip shards (CloseCommand at server flow) rest other = refl

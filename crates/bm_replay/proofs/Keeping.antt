@@ -17,9 +17,9 @@ use Rattle.bm_core.specs.Accounts.{counts}
 use Rattle.bm_core.specs.Books.{Turn, add_turn, book_of, turn_of}
 use Rattle.bm_core.specs.Past.{is_switch_of, version_at}
 use Rattle.bm_core.specs.Schedule.{call_of, closes, dropped, first_of, least, left, retires, steers, switch_due, switches_due, syncs}
-use Rattle.bm_replay.specs.declared.fleet.Mux.{Mux}
+use Rattle.bm_replay.specs.declared.mux.Mux.{Mux}
 use Rattle.bm_replay.specs.declared.queue.Queue.{Queue}
-use Rattle.bm_replay.specs.Fleets.{HasTable, switches_of, version_in}
+use Rattle.bm_replay.specs.Muxes.{HasTable, switches_of, version_in}
 use Rattle.bm_replay.specs.Playing.{KeepsMuxes, KeepsQueues}
 use Rattle.bm_replay.specs.Queues.{IsHead}
 use Rattle.bm_replay.specs.Shards.{IsBookOf, KeepsBooks, book_after, book_at, books_after, known_in, no_book, place_of}
@@ -78,28 +78,28 @@ same_switches stage past e none (suc m) =
     in λ i. same_switches stage past e none m i
     ++ switch_due stage.script.setting.muxes (slice_index_or stage.script.setting.lags m 0) m (same i) (next_change stage.script.plan (same i))
 
-pub muxes_stay : (stage : Stage) (past : List Event) (e : Event) (fleet : List Mux) (switch : Option Due) → ((m : ℕ) → is_switch_of e.what m ≡ false) → ((m : MuxId) → version_at (e ∷ past) m ≡ version_at past m)
-    → KeepsMuxes stage past fleet switch → KeepsMuxes stage (e ∷ past) fleet switch
-muxes_stay stage past e fleet switch none same keeps = record {
+pub muxes_stay : (stage : Stage) (past : List Event) (e : Event) (muxes : List Mux) (switch : Option Due) → ((m : ℕ) → is_switch_of e.what m ≡ false) → ((m : MuxId) → version_at (e ∷ past) m ≡ version_at past m)
+    → KeepsMuxes stage past muxes switch → KeepsMuxes stage (e ∷ past) muxes switch
+muxes_stay stage past e muxes switch none same keeps = record {
   count = keeps.count;
-  tables = λ m below. subst (λ (n : ℕ). HasTable stage.script.plan n (slice_get fleet m)) (sym (count_stays (λ what. is_switch_of what m) e past (none m))) (keeps.tables m below);
+  tables = λ m below. subst (λ (n : ℕ). HasTable stage.script.plan n (slice_get muxes m)) (sym (count_stays (λ what. is_switch_of what m) e past (none m))) (keeps.tables m below);
   versions = λ m. ap (λ (v : _). v.0) (same (record { 0 = m })) ∙ (keeps.versions m ∙ sym (count_stays (λ what. is_switch_of what m) e past (none m)));
   soonest = keeps.soonest ∙ ap (λ (l : List Due). least l) (sym (same_switches stage past e none stage.script.setting.muxes));
 }
 
-version_here : (fleet : List Mux) (m : ℕ) (x : Mux) → slice_get fleet m ≡ Some x → version_in fleet m ≡ x.version
+version_here : (muxes : List Mux) (m : ℕ) (x : Mux) → slice_get muxes m ≡ Some x → version_in muxes m ≡ x.version
 version_here [] m x is = absurd (cc)
-version_here (y ∷ fleet) zero x is = let same : y ≡ x = cc in ap (λ (z : Mux). z.version) same
-version_here (y ∷ fleet) (suc m) x is = version_here fleet m x is
+version_here (y ∷ muxes) zero x is = let same : y ≡ x = cc in ap (λ (z : Mux). z.version) same
+version_here (y ∷ muxes) (suc m) x is = version_here muxes m x is
 
 -- the switches of muxes at these versions
-pub switches_are : (stage : Stage) (past : List Event) (fleet : List Mux) → ((m : ℕ) → m < stage.script.setting.muxes → HasTable stage.script.plan (counts past (λ what. is_switch_of what m)) (slice_get fleet m))
-    → (n : ℕ) → n ≤ stage.script.setting.muxes → switches_of stage.script.plan stage.script.setting.lags stage.script.setting.muxes fleet n ≡ switches_due stage past n
-switches_are stage past fleet tables zero below = refl
-switches_are stage past fleet tables (suc m) below =
+pub switches_are : (stage : Stage) (past : List Event) (muxes : List Mux) → ((m : ℕ) → m < stage.script.setting.muxes → HasTable stage.script.plan (counts past (λ what. is_switch_of what m)) (slice_get muxes m))
+    → (n : ℕ) → n ≤ stage.script.setting.muxes → switches_of stage.script.plan stage.script.setting.lags stage.script.setting.muxes muxes n ≡ switches_due stage past n
+switches_are stage past muxes tables zero below = refl
+switches_are stage past muxes tables (suc m) below =
     let t = tables m (omega arith)
-    in let same : version_in fleet m ≡ counts past (λ what. is_switch_of what m) = version_here fleet m t.mux t.is_mux ∙ t.version
-    in λ i. switches_are stage past fleet tables m (omega arith) i
+    in let same : version_in muxes m ≡ counts past (λ what. is_switch_of what m) = version_here muxes m t.mux t.is_mux ∙ t.version
+    in λ i. switches_are stage past muxes tables m (omega arith) i
     ++ switch_due stage.script.setting.muxes (slice_index_or stage.script.setting.lags m 0) m (same i) (next_change stage.script.plan (same i))
 
 -- BOOKS

@@ -18,12 +18,14 @@ use Rattle.bm_core.specs.declared.events.Verdict.TheVariants.{Forward}
 use Rattle.bm_core.specs.declared.events.What.TheVariants.{Arrive}
 use Rattle.bm_core.specs.Accounts.{Rules}
 use Rattle.bm_core.specs.Past.{segment_of}
+use Rattle.bm_core.specs.Verdicts.{entry_of}
+use Rattle.bm_core.proofs.Forwards.{forwarded}
 use Rattle.bm_shard.specs.Books.{clock_after}
 use Rattle.bm_replay.specs.declared.player.Player.{Player}
 use Rattle.bm_replay.specs.Carriers.{carried, next_tag}
 use Rattle.bm_replay.specs.Players.{CanArrive, HasArrived, HasGoneOn, after_arrival, happened, place_for, verdict_for}
 use Rattle.bm_replay.specs.Shards.{arrival, book_at, books_after, known_in}
-use Rattle.bm_replay.proofs.Carriers.{carries, forwarded, goes_on}
+use Rattle.bm_replay.proofs.Carriers.{carries, goes_on}
 
 -- the copy that comes first, with a valid tag, and the packet within
 pub record IsCopy (p : Player) (flight : Flight) (s : Segment) (octets : List ℕ) : Type 0 where
@@ -70,7 +72,7 @@ says_next at p flight s segment tag octets carrier verdict is same read by to fo
 
       passes : (flight.tag.hop ≡ Direct) × (flight.tag.prev ≡ Some to)
       passes = forwarded (known_in (book_at p.shards (place_for p flight s)) s.flow) (book_at p.shards (place_for p flight s)).shard.timeout
-          (clock_after (reverse (book_at p.shards (place_for p flight s)).entries) (arrival flight s at)).0 flight.tag s to forwards
+          (clock_after (reverse (book_at p.shards (place_for p flight s)).entries) (arrival flight s at)).0 (entry_of flight.tag) flight.tag.hop s to forwards
 
 -- the copy arrived, and went on
 pub comes : (F : Rules) (at : Moment) (p wrote q : Player) (can : CanArrive at p) (flight : Flight) (segment : Segment) (tag : Tag) (verdict : Verdict) → first_flight p.wire ≡ Some flight → IsReadAs flight can.segment tag segment

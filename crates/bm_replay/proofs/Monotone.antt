@@ -1,15 +1,9 @@
 -- A replay by a route and a fault rule is one by any that answer the same and more.
-use Rattle.std.proofs.Common.{◌≡◌, ℕ, List, [], ◌∷◌, Option, Some, None, ap, ◌∙◌}
+use Rattle.std.proofs.Common.{ℕ, List, [], ◌∷◌, Option, Some, None}
 use Rattle.std.specs.Prelude.{IfSome}
-use denote.Ref.{Bor}
-use denote.Param.Members.{Shared}
 use Rattle.bm_base.specs.declared.flow.Flow.{Flow}
 use Rattle.bm_base.specs.declared.label.Hop.{Hop}
 use Rattle.bm_base.specs.declared.receive.Fate.{Fate}
-use Rattle.bm_route.specs.Routes.{Answers}
-use Rattle.bm_table.specs.declared.setting.Setting.{Setting}
-use Rattle.bm_core.specs.Rules.{fate_of, mux_of}
-use Rattle.bm_replay.specs.Replays.{setting_route, setting_rule}
 use Rattle.bm_core.specs.declared.events.What.{What}
 use Rattle.bm_core.specs.declared.events.What.TheVariants.{Steer}
 use Rattle.bm_core.specs.declared.events.Event.{Event}
@@ -50,13 +44,3 @@ replay_more R S F G routes rules h is = record {
     commands = is.account.commands;
   };
 }
-
--- a replay whose route and fault rule answer what the setting's do is one by the setting
-pub setting_replay : (setting : Setting) (R : Routes) (F : Rules) → ((k : ℕ) (f : Flow) (m : ℕ) → R k f m → m ≡ mux_of setting k f) → ((k : ℕ) (hop : Hop) (f : Fate) → F k hop f → f ≡ fate_of setting k hop)
-    → (h : History) → IsReplay R F h → IsReplay (setting_route setting) (setting_rule setting) h
-setting_replay setting R F routes rules h is = replay_more R (setting_route setting) F (setting_rule setting) routes rules h is
-
--- what a stored rule answers, where its calls give just this
-pub answers_just : {X : Type 0} (g : Shared X (ℕ × (Bor Flow × Unit {0})) ℕ) (rule : X) (mux : ℕ → Flow → ℕ) → ((k : ℕ) (f : Bor Flow) (m : ℕ) → g.post rule (k, (f, tt)) m → m ≡ mux k f.now)
-    → (k : ℕ) (f : Flow) (m : ℕ) → Answers g rule k f m → m ≡ mux k f
-answers_just g rule mux just k f m is = just k is.shown m is.met ∙ ap (λ (x : Flow). mux k x) is.shows

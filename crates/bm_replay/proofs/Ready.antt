@@ -19,7 +19,7 @@ use Rattle.bm_core.specs.declared.schedule.Underway.{Underway}
 use Rattle.bm_core.specs.Accounts.{Routes, Rules, IsRouted, counts}
 use Rattle.bm_core.specs.Past.{Sending, sending_of, newest}
 use Rattle.bm_core.specs.Runs.{last_clock, next}
-use Rattle.bm_core.specs.Schedule.{arrival_due, call_of, can_come, close_commands, closes, first_of, least, left, owed, packets_from, publish_due, retire_commands, retires, steers, switches_due, sync_commands, syncs, wire, IsAnswered, IsNextBy}
+use Rattle.bm_core.specs.Schedule.{arrival_due, call_of, can_come, close_commands, closes, first_of, least, left, due_loss, packets_from, publish_due, retire_commands, retires, steers, switches_due, sync_commands, syncs, wire, IsAnswered, IsNextBy}
 use Rattle.bm_core.specs.Weights.{IsSoon}
 use Rattle.bm_core.proofs.Existing.{clock_law}
 use Rattle.bm_core.proofs.Schedules.{IsFrom, each_from, least_is}
@@ -75,17 +75,17 @@ state_turn fates past p keeps =
     (least_is (HasRank 6) _ (left_rank 6 _ (counts past (λ what. steers (call_of what))) (packets_rank 1 p.stage.capture.records))))
     (first_due_is p.stage past p.wire (wire fates past) keeps.flights)
 
-not_owed : (fates : List Fate) (past : List Event) (p : Player) → KeepsState fates past p → p.loss ≡ None → owed fates past ≡ None
-not_owed fates past p keeps none = sym keeps.loss ∙ ap (λ (o : Option Loss). lost_call o) none
+no_loss_due : (fates : List Fate) (past : List Event) (p : Player) → KeepsState fates past p → p.loss ≡ None → due_loss fates past ≡ None
+no_loss_due fates past p keeps none = sym keeps.loss ∙ ap (λ (o : Option Loss). lost_call o) none
 
 -- READY
 
--- this is the least of what can come, and nothing is owed
+-- this is the least of what can come, and nothing is due
 pub record IsReady (R : Routes) (F : Rules) (p : Player) (at : Moment) (d : Due) : Type 0 where
   pub fates : List Fate
   pub played : IsPlayed R F p.stage fates (past_of p)
   pub state : KeepsState fates (past_of p) p
-  pub not_owed : owed fates (past_of p) ≡ None
+  pub no_loss_due : due_loss fates (past_of p) ≡ None
   pub is_least : least (can_come (wire fates (past_of p)) p.stage (past_of p)) ≡ Some d
   pub from : IsFrom (wire fates (past_of p)) p.stage (past_of p) d d.call
   pub is_clock : at.0 ≡ next (last_clock (past_of p)) d.moment
@@ -96,7 +96,7 @@ ready_by R F p at d playing none is clock = record {
   fates = playing.fates;
   played = playing.played;
   state = playing.state;
-  not_owed = not_owed playing.fates (past_of p) p playing.state none;
+  no_loss_due = no_loss_due playing.fates (past_of p) p playing.state none;
   is_least = least_here;
   from = subst (λ (o : Option Due). IfSome o (λ x. IsFrom (wire playing.fates (past_of p)) p.stage (past_of p) x x.call)) least_here
       (least_is (λ x. IsFrom (wire playing.fates (past_of p)) p.stage (past_of p) x x.call) _ (each_from (wire playing.fates (past_of p)) p.stage (past_of p)));
@@ -144,7 +144,7 @@ clock_later R F p at d ready = let c = ready.is_clock in (omega arith, omega ari
 
 -- the event comes next
 next_by : (R : Routes) (F : Rules) (p : Player) (at : Moment) (d : Due) (ready : IsReady R F p at d) (what : What) → call_of what ≡ d.call → IsNextBy ready.fates p.stage (past_of p) (record { clock = at; what = what })
-next_by R F p at d ready what call = rw (ready.not_owed, ready.is_least) (call, ready.is_clock)
+next_by R F p at d ready what call = rw (ready.no_loss_due, ready.is_least) (call, ready.is_clock)
 
 -- a replay so far with one event more
 pub played_more : (R : Routes) (F : Rules) (stage : Stage) (fates : List Fate) (past : List Event) (e : Event) (f : Fate) → IsPlayed R F stage fates past → IsNextBy fates stage past e → IsAnswered stage past e.clock.0 e.what → IsRouted R stage e.what

@@ -1,22 +1,21 @@
 -- Small stages are sound.
-use Rattle.std.proofs.Common.{◌≡◌, ◌≢◌, ℕ, zero, suc, ◌<◌, ◌≤◌, Bool, true, false, if◌then◌else◌, inl, inr, List, [], ◌∷◌, ◌++◌, eqb, refl, sym, ap, subst, ◌∙◌, arith}
-use Rattle.std.specs.Prelude.{IfSome}
+use Rattle.std.proofs.Common.{◌≡◌, ℕ, zero, suc, ◌*◌, ◌^◌, ◌≤◌, Bool, true, false, if◌then◌else◌, List, [], ◌∷◌, ◌++◌, length, map, refl, sym, ◌∙◌, arith}
 use Rattle.std.specs.List.{AllByRecursion}
-use Rattle.std.proofs.lemmas.Bool.{cases_Bool, eqb-true}
 use Rattle.bm_base.specs.declared.ids.ServerId.{ServerId}
 use Rattle.bm_base.specs.declared.flow.Flow.{Flow}
 use Rattle.bm_base.specs.declared.capture.Capture.{Capture}
 use Rattle.bm_base.specs.declared.capture.Record.{Record}
 use Rattle.bm_base.specs.Captures.{AreRising, IsFit, IsReplayable}
-use Rattle.bm_table.specs.declared.plan.Kind.TheVariants.{Shift}
 use Rattle.bm_table.specs.declared.script.Command.{Command}
 use Rattle.bm_table.specs.declared.script.Command.TheVariants.{Change as ChangeCommand, Close as CloseCommand}
 use Rattle.bm_table.specs.Planned.{Planned}
-use Rattle.bm_table.specs.Scripts.{IsSoundScript}
+use Rattle.bm_table.specs.Scripts.{IsOfKnown, IsSoundScript, NamesVersions, moment_of_command}
 use Rattle.bm_table.specs.Settings.{IsSetting, IsWithin, plain_setting}
-use Rattle.bm_table.specs.Tables.{IsOrderly, brings, is_drained, is_known, moment_of, next_change, opening, table}
+use Rattle.bm_table.specs.Tables.{IsOrderly, is_drained}
 use Rattle.bm_table.proofs.SettingLemmas.{IsSetting-plain_setting}
 use Rattle.bm_core.specs.Stages.{IsSound}
+use Rattle.bm_core.proofs.WorkedMoves.{moved}
+use Rattle.bm_core.proofs.WorkedWhole.{moved_orderly}
 
 -- CAPTURES
 
@@ -69,44 +68,6 @@ bare_orderly = record {
   drained = λ n v b s is low inside bucket. absurd (let h : ◌≡◌ {A = Bool} false true = sym (bare_drained n s) ∙ is in cc);
 }
 
-abbrev moved_plan : Planned
-moved_plan = record {
-  buckets = 8;
-  servers = record { 0 = 1 } ∷ record { 0 = 2 } ∷ [];
-  changes = record { moment = record { 0 = 500 }; kind = Shift; moves = record { bucket = 4; to = record { 0 = 2 } } ∷ [] } ∷ [];
-}
-
-moved_drained : (n : ℕ) (s : ServerId) → is_drained moved_plan n s ≡ false
-moved_drained zero s = refl
-moved_drained (suc zero) s = refl
-moved_drained (suc (suc n)) s = moved_drained (suc n) s
-
-moved_known : (v b : ℕ) → IfSome (brings (next_change moved_plan v) b) (λ to. is_known moved_plan (suc v) to ≡ true)
-moved_known (suc v) b = tt
-moved_known zero b = elim (cases_Bool (eqb 4 b)) [ inl is ↦ rw is refl | inr other ↦ rw other tt ]
-
-moved_changes : (v b : ℕ) → IfSome (brings (next_change moved_plan v) b) (λ to. to ≢ (table moved_plan v b).cur)
-moved_changes (suc v) b = tt
-moved_changes zero b = elim (cases_Bool (eqb 4 b)) [
-  | inl is ↦
-      let same : 4 ≡ b = eqb-true 4 b is
-      in rw is (subst (λ (n : ℕ). record { 0 = 2 } ≢ (opening moved_plan n).cur) same (λ e. absurd (let bad : ◌≡◌ {A = ℕ} 2 1 = ap (λ (s : ServerId). s.0) e in omega arith)))
-  | inr other ↦ rw other tt
-]
-
-moved_stamps : (v w : ℕ) → v ≤ w → w < 1 → moment_of (next_change moved_plan v) ≤ moment_of (next_change moved_plan w)
-moved_stamps v (suc w) low inside = absurd (omega arith)
-moved_stamps zero zero low inside = omega arith
-moved_stamps (suc v) zero low inside = absurd (omega arith)
-
-moved_orderly : IsOrderly moved_plan
-moved_orderly = record {
-  known = moved_known;
-  stamps = moved_stamps;
-  changes = moved_changes;
-  drained = λ n v b s is low inside bucket. absurd (let h : ◌≡◌ {A = Bool} false true = sym (moved_drained n s) ∙ is in cc);
-}
-
 -- STAGES
 
 abbrev row_flow : Flow
@@ -115,36 +76,30 @@ row_flow = record { src = 0x0a00_0001; dst = 0xc000_0201; sport = 1000; dport = 
 abbrev row_closes : List Command
 row_closes = CloseCommand (record { 0 = 500 }) (record { 0 = 1 }) row_flow ∷ CloseCommand (record { 0 = 600 }) (record { 0 = 1 }) row_flow ∷ []
 
-bare_script : (capacity : ℕ) → IsWithin 1 65536 capacity → (closing : Bool) → IsSoundScript (record { setting = record plain_setting { shards = 1; capacity = capacity }; plan = bare_plan; commands = if closing then row_closes else [] })
-bare_script capacity within true = record {
+bare_script : (capacity : ℕ) → IsWithin 1 65536 capacity → (commands : List Command) → length commands ≤ 65536 → AreRising 0 (4 * 10 ^ 18) (map (λ c. moment_of_command bare_plan c) commands) → NamesVersions 1 0 commands → AllByRecursion (λ c. IsOfKnown bare_plan c) commands
+    → IsSoundScript (record { setting = record plain_setting { shards = 1; capacity = capacity }; plan = bare_plan; commands = commands })
+bare_script capacity within commands few rise names known = record {
   setting = row_setting capacity within;
   buckets = refl;
   servers = refl;
   adds = tt;
   plan = bare_orderly;
-  few_commands = omega arith;
-  commands_rise = (omega arith, omega arith, (omega arith, omega arith, tt));
-  versions = refl;
-  of_known = (refl, (refl, tt));
+  few_commands = few;
+  commands_rise = rise;
+  versions = names;
+  of_known = known;
 }
-bare_script capacity within false = record {
-  setting = row_setting capacity within;
-  buckets = refl;
-  servers = refl;
-  adds = tt;
-  plan = bare_orderly;
-  few_commands = omega arith;
-  commands_rise = tt;
-  versions = refl;
-  of_known = tt;
-}
+
+closing_script : (capacity : ℕ) → IsWithin 1 65536 capacity → (closing : Bool) → IsSoundScript (record { setting = record plain_setting { shards = 1; capacity = capacity }; plan = bare_plan; commands = if closing then row_closes else [] })
+closing_script capacity within true = bare_script capacity within row_closes (omega arith) (omega arith, omega arith, (omega arith, omega arith, tt)) refl (refl, (refl, tt))
+closing_script capacity within false = bare_script capacity within [] (omega arith) tt refl tt
 
 pub bare_sound : (capacity : ℕ) → IsWithin 1 65536 capacity → (closing : Bool) (capture : Capture) → IsReplayable plain_setting.vips capture
     → IsSound (record { script = record { setting = record plain_setting { shards = 1; capacity = capacity }; plan = bare_plan; commands = if closing then row_closes else [] }; capture = capture })
-bare_sound capacity within closing capture fit = record { script = bare_script capacity within closing; few_records = fit.few; records_rise = fit.rise; records_fit = fit.fit }
+bare_sound capacity within closing capture fit = record { script = closing_script capacity within closing; capture = fit }
 
 pub moved_sound : (capture : Capture) → IsReplayable plain_setting.vips capture
-    → IsSound (record { script = record { setting = record plain_setting { shards = 1; capacity = 4096 }; plan = moved_plan; commands = ChangeCommand (record { 0 = 1 }) ∷ [] }; capture = capture })
+    → IsSound (record { script = record { setting = record plain_setting { shards = 1; capacity = 4096 }; plan = moved.script.plan; commands = ChangeCommand (record { 0 = 1 }) ∷ [] }; capture = capture })
 moved_sound capture fit = record {
   script = record {
     setting = row_setting 4096 (omega arith, omega arith);
@@ -157,7 +112,5 @@ moved_sound capture fit = record {
     versions = (refl, refl);
     of_known = (tt, tt);
   };
-  few_records = fit.few;
-  records_rise = fit.rise;
-  records_fit = fit.fit;
+  capture = fit;
 }

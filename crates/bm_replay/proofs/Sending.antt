@@ -21,14 +21,14 @@ use Rattle.bm_core.specs.declared.schedule.Due.{Due}
 use Rattle.bm_core.specs.Accounts.{Routes, Rules, counts}
 use Rattle.bm_core.specs.Past.{Sending, bucket, is_switch_of, label_of, labelled, segment_of, version_at}
 use Rattle.bm_core.specs.Runs.{last_clock}
-use Rattle.bm_core.specs.Schedule.{barren, closes, first_of, left, owed, packets_from, retires, steers, syncs, wire, IsNextBy}
+use Rattle.bm_core.specs.Schedule.{loss_of_fate, closes, first_of, left, due_loss, packets_from, retires, steers, syncs, wire, IsNextBy}
 use Rattle.bm_core.proofs.Existing.{clock_law}
 use Rattle.bm_core.proofs.Schedules.{IsFrom}
 use Rattle.bm_core.proofs.Stepping.{new_packet}
-use Rattle.bm_replay.specs.declared.fleet.Mux.{Mux}
+use Rattle.bm_replay.specs.declared.mux.Mux.{Mux}
 use Rattle.bm_replay.specs.declared.player.Loss.{Loss}
 use Rattle.bm_replay.specs.declared.player.Player.{Player}
-use Rattle.bm_replay.specs.Fleets.{HasTable, IsWritten}
+use Rattle.bm_replay.specs.Muxes.{HasTable, IsWritten}
 use Rattle.bm_replay.specs.Flights.{IsFlying}
 use Rattle.bm_replay.specs.Players.{CanSteer, HasSteered, after_loss, happened, loss_of, sent}
 use Rattle.bm_replay.specs.Playing.{HasPlayed, IsPlayed, IsPlaying, KeepsState, lost_call, past_of}
@@ -49,11 +49,11 @@ lose_event loss p = record { clock = record { 0 = suc p.clock.0 }; what = Lose l
 
 pub lost : (R : Routes) (F : Rules) (p q : Player) (loss : Loss) → IsPlaying R F p → p.loss ≡ Some loss → q ≡ after_loss loss p → HasPlayed R F p q
 lost R F p q loss playing some is = subst (λ (x : Player). HasPlayed R F p x) (sym is) (packaged R F p (after_loss loss p) plain playing.fates (lose_event loss p) refl refl played state) where
-  is_owed : owed playing.fates (past_of p) ≡ Some (Loses loss.packet loss.hop)
-  is_owed = sym playing.state.loss ∙ ap (λ (o : Option Loss). lost_call o) some
+  is_loss_due : due_loss playing.fates (past_of p) ≡ Some (Loses loss.packet loss.hop)
+  is_loss_due = sym playing.state.loss ∙ ap (λ (o : Option Loss). lost_call o) some
 
   next : IsNextBy playing.fates p.stage (past_of p) (lose_event loss p)
-  next = rw is_owed (refl, ap (λ (n : ℕ). suc n) playing.state.clock)
+  next = rw is_loss_due (refl, ap (λ (n : ℕ). suc n) playing.state.clock)
 
   played : IsPlayed R F p.stage (plain ∷ playing.fates) (lose_event loss p ∷ past_of p)
   played = played_more R F p.stage playing.fates (past_of p) (lose_event loss p) plain playing.played next tt tt tt plain_soon
@@ -64,7 +64,7 @@ lost R F p q loss playing some is = subst (λ (x : Player). HasPlayed R F p x) (
     loss = refl;
     flights = all_stay p.stage (past_of p) (lose_event loss p) played.run.0 p.wire (wire playing.fates (past_of p)) playing.state.flights;
     published = playing.state.published;
-    muxes = muxes_stay p.stage (past_of p) (lose_event loss p) p.fleet p.switch (λ m. refl) (λ m. refl) playing.state.muxes;
+    muxes = muxes_stay p.stage (past_of p) (lose_event loss p) p.muxes p.switch (λ m. refl) (λ m. refl) playing.state.muxes;
     queues = queues_stay p.stage (past_of p) (lose_event loss p) p.close p.retire p.sync p.packet refl refl refl refl playing.state.queues;
     books = books_stay p.stage (past_of p) (lose_event loss p) p.shards (λ s h. refl) (omega (arith, playing.state.clock)) playing.state.books;
     packets = playing.state.packets;
@@ -79,8 +79,8 @@ some_segment : (o : Option Segment) → is_some o ≡ true → (s : Segment) × 
 some_segment None is = absurd (cc)
 some_segment (Some s) is = (s, refl)
 
-table_length : (stage : Stage) (past : List Event) (fleet : List Mux) (n : ℕ) (o : Option Mux) (x : Mux) → stage.script.plan.buckets ≡ stage.script.setting.buckets → HasTable stage.script.plan n o → o ≡ Some x → length x.table ≡ stage.script.setting.buckets
-table_length stage past fleet n o x same t is =
+table_length : (stage : Stage) (past : List Event) (muxes : List Mux) (n : ℕ) (o : Option Mux) (x : Mux) → stage.script.plan.buckets ≡ stage.script.setting.buckets → HasTable stage.script.plan n o → o ≡ Some x → length x.table ≡ stage.script.setting.buckets
+table_length stage past muxes n o x same t is =
     let here : t.mux ≡ x = same_Some _ _ (sym t.is_mux ∙ is)
     in subst (λ (y : Mux). length y.table ≡ stage.script.setting.buckets) here (t.table.count ∙ same)
 
@@ -94,8 +94,8 @@ can_steer R F p at d k ready call =
       clock = clock_low R F p at d ready;
       buckets = ready.played.sound.script.setting.buckets;
       muxes = let h = ready.state.muxes.count in omega arith;
-      tables = λ m x below is. table_length p.stage (past_of p) p.fleet (counts (past_of p) (λ what. is_switch_of what m)) (slice_get p.fleet m) x ready.played.sound.script.buckets (ready.state.muxes.tables m below) is;
-      few = ready.played.sound.few_records;
+      tables = λ m x below is. table_length p.stage (past_of p) p.muxes (counts (past_of p) (λ what. is_switch_of what m)) (slice_get p.muxes m) x ready.played.sound.script.buckets (ready.state.muxes.tables m below) is;
+      few = ready.played.sound.capture.few;
     }
 
 -- what the schedule says of the label
@@ -119,9 +119,9 @@ new_label stage past k m s at is =
     in let new : label_of stage (record { clock = at; what = Steer k m } ∷ past) k ≡ labelled stage past m (segment_of stage k) = rw here refl
     in new ∙ ap (λ (o : Option Segment). labelled stage past m o) is
 
--- the loss of a sending without copies is owed
-pub loss_owed : (f : Fate) (flight : Flight) (s : Sending) → s.packet ≡ flight.packet → s.hop ≡ flight.tag.hop → lost_call (loss_of f flight) ≡ barren f (Some s)
-loss_owed f flight s packet hop = elim (cases_Bool (eqb f.copies 0)) [
+-- the loss of a sending without copies is due
+pub loss_is_due : (f : Fate) (flight : Flight) (s : Sending) → s.packet ≡ flight.packet → s.hop ≡ flight.tag.hop → lost_call (loss_of f flight) ≡ loss_of_fate f (Some s)
+loss_is_due f flight s packet hop = elim (cases_Bool (eqb f.copies 0)) [
   | inl none ↦ rw none (λ i. Some (Loses (sym packet i) (sym hop i)))
   | inr some ↦ rw some refl
 ]
@@ -146,7 +146,7 @@ steered R F p q at d k ready call come =
       played = told R F p at d ready (Steer k come.mux) come.sending.fate (sym call) come.below routed given come.sending.soon
 
       label : come.label ≡ label_for p.stage (past_of p) come.mux come.segment
-      label = written_label p.stage (past_of p) come.mux come.segment come.label (slice_get p.fleet come.mux.0) ready.played.sound.script.setting.buckets.0 ready.played.sound.script.buckets
+      label = written_label p.stage (past_of p) come.mux come.segment come.label (slice_get p.muxes come.mux.0) ready.played.sound.script.setting.buckets.0 ready.played.sound.script.buckets
           (ready.state.muxes.versions come.mux.0) (ready.state.muxes.tables come.mux.0 come.below) come.written
 
       flying : IsFlying p.stage (steer_event at k come.mux ∷ past_of p) (record { due = record { 0 = at.0 + come.sending.fate.delay }; flight = record { packet = k; tag = come.tag } })
@@ -162,11 +162,11 @@ steered R F p q at d k ready call come =
       state : KeepsState (come.sending.fate ∷ ready.fates) (steer_event at k come.mux ∷ past_of p) (sent come.sending.fate at (record { packet = k; tag = come.tag }) (happened at (Steer k come.mux) (record p { packet = come.queue })))
       state = record {
         clock = refl;
-        loss = loss_owed come.sending.fate (record { packet = k; tag = come.tag }) (record { packet = k; hop = Direct }) refl (sym tag.is_hop);
+        loss = loss_is_due come.sending.fate (record { packet = k; tag = come.tag }) (record { packet = k; hop = Direct }) refl (sym tag.is_hop);
         flights = copies_fly p.stage (steer_event at k come.mux ∷ past_of p) _ _ flying come.sending.fate.copies p.wire (wire ready.fates (past_of p))
             (all_stay p.stage (past_of p) (steer_event at k come.mux) played.run.0 p.wire (wire ready.fates (past_of p)) ready.state.flights);
         published = ready.state.published;
-        muxes = muxes_stay p.stage (past_of p) (steer_event at k come.mux) p.fleet p.switch (λ m. refl) (λ m. refl) ready.state.muxes;
+        muxes = muxes_stay p.stage (past_of p) (steer_event at k come.mux) p.muxes p.switch (λ m. refl) (λ m. refl) ready.state.muxes;
         queues = record {
           due_closes = part_stays _ _ _ (past_of p) (steer_event at k come.mux) closes refl ready.state.queues.due_closes;
           due_retires = part_stays _ _ _ (past_of p) (steer_event at k come.mux) retires refl ready.state.queues.due_retires;

@@ -1,9 +1,7 @@
 -- The tag of each copy under way is valid.
-use Rattle.std.proofs.Common.{◌≡◌, ◌≢◌, ℕ, zero, suc, ◌+◌, ◌*◌, ◌%◌, ◌^◌, ◌<◌, ◌≤◌, true, inl, inr, List, [], ◌∷◌, Option, Some, None, option_map, length, slice_get, get_or, eqb, refl, sym, ap, subst, arith}
+use Rattle.std.proofs.Common.{◌≡◌, ℕ, zero, suc, ◌*◌, ◌^◌, ◌<◌, ◌≤◌, inl, inr, List, [], ◌∷◌, Option, Some, None, option_map, length, eqb, refl, sym, ap, subst, arith}
 use Rattle.std.specs.Prelude.{IfSome}
-use Rattle.std.specs.List.{AllByRecursion}
-use Rattle.std.proofs.lemmas.Bool.{cases_Bool, or_cases, eqb-true}
-use Rattle.std.proofs.lemmas.Nat.{mod_below}
+use Rattle.std.proofs.lemmas.Bool.{cases_Bool}
 use Rattle.std.proofs.lemmas.Option.{same_Some}
 use Rattle.bm_base.specs.declared.ids.MuxId.{MuxId}
 use Rattle.bm_base.specs.declared.ids.ServerId.{ServerId}
@@ -16,13 +14,9 @@ use Rattle.bm_base.specs.declared.label.Tag.{Tag}
 use Rattle.bm_base.specs.Labels.{tag_for, tag_of}
 use Rattle.bm_base.specs.Tags.{IsServer, IsTag}
 use Rattle.bm_fault.specs.declared.wire.Flight.{Flight}
-use Rattle.bm_table.specs.declared.plan.Change.{Change}
-use Rattle.bm_table.specs.declared.plan.Kind.{Kind}
-use Rattle.bm_table.specs.declared.plan.Kind.TheVariants.{Add, Drain, Shift}
 use Rattle.bm_table.specs.declared.script.Script.{Script}
-use Rattle.bm_table.specs.Scripts.{IsSoundScript, NamesServer}
-use Rattle.bm_table.specs.Settings.{RiseFrom}
-use Rattle.bm_table.specs.Tables.{adds, brings, is_add, is_among, is_known, moment_of, moved, next_change, opening, same_server, table}
+use Rattle.bm_table.specs.Scripts.{IsSoundScript}
+use Rattle.bm_table.specs.Tables.{brings, moment_of, moved, next_change, table}
 use Rattle.bm_core.specs.declared.events.Event.{Event}
 use Rattle.bm_core.specs.declared.events.Stage.{Stage}
 use Rattle.bm_core.specs.declared.events.What.{What}
@@ -31,84 +25,8 @@ use Rattle.bm_core.specs.Past.{bucket, label_after, label_of, labelled, segment_
 use Rattle.bm_core.specs.Runs.{MayCome, Run}
 use Rattle.bm_core.proofs.Pasts.{IsLabel, label_is, newest_within}
 use Rattle.bm_replay.proofs.Flights.{HasStopAt, tag_stop}
-use Rattle.bm_replay.proofs.Moments.{change_early, known_number, table_numbers}
-
--- SERVERS
-
-same_number : (s t : ServerId) → same_server s t ≡ true → s.0 ≡ t.0
-same_number s t is = eqb-true s.0 t.0 is
-
-risen_among : (low : ℕ) (servers : List ServerId) → RiseFrom low servers → (s : ServerId) → is_among servers s ≡ true → low ≤ s.0
-risen_among low [] rise s is = absurd (cc)
-risen_among low (t ∷ servers) rise s is = elim (or_cases (same_server t s) (is_among servers s) is) [
-  | inl here ↦ let e = same_number t s here in let h = rise.0 in omega arith
-  | inr there ↦ let k = risen_among (t.0 + 1) servers rise.1 s there in let h = rise.0 in omega arith
-]
-
-risen_at : (low : ℕ) (servers : List ServerId) → RiseFrom low servers → (i : ℕ) (default : ServerId) → i < length servers → low ≤ (get_or servers i default).0
-risen_at low [] rise i default inside = absurd (omega arith)
-risen_at low (s ∷ servers) rise zero default inside = rise.0
-risen_at low (s ∷ servers) rise (suc i) default inside = let k = risen_at (s.0 + 1) servers rise.1 i default (omega arith) in let h = rise.0 in omega arith
-
-kind_some : (k : Kind) (s : ServerId) → NamesServer k → is_add k s ≡ true → 1 ≤ s.0
-kind_some (Add t) s names is = let e = same_number t s is in let h = names.0 in omega arith
-kind_some (Drain t) s names is = absurd (cc)
-kind_some Shift s names is = absurd (cc)
-
-named_some : (changes : List Change) → AllByRecursion (λ c. NamesServer c.kind) changes → (v : ℕ) (s : ServerId) → adds (slice_get changes v) s ≡ true → 1 ≤ s.0
-named_some [] all v s is = absurd (cc)
-named_some (c ∷ changes) all zero s is = kind_some c.kind s all.0 is
-named_some (c ∷ changes) all (suc v) s is = named_some changes all.1 v s is
-
-known_some : (script : Script) → IsSoundScript script → (n : ℕ) (s : ServerId) → is_known script.plan n s ≡ true → 1 ≤ s.0
-known_some script sound zero s is = risen_among 1 script.setting.servers sound.setting.rising s (rw sound.servers at is)
-known_some script sound (suc n) s is = elim (or_cases (adds (next_change script.plan n) s) (is_known script.plan n s) is) [
-  | inl now ↦ named_some script.plan.changes sound.adds n s now
-  | inr old ↦ known_some script sound n s old
-]
-
--- a server that a sound script knows has the number of a server
-pub known_server : (script : Script) → IsSoundScript script → (n : ℕ) (s : ServerId) → is_known script.plan n s ≡ true → IsServer s
-known_server script sound n s is = (known_some script sound n s is, known_number script sound n s is)
-
-opening_server : (script : Script) → IsSoundScript script → (b : ℕ) → IsServer (opening script.plan b).cur
-opening_server script sound b = (
-  rw sound.servers (risen_at 1 script.setting.servers sound.setting.rising (b % length script.setting.servers) (record { 0 = 0 }) (mod_below b (length script.setting.servers) sound.setting.servers.0)),
-  (table_numbers script sound zero b).cur,
-)
-
--- ENTRIES
-
--- the servers of an entry have numbers of servers and differ; without a previous one the stamp is 0
-pub record IsEntry (e : Entry) : Type 0 where
-  pub cur : IsServer e.cur
-  pub prev : IfSome e.prev IsServer
-  pub apart : e.prev ≢ Some e.cur
-  pub stamp : e.prev ≡ None → e.stamp.0 ≡ 0
-
-moved_entry : (e : Entry) (at : ℕ) (o : Option ServerId) → IsEntry e → IfSome o IsServer → IfSome o (λ to. to ≢ e.cur) → IsEntry (moved e at o)
-moved_entry e at None is server other = is
-moved_entry e at (Some to) is server other = record {
-  cur = server;
-  prev = is.cur;
-  apart = λ same. other (sym (same_Some _ _ same));
-  stamp = λ none. absurd (cc);
-}
-
-known_target : (script : Script) → IsSoundScript script → (n : ℕ) (o : Option ServerId) → IfSome o (λ to. is_known script.plan n to ≡ true) → IfSome o IsServer
-known_target script sound n None is = tt
-known_target script sound n (Some s) is = known_server script sound n s is
-
-pub table_entry : (script : Script) → IsSoundScript script → (v b : ℕ) → IsEntry (table script.plan v b)
-table_entry script sound zero b = record {
-  cur = opening_server script sound b;
-  prev = tt;
-  apart = λ same. absurd (cc);
-  stamp = λ none. refl;
-}
-table_entry script sound (suc v) b =
-    moved_entry (table script.plan v b) (moment_of (next_change script.plan v)) (brings (next_change script.plan v) b) (table_entry script sound v b)
-    (known_target script sound (suc v) (brings (next_change script.plan v) b) (sound.plan.known v b)) (sound.plan.changes v b)
+use Rattle.bm_replay.proofs.Moments.{change_early}
+use Rattle.bm_replay.proofs.Servers.{IsEntry, table_entry}
 
 -- THE MUX OF A LABEL
 

@@ -1,27 +1,21 @@
 -- What the octets of a packet on its way carry, and where they go next.
-use Rattle.std.specs.Prelude.{ℕ, not, ◌||◌, ◌==◌, if◌then◌else◌, List, Option, Some, None, Result, Ok, Err}
+use Rattle.std.specs.Prelude.{ℕ, List, Option, Some, None, Result, Ok, Err}
 use Rattle.std.specs.Result.{result_ok}
 use Rattle.bm_base.specs.declared.flow.Segment.{Segment}
 use Rattle.bm_base.specs.declared.label.Tag.{Tag}
-use Rattle.bm_ipv4.specs.declared.fault.Ipv4Fault.{Ipv4Fault}
-use Rattle.bm_ipv4.specs.Header.{Packet, ipv4_of}
-use Rattle.bm_tcp.specs.Header.{tcp_of}
+use Rattle.bm_base.specs.declared.capture.Reason.{Reason}
+use Rattle.bm_link.specs.Classes.{segment_in}
 use Rattle.bm_encap.specs.declared.fault.EncapFault.{EncapFault}
 use Rattle.bm_encap.specs.Faults.{next_hop, unwrapped}
 
--- the segment of a packet that is whole and of TCP
-abbrev pub segment_in : Result Packet Ipv4Fault → Option Segment
-segment_in (Err fault) = None
-segment_in (Ok p) = if p.is_fragment || not (p.protocol == 6) then None else result_ok (tcp_of p)
-
 -- the tag beside the segment, where there is one
-abbrev pub with_tag : Tag → Option Segment → Option (Tag × Segment)
-with_tag tag None = None
-with_tag tag (Some s) = Some (tag, s)
+abbrev pub with_tag : Tag → Result (Segment × List ℕ) Reason → Option (Tag × Segment)
+with_tag tag (Err reason) = None
+with_tag tag (Ok read) = Some (tag, read.0)
 
 abbrev pub carried_by : Result (Tag × List ℕ) EncapFault → Option (Tag × Segment)
 carried_by (Err fault) = None
-carried_by (Ok read) = with_tag read.0 (segment_in (ipv4_of read.1))
+carried_by (Ok read) = with_tag read.0 (segment_in read.1)
 
 -- the tag of the carrier header, and the segment of the packet within
 abbrev pub carried : List ℕ → Option (Tag × Segment)

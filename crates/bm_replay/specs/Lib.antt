@@ -1,5 +1,5 @@
 pub mod Carriers
-pub mod Fleets
+pub mod Muxes
 pub mod Flights
 pub mod Players
 pub mod Playing

@@ -30,14 +30,14 @@ use Rattle.bm_core.specs.Accounts.{Routes, Rules}
 use Rattle.bm_core.specs.Past.{bucket, segment_of, shard}
 use Rattle.bm_core.specs.Schedule.{least}
 use Rattle.bm_core.specs.Weights.{IsSoon}
-use Rattle.bm_replay.specs.declared.fleet.Mux.{Mux}
+use Rattle.bm_replay.specs.declared.mux.Mux.{Mux}
 use Rattle.bm_replay.specs.declared.player.Loss.{Loss}
 use Rattle.bm_replay.specs.declared.player.Player.{Player}
 use Rattle.bm_replay.specs.declared.queue.Queue.{Queue}
 use Rattle.bm_replay.specs.declared.turn.Turn.{Turn}
 use Rattle.bm_link.specs.Fits.{ArePackets, IsPacketOf}
 use Rattle.bm_shard.specs.declared.calls.ShardCall.TheVariants.{Close as AsksClose, Retire as AsksRetire}
-use Rattle.bm_replay.specs.Fleets.{HasTable, IsMoved, IsWritten, switches_of}
+use Rattle.bm_replay.specs.Muxes.{HasTable, IsMoved, IsWritten, switches_of}
 use Rattle.bm_replay.specs.Flights.{copies_put}
 use Rattle.bm_replay.specs.Queues.{IsHead, closes_from, packets_after, retires_after, retires_from, syncs_from}
 use Rattle.bm_replay.specs.Shards.{all_books, arrival, before, book_at, books_after, holds, place_of, verdict_in, IsReady}
@@ -45,7 +45,7 @@ use Rattle.bm_replay.specs.Turns.{next_turn, sooner_of}
 
 -- the soonest switch of these muxes
 abbrev pub switch_for : Stage → List Mux → Option Due
-switch_for stage fleet = least (switches_of stage.script.plan stage.script.setting.lags stage.script.setting.muxes fleet stage.script.setting.muxes)
+switch_for stage muxes = least (switches_of stage.script.plan stage.script.setting.lags stage.script.setting.muxes muxes stage.script.setting.muxes)
 
 -- nothing happened yet
 pub record IsNew (stage : Stage) (p : Player) : Type 0 where
@@ -56,9 +56,9 @@ pub record IsNew (stage : Stage) (p : Player) : Type 0 where
   pub loss : p.loss ≡ None
   pub wire : p.wire ≡ []
   pub published : p.published ≡ 0
-  pub muxes : length p.fleet ≡ stage.script.setting.muxes
-  pub tables : (m : ℕ) → m < stage.script.setting.muxes → HasTable stage.script.plan 0 (slice_get p.fleet m)
-  pub switch : p.switch ≡ switch_for stage p.fleet
+  pub muxes : length p.muxes ≡ stage.script.setting.muxes
+  pub tables : (m : ℕ) → m < stage.script.setting.muxes → HasTable stage.script.plan 0 (slice_get p.muxes m)
+  pub switch : p.switch ≡ switch_for stage p.muxes
   pub close : IsHead (closes_from stage.script.commands 0) (closes_from stage.script.commands p.close.next) p.close.head
   pub retire : IsHead (retires_from stage.script.setting.shards stage.script.commands 0) (retires_after stage.script.setting.shards stage.script.commands p.retire) p.retire.head
   pub sync : IsHead (syncs_from stage.script.commands 0) (syncs_from stage.script.commands p.sync.next) p.sync.head
@@ -95,11 +95,11 @@ after_publish clock v p = happened clock (Publish (record { 0 = v })) (record p 
 pub record HasSwitched (clock : Moment) (m v : ℕ) (p q : Player) : Type 0 where
   pub change : Change
   pub is_change : next_change p.stage.script.plan (v - 1) ≡ Some change
-  pub fleet : List Mux
-  pub count : length fleet ≡ length p.fleet
-  pub others : (n : ℕ) → n ≢ m → slice_get fleet n ≡ slice_get p.fleet n
-  pub moved : (x : Mux) → slice_get p.fleet m ≡ Some x → IsMoved change v x (slice_get fleet m)
-  pub is : q ≡ happened clock (Switch (record { 0 = m }) (record { 0 = v })) (record p { fleet = fleet; switch = switch_for p.stage fleet })
+  pub muxes : List Mux
+  pub count : length muxes ≡ length p.muxes
+  pub others : (n : ℕ) → n ≢ m → slice_get muxes n ≡ slice_get p.muxes n
+  pub moved : (x : Mux) → slice_get p.muxes m ≡ Some x → IsMoved change v x (slice_get muxes m)
+  pub is : q ≡ happened clock (Switch (record { 0 = m }) (record { 0 = v })) (record p { muxes = muxes; switch = switch_for p.stage muxes })
 
 -- the server was asked to close the connection
 pub record HasClosed (clock : Moment) (s : ServerId) (f : Flow) (p q : Player) : Type 0 where
@@ -152,7 +152,7 @@ pub record HasSteered (R : Routes) (F : Rules) (clock : Moment) (k : ℕ) (p q :
   pub routed : R k segment.flow mux.0
   pub below : mux.0 < p.stage.script.setting.muxes
   pub label : Label
-  pub written : (x : Mux) → slice_get p.fleet mux.0 ≡ Some x → IsWritten x mux (bucket p.stage segment.flow) label
+  pub written : (x : Mux) → slice_get p.muxes mux.0 ≡ Some x → IsWritten x mux (bucket p.stage segment.flow) label
   pub tag : Tag
   pub is_tag : tag_of label Direct ≡ Some tag
   pub queue : Queue
@@ -206,8 +206,8 @@ pub record HasLags (stage : Stage) : Type 0 where
 
 -- the mux is there, and so is the change
 pub record CanSwitch (m v : ℕ) (p : Player) : Type 0 where
-  pub mux : m < length p.fleet
-  pub muxes : p.stage.script.setting.muxes ≤ length p.fleet
+  pub mux : m < length p.muxes
+  pub muxes : p.stage.script.setting.muxes ≤ length p.muxes
   pub version : 0 < v
   pub change : is_some (next_change p.stage.script.plan (v - 1)) ≡ true
   pub lags : HasLags p.stage
@@ -218,8 +218,8 @@ pub record CanSteer (at : Moment) (k : ℕ) (p : Player) : Type 0 where
   pub is_segment : segment_of p.stage k ≡ Some segment
   pub clock : at.0 ≤ 5 * 10 ^ 18
   pub buckets : IsWithin 1 65536 p.stage.script.setting.buckets
-  pub muxes : p.stage.script.setting.muxes ≤ length p.fleet
-  pub tables : (m : ℕ) (x : Mux) → m < p.stage.script.setting.muxes → slice_get p.fleet m ≡ Some x → length x.table ≡ p.stage.script.setting.buckets
+  pub muxes : p.stage.script.setting.muxes ≤ length p.muxes
+  pub tables : (m : ℕ) (x : Mux) → m < p.stage.script.setting.muxes → slice_get p.muxes m ≡ Some x → length x.table ≡ p.stage.script.setting.buckets
   pub few : length p.stage.capture.records ≤ 200000
 
 -- there is a copy under way with a valid tag, of a packet that is there, for a server whose shards are there

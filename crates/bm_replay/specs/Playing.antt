@@ -13,16 +13,16 @@ use Rattle.bm_core.specs.Accounts.{AreAnswered, Routes, Rules, counts}
 use Rattle.bm_core.specs.Histories.{IsReplay}
 use Rattle.bm_core.specs.Past.{is_switch_of, newest, version_at}
 use Rattle.bm_core.specs.Runs.{Run, last_clock, next}
-use Rattle.bm_core.specs.Schedule.{Follows, close_commands, closes, least, left, owed, packets_from, retire_commands, retires, steers, switches_due, sync_commands, syncs, wire}
+use Rattle.bm_core.specs.Schedule.{Follows, close_commands, closes, least, left, due_loss, packets_from, retire_commands, retires, steers, switches_due, sync_commands, syncs, wire}
 use Rattle.bm_core.specs.Stages.{IsSound}
 use Rattle.bm_core.specs.Weights.{AreSoon}
-use Rattle.bm_replay.specs.declared.fleet.Mux.{Mux}
+use Rattle.bm_replay.specs.declared.mux.Mux.{Mux}
 use Rattle.bm_replay.specs.declared.player.Loss.{Loss}
 use Rattle.bm_replay.specs.declared.player.Player.{Player}
 use Rattle.bm_replay.specs.declared.queue.Queue.{Queue}
 use Rattle.bm_replay.specs.declared.turn.Turn.{Turn}
 use Rattle.bm_replay.specs.declared.turn.Turn.TheVariants.{Arrive, Call, Over}
-use Rattle.bm_replay.specs.Fleets.{HasTable}
+use Rattle.bm_replay.specs.Muxes.{HasTable}
 use Rattle.bm_replay.specs.Flights.{AreFlying}
 use Rattle.bm_replay.specs.Players.{turn_for}
 use Rattle.bm_replay.specs.Queues.{IsHead, closes_from, packets_after, retires_after, syncs_from}
@@ -45,9 +45,9 @@ pub record KeepsQueues (stage : Stage) (past : List Event) (close retire sync pa
   pub due_packets : IsHead (left (packets_from 1 stage.capture.records) past steers) (packets_after stage.capture.records packet.next) packet.head
 
 -- each mux has the table of its version, and its switches lead from each version to the next
-pub record KeepsMuxes (stage : Stage) (past : List Event) (fleet : List Mux) (switch : Option Due) : Type 0 where
-  pub count : length fleet ≡ stage.script.setting.muxes
-  pub tables : (m : ℕ) → m < stage.script.setting.muxes → HasTable stage.script.plan (counts past (λ what. is_switch_of what m)) (slice_get fleet m)
+pub record KeepsMuxes (stage : Stage) (past : List Event) (muxes : List Mux) (switch : Option Due) : Type 0 where
+  pub count : length muxes ≡ stage.script.setting.muxes
+  pub tables : (m : ℕ) → m < stage.script.setting.muxes → HasTable stage.script.plan (counts past (λ what. is_switch_of what m)) (slice_get muxes m)
   pub versions : (m : ℕ) → (version_at past (record { 0 = m })).0 ≡ counts past (λ what. is_switch_of what m)
   pub soonest : switch ≡ least (switches_due stage past stage.script.setting.muxes)
 
@@ -58,10 +58,10 @@ lost_call (Some loss) = Some (Loses loss.packet loss.hop)
 -- the state is what these events leave
 pub record KeepsState (fates : List Fate) (past : List Event) (p : Player) : Type 0 where
   pub clock : p.clock.0 ≡ last_clock past
-  pub loss : lost_call p.loss ≡ owed fates past
+  pub loss : lost_call p.loss ≡ due_loss fates past
   pub flights : AreFlying p.stage past p.wire (wire fates past)
   pub published : p.published ≡ newest past
-  pub muxes : KeepsMuxes p.stage past p.fleet p.switch
+  pub muxes : KeepsMuxes p.stage past p.muxes p.switch
   pub queues : KeepsQueues p.stage past p.close p.retire p.sync p.packet
   pub books : KeepsBooks p.stage past p.shards
   pub packets : ArePackets p.stage.capture.records p.packets.now

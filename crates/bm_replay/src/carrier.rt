@@ -1,13 +1,13 @@
 //! The octets of a packet on its way.
-ghost use Rattle.std.specs.Prelude.{◌≡◌, ◌≤◌, length, IfOk, IfSome};
+ghost use Rattle.std.specs.Prelude.{◌≡◌, ◌≤◌, length, IfOk, IfSome, Ok as ok};
 ghost use Rattle.bm_base.specs.Tags.{IsTag};
+ghost use Rattle.bm_encap.specs.Faults.{chained};
 ghost use Rattle.bm_encap.specs.Spellings.{spelling};
 ghost use Rattle.bm_replay.specs.Carriers.{carried, next_tag};
 
 use bm_base::{Memory, Segment, Tag};
 use bm_encap::{set_chained, unwrap, wrap};
-use bm_ipv4::read_ipv4;
-use bm_tcp::read_tcp;
+use bm_link::read_segment;
 use std::alloc::Global;
 use std::marker::Model;
 
@@ -45,17 +45,14 @@ impl Carrier {
         ensures tag { IfSome result (λ read. IsTag read.0) }
     {
         let (tag, packet) = unwrap(&self.octets).ok()?;
-        let view = read_ipv4(packet).ok()?;
-        if view.is_fragment() || view.protocol() != 6 {
-            return None;
-        }
-        let segment = read_tcp(&view).ok()?;
+        let (segment, _) = read_segment(packet).ok()?;
         Some((tag, segment))
     }
 
     /// Turns the octets to the next hop, and reads the tag there.
     pub(crate) fn go_on(&mut self) -> Option<Tag>
-        ensures { result ≡ next_tag self.old }
+        ensures next { result ≡ next_tag self.old }
+        ensures octets { IfSome result (λ _. chained self.old ≡ ok self.new) }
     {
         set_chained(&mut self.octets).ok()?;
         unwrap(&self.octets).ok().map(|(tag, _)| tag)

@@ -25,9 +25,9 @@ impl Player<'_> {
         let Some(change) = plan.next_change(Version(version - 1)) else {
             unreachable!()
         };
-        self.fleet.switch(mux, version, change);
+        self.muxes.switch(mux, version, change);
         self.switch = self
-            .fleet
+            .muxes
             .soonest(plan, setting.lags.items(), setting.muxes);
         self.write(
             clock,

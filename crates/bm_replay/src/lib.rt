@@ -5,7 +5,7 @@ mod carrier;
 mod changes;
 mod commands;
 mod events;
-mod fleet;
+mod mux;
 mod packets;
 mod player;
 mod queue;

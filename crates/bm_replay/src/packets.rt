@@ -1,6 +1,5 @@
 //! The steps of the packets: a mux steers one, and its copies arrive and go on.
 ghost use Rattle.std.specs.Prelude.{◌≡◌, ◌*◌, ◌^◌, ◌≤◌, Some, IfOk, OnOk};
-ghost use Rattle.bm_core.specs.Past as past;
 ghost use Rattle.bm_core.specs.Weights.{IsSoon};
 ghost use Rattle.bm_fault.specs.Faults.{Gives, IsRule};
 ghost use Rattle.bm_route.specs.Routes.{Answers, IsRoute};
@@ -15,8 +14,8 @@ ghost use Rattle.bm_replay.specs.Players.{CanArrive, CanSteer, HasArrived, HasGo
 use crate::carrier::Carrier;
 use crate::player::{Loss, Player};
 use crate::queue::next_packet;
-use bm_base::{Body, Fate, Flow, Hop, Memory, Moment, Segment, tag_of};
-use bm_core::{Stage, Verdict, What};
+use bm_base::{Fate, Flow, Hop, Memory, Moment, Segment, tag_of};
+use bm_core::{Verdict, What};
 use bm_fault::{Faults, Flight, Wire};
 use bm_hash::{bucket_of, shard_of};
 use bm_route::Route;
@@ -36,12 +35,12 @@ impl Player<'_> {
         requires faults { IsRule F.Fn faults.now.rule }
         ensures { IfOk result (λ _. HasSteered (Answers R.Fn route.now.rule) (Gives F.Fn faults.now.rule) clock packet self.old self.new) }
     {
-        let Some(segment) = segment_of(&self.stage, packet) else {
+        let Some(segment) = self.stage.segment(packet) else {
             unreachable!()
         };
         let mux = route.mux_of(packet, &segment.flow);
         let bucket = bucket_of(&segment.flow, self.stage.script.setting.buckets);
-        let label = self.fleet.label(mux, bucket);
+        let label = self.muxes.label(mux, bucket);
         let tag = tag_of(&label, Hop::Direct);
         self.packet = next_packet(self.stage.capture.records.items(), self.packet.next);
         self.write(clock, What::Steer { packet, mux })?;
@@ -177,16 +176,5 @@ fn loss_of(fate: Fate, flight: &Flight) -> Option<Loss>
         })
     } else {
         None
-    }
-}
-
-/// The segment of the packet of this number.
-fn segment_of(stage: &Stage, number: u32) -> Option<Segment>
-    ensures { result ≡ past.segment_of stage.now number }
-{
-    let index = (number as usize).checked_sub(1)?;
-    match stage.capture.records.items().get(index)?.body {
-        Body::Steerable(segment) => Some(segment),
-        Body::Unsteered(_) => None,
     }
 }

@@ -6,7 +6,7 @@ ghost use Rattle.bm_table.specs.Tables.{next_change};
 ghost use Rattle.bm_replay.specs.Players.{IsNew, happened, publish_after, turn_for};
 
 use crate::events::Events;
-use crate::fleet::Fleet;
+use crate::mux::Muxes;
 use crate::queue::{Queue, next_close, next_packet, next_retire, next_sync};
 use crate::shards::Shards;
 use crate::turn::{Turn, next_turn, sooner};
@@ -43,7 +43,7 @@ pub(crate) struct Player<'a> {
     /// The newest version that was published.
     pub(crate) published: u32,
     /// The muxes.
-    pub(crate) fleet: Fleet,
+    pub(crate) muxes: Muxes,
     /// The soonest switch of a mux.
     pub(crate) switch: Option<Due>,
     /// What comes next of the closes.
@@ -74,8 +74,8 @@ impl<'a> Player<'a> {
         let commands = stage.script.commands.items();
         // Each change is published.
         let events = Events::with_room(alloc, plan.versions() as usize)?;
-        let fleet = Fleet::new(alloc, plan, setting.muxes)?;
-        let switch = fleet.soonest(plan, setting.lags.items(), setting.muxes);
+        let muxes = Muxes::new(alloc, plan, setting.muxes)?;
+        let switch = muxes.soonest(plan, setting.lags.items(), setting.muxes);
         let shards = Shards::new(alloc, setting, SERVERS)?;
         let close = next_close(commands, 0);
         let retire = next_retire(commands, 0);
@@ -90,7 +90,7 @@ impl<'a> Player<'a> {
             loss: None,
             wire: Wire::new(alloc),
             published: 0,
-            fleet,
+            muxes,
             switch,
             close,
             retire,

@@ -6,10 +6,10 @@ use Rattle.std.specs.List.{AllByRecursion}
 use Rattle.toml.specs.Data.{as_table, Items, no_items, item, Members}
 use Rattle.bm_base.specs.Captures.{AreRising}
 use Rattle.bm_base.specs.declared.ids.ServerId.{ServerId}
-use Rattle.bm_controller.proofs.FleetPlans.{knows-push}
+use Rattle.bm_controller.proofs.MemberPlans.{knows-push}
 use Rattle.bm_controller.specs.Commands as controller
 use Rattle.bm_controller.specs.Commands.{first_refusal, limits, when}
-use Rattle.bm_controller.specs.Fleets.{is_active, active_now, knows}
+use Rattle.bm_controller.specs.Membership.{is_active, active_now, knows}
 use Rattle.bm_quota.specs.declared.refusal.Refusal.{Refusal}
 use Rattle.bm_quota.specs.declared.refusal.Refusal.TheVariants.{KnownServer, UnknownServer, NotActive, LastServer, BadBucket, SameServer, StampFell, TooMany}
 use Rattle.bm_script.specs.declared.commands.Verb.{Verb}
@@ -198,10 +198,10 @@ changed-ordered first n p at c refusals None h range moment refuses e =
     subst (λ (m : ℕ). AreOrdered first (n + 1) (record { plan = with_change p.plan c; last = m; commands = p.commands ++ ChangeCommand (record { 0 = length p.plan.changes + 1 }) ∷ [] })) moment
     (with_change-ordered first n p c h (subst (IsWithin p.last (4 * 10 ^ 18)) (sym moment) range))
 
-told-ordered : (first : Planned) (n : ℕ) (p : Progress) (at : ℕ) (s : ServerId) (command : Command) (known : Bool) → AreOrdered first n p → IsWithin p.last (4 * 10 ^ 18) at → IsOther command
+asked_of_known-ordered : (first : Planned) (n : ℕ) (p : Progress) (at : ℕ) (s : ServerId) (command : Command) (known : Bool) → AreOrdered first n p → IsWithin p.last (4 * 10 ^ 18) at → IsOther command
     → moment_of_command p.plan command ≡ at → (known ≡ true → IsOfKnown p.plan command) → Meets (AreOrdered first (n + 1)) (cond known (Ok (with_command p at command)) (Err (Refused (next p) UnknownServer)))
-told-ordered first n p at s command true h range other moment known = with_command-ordered first n p at command h range other moment (known refl)
-told-ordered first n p at s command false h range other moment known = tt
+asked_of_known-ordered first n p at s command true h range other moment known = with_command-ordered first n p at command h range other moment (known refl)
+asked_of_known-ordered first n p at s command false h range other moment known = tt
 
 -- A COMMAND
 
@@ -234,10 +234,10 @@ carried-ordered first n p at Close inside h range =
     meets-then Any (AreOrdered first (n + 1)) _ _ (meets-required (at_.Command (next p)) key.Server values.server Any inside (reads_any values.server)) λ s _.
     meets-then Any (AreOrdered first (n + 1)) _ _ (meets-required (at_.Command (next p)) key.From values.endpoint_value Any inside (reads_any values.endpoint_value)) λ from _.
     meets-then Any (AreOrdered first (n + 1)) _ _ (meets-required (at_.Command (next p)) key.To values.endpoint_value Any inside (reads_any values.endpoint_value)) λ to _.
-    told-ordered first n p at s _ (knows p.plan s) h range tt refl (λ known. known)
+    asked_of_known-ordered first n p at s _ (knows p.plan s) h range tt refl (λ known. known)
 carried-ordered first n p at Retire inside h range =
     meets-then Any (AreOrdered first (n + 1)) _ _ (meets-required (at_.Command (next p)) key.Server values.server Any inside (reads_any values.server)) λ s _.
-    told-ordered first n p at s _ (knows p.plan s) h range tt refl (λ known. known)
+    asked_of_known-ordered first n p at s _ (knows p.plan s) h range tt refl (λ known. known)
 carried-ordered first n p at Sync inside h range = with_command-ordered first n p at (SyncCommand (record { 0 = at })) h range tt refl tt
 
 after_command-ordered : (first : Planned) (n : ℕ) (p : Progress) (inside : Members) → AreOrdered first n p → Meets (AreOrdered first (n + 1)) (after_command p inside)

@@ -3,7 +3,7 @@ use Rattle.std.proofs.Common.{◌≡◌, ◌≢◌, ℕ, ◌*◌, ◌^◌, ◌�
 use Rattle.std.specs.List.{AllByRecursion}
 use Rattle.toml.specs.Data.{Items, Members}
 use Rattle.bm_base.specs.Captures.{AreRising}
-use Rattle.bm_controller.specs.Fleets.{IsFleet}
+use Rattle.bm_controller.specs.Membership.{KeepsMembership}
 use Rattle.bm_script.proofs.Ordered.{commands-ordered, AreOrdered, AreRising-higher}
 use Rattle.bm_script.proofs.Sound.{Any, AreRows, Meets, meets-only_keys, meets-tables, meets-then, rows-sound, setting-sound}
 use Rattle.bm_script.specs.declared.fault.Place.TheVariants.{Top}
@@ -85,15 +85,15 @@ read-of_tree (Some inside) = read-tree inside
 pub script-read : (text : List ℕ) → Meets IsRead (script_of text)
 script-read text = read-of_tree (tree_of text)
 
-script-sound : (text : List ℕ) (script : Script) → script_of text ≡ Ok script → IsFleet script.plan → IsSoundScript script
-script-sound text script is fleet =
+script-sound : (text : List ℕ) (script : Script) → script_of text ≡ Ok script → KeepsMembership script.plan → IsSoundScript script
+script-sound text script is membership =
     let h : Meets IsRead (Ok script) = subst (Meets IsRead) is (script-read text) in
     record {
       setting = h.setting;
       buckets = h.buckets;
       servers = h.servers;
-      adds = fleet.adds;
-      plan = fleet.orderly;
+      adds = membership.adds;
+      plan = membership.orderly;
       few_commands = h.few;
       commands_rise = h.rise;
       versions = h.versions;
@@ -113,9 +113,9 @@ fault-sound text Memory is = tt
 
 -- of an answer that is what the definition gives
 module _ (text : List ℕ) (inside : Members) (tree : tree_of text ≡ Some inside) where
-  pub answer-sound : (result : Result Script ScriptFault) → Gives result (script_in inside) → IfOk result (λ script. IsFleet script.plan) → IfOk result IsSoundScript
-  answer-sound (Ok script) gives fleet = script-sound text script (ap of_tree tree ∙ gives) fleet
-  answer-sound (Err fault) gives fleet = tt
+  pub answer-sound : (result : Result Script ScriptFault) → Gives result (script_in inside) → IfOk result (λ script. KeepsMembership script.plan) → IfOk result IsSoundScript
+  answer-sound (Ok script) gives membership = script-sound text script (ap of_tree tree ∙ gives) membership
+  answer-sound (Err fault) gives membership = tt
 
   pub answer-fault : (result : Result Script ScriptFault) → Gives result (script_in inside) → IfErr result IsOfScript
   answer-fault (Ok script) gives = tt

@@ -4,7 +4,7 @@ use Rattle.std.specs.Prelude.{ℕ, ◌+◌, List, [], ◌∷◌, ◌++◌, lengt
 use Rattle.toml.specs.Data.{as_table, Items, no_items, item, Members}
 use Rattle.bm_base.specs.declared.ids.ServerId.{ServerId}
 use Rattle.bm_controller.specs.Commands as controller
-use Rattle.bm_controller.specs.Fleets.{knows}
+use Rattle.bm_controller.specs.Membership.{knows}
 use Rattle.bm_quota.specs.declared.refusal.Refusal.{Refusal}
 use Rattle.bm_quota.specs.declared.refusal.Refusal.TheVariants.{UnknownServer}
 use Rattle.bm_script.specs.declared.commands.Verb.{Verb}
@@ -71,8 +71,8 @@ changed p at change None = Ok (record {
 })
 
 -- a command to a server that has to be known
-abbrev pub told : Progress → ℕ → ServerId → Command → Result Progress ScriptFault
-told p at s command = if knows p.plan s then Ok (with_command p at command) else Err (Refused (next p) UnknownServer)
+abbrev pub asked_of_known : Progress → ℕ → ServerId → Command → Result Progress ScriptFault
+asked_of_known p at s command = if knows p.plan s then Ok (with_command p at command) else Err (Refused (next p) UnknownServer)
 
 -- after a command with this verb, at this moment
 abbrev pub carried : Progress → ℕ → Verb → Members → Result Progress ScriptFault
@@ -90,10 +90,10 @@ carried p at Close entries = do
   s ← required (at_.Command (next p)) key.Server server entries
   from ← required (at_.Command (next p)) key.From endpoint_value entries
   to ← required (at_.Command (next p)) key.To endpoint_value entries
-  told p at s (CloseCommand (record { 0 = at }) s (record { src = from.addr; dst = to.addr; sport = from.port; dport = to.port }))
+  asked_of_known p at s (CloseCommand (record { 0 = at }) s (record { src = from.addr; dst = to.addr; sport = from.port; dport = to.port }))
 carried p at Retire entries = do
   s ← required (at_.Command (next p)) key.Server server entries
-  told p at s (RetireCommand (record { 0 = at }) s)
+  asked_of_known p at s (RetireCommand (record { 0 = at }) s)
 carried p at Sync entries = Ok (with_command p at (SyncCommand (record { 0 = at })))
 
 -- after the command of a table; its moment isn't below that of the command before it

@@ -1,6 +1,6 @@
 //! The commands of a script, read in their order.
 ghost use Rattle.std.specs.Prelude.{◌≡◌, ◌≢◌, ◌≤◌, ◌<◌, Ok, Err, OnOk, IfOk, IfErr, length};
-ghost use Rattle.bm_controller.specs.Fleets.{IsFleet};
+ghost use Rattle.bm_controller.specs.Membership.{KeepsMembership};
 ghost use Rattle.bm_script.specs.Commands as commands;
 ghost use Rattle.bm_script.specs.Faults as faults;
 ghost use Rattle.bm_script.specs.Keys.{verb_keys};
@@ -134,7 +134,7 @@ impl Reading {
     /// The plan that the commands made, and the commands.
     pub(crate) fn into_parts(self) -> (Plan, List<Command>)
         ensures plan { result.0 ≡ self.controller }
-        ensures fleet { IsFleet result.0 }
+        ensures membership { KeepsMembership result.0 }
         ensures commands { result.1 ≡ self.commands.items }
     {
         let Reading {
@@ -270,7 +270,7 @@ impl Reading {
     fn tell(&mut self, at: u64, server: ServerId, command: Command) -> Result<(), ScriptFault>
         requires few { length self.old.commands.items < 65536 }
         requires counted { IsCounted self.old }
-        ensures { Reads self.old self.new (commands.told (progress self.old) at server command) result }
+        ensures { Reads self.old self.new (commands.asked_of_known (progress self.old) at server command) result }
     {
         if !self.controller.knows(server) {
             return Err(ScriptFault::Refused(self.number(), Refusal::UnknownServer));

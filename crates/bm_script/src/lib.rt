@@ -1,4 +1,4 @@
-//! Reads a script: the setting of a fleet, and what is done to it.
+//! Reads a script: a setting, and what is done to its servers.
 #![tactic(auto)]
 
 mod commands;
@@ -14,6 +14,3 @@ mod value;
 pub use fault::{Place, ScriptFault};
 pub use key::Key;
 pub use script::read_script;
-
-#[cfg(test)]
-mod tests;

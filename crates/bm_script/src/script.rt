@@ -1,6 +1,6 @@
 //! The reader of a script.
 ghost use Rattle.std.specs.Prelude.{◌≡◌, ◌≢◌, Some, None, IfOk, IfErr};
-ghost use Rattle.bm_controller.specs.Fleets.{IsFleet};
+ghost use Rattle.bm_controller.specs.Membership.{KeepsMembership};
 ghost use Rattle.bm_script.specs.Faults.{Gives, IsOfScript};
 ghost use Rattle.bm_script.specs.Scripts.{script_in, script_of, tree_of};
 ghost use Rattle.bm_script.specs.declared.fault.ScriptFault.TheVariants.{Memory as memory, NotToml};
@@ -33,7 +33,7 @@ const TOP_KEYS: [Key; 12] = [
 ];
 
 /// Reads a script. A fault is the first in the order of the checks: the text, unknown keys at the
-/// top, the top keys, the fault tables, the commands.
+/// top, the top keys, the fault tables, the commands. `Memory` may come in place of any answer.
 pub fn read_script(alloc: Global, text: &[u8]) -> Result<Script, ScriptFault>
     ensures gives { Gives result (script_of text.now) }
     ensures sound { IfOk result IsSoundScript }
@@ -62,7 +62,7 @@ fn read_table(alloc: Global, text: &[u8]) -> Result<Table, ScriptFault>
 /// The script that a table states.
 fn read_tree(alloc: Global, table: &Table) -> Result<Script, ScriptFault>
     ensures gives { Gives result (script_in (table_view table.now)) }
-    ensures fleet { IfOk result (λ script. IsFleet script.plan) }
+    ensures membership { IfOk result (λ script. KeepsMembership script.plan) }
 {
     only_keys(alloc, table, Place::Top, &TOP_KEYS)?;
     let mut setting = read_setting(alloc, table)?;

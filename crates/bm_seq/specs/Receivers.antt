@@ -1,10 +1,9 @@
 -- The receiving end of a connection. Sequence numbers are modulo 2^32 (RFC 9293, section 3.4).
 use Rattle.std.specs.Prelude.{ℕ, ◌+◌, ◌-◌, ◌%◌, ◌^◌, Bool, false, not, ◌&&◌, ◌||◌, ◌==◌, nat_lt, nat_le, if◌then◌else◌}
-use Rattle.bm_base.specs.declared.flags.TheConstants.{FIN, RST, SYN}
 use Rattle.bm_base.specs.declared.flow.Segment.{Segment}
 use Rattle.bm_base.specs.declared.receive.Taken.{Taken}
 use Rattle.bm_base.specs.declared.receive.Taken.TheVariants.{Advance, Duplicate, Ahead, Outside, Challenge, Ended}
-use Rattle.bm_base.specs.Segments.{has_flag, is_opening}
+use Rattle.bm_base.specs.Segments.{has_flag, is_opening, FIN, RST, SYN}
 use Rattle.bm_seq.specs.declared.receiver.Receiver.{Receiver}
 
 -- how far a lies after b, among the sequence numbers

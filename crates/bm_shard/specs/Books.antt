@@ -1,4 +1,4 @@
--- The book of a shard (Beamer's design): which calls it takes, what it keeps of them, and what it replies. A past has its newest
+-- The book of a shard (docs/DEFINITIONS.md): which calls it takes, what it keeps of them, and what it replies. A past has its newest
 -- entry first.
 use Rattle.std.specs.Prelude.{◌≡◌, ℕ, ◌≤◌, ◌*◌, ◌^◌, List, [], ◌∷◌}
 use Rattle.bm_base.specs.declared.flow.Flow.{Flow}

@@ -43,6 +43,7 @@ impl Model for ShardBook {
 
 impl ShardBook {
     /// An empty book for at most `capacity` connections, 1 to 65,536. `timeout` is in nanoseconds.
+    /// `Memory` where memory was refused.
     pub fn new(
         alloc: Global,
         server: ServerId,

@@ -4,8 +4,10 @@ ghost use Rattle.std.specs.Bool.{OnFalse};
 ghost use Rattle.bm_conn.specs.Connections.{HasRoom, IsMap, receiver_in};
 ghost use Rattle.bm_core.specs.Books.{Closed, RetiredAs, Took};
 ghost use Rattle.bm_core.specs.Verdicts.{verdict_on};
+ghost use Rattle.bm_core.specs.declared.events.What.TheVariants.{Arrive as Arrives, Close as Closes, Retire as Retires};
 ghost use Rattle.bm_shard.specs.Holdings.{CanOpen, CanServe, CanTake, Takes, TakesTurn, local_in};
-ghost use Rattle.bm_shard.specs.Replies.{reply_of, turn_of, what_of};
+ghost use Rattle.bm_shard.specs.Replies.{answer_for, is_held_by, reply_of, turn_of, verdict_by, what_of};
+ghost use Rattle.bm_shard.specs.declared.calls.ShardReply.TheVariants.{Arrived, Retired};
 
 use crate::calls::answer_to;
 use crate::{Shard, ShardCall, ShardReply};
@@ -47,57 +49,88 @@ impl Holding {
         ensures reply { result.1 ≡ reply_of shard.now (local_in self.old) clock call.now }
         ensures effect { TakesTurn (turn_of shard.now (local_in self.old) clock call.now) self.old self.new }
     {
-        let server = shard.server;
         match *call {
             ShardCall::Arrive {
                 packet,
                 tag,
                 segment,
                 ..
-            } => {
-                let verdict = self.arrive(&tag, &segment, clock, shard.timeout);
-                let answer = answer_to(verdict, &segment);
-                (
-                    What::Arrive {
-                        packet,
-                        hop: tag.hop,
-                        server,
-                        verdict,
-                    },
-                    ShardReply::Arrived {
-                        clock,
-                        verdict,
-                        answer,
-                    },
-                )
-            }
-            ShardCall::Close { flow, .. } => {
-                let closed = self.close(&flow);
-                (
-                    What::Close {
-                        server,
-                        flow,
-                        closed,
-                    },
-                    ShardReply::Closed { clock, closed },
-                )
-            }
+            } => self.serve_arrival(shard, clock, packet, &tag, &segment),
+            ShardCall::Close { flow, .. } => self.serve_close(shard, clock, flow),
             ShardCall::Retire {
                 at,
                 result: outcome,
-            } => {
-                self.retire(outcome);
-                (
-                    What::Retire {
-                        server,
-                        shard: shard.number,
-                        at,
-                        result: outcome,
-                    },
-                    ShardReply::Retired { clock },
-                )
-            }
+            } => self.serve_retirement(shard, clock, at, outcome),
         }
+    }
+
+    /// A copy of a packet arrives.
+    fn serve_arrival(
+        &mut self,
+        shard: &Shard,
+        clock: Moment,
+        packet: u32,
+        tag: &Tag,
+        segment: &Segment,
+    ) -> (What, ShardReply)
+        requires room { HasRoom self.old.table }
+        requires len { segment.now.len ≤ 1048576 }
+        ensures what { result.0 ≡ Arrives packet tag.now.hop shard.now.server (verdict_by shard.now (local_in self.old) clock tag.now segment.now) }
+        ensures reply { let verdict = verdict_by shard.now (local_in self.old) clock tag.now segment.now in
+            result.1 ≡ Arrived clock verdict (answer_for verdict segment.now) }
+        ensures effect { TakesTurn (Took segment.now (verdict_by shard.now (local_in self.old) clock tag.now segment.now)) self.old self.new }
+    {
+        let verdict = self.arrive(tag, segment, clock, shard.timeout);
+        let answer = answer_to(verdict, segment);
+        let what = What::Arrive {
+            packet,
+            hop: tag.hop,
+            server: shard.server,
+            verdict,
+        };
+        let reply = ShardReply::Arrived {
+            clock,
+            verdict,
+            answer,
+        };
+        (what, reply)
+    }
+
+    /// The server ends a connection, if it holds one.
+    fn serve_close(&mut self, shard: &Shard, clock: Moment, flow: Flow) -> (What, ShardReply)
+        ensures what { result.0 ≡ Closes shard.now.server flow (is_held_by (local_in self.old) flow) }
+        ensures reply { result.1 ≡ ShardReply.Closed clock (is_held_by (local_in self.old) flow) }
+        ensures effect { TakesTurn (Closed flow (is_held_by (local_in self.old) flow)) self.old self.new }
+    {
+        let closed = self.close(&flow);
+        let what = What::Close {
+            server: shard.server,
+            flow,
+            closed,
+        };
+        (what, ShardReply::Closed { clock, closed })
+    }
+
+    /// The shard is to be retired, which has this result.
+    fn serve_retirement(
+        &mut self,
+        shard: &Shard,
+        clock: Moment,
+        at: Moment,
+        outcome: Retirement,
+    ) -> (What, ShardReply)
+        ensures what { result.0 ≡ Retires shard.now.server shard.now.number at outcome }
+        ensures reply { result.1 ≡ Retired clock }
+        ensures effect { TakesTurn (RetiredAs outcome) self.old self.new }
+    {
+        self.retire(outcome);
+        let what = What::Retire {
+            server: shard.server,
+            shard: shard.number,
+            at,
+            result: outcome,
+        };
+        (what, ShardReply::Retired { clock })
     }
 
     /// The verdict on a copy of a packet, which takes effect.

@@ -1,9 +1,10 @@
 ghost use Rattle.bm_shard.specs.Books.{IsTaken};
 
 use super::*;
-use bm_base::{Flow, Hop, Moment, MuxId, Segment, ServerId, Tag, Taken, Version};
+use bm_base::{Flow, Hop, Memory, Moment, MuxId, Segment, ServerId, Tag, Taken, Version};
 use bm_core::{Verdict, What, Why};
 use bm_table::Retirement;
+use std::alloc::Global;
 use std::test::Fail;
 
 const SYN: u8 = 0x02;
@@ -91,64 +92,75 @@ fn closed(clock: u64, closed: bool) -> Option<ShardReply> {
     })
 }
 
-// A shard of server 1 for one connection, with a timeout of a second.
+/// The empty book of shard 5 of server 1, for one connection, with a timeout of a second.
+fn new_book(alloc: Global) -> Result<ShardBook, Memory> {
+    ShardBook::new(alloc, ServerId(1), 5, 1, 1_000_000_000)
+}
+
 #[test]
-fn a_shard_replies_by_what_it_was_asked_before(rt: HostRuntime) -> Result<(), Fail> {
-    let made = ShardBook::new(rt.alloc(), ServerId(1), 5, 1, 1_000_000_000);
-    assert!(rt; made.is_ok());
-    let Ok(mut book) = made else { return Ok(()) };
+fn a_copy_is_judged_by_what_came_before(rt: HostRuntime) -> Result<(), Fail> {
+    let mut book = new_book(rt.alloc())?;
     assert_eq!(rt; book.clock(), Moment(0));
+    let other = Some(ServerId(2));
+    let full = Verdict::Drop(Why::Full);
+    let advance = Verdict::Process(Taken::Advance);
+    let forward = Verdict::Forward(ServerId(2));
     let rows = [
-        (None, (1000, 100, 1, SYN), 1, arrived(2, Verdict::Accept)),
+        (None, (1000, 100, 1, SYN), 1, 2, Verdict::Accept),
+        (None, (1002, 100, 1, SYN), 1_001, 1_002, full),
+        (None, (1000, 101, 10, PSH_ACK), 1_000, 1_003, advance),
         (
-            None,
-            (1002, 100, 1, SYN),
-            1_001,
-            arrived(1_002, Verdict::Drop(Why::Full)),
-        ),
-        (
-            None,
-            (1000, 101, 10, PSH_ACK),
-            1_000,
-            arrived(1_003, Verdict::Process(Taken::Advance)),
-        ),
-        (
-            Some(ServerId(2)),
+            other,
             (1002, 101, 10, PSH_ACK),
             1_000_000_499,
-            arrived(1_000_000_500, Verdict::Forward(ServerId(2))),
+            1_000_000_500,
+            forward,
         ),
     ];
-    for (prev, segment, due, want) in rows {
-        assert_eq!(rt; arrive(&mut book, prev, segment, due), want);
+    for (prev, segment, due, clock, verdict) in rows {
+        assert_eq!(rt;
+            arrive(&mut book, prev, segment, due),
+            arrived(clock, verdict)
+        );
     }
+    Ok(())
+}
+
+#[test]
+fn a_shard_closes_and_retires(rt: HostRuntime) -> Result<(), Fail> {
+    let mut book = new_book(rt.alloc())?;
+    let opening = (1000, 100, 1, SYN);
+    let first = arrive(&mut book, None, opening, 1_000_000_499);
+    assert_eq!(rt; first, arrived(1_000_000_500, Verdict::Accept));
     assert_eq!(rt; close(&mut book, 1000, 600), closed(1_000_000_501, true));
     assert_eq!(rt; close(&mut book, 1000, 600), closed(1_000_000_502, false));
     let clock = Moment(2_000_000_001);
-    assert_eq!(rt;
-        retire(&mut book, 2_000_000_000),
-        Some(ShardReply::Retired { clock })
-    );
-    let after = arrive(&mut book, None, (1000, 100, 1, SYN), 0);
+    let retired = retire(&mut book, 2_000_000_000);
+    assert_eq!(rt; retired, Some(ShardReply::Retired { clock }));
+    let after = arrive(&mut book, None, opening, 0);
     assert_eq!(rt; after, arrived(2_000_000_002, Verdict::Drop(Why::Retired)));
     assert_eq!(rt; book.clock(), Moment(2_000_000_002));
-    assert_eq!(rt; book.history().len(), 8);
-    if let Some(entry) = book.history().get(4) {
-        let what = What::Close {
-            server: ServerId(1),
-            flow: flow(1000),
-            closed: true,
-        };
-        assert_eq!(rt; (entry.seat, entry.event.what), (3, what));
-    }
+    assert_eq!(rt; book.history().len(), 5);
+    let server = ServerId(1);
+    let flow = flow(1000);
+    let closed = true;
+    let close = What::Close {
+        server,
+        flow,
+        closed,
+    };
+    let kept = book
+        .history()
+        .get(1)
+        .map(|entry| (entry.seat, entry.event.what));
+    assert_eq!(rt; kept, Some((3, close)));
     Ok(())
 }
 
 // The reset of a segment with an acknowledgment number has that as its sequence number, and the flag RST alone.
 #[test]
 fn a_packet_of_no_connection_is_answered_by_a_reset(rt: HostRuntime) -> Result<(), Fail> {
-    let made = ShardBook::new(rt.alloc(), ServerId(1), 0, 1, 1_000_000_000);
-    let Ok(mut book) = made else { return Ok(()) };
+    let mut book = new_book(rt.alloc())?;
     let reply = arrive(
         &mut book,
         Some(ServerId(2)),

@@ -13,11 +13,11 @@ use Rattle.bm_base.specs.declared.label.Entry.{Entry}
 use Rattle.bm_table.proofs.EntryLemmas.{change_rises, next_table, server_in-table}
 use Rattle.bm_table.proofs.Gets.{slice_get-append_left, slice_get-push}
 use Rattle.bm_table.proofs.LeafLemmas.{IsLeast-same, LeavesRise-leaves_by, left_since-push}
-use Rattle.bm_table.proofs.PlanLemmas.{next_change-last, table-before, IsAdmitted, IsPlan-with_change, MovesRise-from_none, MovesRise-range, bucket_at_home-agree}
+use Rattle.bm_table.proofs.PlanLemmas.{next_change-last, table-before, IsAdmitted, IsPlan-with_change, MovesRise-from_none, MovesRise-range, bucket_already_there-agree}
 use Rattle.bm_table.specs.Entries.{after_moves, server_in, IsTable}
 use Rattle.bm_table.specs.Leaves.{has_drain, has_left, left_since, leaves_by, IsLeast, LeavesRise}
 use Rattle.bm_table.specs.Planned.{Planned}
-use Rattle.bm_table.specs.Plans.{bad_bucket, bucket_at_home, server_now, total_moves, with_change, MovesRise, IsPlan}
+use Rattle.bm_table.specs.Plans.{bad_bucket, bucket_already_there, server_now, total_moves, with_change, MovesRise, IsPlan}
 use Rattle.bm_table.specs.Tables.{drains, is_drain, is_drained, leaves_late, next_change, same_server, table, target}
 use Rattle.bm_table.specs.Views.{changes_of, planned, IsKept}
 use Rattle.bm_table.specs.declared.plan.Change.{Change}
@@ -247,9 +247,9 @@ in_table p kept moves e =
 
 -- and the table's servers are the plan's
 pub at_home : (p : Inside) → IsKept p → (moves : List Move) → bad_bucket p.buckets 0 moves ≡ None
-    → bucket_at_home (server_in p.latest) moves ≡ bucket_at_home (server_now (planned p)) moves
+    → bucket_already_there (server_in p.latest) moves ≡ bucket_already_there (server_now (planned p)) moves
 at_home p kept moves e =
-    bucket_at_home-agree p.buckets 0 (server_in p.latest) (server_now (planned p))
+    bucket_already_there-agree p.buckets 0 (server_in p.latest) (server_now (planned p))
     (λ b h. server_in-table (planned p) (length (changes_of p.steps.items)) p.latest kept.latest b h)
     moves (MovesRise-from_none p.buckets 0 moves e)
 

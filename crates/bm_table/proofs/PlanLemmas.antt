@@ -11,7 +11,7 @@ use Rattle.bm_base.specs.declared.ids.ServerId.{ServerId}
 use Rattle.bm_table.proofs.Gets.{slice_get-append_left, slice_get-push}
 use Rattle.bm_table.proofs.Tables.{eq-same_server}
 use Rattle.bm_table.specs.Planned.{Planned}
-use Rattle.bm_table.specs.Plans.{bad_bucket, bucket_at_home, first_fault, last_moment, refusal, server_now, total_moves, with_change, MovesRise, IsPlan}
+use Rattle.bm_table.specs.Plans.{bad_bucket, bucket_already_there, first_fault, last_moment, refusal, server_now, total_moves, with_change, MovesRise, IsPlan}
 use Rattle.bm_table.specs.Tables.{brings, moment_of, next_change, same_server, table, target}
 use Rattle.bm_table.specs.declared.plan.Change.{Change}
 use Rattle.bm_table.specs.declared.plan.Limit.TheVariants.{Changes, Moves}
@@ -52,13 +52,13 @@ MovesRise-from_none buckets low (m ∷ moves) h =
     ]
 
 -- no bucket is at its move's target, so each move changes its bucket's server
-target_is_new : (server : ℕ → ServerId) (moves : List Move) → bucket_at_home server moves ≡ None → (b : ℕ) → IfSome (target moves b) (λ to. to ≢ server b)
+target_is_new : (server : ℕ → ServerId) (moves : List Move) → bucket_already_there server moves ≡ None → (b : ℕ) → IfSome (target moves b) (λ to. to ≢ server b)
 target_is_new server [] h b = tt
 target_is_new server (m ∷ moves) h b =
     elim (cases_Bool (same_server (server m.bucket) m.to)) [
       | inl t ↦ let home : Some m.bucket ≡ None = rw t at h in absurd (cc)
       | inr f ↦
-          let rest : bucket_at_home server moves ≡ None = rw f at h
+          let rest : bucket_already_there server moves ≡ None = rw f at h
           in elim (cases_Bool (eqb m.bucket b)) [
             | inl here ↦ rw here (λ (e : m.to ≡ server b). both_ways _ f (eq-same_server _ _ (ap server (eqb-true _ _ here) ∙ sym e)))
             | inr other ↦ rw other (target_is_new server moves rest b)
@@ -69,7 +69,7 @@ target_is_new server (m ∷ moves) h b =
 pub record IsAdmitted (plan : Planned) (c : Change) : Type 0 where
   pub stamp : last_moment plan ≤ c.moment.0
   pub buckets : bad_bucket plan.buckets 0 c.moves ≡ None
-  pub servers : bucket_at_home (server_now plan) c.moves ≡ None
+  pub servers : bucket_already_there (server_now plan) c.moves ≡ None
   pub changes : length plan.changes < 4096
   pub moves : total_moves plan.changes + length c.moves ≤ 1000000
 
@@ -89,7 +89,7 @@ pub IsAdmitted-from_none : (plan : Planned) (c : Change) → refusal plan c ≡ 
 IsAdmitted-from_none plan c h =
     let first = first_fault-none (cond (ltb c.moment.0 (last_moment plan)) (Some StampFell) None) _ h
     in let second = first_fault-none (option_map BadBucket (bad_bucket plan.buckets 0 c.moves)) _ first.1
-    in let third = first_fault-none (option_map SameServer (bucket_at_home (server_now plan) c.moves)) _ second.1
+    in let third = first_fault-none (option_map SameServer (bucket_already_there (server_now plan) c.moves)) _ second.1
     in let fourth = first_fault-none (cond (ltb (length plan.changes) 4096) None (Some (TooMany Changes))) _ third.1
     in let fifth = first_fault-none (cond (leb (total_moves plan.changes + length c.moves) 1000000) None (Some (TooMany Moves))) _ fourth.1
     in record {
@@ -174,20 +174,20 @@ refusal-bucket plan c b h e =
     in rw (t, e) refl
 
 pub refusal-server : (plan : Planned) (c : Change) (b : ℕ) → last_moment plan ≤ c.moment.0 → bad_bucket plan.buckets 0 c.moves ≡ None
-    → bucket_at_home (server_now plan) c.moves ≡ Some b → refusal plan c ≡ Some (SameServer b)
+    → bucket_already_there (server_now plan) c.moves ≡ Some b → refusal plan c ≡ Some (SameServer b)
 refusal-server plan c b h e home =
     let t : ltb c.moment.0 (last_moment plan) ≡ false = le-ltb _ _ h
     in rw (t, e, home) refl
 
 pub refusal-changes : (plan : Planned) (c : Change) → last_moment plan ≤ c.moment.0 → bad_bucket plan.buckets 0 c.moves ≡ None
-    → bucket_at_home (server_now plan) c.moves ≡ None → 4096 ≤ length plan.changes → refusal plan c ≡ Some (TooMany Changes)
+    → bucket_already_there (server_now plan) c.moves ≡ None → 4096 ≤ length plan.changes → refusal plan c ≡ Some (TooMany Changes)
 refusal-changes plan c h e home full =
     let t : ltb c.moment.0 (last_moment plan) ≡ false = le-ltb _ _ h
     in let u : ltb (length plan.changes) 4096 ≡ false = le-ltb _ _ full
     in rw (t, e, home, u) refl
 
 pub refusal-moves : (plan : Planned) (c : Change) → last_moment plan ≤ c.moment.0 → bad_bucket plan.buckets 0 c.moves ≡ None
-    → bucket_at_home (server_now plan) c.moves ≡ None → length plan.changes < 4096 → 1000000 < total_moves plan.changes + length c.moves
+    → bucket_already_there (server_now plan) c.moves ≡ None → length plan.changes < 4096 → 1000000 < total_moves plan.changes + length c.moves
     → refusal plan c ≡ Some (TooMany Moves)
 refusal-moves plan c h e home room full =
     let t : ltb c.moment.0 (last_moment plan) ≡ false = le-ltb _ _ h
@@ -208,10 +208,10 @@ MovesRise-range buckets low [] h = All-nil (λ (m : Move). m.bucket < buckets)
 MovesRise-range buckets low (m ∷ moves) h = All-cons (λ (x : Move). x.bucket < buckets) m moves h.1 (MovesRise-range buckets (m.bucket + 1) moves h.2)
 
 -- functions that agree at each bucket find the same one at home
-pub bucket_at_home-agree : (buckets low : ℕ) (f g : ℕ → ServerId) → ((b : ℕ) → b < buckets → f b ≡ g b) → (moves : List Move) → MovesRise buckets low moves
-    → bucket_at_home f moves ≡ bucket_at_home g moves
-bucket_at_home-agree buckets low f g e [] h = refl
-bucket_at_home-agree buckets low f g e (m ∷ moves) h =
-    let rest : bucket_at_home f moves ≡ bucket_at_home g moves = bucket_at_home-agree buckets (m.bucket + 1) f g e moves h.2
+pub bucket_already_there-agree : (buckets low : ℕ) (f g : ℕ → ServerId) → ((b : ℕ) → b < buckets → f b ≡ g b) → (moves : List Move) → MovesRise buckets low moves
+    → bucket_already_there f moves ≡ bucket_already_there g moves
+bucket_already_there-agree buckets low f g e [] h = refl
+bucket_already_there-agree buckets low f g e (m ∷ moves) h =
+    let rest : bucket_already_there f moves ≡ bucket_already_there g moves = bucket_already_there-agree buckets (m.bucket + 1) f g e moves h.2
     in let here : f m.bucket ≡ g m.bucket = e m.bucket h.1
     in rw (here, rest) refl

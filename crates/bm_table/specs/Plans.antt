@@ -57,9 +57,9 @@ bad_bucket buckets low (m ∷ moves) =
     if nat_le low m.bucket && nat_lt m.bucket buckets then bad_bucket buckets (m.bucket + 1) moves else Some m.bucket
 
 -- the first bucket that a move brings to the server where it is
-abbrev pub bucket_at_home : (ℕ → ServerId) → List Move → Option ℕ
-bucket_at_home server [] = None
-bucket_at_home server (m ∷ moves) = if same_server (server m.bucket) m.to then Some m.bucket else bucket_at_home server moves
+abbrev pub bucket_already_there : (ℕ → ServerId) → List Move → Option ℕ
+bucket_already_there server [] = None
+bucket_already_there server (m ∷ moves) = if same_server (server m.bucket) m.to then Some m.bucket else bucket_already_there server moves
 
 abbrev pub first_fault : List (Option PlanFault) → Option PlanFault
 first_fault [] = None
@@ -71,7 +71,7 @@ abbrev pub refusal : Planned → Change → Option PlanFault
 refusal plan change = first_fault (
     (if nat_lt change.moment.0 (last_moment plan) then Some StampFell else None)
     ∷ option_map BadBucket (bad_bucket plan.buckets 0 change.moves)
-    ∷ option_map SameServer (bucket_at_home (server_now plan) change.moves)
+    ∷ option_map SameServer (bucket_already_there (server_now plan) change.moves)
     ∷ (if nat_lt (length plan.changes) 4096 then None else Some (TooMany Changes))
     ∷ (if nat_le (total_moves plan.changes + length change.moves) 1000000 then None else Some (TooMany Moves))
     ∷ [])

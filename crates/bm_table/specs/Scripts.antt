@@ -1,4 +1,4 @@
--- Which scripts are sound (Beamer's design): a setting within its ranges, an orderly plan that opens on the setting's servers, and commands that lead through it.
+-- Which scripts are sound (docs/DEFINITIONS.md): a setting within its ranges, an orderly plan that opens on the setting's servers, and commands that lead through it.
 use Rattle.std.specs.Prelude.{◌-◌, map, ◌≡◌, ℕ, ◌+◌, ◌*◌, ◌^◌, ◌≤◌, true, List, [], ◌∷◌, length}
 use Rattle.std.specs.List.{AllByRecursion}
 use Rattle.bm_base.specs.Captures.{AreRising}

@@ -2,7 +2,7 @@
 ghost use Rattle.std.specs.Prelude.{◌≡◌, ◌≤◌, ◌<◌, ◌+◌, ◌-◌, ℕ, [], ◌∷◌, length, map, All, IfOk, IfErr, OnOk, OnErr, MatchResult, Some, None};
 ghost use Rattle.bm_table.specs.Leaves.{IsLeast, LeavesRise, has_drain, has_left, left_since, lesser_of};
 ghost use Rattle.bm_table.specs.Limits.{limit_word};
-ghost use Rattle.bm_table.specs.Plans.{MovesRise, bad_bucket, bucket_at_home};
+ghost use Rattle.bm_table.specs.Plans.{MovesRise, bad_bucket, bucket_already_there};
 ghost use Rattle.bm_table.specs.Settings.{IsWithin, RiseFrom};
 ghost use Rattle.bm_table.specs.declared.plan.PlanFault.TheVariants.{Memory as memory};
 
@@ -139,7 +139,8 @@ impl Plan {
     ghost use Rattle.bm_table.specs.Tables.{IsRetirement, next_change, opening};
     ghost use Rattle.std.specs.Option.{option_copied};
 
-    /// A plan without changes. Bucket b opens on server number `b mod n` of the list, from 0.
+    /// A plan without changes. Bucket b opens on server number `b mod n` of the list, from 0. `Memory`
+    /// where memory was refused.
     pub fn new(alloc: Global, buckets: u32, servers: &[ServerId]) -> Result<Plan, Memory>
         requires buckets { IsWithin 1 65536 buckets }
         requires servers { 0 < length servers.now }
@@ -195,7 +196,7 @@ impl Plan {
         self.latest.server(bucket)
     }
 
-    /// The server of each bucket after all changes, by the bucket.
+    /// The server of each bucket after all changes, by the bucket. `Memory` where memory was refused.
     pub fn owners(&self) -> Result<Vec<ServerId>, Memory>
         ensures { IfOk result (λ owners. owners.items ≡ owners_now self.now) }
     {
@@ -212,7 +213,7 @@ impl Plan {
         Some(&self.steps.get(v.0 as usize)?.change)
     }
 
-    /// The change that leads to version `v`.
+    /// The change that leads to version `v`. `Memory` where memory was refused.
     pub fn copy_change(&self, v: Version) -> Result<Change, Memory>
         requires { IsWithin 1 (length self.now.changes) v.0 }
         ensures { IfOk result (λ change. next_change self.now (v.0 - 1) ≡ Some change) }
@@ -256,7 +257,7 @@ impl Plan {
         if let Some(bucket) = first_bad_bucket(self.buckets, moves) {
             return Err(PlanFault::BadBucket(bucket));
         }
-        if let Some(bucket) = self.latest.first_at_home(moves) {
+        if let Some(bucket) = self.latest.first_already_there(moves) {
             return Err(PlanFault::SameServer(bucket));
         }
         if self.steps.len() >= MAX_CHANGES {

@@ -1,4 +1,4 @@
-//! What is done to a fleet, and when.
+//! A script: a setting, the plan of its changes, and its commands.
 use crate::{Plan, Setting};
 use bm_base::{Flow, List, Moment, ServerId, Version};
 

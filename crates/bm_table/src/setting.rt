@@ -1,4 +1,4 @@
-//! The numbers of a fleet.
+//! The numbers of a setting: of buckets, servers, muxes and shards.
 ghost use Rattle.std.specs.Prelude.{◌≡◌, IfOk};
 
 use bm_base::{Fate, Hop, List, Memory, ServerId, Vip};
@@ -19,7 +19,7 @@ pub struct FaultRow {
     pub fate: Fate,
 }
 
-/// The numbers of a fleet. `timeout` and `lags` are nanoseconds, `capacity` is that of a shard.
+/// The numbers of a setting: of buckets, servers, muxes and shards. `timeout` and `lags` are nanoseconds, `capacity` is that of a shard.
 #[derive(Debug, Drop)]
 pub struct Setting {
     pub buckets: u32,

@@ -4,7 +4,7 @@ ghost use Rattle.std.specs.Option.{option_map};
 ghost use Rattle.bm_table.specs.Entries.{IsTable, after_moves, server_in};
 ghost use Rattle.bm_table.specs.Planned.{Planned};
 ghost use Rattle.bm_table.specs.Leaves.{leaves_by};
-ghost use Rattle.bm_table.specs.Plans.{IsPlan, bucket_at_home};
+ghost use Rattle.bm_table.specs.Plans.{IsPlan, bucket_already_there};
 ghost use Rattle.bm_table.specs.Tables.{moved, next_change, opening};
 
 use crate::plan::Leave;
@@ -29,7 +29,7 @@ impl Model for Table {
 }
 
 impl Table {
-    /// The table of version 0.
+    /// The table of version 0. `Memory` where memory was refused.
     pub fn opening(alloc: Global, plan: &Plan) -> Result<Table, Memory>
         ensures { IfOk result (IsTable plan.now 0) }
     {
@@ -92,9 +92,9 @@ impl Table {
     }
 
     /// The first bucket that a move brings to the server where it is.
-    pub(crate) fn first_at_home(&self, moves: &[Move]) -> Option<u32>
+    pub(crate) fn first_already_there(&self, moves: &[Move]) -> Option<u32>
         requires { All (λ m. m.bucket < length self.now) moves.now }
-        ensures { result ≡ bucket_at_home (server_in self.now) moves.now }
+        ensures { result ≡ bucket_already_there (server_in self.now) moves.now }
     {
         for m in moves {
             if self.server(m.bucket) == m.to {

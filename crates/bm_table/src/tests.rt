@@ -1,6 +1,7 @@
 use super::*;
 use bm_base::{Entry, List, Memory, Moment, ServerId, Version, Vip};
 use std::alloc::Global;
+use std::process::Abort;
 use std::test::Fail;
 
 fn change(alloc: Global, moment: u64, kind: Kind, moves: &[(u32, u16)]) -> Result<Change, Memory> {
@@ -18,30 +19,30 @@ fn change(alloc: Global, moment: u64, kind: Kind, moves: &[(u32, u16)]) -> Resul
     })
 }
 
-#[test]
-fn a_plan_refuses_changes_in_order_and_its_table_has_the_last_move(
-    rt: HostRuntime,
-) -> Result<(), Fail> {
-    let alloc = rt.alloc();
-    let mut plan = Plan::new(alloc, 8, [ServerId(1), ServerId(2)].as_slice())?;
-    assert_eq!(rt; plan.buckets(), 8);
-    assert_eq!(rt; plan.opening(4), ServerId(1));
-    assert_eq!(rt; plan.opening(5), ServerId(2));
-    let mut table = Table::opening(alloc, &plan)?;
-    let rows: [(u64, &[(u32, u16)], Result<(), PlanFault>); 6] = [
-        (500, &[(4, 2)], Ok(())),
-        (499, &[(4, 1)], Err(PlanFault::StampFell)),
-        (500, &[(8, 1)], Err(PlanFault::BadBucket(8))),
-        (500, &[(4, 1), (4, 2)], Err(PlanFault::BadBucket(4))),
-        (500, &[(4, 2)], Err(PlanFault::SameServer(4))),
-        (500, &[], Ok(())),
-    ];
-    for (moment, moves, want) in rows {
-        let next = change(alloc, moment, Kind::Shift, moves)?;
-        assert!(rt; plan.push(next) == want, "at {moment}");
-    }
-    assert!(rt; plan.versions() == 2);
+type Row = (u64, &'static [(u32, u16)], Result<(), PlanFault>);
+
+// Changes, and what a plan of servers 1 and 2 answers to each after those before.
+const ROWS: [Row; 6] = [
+    (500, &[(4, 2)], Ok(())),
+    (499, &[(4, 1)], Err(PlanFault::StampFell)),
+    (500, &[(8, 1)], Err(PlanFault::BadBucket(8))),
+    (500, &[(4, 1), (4, 2)], Err(PlanFault::BadBucket(4))),
+    (500, &[(4, 2)], Err(PlanFault::SameServer(4))),
+    (500, &[], Ok(())),
+];
+
+fn assert_push(rt: &impl Abort, alloc: Global, plan: &mut Plan, row: &Row) -> Result<(), Memory> {
+    let (moment, moves, want) = *row;
+    let next = change(alloc, moment, Kind::Shift, moves)?;
+    assert!(rt; plan.push(next) == want, "at {moment}");
+    Ok(())
+}
+
+// The first change moves bucket 4 from server 1 to server 2 at 500, the second moves nothing.
+fn assert_last_move(rt: &impl Abort, alloc: Global, plan: &Plan) -> Result<(), Memory> {
+    assert!(rt; plan.buckets() == 8 && plan.versions() == 2);
     assert_eq!(rt; plan.owners()?.len(), 8);
+    let mut table = Table::opening(alloc, plan)?;
     table.apply(&plan.copy_change(Version(1))?);
     table.apply(&plan.copy_change(Version(2))?);
     let want = Entry {
@@ -50,6 +51,21 @@ fn a_plan_refuses_changes_in_order_and_its_table_has_the_last_move(
         stamp: Moment(500),
     };
     assert!(rt; table.entry(4) == want);
+    Ok(())
+}
+
+#[test]
+fn a_plan_refuses_changes_in_order_and_its_table_has_the_last_move(
+    rt: HostRuntime,
+) -> Result<(), Fail> {
+    let alloc = rt.alloc();
+    let mut plan = Plan::new(alloc, 8, [ServerId(1), ServerId(2)].as_slice())?;
+    assert_eq!(rt; plan.opening(4), ServerId(1));
+    assert_eq!(rt; plan.opening(5), ServerId(2));
+    for row in &ROWS {
+        assert_push(&rt, alloc, &mut plan, row)?;
+    }
+    assert_last_move(&rt, alloc, &plan)?;
     Ok(())
 }
 

@@ -1,8 +1,8 @@
 -- The header of a TCP segment (RFC 9293, section 3.1), as a function of the packet that carries it.
 use Rattle.std.specs.Prelude.{ℕ, ◌+◌, ◌-◌, ◌*◌, ◌/◌, List, length, ◌||◌, nat_lt, bit_and, if◌then◌else◌, Result, Ok, Err}
-use Rattle.bm_base.specs.declared.flags.TheConstants.{FIN, SYN}
 use Rattle.bm_base.specs.declared.flow.Flow.{Flow}
 use Rattle.bm_base.specs.declared.flow.Segment.{Segment}
+use Rattle.bm_base.specs.Segments.{FIN, SYN}
 use Rattle.bm_ipv4.specs.Fields.{octet_at, u16_at, u32_at}
 use Rattle.bm_ipv4.specs.Header.{Packet}
 use Rattle.bm_tcp.specs.declared.fault.TcpFault.{TcpFault}

@@ -1,10 +1,9 @@
 -- The reset that answers a segment (RFC 9293, section 3.5.2), and its octets.
 use Rattle.std.specs.Prelude.{ℕ, ◌+◌, ◌%◌, ◌^◌, bit_or, List, [], ◌∷◌, ◌++◌, Option, Some, None, if◌then◌else◌}
 use Rattle.std.specs.Int.{to_be_bytes, w16, w32}
-use Rattle.bm_base.specs.declared.flags.TheConstants.{ACK, RST}
 use Rattle.bm_base.specs.declared.flow.Flow.{Flow}
 use Rattle.bm_base.specs.declared.flow.Segment.{Segment}
-use Rattle.bm_base.specs.Segments.{has_flag}
+use Rattle.bm_base.specs.Segments.{has_flag, ACK, RST}
 use Rattle.bm_ipv4.specs.Checksum.{checksum_of}
 
 -- the same connection, seen from its other end

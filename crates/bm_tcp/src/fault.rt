@@ -1,3 +1,4 @@
+//! Why a payload is no TCP segment.
 use thiserror::Error;
 
 /// Why a payload is no TCP segment: the first of these that holds.

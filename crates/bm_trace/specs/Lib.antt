@@ -1,9 +1,9 @@
 pub mod Accepts
 pub mod Types
-pub mod Wants
 pub mod Words
 pub mod Totals
 pub mod CauseOf
+pub mod Kinds
 pub mod Ranges
 pub mod Report
 pub mod Running

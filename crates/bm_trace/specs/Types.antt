@@ -1,4 +1,4 @@
--- The numbers of an event are within their types.
+-- Bounds on the numbers of an event: the addresses of a flow are below 2 ^ 32, and all other numbers are below 2 ^ 64, most of which have narrower types.
 use Rattle.std.specs.Prelude.{◌<◌, ◌^◌, List, [], ◌∷◌}
 use Rattle.bm_base.specs.declared.flow.Flow.{Flow}
 use Rattle.bm_table.specs.declared.plan.Retirement.{Retirement}

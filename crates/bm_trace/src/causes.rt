@@ -1,60 +1,100 @@
 //! Why a packet is dropped, reset or processed elsewhere.
-ghost use Rattle.std.specs.Prelude.{◌≡◌, ◌+◌, ◌<◌, ◌≤◌, List, length, reverse, Some, None, option_map, true, is_some};
+ghost use Rattle.std.specs.Prelude.{◌≡◌, ◌+◌, ◌<◌, ◌≤◌, ◌&&◌, List, length, reverse, Some, None, option_map, is_some};
 ghost use Rattle.bm_core.specs.Past as past;
 ghost use Rattle.bm_core.specs.Causes as causes;
 ghost use Rattle.bm_trace.specs.Ranges.{HasRanges};
 ghost use Rattle.bm_core.specs.Runs.{IsRun};
 ghost use Rattle.bm_trace.specs.CauseOf.{cause_of, is_fault_at};
-ghost use Rattle.bm_trace.specs.Wants.{IsWish};
 ghost use Rattle.bm_trace.specs.Seen.{as_accepted};
-ghost use Rattle.bm_trace.specs.Sent.{label_sent};
+ghost use Rattle.bm_trace.specs.Sent.{label_from, label_sent, owner_from};
 
 use crate::entries::{entry_at, moves};
 use crate::held::{held_place, is_elsewhere};
-use crate::past::{Sent, newest, owner_server, segment_of, sent_of};
-use bm_base::{Flow, Moment, ServerId, is_opening};
+use crate::past::{Sent, newest, owner_server, sent_of};
+use bm_base::{Flow, Moment, Segment, ServerId, is_opening};
 use bm_core::{Cause, Event, History, Stage, Verdict, What, Why};
 use bm_hash::bucket_of;
 
-/// Whether an arrival wants a cause: an arrival that is no refusal does so unless its server is
-/// its owner's.
+/// An arrival of a packet, with what is known of the packet.
 #[derive(Clone, Copy)]
-pub(crate) enum Wants {
-    Never,
-    Always,
-    UnlessOwned,
+pub(crate) struct Arrival {
+    pub(crate) server: ServerId,
+    pub(crate) verdict: Verdict,
+    pub(crate) segment: Option<Segment>,
+    pub(crate) sent: Option<Sent>,
 }
 
-/// What an arrival of the packet wants, by its verdict.
-pub(crate) fn wish(stage: &Stage, packet: u32, verdict: &Verdict) -> Wants
-    ensures { IsWish verdict.now (past.segment_of stage.now packet) result }
-{
-    match (segment_of(stage, packet), verdict) {
-        (None, _) => Wants::Never,
-        (Some(_), Verdict::Reset(_) | Verdict::Drop(_)) => Wants::Always,
-        (Some(segment), Verdict::Process(_)) if !is_opening(&segment) => Wants::UnlessOwned,
-        _ => Wants::Never,
+impl Arrival {
+    /// The packet's arrival, where this is known of the packet by its Steer.
+    pub(crate) fn new(
+        stage: &Stage,
+        packet: u32,
+        server: ServerId,
+        verdict: Verdict,
+        sent: Option<Sent>,
+    ) -> Arrival
+        ensures { result ≡ record { server = server; verdict = verdict; segment = past.segment_of stage.now packet; sent = sent } }
+    {
+        Arrival {
+            server,
+            verdict,
+            segment: stage.segment(packet),
+            sent,
+        }
+    }
+
+    /// Whether the packet is dropped, reset or processed elsewhere.
+    fn wants_cause(&self) -> bool
+        ensures { result ≡ causes.wants_cause self.now.verdict (owner_from self.now.sent) self.now.server self.now.segment }
+    {
+        let Some(segment) = self.segment else {
+            return false;
+        };
+        match self.verdict {
+            Verdict::Accept | Verdict::Forward(_) => false,
+            Verdict::Process(_) => {
+                !is_opening(&segment) && owner_server(self.sent) != Some(self.server)
+            }
+            Verdict::Reset(_) | Verdict::Drop(_) => true,
+        }
+    }
+
+    /// Whether the packet isn't opening and is processed without an owner, or elsewhere than at its owner's server.
+    pub(crate) fn is_stray(&self) -> bool
+        ensures { result ≡ (causes.is_process self.now.verdict
+            && causes.wants_cause self.now.verdict (owner_from self.now.sent) self.now.server self.now.segment) }
+    {
+        matches!(self.verdict, Verdict::Process(_)) && self.wants_cause()
+    }
+
+    /// The cause of the arrival after these events, where it has one.
+    pub(crate) fn cause(
+        &self,
+        stage: &Stage,
+        events: &[Event],
+        newest: u32,
+        clock: Moment,
+    ) -> Option<Cause>
+        requires ranges { HasRanges stage.now }
+        requires newest { newest ≡ past.newest (reverse events.now) }
+        ensures { result ≡ causes.cause_at stage.now (reverse events.now) clock.0 self.now.server self.now.verdict
+            (owner_from self.now.sent) self.now.segment (label_from stage.now self.now.segment self.now.sent) }
+    {
+        if !self.wants_cause() {
+            return None;
+        }
+        let segment = self.segment?;
+        let sent = self.sent?;
+        if is_opening(&segment) {
+            opening_cause(&self.verdict, sent.version.0, newest)
+        } else {
+            first_broken(stage, events, clock, &segment.flow, self.server, &sent)
+        }
     }
 }
 
-/// Whether the packet is dropped, reset or processed elsewhere.
-pub(crate) fn wants_cause(
-    stage: &Stage,
-    events: &[Event],
-    packet: u32,
-    server: ServerId,
-    verdict: &Verdict,
-) -> bool
-    ensures { result ≡ causes.wants_cause verdict.now (past.owner stage.now (reverse events.now) packet) server (past.segment_of stage.now packet) }
-{
-    match wish(stage, packet, verdict) {
-        Wants::Never => false,
-        Wants::Always => true,
-        Wants::UnlessOwned => owner_server(sent_of(stage, events, packet)) != Some(server),
-    }
-}
-
-pub(crate) fn opening_cause(verdict: &Verdict, version: u32, newest: u32) -> Option<Cause>
+/// The cause where an opening packet arrives.
+fn opening_cause(verdict: &Verdict, version: u32, newest: u32) -> Option<Cause>
     ensures { result ≡ causes.opening_cause verdict.now version newest }
 {
     match verdict {
@@ -74,7 +114,7 @@ fn is_late(stage: &Stage, flow: &Flow, sent: &Sent, clock: Moment) -> bool
 }
 
 /// The first premise that is broken where a packet arrives that isn't opening.
-pub(crate) fn first_broken(
+fn first_broken(
     stage: &Stage,
     events: &[Event],
     clock: Moment,
@@ -104,49 +144,6 @@ pub(crate) fn first_broken(
     }
 }
 
-/// The cause of an arrival that wants one.
-fn wanted_cause(
-    stage: &Stage,
-    events: &[Event],
-    clock: Moment,
-    packet: u32,
-    server: ServerId,
-    verdict: &Verdict,
-) -> Option<Cause>
-    requires ranges { HasRanges stage.now }
-    requires wanted { causes.wants_cause verdict.now (past.owner stage.now (reverse events.now) packet) server (past.segment_of stage.now packet) ≡ true }
-    ensures { result ≡ causes.cause_at stage.now (reverse events.now) clock.0 server verdict.now
-        (past.owner stage.now (reverse events.now) packet) (past.segment_of stage.now packet) (past.label_of stage.now (reverse events.now) packet) }
-{
-    let segment = segment_of(stage, packet)?;
-    let sent = sent_of(stage, events, packet)?;
-    if is_opening(&segment) {
-        opening_cause(verdict, sent.version.0, newest(events))
-    } else {
-        first_broken(stage, events, clock, &segment.flow, server, &sent)
-    }
-}
-
-/// The cause of an arrival, where it has one.
-fn arrival_cause(
-    stage: &Stage,
-    events: &[Event],
-    clock: Moment,
-    packet: u32,
-    server: ServerId,
-    verdict: &Verdict,
-) -> Option<Cause>
-    requires { HasRanges stage.now }
-    ensures { result ≡ causes.cause_at stage.now (reverse events.now) clock.0 server verdict.now
-        (past.owner stage.now (reverse events.now) packet) (past.segment_of stage.now packet) (past.label_of stage.now (reverse events.now) packet) }
-{
-    if wants_cause(stage, events, packet, server, verdict) {
-        wanted_cause(stage, events, clock, packet, server, verdict)
-    } else {
-        None
-    }
-}
-
 /// The cause of the event at this place, where it has one.
 pub(crate) fn cause_at(h: &History, event: usize) -> Option<Cause>
     requires place { event < length h.now.events }
@@ -155,20 +152,18 @@ pub(crate) fn cause_at(h: &History, event: usize) -> Option<Cause>
 {
     let events = h.events.items();
     let at = events[event];
+    let before = &events[..event];
     match at.what {
         What::Arrive {
             packet,
             server,
             verdict,
             ..
-        } => arrival_cause(
-            &h.stage,
-            &events[..event],
-            at.clock,
-            packet,
-            server,
-            &verdict,
-        ),
+        } => {
+            let sent = sent_of(&h.stage, before, packet);
+            let arrival = Arrival::new(&h.stage, packet, server, verdict, sent);
+            arrival.cause(&h.stage, before, newest(before), at.clock)
+        }
         _ => None,
     }
 }

@@ -2,12 +2,11 @@
 #![tactic(auto, using(crate::proofs::Newest::reverse_last))]
 
 ghost use Rattle.std.specs.Prelude.{◌≡◌, List, length, reverse, count_by, not};
-ghost use Rattle.bm_core.specs.Runs.{IsRun};
-ghost use Rattle.bm_core.specs.Causes as causes;
-ghost use Rattle.bm_core.specs.Past as past;
+ghost use Rattle.bm_trace.specs.Kinds.{is_of_kind};
 ghost use Rattle.bm_trace.specs.Totals as totals;
 
-use crate::causes::wants_cause;
+use crate::causes::Arrival;
+use crate::past::sent_of;
 use crate::sums::Totals;
 use bm_base::{Body, Record};
 use bm_core::{Event, History, Stage, Verdict, What};
@@ -18,8 +17,8 @@ fn is_steered(seen: &Record) -> bool
     matches!(seen.body, Body::Steerable(_))
 }
 
-/// Whether a packet that isn't opening is processed without an owner, or elsewhere than at its owner's server.
-fn is_stray(stage: &Stage, events: &[Event], what: &What) -> bool
+/// Whether the event after these is a stray.
+fn is_stray_after(stage: &Stage, events: &[Event], what: &What) -> bool
     ensures { result ≡ totals.is_stray stage.now (reverse events.now) what.now }
 {
     match what {
@@ -28,8 +27,10 @@ fn is_stray(stage: &Stage, events: &[Event], what: &What) -> bool
             server,
             verdict,
             ..
-        } => matches!(verdict, Verdict::Process(_))
-            && wants_cause(stage, events, *packet, *server, verdict),
+        } => {
+            let sent = sent_of(stage, events, *packet);
+            Arrival::new(stage, *packet, *server, *verdict, sent).is_stray()
+        }
         _ => false,
     }
 }
@@ -40,7 +41,7 @@ fn strays(stage: &Stage, events: &[Event]) -> u64
     let mut count = 0;
     let mut rest = events;
     while let Some((event, before)) = rest.split_last() {
-        if is_stray(stage, before, &event.what) {
+        if is_stray_after(stage, before, &event.what) {
             count += 1;
         }
         rest = before;
@@ -48,79 +49,42 @@ fn strays(stage: &Stage, events: &[Event]) -> u64
     count
 }
 
-fn accepted(events: &[Event]) -> u64
-    ensures { result ≡ count_by (λ e. totals.arrives past.is_accept e.what) events.now }
-{
-    events
-        .iter()
-        .filter(|e| matches!(
-            e.what,
-            What::Arrive {
-                verdict: Verdict::Accept,
-                ..
-            }
-        ))
-        .count() as u64
+/// A verdict, without what it holds.
+#[derive(Clone, Copy)]
+enum Kind {
+    Accept,
+    Process,
+    Forward,
+    Reset,
+    Drop,
 }
 
-fn processed(events: &[Event]) -> u64
-    ensures { result ≡ count_by (λ e. totals.arrives causes.is_process e.what) events.now }
+fn is_of_kind(verdict: &Verdict, kind: Kind) -> bool
+    ensures { result ≡ is_of_kind kind verdict.now }
 {
-    events
-        .iter()
-        .filter(|e| matches!(
-            e.what,
-            What::Arrive {
-                verdict: Verdict::Process(_),
-                ..
-            }
-        ))
-        .count() as u64
+    match kind {
+        Kind::Accept => matches!(verdict, Verdict::Accept),
+        Kind::Process => matches!(verdict, Verdict::Process(_)),
+        Kind::Forward => matches!(verdict, Verdict::Forward(_)),
+        Kind::Reset => matches!(verdict, Verdict::Reset(_)),
+        Kind::Drop => matches!(verdict, Verdict::Drop(_)),
+    }
 }
 
-fn forwarded(events: &[Event]) -> u64
-    ensures { result ≡ count_by (λ e. totals.arrives past.is_forward e.what) events.now }
+fn arrives(what: &What, kind: Kind) -> bool
+    ensures { result ≡ totals.arrives (is_of_kind kind) what.now }
 {
-    events
-        .iter()
-        .filter(|e| matches!(
-            e.what,
-            What::Arrive {
-                verdict: Verdict::Forward(_),
-                ..
-            }
-        ))
-        .count() as u64
+    match what {
+        What::Arrive { verdict, .. } => is_of_kind(verdict, kind),
+        _ => false,
+    }
 }
 
-fn reset(events: &[Event]) -> u64
-    ensures { result ≡ count_by (λ e. totals.arrives totals.is_reset e.what) events.now }
+/// How many arrivals have a verdict of this kind.
+fn arrivals(events: &[Event], kind: Kind) -> u64
+    ensures { result ≡ count_by (λ e. totals.arrives (is_of_kind kind) e.what) events.now }
 {
-    events
-        .iter()
-        .filter(|e| matches!(
-            e.what,
-            What::Arrive {
-                verdict: Verdict::Reset(_),
-                ..
-            }
-        ))
-        .count() as u64
-}
-
-fn dropped(events: &[Event]) -> u64
-    ensures { result ≡ count_by (λ e. totals.arrives totals.is_drop e.what) events.now }
-{
-    events
-        .iter()
-        .filter(|e| matches!(
-            e.what,
-            What::Arrive {
-                verdict: Verdict::Drop(_),
-                ..
-            }
-        ))
-        .count() as u64
+    events.iter().filter(|e| arrives(&e.what, kind)).count() as u64
 }
 
 fn lost(events: &[Event]) -> u64
@@ -155,11 +119,11 @@ pub(crate) fn totals_with(h: &History, stray: u64) -> Totals
         packets: records.len() as u64,
         steered: steered(records),
         unsteered: unsteered(records),
-        accepted: accepted(events),
-        processed: processed(events),
-        forwarded: forwarded(events),
-        reset: reset(events),
-        dropped: dropped(events),
+        accepted: arrivals(events, Kind::Accept),
+        processed: arrivals(events, Kind::Process),
+        forwarded: arrivals(events, Kind::Forward),
+        reset: arrivals(events, Kind::Reset),
+        dropped: arrivals(events, Kind::Drop),
         lost: lost(events),
         stray,
     }
@@ -167,7 +131,6 @@ pub(crate) fn totals_with(h: &History, stray: u64) -> Totals
 
 /// The ten numbers of the history's last line. Takes no memory.
 pub fn totals(h: &History) -> Totals
-    requires { IsRun h.now }
     ensures { result ≡ totals.totals_of h.now }
 {
     totals_with(h, strays(&h.stage, h.events.items()))

@@ -1,8 +1,7 @@
 //! What a report says of its history.
 ghost use Rattle.std.specs.Prelude.{◌≡◌, ◌<◌, ◌^◌};
-ghost use Rattle.bm_core.specs.Runs.{IsRun};
 ghost use Rattle.bm_trace.specs.Report.{text};
-ghost use Rattle.bm_trace.specs.Types.{AreEvents, IsAnswer, IsEvent, IsFlow, IsVerdict};
+ghost use Rattle.bm_trace.specs.Types.{AreEvents, IsAnswer, IsEvent, IsFlow, IsVerdict, IsWhat};
 
 use bm_base::Flow;
 use bm_core::{Event, History, Verdict, What};
@@ -39,21 +38,22 @@ fn read_number(number: u64)
     let _number = number;
 }
 
-/// Each number of the event is within its type.
-fn read_event(event: &Event)
-    ensures { IsEvent event.now }
+fn read_numbers(first: u64, second: u64)
+    ensures first { first < 2 ^ 64 }
+    ensures second { second < 2 ^ 64 }
 {
-    read_number(event.clock.0);
-    match event.what {
+    read_number(first);
+    read_number(second);
+}
+
+/// Each number of what happened is below its bound.
+fn read_what(what: &What)
+    ensures { IsWhat what.now }
+{
+    match *what {
         What::Publish(version) => read_number(u64::from(version.0)),
-        What::Switch { mux, version } => {
-            read_number(u64::from(mux.0));
-            read_number(u64::from(version.0));
-        }
-        What::Steer { packet, mux } => {
-            read_number(u64::from(packet));
-            read_number(u64::from(mux.0));
-        }
+        What::Switch { mux, version } => read_numbers(u64::from(mux.0), u64::from(version.0)),
+        What::Steer { packet, mux } => read_numbers(u64::from(packet), u64::from(mux.0)),
         What::Lose { packet, .. } => read_number(u64::from(packet)),
         What::Arrive {
             packet,
@@ -61,8 +61,7 @@ fn read_event(event: &Event)
             verdict,
             ..
         } => {
-            read_number(u64::from(packet));
-            read_number(u64::from(server.0));
+            read_numbers(u64::from(packet), u64::from(server.0));
             read_verdict(verdict);
         }
         What::Close { server, flow, .. } => {
@@ -75,13 +74,20 @@ fn read_event(event: &Event)
             at,
             result,
         } => {
-            read_number(u64::from(server.0));
-            read_number(u64::from(shard));
+            read_numbers(u64::from(server.0), u64::from(shard));
             read_number(at.0);
             read_answer(result);
         }
         What::Sync => {}
     }
+}
+
+/// Each number of the event is below its bound.
+fn read_event(event: &Event)
+    ensures { IsEvent event.now }
+{
+    read_number(event.clock.0);
+    read_what(&event.what);
 }
 
 fn read_events(events: &[Event])
@@ -94,11 +100,9 @@ fn read_events(events: &[Event])
     }
 }
 
-/// Two runs of one stage with the same report have the same events: a report names one history.
+/// Two histories of one stage with the same report have the same events: a report names one history.
 #[tactic(auto, using(crate::proofs::OneHistory::same_events))]
 pub fn one_history(a: &History, b: &History)
-    requires first { IsRun a.now }
-    requires second { IsRun b.now }
     requires stage { a.now.stage ≡ b.now.stage }
     requires text { text a.now ≡ text b.now }
     ensures { a.now.events ≡ b.now.events }

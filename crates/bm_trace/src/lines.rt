@@ -6,11 +6,10 @@ ghost use Rattle.bm_trace.specs.Words as words;
 ghost use Rattle.bm_trace.specs.Report as report;
 ghost use Rattle.bm_trace.specs.Running.{Keeps};
 
-use crate::past::segment_of;
 use crate::running::Running;
 use crate::sums::Totals;
 use crate::words::{BecauseWords, Counted, Endpoint, RetirementWords, VerdictWords, hop_word};
-use bm_base::{Flow, Hop, ServerId};
+use bm_base::{Flow, Hop, MuxId, ServerId};
 use bm_core::{Cause, Event, Stage, Verdict, What};
 use bm_hash::bucket_of;
 use bm_table::Retirement;
@@ -83,48 +82,57 @@ fn bucket_of_packet(stage: &Stage, packet: u32) -> u32
     requires { HasRanges stage.now }
     ensures { result ≡ report.bucket_of_packet stage.now (past.segment_of stage.now packet) }
 {
-    match segment_of(stage, packet) {
+    match stage.segment(packet) {
         None => 0,
         Some(segment) => bucket_of(&segment.flow, stage.script.setting.buckets),
     }
 }
 
+fn write_steer(
+    line: &mut String,
+    known: &Running,
+    stage: &Stage,
+    events: &[Event],
+    clock: u64,
+    packet: u32,
+    mux: MuxId,
+) -> Result<(), AllocError>
+    requires ranges { HasRanges stage.now }
+    requires kept { Keeps stage.now (reverse events.now) known.now }
+    ensures { OnOk result (string_bytes line.new ≡ string_bytes line.old ++ words.line (decimal clock)
+        (codes "steer" ∷ decimal packet ∷ decimal mux.0 ∷ decimal (past.version_at (reverse events.now) mux).0
+        ∷ decimal (report.bucket_of_packet stage.now (past.segment_of stage.now packet)) ∷ [])) }
+{
+    let version = known.version(events, mux).0;
+    let bucket = bucket_of_packet(stage, packet);
+    writeln!(line, "{clock} steer {packet} {} {version} {bucket}", mux.0)
+}
+
 /// The line of an event that has these before it.
 pub(crate) fn write_event(
     line: &mut String,
-    running: &Running,
+    known: &Running,
     stage: &Stage,
     events: &[Event],
     event: &Event,
 ) -> Result<(), AllocError>
     requires ranges { HasRanges stage.now }
-    requires kept { Keeps stage.now (reverse events.now) running.now }
+    requires kept { Keeps stage.now (reverse events.now) known.now }
     ensures { OnOk result (string_bytes line.new ≡ string_bytes line.old ++ report.event_line stage.now (reverse events.now) event.now) }
 {
     let clock = event.clock.0;
+    let cause = known.cause(stage, events, event);
     match event.what {
         What::Publish(version) => writeln!(line, "{clock} publish {}", version.0),
         What::Switch { mux, version } => writeln!(line, "{clock} switch {} {}", mux.0, version.0),
-        What::Steer { packet, mux } => {
-            let version = running.version(events, mux).0;
-            let bucket = bucket_of_packet(stage, packet);
-            writeln!(line, "{clock} steer {packet} {} {version} {bucket}", mux.0)
-        }
+        What::Steer { packet, mux } => write_steer(line, known, stage, events, clock, packet, mux),
         What::Lose { packet, hop } => writeln!(line, "{clock} lost {packet} {}", hop_word(hop)),
         What::Arrive {
             packet,
             hop,
             server,
             verdict,
-        } => write_arrival(
-            line,
-            clock,
-            packet,
-            hop,
-            server,
-            verdict,
-            running.cause(stage, events, event.clock, packet, server, &verdict),
-        ),
+        } => write_arrival(line, clock, packet, hop, server, verdict, cause),
         What::Close {
             server,
             flow,

@@ -8,19 +8,8 @@ ghost use Rattle.bm_base.specs.Segments.{same_flow};
 ghost use Rattle.bm_trace.specs.Seen.{as_accepted};
 ghost use Rattle.bm_trace.specs.Sent.{IsSent, owner_from};
 
-use bm_base::{Body, Flow, MuxId, Segment, ServerId, Version};
+use bm_base::{Flow, MuxId, ServerId, Version};
 use bm_core::{Event, Stage, Verdict, What};
-
-/// The segment of a packet, which is the record of that number, counted from 1.
-pub(crate) fn segment_of(stage: &Stage, packet: u32) -> Option<Segment>
-    ensures { result ≡ past.segment_of stage.now packet }
-{
-    let place = packet.checked_sub(1)? as usize;
-    match stage.capture.records.items().get(place)?.body {
-        Body::Steerable(segment) => Some(segment),
-        Body::Unsteered(_) => None,
-    }
-}
 
 pub(crate) fn same_flow(a: &Flow, b: &Flow) -> bool
     ensures { result ≡ same_flow a.now b.now }
@@ -32,7 +21,7 @@ pub(crate) fn same_flow(a: &Flow, b: &Flow) -> bool
 pub(crate) fn is_of(stage: &Stage, packet: u32, flow: &Flow) -> bool
     ensures { result ≡ past.is_of (past.segment_of stage.now packet) flow.now }
 {
-    match segment_of(stage, packet) {
+    match stage.segment(packet) {
         None => false,
         Some(segment) => same_flow(&segment.flow, flow),
     }
@@ -148,7 +137,7 @@ pub(crate) fn accept_of<'a>(
 pub(crate) fn version_of(stage: &Stage, events: &[Event], packet: u32) -> u32
     ensures { result ≡ past.version_of (past.label_of stage.now (reverse events.now) packet) }
 {
-    match (steer_of(events, packet), segment_of(stage, packet)) {
+    match (steer_of(events, packet), stage.segment(packet)) {
         (Some(steered), Some(_)) => version_at(steered.before, steered.mux).0,
         _ => 0,
     }
@@ -176,7 +165,7 @@ pub(crate) struct Sent {
 fn owner_before(stage: &Stage, events: &[Event], packet: u32) -> Option<Owner>
     ensures { option_map as_accepted result ≡ past.accept_before stage.now (reverse events.now) (past.segment_of stage.now packet) }
 {
-    let segment = segment_of(stage, packet)?;
+    let segment = stage.segment(packet)?;
     let accepting = accept_of(stage, events, &segment.flow)?;
     Some(Owner {
         server: accepting.server,

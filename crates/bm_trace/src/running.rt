@@ -11,9 +11,9 @@ ghost use Rattle.bm_trace.specs.Totals as totals;
 ghost use Rattle.bm_core.specs.Past.{is_accept};
 ghost use Rattle.bm_trace.specs.Accepts.{owner_before};
 
-use crate::causes::{Wants, first_broken, opening_cause, wish};
-use crate::past::{Owner, Sent, owner_server, segment_of, sent_of, version_at};
-use bm_base::{Flow, Hop, Moment, MuxId, Segment, ServerId, Version, is_opening};
+use crate::causes::Arrival;
+use crate::past::{Owner, Sent, sent_of, version_at};
+use bm_base::{Flow, Hop, MuxId, Segment, ServerId, Version};
 use bm_core::{Cause, Event, Stage, Verdict, What};
 use std::alloc::{AllocError, Global};
 use std::collections::BTreeMap;
@@ -146,7 +146,7 @@ impl Running {
         requires { Keeps stage.now (reverse events.now) self.now }
         ensures { result ≡ past.version_of (past.label_of stage.now (reverse events.now) packet) }
     {
-        match (segment_of(stage, packet), self.sent(stage, events, packet)) {
+        match (stage.segment(packet), self.sent(stage, events, packet)) {
             (Some(_), Some(sent)) => sent.version.0,
             _ => 0,
         }
@@ -175,7 +175,7 @@ impl Running {
         let sent = Sent {
             mux,
             version: self.version(events, mux),
-            owner: self.accepts.get_for(segment_of(stage, packet)),
+            owner: self.accepts.get_for(stage.segment(packet)),
         };
         set_sent(&mut self.packets, packet, sent)
     }
@@ -199,8 +199,7 @@ impl Running {
             version: self.version_sent(stage, events, packet),
             place: events.len(),
         };
-        self.accepts
-            .put_for(segment_of(stage, packet), owner, verdict)
+        self.accepts.put_for(stage.segment(packet), owner, verdict)
     }
 
     /// Takes note of the event that comes after these.
@@ -228,52 +227,28 @@ impl Running {
         Ok(())
     }
 
-    fn wants_cause(
-        &self,
-        stage: &Stage,
-        events: &[Event],
-        packet: u32,
-        server: ServerId,
-        verdict: &Verdict,
-    ) -> bool
-        requires { Keeps stage.now (reverse events.now) self.now }
-        ensures { result ≡ causes.wants_cause verdict.now (past.owner stage.now (reverse events.now) packet) server (past.segment_of stage.now packet) }
-    {
-        match wish(stage, packet, verdict) {
-            Wants::Never => false,
-            Wants::Always => true,
-            Wants::UnlessOwned => owner_server(self.sent(stage, events, packet)) != Some(server),
-        }
-    }
-
-    /// The cause of an arrival after these events, where it has one.
-    pub(crate) fn cause(
-        &self,
-        stage: &Stage,
-        events: &[Event],
-        clock: Moment,
-        packet: u32,
-        server: ServerId,
-        verdict: &Verdict,
-    ) -> Option<Cause>
+    /// The cause of the event after these, where it has one.
+    pub(crate) fn cause(&self, stage: &Stage, events: &[Event], event: &Event) -> Option<Cause>
         requires ranges { HasRanges stage.now }
         requires kept { Keeps stage.now (reverse events.now) self.now }
-        ensures { result ≡ causes.cause_at stage.now (reverse events.now) clock.0 server verdict.now
-            (past.owner stage.now (reverse events.now) packet) (past.segment_of stage.now packet) (past.label_of stage.now (reverse events.now) packet) }
+        ensures { result ≡ causes.cause stage.now (reverse events.now) event.now.clock.0 event.now.what }
     {
-        if !self.wants_cause(stage, events, packet, server, verdict) {
-            return None;
-        }
-        let segment = segment_of(stage, packet)?;
-        let sent = self.sent(stage, events, packet)?;
-        if is_opening(&segment) {
-            opening_cause(verdict, sent.version.0, self.newest.0)
-        } else {
-            first_broken(stage, events, clock, &segment.flow, server, &sent)
+        match event.what {
+            What::Arrive {
+                packet,
+                server,
+                verdict,
+                ..
+            } => {
+                let sent = self.sent(stage, events, packet);
+                let arrival = Arrival::new(stage, packet, server, verdict, sent);
+                arrival.cause(stage, events, self.newest.0, event.clock)
+            }
+            _ => None,
         }
     }
 
-    /// Whether an event after these is a stray.
+    /// Whether the event after these is a stray.
     pub(crate) fn is_stray(&self, stage: &Stage, events: &[Event], what: &What) -> bool
         requires { Keeps stage.now (reverse events.now) self.now }
         ensures { result ≡ totals.is_stray stage.now (reverse events.now) what.now }
@@ -284,8 +259,10 @@ impl Running {
                 server,
                 verdict,
                 ..
-            } => matches!(verdict, Verdict::Process(_))
-                && self.wants_cause(stage, events, *packet, *server, verdict),
+            } => {
+                let sent = self.sent(stage, events, *packet);
+                Arrival::new(stage, *packet, *server, *verdict, sent).is_stray()
+            }
             _ => false,
         }
     }

@@ -9,8 +9,7 @@ use clap::error::ErrorKind;
 use clap::{Arg, Command};
 use std::alloc::{AllocError, Global};
 
-/// The replay of a capture, through the fleet of a script or through the plain one. Both are names
-/// of files.
+/// The replay of a capture, with a script or without one. Both are names of files.
 #[derive(Debug, Drop)]
 pub struct Form<'a> {
     pub capture: &'a str,
@@ -19,7 +18,7 @@ pub struct Form<'a> {
 
 /// What the words ask for: `replay CAPTURE` or `replay CAPTURE SCRIPT`, or nothing where they are
 /// of no form. A name isn't empty and doesn't begin with `-`. The words are without the program's
-/// own name.
+/// own name. `AllocError` where memory was refused.
 pub fn read_words<'a>(alloc: Global, words: &'a [String]) -> Result<Option<Form<'a>>, AllocError>
     ensures form { IfOk result (λ form. option_map named form ≡ form_of (map string_bytes words.entry.now)) }
     // Words of no form take no memory.

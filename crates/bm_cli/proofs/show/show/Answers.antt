@@ -9,4 +9,5 @@ returns-in-Err g c = record {
   whole = λ e. absurd (cc);
   part = λ e. record { octets = []; report = inr refl; written = (0, appends_nothing (g.K.Sink.written c.args.out.now)) };
   cause = λ e. absurd (cc);
+  kept = λ n. refl;
 }

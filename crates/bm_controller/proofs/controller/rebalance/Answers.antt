@@ -2,7 +2,7 @@ use Rattle.std.proofs.Common.{List, length, sum, ap, sym, ◌∙◌, arith}
 use Rattle.bm_base.specs.declared.ids.ServerId.{ServerId}
 use Rattle.bm_table.specs.declared.plan.Move.{Move}
 use Rattle.bm_table.specs.Plans.{owners_now}
-use Rattle.bm_controller.proofs.FleetPlans.{length-owners_now, length-quotas_of}
+use Rattle.bm_controller.proofs.MemberPlans.{length-owners_now, length-quotas_of}
 use Rattle.bm_controller.proofs.controller.rebalance.Goals as goal
 use Rattle.bm_quota.specs.Rebalancing.{quotas_of, rebalancing}
 

@@ -1,5 +1,6 @@
+use Rattle.std.proofs.Common.{arith}
 use Rattle.bm_encap.proofs.Spelled.{spelling_read}
 use Rattle.bm_encap.proofs.laws.spelling_is_read.Goals as goal
 
 pub returns : goal.returns
-returns c = spelling_read c.args.tag.now c.args.inner.now c.requires.tag c.requires.fits.0 c.requires.fits.1 c.requires.inner
+returns c = spelling_read c.args.tag.now c.args.inner.now c.requires.tag (omega arith) (omega arith) c.requires.inner

@@ -6,5 +6,5 @@ pub loop-at-preserved : goal.loop-at-preserved
 loop-at-preserved g c = record {
   within = within_piece c.args.piece.now c.loop-at.at c.in_ok-at.field-0 c.loop-at.invariant.within c.in_ok-at.ensures.bound;
   so_far = appends_more _ _ _ c.args.piece.now c.loop-at.at c.in_ok-at.field-0 c.loop-at.invariant.so_far c.in_ok-at.ensures.octets;
-  later = omega (arith, c.in_ok-at.ensures.cause.later, c.loop-at.invariant.later);
+  later = omega (arith, c.in_ok-at.ensures.cause.kept, c.loop-at.invariant.later);
 }

@@ -12,7 +12,7 @@ use Rattle.bm_pcap.specs.Records.{moment_of}
 use Rattle.bm_pcap.specs.Limits.{latest}
 use Rattle.bm_pcap.proofs.Rising.{rising_more, fit_more, moment_early, moment_late, replayable_so_far}
 use Rattle.bm_pcap.proofs.Packets.{none_yet, packets_more}
-use Rattle.bm_pcap.proofs.Loop.{starts, first_number, gave, stepped, failed, at_cut, at_end, at_fault, goes_on}
+use Rattle.bm_pcap.proofs.Loop.{starts, first_number, gave, last_of, stepped, failed, at_cut, at_end, at_fault, goes_on}
 use Rattle.bm_pcap.proofs.reader.read_capture.Goals as goal
 
 pub loop-packets-init : goal.loop-packets-init
@@ -81,3 +81,14 @@ returns-in-Cut-clause-replayable g c = rw c.captured.ensures (replayable_so_far 
 
 pub returns-in-End-clause-replayable : goal.returns-in-End-clause-replayable
 returns-in-End-clause-replayable g c = rw c.captured-in-End.ensures (replayable_so_far c.args.vips.now c.loop-packets.records.items None c.loop-packets.packets c.loop-packets.r.place c.loop-packets.invariant.count c.loop-packets.invariant.few c.loop-packets.invariant.packed c.loop-packets.invariant.early c.loop-packets.invariant.rise c.loop-packets.invariant.fit)
+
+pub returns-in_err-moment-clause-last : goal.returns-in_err-moment-clause-last
+returns-in_err-moment-clause-last g c =
+    let p = err_from_is_err_and c.from_residual.result c.from_residual.ensures.1 in
+    rw (p.1, p.2) (last_of g.S.Source.left g.S.Source.faults c.loop-packets.r c.next.follows.lender-at-none c.next.result c.in_err-moment.field-0.0 c.loop-packets.invariant.fresh c.next.follows.holds-at-none c.in_err-moment.was)
+
+pub returns-in-Cut-clause-last : goal.returns-in-Cut-clause-last
+returns-in-Cut-clause-last g c = rw c.captured.ensures (c.loop-packets.r, (c.loop-packets.invariant.fresh, (gave g.S.Source.left g.S.Source.faults c.loop-packets.r c.next.follows.lender-at-none c.next.result (item.Cut c.in-Cut.number) c.next.follows.holds-at-none (c.in_ok-moment.was ∙ ap (λ (a : Item). Ok a) c.in-Cut.is)).0))
+
+pub returns-in-End-clause-last : goal.returns-in-End-clause-last
+returns-in-End-clause-last g c = rw c.captured-in-End.ensures (c.loop-packets.r, (c.loop-packets.invariant.fresh, gave g.S.Source.left g.S.Source.faults c.loop-packets.r c.next.follows.lender-at-none c.next.result item.End c.next.follows.holds-at-none (c.in_ok-moment.was ∙ ap (λ (a : Item). Ok a) c.in-End.is)))

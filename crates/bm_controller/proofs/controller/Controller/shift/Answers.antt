@@ -1,11 +1,11 @@
 use Rattle.std.proofs.Common.{◌≡◌, ◌<◌, List, true, false, Some, None, refl, ap, sym, ◌∙◌, subst, arith}
 use Rattle.std.proofs.lemmas.Result.{err_from_is_err_and}
 use Rattle.std.specs.Option.{option_map}
-use Rattle.bm_controller.proofs.Answered.{is_active-found, known-same, refused_by_plan, shift_refusal-active, shift_refusal-plan}
-use Rattle.bm_controller.proofs.FleetPlans.{active_now-push, IsFleet-shift}
+use Rattle.bm_controller.proofs.Answered.{is_active-found, known-same, refused_by_plan, shift_refusal-active, shift_refusal-plan, shift_refused-none, wanted}
+use Rattle.bm_controller.proofs.MemberPlans.{active_now-push, KeepsMembership-shift}
 use Rattle.bm_controller.proofs.controller.Controller.shift.Goals as goal
 use Rattle.bm_controller.specs.Commands as commands
-use Rattle.bm_controller.specs.Fleets as fleets
+use Rattle.bm_controller.specs.Membership as members
 use Rattle.bm_quota.specs.declared.refusal.Refusal.TheVariants.{NotActive}
 use Rattle.bm_quota.specs.Refusals.{refusal_of}
 use Rattle.bm_table.specs.declared.plan.Kind.TheVariants.{Shift}
@@ -43,13 +43,13 @@ invariant_of-self-2 c =
     in let none = rw moves at c.in_ok-push.ensures.accepted
     in let plan = c.in_ok-push.ensures.ok ∙ ap (λ (ms : List Move). with_change c.self.inside.plan (record { moment = c.args.at; kind = Shift; moves = ms })) moves
     in record {
-      fleet = rw plan (IsFleet-shift c.self.inside.plan c.self.invariant.fleet c.args.at c.args.bucket c.args.s active none);
-      active = c.self.invariant.active ∙ sym (ap fleets.active_now plan ∙ active_now-push c.self.inside.plan (commands.shift_of c.args.at c.args.bucket c.args.s));
+      membership = rw plan (KeepsMembership-shift c.self.inside.plan c.self.invariant.membership c.args.at c.args.bucket c.args.s active none);
+      active = c.self.invariant.active ∙ sym (ap members.active_now plan ∙ active_now-push c.self.inside.plan (commands.shift_of c.args.at c.args.bucket c.args.s));
       numbers = c.self.invariant.numbers;
       known = λ x l.
           c.self.invariant.known x l
           ∙ known-same c.self.inside.plan (commands.shift_of c.args.at c.args.bucket c.args.s) x refl
-          ∙ ap (λ (p : Planned). fleets.knows p x) (sym plan);
+          ∙ ap (λ (p : Planned). members.knows p x) (sym plan);
     }
 
 pub returns-clause-accepted : goal.returns-clause-accepted
@@ -62,3 +62,19 @@ returns-clause-accepted c =
     in let none = rw moves at c.in_ok-push.ensures.accepted
     in subst (λ (p : Planned). commands.shift_refusal p c.args.at c.args.bucket c.args.s ≡ None) c.self.view_is
     (shift_refusal-plan c.self.inside.plan c.args.at c.args.bucket c.args.s below known active apart ∙ ap (option_map refusal_of) none)
+
+pub returns-in_err-moves-clause-want : goal.returns-in_err-moves-clause-want
+returns-in_err-moves-clause-want c =
+    let below : c.args.bucket < c.self.inside.plan.buckets = omega arith
+    in let known = rw (← c.self.view_is) at (sym c.knows.ensures ∙ c.if-not-knows.false)
+    in let active = is_active-found c.self.inside.plan c.self.inside.active.items c.as_slice.result.now c.args.s _ true c.self.invariant.active c.as_slice.ensures.value c.is_among.ensures c.if-not-is_among.false
+    in let apart : same_server (server_now c.self.inside.plan c.args.bucket) c.args.s ≡ false = rw c.server.ensures at (sym c.eq.ensures ∙ c.if-eq.false)
+    in wanted _ _ (subst (λ (p : Planned). commands.shift_refused p c.args.bucket c.args.s ≡ None) c.self.view_is (shift_refused-none c.self.inside.plan c.args.bucket c.args.s below known active apart))
+
+pub returns-in_err-push-clause-want : goal.returns-in_err-push-clause-want
+returns-in_err-push-clause-want c =
+    let below : c.args.bucket < c.self.inside.plan.buckets = omega arith
+    in let known = rw (← c.self.view_is) at (sym c.knows.ensures ∙ c.if-not-knows.false)
+    in let active = is_active-found c.self.inside.plan c.self.inside.active.items c.as_slice.result.now c.args.s _ true c.self.invariant.active c.as_slice.ensures.value c.is_among.ensures c.if-not-is_among.false
+    in let apart : same_server (server_now c.self.inside.plan c.args.bucket) c.args.s ≡ false = rw c.server.ensures at (sym c.eq.ensures ∙ c.if-eq.false)
+    in wanted _ _ (subst (λ (p : Planned). commands.shift_refused p c.args.bucket c.args.s ≡ None) c.self.view_is (shift_refused-none c.self.inside.plan c.args.bucket c.args.s below known active apart))

@@ -19,8 +19,8 @@ invariant_of-self-2 c = subst (λ (xs : List ℕ). All (λ octet. octet < 256) x
 mapped : (c : goal.After-map) → c.map.result ≡ option_map (λ x. x.0) c.ok-2.result
 mapped c = grind (arith, common_steps)
 
-pub returns : goal.returns
-returns c =
+pub returns-clause-next : goal.returns-clause-next
+returns-clause-next c =
     mapped c
     ∙ (ap (λ (o : Option (Tag × Bor (List ℕ))). option_map (λ x. x.0) o) c.ok-2.ensures.value
     ∙ (answered c.self.inside.octets.items c.deref.result.now c.unwrap.result (is_turned c) c.unwrap.ensures.read ∙ ap next_tag c.self.view_is))

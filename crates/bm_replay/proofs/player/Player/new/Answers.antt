@@ -2,7 +2,7 @@ use Rattle.std.proofs.Common.{ℕ, List, refl, ap, ◌∙◌, subst, arith}
 use Rattle.bm_base.specs.declared.capture.Record.{Record}
 use Rattle.bm_table.specs.declared.script.Command.{Command}
 use Rattle.bm_core.specs.Schedule.{least}
-use Rattle.bm_replay.specs.Fleets.{switches_of}
+use Rattle.bm_replay.specs.Muxes.{switches_of}
 use Rattle.bm_replay.specs.Queues.{IsHead, closes_from, packets_after, retires_after, retires_from, syncs_from}
 use Rattle.bm_replay.proofs.Moments.{change_early}
 use Rattle.bm_replay.proofs.player.Player.new.Goals as goal
@@ -19,9 +19,9 @@ returns c = record {
   loss = refl;
   wire = c.new-3.ensures;
   published = refl;
-  muxes = c.in_ok-fleet.ensures.count;
-  tables = c.in_ok-fleet.ensures.each;
-  switch = c.soonest-switch.ensures ∙ ap (λ (lags : List ℕ). least (switches_of c.args.stage.script.plan lags c.args.stage.script.setting.muxes c.in_ok-fleet.fleet c.args.stage.script.setting.muxes)) c.items.ensures;
+  muxes = c.in_ok-muxes.ensures.so_many;
+  tables = c.in_ok-muxes.ensures.each;
+  switch = c.soonest-switch.ensures ∙ ap (λ (lags : List ℕ). least (switches_of c.args.stage.script.plan lags c.args.stage.script.setting.muxes c.in_ok-muxes.muxes c.args.stage.script.setting.muxes)) c.items.ensures;
   close = subst (λ (l : List Command). IsHead (closes_from l 0) (closes_from l c.next_close-close.result.next) c.next_close-close.result.head) c.items-commands.ensures c.next_close-close.ensures;
   retire = subst (λ (l : List Command). IsHead (retires_from c.args.stage.script.setting.shards l 0) (retires_after c.args.stage.script.setting.shards l c.next_retire-retire.result) c.next_retire-retire.result.head) c.items-commands.ensures
       (c.next_retire-retire.ensures c.args.stage.script.setting.shards (let h = c.requires.sound.script.setting.shards.0 in omega arith));

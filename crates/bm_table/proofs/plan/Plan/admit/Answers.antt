@@ -5,25 +5,25 @@ use Rattle.bm_table.proofs.plan.Plan.admit.Goals as goal
 use Rattle.bm_table.specs.Plans.{last_moment}
 use Rattle.bm_table.specs.Views.{planned}
 
-pub first_at_home-requires : goal.first_at_home-requires
-first_at_home-requires c =
+pub first_already_there-requires : goal.first_already_there-requires
+first_already_there-requires c =
     let good = rw c.items-moves.ensures at (sym c.first_bad_bucket.ensures ∙ c.in_default.is)
     in rw c.items-moves.ensures (in_table c.self.inside c.self.invariant c.args.change.now.moves good)
 
-pub returns-in-Some-first_at_home : goal.returns-in-Some-first_at_home
-returns-in-Some-first_at_home c =
+pub returns-in-Some-first_already_there : goal.returns-in-Some-first_already_there
+returns-in-Some-first_already_there c =
     let good = rw c.items-moves.ensures at (sym c.first_bad_bucket.ensures ∙ c.in_default.is)
-    in let home = rw c.items-moves.ensures at (sym c.first_at_home.ensures ∙ c.in-Some-first_at_home.is)
+    in let home = rw c.items-moves.ensures at (sym c.first_already_there.ensures ∙ c.in-Some-first_already_there.is)
     in let later : last_moment c.args.self.now ≤ c.args.change.now.moment.0 = omega arith
     in let late = rw (← c.self.view_is) at later
     in rw (← c.self.view_is) (
-    refusal-server (planned c.self.inside) c.args.change.now c.in-Some-first_at_home.bucket late good
+    refusal-server (planned c.self.inside) c.args.change.now c.in-Some-first_already_there.bucket late good
     (sym (at_home c.self.inside c.self.invariant c.args.change.now.moves good) ∙ home))
 
 pub returns-then-len-ge-MAX_CHANGES : goal.returns-then-len-ge-MAX_CHANGES
 returns-then-len-ge-MAX_CHANGES c =
     let good = rw c.items-moves.ensures at (sym c.first_bad_bucket.ensures ∙ c.in_default.is)
-    in let home = rw c.items-moves.ensures at (sym c.first_at_home.ensures ∙ c.in_default-first_at_home.is)
+    in let home = rw c.items-moves.ensures at (sym c.first_already_there.ensures ∙ c.in_default-first_already_there.is)
     in let later : last_moment c.args.self.now ≤ c.args.change.now.moment.0 = omega arith
     in let late = rw (← c.self.view_is) at later
     in rw (← c.self.view_is) (
@@ -34,7 +34,7 @@ returns-then-len-ge-MAX_CHANGES c =
 pub returns-then-moves-self : goal.returns-then-moves-self
 returns-then-moves-self c =
     let good = rw c.items-moves.ensures at (sym c.first_bad_bucket.ensures ∙ c.in_default.is)
-    in let home = rw c.items-moves.ensures at (sym c.first_at_home.ensures ∙ c.in_default-first_at_home.is)
+    in let home = rw c.items-moves.ensures at (sym c.first_already_there.ensures ∙ c.in_default-first_already_there.is)
     in let later : last_moment c.args.self.now ≤ c.args.change.now.moment.0 = omega arith
     in let late = rw (← c.self.view_is) at later
     in rw (← c.self.view_is) (
@@ -46,7 +46,7 @@ returns-then-moves-self c =
 pub returns : goal.returns
 returns c =
     let good = rw c.items-moves.ensures at (sym c.first_bad_bucket.ensures ∙ c.in_default.is)
-    in let home = rw c.items-moves.ensures at (sym c.first_at_home.ensures ∙ c.in_default-first_at_home.is)
+    in let home = rw c.items-moves.ensures at (sym c.first_already_there.ensures ∙ c.in_default-first_already_there.is)
     in let later : last_moment c.args.self.now ≤ c.args.change.now.moment.0 = omega arith
     in let late = rw (← c.self.view_is) at later
     in rw (← c.self.view_is) (

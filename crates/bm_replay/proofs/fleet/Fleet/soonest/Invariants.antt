@@ -1,7 +1,0 @@
-use Rattle.std.proofs.Common.{◌≡◌}
-use Rattle.bm_core.specs.Schedule.{least}
-use Rattle.bm_replay.specs.Fleets.{switches_of}
-use Rattle.bm_replay.proofs.fleet.Fleet.soonest.Given as goal
-
-abbrev pub invariant-loop-mux : goal.invariant-loop-mux
-invariant-loop-mux l = l.soonest ≡ least (switches_of l.plan l.lags l.muxes l.self-inside.muxes.items l.mux)
