@@ -1,5 +1,7 @@
--- What a capture has to be so that it can be carried through muxes and servers (docs/DEFINITIONS.md).
-use Rattle.std.specs.Prelude.{◌≡◌, ◌⊎◌, ℕ, ◌*◌, ◌^◌, ◌≤◌, List, [], ◌∷◌, length, map, Option, Some, None, IfSome}
+-- What a capture has to be so that it can be carried through muxes and servers
+-- (docs/DEFINITIONS.md).
+use Rattle.std.specs.Prelude.{◌≡◌, ◌⊎◌, ℕ, ◌*◌, ◌^◌, ◌≤◌, List, [], ◌∷◌, length, map, Option, Some}
+use Rattle.std.specs.Prelude.{None, IfSome}
 use Rattle.std.specs.List.{AllByRecursion}
 use Rattle.bm_base.specs.declared.flow.Flow.{Flow}
 use Rattle.bm_base.specs.declared.flow.Segment.{Segment}
@@ -31,7 +33,8 @@ IsService (v ∷ vips) f = ((f.dst ≡ v.addr) × (f.dport ≡ v.port)) ⊎ IsSe
 abbrev pub IsFit : List Vip → Record → Type 0
 IsFit vips r = IfSome (steerable (Some r)) (λ s. IsService vips s.flow × (s.len ≤ 1048576))
 
--- at most 200,000 records, whose moments don't fall and end in time, and whose segments go to a service and are short
+-- at most 200,000 records, whose moments don't fall and end in time, and whose segments go to a
+-- service and are short
 pub record IsReplayable (vips : List Vip) (capture : Capture) : Type 0 where
   pub few : length capture.records ≤ 200000
   pub rise : AreRising 0 (44 * 10 ^ 17) (map (λ r. r.moment.0) capture.records)

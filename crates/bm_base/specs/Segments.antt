@@ -22,7 +22,8 @@ has_flag flag s = nat_lt 0 (bit_and s.flags flag)
 
 -- SYN is set, and ACK, RST and FIN aren't: the first segment of a connection
 unfoldable pub is_opening : Segment → Bool
-is_opening s = has_flag SYN s && not (has_flag ACK s) && not (has_flag RST s) && not (has_flag FIN s)
+is_opening s =
+    has_flag SYN s && not (has_flag ACK s) && not (has_flag RST s) && not (has_flag FIN s)
 
 -- the same addresses and ports
 abbrev pub same_flow : Flow → Flow → Bool

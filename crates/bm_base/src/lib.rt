@@ -3,6 +3,7 @@
 
 mod address;
 mod capture;
+mod fate;
 pub mod flags;
 mod flow;
 mod ids;
@@ -15,13 +16,14 @@ mod text;
 
 pub use address::{mux_addr, mux_of, server_addr, server_of};
 pub use capture::{Body, Capture, Reason, Record, Vip};
+pub use fate::Fate;
 pub use flow::{Flow, Segment, is_opening};
 pub use ids::{LAST, Moment, MuxId, ServerId, Version};
 pub use label::{Entry, Hop, Label, Tag, tag_of};
 pub use list::List;
 pub use memory::Memory;
 pub use octets::{MAX_INNER, Octets};
-pub use receive::{Fate, Taken};
+pub use receive::Taken;
 pub use text::Text;
 
 #[cfg(test)]

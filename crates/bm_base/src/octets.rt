@@ -1,28 +1,32 @@
 //! The packets of a capture.
 ghost use Rattle.std.specs.Prelude.{◌≡◌, ◌<◌, [], ◌∷◌, ◌++◌, length, slice_index_or, OnOk, OnErr};
+ghost use Rattle.bm_base.specs.Pieces.{AreEnds, begin_of, pieces};
 
-use crate::{List, Memory};
+use crate::Memory;
 use std::alloc::Global;
 use std::marker::Model;
 
 /// The most octets that a packet may have beside a carrier header in 65,535 octets.
 pub const MAX_INNER: u32 = 65_491;
 
-/// A list of octets for each record of a capture.
+/// A list of octets for each record of a capture: all octets one behind the other, and where each
+/// list ends.
 #[derive(Debug, Drop)]
 pub struct Octets {
-    alloc: Global,
-    lists: Vec<List<u8>>,
+    octets: Vec<u8>,
+    ends: Vec<usize>,
 }
 
 impl Model for Octets {
-    ghost use Rattle.std.specs.Prelude.{List as Lists, ℕ, ◌≤◌, ◌^◌, ◌<◌, length};
+    ghost use Rattle.std.specs.Prelude.{List as Lists, ℕ, ◌^◌, ◌<◌, length};
+    ghost use Rattle.bm_base.specs.Pieces.{AreEnds, pieces};
 
     ghost Value = { Lists (Lists ℕ) };
 
-    ghost view = { λ a. a.lists.items };
+    ghost view = { λ a. pieces 0 a.ends.items a.octets.items };
 
-    ghost invariant = { λ a. length a.lists.items < 2 ^ 32 };
+    ghost invariant = { λ a. (length a.ends.items < 2 ^ 32)
+        × AreEnds 0 a.ends.items (length a.octets.items) };
 }
 
 impl Octets {
@@ -31,8 +35,8 @@ impl Octets {
         ensures { result ≡ [] }
     {
         Octets {
-            alloc,
-            lists: Vec::new(alloc),
+            octets: Vec::new(alloc),
+            ends: Vec::new(alloc),
         }
     }
 
@@ -42,8 +46,12 @@ impl Octets {
         ensures ok { OnOk result (self.new ≡ self.old ++ octets.now ∷ []) }
         ensures err { OnErr result (self.new ≡ self.old) }
     {
-        let list = List::of(Vec::from_slice(self.alloc, octets)?);
-        self.lists.push(list)?;
+        let before = self.octets.len();
+        self.octets.extend_from_slice(octets)?;
+        if self.ends.push(self.octets.len()).is_err() {
+            self.octets.truncate(before);
+            return Err(Memory);
+        }
         Ok(())
     }
 
@@ -52,13 +60,31 @@ impl Octets {
         requires { place < length self.now }
         ensures { result.now ≡ slice_index_or self.now place [] }
     {
-        self.lists[place as usize].items()
+        piece(&self.octets, &self.ends, place as usize)
     }
 
     /// How many lists there are.
     pub fn len(&self) -> u32
         ensures { result ≡ length self.now }
     {
-        self.lists.len() as u32
+        self.ends.len() as u32
     }
+}
+
+/// Where the list at this place begins.
+fn begin(ends: &[usize], at: usize) -> usize
+    requires { at < length ends.now }
+    ensures { result ≡ begin_of ends.now at }
+{
+    if at == 0 { 0 } else { ends[at - 1] }
+}
+
+/// The list at this place, of lists that have these ends.
+fn piece<'a>(octets: &'a [u8], ends: &[usize], at: usize) -> &'a [u8]
+    requires ends { AreEnds 0 ends.now (length octets.now) }
+    requires within { at < length ends.now }
+    ensures { result.now ≡ slice_index_or (pieces 0 ends.now octets.now) at [] }
+{
+    let from = begin(ends, at);
+    &octets[from..ends[at]]
 }

@@ -1,4 +1,4 @@
-//! What a receiver makes of a segment, and what becomes of a sending.
+//! What a receiver makes of a segment.
 
 /// What the receiver of a connection makes of a segment.
 #[derive(Clone, Copy, Debug, PartialEq, Eq)]
@@ -15,11 +15,4 @@ pub enum Taken {
     Challenge,
     /// It ends the connection.
     Ended,
-}
-
-/// What becomes of a sending: how many copies arrive, and how many nanoseconds later.
-#[derive(Clone, Copy, Debug, PartialEq, Eq)]
-pub struct Fate {
-    pub copies: u8,
-    pub delay: u64,
 }

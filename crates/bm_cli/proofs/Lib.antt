@@ -1,7 +1,10 @@
-pub mod Doing
+pub mod Ending
+pub mod Faults
+pub mod Laws
 pub mod Names
 pub mod Readings
 pub mod Scripts
-pub mod Replaying
 pub mod Sound
-pub mod Writing
+pub mod Stages
+pub mod Statuses
+pub mod Telling

@@ -1,25 +1,29 @@
 -- What is read of a script, from its source and from the files.
-use Rattle.std.proofs.Common.{◌≡◌, inl, inr, ℕ, ◌≤◌, ◌<◌, List, Option, Some, None, Result, Ok, Err, IsErrAnd, take, length, min, true, false, sym, ap, subst, ◌∙◌, refl, arith, nat_lt}
+use Rattle.std.proofs.Common.{◌≡◌, inl, inr, ℕ, ◌≤◌, ◌<◌, List, Option, Some, None, Result, Ok, Err, IsErrAnd, take}
+use Rattle.std.proofs.Common.{length, min, true, false, sym, ap, subst, ◌∙◌, refl, arith, nat_lt}
 use Rattle.bm_io.specs.Causes.{Rose}
 use Rattle.std.proofs.lemmas.Bool.Decides.{nat_tests}
 use Rattle.std.proofs.lemmas.List.{length-take, take_min}
 use Rattle.std.proofs.Math.Seq.{take-length}
 use Rattle.bm_script.specs.declared.fault.ScriptFault.{ScriptFault}
-use Rattle.bm_script.specs.declared.fault.ScriptFault.TheVariants.{NotToml, Missing, BadValue, Unknown, Refused, Memory as ScriptMemory}
+use Rattle.bm_script.specs.declared.fault.ScriptFault.TheVariants.{NotToml, Missing, BadValue, Unknown, Refused}
+use Rattle.bm_script.specs.declared.fault.ScriptFault.TheVariants.{Memory as ScriptMemory}
 use Rattle.bm_script.specs.Faults.{Gives}
 use Rattle.bm_script.specs.Scripts.{script_of}
 use Rattle.bm_table.specs.declared.script.Script.{Script}
 use Rattle.bm_cli.specs.declared.fault.StageFault.{StageFault}
 use Rattle.bm_cli.specs.declared.fault.StageFault.TheVariants.{LongScript, Script as OfScript}
 use Rattle.bm_cli.specs.Plain.{plain_script}
-use Rattle.bm_cli.specs.Reading.{HasFront, IsOutside, IsRead, Octets, ReadsScript, script_in, with_script_fault}
+use Rattle.bm_cli.specs.Inside.Scripts.{HasFront, IsOutside, IsRead, ReadsScript}
+use Rattle.bm_cli.specs.Reading.{Octets, script_in, with_script_fault}
 
 -- a source that was opened and closed leaves the files' count no lower
 pub closed_later : (before opened after : ℕ) → before ≤ opened → opened ≤ after → before ≤ after
 closed_later before opened after low high = omega (arith, low, high)
 
 -- a fault of a source is one of the files once it was closed
-pub closed_rose : (before opened after start faults : ℕ) → before ≤ opened → start ≡ 0 → Rose start faults → (0 < faults → Rose opened after) → Rose before after
+pub closed_rose : (before opened after start faults : ℕ) → before ≤ opened → start ≡ 0 → Rose start faults →
+    (0 < faults → Rose opened after) → Rose before after
 closed_rose before opened after start faults low new rose counted =
     let some : 0 < faults = omega (arith, new, rose) in
     let more : Rose opened after = counted some in
@@ -28,50 +32,64 @@ closed_rose before opened after start faults low new rose counted =
 -- THE TEXT
 
 -- more octets than there may be were read
-pub too_long : (octets text : List ℕ) → text ≡ take 1048577 octets → 1048576 < length text → script_in octets ≡ Err LongScript
+pub too_long : (octets text : List ℕ) → text ≡ take 1048577 octets → 1048576 < length text →
+    script_in octets ≡ Err LongScript
 too_long octets text front more =
     let len : length text ≡ min 1048577 (length octets) = ap length front ∙ length-take 1048577 octets in
     let long : nat_lt 1048576 (length octets) ≡ true = grind (arith, nat_tests, len, more) in
     rw long refl
 
 -- no more octets were read than there may be, so these are all
-pub all_read : (octets text : List ℕ) → text ≡ take 1048577 octets → length text ≤ 1048576 → script_in octets ≡ with_script_fault (script_of text)
+pub all_read : (octets text : List ℕ) → text ≡ take 1048577 octets → length text ≤ 1048576 →
+    script_in octets ≡ with_script_fault (script_of text)
 all_read octets text front few =
     let len : length text ≡ min 1048577 (length octets) = ap length front ∙ length-take 1048577 octets in
     let short : nat_lt 1048576 (length octets) ≡ false = grind (arith, nat_tests, len, few) in
     let least : min 1048577 (length octets) ≡ length octets = omega (arith, len, few) in
-    let whole : take 1048577 octets ≡ octets = sym (take_min 1048577 octets) ∙ ap (λ n. take n octets) least ∙ take-length octets in
+    let whole : take 1048577 octets ≡ octets =
+    sym (take_min 1048577 octets) ∙ ap (λ n. take n octets) least ∙ take-length octets in
     rw short (ap (λ (t : List ℕ). with_script_fault (script_of t)) (sym (front ∙ whole)))
 
-pub script_is : (octets text : List ℕ) (script : Script) → text ≡ take 1048577 octets → length text ≤ 1048576 → Gives (Ok script) (script_of text) → script_in octets ≡ Ok script
+pub script_is : (octets text : List ℕ) (script : Script) → text ≡ take 1048577 octets → length text ≤ 1048576 →
+    Gives (Ok script) (script_of text) → script_in octets ≡ Ok script
 script_is octets text script front few gives = all_read octets text front few ∙ ap with_script_fault gives
 
-fault_is : (octets text : List ℕ) (fault : ScriptFault) → text ≡ take 1048577 octets → length text ≤ 1048576 → script_of text ≡ Err fault → IsRead (script_in octets) (Err (OfScript fault))
+fault_is : (octets text : List ℕ) (fault : ScriptFault) → text ≡ take 1048577 octets → length text ≤ 1048576 →
+    script_of text ≡ Err fault → IsRead (script_in octets) (Err (OfScript fault))
 fault_is octets text fault front few is = inr (all_read octets text front few ∙ ap with_script_fault is)
 
-pub script_fault : (octets text : List ℕ) (fault : ScriptFault) → text ≡ take 1048577 octets → length text ≤ 1048576 → Gives (Err fault) (script_of text) → IsRead (script_in octets) (Err (OfScript fault))
+pub script_fault : (octets text : List ℕ) (fault : ScriptFault) → text ≡ take 1048577 octets →
+    length text ≤ 1048576 → Gives (Err fault) (script_of text) → IsRead (script_in octets) (Err (OfScript fault))
 script_fault octets text NotToml front few gives = fault_is octets text NotToml front few (gives (λ e. cc))
-script_fault octets text (Missing place key) front few gives = fault_is octets text (Missing place key) front few (gives (λ e. cc))
-script_fault octets text (BadValue place key) front few gives = fault_is octets text (BadValue place key) front few (gives (λ e. cc))
-script_fault octets text (Unknown place name) front few gives = fault_is octets text (Unknown place name) front few (gives (λ e. cc))
-script_fault octets text (Refused n refusal) front few gives = fault_is octets text (Refused n refusal) front few (gives (λ e. cc))
+script_fault octets text (Missing place key) front few gives =
+    fault_is octets text (Missing place key) front few (gives (λ e. cc))
+script_fault octets text (BadValue place key) front few gives =
+    fault_is octets text (BadValue place key) front few (gives (λ e. cc))
+script_fault octets text (Unknown place name) front few gives =
+    fault_is octets text (Unknown place name) front few (gives (λ e. cc))
+script_fault octets text (Refused n refusal) front few gives =
+    fault_is octets text (Refused n refusal) front few (gives (λ e. cc))
 script_fault octets text ScriptMemory front few gives = inl (inr refl)
 
 -- THE FILE
 
-pub script_read : (told : Octets) (name text : List ℕ) (result : Result Script StageFault) → HasFront told name 1048577 text → ((octets : List ℕ) → text ≡ take 1048577 octets → IsRead (script_in octets) result) → ReadsScript told (Some name) result
+pub script_read : (told : Octets) (name text : List ℕ) (result : Result Script StageFault) →
+    HasFront told name 1048577 text → ((octets : List ℕ) → text ≡ take 1048577 octets →
+    IsRead (script_in octets) result) → ReadsScript told (Some name) result
 script_read None name text result front reads = tt
 script_read (Some octets) name text result front reads = reads (octets name) front
 
-pub script_unread : (told : Octets) (name : Option (List ℕ)) (fault : StageFault) → IsOutside fault → ReadsScript told name (Err fault)
-script_unread None name fault outside = tt
-script_unread (Some octets) name fault outside = inl outside
+pub script_unread : (told : Octets) (name : Option (List ℕ)) (fault : StageFault) → IsOutside fault →
+    ReadsScript told name (Err fault)
+script_unread told None fault outside = inl outside
+script_unread None (Some name) fault outside = tt
+script_unread (Some octets) (Some name) fault outside = inl outside
 
 pub script_plain : (told : Octets) → ReadsScript told None (Ok plain_script)
-script_plain None = tt
-script_plain (Some octets) = refl
+script_plain told = refl
 
 -- a fault that came through `?`
-pub read_err : {A : Type 0} (due r : Result A StageFault) (fault : StageFault) → IsErrAnd r (λ e. e ≡ fault) → IsRead due (Err fault) → IsRead due r
+pub read_err : {A : Type 0} (due r : Result A StageFault) (fault : StageFault) → IsErrAnd r (λ e. e ≡ fault) →
+    IsRead due (Err fault) → IsRead due r
 read_err due (Ok x) fault is read = absurd is
 read_err due (Err e) fault is read = subst (λ f. IsRead due (Err f)) (sym is) read

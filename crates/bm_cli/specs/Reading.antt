@@ -1,7 +1,7 @@
--- What the named files ask for: a stage to replay, or the first fault.
-use Rattle.std.specs.Prelude.{◌≡◌, ◌⊎◌, ℕ, nat_lt, if◌then◌else◌, List, length, take, Result, Ok, Err}
-use Rattle.std.specs.declared.option.Option.{Option}
-use Rattle.std.specs.declared.option.Option.TheVariants.{Some, None}
+-- What the words and the named files ask for: a stage to replay, or the first fault.
+use Rattle.std.specs.Prelude.{◌≡◌, ℕ, nat_lt, if◌then◌else◌, List, length, Option, Some, None}
+use Rattle.std.specs.Prelude.{Result, Ok, Err}
+use Rattle.bm_base.specs.declared.capture.Vip.{Vip}
 use Rattle.bm_table.specs.declared.script.Script.{Script}
 use Rattle.bm_pcap.specs.Capture.{Captured, capture}
 use Rattle.bm_script.specs.declared.fault.ScriptFault.{ScriptFault}
@@ -9,16 +9,20 @@ use Rattle.bm_script.specs.Scripts.{script_of}
 use Rattle.bm_core.specs.declared.events.Stage.{Stage}
 use Rattle.bm_words.specs.Form.{Named}
 use Rattle.bm_cli.specs.declared.fault.StageFault.{StageFault}
-use Rattle.bm_cli.specs.declared.fault.StageFault.TheVariants.{LongScript, Script as of_script, Capture as of_capture}
-use Rattle.bm_cli.specs.declared.status.Status.TheVariants.{ReadFault, Memory}
+use Rattle.bm_cli.specs.declared.fault.StageFault.TheVariants.{LongScript, Script as of_script}
+use Rattle.bm_cli.specs.declared.fault.StageFault.TheVariants.{Capture as of_capture}
 use Rattle.bm_cli.specs.Plain.{plain_script}
-use Rattle.bm_cli.specs.Lines.{fault_status}
+
+-- WHAT THE FILES HOLD
 
 -- the octets of each name, where the files tell them
 abbrev pub Octets : Type 0
 Octets = Option (List ℕ → List ℕ)
 
--- THE SCRIPT
+-- what is read under each name: a script, and the capture of these services
+pub record Reads : Type 0 where
+  pub script : List ℕ → Result Script StageFault
+  pub capture : List ℕ → List Vip → Captured
 
 abbrev pub with_script_fault : Result Script ScriptFault → Result Script StageFault
 with_script_fault (Ok script) = Ok script
@@ -26,12 +30,26 @@ with_script_fault (Err fault) = Err (of_script fault)
 
 -- the script that these octets are, of which there may be 1,048,576
 abbrev pub script_in : List ℕ → Result Script StageFault
-script_in octets = if nat_lt 1048576 (length octets) then Err LongScript else with_script_fault (script_of octets)
+script_in octets =
+    if nat_lt 1048576 (length octets) then Err LongScript else with_script_fault (script_of octets)
 
--- the script that the words name, or the one that says nothing
-abbrev pub script_for : Option (List ℕ) → (List ℕ → List ℕ) → Result Script StageFault
-script_for None octets = Ok plain_script
-script_for (Some name) octets = script_in (octets name)
+-- by the octets of each name
+abbrev pub reads_of : (List ℕ → List ℕ) → Reads
+reads_of octets = record {
+  script = λ name. script_in (octets name);
+  capture = λ name vips. capture vips (octets name);
+}
+
+-- these are read, where the files tell their octets; else they may be any
+abbrev pub Known : Octets → Reads → Type 0
+Known None reads = Unit {0}
+Known (Some octets) reads = reads ≡ reads_of octets
+
+-- This is so by what is read: by the octets, where the files tell them, and else by some reads.
+pub record Holds (told : Octets) (fact : Reads → Type 0) : Type 0 where
+  pub reads : Reads
+  pub known : Known told reads
+  pub holds : fact reads
 
 -- THE STAGE
 
@@ -39,44 +57,20 @@ script_for (Some name) octets = script_in (octets name)
 abbrev pub Reading : Type 0
 Reading = Result Stage StageFault
 
+-- the script that the words name, or the one that says nothing
+abbrev pub script_for : Reads → Option (List ℕ) → Result Script StageFault
+script_for reads None = Ok plain_script
+script_for reads (Some name) = reads.script name
+
 abbrev pub with_capture : Script → Captured → Reading
 with_capture script (Ok read) = Ok (record { script = script; capture = read.0 })
 with_capture script (Err fault) = Err (of_capture fault)
 
 -- the packets of the capture go to the script's services
-abbrev pub with_script : Result Script StageFault → List ℕ → Reading
-with_script (Ok script) octets = with_capture script (capture script.setting.vips octets)
-with_script (Err fault) octets = Err fault
+abbrev pub with_script : Result Script StageFault → (List Vip → Captured) → Reading
+with_script (Ok script) capture = with_capture script (capture script.setting.vips)
+with_script (Err fault) capture = Err fault
 
 -- the script comes first, and then the capture
-abbrev pub reading : Named → (List ℕ → List ℕ) → Reading
-reading form octets = with_script (script_for form.script octets) (octets form.capture)
-
--- WHAT WAS READ
-
--- the files failed, or memory was refused, which may be at any place
-abbrev pub IsOutside : StageFault → Type 0
-IsOutside fault = (fault_status fault ≡ ReadFault) ⊎ (fault_status fault ≡ Memory)
-
--- this was read where that is due
-abbrev pub IsRead : {A : Type 0} → Result A StageFault → Result A StageFault → Type 0
-IsRead due (Ok x) = due ≡ Ok x
-IsRead due (Err fault) = IsOutside fault ⊎ (due ≡ Err fault)
-
-abbrev pub ReadsScript : Octets → Option (List ℕ) → Result Script StageFault → Type 0
-ReadsScript None name result = Unit {0}
-ReadsScript (Some octets) name result = IsRead (script_for name octets) result
-
-abbrev pub ReadsStage : Octets → Named → Reading → Type 0
-ReadsStage None form result = Unit {0}
-ReadsStage (Some octets) form result = IsRead (reading form octets) result
-
--- the first octets of the file, at most so many
-abbrev pub HasFront : Octets → List ℕ → ℕ → List ℕ → Type 0
-HasFront None name most text = Unit {0}
-HasFront (Some octets) name most text = text ≡ take most (octets name)
-
--- the first octets that the source had, at most so many
-abbrev pub IsFront : Option (List ℕ) → ℕ → List ℕ → Type 0
-IsFront None most text = Unit {0}
-IsFront (Some left) most text = text ≡ take most left
+abbrev pub reading : Named → Reads → Reading
+reading names reads = with_script (script_for reads names.script) (reads.capture names.capture)

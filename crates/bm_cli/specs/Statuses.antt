@@ -1,10 +1,10 @@
--- How the program ends, and what it then has written.
-use Rattle.std.specs.Prelude.{◌≡◌, ◌≢◌, ℕ, ◌≤◌, ◌⊎◌, List, take}
-use Rattle.std.specs.declared.option.Option.{Option}
+-- How the program ends, and what a call did to its sink and to its files.
+use Rattle.std.specs.Prelude.{◌≡◌, ◌≢◌, ℕ, ◌≤◌, ◌⊎◌, List, take, Option}
 use Rattle.std.specs.Io.KnownBytes.{Appends}
 use Rattle.bm_io.specs.Causes.{Rose}
 use Rattle.bm_cli.specs.declared.status.Status.{Status}
-use Rattle.bm_cli.specs.declared.status.Status.TheVariants.{Done, Usage, ReadFault, BadCapture, BadScript, WriteFault, Memory, Limit}
+use Rattle.bm_cli.specs.declared.status.Status.TheVariants.{Done, Usage, ReadFault, BadCapture}
+use Rattle.bm_cli.specs.declared.status.Status.TheVariants.{BadScript, WriteFault, Memory, Limit}
 
 -- the exit status
 abbrev pub code_of : Status → ℕ
@@ -17,16 +17,35 @@ code_of WriteFault = 5
 code_of Memory = 6
 code_of Limit = 7
 
+-- What a call did to a sink, or to files: what they told before and behind it, where they tell it,
+-- and how often they had failed.
+pub record Did (A : Type 0) : Type 0 where
+  pub before : Option A
+  pub now : Option A
+  pub faults : ℕ
+  pub later : ℕ
+
+abbrev pub FilesDid : Type 0
+FilesDid = Did (List (List ℕ))
+
+abbrev pub SinkDid : Type 0
+SinkDid = Did (List ℕ)
+
+-- the same, by what they tell and by how their faults are counted
+abbrev pub did : {S A : Type 0} → (S → Option A) → (S → ℕ) → S → S → Did A
+did told faults old new =
+    record { before = told old; now = told new; faults = faults old; later = faults new }
+
 -- a first part of the text was written
 abbrev pub WritesPart : Option (List ℕ) → Option (List ℕ) → List ℕ → Type 0
 WritesPart before now text = (n : ℕ) × Appends before now (take n text)
 
 -- The text was written, and the status is this; or a first part of it was, where the sink failed or
 -- memory was refused.
-pub record Writes (status : Status) (text : List ℕ) (before now : Option (List ℕ)) (faults later : ℕ) (result : Status) : Type 0 where
-  pub count : faults ≤ later
-  pub ends : (result ≡ status) ⊎ (result ≡ WriteFault) ⊎ (result ≡ Memory)
-  pub whole : result ≡ status → Appends before now text
-  pub part : (result ≡ WriteFault) ⊎ (result ≡ Memory) → WritesPart before now text
-  pub cause : result ≡ WriteFault → Rose faults later
-  pub kept : result ≢ WriteFault → later ≡ faults
+pub record Writes (says : Status) (text : List ℕ) (sink : SinkDid) (result : Status) : Type 0 where
+  pub count : sink.faults ≤ sink.later
+  pub ends : (result ≡ says) ⊎ (result ≡ WriteFault) ⊎ (result ≡ Memory)
+  pub whole : result ≡ says → Appends sink.before sink.now text
+  pub part : (result ≡ WriteFault) ⊎ (result ≡ Memory) → WritesPart sink.before sink.now text
+  pub cause : result ≡ WriteFault → Rose sink.faults sink.later
+  pub kept : result ≢ WriteFault → sink.later ≡ sink.faults

@@ -1,7 +1,9 @@
 //! The lines that the program writes in place of a report.
 ghost use Rattle.std.specs.Prelude.{◌≡◌, ◌≢◌, IfOk, string_bytes};
 ghost use Rattle.bm_cli.specs.Lines as lines;
-ghost use Rattle.bm_cli.specs.Refusing.{Refuses};
+ghost use Rattle.bm_cli.specs.Dues.{Refused};
+ghost use Rattle.bm_cli.specs.Inside.Telling.{Tells};
+ghost use Rattle.bm_cli.specs.Statuses.{did};
 
 use crate::fault::StageFault;
 use crate::status::{Status, say};
@@ -13,7 +15,7 @@ use std::alloc::{AllocError, Global};
 
 /// Writes the line of a fault, or of a limit that is passed. Nothing where memory was refused.
 pub(crate) fn refuse<K: Sink>(alloc: Global, fault: &StageFault, out: &mut K) -> Status
-    ensures { Refuses fault.now (K.written out.old) (K.written out.new) (K.faults out.old) (K.faults out.new) result }
+    ensures { Tells (Refused fault.now) (did K.written K.faults out.old out.new) result }
 {
     let status = status_of(fault);
     if status == Status::Memory {
@@ -68,7 +70,7 @@ fn capture_status(fault: PcapFault) -> Status
         PcapFault::NotACapture
         | PcapFault::BadVersion
         | PcapFault::BadLink(_)
-        | PcapFault::BadLength { .. } => Status::BadCapture,
+        | PcapFault::BadLength(..) => Status::BadCapture,
         PcapFault::ReadFault => Status::ReadFault,
         PcapFault::TooLarge | PcapFault::TooManyPackets => Status::Limit,
         PcapFault::Memory => Status::Memory,
@@ -107,7 +109,7 @@ fn capture_line(alloc: Global, fault: PcapFault) -> Result<String, AllocError>
         PcapFault::NotACapture => String::from_str(alloc, "beamer: capture: not a capture\n"),
         PcapFault::BadVersion => String::from_str(alloc, "beamer: capture: bad version\n"),
         PcapFault::BadLink(link) => { format!(in alloc; "beamer: capture: bad link type {link}\n") }
-        PcapFault::BadLength { record, length } => {
+        PcapFault::BadLength(record, length) => {
             format!(in alloc; "beamer: capture record {record}: bad length {length}\n")
         }
         PcapFault::ReadFault => String::from_str(alloc, "beamer: read fault\n"),

@@ -1,6 +1,6 @@
 //! How the program ends, and what it then has written.
 ghost use Rattle.std.specs.Prelude.{◌≡◌, ◌≢◌};
-ghost use Rattle.bm_cli.specs.Statuses.{Writes, code_of};
+ghost use Rattle.bm_cli.specs.Statuses.{Writes, code_of, did};
 
 use bm_io::{IoFault, Sink, put_all};
 
@@ -47,7 +47,7 @@ impl Status {
 pub(crate) fn say<K: Sink>(out: &mut K, text: &[u8], status: Status) -> Status
     requires write { status ≢ Status.WriteFault }
     requires memory { status ≢ Status.Memory }
-    ensures { Writes status text.now (K.written out.old) (K.written out.new) (K.faults out.old) (K.faults out.new) result }
+    ensures { Writes status text.now (did K.written K.faults out.old out.new) result }
 {
     match put_all(out, text) {
         Ok(()) => status,

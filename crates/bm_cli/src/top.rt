@@ -1,73 +1,138 @@
 //! The top call.
-ghost use Rattle.std.specs.Prelude.{◌≡◌, ◌≢◌, ◌⊎◌, map, string_bytes, None, Some, IfSome, IsSome};
+ghost use Rattle.std.specs.Prelude.{◌≡◌, ◌≢◌, ◌⊎◌, ◌≤◌, None, Some, IsSome};
 ghost use Rattle.std.specs.Io.KnownBytes.{Appends};
 ghost use Rattle.bm_io.specs.Causes.{Rose};
-ghost use Rattle.bm_words.specs.Form.{form_of, named};
+ghost use Rattle.bm_words.specs.Form.{Replay, asked, form_in, named};
 ghost use Rattle.bm_cli.specs.declared.fault.StageFault.TheVariants.{Files as files_failed};
-ghost use Rattle.bm_cli.specs.Asked.{AsksPrefix, names_due};
+ghost use Rattle.bm_cli.specs.Dues.{Misused, due};
+ghost use Rattle.bm_cli.specs.Ends.{Ends, EndsWith};
+ghost use Rattle.bm_cli.specs.Inside.Telling.{Tells};
 ghost use Rattle.bm_cli.specs.Lines.{fault_line, usage_line};
-ghost use Rattle.bm_cli.specs.Replaying.{IsReplaying};
-ghost use Rattle.bm_cli.specs.Top.{IsAccepted, RefusesFiles, ShowsFiles, WritesDue, due_status};
+ghost use Rattle.bm_cli.specs.Names.{AsksAll, AsksPrefix};
+ghost use Rattle.bm_cli.specs.Reading.{Holds};
+ghost use Rattle.bm_cli.specs.Statuses.{did};
+ghost use Rattle.bm_cli.specs.Top.{IsAccepted, IsStatusOf, RefusesAnswer, ShowsAnswer, WritesSome};
+ghost use Rattle.bm_cli.specs.Top.{scripts_in};
 
 use crate::lines::refuse;
 use crate::show::show;
 use crate::stage::read_stage;
 use crate::status::{Status, say};
 use bm_io::{Files, Sink};
-use bm_words::{Form, read_words};
+use bm_words::{Form, Names, read_words};
 use std::alloc::{AllocError, Global};
 
 const USAGE: &str = "usage: beamer replay CAPTURE [SCRIPT] | run CAPTURE SCRIPT | load N\n";
 
 /// Does all that the program does, and answers the status.
 ///
-/// 0: the report was written. 1: the words are of no form. 2: the files failed. 3: the capture has a
-/// fault. 4: the script has a fault. 5: the sink failed. 6: memory was refused. 7: a limit is passed.
+/// 0: the report was written. 1: the words are of no form. 2: the files failed. 3: the capture has
+/// a fault. 4: the script has a fault. 5: the sink failed. 6: memory was refused. 7: a limit is
+/// passed.
 pub fn beamer<F: Files, K: Sink>(alloc: Global, words: &[String], files: &mut F, out: &mut K) -> u8
-    // On status 0 what was written is the report of a replay of the named capture through the servers of the named script.
-    ensures shown { result ≡ 0 → ShowsFiles (form_of (map string_bytes words.now)) (F.octets files.old) (K.written out.old) (K.written out.new) }
+    // On status 0 what was written is the report of a replay of the named capture through the
+    // servers of the named script.
+    ensures shown { result ≡ 0 → Holds (F.octets files.old) (λ reads.
+        ShowsAnswer (due (form_in words.now) reads).answer
+        (K.written out.old) (K.written out.new)) }
+    // How the call ended, by what was due. All other clauses follow from this one.
+    ensures ends { Holds (F.octets files.old) (λ reads.
+        EndsWith (due (form_in words.now) reads) (did F.asked F.faults files.old files.new)
+        (did K.written K.faults out.old out.new) result) }
 
-    // The status is the one that is due, but where the files or the sink failed, or memory was refused.
-    ensures status { IfSome (due_status (form_of (map string_bytes words.now)) (F.octets files.old)) (λ due. (result ≡ due) ⊎ (result ≡ 2) ⊎ (result ≡ 5) ⊎ (result ≡ 6)) }
-    // An accepted capture's report is written, but where the files or the sink failed, or memory was refused.
-    ensures complete { IsAccepted (form_of (map string_bytes words.now)) (F.octets files.old) → (result ≡ 0) ⊎ (result ≡ 6) ⊎ Rose (F.faults files.old) (F.faults files.new) ⊎ Rose (K.faults out.old) (K.faults out.new) }
-    ensures known { (result ≡ 0) ⊎ (result ≡ 1) ⊎ (result ≡ 2) ⊎ (result ≡ 3) ⊎ (result ≡ 4) ⊎ (result ≡ 5) ⊎ (result ≡ 6) ⊎ (result ≡ 7) }
-    ensures usage { result ≡ 1 → form_of (map string_bytes words.now) ≡ None }
-    ensures named { result ≡ 2 → IsSome (form_of (map string_bytes words.now)) }
+    // The status is the one that is due, but where the files or the sink failed, or memory was
+    // refused.
+    ensures status { Holds (F.octets files.old) (λ reads.
+        IsStatusOf (due (form_in words.now) reads).answer result) }
+    // An accepted capture's report is written, but where the files or the sink failed, or memory
+    // was refused.
+    ensures complete { IsAccepted (form_in words.now) (F.octets files.old) →
+        (result ≡ 0) ⊎ (result ≡ 6) ⊎ Rose (F.faults files.old) (F.faults files.new)
+        ⊎ Rose (K.faults out.old) (K.faults out.new) }
+    ensures known { result ≤ 7 }
+    ensures usage { result ≡ 1 → form_in words.now ≡ None }
+    ensures named { result ≡ 2 → IsSome (form_in words.now) }
     ensures read { result ≡ 2 → Rose (F.faults files.old) (F.faults files.new) }
     // 5 comes where the sink failed, and nowhere else.
     ensures write { result ≡ 5 → Rose (K.faults out.old) (K.faults out.new) }
     ensures kept { result ≢ 5 → K.faults out.new ≡ K.faults out.old }
 
-    // What was written otherwise is the line of the status, or a first part of the text that was due.
+    // What was written otherwise is the line of the status, whatever the files tell, or a first
+    // part of the text that was due.
     ensures usage_line { result ≡ 1 → Appends (K.written out.old) (K.written out.new) usage_line }
-    ensures read_line { result ≡ 2 → Appends (K.written out.old) (K.written out.new) (fault_line files_failed) }
-    ensures line { (result ≡ 3) ⊎ (result ≡ 4) ⊎ (result ≡ 7) → RefusesFiles (form_of (map string_bytes words.now)) (F.octets files.old) (K.written out.old) (K.written out.new) }
-    ensures part { (result ≡ 5) ⊎ (result ≡ 6) → WritesDue (form_of (map string_bytes words.now)) (F.octets files.old) (F.faults files.old) (F.faults files.new) (K.written out.old) (K.written out.new) }
+    ensures read_line { result ≡ 2 →
+        Appends (K.written out.old) (K.written out.new) (fault_line files_failed) }
+    ensures line { (result ≡ 3) ⊎ (result ≡ 4) ⊎ (result ≡ 7) → Holds (F.octets files.old) (λ reads.
+        RefusesAnswer (due (form_in words.now) reads).answer result
+        (K.written out.old) (K.written out.new)) }
+    ensures part { (result ≡ 5) ⊎ (result ≡ 6) → Holds (F.octets files.old) (λ reads.
+        WritesSome (due (form_in words.now) reads) (did F.asked F.faults files.old files.new)
+        (did K.written K.faults out.old out.new)) }
 
-    // The files are asked for the names in the words alone, each at most once, the script's first; and not for the capture behind a fault of the script.
-    ensures asked { AsksPrefix (F.asked files.old) (F.asked files.new) (names_due (form_of (map string_bytes words.now)) (F.octets files.old)) }
+    // The files are asked for the names that are due, in their order, each at most once.
+    ensures asked { Holds (F.octets files.old) (λ reads.
+        AsksPrefix (F.asked files.old) (F.asked files.new) (due (form_in words.now) reads).names) }
+    // They were asked for all of them, but where the files or the sink failed, or memory was
+    // refused.
+    ensures all { result ≢ 2 → result ≢ 5 → result ≢ 6 → Holds (F.octets files.old) (λ reads.
+        AsksAll (F.asked files.old) (F.asked files.new) (due (form_in words.now) reads).names) }
+    // Behind a fault of the script they were asked for its name alone, whatever they tell.
+    ensures script { result ≡ 4 →
+        AsksAll (F.asked files.old) (F.asked files.new) (scripts_in (form_in words.now)) }
+{
+    answer(alloc, words, files, out).code()
+}
+
+/// Does what the words ask for.
+fn answer<F: Files, K: Sink>(alloc: Global, words: &[String], files: &mut F, out: &mut K) -> Status
+    ensures { Holds (F.octets files.old) (λ reads.
+        Ends (due (form_in words.now) reads) (did F.asked F.faults files.old files.new)
+        (did K.written K.faults out.old out.new) result) }
 {
     match read_words(alloc, words) {
-        Ok(Some(form)) => replay_files(alloc, form, files, out).code(),
-        Ok(None) => say(out, USAGE.as_bytes(), Status::Usage).code(),
-        Err(AllocError) => Status::Memory.code(),
+        Ok(Some(form)) => answer_form(alloc, form, files, out),
+        Ok(None) => misuse(out),
+        Err(AllocError) => Status::Memory,
+    }
+}
+
+/// Does what the form asks for.
+fn answer_form<F: Files, K: Sink>(
+    alloc: Global,
+    form: Form<'_>,
+    files: &mut F,
+    out: &mut K,
+) -> Status
+    ensures { Holds (F.octets files.old) (λ reads.
+        Ends (due (Some (asked form.entry)) reads) (did F.asked F.faults files.old files.new)
+        (did K.written K.faults out.old out.new) result) }
+{
+    match form {
+        Form::Replay(names) => replay_files(alloc, names, files, out),
     }
 }
 
 /// Replays the capture that the words name, through the servers of the script that they name.
 fn replay_files<F: Files, K: Sink>(
     alloc: Global,
-    form: Form<'_>,
+    names: Names<'_>,
     files: &mut F,
     out: &mut K,
 ) -> Status
-    ensures replaying { IsReplaying (named form.entry) (F.octets files.old) (F.faults files.old) (F.faults files.new) (K.written out.old) (K.written out.new) (K.faults out.old) (K.faults out.new) result }
-    ensures read { result ≡ Status.ReadFault → Rose (F.faults files.old) (F.faults files.new) }
-    ensures asked { AsksPrefix (F.asked files.old) (F.asked files.new) (names_due (Some (named form.entry)) (F.octets files.old)) }
+    ensures { Holds (F.octets files.old) (λ reads.
+        Ends (due (Some (Replay (named names.entry))) reads)
+        (did F.asked F.faults files.old files.new)
+        (did K.written K.faults out.old out.new) result) }
 {
-    match read_stage(alloc, files, form) {
+    match read_stage(alloc, files, names) {
         Ok((stage, packets)) => show(alloc, stage, &packets, out),
         Err(fault) => refuse(alloc, &fault, out),
     }
+}
+
+/// Writes how the program is used.
+fn misuse<K: Sink>(out: &mut K) -> Status
+    ensures { Tells Misused (did K.written K.faults out.old out.new) result }
+{
+    say(out, USAGE.as_bytes(), Status::Usage)
 }

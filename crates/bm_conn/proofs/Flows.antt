@@ -1,5 +1,5 @@
 -- When flows are the same.
-use Rattle.std.proofs.Common.{◌≡◌, true, false, inl, inr, refl, arith}
+use Rattle.std.proofs.Common.{◌≡◌, ◌==◌, ◌&&◌, Bool, true, false, inl, inr, refl, arith}
 use Rattle.std.proofs.lemmas.Bool.{cases_Bool, and_parts, both_ways}
 use Rattle.std.proofs.lemmas.Bool.Decides.{nat_tests}
 use Rattle.bm_base.specs.declared.flow.Flow.{Flow}
@@ -41,3 +41,14 @@ same_flow_sym a b = elim (cases_Bool (same_flow a b)) [
     | inr fine ↦ rw (other, fine) refl
   ]
 ]
+
+and_assoc : (a b c d : Bool) → (a && (b && (c && d))) ≡ (a && b && c && d)
+and_assoc true true true d = refl
+and_assoc true true false d = refl
+and_assoc true false c d = refl
+and_assoc false b c d = refl
+
+-- what a comparison of flows in code computes
+pub same_as : (a b : Flow)
+    → (a.src == b.src && (a.dst == b.dst && (a.sport == b.sport && a.dport == b.dport))) ≡ same_flow a b
+same_as a b = and_assoc (a.src == b.src) (a.dst == b.dst) (a.sport == b.sport) (a.dport == b.dport)

@@ -1,9 +1,11 @@
 -- A finite map from flows to receivers, of bounded size.
-use Rattle.std.specs.Prelude.{◌≡◌, ◌⊎◌, ℕ, ◌≤◌, not, if◌then◌else◌, List, [], ◌∷◌, length, filter, Option, Some, None}
+use Rattle.std.specs.Prelude.{◌≡◌, ◌⊎◌, ℕ, ◌≤◌, not, if◌then◌else◌, List, [], ◌∷◌, length, filter}
+use Rattle.std.specs.Prelude.{Option, Some, None}
 use Rattle.bm_base.specs.declared.flow.Flow.{Flow}
 use Rattle.bm_base.specs.Segments.{same_flow}
 use Rattle.bm_seq.specs.declared.receiver.Receiver.{Receiver}
 use Rattle.bm_conn.specs.declared.table.Connection.{Connection}
+use Rattle.bm_conn.specs.declared.slot.Slot.{Slot}
 
 -- a table as contracts see it
 pub record Connections : Type 0 where
@@ -13,11 +15,14 @@ pub record Connections : Type 0 where
   pub capacity : ℕ
   -- how many more flows it can take without memory
   pub room : ℕ
+  -- where the flows stand
+  pub slots : List Slot
 
 -- the receiver of the flow, if the flow is there
 abbrev pub receiver_in : List Connection → Flow → Option Receiver
 receiver_in [] f = None
-receiver_in (c ∷ connections) f = if same_flow c.flow f then Some c.receiver else receiver_in connections f
+receiver_in (c ∷ connections) f =
+    if same_flow c.flow f then Some c.receiver else receiver_in connections f
 
 -- each flow stands once
 abbrev pub AreOnce : List Connection → Type 0
@@ -34,7 +39,9 @@ pub record IsMap (table : Connections) : Type 0 where
 -- the flow has this receiver, or none; every other flow has what it had
 pub record Puts (f : Flow) (receiver : Option Receiver) (old new : Connections) : Type 0 where
   pub capacity : new.capacity ≡ old.capacity
-  pub each : (g : Flow) → receiver_in new.connections g ≡ (if same_flow f g then receiver else receiver_in old.connections g)
+  pub each : (g : Flow)
+      → receiver_in new.connections g
+      ≡ (if same_flow f g then receiver else receiver_in old.connections g)
 
 -- every flow has what it had
 pub record IsSame (old new : Connections) : Type 0 where
@@ -45,10 +52,6 @@ pub record IsSame (old new : Connections) : Type 0 where
 -- one more flow needs no memory, or there may be no more
 abbrev pub HasRoom : Connections → Type 0
 HasRoom table = (1 ≤ table.room) ⊎ (length table.connections ≡ table.capacity)
-
--- the connection with this receiver, if it is of the flow
-abbrev pub with_receiver : Flow → Receiver → Connection → Connection
-with_receiver f receiver c = if same_flow c.flow f then record c { receiver = receiver } else c
 
 -- the connections but the flow's
 abbrev pub without : Flow → List Connection → List Connection

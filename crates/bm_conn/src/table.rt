@@ -1,16 +1,18 @@
-//! A table of connections: a finite map from flows to receivers.
-ghost use Rattle.std.specs.Prelude.{◌≡◌, ◌==◌, ◌<◌, ◌≤◌, ◌+◌, [], length, map, is_some, if◌then◌else◌, IsSome, IfOk, MatchResult, Some, None};
+//! A table of connections: a finite map from flows to receivers, in slots by open addressing.
+ghost use Rattle.std.specs.Prelude.{◌≡◌, ◌==◌, ◌<◌, ◌≤◌, ◌+◌, [], length, is_some, if◌then◌else◌};
+ghost use Rattle.std.specs.Prelude.{IsSome, IfOk, MatchResult, Some, None};
 ghost use Rattle.std.specs.Bool.{OnFalse};
-ghost use Rattle.std.specs.Vec.{vec_capacity};
-ghost use Rattle.bm_conn.specs.Connections.{AreOnce, HasRoom, IsMap, IsSame, Puts, receiver_in, with_receiver, without};
+ghost use Rattle.bm_conn.specs.Connections.{HasRoom, IsMap, IsSame, Puts, receiver_in};
+ghost use Rattle.bm_conn.specs.Layouts.{IsLaidOut, Readies};
 
+use crate::slot::{Slot, free_slots, give, look, move_all, put, take, wipe};
 use bm_base::{Flow, Memory};
 use bm_seq::Receiver;
 use std::alloc::Global;
 use std::marker::Model;
 
-/// How many connections a new table has room for.
-const FIRST_ROOM: usize = 8;
+/// How many slots a new table has.
+const FIRST_SLOTS: usize = 8;
 
 /// A flow and its receiver.
 #[derive(Clone, Copy, Debug, PartialEq, Eq)]
@@ -22,7 +24,8 @@ pub struct Connection {
 /// A finite map from flows to receivers, of at most as many flows as its capacity.
 #[derive(Debug, Drop)]
 pub struct ConnTable {
-    connections: Vec<Connection>,
+    slots: Vec<Slot>,
+    len: u32,
     capacity: u32,
 }
 
@@ -31,22 +34,24 @@ impl Model for ConnTable {
 
     ghost Value = { Connections };
 
-    ghost use Rattle.bm_conn.specs.Connections.{IsMap};
-    ghost use Rattle.bm_conn.specs.Views.{connections_of};
+    ghost use Rattle.bm_conn.specs.Views.{connections_of, IsTable};
 
     ghost view = { connections_of };
 
-    ghost invariant = { λ a. IsMap (connections_of a) };
+    ghost invariant = { λ a. IsTable a.slots.items a.len a.capacity };
 }
 
 impl ConnTable {
     /// An empty table for at most `capacity` flows, 1 to 65,536. `Memory` where memory was refused.
     pub fn new(alloc: Global, capacity: u32) -> Result<ConnTable, Memory>
         requires { (1 ≤ capacity) × (capacity ≤ 65536) }
-        ensures { IfOk result (λ table. (table.capacity ≡ capacity) × (table.connections ≡ [])) }
+        ensures { IfOk result
+            (λ table. (table.capacity ≡ capacity) × (table.connections ≡ [])
+            × (length table.slots ≡ 8)) }
     {
         Ok(ConnTable {
-            connections: Vec::with_capacity(alloc, FIRST_ROOM)?,
+            slots: free_slots(alloc, FIRST_SLOTS)?,
+            len: 0,
             capacity,
         })
     }
@@ -55,12 +60,15 @@ impl ConnTable {
     pub fn find(&self, flow: &Flow) -> Option<Receiver>
         ensures { result ≡ receiver_in self.now.connections flow.now }
     {
-        for connection in &self.connections {
-            if connection.flow == *flow {
-                return Some(connection.receiver);
-            }
-        }
-        None
+        look(&self.slots, flow)
+    }
+
+    /// The slots. Takes no memory.
+    pub fn slots(&self) -> &[Slot]
+        ensures slots { result.now ≡ self.now.slots }
+        ensures laid { IsLaidOut self.now }
+    {
+        &self.slots
     }
 
     /// How many flows there are.
@@ -68,7 +76,7 @@ impl ConnTable {
         ensures count { result ≡ length self.now.connections }
         ensures map { IsMap self.now }
     {
-        self.connections.len() as u32
+        self.len
     }
 
     /// Whether there are as many flows as the capacity.
@@ -79,14 +87,24 @@ impl ConnTable {
         self.len() == self.capacity
     }
 
-    /// Makes room for one more flow, unless the table is full. Where memory is refused, the table stays as it was.
+    /// Makes room for one more flow, unless the table is full: where no slot may be used any more,
+    /// there are then twice as many.
+    /// Where memory is refused, the table stays as it was.
     pub fn ready(&mut self) -> Result<(), Memory>
         ensures room { MatchResult result
             (λ _. IsSame self.old self.new × HasRoom self.new)
             (λ _. self.new ≡ self.old) }
+        ensures slots { IfOk result (λ _. Readies self.old self.new) }
         ensures map { IsMap self.new }
     {
-        self.connections.reserve(1)?;
+        let count = self.slots.len();
+        let most = count * 3 / 4;
+        if self.len == self.capacity || (self.len as usize) < most {
+            return Ok(());
+        }
+        let mut slots = free_slots(*self.slots.allocator(), 2 * count)?;
+        move_all(&self.slots, &mut slots);
+        self.slots = slots;
         Ok(())
     }
 
@@ -98,9 +116,10 @@ impl ConnTable {
         ensures puts { Puts flow (Some receiver) self.old self.new }
         ensures count { length self.new.connections ≡ length self.old.connections + 1 }
         ensures room { self.new.room + 1 ≡ self.old.room }
+        ensures slots { length self.new.slots ≡ length self.old.slots }
     {
-        self.connections
-            .push_reserved(Connection { flow, receiver });
+        put(&mut self.slots, flow, receiver);
+        self.len += 1;
     }
 
     /// Gives a flow that is there another receiver. Takes no memory.
@@ -109,18 +128,25 @@ impl ConnTable {
         ensures puts { Puts flow.now (Some receiver) self.old self.new }
         ensures count { length self.new.connections ≡ length self.old.connections }
         ensures room { self.new.room ≡ self.old.room }
+        ensures slots { length self.new.slots ≡ length self.old.slots }
     {
-        replace_in(&mut self.connections, flow, receiver);
+        give(&mut self.slots, flow, receiver);
     }
 
     /// Takes the flow away; true exactly where it was there. Takes no memory.
     pub fn remove(&mut self, flow: &Flow) -> bool
         ensures there { result ≡ is_some (receiver_in self.old.connections flow.now) }
         ensures puts { Puts flow.now None self.old self.new }
-        ensures count { length self.new.connections + (if result then 1 else 0) ≡ length self.old.connections }
+        ensures count { length self.new.connections + (if result then 1 else 0)
+            ≡ length self.old.connections }
         ensures room { self.new.room ≡ self.old.room + (if result then 1 else 0) }
+        ensures slots { length self.new.slots ≡ length self.old.slots }
     {
-        remove_from(&mut self.connections, flow)
+        let there = take(&mut self.slots, flow);
+        if there {
+            self.len -= 1;
+        }
+        there
     }
 
     /// Takes all flows away. Takes no memory.
@@ -128,38 +154,9 @@ impl ConnTable {
         ensures empty { self.new.connections ≡ [] }
         ensures capacity { self.new.capacity ≡ self.old.capacity }
         ensures room { self.new.room ≡ self.old.room + length self.old.connections }
+        ensures slots { length self.new.slots ≡ length self.old.slots }
     {
-        self.connections.clear();
+        wipe(&mut self.slots);
+        self.len = 0;
     }
-}
-
-/// The flow has another receiver.
-fn replace_in(connections: &mut [Connection], flow: &Flow, receiver: Receiver)
-    ensures { connections.new ≡ map (λ c. with_receiver flow.now receiver c) connections.old }
-{
-    for connection in connections.iter_mut() {
-        replace_one(connection, flow, receiver);
-    }
-}
-
-/// The connection has another receiver, if it is of the flow.
-fn replace_one(connection: &mut Connection, flow: &Flow, receiver: Receiver)
-    ensures { connection.new ≡ with_receiver flow.now receiver connection.old }
-{
-    if connection.flow == *flow {
-        connection.receiver = receiver;
-    }
-}
-
-/// The flow goes; true where it was there.
-fn remove_from(connections: &mut Vec<Connection>, flow: &Flow) -> bool
-    requires { AreOnce connections.old.items }
-    ensures there { result ≡ is_some (receiver_in connections.old.items flow.now) }
-    ensures rest { connections.new.items ≡ without flow.now connections.old.items }
-    ensures count { length connections.new.items + (if result then 1 else 0) ≡ length connections.old.items }
-    ensures room { vec_capacity connections.new ≡ vec_capacity connections.old }
-{
-    let before = connections.len();
-    connections.retain(|connection| connection.flow != *flow);
-    connections.len() < before
 }

@@ -1,9 +1,12 @@
 -- The commands of a controller: the change that each makes, and why it is refused.
-use Rattle.std.specs.Prelude.{ℕ, ◌+◌, Bool, not, nat_lt, nat_le, if◌then◌else◌, List, [], ◌∷◌, length, Option, Some, None}
+use Rattle.std.specs.Prelude.{ℕ, ◌+◌, Bool, not, nat_lt, nat_le, if◌then◌else◌, List, [], ◌∷◌}
+use Rattle.std.specs.Prelude.{length, Option, Some, None}
 use Rattle.bm_base.specs.declared.ids.Moment.{Moment}
 use Rattle.bm_base.specs.declared.ids.ServerId.{ServerId}
 use Rattle.bm_quota.specs.declared.refusal.Refusal.{Refusal}
-use Rattle.bm_quota.specs.declared.refusal.Refusal.TheVariants.{KnownServer, UnknownServer, NotActive, LastServer, BadBucket, SameServer, StampFell, TooMany}
+use Rattle.bm_quota.specs.declared.refusal.Refusal.TheVariants.{KnownServer, UnknownServer}
+use Rattle.bm_quota.specs.declared.refusal.Refusal.TheVariants.{NotActive, LastServer, BadBucket}
+use Rattle.bm_quota.specs.declared.refusal.Refusal.TheVariants.{SameServer, StampFell, TooMany}
 use Rattle.bm_quota.specs.Rebalancing.{quotas_of, rebalancing}
 use Rattle.bm_table.specs.declared.plan.Change.{Change}
 use Rattle.bm_table.specs.declared.plan.Kind.{Kind}
@@ -30,7 +33,8 @@ removal plan at s = rebalance plan at (Drain s) (active_after (Drain s) (active_
 
 -- the change that moves one bucket
 abbrev pub shift_of : Moment → ℕ → ServerId → Change
-shift_of at bucket s = record { moment = at; kind = Shift; moves = record { bucket = bucket; to = s } ∷ [] }
+shift_of at bucket s =
+    record { moment = at; kind = Shift; moves = record { bucket = bucket; to = s } ∷ [] }
 
 abbrev pub when : Bool → Refusal → Option Refusal
 when test refusal = if test then Some refusal else None
@@ -40,45 +44,31 @@ first_refusal [] = None
 first_refusal (None ∷ refusals) = first_refusal refusals
 first_refusal (Some refusal ∷ refusals) = Some refusal
 
--- a moment below the last, and the limits of a plan
-abbrev pub limits : Planned → Change → List (Option Refusal)
-limits plan change =
-    when (nat_lt change.moment.0 (last_moment plan)) StampFell
+-- a moment below the last, and the limits of a plan that gets a change with so many moves
+abbrev pub limits : Planned → Moment → ℕ → List (Option Refusal)
+limits plan at count =
+    when (nat_lt at.0 (last_moment plan)) StampFell
     ∷ when (nat_le 4096 (length plan.changes)) (TooMany Changes)
-    ∷ when (nat_lt 1000000 (total_moves plan.changes + length change.moves)) (TooMany Moves)
+    ∷ when (nat_lt 1000000 (total_moves plan.changes + count)) (TooMany Moves)
     ∷ []
 
--- why a command is refused whatever the plan's limits
-abbrev pub add_refused : Planned → ServerId → Option Refusal
-add_refused plan s = first_refusal (when (knows plan s) KnownServer ∷ [])
+-- why a command that makes so many moves is refused, want of memory aside
+abbrev pub add_refused : Planned → Moment → ServerId → ℕ → Option Refusal
+add_refused plan at s count = first_refusal (when (knows plan s) KnownServer ∷ limits plan at count)
 
-abbrev pub drain_refused : Planned → ServerId → Option Refusal
-drain_refused plan s = first_refusal (
+abbrev pub drain_refused : Planned → Moment → ServerId → ℕ → Option Refusal
+drain_refused plan at s count = first_refusal (
     when (not (knows plan s)) UnknownServer
     ∷ when (not (is_active plan s)) NotActive
     ∷ when (nat_le (length (active_now plan)) 1) LastServer
-    ∷ [])
-
-abbrev pub shift_refused : Planned → ℕ → ServerId → Option Refusal
-shift_refused plan bucket s = first_refusal (
-    when (nat_le plan.buckets bucket) BadBucket
-    ∷ when (not (knows plan s)) UnknownServer
-    ∷ when (not (is_active plan s)) NotActive
-    ∷ when (same_server (server_now plan bucket) s) SameServer
-    ∷ [])
+    ∷ limits plan at count)
 
 -- why a command is refused, want of memory aside
 abbrev pub add_refusal : Planned → Moment → ServerId → Option Refusal
-add_refusal plan at s = first_refusal (
-    when (knows plan s) KnownServer
-    ∷ limits plan (addition plan at s))
+add_refusal plan at s = add_refused plan at s (length (addition plan at s).moves)
 
 abbrev pub drain_refusal : Planned → Moment → ServerId → Option Refusal
-drain_refusal plan at s = first_refusal (
-    when (not (knows plan s)) UnknownServer
-    ∷ when (not (is_active plan s)) NotActive
-    ∷ when (nat_le (length (active_now plan)) 1) LastServer
-    ∷ limits plan (removal plan at s))
+drain_refusal plan at s = drain_refused plan at s (length (removal plan at s).moves)
 
 abbrev pub shift_refusal : Planned → Moment → ℕ → ServerId → Option Refusal
 shift_refusal plan at bucket s = first_refusal (
@@ -86,4 +76,4 @@ shift_refusal plan at bucket s = first_refusal (
     ∷ when (not (knows plan s)) UnknownServer
     ∷ when (not (is_active plan s)) NotActive
     ∷ when (same_server (server_now plan bucket) s) SameServer
-    ∷ limits plan (shift_of at bucket s))
+    ∷ limits plan at 1)

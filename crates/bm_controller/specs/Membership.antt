@@ -1,5 +1,6 @@
 -- Which servers are known and active after the changes of a plan.
-use Rattle.std.specs.Prelude.{◌≡◌, ℕ, zero, suc, ◌<◌, Bool, true, ◌&&◌, not, nat_lt, List, ◌∷◌, ◌++◌, filter, length, Option, Some, None}
+use Rattle.std.specs.Prelude.{◌≡◌, ℕ, zero, suc, ◌<◌, Bool, true, ◌&&◌, not, nat_lt, List, ◌∷◌}
+use Rattle.std.specs.Prelude.{◌++◌, filter, length, Option, Some, None}
 use Rattle.std.specs.List.{AllByRecursion}
 use Rattle.bm_base.specs.declared.ids.ServerId.{ServerId}
 use Rattle.bm_table.specs.declared.plan.Change.{Change}
@@ -9,11 +10,13 @@ use Rattle.bm_table.specs.Planned.{Planned}
 use Rattle.bm_table.specs.Plans.{IsPlan}
 use Rattle.bm_table.specs.Scripts.{NamesServer}
 use Rattle.bm_table.specs.Settings.{RiseFrom}
-use Rattle.bm_table.specs.Tables.{is_among, is_drained, is_known, next_change, same_server, IsOrderly}
+use Rattle.bm_table.specs.Tables.{is_among, is_drained, is_known, next_change, same_server}
+use Rattle.bm_table.specs.Tables.{IsOrderly}
 
 -- the servers with one more, in rising order
 abbrev pub with_server : ServerId → List ServerId → List ServerId
-with_server s servers = filter (λ t. nat_lt t.0 s.0) servers ++ s ∷ filter (λ t. nat_lt s.0 t.0) servers
+with_server s servers =
+    filter (λ t. nat_lt t.0 s.0) servers ++ s ∷ filter (λ t. nat_lt s.0 t.0) servers
 
 -- the servers without one
 abbrev pub without_server : ServerId → List ServerId → List ServerId

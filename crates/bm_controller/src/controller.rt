@@ -1,5 +1,6 @@
 //! The controller.
-ghost use Rattle.std.specs.Prelude.{◌≡◌, ◌≢◌, ◌<◌, ◌≤◌, ℕ, [], ◌∷◌, length, Bool, false, vec_len, slice_index_or, Some, None, IfOk, IfErr, OnOk, OnErr};
+ghost use Rattle.std.specs.Prelude.{◌≡◌, ◌≢◌, ◌<◌, ◌≤◌, ℕ, [], ◌∷◌, length, Bool, false, vec_len};
+ghost use Rattle.std.specs.Prelude.{slice_index_or, Some, None, IfOk, IfErr, OnOk, OnErr};
 ghost use Rattle.bm_base.specs.declared.ids.ServerId.{ServerId};
 ghost use Rattle.bm_controller.specs.Commands as commands;
 ghost use Rattle.bm_controller.specs.Membership as members;
@@ -42,7 +43,8 @@ impl Model for Controller {
 }
 
 impl Controller {
-    /// A controller of these servers, with a plan without changes. `Memory` where memory was refused.
+    /// A controller of these servers, with a plan without changes. `Memory` where memory was
+    /// refused.
     pub fn new(alloc: Global, buckets: u32, servers: &[ServerId]) -> Result<Controller, Memory>
         requires buckets { IsWithin 1 65536 buckets }
         requires servers { 0 < length servers.now }
@@ -59,19 +61,22 @@ impl Controller {
 
     /// Adds a server at a moment in nanoseconds, and brings all active servers to their quotas. A
     /// refusal is the first of KnownServer, StampFell and TooMany that stands, or Memory, which may
-    /// come where the server isn't known. It changes nothing.
+    /// come where none of these stands but `TooMany(Moves)`. It changes nothing.
     pub fn add(&mut self, at: Moment, s: ServerId) -> Result<(), Refusal>
         requires { IsWithin 1 1024 s.0 }
-        ensures ok { OnOk result (self.new ≡ with_change self.old (commands.addition self.old at s)) }
+        ensures ok { OnOk result
+            (self.new ≡ with_change self.old (commands.addition self.old at s)) }
         ensures accepted { OnOk result (commands.add_refusal self.old at s ≡ None) }
         ensures refused { IfErr result (λ refusal. refusal ≢ memory
             → commands.add_refusal self.old at s ≡ Some refusal) }
-        ensures want { IfErr result (λ refusal. refusal ≡ memory → commands.add_refused self.old s ≡ None) }
+        ensures want { IfErr result
+            (λ refusal. refusal ≡ memory → commands.add_refused self.old at s 0 ≡ None) }
         ensures err { OnErr result (self.new ≡ self.old) }
     {
         if self.knows(s) {
             return Err(Refusal::KnownServer);
         }
+        self.plan.check_limits(at, 0)?;
         let active = servers::with(*self.active.allocator(), self.active.as_slice(), s)?;
         let change = rebalance(&self.plan, at, Kind::Add(s), active.as_slice())?;
         self.plan.push(change)?;
@@ -80,16 +85,18 @@ impl Controller {
         Ok(())
     }
 
-    /// Drains a server at a moment in nanoseconds: its buckets go to the other active servers, which
-    /// come to their quotas. A refusal is the first of UnknownServer, NotActive, LastServer, StampFell
-    /// and TooMany that stands, or Memory, which may come where none of the first three stands. It
-    /// changes nothing.
+    /// Drains a server at a moment in nanoseconds: its buckets go to the other active servers,
+    /// which come to their quotas. A refusal is the first of UnknownServer, NotActive, LastServer,
+    /// StampFell and TooMany that stands, or Memory, which may come where none of these stands but
+    /// `TooMany(Moves)`. It changes nothing.
     pub fn drain(&mut self, at: Moment, s: ServerId) -> Result<(), Refusal>
-        ensures ok { OnOk result (self.new ≡ with_change self.old (commands.removal self.old at s)) }
+        ensures ok { OnOk result
+            (self.new ≡ with_change self.old (commands.removal self.old at s)) }
         ensures accepted { OnOk result (commands.drain_refusal self.old at s ≡ None) }
         ensures refused { IfErr result (λ refusal. refusal ≢ memory
             → commands.drain_refusal self.old at s ≡ Some refusal) }
-        ensures want { IfErr result (λ refusal. refusal ≡ memory → commands.drain_refused self.old s ≡ None) }
+        ensures want { IfErr result
+            (λ refusal. refusal ≡ memory → commands.drain_refused self.old at s 0 ≡ None) }
         ensures err { OnErr result (self.new ≡ self.old) }
     {
         if !self.knows(s) {
@@ -101,6 +108,7 @@ impl Controller {
         if self.active.len() <= 1 {
             return Err(Refusal::LastServer);
         }
+        self.plan.check_limits(at, 0)?;
         let active = servers::without(*self.active.allocator(), self.active.as_slice(), s)?;
         let change = rebalance(&self.plan, at, Kind::Drain(s), active.as_slice())?;
         self.plan.push(change)?;
@@ -109,14 +117,15 @@ impl Controller {
     }
 
     /// Moves one bucket to an active server, at a moment in nanoseconds. A refusal is the first of
-    /// BadBucket, UnknownServer, NotActive, SameServer, StampFell and TooMany that stands, or Memory,
-    /// which may come where none of the first four stands. It changes nothing.
+    /// BadBucket, UnknownServer, NotActive, SameServer, StampFell and TooMany that stands, or
+    /// Memory, which may come where none of these stands. It changes nothing.
     pub fn shift(&mut self, at: Moment, bucket: u32, s: ServerId) -> Result<(), Refusal>
         ensures ok { OnOk result (self.new ≡ with_change self.old (commands.shift_of at bucket s)) }
         ensures accepted { OnOk result (commands.shift_refusal self.old at bucket s ≡ None) }
         ensures refused { IfErr result (λ refusal. refusal ≢ memory
             → commands.shift_refusal self.old at bucket s ≡ Some refusal) }
-        ensures want { IfErr result (λ refusal. refusal ≡ memory → commands.shift_refused self.old bucket s ≡ None) }
+        ensures want { IfErr result
+            (λ refusal. refusal ≡ memory → commands.shift_refusal self.old at bucket s ≡ None) }
         ensures err { OnErr result (self.new ≡ self.old) }
     {
         if bucket >= self.plan.buckets() {
@@ -131,6 +140,7 @@ impl Controller {
         if self.plan.server(bucket) == s {
             return Err(Refusal::SameServer);
         }
+        self.plan.check_limits(at, 1)?;
         let moves = one_move(*self.active.allocator(), Move { bucket, to: s })?;
         self.plan.push(Change {
             moment: at,

@@ -1,5 +1,6 @@
 -- A replay that is over is accounted for.
-use Rattle.std.proofs.Common.{◌≡◌, ℕ, zero, suc, ◌+◌, ◌<◌, ◌≤◌, Bool, true, false, cond, ◌&&◌, inl, inr, List, [], ◌∷◌, ◌++◌, Option, Some, None, is_some, length, slice_get, refl, sym, ap, ◌∙◌, arith, eqb}
+use Rattle.std.proofs.Common.{◌≡◌, ℕ, zero, suc, ◌+◌, ◌<◌, ◌≤◌, Bool, true, false, cond, ◌&&◌, inl, inr, List, [], ◌∷◌}
+use Rattle.std.proofs.Common.{◌++◌, Option, Some, None, is_some, length, slice_get, refl, sym, ap, ◌∙◌, arith, eqb}
 use Rattle.std.proofs.lemmas.Bool.{cases_Bool}
 use Rattle.std.proofs.lemmas.Bool.Decides.{nat_tests}
 use Rattle.std.proofs.lemmas.Option.{slice_get_cases}
@@ -7,10 +8,11 @@ use Rattle.bm_base.specs.declared.ids.ServerId.{ServerId}
 use Rattle.bm_base.specs.declared.flow.Flow.{Flow}
 use Rattle.bm_base.specs.declared.label.Hop.{Hop}
 use Rattle.bm_base.specs.declared.capture.Record.{Record}
-use Rattle.bm_base.specs.declared.receive.Fate.{Fate}
+use Rattle.bm_base.specs.declared.fate.Fate.{Fate}
 use Rattle.bm_table.specs.declared.plan.Change.{Change}
 use Rattle.bm_table.specs.declared.script.Command.{Command}
-use Rattle.bm_table.specs.declared.script.Command.TheVariants.{Change as ChangeCommand, Close as CloseCommand, Retire as RetireCommand, Sync as SyncCommand}
+use Rattle.bm_table.specs.declared.script.Command.TheVariants.{Change as ChangeCommand, Close as CloseCommand}
+use Rattle.bm_table.specs.declared.script.Command.TheVariants.{Retire as RetireCommand, Sync as SyncCommand}
 use Rattle.bm_core.specs.declared.schedule.Underway.{Underway}
 use Rattle.bm_core.specs.declared.events.What.{What}
 use Rattle.bm_core.specs.declared.events.What.TheVariants.{Steer, Close, Retire, Sync}
@@ -21,15 +23,20 @@ use Rattle.bm_base.specs.Segments.{same_flow}
 use Rattle.bm_core.specs.Past.{newest, segment_of, steerable}
 use Rattle.bm_core.specs.Runs.{Run}
 use Rattle.bm_core.specs.Accounts as acc
-use Rattle.bm_core.specs.Accounts.{Routes, Rules, count_of, counts, arrives, lost_at, retires_shard, is_sync, wants_close, wants_retire, wants_sync, AreCarriedOut}
+use Rattle.bm_core.specs.Accounts.{Routes, Rules, count_of, counts, arrives, lost_at, retires_shard, is_sync}
+use Rattle.bm_core.specs.Accounts.{wants_close, wants_retire, wants_sync, AreCarriedOut}
 use Rattle.bm_core.specs.Accounts.{sent_copies, copyless_at, AreAnswered, IsAccountOf}
 use Rattle.bm_core.specs.declared.schedule.Call.{Call}
 use Rattle.bm_core.specs.declared.schedule.Call.TheVariants.{Closes, Retires, Steers}
 use Rattle.bm_core.specs.declared.schedule.Due.{Due}
-use Rattle.bm_core.specs.Schedule.{call_of, publish_due, close_commands, retire_dues, retire_commands, sync_commands, packets_from}
-use Rattle.bm_core.specs.Schedule.{wire, first_of, arrival_due, left, closes, retires, syncs, steers, can_come, Follows, IsOver}
+use Rattle.bm_core.specs.Schedule.{call_of, publish_due, close_commands, retire_dues, retire_commands, sync_commands}
+use Rattle.bm_core.specs.Schedule.{packets_from}
+use Rattle.bm_core.specs.Schedule.{wire, first_of, arrival_due, left, closes, retires, syncs, steers, can_come, Follows}
+use Rattle.bm_core.specs.Schedule.{IsOver}
 use Rattle.bm_core.proofs.Pasts.{newest_within}
-use Rattle.bm_core.proofs.Schedules.{counted, balance, class_of_closes, class_of_retires, class_of_syncs, class_of_steers, copies_balance, copies_sent, lost_balance, is_loss_due_at, waiting}
+use Rattle.bm_core.proofs.Schedules.{counted, balance, class_of_closes, class_of_retires, class_of_syncs}
+use Rattle.bm_core.proofs.Schedules.{class_of_steers, copies_balance, copies_sent, lost_balance, is_loss_due_at}
+use Rattle.bm_core.proofs.Schedules.{waiting}
 
 -- LISTS
 
@@ -67,7 +74,8 @@ pub record IsDone (fates : List Fate) (stage : Stage) (all : List Event) : Type 
   pub wire_left : wire fates all ≡ []
   pub steers_left : left (packets_from 1 stage.capture.records) all steers ≡ []
 
-pub done : (fates : List Fate) (stage : Stage) (all : List Event) → can_come (wire fates all) stage all ≡ [] → IsDone fates stage all
+pub done : (fates : List Fate) (stage : Stage) (all : List Event) → can_come (wire fates all) stage all ≡ []
+    → IsDone fates stage all
 done fates stage all none =
     let a = no_parts _ _ none
     in let b = no_parts _ _ a.0
@@ -98,9 +106,11 @@ close_what : (s : ServerId) (f : Flow) (what : What) → close_at s f (call_of w
 close_what s f (Close server flow closed) = refl
 close_what s f _ = refl
 
-close_list : (s : ServerId) (f : Flow) (commands : List Command) → counted (close_at s f) (close_commands commands) ≡ count_of (λ c. wants_close c s f) commands
+close_list : (s : ServerId) (f : Flow) (commands : List Command)
+    → counted (close_at s f) (close_commands commands) ≡ count_of (λ c. wants_close c s f) commands
 close_list s f [] = refl
-close_list s f (CloseCommand at server flow ∷ commands) = ap (λ (n : ℕ). cond (same_server server s && same_flow flow f) 1 0 + n) (close_list s f commands)
+close_list s f (CloseCommand at server flow ∷ commands) =
+    ap (λ (n : ℕ). cond (same_server server s && same_flow flow f) 1 0 + n) (close_list s f commands)
 close_list s f (ChangeCommand v ∷ commands) = rw (close_list s f commands) (omega arith)
 close_list s f (RetireCommand at server ∷ commands) = rw (close_list s f commands) (omega arith)
 close_list s f (SyncCommand at ∷ commands) = rw (close_list s f commands) (omega arith)
@@ -132,25 +142,30 @@ retire_what : (s : ServerId) (h : ℕ) (what : What) → retire_at s h (call_of 
 retire_what s h (Retire server x at result) = refl
 retire_what s h _ = refl
 
-retire_none : (s : ServerId) (h : ℕ) (server : ServerId) (at n : ℕ) → n ≤ h → counted (retire_at s h) (retire_dues server at n) ≡ 0
+retire_none : (s : ServerId) (h : ℕ) (server : ServerId) (at n : ℕ) → n ≤ h
+    → counted (retire_at s h) (retire_dues server at n) ≡ 0
 retire_none s h server at zero below = refl
 retire_none s h server at (suc n) below =
     let ne : eqb n h ≡ false = grind (arith, nat_tests)
-    in rw (counted_append (retire_at s h) (retire_dues server at n) _, retire_none s h server at n (omega arith)) (none (same_server server s) (eqb n h) ne) where
+    in rw (counted_append (retire_at s h) (retire_dues server at n) _, retire_none s h server at n (omega arith))
+    (none (same_server server s) (eqb n h) ne) where
       none : (a b : Bool) → b ≡ false → 0 + (cond (a && b) 1 0 + 0) ≡ 0
       none true true e = absurd (cc)
       none true false e = refl
       none false b e = refl
 
-retire_one : (s : ServerId) (h : ℕ) (server : ServerId) (at n : ℕ) → h < n → counted (retire_at s h) (retire_dues server at n) ≡ cond (same_server server s) 1 0
+retire_one : (s : ServerId) (h : ℕ) (server : ServerId) (at n : ℕ) → h < n
+    → counted (retire_at s h) (retire_dues server at n) ≡ cond (same_server server s) 1 0
 retire_one s h server at zero below = absurd (omega arith)
 retire_one s h server at (suc n) below = elim (cases_Bool (eqb n h)) [
   | inl is ↦
       let e : n ≡ h = grind (arith, nat_tests)
-      in rw (counted_append (retire_at s h) (retire_dues server at n) _, retire_none s h server at n (omega arith), is) (one (same_server server s))
+      in rw (counted_append (retire_at s h) (retire_dues server at n) _, retire_none s h server at n (omega arith), is)
+      (one (same_server server s))
   | inr other ↦
       let e : h < n = grind (arith, nat_tests)
-      in rw (counted_append (retire_at s h) (retire_dues server at n) _, retire_one s h server at n e, other) (same (same_server server s))
+      in rw (counted_append (retire_at s h) (retire_dues server at n) _, retire_one s h server at n e, other)
+      (same (same_server server s))
 ] where
   one : (a : Bool) → 0 + (cond (a && true) 1 0 + 0) ≡ cond a 1 0
   one true = refl
@@ -160,20 +175,33 @@ retire_one s h server at (suc n) below = elim (cases_Bool (eqb n h)) [
   same true = refl
   same false = refl
 
-retire_list : (s : ServerId) (h shards : ℕ) → h < shards → (commands : List Command) → counted (retire_at s h) (retire_commands shards commands) ≡ count_of (λ c. wants_retire c s) commands
+retire_list : (s : ServerId) (h shards : ℕ) → h < shards → (commands : List Command)
+    → counted (retire_at s h) (retire_commands shards commands) ≡ count_of (λ c. wants_retire c s) commands
 retire_list s h shards below [] = refl
-retire_list s h shards below (CloseCommand at server flow ∷ commands) = rw (retire_list s h shards below commands) (omega arith)
+retire_list s h shards below (CloseCommand at server flow ∷ commands) =
+    rw (retire_list s h shards below commands) (omega arith)
 retire_list s h shards below (ChangeCommand v ∷ commands) = rw (retire_list s h shards below commands) (omega arith)
 retire_list s h shards below (RetireCommand at server ∷ commands) =
-    rw (counted_append (retire_at s h) (retire_dues server at.0 shards) (retire_commands shards commands), retire_one s h server at.0 shards below, retire_list s h shards below commands) refl
+    rw (
+      counted_append (retire_at s h) (retire_dues server at.0 shards) (retire_commands shards commands),
+      retire_one s
+          h server at.0 shards below,
+      retire_list s h shards below commands,
+    ) refl
 retire_list s h shards below (SyncCommand at ∷ commands) = rw (retire_list s h shards below commands) (omega arith)
 
-retire_no_list : (s : ServerId) (h shards : ℕ) → shards ≤ h → (commands : List Command) → counted (retire_at s h) (retire_commands shards commands) ≡ 0
+retire_no_list : (s : ServerId) (h shards : ℕ) → shards ≤ h → (commands : List Command)
+    → counted (retire_at s h) (retire_commands shards commands) ≡ 0
 retire_no_list s h shards above [] = refl
 retire_no_list s h shards above (CloseCommand at server flow ∷ commands) = retire_no_list s h shards above commands
 retire_no_list s h shards above (ChangeCommand v ∷ commands) = retire_no_list s h shards above commands
 retire_no_list s h shards above (RetireCommand at server ∷ commands) =
-    rw (counted_append (retire_at s h) (retire_dues server at.0 shards) (retire_commands shards commands), retire_none s h server at.0 shards above, retire_no_list s h shards above commands) refl
+    rw (
+      counted_append (retire_at s h) (retire_dues server at.0 shards) (retire_commands shards commands),
+      retire_none s
+          h server at.0 shards above,
+      retire_no_list s h shards above commands,
+    ) refl
 retire_no_list s h shards above (SyncCommand at ∷ commands) = retire_no_list s h shards above commands
 
 -- PACKETS
@@ -193,22 +221,27 @@ steer_what k _ = refl
 steer_none : (k n : ℕ) (records : List Record) → k < n → counted (steer_at k) (packets_from n records) ≡ 0
 steer_none k n [] below = refl
 steer_none k n (r ∷ records) below = elim (cases_Bool (is_some (steerable (Some r)))) [
-  | inl is ↦ let ne : eqb n k ≡ false = grind (arith, nat_tests) in rw (is, ne, steer_none k (suc n) records (omega arith)) refl
+  | inl is ↦ let ne : eqb n k ≡ false =
+      grind (arith, nat_tests) in rw (is, ne, steer_none k (suc n) records (omega arith)) refl
   | inr other ↦ rw (other, steer_none k (suc n) records (omega arith)) refl
 ]
 
-steer_list : (n i : ℕ) (records : List Record) (k : ℕ) → k ≡ n + i → counted (steer_at k) (packets_from n records) ≡ cond (is_some (steerable (slice_get records i))) 1 0
+steer_list : (n i : ℕ) (records : List Record) (k : ℕ) → k ≡ n + i
+    → counted (steer_at k) (packets_from n records) ≡ cond (is_some (steerable (slice_get records i))) 1 0
 steer_list n i [] k e = refl
 steer_list n zero (r ∷ records) k e = elim (cases_Bool (is_some (steerable (Some r)))) [
-  | inl is ↦ let same : eqb n k ≡ true = grind (arith, nat_tests) in rw (is, same, steer_none k (suc n) records (omega arith)) refl
+  | inl is ↦ let same : eqb n k ≡ true =
+      grind (arith, nat_tests) in rw (is, same, steer_none k (suc n) records (omega arith)) refl
   | inr other ↦ rw (other, steer_none k (suc n) records (omega arith)) refl
 ]
 steer_list n (suc i) (r ∷ records) k e = elim (cases_Bool (is_some (steerable (Some r)))) [
-  | inl is ↦ let ne : eqb n k ≡ false = grind (arith, nat_tests) in rw (is, ne, steer_list (suc n) i records k (omega arith)) (omega arith)
+  | inl is ↦ let ne : eqb n k ≡ false =
+      grind (arith, nat_tests) in rw (is, ne, steer_list (suc n) i records k (omega arith)) (omega arith)
   | inr other ↦ rw (other, steer_list (suc n) i records k (omega arith)) refl
 ]
 
-pub steer_records : (stage : Stage) (k : ℕ) → counted (steer_at k) (packets_from 1 stage.capture.records) ≡ cond (is_some (segment_of stage k)) 1 0
+pub steer_records : (stage : Stage) (k : ℕ)
+    → counted (steer_at k) (packets_from 1 stage.capture.records) ≡ cond (is_some (segment_of stage k)) 1 0
 steer_records stage zero = steer_none 0 1 stage.capture.records (omega arith)
 steer_records stage (suc i) = steer_list 1 i stage.capture.records (suc i) (omega arith)
 
@@ -217,12 +250,16 @@ steer_records stage (suc i) = steer_list 1 i stage.capture.records (suc i) (omeg
 all_came : (t : Call → Bool) (dues : List Due) (n rest : ℕ) → n + rest ≡ counted t dues → rest ≡ 0 → n ≡ counted t dues
 all_came t dues n rest e z = omega arith
 
-pub accounted : (R : Routes) (F : Rules) (fates : List Fate) (stage : Stage) (all : List Event) → Run stage all → Follows fates stage all → IsOver fates stage all → AreAnswered R F stage fates all → IsAccountOf R F stage fates all
+pub accounted : (R : Routes) (F : Rules) (fates : List Fate) (stage : Stage) (all : List Event) → Run stage all
+    → Follows fates stage all → IsOver fates stage all → AreAnswered R F stage fates all
+    → IsAccountOf R F stage fates all
 accounted R F fates stage all run follows over answered =
     let d = done fates stage all over.none
     in record {
       steered = λ k. sym (same_count _ _ (λ e. steer_what k e.what) all)
-          ∙ (all_came (steer_at k) (packets_from 1 stage.capture.records) _ _ (balance (steer_at k) steers (packets_from 1 stage.capture.records) stage (steer_within k) (class_of_steers stage) fates all follows) (rw d.steers_left refl)
+          ∙ (all_came (steer_at k) (packets_from 1 stage.capture.records) _ _
+          (balance (steer_at k) steers (packets_from 1 stage.capture.records) stage (steer_within k)
+          (class_of_steers stage) fates all follows) (rw d.steers_left refl)
           ∙ steer_records stage k);
       answered = answered;
       lost = λ k hop clock. lost_all k hop clock;
@@ -231,12 +268,18 @@ accounted R F fates stage all run follows over answered =
       commands = record {
         changes = changes_all d;
         closes = λ s f. sym (same_count _ _ (λ e. close_what s f e.what) all)
-            ∙ (all_came (close_at s f) (close_commands stage.script.commands) _ _ (balance (close_at s f) closes (close_commands stage.script.commands) stage (close_within s f) (class_of_closes stage) fates all follows) (rw d.closes_left refl)
+            ∙ (all_came (close_at s f) (close_commands stage.script.commands) _ _
+            (balance (close_at s f) closes (close_commands stage.script.commands) stage (close_within s f)
+            (class_of_closes stage) fates all follows) (rw d.closes_left refl)
             ∙ close_list s f stage.script.commands);
-        retires = λ s h below. retired_all s h d ∙ retire_list s h stage.script.setting.shards below stage.script.commands;
-        no_other = λ s h above. retired_all s h d ∙ retire_no_list s h stage.script.setting.shards above stage.script.commands;
+        retires =
+            λ s h below. retired_all s h d ∙ retire_list s h stage.script.setting.shards below stage.script.commands;
+        no_other =
+            λ s h above. retired_all s h d ∙ retire_no_list s h stage.script.setting.shards above stage.script.commands;
         syncs = sym (same_count _ _ (λ e. sync_what e.what) all)
-            ∙ (all_came syncs (sync_commands stage.script.commands) _ _ (balance syncs syncs (sync_commands stage.script.commands) stage (λ c e. e) (class_of_syncs stage) fates all follows) (rw d.syncs_left refl)
+            ∙ (all_came syncs (sync_commands stage.script.commands) _ _
+            (balance syncs syncs (sync_commands stage.script.commands) stage (λ c e. e) (class_of_syncs stage) fates all
+            follows) (rw d.syncs_left refl)
             ∙ sync_list stage.script.commands);
       };
     } where
@@ -246,17 +289,21 @@ accounted R F fates stage all run follows over answered =
           in let b = lost_balance fates stage all follows k hop clock
           in omega arith
 
-      arrived_all : (k : ℕ) (hop : Hop) → IsDone fates stage all → counts all (λ what. arrives what k hop) ≡ sent_copies fates all k hop
+      arrived_all : (k : ℕ) (hop : Hop) → IsDone fates stage all
+          → counts all (λ what. arrives what k hop) ≡ sent_copies fates all k hop
       arrived_all k hop d =
           let none : waiting k hop (wire fates all) ≡ 0 = rw d.wire_left refl
           in let b = copies_balance fates stage all follows k hop
           in omega arith
 
-      retired_all : (s : ServerId) (h : ℕ) → IsDone fates stage all → counts all (λ what. retires_shard what s h) ≡ counted (retire_at s h) (retire_commands stage.script.setting.shards stage.script.commands)
+      retired_all : (s : ServerId) (h : ℕ) → IsDone fates stage all
+          → counts all (λ what. retires_shard what s h)
+          ≡ counted (retire_at s h) (retire_commands stage.script.setting.shards stage.script.commands)
       retired_all s h d =
           sym (same_count _ _ (λ e. retire_what s h e.what) all)
           ∙ all_came (retire_at s h) (retire_commands stage.script.setting.shards stage.script.commands) _ _
-          (balance (retire_at s h) retires (retire_commands stage.script.setting.shards stage.script.commands) stage (retire_within s h) (class_of_retires stage) fates all follows) (rw d.retires_left refl)
+          (balance (retire_at s h) retires (retire_commands stage.script.setting.shards stage.script.commands) stage
+          (retire_within s h) (class_of_retires stage) fates all follows) (rw d.retires_left refl)
 
       changes_all : IsDone fates stage all → newest all ≡ length stage.script.plan.changes
       changes_all d = elim (slice_get_cases stage.script.plan.changes (newest all)).1 [

@@ -16,7 +16,8 @@ use Rattle.bm_core.specs.Past.{segment_of, label_of, Accepted, owner}
 use Rattle.bm_core.specs.Causes.{is_fault, is_refusal, opening_cause, wants_cause, cause_at, cause}
 use Rattle.bm_core.specs.Laws.{IsFault}
 
-opening_refused : (verdict : Verdict) (v newest : ℕ) → is_some (opening_cause verdict v newest) ≡ true → is_refusal verdict ≡ true
+opening_refused : (verdict : Verdict) (v newest : ℕ) → is_some (opening_cause verdict v newest) ≡ true
+    → is_refusal verdict ≡ true
 opening_refused Accept v newest is = absurd (cc)
 opening_refused (Process t) v newest is = absurd (cc)
 opening_refused (Forward to) v newest is = absurd (cc)
@@ -27,7 +28,8 @@ none_unless : (b : Bool) (o : Option Cause) → is_some (cond b o None) ≡ true
 none_unless true o is = refl
 none_unless false o is = absurd (cc)
 
-caused : (stage : Stage) (past : List Event) (clock : ℕ) (server : ServerId) (verdict : Verdict) (a : Option Accepted) (o : Option Segment) (p : Option Label)
+caused : (stage : Stage) (past : List Event) (clock : ℕ) (server : ServerId) (verdict : Verdict) (a : Option Accepted)
+    (o : Option Segment) (p : Option Label)
     → is_some (cause_at stage past clock server verdict a o p) ≡ true → wants_cause verdict a server o ≡ true
 caused stage past clock server verdict a None p is = absurd (cc)
 caused stage past clock server verdict a (Some s) None is = absurd (cc)
@@ -36,8 +38,10 @@ caused stage past clock server verdict a (Some s) (Some l) is = elim (cases_Bool
   | inr plain ↦ rw plain (none_unless (is_fault verdict a server) _ (rw plain at is))
 ]
 
-pub fault_law : (stage : Stage) (past : List Event) (clock : ℕ) (what : What) → is_some (cause stage past clock what) ≡ true → IsFault stage past what
-fault_law stage past clock (Arrive k hop server verdict) is = caused stage past clock server verdict (owner stage past k) (segment_of stage k) (label_of stage past k) is
+pub fault_law : (stage : Stage) (past : List Event) (clock : ℕ) (what : What)
+    → is_some (cause stage past clock what) ≡ true → IsFault stage past what
+fault_law stage past clock (Arrive k hop server verdict) is =
+    caused stage past clock server verdict (owner stage past k) (segment_of stage k) (label_of stage past k) is
 fault_law stage past clock (Publish v) is = absurd (cc)
 fault_law stage past clock (Switch m v) is = absurd (cc)
 fault_law stage past clock (Steer k m) is = absurd (cc)

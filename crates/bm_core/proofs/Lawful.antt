@@ -1,5 +1,6 @@
 -- The laws, at an event and at its place in a history.
-use Rattle.std.proofs.Common.{reverse, ◌≡◌, ℕ, zero, suc, ◌<◌, ◌≤◌, true, false, ◌||◌, ◌⊎◌, inl, inr, List, [], ◌∷◌, take, Option, Some, None, is_some, refl, sym, ap, ◌∙◌, subst, arith, ltb}
+use Rattle.std.proofs.Common.{reverse, ◌≡◌, ℕ, zero, suc, ◌<◌, ◌≤◌, true, false, ◌||◌, ◌⊎◌, inl, inr, List, [], ◌∷◌}
+use Rattle.std.proofs.Common.{take, Option, Some, None, is_some, refl, sym, ap, ◌∙◌, subst, arith, ltb}
 use Rattle.std.specs.Prelude.{slice_get, IsSomeAnd}
 use mathlib.Core.List.{reverse_aux}
 use Rattle.std.proofs.lemmas.Bool.{cases_Bool, both_ways, or_from, lt-ltb}
@@ -25,7 +26,8 @@ use Rattle.bm_core.specs.Verdicts.{Onward, onward, local_at, verdict_of, verdict
 use Rattle.bm_core.specs.Causes.{first_broken, is_process, is_fault, is_refusal, opening_cause, cause}
 use Rattle.bm_core.specs.Stages.{IsSound}
 use Rattle.bm_core.specs.Runs.{last_clock, IsArrival, MayCome, Run, IsRun, event_at, past_at}
-use Rattle.bm_core.specs.Laws.{IsUnbrokenPacket, IsServedPacket, IsUnbrokenArrival, IsServedBy, IsServed, IsRetiredDrop, IsLate, IsFault, At}
+use Rattle.bm_core.specs.Laws.{IsUnbrokenPacket, IsServedPacket, IsUnbrokenArrival, IsServedBy, IsServed, IsRetiredDrop}
+use Rattle.bm_core.specs.Laws.{IsLate, IsFault, At}
 use Rattle.bm_core.proofs.Owned.{safe, late, false_from_not}
 use Rattle.bm_core.proofs.Pasts.{arrival_sends, hop_before, steer_sends}
 
@@ -34,22 +36,26 @@ run_older : (stage : Stage) (newer past : List Event) → Run stage (reverse_aux
 run_older stage [] past run = run
 run_older stage (x ∷ newer) past run = (run_older stage newer (x ∷ past) run).1
 
-run_from : (stage : Stage) (events past : List Event) (place : ℕ) (e : Event) → Run stage (reverse_aux events past) → slice_get events place ≡ Some e → Run stage (e ∷ reverse_aux (take place events) past)
+run_from : (stage : Stage) (events past : List Event) (place : ℕ) (e : Event) → Run stage (reverse_aux events past)
+    → slice_get events place ≡ Some e → Run stage (e ∷ reverse_aux (take place events) past)
 run_from stage [] past place e run is = absurd (cc)
 run_from stage (x ∷ events) past zero e run is =
     subst (λ (y : Event). Run stage (y ∷ past)) (same_Some _ _ is) (run_older stage events (x ∷ past) run)
 run_from stage (x ∷ events) past (suc place) e run is = run_from stage events (x ∷ past) place e run is
 
 -- the event at a place may come after those before it, which are a run
-pub run_at : (h : History) (place : ℕ) (e : Event) → IsRun h → event_at h place ≡ Some e → Run h.stage (e ∷ past_at h place)
+pub run_at : (h : History) (place : ℕ) (e : Event) → IsRun h → event_at h place ≡ Some e
+    → Run h.stage (e ∷ past_at h place)
 run_at h place e run is = run_from h.stage h.events [] place e run.run is
 
 -- what follows at each event of each run follows at each place of a history
 pub law : (P Q : Stage → List Event → ℕ → What → Type 0)
-    → ((stage : Stage) → IsSound stage → (past : List Event) (clock : ℕ) (what : What) → Run stage past → last_clock past ≤ clock → MayCome stage past clock what → P stage past clock what → Q stage past clock what)
+    → ((stage : Stage) → IsSound stage → (past : List Event) (clock : ℕ) (what : What) → Run stage past
+    → last_clock past ≤ clock → MayCome stage past clock what → P stage past clock what → Q stage past clock what)
     → (h : History) (place : ℕ) → IsRun h → At h place P → At h place Q
 law P Q follows h place run premise = go (event_at h place) refl premise where
-  go : (o : Option Event) → event_at h place ≡ o → IsSomeAnd o (λ e. P h.stage (past_at h place) e.clock.0 e.what) → IsSomeAnd o (λ e. Q h.stage (past_at h place) e.clock.0 e.what)
+  go : (o : Option Event) → event_at h place ≡ o → IsSomeAnd o (λ e. P h.stage (past_at h place) e.clock.0 e.what)
+      → IsSomeAnd o (λ e. Q h.stage (past_at h place) e.clock.0 e.what)
   go None is p = p
   go (Some e) is p =
       let r = run_at h place e run is
@@ -57,14 +63,19 @@ law P Q follows h place run premise = go (event_at h place) refl premise where
 
 -- SAFETY
 
-safe_step : (stage : Stage) → IsSound stage → (past : List Event) (clock : ℕ) (what : What) → Run stage past → last_clock past ≤ clock → MayCome stage past clock what → IsUnbrokenArrival stage past clock what → IsServed stage past what
-safe_step stage sound past clock (Arrive k hop server verdict) run later may unbroken = go (owner stage past k) refl premises where
-  premises : (is_opening may.segment ≡ false) × (first_broken stage past clock may.label may.segment.flow server (owner stage past k) ≡ None)
-  premises = rw (may.is_segment, may.is_label) at unbroken
+safe_step : (stage : Stage) → IsSound stage → (past : List Event) (clock : ℕ) (what : What) → Run stage past
+    → last_clock past ≤ clock → MayCome stage past clock what → IsUnbrokenArrival stage past clock what
+    → IsServed stage past what
+safe_step stage sound past clock (Arrive k hop server verdict) run later may unbroken =
+    go (owner stage past k) refl premises where
+      premises : (is_opening may.segment ≡ false)
+          × (first_broken stage past clock may.label may.segment.flow server (owner stage past k) ≡ None)
+      premises = rw (may.is_segment, may.is_label) at unbroken
 
-  go : (o : Option Accepted) → owner stage past k ≡ o → (is_opening may.segment ≡ false) × (first_broken stage past clock may.label may.segment.flow server o ≡ None) → IsServedBy o hop server verdict
-  go None own p = absurd (cc)
-  go (Some a) own p = safe stage sound past run clock k server later a hop verdict may p.0 own p.1
+      go : (o : Option Accepted) → owner stage past k ≡ o → (is_opening may.segment ≡ false)
+          × (first_broken stage past clock may.label may.segment.flow server o ≡ None) → IsServedBy o hop server verdict
+      go None own p = absurd (cc)
+      go (Some a) own p = safe stage sound past run clock k server later a hop verdict may p.0 own p.1
 safe_step stage sound past clock (Steer k m) run later may unbroken = absurd unbroken
 safe_step stage sound past clock (Publish v) run later may unbroken = absurd unbroken
 safe_step stage sound past clock (Switch m v) run later may unbroken = absurd unbroken
@@ -73,50 +84,71 @@ safe_step stage sound past clock (Close server flow closed) run later may unbrok
 safe_step stage sound past clock (Retire server h at result) run later may unbroken = absurd unbroken
 safe_step stage sound past clock Sync run later may unbroken = absurd unbroken
 
-pub safety_law : (h : History) (place : ℕ) → IsRun h → At h place IsUnbrokenArrival → At h place (λ stage past clock what. IsServed stage past what)
+pub safety_law : (h : History) (place : ℕ) → IsRun h → At h place IsUnbrokenArrival
+    → At h place (λ stage past clock what. IsServed stage past what)
 safety_law = law IsUnbrokenArrival (λ stage past clock what. IsServed stage past what) safe_step
 
-packet_served : (stage : Stage) → IsSound stage → (packet : ℕ) (all : List Event) → Run stage all → IsUnbrokenPacket stage all packet → IsServedPacket stage all packet
+packet_served : (stage : Stage) → IsSound stage → (packet : ℕ) (all : List Event) → Run stage all
+    → IsUnbrokenPacket stage all packet → IsServedPacket stage all packet
 packet_served stage sound packet [] run unbroken = tt
-packet_served stage sound packet (e ∷ past) run unbroken =
-    (λ is. safe_step stage sound past e.clock.0 e.what run.1 run.0.clock run.0.may (unbroken.0 is), packet_served stage sound packet past run.1 unbroken.1)
+packet_served stage sound packet (e ∷ past) run unbroken = (
+  λ is. safe_step stage sound past e.clock.0 e.what run.1 run.0.clock run.0.may (unbroken.0 is),
+  packet_served stage
+      sound packet past run.1 unbroken.1,
+)
 
-pub served_law : (h : History) (packet : ℕ) → IsRun h → IsUnbrokenPacket h.stage (reverse h.events) packet → IsServedPacket h.stage (reverse h.events) packet
+pub served_law : (h : History) (packet : ℕ) → IsRun h → IsUnbrokenPacket h.stage (reverse h.events) packet
+    → IsServedPacket h.stage (reverse h.events) packet
 served_law h packet run unbroken = packet_served h.stage run.sound packet (reverse h.events) run.run unbroken
 
 -- RETIRED SHARDS
 
-retired_from : (local : Local) (timeout clock : ℕ) (hop : Hop) (onto : Option Onward) (s : Segment) → verdict_of local timeout clock hop onto s ≡ Drop Retired → local.retired ≡ true
+retired_from : (local : Local) (timeout clock : ℕ) (hop : Hop) (onto : Option Onward) (s : Segment)
+    → verdict_of local timeout clock hop onto s ≡ Drop Retired → local.retired ≡ true
 retired_from local timeout clock hop onto s e = grind arith
 
-late_step : (stage : Stage) → IsSound stage → (past : List Event) (clock : ℕ) (what : What) → Run stage past → last_clock past ≤ clock → MayCome stage past clock what → IsRetiredDrop stage past what → IsLate stage past clock what
+late_step : (stage : Stage) → IsSound stage → (past : List Event) (clock : ℕ) (what : What) → Run stage past
+    → last_clock past ≤ clock → MayCome stage past clock what → IsRetiredDrop stage past what
+    → IsLate stage past clock what
 late_step stage sound past clock (Arrive k Direct server (Drop Retired)) run later may dropped =
-    let ret = retired_from (local_at stage past server may.segment.flow) (timeout stage) clock Direct (onward may.label.entry Direct) may.segment (sym may.verdict_is)
+    let ret =
+    retired_from (local_at stage past server may.segment.flow) (timeout stage) clock Direct
+    (onward may.label.entry Direct) may.segment (sym may.verdict_is)
     in rw may.is_label (late stage sound past run clock k server later (Drop Retired) may ret).1
 late_step stage sound past clock _ run later may dropped = absurd dropped
 
-pub late_law : (h : History) (place : ℕ) → IsRun h → At h place (λ stage past clock what. IsRetiredDrop stage past what) → At h place IsLate
+pub late_law : (h : History) (place : ℕ) → IsRun h → At h place (λ stage past clock what. IsRetiredDrop stage past what)
+    → At h place IsLate
 late_law = law (λ stage past clock what. IsRetiredDrop stage past what) IsLate late_step
 
 -- CAUSES
 
-opening_not_forwarded : (local : Local) (timeout clock : ℕ) (onto : Option Onward) (s : Segment) → is_opening s ≡ true → is_forward (verdict_of local timeout clock Direct onto s) ≡ false
+opening_not_forwarded : (local : Local) (timeout clock : ℕ) (onto : Option Onward) (s : Segment) → is_opening s ≡ true
+    → is_forward (verdict_of local timeout clock Direct onto s) ≡ false
 opening_not_forwarded local timeout clock onto s o = grind arith
 
-opening_unsent_step : (stage : Stage) (past : List Event) (clock k : ℕ) (s : Segment) (what : What) → MayCome stage past clock what → segment_of stage k ≡ Some s → is_opening s ≡ true
+opening_unsent_step : (stage : Stage) (past : List Event) (clock k : ℕ) (s : Segment) (what : What)
+    → MayCome stage past clock what → segment_of stage k ≡ Some s → is_opening s ≡ true
     → is_sent past k Chained ≡ false → (sends what k Chained || is_sent past k Chained) ≡ false
-opening_unsent_step stage past clock k s (Steer packet m) may is opens old = or_from _ _ (steer_sends packet k m Direct Chained refl) old
+opening_unsent_step stage past clock k s (Steer packet m) may is opens old =
+    or_from _ _ (steer_sends packet k m Direct Chained refl) old
 opening_unsent_step stage past clock k s (Arrive packet hop server verdict) may is opens old =
     or_from _ _ (false_from_not (sends (Arrive packet hop server verdict) k Chained) (λ now.
     let parts = arrival_sends packet k hop Chained server verdict now
     in let eq : packet ≡ k = parts.0
     in let seg : may.segment ≡ s = same_Some _ _ (sym may.is_segment ∙ ap (λ (n : ℕ). segment_of stage n) eq ∙ is)
     in let direct : hop ≡ Direct = hop_before Direct hop Chained refl parts.2
-    in let stays : is_forward (verdict_of (local_at stage past server may.segment.flow) (timeout stage) clock Direct (onward may.label.entry hop) may.segment) ≡ false =
-    opening_not_forwarded (local_at stage past server may.segment.flow) (timeout stage) clock (onward may.label.entry hop) may.segment (rw seg opens)
+    in let stays : is_forward
+    (verdict_of (local_at stage past server may.segment.flow) (timeout stage) clock Direct (onward may.label.entry hop)
+    may.segment) ≡ false =
+    opening_not_forwarded (local_at stage past server may.segment.flow) (timeout stage) clock
+    (onward may.label.entry hop) may.segment (rw seg opens)
     in let stays' : is_forward (verdict_at stage past clock may.label hop server may.segment) ≡ false =
-    subst (λ (x : Hop). is_forward (verdict_of (local_at stage past server may.segment.flow) (timeout stage) clock x (onward may.label.entry hop) may.segment) ≡ false) (sym direct) stays
-    in let goes : is_forward (verdict_at stage past clock may.label hop server may.segment) ≡ true = rw may.verdict_is at parts.1
+    subst (λ (x : Hop). is_forward
+    (verdict_of (local_at stage past server may.segment.flow) (timeout stage) clock x (onward may.label.entry hop)
+    may.segment) ≡ false) (sym direct) stays
+    in let goes : is_forward (verdict_at stage past clock may.label hop server may.segment) ≡ true =
+    rw may.verdict_is at parts.1
     in both_ways _ stays' goes)) old
 opening_unsent_step stage past clock k s (Publish v) may is opens old = old
 opening_unsent_step stage past clock k s (Switch m v) may is opens old = old
@@ -126,27 +158,38 @@ opening_unsent_step stage past clock k s (Retire server h at result) may is open
 opening_unsent_step stage past clock k s Sync may is opens old = old
 
 -- an opening packet is not sent on
-opening_unsent : (stage : Stage) (past : List Event) (k : ℕ) (s : Segment) → Run stage past → segment_of stage k ≡ Some s → is_opening s ≡ true → is_sent past k Chained ≡ false
+opening_unsent : (stage : Stage) (past : List Event) (k : ℕ) (s : Segment) → Run stage past
+    → segment_of stage k ≡ Some s → is_opening s ≡ true → is_sent past k Chained ≡ false
 opening_unsent stage [] k s run is opens = refl
-opening_unsent stage (e ∷ past) k s run is opens = opening_unsent_step stage past e.clock.0 k s e.what run.0.may is opens (opening_unsent stage past k s run.1 is opens)
+opening_unsent stage (e ∷ past) k s run is opens =
+    opening_unsent_step stage past e.clock.0 k s e.what run.0.may is opens
+    (opening_unsent stage past k s run.1 is opens)
 
-opening_refused : (local : Local) (timeout clock : ℕ) (onto : Option Onward) (s : Segment) (verdict : Verdict) → verdict ≡ verdict_of local timeout clock Direct onto s → is_opening s ≡ true → is_refusal verdict ≡ true
+opening_refused : (local : Local) (timeout clock : ℕ) (onto : Option Onward) (s : Segment) (verdict : Verdict)
+    → verdict ≡ verdict_of local timeout clock Direct onto s → is_opening s ≡ true → is_refusal verdict ≡ true
     → ((local.retired ≡ true) × (verdict ≡ Drop Retired)) ⊎ (verdict ≡ Drop Full)
 opening_refused local timeout clock onto s verdict is opens ref = grind arith
 
-opening_caused : (stage : Stage) → IsSound stage → (past : List Event) (clock k : ℕ) (hop : Hop) (server : ServerId) (verdict : Verdict) → Run stage past → last_clock past ≤ clock
-    → (may : IsArrival stage past clock k hop server verdict) → is_opening may.segment ≡ true → is_refusal verdict ≡ true → is_some (opening_cause verdict may.label.version.0 (newest past)) ≡ true
-opening_caused stage sound past clock k Chained server verdict run later may opens ref = absurd (both_ways _ (opening_unsent stage past k may.segment run may.is_segment opens) may.sent)
+opening_caused : (stage : Stage) → IsSound stage
+    → (past : List Event) (clock k : ℕ) (hop : Hop) (server : ServerId) (verdict : Verdict) → Run stage past
+    → last_clock past ≤ clock
+    → (may : IsArrival stage past clock k hop server verdict) → is_opening may.segment ≡ true
+    → is_refusal verdict ≡ true → is_some (opening_cause verdict may.label.version.0 (newest past)) ≡ true
+opening_caused stage sound past clock k Chained server verdict run later may opens ref =
+    absurd (both_ways _ (opening_unsent stage past k may.segment run may.is_segment opens) may.sent)
 opening_caused stage sound past clock k Direct server verdict run later may opens ref =
-    elim (opening_refused (local_at stage past server may.segment.flow) (timeout stage) clock (onward may.label.entry Direct) may.segment verdict may.verdict_is opens ref) [
+    elim (opening_refused (local_at stage past server may.segment.flow) (timeout stage) clock
+    (onward may.label.entry Direct) may.segment verdict may.verdict_is opens ref) [
       | inl gone ↦
-          let old : may.label.version.0 < newest past = (late stage sound past run clock k server later verdict may gone.0).0
+          let old : may.label.version.0 < newest past =
+          (late stage sound past run clock k server later verdict may gone.0).0
           in let t : ltb may.label.version.0 (newest past) ≡ true = lt-ltb _ _ old
           in rw (gone.1, t) refl
       | inr full ↦ rw full refl
     ]
 
-served_no_fault : (a : Accepted) (hop : Hop) (server : ServerId) (verdict : Verdict) → IsServedBy (Some a) hop server verdict → is_fault verdict (Some a) server ≡ false
+served_no_fault : (a : Accepted) (hop : Hop) (server : ServerId) (verdict : Verdict)
+    → IsServedBy (Some a) hop server verdict → is_fault verdict (Some a) server ≡ false
 served_no_fault a hop server verdict (inl here) = rw here.1 (process_no_fault verdict here.0) where
   process_no_fault : (verdict : Verdict) → is_process verdict ≡ true → is_fault verdict (Some a) a.server ≡ false
   process_no_fault verdict p = grind (arith, nat_tests)
@@ -156,23 +199,37 @@ some_or_none : (o : Option Cause) → (o ≡ None → ⊥) → is_some o ≡ tru
 some_or_none None no_way = absurd (no_way refl)
 some_or_none (Some c) no_way = refl
 
-plain_caused : (stage : Stage) → IsSound stage → (past : List Event) (clock k : ℕ) (hop : Hop) (server : ServerId) (verdict : Verdict) → Run stage past → last_clock past ≤ clock
-    → (may : IsArrival stage past clock k hop server verdict) → is_opening may.segment ≡ false → (o : Option Accepted) → owner stage past k ≡ o → is_fault verdict o server ≡ true
+plain_caused : (stage : Stage) → IsSound stage
+    → (past : List Event) (clock k : ℕ) (hop : Hop) (server : ServerId) (verdict : Verdict) → Run stage past
+    → last_clock past ≤ clock
+    → (may : IsArrival stage past clock k hop server verdict) → is_opening may.segment ≡ false → (o : Option Accepted)
+    → owner stage past k ≡ o → is_fault verdict o server ≡ true
     → is_some (first_broken stage past clock may.label may.segment.flow server o) ≡ true
 plain_caused stage sound past clock k hop server verdict run later may plain None own fault = refl
 plain_caused stage sound past clock k hop server verdict run later may plain (Some a) own fault =
     some_or_none (first_broken stage past clock may.label may.segment.flow server (Some a)) (λ unbroken.
-    both_ways _ (served_no_fault a hop server verdict (safe stage sound past run clock k server later a hop verdict may plain own unbroken)) fault)
+    both_ways _
+    (served_no_fault a hop server verdict
+    (safe stage sound past run clock k server later a hop verdict may plain own unbroken)) fault)
 
-cause_step : (stage : Stage) → IsSound stage → (past : List Event) (clock : ℕ) (what : What) → Run stage past → last_clock past ≤ clock → MayCome stage past clock what → IsFault stage past what → is_some (cause stage past clock what) ≡ true
+cause_step : (stage : Stage) → IsSound stage → (past : List Event) (clock : ℕ) (what : What) → Run stage past
+    → last_clock past ≤ clock → MayCome stage past clock what → IsFault stage past what
+    → is_some (cause stage past clock what) ≡ true
 cause_step stage sound past clock (Arrive k hop server verdict) run later may fault =
     rw (may.is_segment, may.is_label) (elim (cases_Bool (is_opening may.segment)) [
-      | inl opens ↦ rw opens (opening_caused stage sound past clock k hop server verdict run later may opens (rw (may.is_segment, opens) at fault))
+      | inl opens ↦ rw opens
+          (opening_caused stage sound past clock k hop server verdict run later may opens
+          (rw (may.is_segment, opens) at fault))
       | inr plain ↦
           let fault' : is_fault verdict (owner stage past k) server ≡ true = rw (may.is_segment, plain) at fault
-          in rw (plain, fault') (plain_caused stage sound past clock k hop server verdict run later may plain (owner stage past k) refl fault')
+          in rw (plain, fault')
+          (plain_caused stage sound past clock k hop server verdict run later may plain (owner stage past k) refl
+          fault')
     ])
 cause_step stage sound past clock _ run later may fault = absurd fault
 
-pub cause_law : (h : History) (place : ℕ) → IsRun h → At h place (λ stage past clock what. IsFault stage past what) → At h place (λ stage past clock what. is_some (cause stage past clock what) ≡ true)
-cause_law = law (λ stage past clock what. IsFault stage past what) (λ stage past clock what. is_some (cause stage past clock what) ≡ true) cause_step
+pub cause_law : (h : History) (place : ℕ) → IsRun h → At h place (λ stage past clock what. IsFault stage past what)
+    → At h place (λ stage past clock what. is_some (cause stage past clock what) ≡ true)
+cause_law =
+    law (λ stage past clock what. IsFault stage past what)
+    (λ stage past clock what. is_some (cause stage past clock what) ≡ true) cause_step

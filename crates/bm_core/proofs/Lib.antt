@@ -10,6 +10,7 @@ pub mod Tagged
 pub mod Determined
 pub mod Books
 pub mod Logs
+pub mod Moments
 pub mod Listed
 pub mod Forwards
 pub mod Stops

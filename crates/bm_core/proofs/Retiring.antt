@@ -1,5 +1,6 @@
 -- The answer to a wish to retire, as a function.
-use Rattle.std.proofs.Common.{◌≡◌, ℕ, zero, suc, ◌<◌, max, Bool, true, false, eqb, inl, inr, List, [], ◌∷◌, Option, Some, None, is_some, arith}
+use Rattle.std.proofs.Common.{◌≡◌, ℕ, zero, suc, ◌<◌, max, Bool, true, false, eqb, inl, inr, List, [], ◌∷◌, Option}
+use Rattle.std.proofs.Common.{Some, None, is_some, arith}
 use Rattle.std.specs.Prelude.{slice_get, if◌then◌else◌}
 use Rattle.std.proofs.lemmas.Bool.{cases_Bool, cases_lt, and_parts, or_cases, eqb-true, both_ways}
 use Rattle.bm_base.specs.declared.ids.ServerId.{ServerId}
@@ -27,12 +28,14 @@ target_bound (m ∷ moves) b is = elim (cases_Bool (eqb m.bucket b)) [
   | inr other ↦ let old = target_bound moves b (rw other at is) in omega arith
 ]
 
-brings_bound : (changes : List Change) (v b : ℕ) → is_some (brings (slice_get changes v) b) ≡ true → b < changes_bound changes
+brings_bound : (changes : List Change) (v b : ℕ) → is_some (brings (slice_get changes v) b) ≡ true
+    → b < changes_bound changes
 brings_bound [] v b is = absurd (cc)
 brings_bound (c ∷ changes) zero b is = let h = target_bound c.moves b is in omega arith
 brings_bound (c ∷ changes) (suc v) b is = let h = brings_bound changes v b is in omega arith
 
-late_bound : (plan : Planned) (timeout n : ℕ) (s : ServerId) (at b : ℕ) → leaves_late plan timeout n s at b ≡ true → b < changes_bound plan.changes
+late_bound : (plan : Planned) (timeout n : ℕ) (s : ServerId) (at b : ℕ) → leaves_late plan timeout n s at b ≡ true
+    → b < changes_bound plan.changes
 late_bound plan timeout zero s at b is = absurd (cc)
 late_bound plan timeout (suc n) s at b is = elim (or_cases _ (leaves_late plan timeout n s at b) is) [
   | inl now ↦ brings_bound plan.changes n b (and_parts _ _ (and_parts _ _ now).0).0
@@ -47,14 +50,19 @@ or_this None test b = if test then Some b else None
 -- the least bucket below the number that left too late
 abbrev pub least_late : Planned → ℕ → ℕ → ServerId → ℕ → ℕ → Option ℕ
 least_late plan timeout n s at zero = None
-least_late plan timeout n s at (suc b) = or_this (least_late plan timeout n s at b) (leaves_late plan timeout n s at b) b
+least_late plan timeout n s at (suc b) =
+    or_this (least_late plan timeout n s at b) (leaves_late plan timeout n s at b) b
 
 -- what the least such bucket is, if there is one
 abbrev pub IsLeastLate : Planned → ℕ → ℕ → ServerId → ℕ → ℕ → Option ℕ → Type 0
 IsLeastLate plan timeout n s at top None = (b : ℕ) → b < top → leaves_late plan timeout n s at b ≡ false
-IsLeastLate plan timeout n s at top (Some b) = (leaves_late plan timeout n s at b ≡ true) × ((other : ℕ) → other < b → leaves_late plan timeout n s at other ≡ false)
+IsLeastLate plan timeout n s at top (Some b) =
+    (leaves_late plan timeout n s at b ≡ true)
+    × ((other : ℕ) → other < b → leaves_late plan timeout n s at other ≡ false)
 
-next_least : (plan : Planned) (timeout n : ℕ) (s : ServerId) (at b : ℕ) (o : Option ℕ) → IsLeastLate plan timeout n s at b o → IsLeastLate plan timeout n s at (suc b) (or_this o (leaves_late plan timeout n s at b) b)
+next_least : (plan : Planned) (timeout n : ℕ) (s : ServerId) (at b : ℕ) (o : Option ℕ)
+    → IsLeastLate plan timeout n s at b o
+    → IsLeastLate plan timeout n s at (suc b) (or_this o (leaves_late plan timeout n s at b) b)
 next_least plan timeout n s at b (Some x) is = is
 next_least plan timeout n s at b None is = elim (cases_Bool (leaves_late plan timeout n s at b)) [
   | inl late ↦ rw late (late, is)
@@ -64,7 +72,8 @@ next_least plan timeout n s at b None is = elim (cases_Bool (leaves_late plan ti
   ])
 ]
 
-least_is_late : (plan : Planned) (timeout n : ℕ) (s : ServerId) (at top : ℕ) → IsLeastLate plan timeout n s at top (least_late plan timeout n s at top)
+least_is_late : (plan : Planned) (timeout n : ℕ) (s : ServerId) (at top : ℕ)
+    → IsLeastLate plan timeout n s at top (least_late plan timeout n s at top)
 least_is_late plan timeout n s at zero = λ b below. absurd (omega arith)
 least_is_late plan timeout n s at (suc b) = next_least plan timeout n s at b _ (least_is_late plan timeout n s at b)
 
@@ -74,9 +83,11 @@ by_least (Some b) = TooEarly b
 
 -- the answer to the wish to retire the server at this moment, when n changes are published
 abbrev pub retirement_of : Planned → ℕ → ℕ → ServerId → ℕ → Retirement
-retirement_of plan timeout n s at = if is_drained plan n s then by_least (least_late plan timeout n s at (changes_bound plan.changes)) else NotDrained
+retirement_of plan timeout n s at =
+    if is_drained plan n s then by_least (least_late plan timeout n s at (changes_bound plan.changes)) else NotDrained
 
-drained_answer : (plan : Planned) (timeout n : ℕ) (s : ServerId) (at : ℕ) (o : Option ℕ) → is_drained plan n s ≡ true → IsLeastLate plan timeout n s at (changes_bound plan.changes) o → IsRetirement plan timeout n s at (by_least o)
+drained_answer : (plan : Planned) (timeout n : ℕ) (s : ServerId) (at : ℕ) (o : Option ℕ) → is_drained plan n s ≡ true
+    → IsLeastLate plan timeout n s at (changes_bound plan.changes) o → IsRetirement plan timeout n s at (by_least o)
 drained_answer plan timeout n s at (Some b) drained is = (drained, is.0, is.1)
 drained_answer plan timeout n s at None drained is = (
   drained,
@@ -86,8 +97,11 @@ drained_answer plan timeout n s at None drained is = (
   ],
 )
 
-pub retirement_is : (plan : Planned) (timeout n : ℕ) (s : ServerId) (at : ℕ) → IsRetirement plan timeout n s at (retirement_of plan timeout n s at)
+pub retirement_is : (plan : Planned) (timeout n : ℕ) (s : ServerId) (at : ℕ)
+    → IsRetirement plan timeout n s at (retirement_of plan timeout n s at)
 retirement_is plan timeout n s at = elim (cases_Bool (is_drained plan n s)) [
-  | inl drained ↦ rw drained (drained_answer plan timeout n s at (least_late plan timeout n s at (changes_bound plan.changes)) drained (least_is_late plan timeout n s at (changes_bound plan.changes)))
+  | inl drained ↦ rw drained
+      (drained_answer plan timeout n s at (least_late plan timeout n s at (changes_bound plan.changes)) drained
+      (least_is_late plan timeout n s at (changes_bound plan.changes)))
   | inr stays ↦ rw stays stays
 ]

@@ -1,5 +1,6 @@
 -- Each copy that was sent has a server to arrive at.
-use Rattle.std.proofs.Common.{◌≡◌, ℕ, true, inl, inr, List, [], ◌∷◌, Option, Some, None, is_some, refl, sym, ◌∙◌, ap, subst, eqb, arith}
+use Rattle.std.proofs.Common.{◌≡◌, ℕ, true, inl, inr, List, [], ◌∷◌, Option, Some, None, is_some, refl, sym, ◌∙◌, ap}
+use Rattle.std.proofs.Common.{subst, eqb, arith}
 use Rattle.std.proofs.lemmas.Bool.{or_cases, eqb-true}
 use Rattle.std.proofs.lemmas.Bool.Decides.{nat_tests}
 use Rattle.bm_base.specs.declared.ids.ServerId.{ServerId}
@@ -15,7 +16,8 @@ use Rattle.bm_core.specs.declared.events.What.{What}
 use Rattle.bm_core.specs.declared.events.What.TheVariants.{Publish, Switch, Steer, Lose, Arrive, Close, Retire, Sync}
 use Rattle.bm_core.specs.declared.events.Event.{Event}
 use Rattle.bm_core.specs.declared.events.Stage.{Stage}
-use Rattle.bm_core.specs.Past.{segment_of, timeout, labelled, label_after, label_of, sends, is_sent, is_forward, hop_after}
+use Rattle.bm_core.specs.Past.{segment_of, timeout, labelled, label_after, label_of, sends, is_sent, is_forward}
+use Rattle.bm_core.specs.Past.{hop_after}
 use Rattle.bm_core.specs.Verdicts.{onward_with, onward, local_at, verdict_at}
 use Rattle.bm_core.specs.Runs.{MayCome, IsStep, Run}
 use Rattle.bm_core.proofs.Forwards.{forward_onward}
@@ -23,7 +25,7 @@ use Rattle.bm_core.proofs.Pasts.{label_stays, arrival_sends}
 use Rattle.bm_core.proofs.Stepping.{AllSent, wire_sent}
 use Rattle.bm_core.specs.declared.schedule.Underway.{Underway}
 use Rattle.bm_core.specs.Schedule.{wire}
-use Rattle.bm_base.specs.declared.receive.Fate.{Fate}
+use Rattle.bm_base.specs.declared.fate.Fate.{Fate}
 
 -- a copy of the packet with this hop has a segment, a label, and a server to arrive at
 pub record HasStop (stage : Stage) (past : List Event) (k : ℕ) (hop : Hop) : Type 0 where
@@ -34,20 +36,26 @@ pub record HasStop (stage : Stage) (past : List Event) (k : ℕ) (hop : Hop) : T
   pub server : ServerId
   pub place : arrives_at label.entry hop ≡ Some server
 
-steered_stop : (stage : Stage) (past : List Event) (e : Event) (m : MuxId) (k : ℕ) (o : Option Segment) → segment_of stage k ≡ o → is_some o ≡ true → label_of stage (e ∷ past) k ≡ labelled stage past m o → HasStop stage (e ∷ past) k Direct
+steered_stop : (stage : Stage) (past : List Event) (e : Event) (m : MuxId) (k : ℕ) (o : Option Segment)
+    → segment_of stage k ≡ o → is_some o ≡ true → label_of stage (e ∷ past) k ≡ labelled stage past m o
+    → HasStop stage (e ∷ past) k Direct
 steered_stop stage past e m k None is there l = absurd (cc)
-steered_stop stage past e m k (Some s) is there l = record { segment = s; is_segment = is; label = _; is_label = l; server = _; place = refl }
+steered_stop stage past e m k (Some s) is there l =
+    record { segment = s; is_segment = is; label = _; is_label = l; server = _; place = refl }
 
-onward_stop : (stamp : ℕ) (prev : Option ServerId) → is_some (onward_with stamp prev) ≡ true → (server : ServerId) × (prev ≡ Some server)
+onward_stop : (stamp : ℕ) (prev : Option ServerId) → is_some (onward_with stamp prev) ≡ true → (server : ServerId)
+    × (prev ≡ Some server)
 onward_stop stamp None e = absurd (cc)
 onward_stop stamp (Some s) e = (s, refl)
 
-next_stop : (entry : Entry) (came next : Hop) → is_some (onward entry came) ≡ true → hop_after came ≡ Some next → (server : ServerId) × (arrives_at entry next ≡ Some server)
+next_stop : (entry : Entry) (came next : Hop) → is_some (onward entry came) ≡ true → hop_after came ≡ Some next
+    → (server : ServerId) × (arrives_at entry next ≡ Some server)
 next_stop entry Chained next is h = absurd (cc)
 next_stop entry Direct Direct is h = absurd (cc)
 next_stop entry Direct Chained is h = onward_stop entry.stamp.0 entry.prev is
 
-stop_stays : (stage : Stage) (past : List Event) (e : Event) (k : ℕ) (hop : Hop) → IsStep stage past e → HasStop stage past k hop → HasStop stage (e ∷ past) k hop
+stop_stays : (stage : Stage) (past : List Event) (e : Event) (k : ℕ) (hop : Hop) → IsStep stage past e
+    → HasStop stage past k hop → HasStop stage (e ∷ past) k hop
 stop_stays stage past e k hop step s = record {
   segment = s.segment;
   is_segment = s.is_segment;
@@ -57,21 +65,30 @@ stop_stays stage past e k hop step s = record {
   place = s.place;
 }
 
-steer_sent : (packet k : ℕ) (m : MuxId) (hop : Hop) → sends (Steer packet m) k hop ≡ true → (eqb packet k ≡ true) × (hop ≡ Direct)
+steer_sent : (packet k : ℕ) (m : MuxId) (hop : Hop) → sends (Steer packet m) k hop ≡ true → (eqb packet k ≡ true)
+    × (hop ≡ Direct)
 steer_sent packet k m hop e = grind (arith, nat_tests)
 
-stop_sent : (stage : Stage) (past : List Event) (e : Event) (k : ℕ) (hop : Hop) → IsStep stage past e → (what : What) → e.what ≡ what → MayCome stage past e.clock.0 what → sends what k hop ≡ true → HasStop stage (e ∷ past) k hop
+stop_sent : (stage : Stage) (past : List Event) (e : Event) (k : ℕ) (hop : Hop) → IsStep stage past e → (what : What)
+    → e.what ≡ what → MayCome stage past e.clock.0 what → sends what k hop ≡ true → HasStop stage (e ∷ past) k hop
 stop_sent stage past e k hop step (Steer packet m) is may sent =
     let parts = steer_sent packet k m hop sent
     in let same : packet ≡ k = eqb-true packet k parts.0
-    in let there : is_some (segment_of stage k) ≡ true = subst (λ (n : ℕ). is_some (segment_of stage n) ≡ true) same may.2
-    in let new : label_after stage past (Steer packet m) k (label_of stage past k) ≡ labelled stage past m (segment_of stage k) = rw parts.0 refl
-    in let label : label_of stage (e ∷ past) k ≡ labelled stage past m (segment_of stage k) = ap (λ (w : What). label_after stage past w k (label_of stage past k)) is ∙ new
-    in subst (λ (h : Hop). HasStop stage (e ∷ past) k h) (sym parts.1) (steered_stop stage past e m k (segment_of stage k) refl there label)
+    in let there : is_some (segment_of stage k) ≡ true =
+    subst (λ (n : ℕ). is_some (segment_of stage n) ≡ true) same may.2
+    in let new : label_after stage past (Steer packet m) k (label_of stage past k)
+    ≡ labelled stage past m (segment_of stage k) = rw parts.0 refl
+    in let label : label_of stage (e ∷ past) k ≡ labelled stage past m (segment_of stage k) =
+    ap (λ (w : What). label_after stage past w k (label_of stage past k)) is ∙ new
+    in subst (λ (h : Hop). HasStop stage (e ∷ past) k h) (sym parts.1)
+    (steered_stop stage past e m k (segment_of stage k) refl there label)
 stop_sent stage past e k hop step (Arrive packet came server verdict) is may sent =
     let parts = arrival_sends packet k came hop server verdict sent
-    in let goes : is_forward (verdict_at stage past e.clock.0 may.label came server may.segment) ≡ true = subst (λ (v : Verdict). is_forward v ≡ true) may.verdict_is parts.1
-    in let onto : is_some (onward may.label.entry came) ≡ true = forward_onward (local_at stage past server may.segment.flow) (timeout stage) e.clock.0 came (onward may.label.entry came) may.segment goes
+    in let goes : is_forward (verdict_at stage past e.clock.0 may.label came server may.segment) ≡ true =
+    subst (λ (v : Verdict). is_forward v ≡ true) may.verdict_is parts.1
+    in let onto : is_some (onward may.label.entry came) ≡ true =
+    forward_onward (local_at stage past server may.segment.flow) (timeout stage) e.clock.0 came
+    (onward may.label.entry came) may.segment goes
     in let there = next_stop may.label.entry came hop onto parts.2
     in subst (λ (n : ℕ). HasStop stage (e ∷ past) n hop) parts.0 (record {
       segment = may.segment;
@@ -89,7 +106,8 @@ stop_sent stage past e k hop step (Retire server h at result) is may sent = absu
 stop_sent stage past e k hop step Sync is may sent = absurd (cc)
 
 -- each copy that was sent has a server to arrive at
-pub sent_stop : (stage : Stage) (past : List Event) → Run stage past → (k : ℕ) (hop : Hop) → is_sent past k hop ≡ true → HasStop stage past k hop
+pub sent_stop : (stage : Stage) (past : List Event) → Run stage past → (k : ℕ) (hop : Hop) → is_sent past k hop ≡ true
+    → HasStop stage past k hop
 sent_stop stage [] run k hop e = absurd (cc)
 sent_stop stage (x ∷ past) run k hop e = elim (or_cases (sends x.what k hop) (is_sent past k hop) e) [
   | inl now ↦ stop_sent stage past x k hop run.0 x.what refl run.0.may now
@@ -97,7 +115,8 @@ sent_stop stage (x ∷ past) run k hop e = elim (or_cases (sends x.what k hop) (
 ]
 
 -- the first copy under way has a server to arrive at
-pub first_stop : (fates : List Fate) (stage : Stage) (past : List Event) (u : Underway) (w : List Underway) → Run stage past → wire fates past ≡ u ∷ w → HasStop stage past u.packet u.hop
+pub first_stop : (fates : List Fate) (stage : Stage) (past : List Event) (u : Underway) (w : List Underway)
+    → Run stage past → wire fates past ≡ u ∷ w → HasStop stage past u.packet u.hop
 first_stop fates stage past u w run is =
     let all : AllSent past (u ∷ w) = subst (λ (v : List Underway). AllSent past v) is (wire_sent fates past)
     in sent_stop stage past run u.packet u.hop all.0

@@ -21,9 +21,10 @@ use Rattle.bm_core.specs.declared.events.Cause.{Cause}
 use Rattle.bm_core.specs.declared.events.Event.{Event}
 use Rattle.bm_core.specs.declared.events.Stage.{Stage}
 use Rattle.bm_core.specs.Causes.{is_holding, is_elsewhere, is_late, first_broken, cause}
-use Rattle.bm_core.specs.Rules.{mux_of, fate_of}
+use Rattle.bm_core.specs.Rules.{setting_mux, setting_fate}
 use Rattle.bm_table.specs.Tables.{same_server, moves}
-use Rattle.bm_core.specs.declared.events.Cause.TheVariants.{NeverAccepted, NotHeld, StaleMux, MovedTwice, ChainLate, SynElsewhere}
+use Rattle.bm_core.specs.declared.events.Cause.TheVariants.{NeverAccepted, NotHeld, StaleMux, MovedTwice, ChainLate}
+use Rattle.bm_core.specs.declared.events.Cause.TheVariants.{SynElsewhere}
 use Rattle.bm_core.specs.Past.{segment_of, bucket, label_of, held, Accepted, owner}
 use Rattle.bm_core.proofs.Playing.{play}
 
@@ -61,7 +62,12 @@ change_at moment kind moves = record { moment = record { 0 = moment }; kind = ki
 
 abbrev pub stage_of : Setting → List Change → List Command → List Record → Stage
 stage_of setting changes commands records = record {
-  script = record { setting = setting; plan = record { buckets = setting.buckets; servers = setting.servers; changes = changes }; commands = commands };
+  script = record {
+    setting = setting;
+    plan =
+        record { buckets = setting.buckets; servers = setting.servers; changes = changes };
+    commands = commands;
+  };
   capture = record { records = records; cut = None };
 }
 
@@ -89,7 +95,7 @@ retire clock s h moment result = at clock (Retire (server s) h (record { 0 = mom
 
 -- the first events of the stage's replay, the newest first
 unfoldable pub replayed : Stage → ℕ → List Event
-replayed stage n = play (mux_of stage.script.setting) (fate_of stage.script.setting) stage n []
+replayed stage n = play (setting_mux stage.script.setting) (setting_fate stage.script.setting) stage n []
 
 -- the causes, one for each event
 abbrev pub causes_of : Stage → List Event → List (Option Cause)
@@ -116,7 +122,9 @@ first_cause [] = None
 first_cause (c ∷ causes) = Some c
 
 -- the cause is the first of them
-pub broken_first : (stage : Stage) (past : List Event) (clock : ℕ) (label : Label) (f : Flow) (s : ServerId) (a : Option Accepted) → first_cause (broken stage past clock label f s a) ≡ first_broken stage past clock label f s a
+pub broken_first : (stage : Stage) (past : List Event) (clock : ℕ) (label : Label) (f : Flow) (s : ServerId)
+    (a : Option Accepted)
+    → first_cause (broken stage past clock label f s a) ≡ first_broken stage past clock label f s a
 broken_first stage past clock label f s None = refl
 broken_first stage past clock label f s (Some a) = grind arith
 
@@ -125,7 +133,8 @@ broken_by stage past clock s a (Some segment) (Some label) = broken stage past c
 broken_by stage past clock s a _ _ = []
 
 abbrev pub broken_at : Stage → List Event → ℕ → What → List Cause
-broken_at stage past clock (Arrive k hop s verdict) = broken_by stage past clock s (owner stage past k) (segment_of stage k) (label_of stage past k)
+broken_at stage past clock (Arrive k hop s verdict) =
+    broken_by stage past clock s (owner stage past k) (segment_of stage k) (label_of stage past k)
 broken_at stage past clock _ = []
 
 -- each premise that is broken at the newest event

@@ -1,12 +1,13 @@
--- A threaded run of a connection whose bucket moves: the mux looks at the board before the change and not again, so it labels both packets
--- with the opening table.
+-- A threaded run of a connection whose bucket moves: the mux looks at the board before the change and not again, so it
+-- labels both packets with the opening table.
 use Rattle.std.proofs.Common.{zero, suc, inl, List, [], ◌∷◌, None, refl, arith}
 use Rattle.bm_base.specs.declared.label.Hop.TheVariants.{Direct}
 use Rattle.bm_base.specs.declared.label.Label.{Label}
 use Rattle.bm_base.specs.declared.receive.Taken.TheVariants.{Advance}
 use Rattle.bm_base.specs.Segments.{has_flag, is_opening}
 use Rattle.bm_hash.specs.Buckets.{flow_octets, fnv_step, fnv_1a, flow_hash}
-use Rattle.bm_seq.specs.Receivers.{acceptable, distance, taken_reset, comes_in_turn, taken, after_taken, opened, receiver_after}
+use Rattle.bm_seq.specs.Receivers.{acceptable, distance, taken_reset, comes_in_turn, taken, after_taken, opened}
+use Rattle.bm_seq.specs.Receivers.{receiver_after}
 use Rattle.bm_core.specs.declared.events.Event.{Event}
 use Rattle.bm_core.specs.declared.events.Verdict.TheVariants.{Accept, Process}
 use Rattle.bm_core.specs.Runs.{Run}
@@ -26,15 +27,31 @@ threaded =
     ∷ []
 
 abbrev opening_label : Label
-opening_label = record { mux = record { 0 = 0 }; version = record { 0 = 0 }; entry = record { cur = server 1; prev = None; stamp = record { 0 = 0 } } }
+opening_label =
+    record {
+      mux = record { 0 = 0 };
+      version = record { 0 = 0 };
+      entry =
+          record { cur = server 1; prev = None; stamp = record { 0 = 0 } };
+    }
 
 threaded_run : Run moved threaded
-unfolding has_flag is_opening flow_octets fnv_step fnv_1a flow_hash acceptable distance taken_reset comes_in_turn taken after_taken opened receiver_after
+unfolding has_flag is_opening flow_octets fnv_step fnv_1a flow_hash acceptable distance taken_reset comes_in_turn taken
+    after_taken opened receiver_after
 threaded_run = (
   record {
     clock = omega arith;
     own = omega arith;
-    may = record { segment = data_of 1000 101 10; is_segment = refl; label = opening_label; is_label = refl; sent = refl; place = refl; verdict_is = refl };
+    may = record {
+      segment = data_of 1000 101 10;
+      is_segment = refl;
+      label = opening_label;
+      is_label = refl;
+      sent =
+          refl;
+      place = refl;
+      verdict_is = refl;
+    };
   },
   (
     record { clock = omega arith; own = omega arith; may = (omega arith, refl, refl) },
@@ -44,7 +61,16 @@ threaded_run = (
         record {
           clock = omega arith;
           own = tt;
-          may = record { segment = syn 1000 100; is_segment = refl; label = opening_label; is_label = refl; sent = refl; place = refl; verdict_is = refl };
+          may = record {
+            segment = syn 1000 100;
+            is_segment = refl;
+            label = opening_label;
+            is_label = refl;
+            sent =
+                refl;
+            place = refl;
+            verdict_is = refl;
+          };
         },
         (
           record { clock = omega arith; own = omega arith; may = (omega arith, refl, refl) },
@@ -61,7 +87,8 @@ looked (suc m) below = absurd (omega arith)
 
 -- it follows the script, with one copy of each sending and no delay
 threaded_follows : FollowsInThreads [] moved threaded
-unfolding has_flag is_opening flow_octets fnv_step fnv_1a flow_hash acceptable distance taken_reset comes_in_turn taken after_taken opened receiver_after
+unfolding has_flag is_opening flow_octets fnv_step fnv_1a flow_hash acceptable distance taken_reset comes_in_turn taken
+    after_taken opened receiver_after
 threaded_follows = (
   (
     record { command = tt; phase = refl; timed = (refl, inl (refl, refl)) },

@@ -1,13 +1,17 @@
--- Accounts (docs/DEFINITIONS.md): each steerable packet is steered once, each copy that was sent arrives or is lost, and each command is carried out.
+-- Accounts (docs/DEFINITIONS.md): each steerable packet is steered once, each copy that was sent
+-- arrives or is lost, and each command is carried out.
 -- A past has its newest event first, and so have the fates, one for each event.
-use Rattle.std.specs.Prelude.{◌≡◌, ℕ, suc, ◌+◌, ◌<◌, ◌≤◌, Bool, true, false, ◌&&◌, ◌==◌, if◌then◌else◌, List, [], ◌∷◌, length, IfSome, is_some}
+use Rattle.std.specs.Prelude.{◌≡◌, ℕ, suc, ◌+◌, ◌<◌, ◌≤◌, Bool, true, false, ◌&&◌, ◌==◌}
+use Rattle.std.specs.Prelude.{if◌then◌else◌, List, [], ◌∷◌, length, IfSome, is_some}
 use Rattle.bm_base.specs.declared.ids.ServerId.{ServerId}
 use Rattle.bm_base.specs.declared.flow.Flow.{Flow}
 use Rattle.bm_base.specs.declared.label.Hop.{Hop}
-use Rattle.bm_base.specs.declared.receive.Fate.{Fate}
+use Rattle.bm_base.specs.declared.fate.Fate.{Fate}
 use Rattle.bm_base.specs.Segments.{same_flow}
 use Rattle.bm_table.specs.declared.script.Command.{Command}
-use Rattle.bm_table.specs.declared.script.Command.TheVariants.{Close as CloseCommand, Retire as RetireCommand, Sync as SyncCommand}
+use Rattle.bm_table.specs.declared.script.Command.TheVariants.{Close as CloseCommand}
+use Rattle.bm_table.specs.declared.script.Command.TheVariants.{Retire as RetireCommand}
+use Rattle.bm_table.specs.declared.script.Command.TheVariants.{Sync as SyncCommand}
 use Rattle.bm_table.specs.Tables.{same_server}
 use Rattle.bm_core.specs.declared.events.What.{What}
 use Rattle.bm_core.specs.declared.events.What.TheVariants.{Steer, Lose, Arrive, Close, Retire, Sync}
@@ -51,11 +55,13 @@ abbrev pub IsRouted : Routes → Stage → What → Type 0
 IsRouted R stage (Steer k m) = IfSome (segment_of stage k) (λ s. R k s.flow m.0)
 IsRouted R stage _ = Unit {0}
 
--- each Steer is at a mux that the route may give, and each sending has a fate that the rule may give
+-- each Steer is at a mux that the route may give, and each sending has a fate that the rule may
+-- give
 abbrev pub AreAnswered : Routes → Rules → Stage → List Fate → List Event → Type 0
 AreAnswered R F stage fates [] = Unit {0}
 AreAnswered R F stage fates (e ∷ past) =
-    (IsRouted R stage e.what × IfSome (sending_of e.what) (λ s. F s.packet s.hop (fate_now fates))) × AreAnswered R F stage (before fates) past
+    (IsRouted R stage e.what × IfSome (sending_of e.what) (λ s. F s.packet s.hop (fate_now fates)))
+    × AreAnswered R F stage (before fates) past
 
 -- COPIES
 
@@ -77,18 +83,24 @@ loses _ k h = false
 -- the copies of all sendings of the packet with this hop
 abbrev pub sent_copies : List Fate → List Event → ℕ → Hop → ℕ
 sent_copies fates [] k hop = 0
-sent_copies fates (e ∷ past) k hop = (if sends e.what k hop then (fate_now fates).copies else 0) + sent_copies (before fates) past k hop
+sent_copies fates (e ∷ past) k hop =
+    (if sends e.what k hop then (fate_now fates).copies else 0) + sent_copies (before fates) past k
+    hop
 
 -- up to each place no more copies have come than were sent
 abbrev pub AreSent : List Fate → List Event → Type 0
 AreSent fates [] = Unit {0}
-AreSent fates (e ∷ past) = ((k : ℕ) (hop : Hop) → counts (e ∷ past) (λ what. arrives what k hop) ≤ sent_copies (before fates) past k hop) × AreSent (before fates) past
+AreSent fates (e ∷ past) =
+    ((k : ℕ) (hop : Hop)
+    → counts (e ∷ past) (λ what. arrives what k hop) ≤ sent_copies (before fates) past k hop)
+    × AreSent (before fates) past
 
 -- the sendings at this clock whose fate has no copies
 abbrev pub copyless_at : List Fate → List Event → ℕ → Hop → ℕ → ℕ
 copyless_at fates [] k hop clock = 0
 copyless_at fates (e ∷ past) k hop clock =
-    (if sends e.what k hop && ((fate_now fates).copies == 0 && e.clock.0 == clock) then 1 else 0) + copyless_at (before fates) past k hop clock
+    (if sends e.what k hop && ((fate_now fates).copies == 0 && e.clock.0 == clock) then 1 else 0)
+    + copyless_at (before fates) past k hop clock
 
 -- how many Loses of the packet and hop come at this clock
 abbrev pub lost_at : List Event → ℕ → Hop → ℕ → ℕ
@@ -129,22 +141,31 @@ wants_sync _ = false
 -- each command has its events, and there are no others
 pub record AreCarriedOut (stage : Stage) (all : List Event) : Type 0 where
   pub changes : newest all ≡ length stage.script.plan.changes
-  pub closes : (s : ServerId) (f : Flow) → counts all (λ what. closes_flow what s f) ≡ count_of (λ c. wants_close c s f) stage.script.commands
-  pub retires : (s : ServerId) (h : ℕ) → h < stage.script.setting.shards → counts all (λ what. retires_shard what s h) ≡ count_of (λ c. wants_retire c s) stage.script.commands
-  pub no_other : (s : ServerId) (h : ℕ) → stage.script.setting.shards ≤ h → counts all (λ what. retires_shard what s h) ≡ 0
+  pub closes : (s : ServerId) (f : Flow)
+      → counts all (λ what. closes_flow what s f)
+      ≡ count_of (λ c. wants_close c s f) stage.script.commands
+  pub retires : (s : ServerId) (h : ℕ) → h < stage.script.setting.shards
+      → counts all (λ what. retires_shard what s h)
+      ≡ count_of (λ c. wants_retire c s) stage.script.commands
+  pub no_other : (s : ServerId) (h : ℕ) → stage.script.setting.shards ≤ h
+      → counts all (λ what. retires_shard what s h) ≡ 0
   pub syncs : counts all is_sync ≡ count_of wants_sync stage.script.commands
 
 -- THE ACCOUNT
 
 -- every packet, copy and command is accounted for, with these fates
-pub record IsAccountOf (R : Routes) (F : Rules) (stage : Stage) (fates : List Fate) (all : List Event) : Type 0 where
+pub record IsAccountOf (R : Routes) (F : Rules) (stage : Stage) (fates : List Fate)
+    (all : List Event) : Type 0 where
   -- each steerable record has one Steer, no other has one
-  pub steered : (k : ℕ) → counts all (λ what. steers_packet what k) ≡ (if is_some (segment_of stage k) then 1 else 0)
+  pub steered : (k : ℕ)
+      → counts all (λ what. steers_packet what k) ≡ (if is_some (segment_of stage k) then 1 else 0)
   -- at a mux that the route may give; each sending has a fate that the rule may give
   pub answered : AreAnswered R F stage fates all
   -- a sending without copies, and no other, has one Lose, at its clock plus one
-  pub lost : (k : ℕ) (hop : Hop) (clock : ℕ) → lost_at all k hop (suc clock) ≡ copyless_at fates all k hop clock
+  pub lost : (k : ℕ) (hop : Hop) (clock : ℕ)
+      → lost_at all k hop (suc clock) ≡ copyless_at fates all k hop clock
   -- the copies that came are those that were sent, and none came before it was sent
   pub sent : AreSent fates all
-  pub arrived : (k : ℕ) (hop : Hop) → counts all (λ what. arrives what k hop) ≡ sent_copies fates all k hop
+  pub arrived : (k : ℕ) (hop : Hop)
+      → counts all (λ what. arrives what k hop) ≡ sent_copies fates all k hop
   pub commands : AreCarriedOut stage all

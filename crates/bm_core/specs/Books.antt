@@ -1,5 +1,7 @@
--- The turns of one shard, and what they leave in it (docs/DEFINITIONS.md). A book has its newest turn first.
-use Rattle.std.specs.Prelude.{◌≡◌, ℕ, Bool, false, ◌&&◌, ◌||◌, ◌==◌, if◌then◌else◌, List, [], ◌∷◌, length, Option, Some, None, option_map}
+-- The turns of one shard, and what they leave in it (docs/DEFINITIONS.md). A book has its newest
+-- turn first.
+use Rattle.std.specs.Prelude.{◌≡◌, ℕ, Bool, false, ◌&&◌, ◌||◌, ◌==◌, if◌then◌else◌, List, [], ◌∷◌}
+use Rattle.std.specs.Prelude.{length, Option, Some, None, option_map}
 use Rattle.bm_base.specs.declared.ids.ServerId.{ServerId}
 use Rattle.bm_base.specs.declared.flow.Flow.{Flow}
 use Rattle.bm_base.specs.declared.flow.Segment.{Segment}
@@ -38,7 +40,8 @@ held_by_verdict _ s before = before
 
 -- the receiver of a flow after a turn
 abbrev pub turn_held : Turn → Flow → Option Receiver → Option Receiver
-turn_held (Took s verdict) f before = if same_flow s.flow f then held_by_verdict verdict s before else before
+turn_held (Took s verdict) f before =
+    if same_flow s.flow f then held_by_verdict verdict s before else before
 turn_held (Closed flow closed) f before = if same_flow flow f && closed then None else before
 turn_held (RetiredAs result) f before = if is_done result then None else before
 
@@ -59,7 +62,9 @@ book_retired (t ∷ book) = turn_retires t || book_retired book
 
 -- the flows that the shard holds after a turn
 abbrev pub turn_flows : Turn → List Flow → List Flow
-turn_flows (Took s verdict) flows = if is_accept verdict then s.flow ∷ without s.flow flows else if ends verdict then without s.flow flows else flows
+turn_flows (Took s verdict) flows =
+    if is_accept verdict then s.flow ∷ without s.flow flows
+    else if ends verdict then without s.flow flows else flows
 turn_flows (Closed flow closed) flows = if closed then without flow flows else flows
 turn_flows (RetiredAs result) flows = if is_done result then [] else flows
 
@@ -70,20 +75,30 @@ book_flows (t ∷ book) = turn_flows t (book_flows book)
 
 -- what the shard knows of a flow after these turns
 abbrev pub book_local : ℕ → List Turn → Flow → Local
-book_local capacity book f = record { retired = book_retired book; held = book_held book f; full = length (book_flows book) == capacity }
+book_local capacity book f =
+    record {
+      retired = book_retired book;
+      held = book_held book f;
+      full =
+          length (book_flows book) == capacity;
+    }
 
 -- THE BOOK OF A SHARD IN A HISTORY
 
 -- the turn of an arrival, if it is at the shard
 abbrev pub took : Stage → Bool → ℕ → Verdict → Option Segment → Option Turn
 took stage here h verdict None = None
-took stage here h verdict (Some s) = if here && shard stage s.flow == h then Some (Took s verdict) else None
+took stage here h verdict (Some s) =
+    if here && shard stage s.flow == h then Some (Took s verdict) else None
 
 -- the turn of an event, if it is one of the server's shard
 abbrev pub turn_of : Stage → What → ServerId → ℕ → Option Turn
-turn_of stage (Arrive k hop server verdict) s h = took stage (same_server server s) h verdict (segment_of stage k)
-turn_of stage (Close server flow closed) s h = if same_server server s && shard stage flow == h then Some (Closed flow closed) else None
-turn_of stage (Retire server x at result) s h = if same_server server s && x == h then Some (RetiredAs result) else None
+turn_of stage (Arrive k hop server verdict) s h =
+    took stage (same_server server s) h verdict (segment_of stage k)
+turn_of stage (Close server flow closed) s h =
+    if same_server server s && shard stage flow == h then Some (Closed flow closed) else None
+turn_of stage (Retire server x at result) s h =
+    if same_server server s && x == h then Some (RetiredAs result) else None
 turn_of stage _ s h = None
 
 -- the book with the turn, if there is one

@@ -1,7 +1,7 @@
--- The histories of a replay and of a threaded run, whole (docs/DEFINITIONS.md).
+-- The history of a replay, whole (docs/DEFINITIONS.md).
 use Rattle.std.specs.Prelude.{ℕ, List, reverse}
 use Rattle.bm_base.specs.declared.flow.Flow.{Flow}
-use Rattle.bm_base.specs.declared.receive.Fate.{Fate}
+use Rattle.bm_base.specs.declared.fate.Fate.{Fate}
 use Rattle.bm_core.specs.declared.events.Event.{Event}
 use Rattle.bm_core.specs.declared.events.History.{History}
 use Rattle.bm_core.specs.declared.events.Stage.{Stage}
@@ -9,27 +9,20 @@ use Rattle.bm_core.specs.Accounts.{Routes, Rules, IsRouted, IsAccountOf}
 use Rattle.bm_core.specs.Runs.{IsStep, IsRun}
 use Rattle.bm_core.specs.Schedule.{IsNextBy, Follows, IsOver}
 use Rattle.bm_core.specs.Rules.{RouteBy}
-use Rattle.bm_core.specs.Threads.{FollowsInThreads}
 
 -- in a replay the event may come next after these, where the route answers these muxes
-pub record IsNextIn (mux : ℕ → Flow → ℕ) (fates : List Fate) (stage : Stage) (past : List Event) (e : Event) : Type 0 where
+pub record IsNextIn (mux : ℕ → Flow → ℕ) (fates : List Fate) (stage : Stage) (past : List Event)
+    (e : Event) : Type 0 where
   pub step : IsStep stage past e
   pub routed : IsRouted (RouteBy mux) stage e.what
   pub next : IsNextBy fates stage past e
 
--- a run that a replay makes of its stage, to the end, where these are the answers of the route and of the fault rule
+-- a run that a replay makes of its stage, to the end, where these are the answers of the route and
+-- of the fault rule
 pub record IsReplay (R : Routes) (F : Rules) (h : History) : Type 0 where
   pub run : IsRun h
   -- one fate for each event, the newest first
   pub fates : List Fate
   pub follows : Follows fates h.stage (reverse h.events)
   pub over : IsOver fates h.stage (reverse h.events)
-  pub account : IsAccountOf R F h.stage fates (reverse h.events)
-
--- a run that the workers of a threaded run make of their stage, to the end of the last phase
-pub record IsThreadedRun (R : Routes) (F : Rules) (h : History) : Type 0 where
-  pub run : IsRun h
-  -- one fate for each event, the newest first
-  pub fates : List Fate
-  pub follows : FollowsInThreads fates h.stage (reverse h.events)
   pub account : IsAccountOf R F h.stage fates (reverse h.events)

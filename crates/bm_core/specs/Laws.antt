@@ -1,6 +1,7 @@
--- What the laws say of the event at a place of a history: where premises hold the owner serves, and where a packet is refused or processed
--- elsewhere there is a cause (docs/DEFINITIONS.md).
-use Rattle.std.specs.Prelude.{◌≡◌, ◌≢◌, ◌==◌, ℕ, ◌+◌, ◌<◌, ◌≤◌, Bool, true, false, ◌⊎◌, List, Option, Some, None, IsSomeAnd}
+-- What the laws say of the event at a place of a history: where premises hold the owner serves, and
+-- where a packet is refused or processed elsewhere there is a cause (docs/DEFINITIONS.md).
+use Rattle.std.specs.Prelude.{◌≡◌, ◌≢◌, ◌==◌, ℕ, ◌+◌, ◌<◌, ◌≤◌, Bool, true, false, ◌⊎◌, List}
+use Rattle.std.specs.Prelude.{Option, Some, None, IsSomeAnd}
 use Rattle.bm_base.specs.declared.ids.ServerId.{ServerId}
 use Rattle.bm_base.specs.declared.flow.Segment.{Segment}
 use Rattle.bm_base.specs.declared.label.Label.{Label}
@@ -21,41 +22,53 @@ use Rattle.bm_core.specs.Runs.{AtEach, event_at, past_at}
 use Rattle.bm_core.specs.Causes.{first_broken, is_process, wants_cause}
 
 -- the packet is not opening, and no premise is broken
-abbrev pub PremisesHold : Stage → List Event → ℕ → ServerId → Option Accepted → Option Segment → Option Label → Type 0
-PremisesHold stage past clock server a (Some s) (Some l) = (is_opening s ≡ false) × (first_broken stage past clock l s.flow server a ≡ None)
+abbrev pub PremisesHold : Stage → List Event → ℕ → ServerId → Option Accepted → Option Segment
+    → Option Label → Type 0
+PremisesHold stage past clock server a (Some s) (Some l) =
+    (is_opening s ≡ false) × (first_broken stage past clock l s.flow server a ≡ None)
 PremisesHold stage past clock server a _ _ = ⊥
 
 -- a packet arrives that is not opening, and no premise is broken
 abbrev pub IsUnbrokenArrival : Stage → List Event → ℕ → What → Type 0
-IsUnbrokenArrival stage past clock (Arrive k hop server verdict) = PremisesHold stage past clock server (owner stage past k) (segment_of stage k) (label_of stage past k)
+IsUnbrokenArrival stage past clock (Arrive k hop server verdict) =
+    PremisesHold stage past clock server (owner stage past k) (segment_of stage k)
+    (label_of stage past k)
 IsUnbrokenArrival stage past clock _ = ⊥
 
 -- processed by the owner's server, or, where it is a direct copy, forwarded to it
 abbrev pub IsServedBy : Option Accepted → Hop → ServerId → Verdict → Type 0
 IsServedBy None hop server verdict = ⊥
 IsServedBy (Some a) hop server verdict =
-    ((is_process verdict ≡ true) × (server ≡ a.server)) ⊎ ((hop ≡ Direct) × (verdict ≡ Forward a.server))
+    ((is_process verdict ≡ true) × (server ≡ a.server))
+    ⊎ ((hop ≡ Direct) × (verdict ≡ Forward a.server))
 
--- the arriving copy is processed by its owner's server, or, where it is a direct one, forwarded to it
+-- the arriving copy is processed by its owner's server, or, where it is a direct one, forwarded to
+-- it
 abbrev pub IsServed : Stage → List Event → What → Type 0
-IsServed stage past (Arrive k hop server verdict) = IsServedBy (owner stage past k) hop server verdict
+IsServed stage past (Arrive k hop server verdict) =
+    IsServedBy (owner stage past k) hop server verdict
 IsServed stage past _ = ⊥
 
 -- a packet is dropped, reset or processed elsewhere
 abbrev pub IsFault : Stage → List Event → What → Type 0
-IsFault stage past (Arrive k hop server verdict) = wants_cause verdict (owner stage past k) server (segment_of stage k) ≡ true
+IsFault stage past (Arrive k hop server verdict) =
+    wants_cause verdict (owner stage past k) server (segment_of stage k) ≡ true
 IsFault stage past _ = ⊥
 
--- the server is not the owner's, the label's version is no older than the owner's, and the changes between moved the bucket at most once
-abbrev pub IsMovedAtMostOnce : Stage → ServerId → Option Accepted → Option Segment → Option Label → Type 0
+-- the server is not the owner's, the label's version is no older than the owner's, and the changes
+-- between moved the bucket at most once
+abbrev pub IsMovedAtMostOnce : Stage → ServerId → Option Accepted → Option Segment → Option Label
+    → Type 0
 IsMovedAtMostOnce stage server (Some a) (Some s) (Some l) =
-    (server ≢ a.server) × (a.version ≤ l.version.0) × (moves stage.script.plan (bucket stage s.flow) a.version l.version.0 ≤ 1)
+    (server ≢ a.server) × (a.version ≤ l.version.0)
+    × (moves stage.script.plan (bucket stage s.flow) a.version l.version.0 ≤ 1)
 IsMovedAtMostOnce stage server _ _ _ = ⊥
 
--- a direct copy is dropped by a retired shard of a server other than its owner's, by a label no older than the owner's version, since
--- which the bucket was moved at most once
+-- a direct copy is dropped by a retired shard of a server other than its owner's, by a label no
+-- older than the owner's version, since which the bucket was moved at most once
 abbrev pub IsRetiredDrop : Stage → List Event → What → Type 0
-IsRetiredDrop stage past (Arrive k Direct server (Drop Retired)) = IsMovedAtMostOnce stage server (owner stage past k) (segment_of stage k) (label_of stage past k)
+IsRetiredDrop stage past (Arrive k Direct server (Drop Retired)) =
+    IsMovedAtMostOnce stage server (owner stage past k) (segment_of stage k) (label_of stage past k)
 IsRetiredDrop stage past _ = ⊥
 
 -- the clock is past the stamp of the label by more than the timeout
@@ -65,7 +78,8 @@ IsStampLate stage clock (Some l) = l.entry.stamp.0 + timeout stage < clock
 
 -- the clock is past the stamp of the packet's label by more than the timeout
 abbrev pub IsLate : Stage → List Event → ℕ → What → Type 0
-IsLate stage past clock (Arrive k hop server verdict) = IsStampLate stage clock (label_of stage past k)
+IsLate stage past clock (Arrive k hop server verdict) =
+    IsStampLate stage clock (label_of stage past k)
 IsLate stage past clock _ = ⊥
 
 -- there is an event at this place of the history, of which this holds and the events before it
@@ -79,8 +93,12 @@ is_arrival_of _ packet = false
 
 -- at each of its arrivals, no premise of the packet is broken
 abbrev pub IsUnbrokenPacket : Stage → List Event → ℕ → Type 0
-IsUnbrokenPacket stage all packet = AtEach (λ past e. is_arrival_of e.what packet ≡ true → IsUnbrokenArrival stage past e.clock.0 e.what) all
+IsUnbrokenPacket stage all packet =
+    AtEach (λ past e. is_arrival_of e.what packet ≡ true
+    → IsUnbrokenArrival stage past e.clock.0 e.what) all
 
--- each arriving copy of the packet is processed by its owner's server, or, where it is a direct one, forwarded to it
+-- each arriving copy of the packet is processed by its owner's server, or, where it is a direct
+-- one, forwarded to it
 abbrev pub IsServedPacket : Stage → List Event → ℕ → Type 0
-IsServedPacket stage all packet = AtEach (λ past e. is_arrival_of e.what packet ≡ true → IsServed stage past e.what) all
+IsServedPacket stage all packet =
+    AtEach (λ past e. is_arrival_of e.what packet ≡ true → IsServed stage past e.what) all

@@ -9,7 +9,6 @@ pub mod Books
 pub mod Logs
 pub mod Accounts
 pub mod Schedule
-pub mod Trails
 pub mod Threads
 pub mod Rules
 pub mod Histories

@@ -1,6 +1,8 @@
--- What a list of events says, by looking back through it: versions, labels, sendings, what a server holds, and who owns a flow
--- (docs/DEFINITIONS.md). A past has its newest event first.
-use Rattle.std.specs.Prelude.{ℕ, zero, suc, Bool, true, false, ◌&&◌, ◌||◌, not, ◌==◌, if◌then◌else◌, List, [], ◌∷◌, length, Option, Some, None, slice_get, option_map, filter}
+-- What a list of events says, by looking back through it: versions, labels, sendings, what a server
+-- holds, and who owns a flow (docs/DEFINITIONS.md). A past has its newest event first.
+use Rattle.std.specs.Prelude.{ℕ, zero, suc, Bool, true, false, ◌&&◌, ◌||◌, not, ◌==◌, if◌then◌else◌}
+use Rattle.std.specs.Prelude.{List, [], ◌∷◌, length, Option, Some, None, slice_get, option_map}
+use Rattle.std.specs.Prelude.{filter}
 use Rattle.bm_base.specs.declared.ids.ServerId.{ServerId}
 use Rattle.bm_base.specs.declared.ids.MuxId.{MuxId}
 use Rattle.bm_base.specs.declared.ids.Version.{Version}
@@ -17,7 +19,8 @@ use Rattle.bm_table.specs.declared.plan.Retirement.TheVariants.{Done, NotDrained
 use Rattle.bm_core.specs.declared.events.Verdict.{Verdict}
 use Rattle.bm_core.specs.declared.events.Verdict.TheVariants.{Accept, Process, Forward}
 use Rattle.bm_core.specs.declared.events.What.{What}
-use Rattle.bm_core.specs.declared.events.What.TheVariants.{Publish, Switch, Steer, Arrive, Close, Retire}
+use Rattle.bm_core.specs.declared.events.What.TheVariants.{Publish, Switch, Steer, Arrive, Close}
+use Rattle.bm_core.specs.declared.events.What.TheVariants.{Retire}
 use Rattle.bm_core.specs.declared.events.Event.{Event}
 use Rattle.bm_core.specs.declared.events.Stage.{Stage}
 use Rattle.bm_table.specs.Tables.{table, same_server}
@@ -87,7 +90,8 @@ labelled stage past m (Some s) = Some (record {
 
 -- the packet's label after the event
 abbrev pub label_after : Stage → List Event → What → ℕ → Option Label → Option Label
-label_after stage past (Steer packet m) k before = if packet == k then labelled stage past m (segment_of stage k) else before
+label_after stage past (Steer packet m) k before =
+    if packet == k then labelled stage past m (segment_of stage k) else before
 label_after stage past _ k before = before
 
 -- the label that packet k got at its Steer
@@ -125,7 +129,8 @@ pub record Sending : Type 0 where
 -- what the event sends: a Steer sends direct copies, a Forward those of the next hop
 abbrev pub sending_of : What → Option Sending
 sending_of (Steer packet m) = Some (record { packet = packet; hop = Direct })
-sending_of (Arrive packet hop server (Forward to)) = option_map (λ next. record { packet = packet; hop = next }) (hop_after hop)
+sending_of (Arrive packet hop server (Forward to)) =
+    option_map (λ next. record { packet = packet; hop = next }) (hop_after hop)
 sending_of _ = None
 
 -- there is a sending, of the packet with this hop
@@ -145,7 +150,8 @@ is_sent (e ∷ past) k hop = sends e.what k hop || is_sent past k hop
 -- the same, with a sending at that clock
 abbrev pub is_sent_at : List Event → ℕ → Hop → ℕ → Bool
 is_sent_at [] k hop clock = false
-is_sent_at (e ∷ past) k hop clock = sends e.what k hop && e.clock.0 == clock || is_sent_at past k hop clock
+is_sent_at (e ∷ past) k hop clock =
+    sends e.what k hop && e.clock.0 == clock || is_sent_at past k hop clock
 
 -- HELD FLOWS
 
@@ -157,7 +163,8 @@ pub record Holding : Type 0 where
 -- what a server holds of a flow after it processed a segment of it
 abbrev pub after_process : Taken → Segment → Option Holding → Option Holding
 after_process Ended s before = None
-after_process _ s before = option_map (λ h. record { place = h.place; receiver = receiver_after h.receiver s }) before
+after_process _ s before =
+    option_map (λ h. record { place = h.place; receiver = receiver_after h.receiver s }) before
 
 -- what a server holds of a flow after a segment of it had this verdict
 abbrev pub after_verdict : ℕ → Verdict → Segment → Option Holding → Option Holding
@@ -166,9 +173,11 @@ after_verdict place (Process t) s before = after_process t s before
 after_verdict place _ s before = before
 
 -- what a server holds of a flow after an arrival, here or elsewhere
-abbrev pub after_arrival : ℕ → Bool → Verdict → Option Segment → Flow → Option Holding → Option Holding
+abbrev pub after_arrival : ℕ → Bool → Verdict → Option Segment → Flow → Option Holding
+    → Option Holding
 after_arrival place here verdict None f before = before
-after_arrival place here verdict (Some s) f before = if here && same_flow s.flow f then after_verdict place verdict s before else before
+after_arrival place here verdict (Some s) f before =
+    if here && same_flow s.flow f then after_verdict place verdict s before else before
 
 -- the answer is Done
 abbrev pub is_done : Retirement → Bool
@@ -188,9 +197,12 @@ retired (e ∷ past) s shard = retires e.what s shard || retired past s shard
 
 -- what the server holds of the flow after the event at this place
 abbrev pub held_after : Stage → ℕ → What → ServerId → Flow → Option Holding → Option Holding
-held_after stage place (Arrive k hop server verdict) s f before = after_arrival place (same_server server s) verdict (segment_of stage k) f before
-held_after stage place (Close server flow closed) s f before = if same_server server s && same_flow flow f && closed then None else before
-held_after stage place (Retire server h at result) s f before = if same_server server s && h == shard stage f && is_done result then None else before
+held_after stage place (Arrive k hop server verdict) s f before =
+    after_arrival place (same_server server s) verdict (segment_of stage k) f before
+held_after stage place (Close server flow closed) s f before =
+    if same_server server s && same_flow flow f && closed then None else before
+held_after stage place (Retire server h at result) s f before =
+    if same_server server s && h == shard stage f && is_done result then None else before
 held_after stage place _ s f before = before
 
 -- the connection that the server holds of the flow, if it holds one
@@ -217,14 +229,18 @@ abbrev pub flows_arrived : Stage → ℕ → Bool → Verdict → Option Segment
 flows_arrived stage h here verdict None flows = flows
 flows_arrived stage h here verdict (Some s) flows =
     if here && shard stage s.flow == h
-    then (if is_accept verdict then s.flow ∷ without s.flow flows else if ends verdict then without s.flow flows else flows)
+    then (if is_accept verdict then s.flow ∷ without s.flow flows
+    else if ends verdict then without s.flow flows else flows)
     else flows
 
 -- the flows of a shard that a server holds after the event
 abbrev pub flows_after : Stage → What → ServerId → ℕ → List Flow → List Flow
-flows_after stage (Arrive k hop server verdict) s h flows = flows_arrived stage h (same_server server s) verdict (segment_of stage k) flows
-flows_after stage (Close server flow closed) s h flows = if same_server server s && shard stage flow == h && closed then without flow flows else flows
-flows_after stage (Retire server shard at result) s h flows = if same_server server s && shard == h && is_done result then [] else flows
+flows_after stage (Arrive k hop server verdict) s h flows =
+    flows_arrived stage h (same_server server s) verdict (segment_of stage k) flows
+flows_after stage (Close server flow closed) s h flows =
+    if same_server server s && shard stage flow == h && closed then without flow flows else flows
+flows_after stage (Retire server shard at result) s h flows =
+    if same_server server s && shard == h && is_done result then [] else flows
 flows_after stage _ s h flows = flows
 
 -- the flows of the shard that the server holds
@@ -248,7 +264,13 @@ pub record Accepted : Type 0 where
 abbrev pub accept_after : Stage → List Event → What → Flow → Option Accepted → Option Accepted
 accept_after stage past (Arrive k hop server verdict) f before =
     if is_accept verdict && is_of (segment_of stage k) f
-    then Some (record { server = server; version = version_of (label_of stage past k); place = length past })
+    then Some
+    (record {
+      server = server;
+      version = version_of (label_of stage past k);
+      place =
+          length past;
+    })
     else before
 accept_after stage past _ f before = before
 
@@ -264,7 +286,8 @@ accept_before stage past (Some s) = accept_of stage past s.flow
 
 -- the packet's owner after the event
 abbrev pub owner_after : Stage → List Event → What → ℕ → Option Accepted → Option Accepted
-owner_after stage past (Steer packet m) k before = if packet == k then accept_before stage past (segment_of stage k) else before
+owner_after stage past (Steer packet m) k before =
+    if packet == k then accept_before stage past (segment_of stage k) else before
 owner_after stage past _ k before = before
 
 -- the last Accept of packet k's flow before its Steer

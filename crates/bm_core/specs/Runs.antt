@@ -1,5 +1,7 @@
 -- Which lists of events are runs (docs/DEFINITIONS.md).
-use Rattle.std.specs.Prelude.{◌≡◌, ℕ, suc, ◌+◌, max, ◌<◌, ◌≤◌, Bool, true, false, ◌&&◌, ◌==◌, if◌then◌else◌, List, [], ◌∷◌, length, reverse, take, Option, Some, None, slice_get, is_some, IfSome, option_map}
+use Rattle.std.specs.Prelude.{◌≡◌, ℕ, suc, ◌+◌, max, ◌<◌, ◌≤◌, Bool, true, false, ◌&&◌, ◌==◌}
+use Rattle.std.specs.Prelude.{if◌then◌else◌, List, [], ◌∷◌, length, reverse, take, Option, Some}
+use Rattle.std.specs.Prelude.{None, slice_get, is_some, IfSome, option_map}
 use Rattle.bm_base.specs.declared.ids.ServerId.{ServerId}
 use Rattle.bm_base.specs.declared.flow.Segment.{Segment}
 use Rattle.bm_base.specs.declared.label.Label.{Label}
@@ -7,13 +9,15 @@ use Rattle.bm_base.specs.declared.label.Hop.{Hop}
 use Rattle.bm_base.specs.declared.label.Hop.TheVariants.{Direct}
 use Rattle.bm_core.specs.declared.events.Verdict.{Verdict}
 use Rattle.bm_core.specs.declared.events.What.{What}
-use Rattle.bm_core.specs.declared.events.What.TheVariants.{Publish, Switch, Steer, Lose, Arrive, Close, Retire, Sync}
+use Rattle.bm_core.specs.declared.events.What.TheVariants.{Publish, Switch, Steer, Lose, Arrive}
+use Rattle.bm_core.specs.declared.events.What.TheVariants.{Close, Retire, Sync}
 use Rattle.bm_core.specs.declared.events.Event.{Event}
 use Rattle.bm_core.specs.declared.events.Stage.{Stage}
 use Rattle.bm_core.specs.declared.events.History.{History}
 use Rattle.bm_table.specs.Tables.{IsRetirement}
 use Rattle.bm_core.specs.Stages.{IsSound}
-use Rattle.bm_core.specs.Past.{segment_of, shard, timeout, newest, label_of, is_sent, is_sent_at, held}
+use Rattle.bm_core.specs.Past.{segment_of, shard, timeout, newest, label_of, is_sent, is_sent_at}
+use Rattle.bm_core.specs.Past.{held}
 use Rattle.bm_base.specs.Labels.{arrives_at}
 use Rattle.bm_core.specs.Verdicts.{verdict_at}
 
@@ -36,7 +40,8 @@ actor_of stage (Publish v) = Some Controller
 actor_of stage Sync = Some Controller
 actor_of stage (Switch m v) = Some (MuxOf m.0)
 actor_of stage (Steer k m) = Some (MuxOf m.0)
-actor_of stage (Arrive k hop server verdict) = option_map (λ s. ShardOf server.0 (shard stage s.flow)) (segment_of stage k)
+actor_of stage (Arrive k hop server verdict) =
+    option_map (λ s. ShardOf server.0 (shard stage s.flow)) (segment_of stage k)
 actor_of stage (Close server flow closed) = Some (ShardOf server.0 (shard stage flow))
 actor_of stage (Retire server h at result) = Some (ShardOf server.0 h)
 actor_of stage (Lose k hop) = None
@@ -49,7 +54,8 @@ is_by (Some b) a = same_actor b a
 -- the clock of the actor's last event
 abbrev pub own_clock : Stage → List Event → Actor → Option ℕ
 own_clock stage [] a = None
-own_clock stage (e ∷ past) a = if is_by (actor_of stage e.what) a then Some e.clock.0 else own_clock stage past a
+own_clock stage (e ∷ past) a =
+    if is_by (actor_of stage e.what) a then Some e.clock.0 else own_clock stage past a
 
 -- the clock of the newest event, or 0
 abbrev pub last_clock : List Event → ℕ
@@ -57,11 +63,13 @@ last_clock [] = 0
 last_clock (e ∷ past) = e.clock.0
 
 -- the clock after both
-abbrev pub next : ℕ → ℕ → ℕ
-next a b = suc (max a b)
+abbrev pub next_clock : ℕ → ℕ → ℕ
+next_clock a b = suc (max a b)
 
--- a copy arrives where the packet's label sends it, after it was sent, and has the verdict that the server's shard gives it
-pub record IsArrival (stage : Stage) (past : List Event) (clock k : ℕ) (hop : Hop) (server : ServerId) (verdict : Verdict) : Type 0 where
+-- a copy arrives where the packet's label sends it, after it was sent, and has the verdict that the
+-- server's shard gives it
+pub record IsArrival (stage : Stage) (past : List Event) (clock k : ℕ) (hop : Hop)
+    (server : ServerId) (verdict : Verdict) : Type 0 where
   pub segment : Segment
   pub is_segment : segment_of stage k ≡ Some segment
   pub label : Label
@@ -72,13 +80,19 @@ pub record IsArrival (stage : Stage) (past : List Event) (clock k : ℕ) (hop : 
 
 -- the event may come after these
 abbrev pub MayCome : Stage → List Event → ℕ → What → Type 0
-MayCome stage past clock (Publish v) = (v.0 ≡ suc (newest past)) × (v.0 ≤ length stage.script.plan.changes)
+MayCome stage past clock (Publish v) =
+    (v.0 ≡ suc (newest past)) × (v.0 ≤ length stage.script.plan.changes)
 MayCome stage past clock (Switch m v) = (m.0 < stage.script.setting.muxes) × (v.0 ≤ newest past)
-MayCome stage past clock (Steer k m) = (m.0 < stage.script.setting.muxes) × (is_sent past k Direct ≡ false) × (is_some (segment_of stage k) ≡ true)
-MayCome stage past clock (Lose k hop) = (sending : ℕ) × (clock ≡ sending + 1) × (is_sent_at past k hop sending ≡ true)
-MayCome stage past clock (Arrive k hop server verdict) = IsArrival stage past clock k hop server verdict
+MayCome stage past clock (Steer k m) =
+    (m.0 < stage.script.setting.muxes) × (is_sent past k Direct ≡ false)
+    × (is_some (segment_of stage k) ≡ true)
+MayCome stage past clock (Lose k hop) =
+    (sending : ℕ) × (clock ≡ sending + 1) × (is_sent_at past k hop sending ≡ true)
+MayCome stage past clock (Arrive k hop server verdict) =
+    IsArrival stage past clock k hop server verdict
 MayCome stage past clock (Close server flow closed) = closed ≡ is_some (held stage past server flow)
-MayCome stage past clock (Retire server h at result) = (at.0 < clock) × IsRetirement stage.script.plan (timeout stage) (newest past) server at.0 result
+MayCome stage past clock (Retire server h at result) =
+    (at.0 < clock) × IsRetirement stage.script.plan (timeout stage) (newest past) server at.0 result
 MayCome stage past clock Sync = Unit {0}
 
 -- the event may stand after these
@@ -86,7 +100,8 @@ pub record IsStep (stage : Stage) (past : List Event) (e : Event) : Type 0 where
   -- clocks don't fall
   pub clock : last_clock past ≤ e.clock.0
   -- those of one actor rise
-  pub own : IfSome (actor_of stage e.what) (λ a. IfSome (own_clock stage past a) (λ c. c < e.clock.0))
+  pub own : IfSome (actor_of stage e.what)
+      (λ a. IfSome (own_clock stage past a) (λ c. c < e.clock.0))
   pub may : MayCome stage past e.clock.0 e.what
 
 -- this holds at each element, of it and those before it

@@ -1,29 +1,37 @@
--- The history of a replay, event by event: of what can come and hasn't, the least by moment, then kind, then number comes next
--- (docs/DEFINITIONS.md). A past has its newest event first, and so have the fates, one for each event.
-use Rattle.std.specs.Prelude.{◌≡◌, ℕ, zero, suc, ◌+◌, ◌*◌, ◌<◌, Bool, true, false, ◌&&◌, ◌||◌, ◌==◌, nat_lt, if◌then◌else◌, List, [], ◌∷◌, ◌++◌, length, slice_index_or, Option, Some, None, is_some, fold}
+-- The history of a replay, event by event: of what can come and hasn't, the least by moment, then
+-- kind, then number comes next (docs/DEFINITIONS.md). A past has its newest event first, and so
+-- have the fates, one for each event.
+use Rattle.std.specs.Prelude.{◌≡◌, ℕ, zero, suc, ◌+◌, ◌*◌, ◌<◌, Bool, true, false, ◌&&◌, ◌||◌, ◌==◌}
+use Rattle.std.specs.Prelude.{nat_lt, if◌then◌else◌, List, [], ◌∷◌, ◌++◌, length, slice_index_or}
+use Rattle.std.specs.Prelude.{Option, Some, None, is_some, fold}
 use Rattle.bm_base.specs.declared.ids.ServerId.{ServerId}
 use Rattle.bm_base.specs.declared.flow.Segment.{Segment}
 use Rattle.bm_base.specs.declared.label.Hop.{Hop}
 use Rattle.bm_base.specs.declared.label.Label.{Label}
 use Rattle.bm_base.specs.declared.capture.Record.{Record}
-use Rattle.bm_base.specs.declared.receive.Fate.{Fate}
+use Rattle.bm_base.specs.declared.fate.Fate.{Fate}
 use Rattle.bm_table.specs.declared.plan.Change.{Change}
 use Rattle.bm_table.specs.declared.script.Command.{Command}
-use Rattle.bm_table.specs.declared.script.Command.TheVariants.{Close as CloseCommand, Retire as RetireCommand, Sync as SyncCommand}
+use Rattle.bm_table.specs.declared.script.Command.TheVariants.{Close as CloseCommand}
+use Rattle.bm_table.specs.declared.script.Command.TheVariants.{Retire as RetireCommand}
+use Rattle.bm_table.specs.declared.script.Command.TheVariants.{Sync as SyncCommand}
 use Rattle.bm_table.specs.Tables.{next_change, IsRetirement}
 use Rattle.bm_core.specs.declared.events.Verdict.{Verdict}
 use Rattle.bm_core.specs.declared.events.What.{What}
-use Rattle.bm_core.specs.declared.events.What.TheVariants.{Publish, Switch, Steer, Lose, Arrive, Close, Retire, Sync}
+use Rattle.bm_core.specs.declared.events.What.TheVariants.{Publish, Switch, Steer, Lose, Arrive}
+use Rattle.bm_core.specs.declared.events.What.TheVariants.{Close, Retire, Sync}
 use Rattle.bm_core.specs.declared.events.Event.{Event}
 use Rattle.bm_core.specs.declared.events.Stage.{Stage}
 use Rattle.bm_core.specs.declared.schedule.Call.{Call}
-use Rattle.bm_core.specs.declared.schedule.Call.TheVariants.{Publishes, Switches, Closes, Retires, Syncs, Arrives, Steers, Loses}
+use Rattle.bm_core.specs.declared.schedule.Call.TheVariants.{Publishes, Switches, Closes, Retires}
+use Rattle.bm_core.specs.declared.schedule.Call.TheVariants.{Syncs, Arrives, Steers, Loses}
 use Rattle.bm_core.specs.declared.schedule.Due.{Due}
 use Rattle.bm_core.specs.declared.schedule.Underway.{Underway}
-use Rattle.bm_core.specs.Past.{is_switch_of, steerable, newest, Sending, sending_of, segment_of, label_of, held, timeout}
+use Rattle.bm_core.specs.Past.{is_switch_of, steerable, newest, Sending, sending_of, segment_of}
+use Rattle.bm_core.specs.Past.{label_of, held, timeout}
 use Rattle.bm_base.specs.Labels.{arrives_at}
 use Rattle.bm_core.specs.Verdicts.{verdict_at}
-use Rattle.bm_core.specs.Runs.{last_clock, next}
+use Rattle.bm_core.specs.Runs.{last_clock, next_clock}
 use Rattle.bm_core.specs.Accounts.{counts, fate_now, before}
 
 -- the event without what it answers
@@ -39,7 +47,10 @@ call_of (Lose k hop) = Loses k hop
 
 -- by moment, then rank, then number
 abbrev pub comes_first : Due → Due → Bool
-comes_first a b = nat_lt a.moment b.moment || (a.moment == b.moment && (nat_lt a.rank b.rank || (a.rank == b.rank && nat_lt a.number b.number)))
+comes_first a b =
+    nat_lt a.moment b.moment
+    || (a.moment == b.moment
+    && (nat_lt a.rank b.rank || (a.rank == b.rank && nat_lt a.number b.number)))
 
 -- the sooner of the two, and the earlier one of two alike
 abbrev pub sooner : Option Due → Due → Option Due
@@ -65,7 +76,9 @@ put_all (suc n) d dues = put d (put_all n d dues)
 -- the copies of a sending, if there is one
 abbrev pub put_sent : Fate → ℕ → ℕ → Option Sending → List Underway → List Underway
 put_sent fate place clock None dues = dues
-put_sent fate place clock (Some s) dues = put_all fate.copies (record { moment = clock + fate.delay; place = place; packet = s.packet; hop = s.hop }) dues
+put_sent fate place clock (Some s) dues =
+    put_all fate.copies
+    (record { moment = clock + fate.delay; place = place; packet = s.packet; hop = s.hop }) dues
 
 -- all but the first
 abbrev pub rest : List Underway → List Underway
@@ -80,48 +93,65 @@ after_arrive _ dues = dues
 -- the copies under way
 abbrev pub wire : List Fate → List Event → List Underway
 wire fates [] = []
-wire fates (e ∷ past) = put_sent (fate_now fates) (length past) e.clock.0 (sending_of e.what) (after_arrive e.what (wire (before fates) past))
+wire fates (e ∷ past) =
+    put_sent (fate_now fates) (length past) e.clock.0 (sending_of e.what)
+    (after_arrive e.what (wire (before fates) past))
 
 -- WHAT CAN COME
 
 -- the publication of a change, which leads from version v to the next
 abbrev pub publish_due : ℕ → Option Change → List Due
 publish_due v None = []
-publish_due v (Some c) = record { moment = c.moment.0; rank = 0; number = v; call = Publishes (suc v) } ∷ []
+publish_due v (Some c) =
+    record { moment = c.moment.0; rank = 0; number = v; call = Publishes (suc v) } ∷ []
 
 -- the mux's Switch to the version after v, as late after its change as the mux lags
 abbrev pub switch_due : ℕ → ℕ → ℕ → ℕ → Option Change → List Due
 switch_due muxes lag m v None = []
-switch_due muxes lag m v (Some c) = record { moment = c.moment.0 + lag; rank = 1; number = v * muxes + m; call = Switches m (suc v) } ∷ []
+switch_due muxes lag m v (Some c) =
+    record {
+      moment = c.moment.0 + lag;
+      rank = 1;
+      number = v * muxes + m;
+      call =
+          Switches m (suc v);
+    } ∷ []
 
 -- the next Switch of each of the first n muxes
 abbrev pub switches_due : Stage → List Event → ℕ → List Due
 switches_due stage past zero = []
 switches_due stage past (suc m) =
     switches_due stage past m
-    ++ switch_due stage.script.setting.muxes (slice_index_or stage.script.setting.lags m 0) m (counts past (λ what. is_switch_of what m)) (next_change stage.script.plan (counts past (λ what. is_switch_of what m)))
+    ++ switch_due stage.script.setting.muxes (slice_index_or stage.script.setting.lags m 0) m
+    (counts past (λ what. is_switch_of what m))
+    (next_change stage.script.plan (counts past (λ what. is_switch_of what m)))
 
 -- the closes of the script
 abbrev pub close_commands : List Command → List Due
 close_commands [] = []
-close_commands (CloseCommand at server flow ∷ rest) = record { moment = at.0; rank = 2; number = 0; call = Closes server flow } ∷ close_commands rest
+close_commands (CloseCommand at server flow ∷ rest) =
+    record { moment = at.0; rank = 2; number = 0; call = Closes server flow } ∷ close_commands rest
 close_commands (_ ∷ rest) = close_commands rest
 
 -- a retire for each of the first n shards
 abbrev pub retire_dues : ServerId → ℕ → ℕ → List Due
 retire_dues server at zero = []
-retire_dues server at (suc h) = retire_dues server at h ++ record { moment = at; rank = 3; number = h; call = Retires server h at } ∷ []
+retire_dues server at (suc h) =
+    retire_dues server at h
+    ++ record { moment = at; rank = 3; number = h; call = Retires server h at } ∷ []
 
 -- the retires of the script, for each shard
 abbrev pub retire_commands : ℕ → List Command → List Due
 retire_commands shards [] = []
-retire_commands shards (RetireCommand at server ∷ rest) = retire_dues server at.0 shards ++ retire_commands shards rest
+retire_commands shards (RetireCommand at server ∷ rest) =
+    retire_dues server at.0 shards ++ retire_commands shards rest
 retire_commands shards (_ ∷ rest) = retire_commands shards rest
 
 -- the syncs of the script
 abbrev pub sync_commands : List Command → List Due
 sync_commands [] = []
-sync_commands (SyncCommand at ∷ rest) = record { moment = at.0; rank = 4; number = 0; call = Syncs } ∷ sync_commands rest
+sync_commands (SyncCommand at ∷ rest) =
+    record { moment = at.0; rank = 4; number = 0; call = Syncs } ∷ sync_commands rest
 sync_commands (_ ∷ rest) = sync_commands rest
 
 -- the steerable records, the first of which has this number
@@ -129,7 +159,13 @@ abbrev pub packets_from : ℕ → List Record → List Due
 packets_from k [] = []
 packets_from k (r ∷ records) =
     if is_some (steerable (Some r))
-    then record { moment = r.moment.0; rank = 6; number = k; call = Steers k } ∷ packets_from (suc k) records
+    then record {
+      moment =
+          r.moment.0;
+      rank = 6;
+      number = k;
+      call = Steers k;
+    } ∷ packets_from (suc k) records
     else packets_from (suc k) records
 
 -- without the first n
@@ -146,7 +182,8 @@ first_of (d ∷ dues) = d ∷ []
 -- the first copy under way arrives
 abbrev pub arrival_due : List Underway → List Due
 arrival_due [] = []
-arrival_due (u ∷ dues) = record { moment = u.moment; rank = 5; number = u.place; call = Arrives u.packet u.hop } ∷ []
+arrival_due (u ∷ dues) =
+    record { moment = u.moment; rank = 5; number = u.place; call = Arrives u.packet u.hop } ∷ []
 
 -- those of the list that haven't come, since they come in its order
 abbrev pub left : List Due → List Event → (Call → Bool) → List Due
@@ -172,13 +209,15 @@ abbrev pub steers : Call → Bool
 steers (Steers k) = true
 steers _ = false
 
--- what can come: the next of each kind, where a copy comes in the order of the due moments and each mux has its own next Switch
+-- what can come: the next of each kind, where a copy comes in the order of the due moments and each
+-- mux has its own next Switch
 abbrev pub can_come : List Underway → Stage → List Event → List Due
 can_come wire stage past =
     publish_due (newest past) (next_change stage.script.plan (newest past))
     ++ switches_due stage past stage.script.setting.muxes
     ++ first_of (left (close_commands stage.script.commands) past closes)
-    ++ first_of (left (retire_commands stage.script.setting.shards stage.script.commands) past retires)
+    ++ first_of
+    (left (retire_commands stage.script.setting.shards stage.script.commands) past retires)
     ++ first_of (left (sync_commands stage.script.commands) past syncs)
     ++ arrival_due wire
     ++ first_of (left (packets_from 1 stage.capture.records) past steers)
@@ -196,7 +235,8 @@ due_loss fates (e ∷ past) = loss_of_fate (fate_now fates) (sending_of e.what)
 -- the event is this call, with the clock after the newest event and the stated moment
 abbrev pub IsLeast : List Event → Event → Option Due → Type 0
 IsLeast past e None = ⊥
-IsLeast past e (Some d) = (call_of e.what ≡ d.call) × (e.clock.0 ≡ next (last_clock past) d.moment)
+IsLeast past e (Some d) =
+    (call_of e.what ≡ d.call) × (e.clock.0 ≡ next_clock (last_clock past) d.moment)
 
 -- the event is the loss that is due, or else the least that can come
 abbrev pub ComesNext : Option Call → List Due → List Event → Event → Type 0
@@ -205,20 +245,24 @@ ComesNext None dues past e = IsLeast past e (least dues)
 
 -- the event comes next after these
 abbrev pub IsNextBy : List Fate → Stage → List Event → Event → Type 0
-IsNextBy fates stage past e = ComesNext (due_loss fates past) (can_come (wire fates past) stage past) past e
+IsNextBy fates stage past e =
+    ComesNext (due_loss fates past) (can_come (wire fates past) stage past) past e
 
 -- these events are those of a replay, up to here
 abbrev pub Follows : List Fate → Stage → List Event → Type 0
 Follows fates stage [] = Unit {0}
-Follows fates stage (e ∷ past) = IsNextBy (before fates) stage past e × Follows (before fates) stage past
+Follows fates stage (e ∷ past) =
+    IsNextBy (before fates) stage past e × Follows (before fates) stage past
 
 -- nothing is left to come
 pub record IsOver (fates : List Fate) (stage : Stage) (past : List Event) : Type 0 where
   pub none : can_come (wire fates past) stage past ≡ []
   pub no_loss_due : due_loss fates past ≡ None
 
--- the arrival is where the packet's label sends it, and has the verdict that the server's shard gives it
-pub record IsServing (stage : Stage) (past : List Event) (clock k : ℕ) (hop : Hop) (server : ServerId) (verdict : Verdict) : Type 0 where
+-- the arrival is where the packet's label sends it, and has the verdict that the server's shard
+-- gives it
+pub record IsServing (stage : Stage) (past : List Event) (clock k : ℕ) (hop : Hop)
+    (server : ServerId) (verdict : Verdict) : Type 0 where
   pub segment : Segment
   pub is_segment : segment_of stage k ≡ Some segment
   pub label : Label
@@ -229,7 +273,10 @@ pub record IsServing (stage : Stage) (past : List Event) (clock k : ℕ) (hop : 
 -- what is answered where the event comes: by the route, the tables and the shards
 abbrev pub IsAnswered : Stage → List Event → ℕ → What → Type 0
 IsAnswered stage past clock (Steer k m) = m.0 < stage.script.setting.muxes
-IsAnswered stage past clock (Arrive k hop server verdict) = IsServing stage past clock k hop server verdict
-IsAnswered stage past clock (Close server flow closed) = closed ≡ is_some (held stage past server flow)
-IsAnswered stage past clock (Retire server h at result) = IsRetirement stage.script.plan (timeout stage) (newest past) server at.0 result
+IsAnswered stage past clock (Arrive k hop server verdict) =
+    IsServing stage past clock k hop server verdict
+IsAnswered stage past clock (Close server flow closed) =
+    closed ≡ is_some (held stage past server flow)
+IsAnswered stage past clock (Retire server h at result) =
+    IsRetirement stage.script.plan (timeout stage) (newest past) server at.0 result
 IsAnswered stage past clock _ = Unit {0}

@@ -1,4 +1,5 @@
--- Which stages are sound (docs/DEFINITIONS.md). A stage is the script and the capture that a history is about.
+-- Which stages are sound (docs/DEFINITIONS.md). A stage is the script and the capture that a
+-- history is about.
 use Rattle.bm_core.specs.declared.events.Stage.{Stage}
 pub use Rattle.bm_table.specs.Scripts.{moment_of_command, NamesVersions, IsSoundScript}
 pub use Rattle.bm_base.specs.Captures.{AreRising, IsService, IsFit, IsReplayable}

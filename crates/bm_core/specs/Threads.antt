@@ -1,25 +1,36 @@
--- How the history of a threaded run follows its script (docs/DEFINITIONS.md). Worker 0 carries out the commands, in their order; worker m + 1
--- carries the packets of mux m. A phase is the time between two Syncs, at which all workers have met. A past has its newest event first,
--- and so have the fates, one for each event.
-use Rattle.std.specs.Prelude.{◌≡◌, ℕ, zero, suc, ◌+◌, ◌<◌, ◌≤◌, max, Bool, true, false, ◌&&◌, ◌||◌, not, ◌==◌, nat_le, nat_lt, MatchBool, if◌then◌else◌, List, [], ◌∷◌, ◌⊎◌, length, slice_get, Option, Some, None, IfSome, unwrap_or}
+-- How the history of a threaded run follows its script (docs/DEFINITIONS.md). Worker 0 carries out
+-- the commands, in their order; worker m + 1 carries the packets of mux m. A phase is the time
+-- between two Syncs, at which all workers have met. A past has its newest event first, and so have
+-- the fates, one for each event.
+use Rattle.std.specs.Prelude.{◌≡◌, ℕ, zero, suc, ◌+◌, ◌<◌, ◌≤◌, max, Bool, true, false, ◌&&◌, ◌||◌}
+use Rattle.std.specs.Prelude.{not, ◌==◌, nat_le, nat_lt, MatchBool, if◌then◌else◌, List, [], ◌∷◌}
+use Rattle.std.specs.Prelude.{◌⊎◌, length, slice_get, Option, Some, None, IfSome, unwrap_or}
+use Rattle.std.specs.Prelude.{reverse}
 use Rattle.bm_base.specs.declared.ids.ServerId.{ServerId}
 use Rattle.bm_base.specs.declared.ids.MuxId.{MuxId}
 use Rattle.bm_base.specs.declared.label.Hop.{Hop}
 use Rattle.bm_base.specs.declared.label.Label.{Label}
 use Rattle.bm_base.specs.declared.capture.Record.{Record}
 use Rattle.bm_base.specs.declared.flow.Segment.{Segment}
-use Rattle.bm_base.specs.declared.receive.Fate.{Fate}
+use Rattle.bm_base.specs.declared.fate.Fate.{Fate}
 use Rattle.bm_table.specs.declared.script.Command.{Command}
-use Rattle.bm_table.specs.declared.script.Command.TheVariants.{Change as ChangeCommand, Close as CloseCommand, Retire as RetireCommand, Sync as SyncCommand}
-use Rattle.bm_table.specs.Tables.{same_server, next_change, moment_of}
+use Rattle.bm_table.specs.declared.script.Command.TheVariants.{Change as ChangeCommand}
+use Rattle.bm_table.specs.declared.script.Command.TheVariants.{Close as CloseCommand}
+use Rattle.bm_table.specs.declared.script.Command.TheVariants.{Retire as RetireCommand}
+use Rattle.bm_table.specs.declared.script.Command.TheVariants.{Sync as SyncCommand}
+use Rattle.bm_table.specs.Tables.{same_server, next_change, change_moment}
 use Rattle.bm_core.specs.declared.events.What.{What}
-use Rattle.bm_core.specs.declared.events.What.TheVariants.{Publish, Switch, Steer, Lose, Arrive, Close, Retire, Sync}
+use Rattle.bm_core.specs.declared.events.What.TheVariants.{Publish, Switch, Steer, Lose, Arrive}
+use Rattle.bm_core.specs.declared.events.What.TheVariants.{Close, Retire, Sync}
 use Rattle.bm_core.specs.declared.events.Event.{Event}
+use Rattle.bm_core.specs.declared.events.History.{History}
 use Rattle.bm_core.specs.declared.events.Stage.{Stage}
 use Rattle.bm_core.specs.Past.{segment_of, shard, sends, newest, version_at, label_of}
-use Rattle.bm_core.specs.Runs.{Actor, actor_of, own_clock, last_clock, next}
+use Rattle.bm_core.specs.Runs.{Actor, actor_of, own_clock, last_clock, next_clock}
 use Rattle.bm_core.specs.Past.{is_switch_of}
-use Rattle.bm_core.specs.Accounts.{count_of, counts, is_sync, fate_now, before}
+use Rattle.bm_core.specs.Accounts.{Routes, Rules, IsAccountOf, count_of, counts, is_sync, fate_now}
+use Rattle.bm_core.specs.Accounts.{before}
+use Rattle.bm_core.specs.Runs.{IsRun}
 
 -- the clock of the actor's own last event, or 0
 abbrev pub last_own : Stage → List Event → Option Actor → ℕ
@@ -28,7 +39,8 @@ last_own stage past (Some a) = unwrap_or (own_clock stage past a) 0
 
 -- COMMANDS
 
--- how far the script is carried out: so many commands, and of the next one, if it is a retire, these shards
+-- how far the script is carried out: so many commands, and of the next one, if it is a retire,
+-- these shards
 pub record Progress : Type 0 where
   pub commands : ℕ
   pub shards : List ℕ
@@ -42,7 +54,8 @@ abbrev pub goes_on : ℕ → What → Progress → Progress
 goes_on shards (Publish v) p = next_command p
 goes_on shards (Close server flow closed) p = next_command p
 goes_on shards Sync p = next_command p
-goes_on shards (Retire server h at result) p = if suc (length p.shards) == shards then next_command p else record p { shards = h ∷ p.shards }
+goes_on shards (Retire server h at result) p =
+    if suc (length p.shards) == shards then next_command p else record p { shards = h ∷ p.shards }
 goes_on shards _ p = p
 
 -- how far the script is carried out, with so many shards at each server
@@ -63,11 +76,13 @@ abbrev pub is_number_among : List ℕ → ℕ → Bool
 is_number_among [] n = false
 is_number_among (x ∷ xs) n = x == n || is_number_among xs n
 
--- the event is one of the command's, of which these shards have retired; an event that no command has is free
+-- the event is one of the command's, of which these shards have retired; an event that no command
+-- has is free
 abbrev pub IsOf : Option Command → List ℕ → What → Type 0
 IsOf (Some (ChangeCommand v)) done (Publish w) = w ≡ v
 IsOf (Some (CloseCommand at server flow)) done (Close s f closed) = (s ≡ server) × (f ≡ flow)
-IsOf (Some (RetireCommand at server)) done (Retire s h moment result) = (s ≡ server) × (is_number_among done h ≡ false)
+IsOf (Some (RetireCommand at server)) done (Retire s h moment result) =
+    (s ≡ server) × (is_number_among done h ≡ false)
 IsOf (Some (SyncCommand at)) done Sync = Unit {0}
 IsOf c done (Publish w) = ⊥
 IsOf c done (Close s f closed) = ⊥
@@ -86,10 +101,13 @@ is_command _ = false
 -- the greatest clock of the commands' events, but for the newest so many of them
 abbrev pub commands_clock : ℕ → List Event → ℕ
 commands_clock skip [] = 0
-commands_clock zero (e ∷ past) = if is_command e.what then max e.clock.0 (commands_clock zero past) else commands_clock zero past
-commands_clock (suc skip) (e ∷ past) = if is_command e.what then commands_clock skip past else commands_clock (suc skip) past
+commands_clock zero (e ∷ past) =
+    if is_command e.what then max e.clock.0 (commands_clock zero past) else commands_clock zero past
+commands_clock (suc skip) (e ∷ past) =
+    if is_command e.what then commands_clock skip past else commands_clock (suc skip) past
 
--- the controller's clock: the greatest clock of the events of earlier commands, so not of those of the same retire
+-- the controller's clock: the greatest clock of the events of earlier commands, so not of those of
+-- the same retire
 abbrev pub controller_at : Stage → List Event → ℕ
 controller_at stage past = commands_clock (length (progress_at stage past).shards) past
 
@@ -167,9 +185,12 @@ abbrev pub publish_clock : List Event → ℕ → ℕ
 publish_clock [] v = 0
 publish_clock (e ∷ past) v = if is_publish_of e.what v then e.clock.0 else publish_clock past v
 
--- the first Switch of a mux in a phase is to a version no older than its own and than the newest from before the phase; each other one is to a newer version
+-- the first Switch of a mux in a phase is to a version no older than its own and than the newest
+-- from before the phase; each other one is to a newer version
 abbrev pub IsLook : List Event → MuxId → ℕ → Type 0
-IsLook past m v = MatchBool (has_looked past m.0) ((version_at past m).0 < v) ((newest_before past ≤ v) × ((version_at past m).0 ≤ v))
+IsLook past m v =
+    MatchBool (has_looked past m.0) ((version_at past m).0 < v)
+    ((newest_before past ≤ v) × ((version_at past m).0 ≤ v))
 
 -- ORDER
 
@@ -191,47 +212,73 @@ is_from (Some l) m = l.mux.0 == m
 -- the event is an arrival of a later packet of the mux, at the server's shard
 abbrev pub arrives_later : Stage → List Event → What → ServerId → ℕ → ℕ → ℕ → Bool
 arrives_later stage all (Arrive k hop server verdict) s h m packet =
-    same_server server s && is_in (segment_of stage k) stage h && is_from (label_of stage all k) m && nat_lt packet k
+    same_server server s && is_in (segment_of stage k) stage h && is_from (label_of stage all k) m
+    && nat_lt packet k
 arrives_later stage all _ s h m packet = false
 
 -- no later packet of the packet's mux has arrived at the server's shard of its flow
 abbrev pub ArrivesInOrder : Stage → List Event → ℕ → ServerId → Type 0
 ArrivesInOrder stage past k server =
-    IfSome (label_of stage past k) (λ l. IfSome (segment_of stage k) (λ s. counts past (λ what. arrives_later stage past what server (shard stage s.flow) l.mux.0 k) ≡ 0))
+    IfSome (label_of stage past k)
+    (λ l. IfSome (segment_of stage k)
+    (λ s. counts past
+    (λ what. arrives_later stage past what server (shard stage s.flow) l.mux.0 k) ≡ 0))
 
--- by one of the sendings of the packet and hop, a copy has this clock at a shard whose last clock is own
+-- by one of the sendings of the packet and hop, a copy has this clock at a shard whose last clock
+-- is own
 abbrev pub IsDueAt : List Fate → List Event → ℕ → Hop → ℕ → ℕ → Type 0
 IsDueAt fates [] k hop own clock = ⊥
 IsDueAt fates (e ∷ past) k hop own clock =
-    ((sends e.what k hop ≡ true) × (clock ≡ next own (e.clock.0 + (fate_now fates).delay))) ⊎ IsDueAt (before fates) past k hop own clock
+    ((sends e.what k hop ≡ true) × (clock ≡ next_clock own (e.clock.0 + (fate_now fates).delay)))
+    ⊎ IsDueAt (before fates) past k hop own clock
 
 -- THE RUN
 
 -- the clock, and the order, of an event of an actor whose last clock is own
 abbrev pub IsTimed : List Fate → Stage → List Event → ℕ → ℕ → What → Type 0
-IsTimed fates stage past own clock (Publish v) = clock ≡ next (controller_at stage past) (moment_of (next_change stage.script.plan (newest past)))
-IsTimed fates stage past own clock Sync = HaveLooked stage past × (clock ≡ next (last_clock past) (moment_at (command_at stage past)))
-IsTimed fates stage past own clock (Close server flow closed) = clock ≡ next own (command_moment stage past)
-IsTimed fates stage past own clock (Retire server h at result) = (at.0 ≡ command_moment stage past) × (clock ≡ next own at.0)
-IsTimed fates stage past own clock (Switch m v) = IsLook past m v.0 × (clock ≡ next own (max (publish_clock past v.0) (sync_clock past)))
+IsTimed fates stage past own clock (Publish v) =
+    clock ≡ next_clock (controller_at stage past)
+    (change_moment (next_change stage.script.plan (newest past)))
+IsTimed fates stage past own clock Sync =
+    HaveLooked stage past
+    × (clock ≡ next_clock (last_clock past) (moment_at (command_at stage past)))
+IsTimed fates stage past own clock (Close server flow closed) =
+    clock ≡ next_clock own (command_moment stage past)
+IsTimed fates stage past own clock (Retire server h at result) =
+    (at.0 ≡ command_moment stage past) × (clock ≡ next_clock own at.0)
+IsTimed fates stage past own clock (Switch m v) =
+    IsLook past m v.0 × (clock ≡ next_clock own (max (publish_clock past v.0) (sync_clock past)))
 IsTimed fates stage past own clock (Steer k m) =
-    (has_looked past m.0 ≡ true) × (counts past (λ what. steers_later what m k) ≡ 0) × (clock ≡ next own (record_moment stage k))
-IsTimed fates stage past own clock (Arrive k hop server verdict) = ArrivesInOrder stage past k server × IsDueAt fates past k hop own clock
+    (has_looked past m.0 ≡ true) × (counts past (λ what. steers_later what m k) ≡ 0)
+    × (clock ≡ next_clock own (record_moment stage k))
+IsTimed fates stage past own clock (Arrive k hop server verdict) =
+    ArrivesInOrder stage past k server × IsDueAt fates past k hop own clock
 IsTimed fates stage past own clock (Lose k hop) = Unit {0}
 
 -- the event may stand after these in a threaded run
-pub record IsThreadStep (fates : List Fate) (stage : Stage) (past : List Event) (e : Event) : Type 0 where
+pub record IsThreadStep (fates : List Fate) (stage : Stage) (past : List Event) (e : Event) : Type
+    0 where
   -- the events of the commands stand in the script's order, those of one retire in any order
   pub command : IsOf (command_at stage past) (progress_at stage past).shards e.what
   -- the events of a packet stand in its phase
   pub phase : IfSome (packet_of e.what) (λ k. phase past ≡ phase_of stage k)
-  pub timed : IsTimed fates stage past (last_own stage past (actor_of stage e.what)) e.clock.0 e.what
+  pub timed : IsTimed fates stage past (last_own stage past (actor_of stage e.what)) e.clock.0
+      e.what
 
 -- each event may stand where it stands
 abbrev pub AreThreadSteps : List Fate → Stage → List Event → Type 0
 AreThreadSteps fates stage [] = Unit {0}
-AreThreadSteps fates stage (e ∷ past) = IsThreadStep (before fates) stage past e × AreThreadSteps (before fates) stage past
+AreThreadSteps fates stage (e ∷ past) =
+    IsThreadStep (before fates) stage past e × AreThreadSteps (before fates) stage past
 
 -- these events, to the end of the last phase, follow the script as the workers of a threaded run do
 abbrev pub FollowsInThreads : List Fate → Stage → List Event → Type 0
 FollowsInThreads fates stage all = AreThreadSteps fates stage all × HaveLooked stage all
+
+-- a run that the workers of a threaded run make of their stage, to the end of the last phase
+pub record IsThreadedRun (R : Routes) (F : Rules) (h : History) : Type 0 where
+  pub run : IsRun h
+  -- one fate for each event, the newest first
+  pub fates : List Fate
+  pub follows : FollowsInThreads fates h.stage (reverse h.events)
+  pub account : IsAccountOf R F h.stage fates (reverse h.events)

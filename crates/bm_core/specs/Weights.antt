@@ -1,15 +1,18 @@
--- How much of a replay is left (docs/DEFINITIONS.md): each event takes at least one from its weight, so a replay ends.
-use Rattle.std.specs.Prelude.{ℕ, zero, suc, ◌+◌, ◌-◌, ◌*◌, ◌^◌, ◌≤◌, List, [], ◌∷◌, length, Option, Some, None, IfSome}
+-- How much of a replay is left (docs/DEFINITIONS.md): each event takes at least one from its
+-- weight, so a replay ends.
+use Rattle.std.specs.Prelude.{ℕ, zero, suc, ◌+◌, ◌-◌, ◌*◌, ◌^◌, ◌≤◌, List, [], ◌∷◌, length, Option}
+use Rattle.std.specs.Prelude.{Some, None, IfSome}
 use Rattle.bm_base.specs.declared.label.Hop.{Hop}
 use Rattle.bm_base.specs.declared.label.Hop.TheVariants.{Direct, Chained}
-use Rattle.bm_base.specs.declared.receive.Fate.{Fate}
+use Rattle.bm_base.specs.declared.fate.Fate.{Fate}
 use Rattle.bm_core.specs.declared.events.Event.{Event}
 use Rattle.bm_core.specs.declared.events.Stage.{Stage}
 use Rattle.bm_core.specs.declared.schedule.Call.{Call}
 use Rattle.bm_core.specs.declared.schedule.Underway.{Underway}
 use Rattle.bm_core.specs.Past.{is_switch_of, newest, sending_of}
 use Rattle.bm_core.specs.Accounts.{counts, fate_now, before}
-use Rattle.bm_core.specs.Schedule.{wire, due_loss, left, close_commands, retire_commands, sync_commands, packets_from, closes, retires, syncs, steers}
+use Rattle.bm_core.specs.Schedule.{wire, due_loss, left, close_commands, retire_commands}
+use Rattle.bm_core.specs.Schedule.{sync_commands, packets_from, closes, retires, syncs, steers}
 
 -- at most three copies, each delayed at most a minute
 abbrev pub IsSoon : Fate → Type 0
@@ -18,7 +21,8 @@ IsSoon f = (f.copies ≤ 3) × (f.delay ≤ 60 * 10 ^ 9)
 -- each sending's fate is such a one
 abbrev pub AreSoon : List Fate → List Event → Type 0
 AreSoon fates [] = Unit {0}
-AreSoon fates (e ∷ past) = IfSome (sending_of e.what) (λ s. IsSoon (fate_now fates)) × AreSoon (before fates) past
+AreSoon fates (e ∷ past) =
+    IfSome (sending_of e.what) (λ s. IsSoon (fate_now fates)) × AreSoon (before fates) past
 
 -- a copy arrives; a direct one may be forwarded in three copies
 abbrev pub hop_weight : Hop → ℕ
@@ -33,29 +37,34 @@ abbrev pub loss_weight : Option Call → ℕ
 loss_weight None = 0
 loss_weight (Some loss) = 1
 
--- the packets that are left, each with a Steer and three direct copies, the copies under way, and a loss that is due
+-- the packets that are left, each with a Steer and three direct copies, the copies under way, and a
+-- loss that is due
 abbrev pub packets_weight : ℕ → List Underway → Option Call → ℕ
 packets_weight packets w loss = 13 * packets + (wire_weight w + loss_weight loss)
 
 -- the Switches that the first n muxes have left, of so many
 abbrev pub switches_weight : ℕ → List Event → ℕ → ℕ
 switches_weight changes past zero = 0
-switches_weight changes past (suc m) = (changes - counts past (λ what. is_switch_of what m)) + switches_weight changes past m
+switches_weight changes past (suc m) =
+    (changes - counts past (λ what. is_switch_of what m)) + switches_weight changes past m
 
 -- the closes, retires and syncs that are left
 abbrev pub commands_weight : Stage → List Event → ℕ
 commands_weight stage past =
     length (left (close_commands stage.script.commands) past closes)
-    + (length (left (retire_commands stage.script.setting.shards stage.script.commands) past retires)
+    + (length
+    (left (retire_commands stage.script.setting.shards stage.script.commands) past retires)
     + length (left (sync_commands stage.script.commands) past syncs))
 
 -- the Publishes and Switches that are left
 abbrev pub changes_weight : Stage → List Event → ℕ
 changes_weight stage past =
-    (length stage.script.plan.changes - newest past) + switches_weight (length stage.script.plan.changes) past stage.script.setting.muxes
+    (length stage.script.plan.changes - newest past) + switches_weight
+    (length stage.script.plan.changes) past stage.script.setting.muxes
 
 -- at most so many events are left
 abbrev pub weight : List Fate → Stage → List Event → ℕ
 weight fates stage past =
-    packets_weight (length (left (packets_from 1 stage.capture.records) past steers)) (wire fates past) (due_loss fates past)
+    packets_weight (length (left (packets_from 1 stage.capture.records) past steers))
+    (wire fates past) (due_loss fates past)
     + (commands_weight stage past + changes_weight stage past)

@@ -1,22 +1,24 @@
 //! The laws of the protocol, over every run. Each is a function that does nothing: its contract is
 //! the law.
-ghost use Rattle.std.specs.Prelude.{◌≡◌, ◌≤◌, ◌*◌, ◌^◌, ◌&&◌, ◌==◌, ℕ, List, length, Some, is_some, reverse, true};
+ghost use Rattle.std.specs.Prelude.{◌≡◌, ◌≤◌, ◌*◌, ◌^◌, ◌&&◌, ◌==◌, ℕ, List, length, Some, is_some};
+ghost use Rattle.std.specs.Prelude.{reverse, true};
 ghost use Rattle.bm_base.specs.declared.flow.Flow.{Flow};
 ghost use Rattle.bm_base.specs.declared.ids.MuxId.{MuxId};
 ghost use Rattle.bm_base.specs.declared.ids.ServerId.{ServerId};
 ghost use Rattle.bm_base.specs.declared.label.Hop.{Hop};
 ghost use Rattle.bm_base.specs.declared.label.Label.{Label};
-ghost use Rattle.bm_base.specs.declared.receive.Fate.{Fate};
+ghost use Rattle.bm_base.specs.declared.fate.Fate.{Fate};
 ghost use Rattle.bm_core.specs.declared.events.Event.{Event};
 ghost use Rattle.bm_core.specs.declared.events.What.{What};
 ghost use Rattle.bm_core.specs.Books.{AreDistinct, book_local, book_of, is_listed};
 ghost use Rattle.bm_core.specs.Causes.{cause};
 ghost use Rattle.bm_core.specs.Histories.{IsNextIn, IsReplay};
-ghost use Rattle.bm_core.specs.Laws.{At, IsFault, IsLate, IsRetiredDrop, IsServed, IsServedPacket, IsUnbrokenArrival, IsUnbrokenPacket};
+ghost use Rattle.bm_core.specs.Laws.{At, IsFault, IsLate, IsRetiredDrop, IsServed, IsServedPacket};
+ghost use Rattle.bm_core.specs.Laws.{IsUnbrokenArrival, IsUnbrokenPacket};
 ghost use Rattle.bm_core.specs.Logs.{log_of};
 ghost use Rattle.bm_core.specs.Past.{flows_held, held, label_of, shard, version_at};
 ghost use Rattle.bm_core.specs.Pins.{IsKeptTo, IsPinned};
-ghost use Rattle.bm_core.specs.Rules.{RouteBy, RuleBy, fate_of, mux_of};
+ghost use Rattle.bm_core.specs.Rules.{RouteBy, RuleBy, setting_fate, setting_mux};
 ghost use Rattle.bm_core.specs.Runs.Actor.{MuxOf};
 ghost use Rattle.bm_core.specs.Runs.{IsRun, last_clock};
 ghost use Rattle.bm_core.specs.Schedule.{Follows};
@@ -47,7 +49,8 @@ pub fn served(h: &History, packet: u32)
 pub fn causes(h: &History, place: usize)
     requires run { IsRun h.now }
     requires fault { At h.now place (λ stage past clock what. IsFault stage past what) }
-    ensures { At h.now place (λ stage past clock what. is_some (cause stage past clock what) ≡ true) }
+    ensures { At h.now place
+        (λ stage past clock what. is_some (cause stage past clock what) ≡ true) }
 {}
 
 /// Only a packet that is dropped, reset or processed elsewhere has a cause.
@@ -57,8 +60,8 @@ pub fn only_faults(stage: &Stage)
 {}
 
 /// What a retired shard drops comes late: the clock is past the stamp of its label by more than the
-/// timeout. This is said of a direct copy at a server that isn't its owner's, by a label no older than
-/// the owner's version, since which the bucket moved at most once.
+/// timeout. This is said of a direct copy at a server that isn't its owner's, by a label no older
+/// than the owner's version, since which the bucket moved at most once.
 pub fn retired_late(h: &History, place: usize)
     requires run { IsRun h.now }
     requires dropped { At h.now place (λ stage past clock what. IsRetiredDrop stage past what) }
@@ -77,7 +80,8 @@ pub fn pinned(h: &History, packet: u32)
 pub fn some_replay(stage: &Stage)
     requires { IsSound stage.now }
     ensures { let setting = stage.now.script.setting in
-        (h : History) × (h.stage ≡ stage.now) × IsReplay (RouteBy (mux_of setting)) (RuleBy (fate_of setting)) h }
+        (h : History) × (h.stage ≡ stage.now)
+        × IsReplay (RouteBy (setting_mux setting)) (RuleBy (setting_fate setting)) h }
 {}
 
 /// A replay is determined by its stage, its route and its fault rule.
@@ -121,7 +125,8 @@ pub fn held_flows(stage: &Stage)
     ensures held { (past : List Event) (s : ServerId) (h : ℕ) (f : Flow)
         → is_listed (flows_held stage.now past s h) f
         ≡ (shard stage.now f == h && is_some (held stage.now past s f)) }
-    ensures once { (past : List Event) (s : ServerId) (h : ℕ) → AreDistinct (flows_held stage.now past s h) }
+    ensures once { (past : List Event) (s : ServerId) (h : ℕ)
+        → AreDistinct (flows_held stage.now past s h) }
 {}
 
 /// A mux's version, and the label of each packet that has one, are what the mux's own log says.

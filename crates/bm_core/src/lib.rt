@@ -5,13 +5,11 @@ mod clock;
 mod events;
 pub mod laws;
 mod schedule;
-mod trail;
 mod verdict;
 
 pub use clock::next_clock;
 pub use events::{Cause, Event, History, Local, Log, Stage, Verdict, What, Why};
 pub use schedule::{Call, Due, Underway};
-pub use trail::Trail;
 pub use verdict::decide;
 
 #[cfg(test)]

@@ -1,9 +1,7 @@
 use super::*;
-use bm_base::{Capture, Flow, Hop, List, Moment, MuxId, Segment, ServerId, Tag, Taken, Version};
+use bm_base::{Flow, Hop, Moment, MuxId, Segment, ServerId, Tag, Taken, Version};
 use bm_seq::Receiver;
-use bm_table::{Plan, Script, Setting};
 use std::process::Abort;
-use std::test::Fail;
 
 const SYN: u8 = 0x02;
 
@@ -135,32 +133,4 @@ fn a_segment_of_no_connection_is_passed_on_or_refused(rt: HostRuntime) {
 fn a_clock_is_after_both(rt: HostRuntime) {
     assert_eq!(rt; next_clock(Moment(2), Moment(500)), Moment(501));
     assert_eq!(rt; next_clock(Moment(501), Moment(500)), Moment(502));
-}
-
-#[test]
-fn a_trail_has_the_events_that_were_pushed(rt: HostRuntime) -> Result<(), Fail> {
-    let alloc = rt.alloc();
-    let servers = [ServerId(1), ServerId(2)];
-    let stage = Stage {
-        script: Script {
-            setting: Setting::plain(alloc)?,
-            plan: Plan::new(alloc, 8, &servers)?,
-            commands: List::of(Vec::new(alloc)),
-        },
-        capture: Capture {
-            records: List::of(Vec::new(alloc)),
-            cut: None,
-        },
-    };
-    let mut trail = Trail::new(alloc, stage);
-    let sync = Event {
-        clock: Moment(6),
-        what: What::Sync,
-    };
-    trail.push(sync)?;
-    assert_eq!(rt; trail.stage().script.setting.buckets, 8);
-    assert_eq!(rt; trail.events(), [sync].as_slice());
-    let history = trail.into_history();
-    assert_eq!(rt; history.events.items(), [sync].as_slice());
-    Ok(())
 }

@@ -28,7 +28,8 @@ pub fn decide(local: &Local, tag: &Tag, s: &Segment, clock: Moment, timeout: u64
 
 /// The verdict on a segment of a flow that isn't held, and that may not be accepted.
 fn pass_on(tag: &Tag, s: &Segment, clock: Moment, timeout: u64) -> Verdict
-    ensures { result ≡ passed_on timeout clock.0 tag.now.hop (onward (entry_of tag.now) tag.now.hop) s.now }
+    ensures { result ≡ passed_on timeout clock.0 tag.now.hop (onward (entry_of tag.now) tag.now.hop)
+        s.now }
 {
     match (tag.hop, tag.prev) {
         (Hop::Chained, _) => refuse(Why::ChainedUnknown, s),

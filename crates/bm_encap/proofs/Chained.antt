@@ -15,5 +15,7 @@ chains octets inner tag next is hop =
     let rest : inner ≡ drop 44 octets = ap (λ (x : Tag × List ℕ). x.1) r.1 in
     let long : 44 ≤ length octets = (says octets r.0).long in
     let total : 44 + length (drop 44 octets) ≡ length octets = omega (arith, length-drop 44 octets, long) in
-    let P : ℕ → Type 0 = λ m. spelling_of (Ok next) (drop 44 octets) ≡ Ok (header next m (checksum_of (header next m 0)) ++ drop 44 octets) in
+    let P : ℕ → Type 0 =
+    λ m. spelling_of (Ok next) (drop 44 octets)
+    ≡ Ok (header next m (checksum_of (header next m 0)) ++ drop 44 octets) in
     ap chained_from is ∙ (ap (λ t. spelling_of t inner) hop ∙ (ap (spelling_of (Ok next)) rest ∙ subst P total refl))

@@ -4,7 +4,8 @@ use Rattle.std.specs.Prelude.{◌==◌, nat_lt}
 use Rattle.bm_base.specs.declared.label.Tag.{Tag}
 use Rattle.bm_ipv4.specs.Checksum.{checksum_of}
 use Rattle.bm_ipv4.specs.Fields.{u16_at}
-use Rattle.bm_encap.specs.Faults.{encap_fault, fault_when, first_fault, option_fault, or_read, outer_fault, tag_in, unwrapped, without_sum}
+use Rattle.bm_encap.specs.Faults.{encap_fault, fault_when, first_fault, option_fault, or_read, outer_fault, tag_in}
+use Rattle.bm_encap.specs.Faults.{unwrapped, without_sum}
 use Rattle.bm_encap.specs.declared.fault.EncapFault.{EncapFault}
 use Rattle.bm_encap.specs.declared.fault.EncapFault.TheVariants.{Short, BadSum, BadLength}
 
@@ -16,7 +17,8 @@ pub record IsFaultless (octets : List ℕ) : Type 0 where
   pub total : (u16_at octets 2 == length octets) ≡ true
 
 -- where none is there, the first isn't, and none of the others is
-pub first_none : (fault : Option EncapFault) (faults : List (Option EncapFault)) → first_fault (fault ∷ faults) ≡ None → (fault ≡ None) × (first_fault faults ≡ None)
+pub first_none : (fault : Option EncapFault) (faults : List (Option EncapFault)) → first_fault (fault ∷ faults) ≡ None
+    → (fault ≡ None) × (first_fault faults ≡ None)
 first_none None faults is = (refl, is)
 first_none (Some fault) faults is = absurd (cc)
 
@@ -47,11 +49,13 @@ pub reads : (octets : List ℕ) → IsFaultless octets → unwrapped octets ≡ 
 unfolding unwrapped
 reads octets is = rw (is.long, is.outer, is.sum, is.option, is.total) refl
 
-read_none : (fault : Option EncapFault) (octets : List ℕ) (read : Tag × List ℕ) → or_read fault octets ≡ Ok read → (fault ≡ None) × (read ≡ (tag_in octets, drop 44 octets))
+read_none : (fault : Option EncapFault) (octets : List ℕ) (read : Tag × List ℕ) → or_read fault octets ≡ Ok read
+    → (fault ≡ None) × (read ≡ (tag_in octets, drop 44 octets))
 read_none None octets read is = (refl, cc)
 read_none (Some fault) octets read is = absurd (cc)
 
 -- what was read is what the octets say
-pub read_is : (octets : List ℕ) (read : Tag × List ℕ) → unwrapped octets ≡ Ok read → IsFaultless octets × (read ≡ (tag_in octets, drop 44 octets))
+pub read_is : (octets : List ℕ) (read : Tag × List ℕ) → unwrapped octets ≡ Ok read → IsFaultless octets
+    × (read ≡ (tag_in octets, drop 44 octets))
 unfolding unwrapped
 read_is octets read is = let r = read_none (encap_fault octets) octets read is in (faultless octets r.0, r.1)

@@ -1,5 +1,6 @@
 -- Numbers and their octets.
-use Rattle.std.proofs.Common.{◌≡◌, ℕ, zero, suc, ◌+◌, ◌*◌, ◌^◌, ◌<◌, ◌≤◌, List, [], ◌∷◌, ◌++◌, length, drop, take, slice_index, append_assoc, refl, ap, ap₂, sym, subst, ◌∙◌, arith}
+use Rattle.std.proofs.Common.{◌≡◌, ℕ, zero, suc, ◌+◌, ◌*◌, ◌^◌, ◌<◌, ◌≤◌, List, [], ◌∷◌, ◌++◌, length, drop, take}
+use Rattle.std.proofs.Common.{slice_index, append_assoc, refl, ap, ap₂, sym, subst, ◌∙◌, arith}
 use Rattle.std.proofs.lemmas.List.{get_or-drop, drop-drop, length-drop}
 use Rattle.std.proofs.lemmas.Nat.{be_bytes_4, be_bytes_8}
 use Rattle.byteorder.specs.Endian.{big_bytes, big_number}
@@ -30,7 +31,9 @@ front4 [] v len are is = absurd (omega arith)
 front4 (a ∷ []) v len are is = absurd (omega arith)
 front4 (a ∷ b ∷ []) v len are is = absurd (omega arith)
 front4 (a ∷ b ∷ c ∷ []) v len are is = absurd (omega arith)
-front4 (a ∷ b ∷ c ∷ d ∷ xs) v len are is = ap (λ (ys : List ℕ). ys ++ xs) (sym (be_bytes_4 (a ∷ b ∷ c ∷ d ∷ []) v refl (octets_front 4 (a ∷ b ∷ c ∷ d ∷ xs) are) (sym is ∙ omega arith)))
+front4 (a ∷ b ∷ c ∷ d ∷ xs) v len are is =
+    ap (λ (ys : List ℕ). ys ++ xs)
+    (sym (be_bytes_4 (a ∷ b ∷ c ∷ d ∷ []) v refl (octets_front 4 (a ∷ b ∷ c ∷ d ∷ xs) are) (sym is ∙ omega arith)))
 
 front8 : (xs : List ℕ) (v : ℕ) → 8 ≤ length xs → AreOctets xs → big_number 8 xs ≡ v → xs ≡ big_bytes 8 v ++ drop 8 xs
 front8 [] v len are is = absurd (omega arith)
@@ -41,7 +44,10 @@ front8 (a ∷ b ∷ c ∷ d ∷ []) v len are is = absurd (omega arith)
 front8 (a ∷ b ∷ c ∷ d ∷ e ∷ []) v len are is = absurd (omega arith)
 front8 (a ∷ b ∷ c ∷ d ∷ e ∷ f ∷ []) v len are is = absurd (omega arith)
 front8 (a ∷ b ∷ c ∷ d ∷ e ∷ f ∷ g ∷ []) v len are is = absurd (omega arith)
-front8 (a ∷ b ∷ c ∷ d ∷ e ∷ f ∷ g ∷ h ∷ xs) v len are is = ap (λ (ys : List ℕ). ys ++ xs) (sym (be_bytes_8 (a ∷ b ∷ c ∷ d ∷ e ∷ f ∷ g ∷ h ∷ []) v refl (octets_front 8 (a ∷ b ∷ c ∷ d ∷ e ∷ f ∷ g ∷ h ∷ xs) are) (sym is ∙ omega arith)))
+front8 (a ∷ b ∷ c ∷ d ∷ e ∷ f ∷ g ∷ h ∷ xs) v len are is =
+    ap (λ (ys : List ℕ). ys ++ xs)
+    (sym (be_bytes_8 (a ∷ b ∷ c ∷ d ∷ e ∷ f ∷ g ∷ h ∷ []) v refl
+    (octets_front 8 (a ∷ b ∷ c ∷ d ∷ e ∷ f ∷ g ∷ h ∷ xs) are) (sym is ∙ omega arith)))
 
 pub octets_from : (n : ℕ) (xs : List ℕ) → AreOctets xs → AreOctets (drop n xs)
 octets_from n xs are i = subst (λ (x : ℕ). x < 256) (sym (get_or-drop n xs i 0)) (are (n + i))
@@ -51,31 +57,39 @@ octets_from n xs are i = subst (λ (x : ℕ). x < 256) (sym (get_or-drop n xs i 
 abbrev pub Stands : List ℕ → ℕ → ℕ → ℕ → Type 0
 Stands xs at width v = drop at xs ≡ big_bytes width v ++ drop (at + width) xs
 
-stands : (xs : List ℕ) (at width v : ℕ) → drop at xs ≡ big_bytes width v ++ drop width (drop at xs) → Stands xs at width v
+stands : (xs : List ℕ) (at width v : ℕ) → drop at xs ≡ big_bytes width v ++ drop width (drop at xs)
+    → Stands xs at width v
 stands xs at width v is = is ∙ ap (λ (ys : List ℕ). big_bytes width v ++ ys) (drop-drop width at xs)
 
 first_at : (xs : List ℕ) (at : ℕ) → slice_index (drop at xs) 0 ≡ octet_at xs at
 first_at xs at = let here : at + 0 ≡ at = omega arith in get_or-drop at xs 0 0 ∙ ap (λ k. slice_index xs k) here
 
 pub stands1 : (xs : List ℕ) (at v : ℕ) → at + 1 ≤ length xs → AreOctets xs → octet_at xs at ≡ v → Stands xs at 1 v
-stands1 xs at v len are is = stands xs at 1 v (front1 (drop at xs) v (omega (arith, length-drop at xs)) (octets_from at xs are) (first_at xs at ∙ is))
+stands1 xs at v len are is =
+    stands xs at 1 v
+    (front1 (drop at xs) v (omega (arith, length-drop at xs)) (octets_from at xs are) (first_at xs at ∙ is))
 
 pub stands2 : (xs : List ℕ) (at v : ℕ) → at + 2 ≤ length xs → AreOctets xs → u16_at xs at ≡ v → Stands xs at 2 v
 unfolding u16_at
-stands2 xs at v len are is = stands xs at 2 v (front2 (drop at xs) v (omega (arith, length-drop at xs)) (octets_from at xs are) is)
+stands2 xs at v len are is =
+    stands xs at 2 v (front2 (drop at xs) v (omega (arith, length-drop at xs)) (octets_from at xs are) is)
 
 pub stands4 : (xs : List ℕ) (at v : ℕ) → at + 4 ≤ length xs → AreOctets xs → u32_at xs at ≡ v → Stands xs at 4 v
 unfolding u32_at
-stands4 xs at v len are is = stands xs at 4 v (front4 (drop at xs) v (omega (arith, length-drop at xs)) (octets_from at xs are) is)
+stands4 xs at v len are is =
+    stands xs at 4 v (front4 (drop at xs) v (omega (arith, length-drop at xs)) (octets_from at xs are) is)
 
 pub stands8 : (xs : List ℕ) (at v : ℕ) → at + 8 ≤ length xs → AreOctets xs → u64_at xs at ≡ v → Stands xs at 8 v
 unfolding u64_at
-stands8 xs at v len are is = stands xs at 8 v (front8 (drop at xs) v (omega (arith, length-drop at xs)) (octets_from at xs are) is)
+stands8 xs at v len are is =
+    stands xs at 8 v (front8 (drop at xs) v (omega (arith, length-drop at xs)) (octets_from at xs are) is)
 
 -- two octets as a number
 pub pair_at : (xs : List ℕ) (at : ℕ) → u16_at xs at ≡ octet_at xs at * 256 + octet_at xs (at + 1)
 unfolding u16_at
-pair_at xs at = let second : slice_index (drop at xs) 1 ≡ octet_at xs (at + 1) = get_or-drop at xs 1 0 in omega (arith, first_at xs at, second)
+pair_at xs at =
+    let second : slice_index (drop at xs) 1 ≡ octet_at xs (at + 1) =
+    get_or-drop at xs 1 0 in omega (arith, first_at xs at, second)
 
 -- numbers that stand one behind the other
 abbrev pub AllStand : List ℕ → ℕ → List (ℕ × ℕ) → Type 0
@@ -86,7 +100,8 @@ abbrev pub end_of : ℕ → List (ℕ × ℕ) → ℕ
 end_of at [] = at
 end_of at (f ∷ fields) = end_of (at + f.0) fields
 
-pub all_stand : (xs : List ℕ) (at : ℕ) (fields : List (ℕ × ℕ)) → AllStand xs at fields → drop at xs ≡ spelled fields ++ drop (end_of at fields) xs
+pub all_stand : (xs : List ℕ) (at : ℕ) (fields : List (ℕ × ℕ)) → AllStand xs at fields → drop at xs ≡ spelled fields
+    ++ drop (end_of at fields) xs
 all_stand xs at [] all = refl
 all_stand xs at (f ∷ fields) all =
     all.0 ∙ (ap (λ (ys : List ℕ). big_bytes f.0 f.1 ++ ys) (all_stand xs (at + f.0) fields all.1)

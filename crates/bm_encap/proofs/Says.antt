@@ -1,5 +1,6 @@
 -- What octets without a fault say, fact by fact.
-use Rattle.std.proofs.Common.{◌≡◌, ℕ, ◌+◌, ◌<◌, ◌≤◌, Bool, true, false, not, ◌&&◌, List, [], ◌∷◌, length, Option, Some, None, refl, arith}
+use Rattle.std.proofs.Common.{◌≡◌, ℕ, ◌+◌, ◌<◌, ◌≤◌, Bool, true, false, not, ◌&&◌, List, [], ◌∷◌, length, Option, Some}
+use Rattle.std.proofs.Common.{None, refl, arith}
 use Rattle.std.specs.Prelude.{◌==◌, nat_lt, if◌then◌else◌, is_none}
 use Rattle.std.specs.List.{AllByRecursion}
 use Rattle.std.proofs.lemmas.Bool.{eqb-true, le-ltb, ltb-false}
@@ -7,7 +8,8 @@ use Rattle.std.proofs.lemmas.Bool.Decides.{nat_tests}
 use Rattle.bm_ipv4.specs.Checksum.{checksum_of}
 use Rattle.bm_ipv4.specs.Fields.{octet_at, u16_at, u32_at}
 use Rattle.bm_base.specs.Addresses.{mux_address, mux_at, server_at}
-use Rattle.bm_encap.specs.Faults.{bad_prev_address, bad_prev_code, differing, fault_when, option_fault, option_octets, outer_fault, outer_octets, prev_fault, u64_at, without_sum}
+use Rattle.bm_encap.specs.Faults.{bad_prev_address, bad_prev_code, differing, fault_when, option_fault, option_octets}
+use Rattle.bm_encap.specs.Faults.{outer_fault, outer_octets, prev_fault, u64_at, without_sum}
 use Rattle.bm_encap.specs.declared.fault.EncapFault.{EncapFault}
 use Rattle.bm_encap.specs.declared.fault.EncapFault.TheVariants.{BadOuter, BadOption}
 use Rattle.bm_encap.proofs.Faultless.{IsFaultless, first_none, when_none, not_false}
@@ -30,21 +32,26 @@ pub record Says (octets : List ℕ) : Type 0 where
   pub spare : u16_at octets 42 ≡ 0
   pub total : u16_at octets 2 ≡ length octets
 
-same_octet : (b : Bool) (rest : Option EncapFault) (fault : EncapFault) → (if b then rest else Some fault) ≡ None → (b ≡ true) × (rest ≡ None)
+same_octet : (b : Bool) (rest : Option EncapFault) (fault : EncapFault) → (if b then rest else Some fault) ≡ None
+    → (b ≡ true) × (rest ≡ None)
 same_octet true rest fault is = (refl, is)
 same_octet false rest fault is = absurd (cc)
 
-each_same : (octets : List ℕ) (fault : ℕ → EncapFault) (fixed : List (ℕ × ℕ)) → differing octets fault fixed ≡ None → HasOctets octets fixed
+each_same : (octets : List ℕ) (fault : ℕ → EncapFault) (fixed : List (ℕ × ℕ)) → differing octets fault fixed ≡ None
+    → HasOctets octets fixed
 unfolding differing
 each_same octets fault [] is = tt
 each_same octets fault (p ∷ fixed) is =
     let s = same_octet (octet_at octets p.0 == p.1) (differing octets fault fixed) (fault p.0) is in
     (eqb-true (octet_at octets p.0) p.1 s.0, each_same octets fault fixed s.1)
 
-none_differs : (octets : List ℕ) (fault : ℕ → EncapFault) (fixed : List (ℕ × ℕ)) → HasOctets octets fixed → differing octets fault fixed ≡ None
+none_differs : (octets : List ℕ) (fault : ℕ → EncapFault) (fixed : List (ℕ × ℕ)) → HasOctets octets fixed
+    → differing octets fault fixed ≡ None
 unfolding differing
 none_differs octets fault [] all = refl
-none_differs octets fault (p ∷ fixed) all = let same : (octet_at octets p.0 == p.1) ≡ true = grind (arith, nat_tests, all.0) in rw same (none_differs octets fault fixed all.1)
+none_differs octets fault (p ∷ fixed) all =
+    let same : (octet_at octets p.0 == p.1) ≡ true =
+    grind (arith, nat_tests, all.0) in rw same (none_differs octets fault fixed all.1)
 
 pub server_range : (addr : ℕ) → is_none (server_at addr) ≡ false → (0xac10_0000 < addr) × (addr ≤ 0xac10_0400)
 server_range addr is = grind (arith, nat_tests, is)
@@ -71,7 +78,8 @@ says octets is =
     let g = first_none (fault_when (bad_prev_code octets) (BadOption 23)) _ f.0 in
     let h = first_none (fault_when (bad_prev_address octets) (BadOption 24)) _ g.1 in
     let i = first_none (fault_when (octet_at octets 23 == 0 && not (u64_at octets 28 == 0)) (BadOption 28)) _ f.1 in
-    let j = first_none (fault_when (not (mux_address (record { 0 = u16_at octets 40 }) == u32_at octets 12)) (BadOption 40)) _ i.1 in
+    let j = first_none
+    (fault_when (not (mux_address (record { 0 = u16_at octets 40 }) == u32_at octets 12)) (BadOption 40)) _ i.1 in
     let k = first_none (fault_when (not (u16_at octets 42 == 0)) (BadOption 42)) _ j.1 in
     record {
       long = ltb-false (length octets) 44 is.long;
@@ -94,12 +102,18 @@ pub faultless_from : (octets : List ℕ) → Says octets → IsFaultless octets
 unfolding outer_fault option_fault prev_fault
 faultless_from octets is =
     let hop : nat_lt 1 (octet_at octets 22) ≡ false = le-ltb 1 (octet_at octets 22) is.hop in
-    let mux : (mux_address (record { 0 = u16_at octets 40 }) == u32_at octets 12) ≡ true = grind (arith, nat_tests, is.same_mux) in
+    let mux : (mux_address (record { 0 = u16_at octets 40 }) == u32_at octets 12) ≡ true =
+    grind (arith, nat_tests, is.same_mux) in
     let spare : (u16_at octets 42 == 0) ≡ true = grind (arith, nat_tests, is.spare) in
     record {
       long = le-ltb (length octets) 44 is.long;
-      outer = rw (none_differs octets BadOuter outer_octets is.outer, mux_there (u32_at octets 12) is.mux.0 is.mux.1, server_there (u32_at octets 16) is.dest.0 is.dest.1) refl;
+      outer = rw (
+        none_differs octets BadOuter outer_octets is.outer,
+        mux_there (u32_at octets 12) is.mux.0 is.mux.1,
+        server_there (u32_at octets 16) is.dest.0 is.dest.1,
+      ) refl;
       sum = grind (arith, nat_tests, is.sum);
-      option = rw (none_differs octets BadOption option_octets is.option, hop, is.code, is.address, is.stamp, mux, spare) refl;
+      option = rw
+          (none_differs octets BadOption option_octets is.option, hop, is.code, is.address, is.stamp, mux, spare) refl;
       total = grind (arith, nat_tests, is.total);
     }

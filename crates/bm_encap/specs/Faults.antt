@@ -1,5 +1,7 @@
 -- The first fault of octets that are no carrier header with a packet, and what else they say.
-use Rattle.std.specs.Prelude.{ℕ, ◌-◌, Bool, not, ◌&&◌, ◌||◌, ◌==◌, nat_lt, if◌then◌else◌, List, [], ◌∷◌, length, take, drop, slice_set, Option, Some, None, is_none, Result, Ok, Err}
+use Rattle.std.specs.Prelude.{ℕ, ◌-◌, Bool, not, ◌&&◌, ◌||◌, ◌==◌, nat_lt, if◌then◌else◌, List, []}
+use Rattle.std.specs.Prelude.{◌∷◌, length, take, drop, slice_set, Option, Some, None, is_none}
+use Rattle.std.specs.Prelude.{Result, Ok, Err}
 use Rattle.byteorder.specs.Endian.{big_number}
 use Rattle.bm_base.specs.declared.ids.ServerId.{ServerId}
 use Rattle.bm_base.specs.declared.label.Hop.{Hop}
@@ -10,7 +12,8 @@ use Rattle.bm_ipv4.specs.Fields.{octet_at, u16_at, u32_at}
 use Rattle.bm_base.specs.Addresses.{mux_address, mux_at, server_at}
 use Rattle.bm_encap.specs.Spellings.{header_length, spelling}
 use Rattle.bm_encap.specs.declared.fault.EncapFault.{EncapFault}
-use Rattle.bm_encap.specs.declared.fault.EncapFault.TheVariants.{Short, BadOuter, BadSum, BadOption, BadLength}
+use Rattle.bm_encap.specs.declared.fault.EncapFault.TheVariants.{Short, BadOuter, BadSum, BadOption}
+use Rattle.bm_encap.specs.declared.fault.EncapFault.TheVariants.{BadLength}
 
 -- the number in the eight octets from this place on
 unfoldable pub u64_at : List ℕ → ℕ → ℕ
@@ -35,11 +38,14 @@ fault_when stands fault = if stands then Some fault else None
 -- at the first of these places where another octet stands
 unfoldable pub differing : List ℕ → (ℕ → EncapFault) → List (ℕ × ℕ) → Option EncapFault
 differing octets fault [] = None
-differing octets fault (p ∷ fixed) = if octet_at octets p.0 == p.1 then differing octets fault fixed else Some (fault p.0)
+differing octets fault (p ∷ fixed) =
+    if octet_at octets p.0 == p.1 then differing octets fault fixed else Some (fault p.0)
 
 -- octets of the outer header that are always the same, by their places
 abbrev pub outer_octets : List (ℕ × ℕ)
-outer_octets = (0, 0x4b) ∷ (1, 0x00) ∷ (4, 0x00) ∷ (5, 0x00) ∷ (6, 0x40) ∷ (7, 0x00) ∷ (8, 0x40) ∷ (9, 0x04) ∷ []
+outer_octets =
+    (0, 0x4b) ∷ (1, 0x00) ∷ (4, 0x00) ∷ (5, 0x00) ∷ (6, 0x40) ∷ (7, 0x00) ∷ (8, 0x40) ∷ (9, 0x04)
+    ∷ []
 
 unfoldable pub outer_fault : List ℕ → Option EncapFault
 outer_fault octets = first_fault (
@@ -54,13 +60,17 @@ option_octets = (20, 0x9e) ∷ (21, 0x18) ∷ []
 
 -- whether there is a previous server: neither 0 nor 1, or 0 in a chained packet
 abbrev pub bad_prev_code : List ℕ → Bool
-bad_prev_code octets = nat_lt 1 (octet_at octets 23) || (octet_at octets 23 == 0 && octet_at octets 22 == 1)
+bad_prev_code octets =
+    nat_lt 1 (octet_at octets 23) || (octet_at octets 23 == 0 && octet_at octets 22 == 1)
 
--- the previous server's address: not zero where there is none; or no server's, or the destination's in a direct packet, or another in a chained one
+-- the previous server's address: not zero where there is none; or no server's, or the destination's
+-- in a direct packet, or another in a chained one
 abbrev pub bad_prev_address : List ℕ → Bool
 bad_prev_address octets =
     if octet_at octets 23 == 0 then not (u32_at octets 24 == 0)
-    else is_none (server_at (u32_at octets 24)) || (if octet_at octets 22 == 0 then u32_at octets 24 == u32_at octets 16 else not (u32_at octets 24 == u32_at octets 16))
+    else is_none (server_at (u32_at octets 24))
+    || (if octet_at octets 22 == 0 then u32_at octets 24 == u32_at octets 16
+    else not (u32_at octets 24 == u32_at octets 16))
 
 unfoldable pub prev_fault : List ℕ → Option EncapFault
 prev_fault octets = first_fault (
@@ -77,7 +87,8 @@ option_fault octets = first_fault (
     -- a stamp without a previous server
     ∷ fault_when (octet_at octets 23 == 0 && not (u64_at octets 28 == 0)) (BadOption 28)
     -- the mux isn't the source's
-    ∷ fault_when (not (mux_address (record { 0 = u16_at octets 40 }) == u32_at octets 12)) (BadOption 40)
+    ∷ fault_when (not (mux_address (record { 0 = u16_at octets 40 }) == u32_at octets 12))
+    (BadOption 40)
     ∷ fault_when (not (u16_at octets 42 == 0)) (BadOption 42)
     ∷ [])
 
@@ -100,7 +111,8 @@ abbrev pub hop_of : ℕ → Hop
 hop_of octet = if octet == 0 then Direct else Chained
 
 abbrev pub prev_in : List ℕ → Option ServerId
-prev_in octets = if octet_at octets 23 == 0 then None else Some (server_of_address (u32_at octets 24))
+prev_in octets =
+    if octet_at octets 23 == 0 then None else Some (server_of_address (u32_at octets 24))
 
 abbrev pub tag_in : List ℕ → Tag
 tag_in octets = record {
@@ -139,6 +151,7 @@ abbrev pub chained_from : Result (Tag × List ℕ) EncapFault → Result (List �
 chained_from (Err fault) = Err fault
 chained_from (Ok read) = spelling_of (next_hop read.0) read.1
 
--- the same packet with the header of the next hop: the first fault, or else why there is no such hop, or else the octets
+-- the same packet with the header of the next hop: the first fault, or else why there is no such
+-- hop, or else the octets
 abbrev pub chained : List ℕ → Result (List ℕ) EncapFault
 chained octets = chained_from (unwrapped octets)

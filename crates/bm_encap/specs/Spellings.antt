@@ -1,4 +1,5 @@
--- The carrier header of a tag (docs/FORMATS.md): an IPv4 header (RFC 791) with one option of 24 octets.
+-- The carrier header of a tag (docs/FORMATS.md): an IPv4 header (RFC 791) with one option of 24
+-- octets.
 use Rattle.std.specs.Prelude.{ℕ, ◌+◌, List, [], ◌∷◌, ◌++◌, length, Option, Some, None}
 use Rattle.byteorder.specs.Endian.{big_bytes}
 use Rattle.bm_base.specs.declared.ids.ServerId.{ServerId}
@@ -61,6 +62,9 @@ header tag total sum = spelled (fields tag total sum)
 abbrev pub header_length : ℕ
 header_length = 44
 
--- the header of the tag, and behind it the packet within. The checksum is that of the header with zero in its place
+-- the header of the tag, and behind it the packet within. The checksum is that of the header with
+-- zero in its place
 abbrev pub spelling : Tag → List ℕ → List ℕ
-spelling tag inner = header tag (header_length + length inner) (checksum_of (header tag (header_length + length inner) 0)) ++ inner
+spelling tag inner =
+    header tag (header_length + length inner)
+    (checksum_of (header tag (header_length + length inner) 0)) ++ inner

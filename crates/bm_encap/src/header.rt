@@ -1,5 +1,7 @@
 //! The carrier header of a tag.
-ghost use Rattle.std.specs.Prelude.{◌≡◌, ◌++◌, ◌≤◌, length, drop, MatchResult, Ok as ok, Err as err};
+ghost use Rattle.std.specs.Prelude.{◌≡◌, ◌+◌, ◌++◌, ◌≤◌, length, take, drop, MatchResult, Ok as ok};
+ghost use Rattle.std.specs.Prelude.{Err as err};
+ghost use Rattle.byteorder.specs.Endian.{big_bytes};
 ghost use Rattle.bm_ipv4.specs.Checksum.{checksum_of};
 ghost use Rattle.bm_encap.specs.Faults as faults;
 ghost use Rattle.bm_encap.specs.Faults.{chained};
@@ -9,7 +11,9 @@ ghost use Rattle.bm_base.specs.Tags.{IsTag};
 use crate::fault::EncapFault;
 use crate::read::unwrap;
 use bm_base::{Hop, Memory, Tag, mux_addr, server_addr};
+use bm_ipv4::fields::{write_u16, write_u32};
 use bm_ipv4::header_sum;
+use byteorder::{BigEndian, ByteOrder};
 
 /// How many octets the header has.
 pub(crate) const HEADER: usize = 44;
@@ -68,35 +72,48 @@ fn next_hop(tag: &Tag) -> Result<Tag, EncapFault>
 
 /// The header of the tag for this total length, with its checksum.
 fn summed(tag: &Tag, total: u16) -> [u8; 44]
-    ensures { result ≡ spellings.header tag.now total (checksum_of (spellings.header tag.now total 0)) }
+    ensures { result
+        ≡ spellings.header tag.now total (checksum_of (spellings.header tag.now total 0)) }
 {
     header(tag, total, header_sum(&header(tag, total, 0)))
 }
+
+/// The octets of a header that are the same for every tag, and zero elsewhere.
+const PLAIN: [u8; 44] = [
+    0x4b, 0, 0, 0, 0, 0, 0x40, 0, 0x40, 4, 0, 0, 0, 0, 0, 0, 0, 0, 0, 0, 0x9e, 0x18, 0, 0, 0, 0, 0,
+    0, 0, 0, 0, 0, 0, 0, 0, 0, 0, 0, 0, 0, 0, 0, 0, 0,
+];
 
 /// The header of the tag for this total length, with this checksum.
 #[tactic(auto, unfolding(crate::specs::Spellings::header))]
 fn header(tag: &Tag, total: u16, sum: u16) -> [u8; 44]
     ensures { result ≡ spellings.header tag.now total sum }
 {
-    let [l0, l1] = total.to_be_bytes();
-    let [s0, s1] = sum.to_be_bytes();
-    let [m0, m1, m2, m3] = mux_addr(tag.mux).to_be_bytes();
-    let [d0, d1, d2, d3] = server_addr(tag.dest).to_be_bytes();
     let (there, prev) = match tag.prev {
         None => (0, 0),
         Some(server) => (1, server_addr(server)),
     };
-    let [p0, p1, p2, p3] = prev.to_be_bytes();
-    let [t0, t1, t2, t3, t4, t5, t6, t7] = tag.stamp.0.to_be_bytes();
-    let [v0, v1, v2, v3] = tag.version.0.to_be_bytes();
-    let [x0, x1] = tag.mux.0.to_be_bytes();
-    let hop = match tag.hop {
+    let mut octets = PLAIN;
+    write_u16(&mut octets, 2, total);
+    write_u16(&mut octets, 10, sum);
+    write_u32(&mut octets, 12, mux_addr(tag.mux));
+    write_u32(&mut octets, 16, server_addr(tag.dest));
+    octets[22] = match tag.hop {
         Hop::Direct => 0,
         Hop::Chained => 1,
     };
-    [
-        0x4b, 0, l0, l1, 0, 0, 0x40, 0, 0x40, 4, s0, s1, m0, m1, m2, m3, d0, d1, d2, d3, 0x9e,
-        0x18, hop, there, p0, p1, p2, p3, t0, t1, t2, t3, t4, t5, t6, t7, v0, v1, v2, v3, x0, x1,
-        0, 0,
-    ]
+    octets[23] = there;
+    write_u32(&mut octets, 24, prev);
+    write_u64(&mut octets, 28, tag.stamp.0);
+    write_u32(&mut octets, 36, tag.version.0);
+    write_u16(&mut octets, 40, tag.mux.0);
+    octets
+}
+
+/// Writes a number to the eight octets from this place on.
+fn write_u64(octets: &mut [u8], at: usize, number: u64)
+    requires { at + 8 ≤ length octets.old }
+    ensures { octets.new ≡ take at octets.old ++ big_bytes 8 number ++ drop (at + 8) octets.old }
+{
+    BigEndian::write_u64(&mut octets[at..], number);
 }

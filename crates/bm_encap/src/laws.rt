@@ -7,8 +7,8 @@ ghost use Rattle.bm_base.specs.Tags.{IsTag};
 
 use bm_base::Tag;
 
-/// The spelling of a valid tag has no fault, and says the tag and the packet. So no octets spell two
-/// tags.
+/// The spelling of a valid tag has no fault, and says the tag and the packet. So no octets spell
+/// two tags.
 pub fn spelling_is_read(tag: &Tag, inner: &[u8])
     requires tag { IsTag tag.now }
     requires inner { length inner.now ≤ 65491 }
@@ -20,5 +20,6 @@ pub fn spelling_is_read(tag: &Tag, inner: &[u8])
 
 /// Octets without a fault are the spelling of what they say, and their tag is valid.
 pub fn only_spellings_are_read(octets: &[u8])
-    ensures { IfOk (unwrapped octets.now) (λ read. IsTag read.0 × (octets.now ≡ spelling read.0 read.1)) }
+    ensures { IfOk (unwrapped octets.now)
+        (λ read. IsTag read.0 × (octets.now ≡ spelling read.0 read.1)) }
 {}

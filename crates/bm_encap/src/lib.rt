@@ -1,5 +1,5 @@
-//! Carrier headers: a packet on its way to a server, with what a mux wrote on it (IPv4 in IPv4, with
-//! an option).
+//! Carrier headers: a packet on its way to a server, with what a mux wrote on it (IPv4 in IPv4,
+//! with an option).
 #![tactic(auto)]
 
 mod fault;

@@ -1,9 +1,12 @@
 //! Reads carrier headers.
-ghost use Rattle.std.specs.Prelude.{◌≡◌, ◌≤◌, ◌<◌, ◌+◌, ℕ, nat_lt, ◌^◌, length, All, IfOk, MatchResult, Ok as ok, Err as err, Some, None};
+ghost use Rattle.std.specs.Prelude.{◌≡◌, ◌≤◌, ◌<◌, ◌+◌, ℕ, nat_lt, ◌^◌, length, All, IfOk};
+ghost use Rattle.std.specs.Prelude.{MatchResult, Ok as ok, Err as err, Some, None};
 ghost use Rattle.std.specs.Option.{option_map};
 ghost use Rattle.bm_ipv4.specs.Fields.{octet_at, u16_at, u32_at};
 ghost use Rattle.bm_encap.specs.Faults as faults;
-ghost use Rattle.bm_encap.specs.Faults.{fault_when, hop_of, option_fault, outer_fault, prev_fault, prev_in, server_of_address, tag_in, u64_at, unwrapped, without_sum};
+ghost use Rattle.bm_encap.specs.Faults.{fault_when, hop_of, option_fault, outer_fault, prev_fault};
+ghost use Rattle.bm_encap.specs.Faults.{prev_in, server_of_address, tag_in, u64_at, unwrapped};
+ghost use Rattle.bm_encap.specs.Faults.{without_sum};
 ghost use Rattle.bm_base.specs.Tags.{IsTag};
 ghost use Rattle.bm_encap.specs.declared.fault.EncapFault.{EncapFault as Fault};
 ghost use Rattle.bm_encap.specs.declared.fault.EncapFault.TheVariants.{BadOption};
@@ -19,8 +22,10 @@ use byteorder::{BigEndian, ByteOrder};
 /// The tag of the header, and the packet behind it, which borrows the octets. Takes no memory.
 #[tactic(auto, unfolding(crate::specs::Faults::unwrapped))]
 pub fn unwrap(octets: &[u8]) -> Result<(Tag, &[u8]), EncapFault>
-    ensures read { MatchResult result (λ read. unwrapped octets.now ≡ ok (read.0, read.1.now)) (λ fault. unwrapped octets.now ≡ err fault) }
-    ensures total { IfOk result (λ read. (length octets.now ≡ 44 + length read.1.now) × (length octets.now < 2 ^ 16)) }
+    ensures read { MatchResult result (λ read. unwrapped octets.now ≡ ok (read.0, read.1.now))
+        (λ fault. unwrapped octets.now ≡ err fault) }
+    ensures total { IfOk result
+        (λ read. (length octets.now ≡ 44 + length read.1.now) × (length octets.now < 2 ^ 16)) }
     ensures tag { IfOk result (λ read. IsTag read.0) }
 {
     if octets.len() < HEADER {
@@ -56,7 +61,8 @@ const OPTION: [(u8, u8); 2] = [(20, 0x9e), (21, 0x18)];
 fn differing(octets: &[u8], fixed: &[(u8, u8)]) -> Option<u8>
     requires long { 44 ≤ length octets.now }
     requires fixed { All (λ p. p.0 < 44) fixed.now }
-    ensures { (fault : ℕ → Fault) → faults.differing octets.now fault fixed.now ≡ option_map fault result }
+    ensures { (fault : ℕ → Fault)
+        → faults.differing octets.now fault fixed.now ≡ option_map fault result }
 {
     for (place, octet) in fixed {
         if octets[usize::from(*place)] != *octet {
@@ -71,7 +77,8 @@ fn differing(octets: &[u8], fixed: &[(u8, u8)]) -> Option<u8>
 fn read_outer(octets: &[u8]) -> Result<ServerId, EncapFault>
     requires { 44 ≤ length octets.now }
     ensures { MatchResult result
-        (λ dest. (outer_fault octets.now ≡ None) × (dest ≡ server_of_address (u32_at octets.now 16)))
+        (λ dest. (outer_fault octets.now ≡ None)
+        × (dest ≡ server_of_address (u32_at octets.now 16)))
         (λ fault. outer_fault octets.now ≡ Some fault) }
 {
     if let Some(place) = differing(octets, &OUTER) {
@@ -132,7 +139,8 @@ fn read_option(octets: &[u8], dest: ServerId) -> Result<Tag, EncapFault>
 
 fn read_hop(octet: u8) -> Result<Hop, EncapFault>
     ensures { MatchResult result
-        (λ hop. (fault_when (nat_lt 1 octet) (BadOption 22) ≡ None) × (octet ≤ 1) × (hop ≡ hop_of octet))
+        (λ hop. (fault_when (nat_lt 1 octet) (BadOption 22) ≡ None) × (octet ≤ 1)
+        × (hop ≡ hop_of octet))
         (λ fault. fault_when (nat_lt 1 octet) (BadOption 22) ≡ Some fault) }
 {
     match octet {

@@ -110,9 +110,8 @@ fn an_octet_is_changed(rt: HostRuntime) {
 }
 
 // The same for both headers, where the checksum is made right.
-const MENDED: [Row; 6] = [
+const MENDED: [Row; 5] = [
     (2, 3, Some(BadLength)),
-    (10, 11, None),
     (20, 20, Some(BadOption(20))),
     (21, 21, Some(BadOption(21))),
     (40, 41, Some(BadOption(40))),
@@ -170,6 +169,8 @@ fn an_octet_is_changed_and_the_checksum_too(rt: HostRuntime) {
             assert_damaged(&rt, header, true, change, &MENDED);
         }
     }
+    // The first octet as that of a header without options, 45.
+    assert_damaged(&rt, &DIRECT, true, 0x0e, &[(0, 0, Some(BadOuter(0)))]);
     assert_damaged(&rt, &DIRECT, true, 0x01, &DIRECT_01);
     assert_damaged(&rt, &DIRECT, true, 0x80, &DIRECT_80_FF);
     assert_damaged(&rt, &DIRECT, true, 0xff, &DIRECT_80_FF);
@@ -226,4 +227,15 @@ fn octets_are_cut_or_added(rt: HostRuntime) {
         *octet = *given;
     }
     assert_eq!(rt; unwrap(&longer).err(), Some(BadLength));
+}
+
+#[test]
+fn faults_print_their_place(rt: HostRuntime) -> Result<(), Fail> {
+    for (fault, want) in [
+        (BadOuter(12), "octet 12 of the outer header isn't right"),
+        (BadOption(42), "octet 42 of the option isn't right"),
+    ] {
+        assert_eq!(rt; fault.to_string(rt.alloc())?.as_str(), want);
+    }
+    Ok(())
 }

@@ -1,5 +1,6 @@
 -- Rows found by packet and hop.
-use Rattle.std.proofs.Common.{◌≡◌, ℕ, ◌+◌, ◌<◌, ◌≤◌, Bool, true, false, cond, List, [], ◌∷◌, ◌++◌, refl, sym, ap, ◌∙◌, arith, map, drop, Option, Some, None, length, get_or, ◌*◌, ◌^◌}
+use Rattle.std.proofs.Common.{◌≡◌, ℕ, ◌+◌, ◌<◌, ◌≤◌, Bool, true, false, cond, List, [], ◌∷◌, ◌++◌, refl, sym, ap, ◌∙◌}
+use Rattle.std.proofs.Common.{arith, map, drop, Option, Some, None, length, get_or, ◌*◌, ◌^◌}
 use Rattle.std.specs.Prelude.{◌==◌, ◌&&◌, if◌then◌else◌, unwrap_or}
 use Rattle.std.specs.BTreeMap.{BTreeMap, get}
 use Rattle.std.specs.List.{AllByRecursion}
@@ -11,36 +12,44 @@ use Rattle.std.proofs.lemmas.Bool.{cond_both}
 use Rattle.std.proofs.lemmas.Bool.Decides.{nat_tests}
 use Rattle.bm_base.specs.declared.label.Hop.{Hop}
 use Rattle.bm_base.specs.declared.label.Hop.TheVariants.{Direct, Chained}
-use Rattle.bm_base.specs.declared.receive.Fate.{Fate}
+use Rattle.bm_base.specs.declared.fate.Fate.{Fate}
 use Rattle.bm_table.specs.declared.setting.FaultRow.{FaultRow}
 use Rattle.bm_table.specs.Settings.{IsFaultRow}
 use Rattle.bm_fault.specs.Rows.{plain_fate, same_hop, fate_in, fate_or, row_fate, found_in}
 use Rattle.bm_fault.specs.declared.rows.FaultRows.TheInside.{Inside}
 use Rattle.bm_fault.specs.Views.{row_of, rows_of}
 
-fate_found_step : (b : Bool) (fate fates : Fate) (found : Option Fate) → fates ≡ unwrap_or found plain_fate → cond b fate fates ≡ unwrap_or (fate_or (cond b (Some fate) None) found) plain_fate
+fate_found_step : (b : Bool) (fate fates : Fate) (found : Option Fate) → fates ≡ unwrap_or found plain_fate
+    → cond b fate fates ≡ unwrap_or (fate_or (cond b (Some fate) None) found) plain_fate
 fate_found_step true fate fates found is = refl
 fate_found_step false fate fates found is = is
 
 -- what is found, or one copy without delay
-pub fate_found : (rows : List FaultRow) (k : ℕ) (hop : Hop) → fate_in rows k hop ≡ unwrap_or (found_in rows k hop) plain_fate
+pub fate_found : (rows : List FaultRow) (k : ℕ) (hop : Hop)
+    → fate_in rows k hop ≡ unwrap_or (found_in rows k hop) plain_fate
 fate_found [] k hop = refl
-fate_found (row ∷ rows) k hop = fate_found_step (row.packet == k && same_hop row.hop hop) row.fate _ _ (fate_found rows k hop)
+fate_found (row ∷ rows) k hop =
+    fate_found_step (row.packet == k && same_hop row.hop hop) row.fate _ _ (fate_found rows k hop)
 
 fate_or_assoc : (a b c : Option Fate) → fate_or (fate_or a b) c ≡ fate_or a (fate_or b c)
 fate_or_assoc None b c = refl
 fate_or_assoc (Some a) b c = refl
 
-pub found_append : (xs ys : List FaultRow) (k : ℕ) (hop : Hop) → found_in (xs ++ ys) k hop ≡ fate_or (found_in xs k hop) (found_in ys k hop)
+pub found_append : (xs ys : List FaultRow) (k : ℕ) (hop : Hop)
+    → found_in (xs ++ ys) k hop ≡ fate_or (found_in xs k hop) (found_in ys k hop)
 found_append [] ys k hop = refl
-found_append (x ∷ xs) ys k hop = ap (λ f. fate_or (row_fate x k hop) f) (found_append xs ys k hop) ∙ sym (fate_or_assoc (row_fate x k hop) (found_in xs k hop) (found_in ys k hop))
+found_append (x ∷ xs) ys k hop =
+    ap (λ f. fate_or (row_fate x k hop) f) (found_append xs ys k hop)
+    ∙ sym (fate_or_assoc (row_fate x k hop) (found_in xs k hop) (found_in ys k hop))
 
 -- rows of a hop answer by the entries, and say nothing of another hop
-found_here : (k : ℕ) (hop : Hop) (es : List (ℕ × Fate)) → same_hop hop hop ≡ true → found_in (map (row_of hop) es) k hop ≡ lookup (λ q. is_eq (nat_cmp k q)) es
+found_here : (k : ℕ) (hop : Hop) (es : List (ℕ × Fate)) → same_hop hop hop ≡ true
+    → found_in (map (row_of hop) es) k hop ≡ lookup (λ q. is_eq (nat_cmp k q)) es
 found_here k hop [] same = refl
 found_here k hop (e ∷ es) same = grind (arith, nat_tests, unsigned_tied, found_here k hop es same)
 
-found_elsewhere : (k : ℕ) (hop other : Hop) (es : List (ℕ × Fate)) → same_hop hop other ≡ false → found_in (map (row_of hop) es) k other ≡ None
+found_elsewhere : (k : ℕ) (hop other : Hop) (es : List (ℕ × Fate)) → same_hop hop other ≡ false
+    → found_in (map (row_of hop) es) k other ≡ None
 found_elsewhere k hop other [] apart = refl
 found_elsewhere k hop other (e ∷ es) apart = grind (arith, nat_tests, found_elsewhere k hop other es apart)
 
@@ -51,24 +60,33 @@ or_none (Some a) = refl
 found_direct : (r : Inside) (k : ℕ) → found_in (rows_of r) k Direct ≡ get nat_cmp r.direct k
 found_direct r k =
     found_append (map (row_of Direct) r.direct.entries) (map (row_of Chained) r.chained.entries) k Direct
-    ∙ (ap (λ f. fate_or (found_in (map (row_of Direct) r.direct.entries) k Direct) f) (found_elsewhere k Chained Direct r.chained.entries refl)
+    ∙ (ap (λ f. fate_or (found_in (map (row_of Direct) r.direct.entries) k Direct) f)
+    (found_elsewhere k Chained Direct r.chained.entries refl)
     ∙ (or_none (found_in (map (row_of Direct) r.direct.entries) k Direct) ∙ found_here k Direct r.direct.entries refl))
 
 found_chained : (r : Inside) (k : ℕ) → found_in (rows_of r) k Chained ≡ get nat_cmp r.chained k
 found_chained r k =
     found_append (map (row_of Direct) r.direct.entries) (map (row_of Chained) r.chained.entries) k Chained
-    ∙ (ap (λ f. fate_or f (found_in (map (row_of Chained) r.chained.entries) k Chained)) (found_elsewhere k Direct Chained r.direct.entries refl)
+    ∙ (ap (λ f. fate_or f (found_in (map (row_of Chained) r.chained.entries) k Chained))
+    (found_elsewhere k Direct Chained r.direct.entries refl)
     ∙ found_here k Chained r.chained.entries refl)
 
 -- the fate of a hop is what its entries say
-pub fate_direct : (r : Inside) (rows : List FaultRow) (k : ℕ) → rows_of r ≡ rows → unwrap_or (get nat_cmp r.direct k) plain_fate ≡ fate_in rows k Direct
-fate_direct r rows k is = ap (λ f. unwrap_or f plain_fate) (sym (found_direct r k)) ∙ (sym (fate_found (rows_of r) k Direct) ∙ ap (λ (xs : List FaultRow). fate_in xs k Direct) is)
+pub fate_direct : (r : Inside) (rows : List FaultRow) (k : ℕ) → rows_of r ≡ rows
+    → unwrap_or (get nat_cmp r.direct k) plain_fate ≡ fate_in rows k Direct
+fate_direct r rows k is =
+    ap (λ f. unwrap_or f plain_fate) (sym (found_direct r k))
+    ∙ (sym (fate_found (rows_of r) k Direct) ∙ ap (λ (xs : List FaultRow). fate_in xs k Direct) is)
 
-pub fate_chained : (r : Inside) (rows : List FaultRow) (k : ℕ) → rows_of r ≡ rows → unwrap_or (get nat_cmp r.chained k) plain_fate ≡ fate_in rows k Chained
-fate_chained r rows k is = ap (λ f. unwrap_or f plain_fate) (sym (found_chained r k)) ∙ (sym (fate_found (rows_of r) k Chained) ∙ ap (λ (xs : List FaultRow). fate_in xs k Chained) is)
+pub fate_chained : (r : Inside) (rows : List FaultRow) (k : ℕ) → rows_of r ≡ rows
+    → unwrap_or (get nat_cmp r.chained k) plain_fate ≡ fate_in rows k Chained
+fate_chained r rows k is =
+    ap (λ f. unwrap_or f plain_fate) (sym (found_chained r k))
+    ∙ (sym (fate_found (rows_of r) k Chained) ∙ ap (λ (xs : List FaultRow). fate_in xs k Chained) is)
 
 -- what a row says of its own hop, and of the other
-row_says : (row : FaultRow) (k : ℕ) (hop : Hop) → same_hop row.hop hop ≡ true → row_fate row k hop ≡ (if row.packet == k then Some row.fate else None)
+row_says : (row : FaultRow) (k : ℕ) (hop : Hop) → same_hop row.hop hop ≡ true
+    → row_fate row k hop ≡ (if row.packet == k then Some row.fate else None)
 row_says row k hop same = grind (arith, nat_tests, same)
 
 row_silent : (row : FaultRow) (k : ℕ) (hop : Hop) → same_hop row.hop hop ≡ false → row_fate row k hop ≡ None
@@ -76,30 +94,37 @@ row_silent row k hop apart = grind (arith, nat_tests, apart)
 
 -- a row that was noted
 abbrev pub Notes : BTreeMap ℕ Fate → BTreeMap ℕ Fate → FaultRow → Type 0
-Notes old new row = (k : ℕ) → get nat_cmp new k ≡ fate_or (get nat_cmp old k) (if row.packet == k then Some row.fate else None)
+Notes old new row =
+    (k : ℕ) → get nat_cmp new k ≡ fate_or (get nat_cmp old k) (if row.packet == k then Some row.fate else None)
 
 -- a row was noted: it says what nothing said before
 abbrev pub Adds : List FaultRow → List FaultRow → FaultRow → Type 0
 Adds old new row = (k : ℕ) (hop : Hop) → found_in new k hop ≡ fate_or (found_in old k hop) (row_fate row k hop)
 
-pub noted_direct : (r : Inside) (rows : List FaultRow) (new : BTreeMap ℕ Fate) (row : FaultRow) → rows_of r ≡ rows → row.hop ≡ Direct → Notes r.direct new row → Adds rows (rows_of (record { direct = new; chained = r.chained })) row
+pub noted_direct : (r : Inside) (rows : List FaultRow) (new : BTreeMap ℕ Fate) (row : FaultRow) → rows_of r ≡ rows
+    → row.hop ≡ Direct → Notes r.direct new row → Adds rows (rows_of (record { direct = new; chained = r.chained })) row
 noted_direct r rows new row is hop notes k Direct =
     found_direct (record { direct = new; chained = r.chained }) k
     ∙ (notes k
-    ∙ (ap (λ f. fate_or f (if row.packet == k then Some row.fate else None)) (sym (found_direct r k) ∙ ap (λ (xs : List FaultRow). found_in xs k Direct) is)
+    ∙ (ap (λ f. fate_or f (if row.packet == k then Some row.fate else None))
+    (sym (found_direct r k) ∙ ap (λ (xs : List FaultRow). found_in xs k Direct) is)
     ∙ ap (λ f. fate_or (found_in rows k Direct) f) (sym (row_says row k Direct (ap (λ h. same_hop h Direct) hop)))))
 noted_direct r rows new row is hop notes k Chained =
     found_chained (record { direct = new; chained = r.chained }) k
     ∙ (sym (found_chained r k)
     ∙ (ap (λ (xs : List FaultRow). found_in xs k Chained) is
     ∙ (sym (or_none (found_in rows k Chained))
-    ∙ ap (λ f. fate_or (found_in rows k Chained) f) (sym (row_silent row k Chained (ap (λ h. same_hop h Chained) hop))))))
+    ∙ ap (λ f. fate_or (found_in rows k Chained) f)
+    (sym (row_silent row k Chained (ap (λ h. same_hop h Chained) hop))))))
 
-pub noted_chained : (r : Inside) (rows : List FaultRow) (new : BTreeMap ℕ Fate) (row : FaultRow) → rows_of r ≡ rows → row.hop ≡ Chained → Notes r.chained new row → Adds rows (rows_of (record { direct = r.direct; chained = new })) row
+pub noted_chained : (r : Inside) (rows : List FaultRow) (new : BTreeMap ℕ Fate) (row : FaultRow) → rows_of r ≡ rows
+    → row.hop ≡ Chained → Notes r.chained new row
+    → Adds rows (rows_of (record { direct = r.direct; chained = new })) row
 noted_chained r rows new row is hop notes k Chained =
     found_chained (record { direct = r.direct; chained = new }) k
     ∙ (notes k
-    ∙ (ap (λ f. fate_or f (if row.packet == k then Some row.fate else None)) (sym (found_chained r k) ∙ ap (λ (xs : List FaultRow). found_in xs k Chained) is)
+    ∙ (ap (λ f. fate_or f (if row.packet == k then Some row.fate else None))
+    (sym (found_chained r k) ∙ ap (λ (xs : List FaultRow). found_in xs k Chained) is)
     ∙ ap (λ f. fate_or (found_in rows k Chained) f) (sym (row_says row k Chained (ap (λ h. same_hop h Chained) hop)))))
 noted_chained r rows new row is hop notes k Direct =
     found_direct (record { direct = r.direct; chained = new }) k
@@ -116,21 +141,27 @@ SaysAll kept left rows = (k : ℕ) (hop : Hop) → fate_or (found_in kept k hop)
 pub says_first : (rows : List FaultRow) → SaysAll [] rows rows
 says_first rows k hop = refl
 
-pub says_more : (kept new rows : List FaultRow) (i : ℕ) (d : FaultRow) → i < length rows → Adds kept new (get_or rows i d) → SaysAll kept (drop i rows) rows → SaysAll new (drop (i + 1) rows) rows
+pub says_more : (kept new rows : List FaultRow) (i : ℕ) (d : FaultRow) → i < length rows
+    → Adds kept new (get_or rows i d) → SaysAll kept (drop i rows) rows → SaysAll new (drop (i + 1) rows) rows
 says_more kept new rows i d below adds says k hop =
-    let first : drop i rows ≡ get_or rows i d ∷ drop (i + 1) rows = at_drop_more (λ (xs : List FaultRow). xs) rows i d below in
+    let first : drop i rows ≡ get_or rows i d ∷ drop (i + 1) rows =
+    at_drop_more (λ (xs : List FaultRow). xs) rows i d below in
     ap (λ f. fate_or f (found_in (drop (i + 1) rows) k hop)) (adds k hop)
     ∙ (fate_or_assoc (found_in kept k hop) (row_fate (get_or rows i d) k hop) (found_in (drop (i + 1) rows) k hop)
     ∙ (ap (λ (xs : List FaultRow). fate_or (found_in kept k hop) (found_in xs k hop)) (sym first) ∙ says k hop))
 
-pub says_all : (kept rows : List FaultRow) → SaysAll kept [] rows → (k : ℕ) (hop : Hop) → fate_in kept k hop ≡ fate_in rows k hop
+pub says_all : (kept rows : List FaultRow) → SaysAll kept [] rows → (k : ℕ) (hop : Hop)
+    → fate_in kept k hop ≡ fate_in rows k hop
 says_all kept rows says k hop =
     fate_found kept k hop
-    ∙ (ap (λ f. unwrap_or f plain_fate) (sym (or_none (found_in kept k hop)) ∙ says k hop) ∙ sym (fate_found rows k hop))
+    ∙ (ap (λ f. unwrap_or f plain_fate) (sym (or_none (found_in kept k hop)) ∙ says k hop)
+    ∙ sym (fate_found rows k hop))
 
 -- rows within the limits give fates within them
-pub limits : (rows : List FaultRow) → AllByRecursion IsFaultRow rows → (k : ℕ) (hop : Hop) → ((fate_in rows k hop).copies ≤ 3) × ((fate_in rows k hop).delay ≤ 60 * 10 ^ 9)
+pub limits : (rows : List FaultRow) → AllByRecursion IsFaultRow rows → (k : ℕ) (hop : Hop)
+    → ((fate_in rows k hop).copies ≤ 3) × ((fate_in rows k hop).delay ≤ 60 * 10 ^ 9)
 limits [] all k hop = (omega arith, omega arith)
 limits (row ∷ rows) all k hop =
-    cond_both (row.packet == k && same_hop row.hop hop) row.fate (fate_in rows k hop) (λ fate. (fate.copies ≤ 3) × (fate.delay ≤ 60 * 10 ^ 9))
+    cond_both (row.packet == k && same_hop row.hop hop) row.fate (fate_in rows k hop)
+    (λ fate. (fate.copies ≤ 3) × (fate.delay ≤ 60 * 10 ^ 9))
     (λ _. (all.0.copies, all.0.delay)) (λ _. limits rows all.1 k hop)

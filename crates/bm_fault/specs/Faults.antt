@@ -2,7 +2,7 @@
 use Rattle.std.specs.Prelude.{ℕ, ◌≤◌, ◌*◌, ◌^◌}
 use denote.Param.Members.{Shared}
 use Rattle.bm_base.specs.declared.label.Hop.{Hop}
-use Rattle.bm_base.specs.declared.receive.Fate.{Fate}
+use Rattle.bm_base.specs.declared.fate.Fate.{Fate}
 
 module _ {F : Type 0} (g : Shared F (ℕ × (Hop × Unit {0})) Fate) (f : F) where
   -- a call with this packet and this hop may give this fate
@@ -13,4 +13,5 @@ module _ {F : Type 0} (g : Shared F (ℕ × (Hop × Unit {0})) Fate) (f : F) whe
   pub record IsRule : Type 0 where
     pub takes : (packet : ℕ) (hop : Hop) → g.pre f (packet, (hop, tt))
     pub copies : (packet : ℕ) (hop : Hop) (fate : Fate) → Gives packet hop fate → fate.copies ≤ 3
-    pub delay : (packet : ℕ) (hop : Hop) (fate : Fate) → Gives packet hop fate → fate.delay ≤ 60 * 10 ^ 9
+    pub delay : (packet : ℕ) (hop : Hop) (fate : Fate) → Gives packet hop fate
+        → fate.delay ≤ 60 * 10 ^ 9

@@ -7,7 +7,8 @@ use Rattle.bm_fault.specs.declared.wire.Flight.{Flight}
 -- one more copy, behind those that are due no later
 abbrev pub put_flying : Flying → List Flying → List Flying
 put_flying f [] = f ∷ []
-put_flying f (x ∷ flying) = if nat_lt f.due.0 x.due.0 then f ∷ x ∷ flying else x ∷ put_flying f flying
+put_flying f (x ∷ flying) =
+    if nat_lt f.due.0 x.due.0 then f ∷ x ∷ flying else x ∷ put_flying f flying
 
 -- when the first one is due
 abbrev pub first_due : List Flying → Option Moment

@@ -11,7 +11,8 @@ pub struct Faults<F> {
 }
 
 impl<F: Fn(u32, Hop) -> Fate> Faults<F> {
-    /// The faults by a rule whose answers are all within the limits: at most 3 copies, at most a minute late.
+    /// The faults by a rule whose answers are all within the limits: at most 3 copies, at most a
+    /// minute late.
     pub fn new(f: F) -> Faults<F>
         requires { IsRule F.Fn f }
         ensures value { result.rule ≡ f }
@@ -20,7 +21,8 @@ impl<F: Fn(u32, Hop) -> Fate> Faults<F> {
         Faults { rule: f }
     }
 
-    /// The fate of a sending of this packet with this hop: what the rule answers. The delay is nanoseconds.
+    /// The fate of a sending of this packet with this hop: what the rule answers. The delay is
+    /// nanoseconds.
     pub fn fate(&self, packet: u32, hop: Hop) -> Fate
         requires { IsRule F.Fn self.now.rule }
         ensures gives { Gives F.Fn self.now.rule packet hop result }

@@ -35,10 +35,12 @@ impl Model for FaultRows {
 }
 
 impl FaultRows {
-    /// The rows that count: of two with the same packet and hop, the first. `Memory` where memory was
-    /// refused. Takes time in proportion to n log n, which no clause says.
+    /// The rows that count: of two with the same packet and hop, the first. `Memory` where memory
+    /// was refused. Takes time in proportion to n log n, which no clause says.
     pub fn new(alloc: Global, rows: &[FaultRow]) -> Result<FaultRows, Memory>
-        ensures { IfOk result (λ kept. (packet : ℕ) (hop : _) → fate_in kept packet hop ≡ fate_in rows.now packet hop) }
+        ensures { IfOk result
+            (λ kept. (packet : ℕ) (hop : _)
+            → fate_in kept packet hop ≡ fate_in rows.now packet hop) }
     {
         let mut kept = FaultRows {
             direct: BTreeMap::new(alloc),
@@ -52,7 +54,10 @@ impl FaultRows {
 
     /// Takes a row, unless one with its packet and hop is there.
     fn note(&mut self, row: &FaultRow) -> Result<(), Memory>
-        ensures { IfOk result (λ _. (packet : ℕ) (hop : _) → found_in self.new packet hop ≡ fate_or (found_in self.old packet hop) (row_fate row.now packet hop)) }
+        ensures { IfOk result
+            (λ _. (packet : ℕ) (hop : _)
+            → found_in self.new packet hop ≡ fate_or (found_in self.old packet hop)
+            (row_fate row.now packet hop)) }
     {
         match row.hop {
             Hop::Direct => note_fate(&mut self.direct, row.packet, row.fate),
@@ -60,7 +65,8 @@ impl FaultRows {
         }
     }
 
-    /// The fate in the first row of the packet and hop, or else one copy without delay. Takes time in proportion to log n.
+    /// The fate in the first row of the packet and hop, or else one copy without delay. Takes time
+    /// in proportion to log n.
     pub fn fate(&self, packet: u32, hop: Hop) -> Fate
         ensures { result ≡ fate_in self.now packet hop }
     {
@@ -80,7 +86,10 @@ fn fate_of(fates: &BTreeMap<u32, Fate>, packet: u32) -> Fate
 
 /// Takes a packet's fate, unless the packet has one.
 fn note_fate(fates: &mut BTreeMap<u32, Fate>, packet: u32, fate: Fate) -> Result<(), Memory>
-    ensures { IfOk result (λ _. (k : ℕ) → get nat_cmp fates.new k ≡ fate_or (get nat_cmp fates.old k) (if packet == k then Some fate else None)) }
+    ensures { IfOk result
+        (λ _. (k : ℕ)
+        → get nat_cmp fates.new k
+        ≡ fate_or (get nat_cmp fates.old k) (if packet == k then Some fate else None)) }
 {
     if !fates.contains_key(&packet) {
         fates.insert(packet, fate)?;

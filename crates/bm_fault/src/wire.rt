@@ -6,7 +6,7 @@ ghost use Rattle.bm_fault.specs.Views.{flying, IsKept};
 
 use bm_base::{Memory, Moment, Tag};
 use std::alloc::Global;
-use std::collections::BTreeMap;
+use std::collections::VecDeque;
 use std::marker::Model;
 
 /// A copy of a packet that is under way, with what it carries.
@@ -16,14 +16,18 @@ pub struct Flight {
     pub tag: Tag,
 }
 
-/// The copies that are under way, in the order in which they come: by their due moments, and of one moment in the order in
-/// which they were put.
+/// A copy with the moment at which it is due.
+#[derive(Clone, Copy)]
+struct Queued {
+    due: Moment,
+    flight: Flight,
+}
+
+/// The copies that are under way, in the order in which they come: by their due moments, and of one
+/// moment in the order in which they were put.
 #[derive(Drop)]
 pub struct Wire {
-    /// By due moment, then by how many copies were put before.
-    flights: BTreeMap<(u64, u64), Flight>,
-    /// How many copies were put.
-    count: u64,
+    flights: VecDeque<Queued>,
 }
 
 impl Model for Wire {
@@ -40,21 +44,19 @@ impl Wire {
         ensures { result ≡ [] }
     {
         Wire {
-            flights: BTreeMap::new(alloc),
-            count: 0,
+            flights: VecDeque::new(alloc),
         }
     }
 
-    /// Puts a copy behind those that are due no later. Where memory is refused, the wire stays as it was; the wire also
-    /// refuses so what would be its copy number 2^64.
+    /// Puts a copy behind those that are due no later. Where memory is refused, the wire stays as
+    /// it was. Memory is taken only where more copies are under way than ever before.
     pub fn put(&mut self, due: Moment, flight: Flight) -> Result<(), Memory>
         ensures { MatchResult result
             (λ _. self.new ≡ put_flying (record { due = due; flight = flight }) self.old)
             (λ _. self.new ≡ self.old) }
     {
-        let count = self.count.checked_add(1).ok_or(Memory)?;
-        self.flights.insert((due.0, self.count), flight)?;
-        self.count = count;
+        let place = self.flights.partition_point(|f| f.due.0 <= due.0);
+        self.flights.insert(place, Queued { due, flight })?;
         Ok(())
     }
 
@@ -63,17 +65,15 @@ impl Wire {
         ensures first { result ≡ first_due self.now }
         ensures rising { DueRise 0 self.now }
     {
-        let (place, _) = self.flights.first_key_value()?;
-        Some(Moment(place.0))
+        Some(self.flights.front()?.due)
     }
 
-    /// Takes the copy that comes next: the one that is due first, and of one moment the one that was put first. None where
-    /// no copy is under way. The others stay.
+    /// Takes the copy that comes next: the one that is due first, and of one moment the one that
+    /// was put first. None where no copy is under way. The others stay.
     pub fn pop(&mut self) -> Option<Flight>
         ensures first { result ≡ first_flight self.old }
         ensures others { self.new ≡ others self.old }
     {
-        let (_, flight) = self.flights.pop_first()?;
-        Some(flight)
+        Some(self.flights.pop_front()?.flight)
     }
 }

@@ -1,11 +1,15 @@
--- The bucket and the shard of a flow: FNV-1a with 64 bits (Fowler, Noll, Vo) over the flow's octets.
+-- The bucket and the shard of a flow: FNV-1a with 64 bits (Fowler, Noll, Vo) over the flow's
+-- octets.
 use Rattle.std.specs.Prelude.{ℕ, ◌*◌, ◌/◌, ◌%◌, ◌^◌, bit_xor, List, [], ◌∷◌, ◌++◌, fold}
 use Rattle.std.specs.Int.{to_be_bytes, w16, w32}
 use Rattle.bm_base.specs.declared.flow.Flow.{Flow}
 
--- source address, destination address, source port, destination port, each big endian, and the protocol of TCP
+-- source address, destination address, source port, destination port, each big endian, and the
+-- protocol of TCP
 unfoldable pub flow_octets : Flow → List ℕ
-flow_octets f = to_be_bytes w32 f.src ++ to_be_bytes w32 f.dst ++ to_be_bytes w16 f.sport ++ to_be_bytes w16 f.dport ++ 6 ∷ []
+flow_octets f =
+    to_be_bytes w32 f.src ++ to_be_bytes w32 f.dst ++ to_be_bytes w16 f.sport
+    ++ to_be_bytes w16 f.dport ++ 6 ∷ []
 
 -- one octet more: exclusive or, then times the prime, with 64 bits
 unfoldable pub fnv_step : ℕ → ℕ → ℕ

@@ -1,5 +1,6 @@
 -- Calls that are asked to fail, by their numbers, counted from 1, and how failures are counted.
-use Rattle.std.specs.Prelude.{ℕ, ◌+◌, ◌-◌, ◌^◌, Bool, true, false, ◌==◌, min, List, if◌then◌else◌, Result, Ok, Err}
+use Rattle.std.specs.Prelude.{ℕ, ◌+◌, ◌-◌, ◌^◌, Bool, true, false, ◌==◌, min, List, if◌then◌else◌}
+use Rattle.std.specs.Prelude.{Result, Ok, Err}
 use Rattle.std.specs.List.{list_any}
 use Rattle.bm_io.specs.declared.fault.IoFault.{IoFault}
 use Rattle.bm_io.specs.declared.fault.IoFault.TheVariants.{Failed, Memory}

@@ -5,7 +5,8 @@ use Rattle.std.specs.Str.{bytes_eq}
 -- the first of these that has the name
 abbrev pub find_by : {X : Type 0} → (X → List ℕ) → List ℕ → List X → Option X
 find_by name_of name [] = None
-find_by name_of name (file ∷ files) = if bytes_eq (name_of file) name then Some file else find_by name_of name files
+find_by name_of name (file ∷ files) =
+    if bytes_eq (name_of file) name then Some file else find_by name_of name files
 
 -- what it holds, and nothing where there is none
 abbrev pub octets_by : {X : Type 0} → (X → List ℕ) → Option X → List ℕ

@@ -16,7 +16,8 @@ AddsName None new name = Unit {0}
 AddsName (Some names) new name = new ≡ Some (names ++ name ∷ [])
 
 -- The name was asked for, unless memory ran out.
-abbrev pub Asks : {T : Type 0} → Option (List (List ℕ)) → Option (List (List ℕ)) → List ℕ → Result T IoFault → Type 0
+abbrev pub Asks : {T : Type 0} → Option (List (List ℕ)) → Option (List (List ℕ)) → List ℕ
+    → Result T IoFault → Type 0
 Asks old new name (Ok x) = AddsName old new name
 Asks old new name (Err Failed) = AddsName old new name
 Asks old new name (Err Memory) = new ≡ old

@@ -23,7 +23,8 @@ pub trait Files {
     /// A source that has the octets of the name left and has not failed. `Failed` where the files
     /// failed, which is counted; `Memory` where memory was refused, which isn't.
     fn open(&mut self, name: &str) -> Result<Self::Src, IoFault>
-        ensures left { IfOk result (λ src. HasOctetsOf (octets self.old) name.now (Self.Src.left src)) }
+        ensures left { IfOk result
+            (λ src. HasOctetsOf (octets self.old) name.now (Self.Src.left src)) }
         ensures new { IfOk result (λ src. Self.Src.faults src ≡ 0) }
         ensures octets { octets self.new ≡ octets self.old }
         ensures asked { Asks (asked self.old) (asked self.new) name.now result }

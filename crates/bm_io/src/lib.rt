@@ -4,6 +4,7 @@
 mod fault;
 mod files;
 mod filling;
+mod gate;
 mod give;
 mod mem;
 mod mem_file;
@@ -20,6 +21,7 @@ mod system;
 pub use fault::{Failed, IoFault};
 pub use files::Files;
 pub use filling::fill;
+pub use gate::{Gate, OpenGate};
 pub use mem::{MemSink, MemSource};
 pub use mem_file::MemFile;
 pub use mem_files::MemFiles;

@@ -42,7 +42,9 @@ impl Named for MemFile {
 }
 
 fn open_found(alloc: Global, found: Option<&MemFile>) -> Result<MemSource, AllocError>
-    ensures left { IfOk result (λ src. ⟦<MemSource as Source>⟧.left src ≡ Some (octets_in (option_map (λ file. file.now) found.entry))) }
+    ensures left { IfOk result
+        (λ src. ⟦<MemSource as Source>⟧.left src
+        ≡ Some (octets_in (option_map (λ file. file.now) found.entry))) }
     ensures new { IfOk result (λ src. ⟦<MemSource as Source>⟧.faults src ≡ 0) }
     ensures source { IfOk result (IsSourceOfFound (option_map (λ file. file.now) found.entry)) }
 {
@@ -72,9 +74,12 @@ impl Files for MemFiles {
     ghost faults = { λ m. m.faults };
 
     fn open(&mut self, name: &str) -> Result<MemSource, IoFault>
-        ensures left { IfOk result (λ src. HasOctetsOf (Some (octets_of self.old.files.items)) name.now (⟦<MemSource as Source>⟧.left src)) }
+        ensures left { IfOk result
+            (λ src. HasOctetsOf (Some (octets_of self.old.files.items)) name.now
+            (⟦<MemSource as Source>⟧.left src)) }
         ensures new { IfOk result (λ src. ⟦<MemSource as Source>⟧.faults src ≡ 0) }
-        ensures asked { Asks (Some self.old.asked.items) (Some self.new.asked.items) name.now result }
+        ensures asked { Asks (Some self.old.asked.items) (Some self.new.asked.items) name.now
+            result }
         ensures cause { HasIoCause self.old.faults self.new.faults result }
         ensures opens { Opens (file_of self.old.files.items name.now) result }
         ensures faults { self.new.faults ≡ faults_after (has_failed result) self.old.faults }

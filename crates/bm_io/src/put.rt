@@ -8,7 +8,9 @@ use crate::{IoFault, Sink};
 /// Appends the whole piece. On a refusal a prefix of it was appended.
 pub fn put_all<K: Sink>(out: &mut K, piece: &[u8]) -> Result<(), IoFault>
     ensures ok { OnOk result (Appends (K.written out.old) (K.written out.new) piece.now) }
-    ensures err { OnErr result ((n : ℕ) × (n ≤ length piece.now) × Appends (K.written out.old) (K.written out.new) (take n piece.now)) }
+    ensures err { OnErr result
+        ((n : ℕ) × (n ≤ length piece.now)
+        × Appends (K.written out.old) (K.written out.new) (take n piece.now)) }
     ensures cause { HasIoCause (K.faults out.old) (K.faults out.new) result }
 {
     let mut at = 0;

@@ -16,7 +16,8 @@ pub trait Source {
     ghost faults: { Self → ℕ };
 
     /// Moves the first octets that are left into the buffer, and answers how many. 0 for a buffer
-    /// that isn't empty means that nothing is left. `Failed` where the source failed, which is counted.
+    /// that isn't empty means that nothing is left. `Failed` where the source failed, which is
+    /// counted.
     fn take(&mut self, buf: &mut [u8]) -> Result<usize, Failed>
         ensures bound { ReadsAtMost result buf.new }
         ensures octets { ReadConsumes (left self.old) (left self.new) result buf.new }

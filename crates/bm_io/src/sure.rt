@@ -43,7 +43,8 @@ impl Source for SureSource {
 
     fn take(&mut self, buf: &mut [u8]) -> Result<usize, Failed>
         ensures bound { ReadsAtMost result buf.new }
-        ensures octets { ReadConsumes (Some (drop self.old.at self.old.octets.items)) (Some (drop self.new.at self.new.octets.items)) result buf.new }
+        ensures octets { ReadConsumes (Some (drop self.old.at self.old.octets.items))
+            (Some (drop self.new.at self.new.octets.items)) result buf.new }
         ensures cause { HasCause 0 0 result }
         ensures step { IfOk result (λ n. n ≤ self.old.step) }
         ensures same { self.new.step ≡ self.old.step }
@@ -91,7 +92,8 @@ impl Sink for SureSink {
 
     fn put(&mut self, piece: &[u8]) -> Result<usize, IoFault>
         ensures bound { WritesAtMost result piece.now }
-        ensures octets { WriteAppends (Some self.old.octets.items) (Some self.new.octets.items) result piece.now }
+        ensures octets { WriteAppends (Some self.old.octets.items) (Some self.new.octets.items)
+            result piece.now }
         ensures cause { HasIoCause 0 0 result }
         ensures whole { IfOk result (λ n. n ≡ length piece.now) }
     {

@@ -42,7 +42,9 @@ impl Named for SureFile {
 }
 
 fn open_found(alloc: Global, found: Option<&SureFile>) -> Result<SureSource, AllocError>
-    ensures left { IfOk result (λ src. ⟦<SureSource as Source>⟧.left src ≡ Some (octets_in (option_map (λ file. file.now) found.entry))) }
+    ensures left { IfOk result
+        (λ src. ⟦<SureSource as Source>⟧.left src
+        ≡ Some (octets_in (option_map (λ file. file.now) found.entry))) }
     ensures source { IfOk result (IsSourceOf (option_map (λ file. file.now) found.entry)) }
 {
     match found {
@@ -68,8 +70,11 @@ impl Files for SureFiles {
     ghost faults = { λ _. 0 };
 
     fn open(&mut self, name: &str) -> Result<SureSource, IoFault>
-        ensures left { IfOk result (λ src. HasOctetsOf (Some (octets_of self.old.files.items)) name.now (⟦<SureSource as Source>⟧.left src)) }
-        ensures asked { Asks (Some self.old.asked.items) (Some self.new.asked.items) name.now result }
+        ensures left { IfOk result
+            (λ src. HasOctetsOf (Some (octets_of self.old.files.items)) name.now
+            (⟦<SureSource as Source>⟧.left src)) }
+        ensures asked { Asks (Some self.old.asked.items) (Some self.new.asked.items) name.now
+            result }
         ensures cause { HasIoCause 0 0 result }
         ensures source { IfOk result (IsSourceOf (file_of self.old.files.items name.now)) }
         ensures same { self.new.files ≡ self.old.files }

@@ -1,8 +1,10 @@
 -- The header of an IPv4 packet (RFC 791, section 3.1), as a function of the octets.
-use Rattle.std.specs.Prelude.{ℕ, ◌-◌, ◌*◌, ◌/◌, ◌%◌, ◌^◌, List, length, take, drop, Bool, not, ◌&&◌, ◌||◌, nat_lt, ◌==◌, if◌then◌else◌, Result, Ok, Err}
+use Rattle.std.specs.Prelude.{ℕ, ◌-◌, ◌*◌, ◌/◌, ◌%◌, ◌^◌, List, length, take, drop, Bool, not, ◌&&◌}
+use Rattle.std.specs.Prelude.{◌||◌, nat_lt, ◌==◌, if◌then◌else◌, Result, Ok, Err}
 use Rattle.bm_ipv4.specs.Fields.{octet_at, u16_at, u32_at}
 use Rattle.bm_ipv4.specs.declared.fault.Ipv4Fault.{Ipv4Fault}
-use Rattle.bm_ipv4.specs.declared.fault.Ipv4Fault.TheVariants.{Short, NotVersion4, BadHeaderLength, BadTotalLength}
+use Rattle.bm_ipv4.specs.declared.fault.Ipv4Fault.TheVariants.{Short, NotVersion4, BadHeaderLength}
+use Rattle.bm_ipv4.specs.declared.fault.Ipv4Fault.TheVariants.{BadTotalLength}
 
 -- the high half of octet 0
 abbrev pub version : List ℕ → ℕ
@@ -57,5 +59,6 @@ ipv4_of octets =
     else if not (version octets == 4) then Err NotVersion4
     else if nat_lt (header_length octets) 20 then Err BadHeaderLength
     else if nat_lt (length octets) (header_length octets) then Err Short
-    else if not (total_length octets == 0) && nat_lt (total_length octets) (header_length octets) then Err BadTotalLength
+    else if not (total_length octets == 0)
+    && nat_lt (total_length octets) (header_length octets) then Err BadTotalLength
     else Ok (packet_of octets)

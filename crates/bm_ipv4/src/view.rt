@@ -1,5 +1,6 @@
 //! A packet whose header was read.
-ghost use Rattle.std.specs.Prelude.{◌≡◌, ◌≤◌, ◌<◌, ◌^◌, ◌+◌, ◌/◌, ◌%◌, ◌||◌, ◌==◌, not, if◌then◌else◌, max, length, take};
+ghost use Rattle.std.specs.Prelude.{◌≡◌, ◌≤◌, ◌<◌, ◌^◌, ◌+◌, ◌/◌, ◌%◌, ◌||◌, ◌==◌, not};
+ghost use Rattle.std.specs.Prelude.{if◌then◌else◌, max, length, take};
 ghost use Rattle.bm_ipv4.specs.Header.{ipv4_of};
 
 use crate::Ipv4Fault;
@@ -34,7 +35,8 @@ impl<'a> Model for Ipv4View<'a> {
       dst = a.dst;
     } };
 
-    ghost invariant = { λ a. (a.header ≤ length a.packet.now) × (a.stated_payload ≤ max 65535 (length a.packet.now)) };
+    ghost invariant = { λ a. (a.header ≤ length a.packet.now)
+        × (a.stated_payload ≤ max 65535 (length a.packet.now)) };
 }
 
 /// Reads the header of a packet (RFC 791, section 3.1). Options are passed over, and the checksum
@@ -91,7 +93,8 @@ fn stated(len: usize, total: usize) -> usize
 
 /// Whether MF is set or the fragment offset isn't 0.
 fn has_fragment_bits(flags_and_offset: u16) -> bool
-    ensures { result ≡ ((flags_and_offset / 2 ^ 13 % 2 == 1) || not (flags_and_offset % 2 ^ 13 == 0)) }
+    ensures { result
+        ≡ ((flags_and_offset / 2 ^ 13 % 2 == 1) || not (flags_and_offset % 2 ^ 13 == 0)) }
 {
     flags_and_offset / 0x2000 % 2 == 1 || flags_and_offset % 0x2000 != 0
 }
@@ -111,8 +114,8 @@ impl<'a> Ipv4View<'a> {
         &self.packet[self.header..]
     }
 
-    /// How many octets of payload the header states. Only where its total length is 0 these are more
-    /// than 65,535, and then they are there.
+    /// How many octets of payload the header states. Only where its total length is 0 these are
+    /// more than 65,535, and then they are there.
     pub fn stated_payload(&self) -> u32
         ensures stated { result ≡ self.now.stated_payload }
         ensures bound { result ≤ max 65535 (length self.now.packet) }

@@ -11,7 +11,8 @@ unfolding behind_tags
 no_type zero octets few = let t : nat_lt (length octets) 2 ≡ true = grind (arith, nat_tests, few) in rw t
 no_type (suc tags) octets few = let t : nat_lt (length octets) 2 ≡ true = grind (arith, nat_tests, few) in rw t
 
-pub cut_in_a_tag : (tags : ℕ) (octets : List ℕ) → 0 < tags → 2 ≤ length octets → is_tag (u16_at octets 0) ≡ true → length octets < 4 → behind_tags tags octets ≡ Err Short
+pub cut_in_a_tag : (tags : ℕ) (octets : List ℕ) → 0 < tags → 2 ≤ length octets → is_tag (u16_at octets 0) ≡ true
+    → length octets < 4 → behind_tags tags octets ≡ Err Short
 unfolding behind_tags
 cut_in_a_tag zero octets some there tag few = absurd (omega arith)
 cut_in_a_tag (suc tags) octets some there tag few =

@@ -1,5 +1,6 @@
 -- What a record holds: a segment to be steered, or the first reason against it.
-use Rattle.std.specs.Prelude.{ℕ, List, [], length, Bool, not, ◌&&◌, nat_lt, ◌==◌, if◌then◌else◌, Result, Ok, Err}
+use Rattle.std.specs.Prelude.{ℕ, List, [], length, Bool, not, ◌&&◌, nat_lt, ◌==◌, if◌then◌else◌}
+use Rattle.std.specs.Prelude.{Result, Ok, Err}
 use Rattle.std.specs.List.{list_any}
 use Rattle.bm_base.specs.declared.capture.Body.{Body}
 use Rattle.bm_base.specs.declared.capture.Body.TheVariants.{Steerable, Unsteered}
@@ -10,10 +11,11 @@ use Rattle.bm_base.specs.declared.flow.Flow.{Flow}
 use Rattle.bm_base.specs.declared.flow.Segment.{Segment}
 use Rattle.bm_ipv4.specs.declared.fault.Ipv4Fault.{Ipv4Fault}
 use Rattle.bm_ipv4.specs.declared.fault.Ipv4Fault.TheVariants as ipv4
-use Rattle.bm_ipv4.specs.Header.{Packet, ipv4_of}
 use Rattle.bm_tcp.specs.declared.fault.TcpFault.{TcpFault}
 use Rattle.bm_tcp.specs.declared.fault.TcpFault.TheVariants as tcp
-use Rattle.bm_tcp.specs.Header.{tcp_of}
+use Rattle.bm_tcp.specs.declared.packet.InnerFault.{InnerFault}
+use Rattle.bm_tcp.specs.declared.packet.InnerFault.TheVariants as inner
+use Rattle.bm_tcp.specs.Packets.{segment_in}
 use Rattle.bm_link.specs.declared.fault.LinkFault.{LinkFault}
 use Rattle.bm_link.specs.declared.fault.LinkFault.TheVariants as link
 use Rattle.bm_link.specs.Links.{network_of}
@@ -32,6 +34,12 @@ abbrev pub tcp_reason : TcpFault → Reason
 tcp_reason tcp.Short = reason.ShortTcp
 tcp_reason tcp.BadOffset = reason.BadOffset
 
+abbrev pub packet_reason : InnerFault → Reason
+packet_reason (inner.Ipv4 e) = ipv4_reason e
+packet_reason inner.Fragment = reason.Fragment
+packet_reason inner.NotTcp = reason.NotTcp
+packet_reason (inner.Tcp e) = tcp_reason e
+
 -- the flow goes to one of the services
 abbrev pub goes_to : List Vip → Flow → Bool
 goes_to vips f = list_any (λ v. v.addr == f.dst && v.port == f.dport) vips
@@ -40,24 +48,10 @@ goes_to vips f = list_any (λ v. v.addr == f.dst && v.port == f.dport) vips
 abbrev pub unsteered : Reason → Body × List ℕ
 unsteered r = (Unsteered r, [])
 
-abbrev pub with_octets : List ℕ → Result Segment TcpFault → Result (Segment × List ℕ) Reason
-with_octets packet (Err e) = Err (tcp_reason e)
-with_octets packet (Ok s) = Ok (s, packet)
-
-abbrev pub of_packet : Result Packet Ipv4Fault → Result (Segment × List ℕ) Reason
-of_packet (Err e) = Err (ipv4_reason e)
-of_packet (Ok p) =
-    if p.is_fragment then Err reason.Fragment
-    else if not (p.protocol == 6) then Err reason.NotTcp
-    else with_octets p.packet (tcp_of p)
-
--- the TCP segment of an IPv4 packet, and the packet without what follows it, or the first reason against steering it
-abbrev pub segment_in : List ℕ → Result (Segment × List ℕ) Reason
-segment_in octets = of_packet (ipv4_of octets)
-
--- A packet that is longer than 65,491 octets has no room for a carrier header of 44 octets below 65,535.
-abbrev pub of_segment : List Vip → Result (Segment × List ℕ) Reason → Body × List ℕ
-of_segment vips (Err why) = unsteered why
+-- A packet that is longer than 65,491 octets has no room for a carrier header of 44 octets below
+-- 65,535.
+abbrev pub of_segment : List Vip → Result (Segment × List ℕ) InnerFault → Body × List ℕ
+of_segment vips (Err e) = unsteered (packet_reason e)
 of_segment vips (Ok read) =
     if not (goes_to vips read.0.flow) then unsteered reason.OtherDestination
     else if nat_lt 65491 (length read.1) then unsteered reason.TooLong

@@ -1,5 +1,6 @@
 -- Link layers, and where the network layer's part begins in a frame of each.
-use Rattle.std.specs.Prelude.{ℕ, zero, suc, ◌/◌, List, length, drop, Bool, ◌||◌, nat_lt, ◌==◌, if◌then◌else◌, Result, Ok, Err}
+use Rattle.std.specs.Prelude.{ℕ, zero, suc, ◌/◌, List, length, drop, Bool, ◌||◌, nat_lt, ◌==◌}
+use Rattle.std.specs.Prelude.{if◌then◌else◌, Result, Ok, Err}
 use Rattle.bm_ipv4.specs.Fields.{octet_at, u16_at}
 use Rattle.bm_link.specs.declared.fault.LinkFault.{LinkFault}
 use Rattle.bm_link.specs.declared.fault.LinkFault.TheVariants.{Short, NotIpv4}
@@ -13,11 +14,12 @@ is_link link = link == 1 || link == 101 || link == 113 || link == 228 || link ==
 abbrev pub is_tag : ℕ → Bool
 is_tag kind = kind == 0x8100 || kind == 0x88a8
 
--- What follows the EtherType at the front, behind at most so many tags. A tag is an EtherType of its
--- own and two octets; the next EtherType follows.
+-- What follows the EtherType at the front, behind at most so many tags. A tag is an EtherType of
+-- its own and two octets; the next EtherType follows.
 unfoldable pub behind_tags : ℕ → List ℕ → Result (List ℕ) LinkFault
 behind_tags zero octets =
-    if nat_lt (length octets) 2 then Err Short else if u16_at octets 0 == 0x0800 then Ok (drop 2 octets) else Err NotIpv4
+    if nat_lt (length octets) 2 then Err Short
+    else if u16_at octets 0 == 0x0800 then Ok (drop 2 octets) else Err NotIpv4
 behind_tags (suc tags) octets =
     if nat_lt (length octets) 2 then Err Short
     else if is_tag (u16_at octets 0) then behind_tags tags (drop 4 octets)
@@ -30,7 +32,8 @@ ethernet_part octets = behind_tags 2 (drop 12 octets)
 -- raw IP: the version is the high half of the first octet
 unfoldable pub raw_part : List ℕ → Result (List ℕ) LinkFault
 raw_part octets =
-    if length octets == 0 then Err Short else if octet_at octets 0 / 16 == 4 then Ok octets else Err NotIpv4
+    if length octets == 0 then Err Short else if octet_at octets 0 / 16 == 4 then Ok octets
+    else Err NotIpv4
 
 -- Linux cooked: a header of so many octets, whose protocol stands at this place
 unfoldable pub cooked_part : ℕ → ℕ → List ℕ → Result (List ℕ) LinkFault

@@ -7,7 +7,7 @@ mod record;
 
 pub use fault::LinkFault;
 pub use network::{is_link, network_part};
-pub use record::{classify, read_segment};
+pub use record::classify;
 
 #[cfg(test)]
 mod tests;

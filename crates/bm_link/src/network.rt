@@ -1,7 +1,8 @@
 //! Where the network layer's part begins.
 ghost use Rattle.std.specs.Prelude.{◌≡◌, ◌≤◌, ◌<◌, ◌+◌, length, IfOk, IsTrue};
 ghost use Rattle.std.specs.Result.{result_map_both};
-ghost use Rattle.bm_link.specs.Links.{is_link, is_tag, network_of, ethernet_part, behind_tags, raw_part, cooked_part};
+ghost use Rattle.bm_link.specs.Links.{is_link, is_tag, network_of, ethernet_part, behind_tags};
+ghost use Rattle.bm_link.specs.Links.{raw_part, cooked_part};
 
 use crate::LinkFault;
 use bm_ipv4::fields::read_u16;
@@ -46,7 +47,8 @@ fn ethernet(octets: &[u8]) -> Result<&[u8], LinkFault>
 /// What follows the EtherType at the front, behind at most so many tags.
 #[tactic(auto, using(crate::proofs::Tags::cut_in_a_tag), unfolding(crate::specs::Links::behind_tags))]
 fn behind(tags: u8, octets: &[u8]) -> Result<&[u8], LinkFault>
-    ensures part { result_map_both (λ part. part.now) (λ e. e) result ≡ behind_tags tags octets.now }
+    ensures part { result_map_both (λ part. part.now) (λ e. e) result
+        ≡ behind_tags tags octets.now }
     ensures within { IfOk result (λ part. length part.now ≤ length octets.now) }
 {
     if octets.len() < 2 {
@@ -89,7 +91,8 @@ fn raw(octets: &[u8]) -> Result<&[u8], LinkFault>
 #[tactic(auto, unfolding(crate::specs::Links::cooked_part))]
 fn cooked(header: usize, place: usize, octets: &[u8]) -> Result<&[u8], LinkFault>
     requires { place + 2 ≤ header }
-    ensures part { result_map_both (λ part. part.now) (λ e. e) result ≡ cooked_part header place octets.now }
+    ensures part { result_map_both (λ part. part.now) (λ e. e) result
+        ≡ cooked_part header place octets.now }
     ensures within { IfOk result (λ part. length part.now ≤ length octets.now) }
 {
     if octets.len() < header {

@@ -1,33 +1,34 @@
 //! What a record holds.
-ghost use Rattle.std.specs.Prelude.{◌≡◌, ◌≤◌, ◌<◌, ◌^◌, ℕ, max, length, IfOk, IsTrue};
-ghost use Rattle.std.specs.Result.{result_map_both};
+ghost use Rattle.std.specs.Prelude.{◌≡◌, ◌<◌, ◌^◌, ℕ, length, IsTrue};
 ghost use Rattle.bm_base.specs.Captures.{IsFit};
-ghost use Rattle.bm_link.specs.Fits.{IsPacketOf, ReadsAs};
+ghost use Rattle.bm_link.specs.Fits.{IsPacketOf};
 ghost use Rattle.bm_link.specs.Links.{is_link};
-ghost use Rattle.bm_link.specs.Classes.{classified, goes_to, segment_in, unsteered, link_reason, ipv4_reason, tcp_reason};
+ghost use Rattle.bm_link.specs.Classes.{classified, goes_to, unsteered, link_reason, packet_reason};
+ghost use Rattle.bm_link.specs.Classes.{ipv4_reason, tcp_reason};
 
 use crate::{LinkFault, network_part};
-use bm_base::{Body, Flow, MAX_INNER, Reason, Segment, Vip};
-use bm_ipv4::{Ipv4Fault, read_ipv4};
-use bm_tcp::{TcpFault, read_tcp};
+use bm_base::{Body, Flow, MAX_INNER, Reason, Vip};
+use bm_ipv4::Ipv4Fault;
+use bm_tcp::{InnerFault, TcpFault, read_packet};
 
-/// What a record of this link type holds for the services, and its packet: a segment to one of them,
-/// or the first reason against steering it. A record that isn't steered has an empty packet.
+/// What a record of this link type holds for the services, and its packet: a segment to one of
+/// them, or the first reason against steering it. A record that isn't steered has an empty packet.
 #[tactic(auto, unfolding(crate::specs::Classes::classified))]
 pub fn classify<'a>(link: u16, octets: &'a [u8], vips: &[Vip]) -> (Body, &'a [u8])
     requires link { IsTrue (is_link link) }
     requires short { length octets.now < 2 ^ 32 }
     ensures class { (result.0, result.1.now) ≡ classified link vips.now octets.now }
-    ensures fit { (moment : ℕ) → IsFit vips.now (record { moment = record { 0 = moment }; body = result.0 }) }
+    ensures fit { (moment : ℕ)
+        → IsFit vips.now (record { moment = record { 0 = moment }; body = result.0 }) }
     ensures packet { IsPacketOf result.0 result.1.now }
 {
     let part = match network_part(link, octets) {
         Ok(part) => part,
         Err(e) => return unsteered(link_reason(e)),
     };
-    let (segment, packet) = match read_segment(part) {
+    let (segment, packet) = match read_packet(part) {
         Ok(read) => read,
-        Err(reason) => return unsteered(reason),
+        Err(fault) => return unsteered(packet_reason(fault)),
     };
     if !goes_to(vips, &segment.flow) {
         return unsteered(Reason::OtherDestination);
@@ -36,30 +37,6 @@ pub fn classify<'a>(link: u16, octets: &'a [u8], vips: &[Vip]) -> (Body, &'a [u8
         return unsteered(Reason::TooLong);
     }
     (Body::Steerable(segment), packet)
-}
-
-/// The TCP segment of an IPv4 packet at the front of these octets, and the packet without what follows
-/// it, or the first reason against steering it.
-pub fn read_segment(octets: &[u8]) -> Result<(Segment, &[u8]), Reason>
-    requires { length octets.now < 2 ^ 32 }
-    ensures segment { result_map_both (λ read. (read.0, read.1.now)) (λ e. e) result ≡ segment_in octets.now }
-    ensures bound { IfOk result (λ read. read.0.len ≤ max 65535 (length read.1.now)) }
-    ensures reads { IfOk result (λ read. ReadsAs read.1.now read.0) }
-{
-    let view = match read_ipv4(octets) {
-        Ok(view) => view,
-        Err(e) => return Err(ipv4_reason(e)),
-    };
-    if view.is_fragment() {
-        return Err(Reason::Fragment);
-    }
-    if view.protocol() != 6 {
-        return Err(Reason::NotTcp);
-    }
-    match read_tcp(&view) {
-        Ok(segment) => Ok((segment, view.packet())),
-        Err(e) => Err(tcp_reason(e)),
-    }
 }
 
 /// A record that isn't steered has no packet.
@@ -82,6 +59,17 @@ fn link_reason(e: LinkFault) -> Reason
     match e {
         LinkFault::Short => Reason::ShortLink,
         LinkFault::NotIpv4 => Reason::NotIpv4,
+    }
+}
+
+fn packet_reason(e: InnerFault) -> Reason
+    ensures { result ≡ packet_reason e }
+{
+    match e {
+        InnerFault::Ipv4(fault) => ipv4_reason(fault),
+        InnerFault::Fragment => Reason::Fragment,
+        InnerFault::NotTcp => Reason::NotTcp,
+        InnerFault::Tcp(fault) => tcp_reason(fault),
     }
 }
 

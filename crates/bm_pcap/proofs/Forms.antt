@@ -1,5 +1,6 @@
 -- What the octets that were read say of a capture's header.
-use Rattle.std.proofs.Common.{◌≡◌, ℕ, true, false, ◌<◌, ◌≤◌, inl, inr, nat_lt, min, List, ◌++◌, length, Option, Some, None, Result, Ok, Err, take, drop, ap, ap₂, sym, subst, ◌∙◌, arith, length-drop}
+use Rattle.std.proofs.Common.{◌≡◌, ℕ, true, false, ◌<◌, ◌≤◌, inl, inr, nat_lt, min, List, ◌++◌, length, Option, Some}
+use Rattle.std.proofs.Common.{None, Result, Ok, Err, take, drop, ap, ap₂, sym, subst, ◌∙◌, arith, length-drop}
 use Rattle.std.proofs.lemmas.Bool.{cases_lt}
 use Rattle.std.proofs.lemmas.Bool.Decides.{nat_tests}
 use Rattle.std.proofs.lemmas.List.{take_all, drop-drop}
@@ -22,17 +23,20 @@ unfolding form_of
 enough left more = let t : nat_lt (length left) 24 ≡ false = grind (arith, nat_tests, more) in rw t
 
 -- a buffer that is full holds the front of what was left
-full : (size n : ℕ) (buf left : List ℕ) → length buf ≡ size → n ≡ min (length buf) (length left) → size ≤ n → take n buf ≡ take n left → buf ≡ take size left
+full : (size n : ℕ) (buf left : List ℕ) → length buf ≡ size → n ≡ min (length buf) (length left) → size ≤ n
+    → take n buf ≡ take n left → buf ≡ take size left
 full size n buf left is count most same =
     let e : n ≡ size = omega (arith, count, is, most) in
     let all : take n buf ≡ buf = take_all n buf (omega (arith, is, most)) in
     sym all ∙ same ∙ ap (λ m. take m left) e
 
-pub no_magic_number : (old new : Option (List ℕ)) (n : ℕ) (buf : List ℕ) → length buf ≡ 4 → Fills old new n buf → n < 4 → FormGives old new (Err fault.NotACapture)
+pub no_magic_number : (old new : Option (List ℕ)) (n : ℕ) (buf : List ℕ) → length buf ≡ 4 → Fills old new n buf → n < 4
+    → FormGives old new (Err fault.NotACapture)
 no_magic_number None new n buf size fills less = tt
 no_magic_number (Some left) new n buf size fills less = few left (omega (arith, fills.0, size, less))
 
-pub no_magic : (old new : Option (List ℕ)) (n : ℕ) (buf : List ℕ) → length buf ≡ 4 → Fills old new n buf → 4 ≤ n → magic_of buf ≡ None → FormGives old new (Err fault.NotACapture)
+pub no_magic : (old new : Option (List ℕ)) (n : ℕ) (buf : List ℕ) → length buf ≡ 4 → Fills old new n buf → 4 ≤ n
+    → magic_of buf ≡ None → FormGives old new (Err fault.NotACapture)
 no_magic None new n buf size fills most none = tt
 no_magic (Some left) new n buf size fills most none =
     elim (cases_lt (length left) 24) [
@@ -42,7 +46,8 @@ no_magic (Some left) new n buf size fills most none =
           enough left more ∙ ap (λ m. form_by m (take 24 left)) (ap magic_of (sym is) ∙ none)
     ]
 
-pub no_rest : (old mid new : Option (List ℕ)) (n m : ℕ) (buf rest : List ℕ) → length buf ≡ 4 → Fills old mid n buf → 4 ≤ n → length rest ≡ 20 → Fills mid new m rest → m < 20 → FormGives old new (Err fault.NotACapture)
+pub no_rest : (old mid new : Option (List ℕ)) (n m : ℕ) (buf rest : List ℕ) → length buf ≡ 4 → Fills old mid n buf
+    → 4 ≤ n → length rest ≡ 20 → Fills mid new m rest → m < 20 → FormGives old new (Err fault.NotACapture)
 no_rest None mid new n m buf rest size fills most wide behind less = tt
 no_rest (Some left) mid new n m buf rest size fills most wide behind less =
     let P : Option (List ℕ) → Type 0 = λ o. Fills o new m rest in
@@ -50,7 +55,8 @@ no_rest (Some left) mid new n m buf rest size fills most wide behind less =
     few left (omega (arith, fills.0, size, most, read.0, wide, less, length-drop n left))
 
 -- the whole header, and what it says
-form_told : (mid new : Option (List ℕ)) (n m : ℕ) (buf rest left : List ℕ) (magic : Option (Order × Unit_of_time)) → length buf ≡ 4 → Fills (Some left) mid n buf → 4 ≤ n → length rest ≡ 20 → Fills mid new m rest → 20 ≤ m
+form_told : (mid new : Option (List ℕ)) (n m : ℕ) (buf rest left : List ℕ) (magic : Option (Order × Unit_of_time))
+    → length buf ≡ 4 → Fills (Some left) mid n buf → 4 ≤ n → length rest ≡ 20 → Fills mid new m rest → 20 ≤ m
     → magic_of buf ≡ magic → (form_of left ≡ form_by magic (buf ++ rest)) × (new ≡ Some (drop 24 left))
 form_told mid new n m buf rest left magic size fills most wide behind whole is =
     let P : Option (List ℕ) → Type 0 = λ o. Fills o new m rest in
@@ -66,7 +72,8 @@ form_told mid new n m buf rest left magic size fills most wide behind whole is =
       read.2 ∙ ap₂ (λ a b. Some (drop a (drop b left))) f e ∙ ap (λ z. Some z) (drop-drop 20 4 left),
     )
 
-gives : (left : List ℕ) (new : Option (List ℕ)) (result : Result Form PcapFault) → form_of left ≡ result → new ≡ Some (drop 24 left) → FormGives (Some left) new result
+gives : (left : List ℕ) (new : Option (List ℕ)) (result : Result Form PcapFault) → form_of left ≡ result
+    → new ≡ Some (drop 24 left) → FormGives (Some left) new result
 gives left new (Ok form) is rest = (is, rest)
 gives left new (Err fault.NotACapture) is rest = is
 gives left new (Err fault.BadVersion) is rest = is
@@ -77,8 +84,11 @@ gives left new (Err (fault.BadLength number n)) is rest = is
 gives left new (Err fault.TooManyPackets) is rest = is
 gives left new (Err fault.Memory) is rest = tt
 
-pub form_read : (old mid new : Option (List ℕ)) (n m : ℕ) (buf rest header : List ℕ) (order : Order) (unit : Unit_of_time) (result : Result Form PcapFault) → length buf ≡ 4 → Fills old mid n buf → 4 ≤ n → length rest ≡ 20 → Fills mid new m rest → 20 ≤ m
-    → magic_of buf ≡ Some (order, unit) → header ≡ buf ++ rest → result ≡ form_by (Some (order, unit)) header → FormGives old new result
+pub form_read : (old mid new : Option (List ℕ)) (n m : ℕ) (buf rest header : List ℕ) (order : Order)
+    (unit : Unit_of_time) (result : Result Form PcapFault) → length buf ≡ 4 → Fills old mid n buf → 4 ≤ n
+    → length rest ≡ 20 → Fills mid new m rest → 20 ≤ m
+    → magic_of buf ≡ Some (order, unit) → header ≡ buf ++ rest → result ≡ form_by (Some (order, unit)) header
+    → FormGives old new result
 form_read None mid new n m buf rest header order unit result size fills most wide behind whole is joined said = tt
 form_read (Some left) mid new n m buf rest header order unit result size fills most wide behind whole is joined said =
     let told = form_told mid new n m buf rest left (Some (order, unit)) size fills most wide behind whole is in

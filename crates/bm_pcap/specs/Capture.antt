@@ -1,5 +1,7 @@
--- What a capture means: its first fault in order of place, or its records, and which one is cut short.
-use Rattle.std.specs.Prelude.{ℕ, zero, suc, ◌+◌, List, [], ◌∷◌, length, drop, Option, Some, None, Result, Ok, Err}
+-- What a capture means: its first fault in order of place, or its records, and which one is cut
+-- short.
+use Rattle.std.specs.Prelude.{ℕ, zero, suc, ◌+◌, List, [], ◌∷◌, length, drop, Option, Some, None}
+use Rattle.std.specs.Prelude.{Result, Ok, Err}
 use Rattle.bm_base.specs.declared.capture.Capture.{Capture}
 use Rattle.bm_base.specs.declared.capture.Record.{Record}
 use Rattle.bm_base.specs.declared.capture.Vip.{Vip}
@@ -10,7 +12,8 @@ use Rattle.bm_pcap.specs.declared.form.Form.{Form}
 use Rattle.bm_pcap.specs.declared.place.Place.{Place}
 use Rattle.bm_pcap.specs.Limits.{most_records}
 use Rattle.bm_pcap.specs.Header.{form_of}
-use Rattle.bm_pcap.specs.Records.{Found, whole, cut, end, next_of, first_place, moment_of, behind_record}
+use Rattle.bm_pcap.specs.Records.{Found, whole, cut, end, next_of, first_place, moment_at}
+use Rattle.bm_pcap.specs.Records.{behind_record}
 
 -- a capture, and the packet of each of its records
 abbrev pub Captured : Type 0
@@ -27,10 +30,11 @@ with_record one packet (Ok others) =
 with_record one packet (Err e) = Err e
 
 -- what was found at a place, before the records behind it
-abbrev pub after_found : Form → List Vip → (Place → List ℕ → Captured) → Place → List ℕ → Result Found PcapFault → Captured
+abbrev pub after_found : Form → List Vip → (Place → List ℕ → Captured) → Place → List ℕ
+    → Result Found PcapFault → Captured
 after_found form vips others place left (Ok (whole time octets)) =
     with_record
-    (record { moment = moment_of place time; body = (classified form.link vips octets).0 })
+    (record { moment = moment_at place time; body = (classified form.link vips octets).0 })
     (classified form.link vips octets).1
     (others (behind_record place time (length octets)) (drop (16 + length octets) left))
 after_found form vips others place left (Ok cut) = ends (Some place.number)
@@ -39,7 +43,8 @@ after_found form vips others place left (Err e) = Err e
 
 -- the records from a place on, of which at most so many are left to come
 unfoldable pub records_from : Form → List Vip → ℕ → Place → List ℕ → Captured
-records_from form vips zero place left = after_found form vips (λ _ _. Err TooManyPackets) place left (next_of form place left)
+records_from form vips zero place left =
+    after_found form vips (λ _ _. Err TooManyPackets) place left (next_of form place left)
 records_from form vips (suc more) place left =
     after_found form vips (records_from form vips more) place left (next_of form place left)
 

@@ -1,13 +1,16 @@
 -- When a capture may be refused, and why.
-use Rattle.std.specs.Prelude.{ℕ, ◌≤◌, Result, IsErrOf}
+use Rattle.std.specs.Prelude.{◌≡◌, ◌≢◌, ℕ, ◌≤◌, Result, Err, IsErrOf}
 use Rattle.bm_io.specs.Causes.{Rose}
 use Rattle.bm_pcap.specs.declared.fault.PcapFault.{PcapFault}
-use Rattle.bm_pcap.specs.declared.fault.PcapFault.TheVariants.{NotACapture, BadVersion, BadLink, ReadFault, TooLarge, BadLength, TooManyPackets, Memory}
+use Rattle.bm_pcap.specs.declared.fault.PcapFault.TheVariants.{NotACapture, BadVersion, BadLink}
+use Rattle.bm_pcap.specs.declared.fault.PcapFault.TheVariants.{ReadFault, TooLarge, BadLength}
+use Rattle.bm_pcap.specs.declared.fault.PcapFault.TheVariants.{TooManyPackets, Memory}
 
--- The count doesn't fall, and `ReadFault` is answered only where it rose.
+-- The count rises where `ReadFault` is answered, and stays elsewhere.
 pub record HasStepCause {T : Type 0} (before now : ℕ) (result : Result T PcapFault) : Type 0 where
   pub later : before ≤ now
   pub failed : IsErrOf result ReadFault → Rose before now
+  pub kept : result ≢ Err ReadFault → now ≡ before
 
 -- the faults of a capture's header
 abbrev pub IsHeaderFault : PcapFault → Type 0

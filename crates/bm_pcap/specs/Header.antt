@@ -1,5 +1,6 @@
 -- The header of a capture in the classic pcap format: 24 octets, the numbers in its writer's order.
-use Rattle.std.specs.Prelude.{ℕ, ◌%◌, ◌^◌, List, length, take, drop, Bool, not, ◌&&◌, nat_lt, ◌==◌, if◌then◌else◌, Option, Some, None, Result, Ok, Err}
+use Rattle.std.specs.Prelude.{ℕ, ◌%◌, ◌^◌, List, length, take, drop, Bool, not, ◌&&◌, nat_lt, ◌==◌}
+use Rattle.std.specs.Prelude.{if◌then◌else◌, Option, Some, None, Result, Ok, Err}
 use Rattle.byteorder.specs.Endian.{big_number, little_number}
 use Rattle.bm_link.specs.Links.{is_link}
 use Rattle.bm_pcap.specs.declared.fault.PcapFault.{PcapFault}
@@ -48,4 +49,5 @@ form_by (Some magic) header =
 -- what the header says, or the first fault in it
 unfoldable pub form_of : List ℕ → Result Form PcapFault
 form_of octets =
-    if nat_lt (length octets) 24 then Err NotACapture else form_by (magic_of (take 4 octets)) (take 24 octets)
+    if nat_lt (length octets) 24 then Err NotACapture
+    else form_by (magic_of (take 4 octets)) (take 24 octets)

@@ -1,5 +1,7 @@
 -- The records of a capture in the classic pcap format.
-use Rattle.std.specs.Prelude.{ℕ, ◌+◌, ◌-◌, ◌*◌, ◌^◌, max, List, length, take, drop, ◌&&◌, ◌||◌, nat_lt, nat_le, ◌==◌, if◌then◌else◌, Some, None, unwrap_or, Result, Ok, Err}
+use Rattle.std.specs.Prelude.{ℕ, ◌+◌, ◌-◌, ◌*◌, ◌^◌, max, List, length, take, drop, ◌&&◌, ◌||◌}
+use Rattle.std.specs.Prelude.{nat_lt, nat_le, ◌==◌, if◌then◌else◌, Some, None, unwrap_or, Result}
+use Rattle.std.specs.Prelude.{Ok, Err}
 use Rattle.bm_base.specs.declared.ids.Moment.{Moment}
 use Rattle.bm_pcap.specs.declared.fault.PcapFault.{PcapFault}
 use Rattle.bm_pcap.specs.declared.fault.PcapFault.TheVariants.{BadLength, TooLarge, TooManyPackets}
@@ -11,12 +13,15 @@ use Rattle.bm_pcap.specs.Header.{nanoseconds_in, number_at}
 -- A record's header has 16 octets: seconds, a fraction, the captured length, the original length.
 -- This is the captured time in nanoseconds. A fraction past one second is taken as it stands.
 abbrev pub time_of : Form → List ℕ → ℕ
-time_of form header = number_at form.order 4 0 header * 10 ^ 9 + number_at form.order 4 4 header * nanoseconds_in form.unit
+time_of form header =
+    number_at form.order 4 0 header * 10 ^ 9 + number_at form.order 4 4 header * nanoseconds_in
+    form.unit
 
 abbrev pub captured_length : Form → List ℕ → ℕ
 captured_length form header = number_at form.order 4 8 header
 
--- What stands next: a whole record, with its captured time and its octets; one that is cut short; the end.
+-- What stands next: a whole record, with its captured time and its octets; one that is cut short;
+-- the end.
 pub data Found : Type 0 where
   whole : ℕ → List ℕ → Found
   cut : Found
@@ -26,17 +31,18 @@ pub data Found : Type 0 where
 abbrev pub short : ℕ → List ℕ → Result Found PcapFault
 short room left = if nat_lt room (length left) then Err TooLarge else Ok cut
 
--- Behind a record's header, which states n octets. A fault of the length stands at the header's last
--- octet, before one that is too many.
+-- Behind a record's header, which states n octets. A fault of the length stands at the header's
+-- last octet, before one that is too many.
 abbrev pub behind_header : Form → ℕ → ℕ → ℕ → List ℕ → Result Found PcapFault
 behind_header form number room n left =
     if nat_lt longest n then Err (BadLength number n)
-    else if nat_le (16 + n) (length left) && nat_le (16 + n) room then Ok (whole (time_of form (take 16 left)) (take n (drop 16 left)))
+    else if nat_le (16 + n) (length left)
+    && nat_le (16 + n) room then Ok (whole (time_of form (take 16 left)) (take n (drop 16 left)))
     else short room left
 
 -- What stands at the front of the octets that are left, at the place of the record of this number,
--- where the capture may have so many octets more. A header that ends behind octet room + 1 is behind
--- one that is too many.
+-- where the capture may have so many octets more. A header that ends behind octet room + 1 is
+-- behind one that is too many.
 abbrev pub record_at : Form → ℕ → ℕ → List ℕ → Result Found PcapFault
 record_at form number room left =
     if nat_lt (length left) 16 || nat_lt room 15 then short room left
@@ -53,9 +59,10 @@ next_of form place left =
 abbrev pub first_place : Place
 first_place = record { number = 1; room = most_octets - 24; first = None; last = record { 0 = 0 } }
 
--- The captured time less that of record 1, at least 0, and never below the moment of the record before.
-abbrev pub moment_of : Place → ℕ → Moment
-moment_of place time = record { 0 = max place.last.0 (time - unwrap_or place.first time) }
+-- The captured time less that of record 1, at least 0, and never below the moment of the record
+-- before.
+abbrev pub moment_at : Place → ℕ → Moment
+moment_at place time = record { 0 = max place.last.0 (time - unwrap_or place.first time) }
 
 -- the place behind a record with this captured time and so many octets
 abbrev pub behind_record : Place → ℕ → ℕ → Place
@@ -63,5 +70,12 @@ behind_record place time n = record {
   number = place.number + 1;
   room = place.room - (16 + n);
   first = Some (unwrap_or place.first time);
-  last = moment_of place time;
+  last = moment_at place time;
 }
+
+-- These octets alone are no whole record and have no fault: only what comes behind them can tell.
+abbrev pub IsOpen : Result Found PcapFault → Type 0
+IsOpen (Ok (whole time octets)) = ⊥
+IsOpen (Ok cut) = Unit {0}
+IsOpen (Ok end) = Unit {0}
+IsOpen (Err e) = ⊥

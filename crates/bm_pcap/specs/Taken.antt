@@ -1,15 +1,15 @@
--- How many octets of those left are gone behind an answer. A reader takes what it needs to know its
--- answer, and none behind a fault. Where fewer are left than are counted here, all are gone.
-use Rattle.std.specs.Prelude.{◌≡◌, ℕ, ◌+◌, List, take, drop, Option, Some, None, Result, Err}
+-- How many octets of those left are gone behind a capture's header. Where fewer are left than are
+-- counted here, all are gone.
+use Rattle.std.specs.Prelude.{◌≡◌, ℕ, List, take, drop, Option, Some, None, Result, Err}
 use Rattle.bm_pcap.specs.declared.fault.PcapFault.{PcapFault}
-use Rattle.bm_pcap.specs.declared.fault.PcapFault.TheVariants.{NotACapture, BadLength, ReadFault, TooLarge, TooManyPackets}
+use Rattle.bm_pcap.specs.declared.fault.PcapFault.TheVariants.{NotACapture, ReadFault}
 use Rattle.bm_pcap.specs.declared.form.Form.{Form}
 use Rattle.bm_pcap.specs.declared.form.Order.{Order}
 use Rattle.bm_pcap.specs.declared.form.Unit.{Unit as Unit_of_time}
-use Rattle.bm_pcap.specs.declared.place.Place.{Place}
 use Rattle.bm_pcap.specs.Header.{magic_of}
 
--- as much of a capture's header as is read: what is behind the magic number only where that tells a form
+-- as much of a capture's header as is read: what is behind the magic number only where that tells a
+-- form
 abbrev pub behind_magic : Option (Order × Unit_of_time) → ℕ
 behind_magic None = 4
 behind_magic (Some magic) = 24
@@ -24,11 +24,3 @@ abbrev pub FormLeaves : Option (List ℕ) → Option (List ℕ) → Result Form 
 FormLeaves None new result = Unit {0}
 FormLeaves (Some left) new (Err ReadFault) = Unit {0}
 FormLeaves (Some left) new result = new ≡ Some (drop (form_taken left result) left)
-
--- A fault of a record: the header that states a bad length; what the capture may still have and one octet
--- too many; the octet behind the last record that is allowed.
-abbrev pub fault_taken : Place → PcapFault → ℕ
-fault_taken place (BadLength number n) = 16
-fault_taken place TooLarge = place.room + 1
-fault_taken place TooManyPackets = 1
-fault_taken place other = 0

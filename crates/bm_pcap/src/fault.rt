@@ -24,9 +24,9 @@ pub enum PcapFault {
     /// The capture has more than 268,435,456 octets.
     #[error("too many octets")]
     TooLarge,
-    /// The record of this number states a captured length above 262,144.
-    #[error("record {record} states {length} octets")]
-    BadLength { record: u32, length: u32 },
+    /// The record of this number states this captured length, which is above 262,144.
+    #[error("record {0} states {1} octets")]
+    BadLength(u32, u32),
     /// An octet follows record 200,000.
     #[error("too many packets")]
     TooManyPackets,

@@ -25,7 +25,8 @@ pub enum Unit {
     Nanosecond,
 }
 
-/// What a capture's header says: the order of its numbers, the unit of its times, and its link type.
+/// What a capture's header says: the order of its numbers, the unit of its times, and its link
+/// type.
 #[derive(Clone, Copy, Debug, PartialEq, Eq)]
 pub struct Form {
     pub order: Order,

@@ -1,8 +1,8 @@
 //! What a reader answers.
 use bm_base::Moment;
 
-/// What stands next in a capture: a record, with its number counted from 1, its moment and its octets;
-/// the number of a record that is cut short; the end.
+/// What stands next in a capture: a record, with its number counted from 1, its moment and its
+/// octets; the number of a record that is cut short; the end.
 #[derive(Clone, Copy, Debug)]
 pub enum Item<'a> {
     Record {

@@ -1,50 +1,55 @@
 //! A reader of captures.
-ghost use Rattle.std.specs.Prelude.{◌≡◌, ◌≤◌, ◌+◌, length, IfOk, IfErr, IfSome, IsErrOf, IsTrue, None};
+ghost use Rattle.std.specs.Prelude.{◌≡◌, ◌≤◌, ◌+◌, length, IfOk, IfErr, IfSome, IsErrOf, IsTrue};
+ghost use Rattle.std.specs.Prelude.{None};
 ghost use Rattle.bm_base.specs.Captures.{IsReplayable};
 ghost use Rattle.bm_link.specs.Fits.{ArePackets};
 ghost use Rattle.bm_link.specs.Links.{is_link};
 ghost use Rattle.bm_pcap.specs.Causes.{HasStepCause, IsCaptureFault, IsHeaderFault, IsRecordFault};
-ghost use Rattle.bm_pcap.specs.Reader.{Advances, GivesNext, EndsWith, HasEnded, IsFresh, IsShort, ReadsCapture, StartLeaves, Starts, StartsWithCause};
+ghost use Rattle.bm_pcap.specs.Reader.{Advances, GivesNext, EndsWith, HasEnded, IsBounded, IsFresh};
+ghost use Rattle.bm_pcap.specs.Reader.{IsLast, ReadsCapture, StartLeaves, Starts, StartsWithCause};
 
 use crate::PcapFault;
 use crate::form::{Form, read_form};
 use crate::item::Item;
-use crate::place::{LONGEST, Place};
+use crate::place::Place;
 use crate::step::{Step, read_step};
+use crate::window::Window;
 use bm_base::{Capture, List, Octets, Record, Vip};
 use bm_io::Source;
 use bm_link::classify;
 use std::alloc::Global;
 use std::marker::Model;
 
-/// Reads a capture record by record, over any source. It takes what it needs of the source, and
-/// nothing behind the first fault.
+/// Reads a capture record by record, over any source. It reads ahead, and at most 262,160 octets of
+/// what was read are not answered yet.
 #[derive(Drop)]
 pub struct PcapReader<S> {
-    src: S,
+    window: Window<S>,
     form: Form,
     place: Place,
-    buffer: Vec<u8>,
     ended: Option<Result<Step, PcapFault>>,
 }
 
 impl<S> Model for PcapReader<S> {
-    ghost use Rattle.std.specs.Prelude.{◌≡◌, length, IsTrue};
+    ghost use Rattle.std.specs.Prelude.{◌≡◌, ◌≤◌, length, IsTrue};
     ghost use Rattle.bm_link.specs.Links.{is_link};
-    ghost use Rattle.bm_pcap.specs.Limits.{longest};
+    ghost use Rattle.bm_pcap.specs.Limits.{widest};
     ghost use Rattle.bm_pcap.specs.Reader.{Reader, EndsWell};
+    ghost use Rattle.bm_pcap.specs.Window.{held, passed};
 
     ghost Value = { Reader S };
 
     ghost view = { λ a. record {
-      source = a.src;
+      source = a.window.src;
       form = a.form;
       place = a.place;
-      buffer = a.buffer.items;
+      held = held a.window;
+      passed = passed a.window;
       ended = a.ended;
     } };
 
-    ghost invariant = { λ a. (length a.buffer.items ≡ longest) × IsTrue (is_link a.form.link) × EndsWell a.ended };
+    ghost invariant = { λ a. (length (held a.window) ≤ widest) × IsTrue (is_link a.form.link)
+        × EndsWell a.ended };
 }
 
 impl<S: Source> PcapReader<S> {
@@ -69,20 +74,20 @@ impl<S: Source> PcapReader<S> {
     /// A reader of a capture whose header was read.
     fn behind_header(alloc: Global, src: S, form: Form) -> Result<PcapReader<S>, (S, PcapFault)>
         requires { IsTrue (is_link form.link) }
-        ensures reader { IfOk result (λ reader. (reader.source ≡ src) × (reader.form ≡ form) × IsFresh reader) }
-        ensures memory { IfErr result (λ refused. (refused.0 ≡ src) × (refused.1 ≡ PcapFault.Memory)) }
+        ensures reader { IfOk result
+            (λ reader. (reader.source ≡ src) × (reader.form ≡ form) × IsFresh reader) }
+        ensures memory { IfErr result
+            (λ refused. (refused.0 ≡ src) × (refused.1 ≡ PcapFault.Memory)) }
     {
-        let mut buffer = Vec::new(alloc);
-        if buffer.resize(LONGEST as usize, 0).is_err() {
-            return Err((src, PcapFault::Memory));
+        match Window::new(alloc, src) {
+            Ok(window) => Ok(PcapReader {
+                window,
+                form,
+                place: Place::first(),
+                ended: None,
+            }),
+            Err(src) => Err((src, PcapFault::Memory)),
         }
-        Ok(PcapReader {
-            src,
-            form,
-            place: Place::first(),
-            buffer,
-            ended: None,
-        })
     }
 
     /// The capture's link type.
@@ -93,36 +98,31 @@ impl<S: Source> PcapReader<S> {
         self.form.link
     }
 
-    /// The source, behind what was read.
+    /// The source, behind what was read ahead.
     pub fn into_source(self) -> S
         ensures { result ≡ self.source }
     {
         let PcapReader {
-            src,
+            window,
             form: _,
             place: _,
-            buffer: _,
             ended: _,
         } = self;
-        src
+        window.into_source()
     }
 
     /// Reads what stands next. After a fault, a record that is cut short or the end it answers the
     /// same again.
     fn advance(&mut self) -> Result<Step, PcapFault>
         ensures advances { Advances S.left S.faults self.old self.new result }
-        ensures short { IfOk result IsShort }
+        ensures last { IfOk result (IsLast self.new.passed) }
+        ensures bounded { IsBounded self.new }
         ensures others { IfErr result IsRecordFault }
     {
         if let Some(ended) = self.ended {
             return ended;
         }
-        let result = read_step(
-            &mut self.src,
-            self.buffer.as_mut_slice(),
-            &self.form,
-            &self.place,
-        );
+        let result = read_step(&mut self.window, &self.form, &self.place);
         match result {
             Ok(Step::Record { time, len }) => self.place = self.place.behind(time, len),
             _ => self.ended = Some(result),
@@ -134,14 +134,16 @@ impl<S: Source> PcapReader<S> {
     /// short or the end it answers the same again. Takes no memory.
     pub fn next(&mut self) -> Result<Item<'_>, PcapFault>
         ensures others { IfErr result IsRecordFault }
-        ensures* after { sem 𝓛 (Rests (the_row S.row) self.entry (λ new. GivesNext S.left S.faults self.old new result)) }
+        ensures* after { sem 𝓛
+            (Rests (the_row S.row) self.entry
+            (λ new. GivesNext S.left S.faults self.old new result × IsBounded new)) }
     {
         let number = self.place.number;
         match self.advance()? {
             Step::Record { time: _, len } => Ok(Item::Record {
                 number,
                 moment: self.place.last,
-                octets: &self.buffer[..len as usize],
+                octets: self.window.last(len as usize),
             }),
             Step::Cut => Ok(Item::Cut(number)),
             Step::End => Ok(Item::End),
@@ -149,10 +151,10 @@ impl<S: Source> PcapReader<S> {
     }
 }
 
-/// Reads the records of a capture, classified for these services, and the packet of each. The reader is
-/// one that was not asked for a record yet. Afterwards it answers the end, the cut or the fault
-/// again, unless memory was refused. A fault is the first in order of place; `ReadFault` where the
-/// source failed, and `Memory` where memory was refused, may come at any place.
+/// Reads the records of a capture, classified for these services, and the packet of each. The
+/// reader is one that was not asked for a record yet. Afterwards it answers the end, the cut or the
+/// fault again, unless memory was refused. A fault is the first in order of place; `ReadFault`
+/// where the source failed, and `Memory` where memory was refused, may come at any place.
 pub fn read_capture<S: Source>(
     alloc: Global,
     r: &mut PcapReader<S>,

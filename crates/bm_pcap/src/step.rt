@@ -1,18 +1,21 @@
 //! What stands next in a capture.
-ghost use Rattle.std.specs.Prelude.{◌≡◌, ◌≤◌, ◌<◌, length, nat_lt, if◌then◌else◌, IfOk, IfErr, Ok, Err};
+ghost use Rattle.std.specs.Prelude.{◌≡◌, ◌≤◌, ◌<◌, length, nat_lt, if◌then◌else◌, IfOk, IfErr};
+ghost use Rattle.std.specs.Prelude.{IsErrOf, Ok, Err};
 ghost use Rattle.bm_pcap.specs.Causes.{HasStepCause, IsRecordFault};
-ghost use Rattle.bm_pcap.specs.Parts.{HeadGives, HeadFits, IsEarly, StepFits, stated};
+ghost use Rattle.std.specs.Io.KnownBytes.{Keeps};
+ghost use Rattle.bm_pcap.specs.Parts.{HeadGives, HeadFits, HeadIn, IsEarly, StepFits, stated};
 ghost use Rattle.bm_pcap.specs.Limits.{latest};
-ghost use Rattle.bm_pcap.specs.Reader.{StepGives};
-ghost use Rattle.bm_pcap.specs.Records.{time_of};
+ghost use Rattle.bm_pcap.specs.Reader.{FailsOpen, IsLast, StepGives};
+ghost use Rattle.bm_pcap.specs.Records.{IsOpen, next_of, time_of};
+ghost use Rattle.bm_pcap.specs.Window.{held, passed, rest};
 
 use crate::PcapFault;
-use crate::fill::fill_within;
 use crate::form::Form;
 use crate::place::{LONGEST, MOST_RECORDS, Place};
+use crate::window::Window;
 use bm_io::Source;
 
-/// What stands next: a record, with its captured time and how many octets of the buffer are its own.
+/// What stands next: a record, with its captured time and how many octets are its own.
 #[derive(Clone, Copy, Debug, PartialEq, Eq)]
 pub enum Step {
     Record { time: u64, len: u32 },
@@ -28,71 +31,89 @@ pub enum Head {
     States { time: u64, len: u32 },
 }
 
-/// Reads what stands next at this place. A record's octets are at the front of the buffer.
+/// Reads what stands next at this place. A record's octets are the last that the window answered.
 pub(crate) fn read_step<S: Source>(
-    src: &mut S,
-    buffer: &mut [u8],
+    window: &mut Window<S>,
     form: &Form,
     place: &Place,
 ) -> Result<Step, PcapFault>
-    requires { length buffer.old ≡ LONGEST }
-    ensures gives { StepGives (S.left src.old) (S.left src.new) form.now place.now result buffer.new }
+    ensures gives { StepGives (rest S.left window.old) (rest S.left window.new) form.now place.now
+        result (passed window.new) }
+    ensures last { IfOk result (IsLast (passed window.new)) }
+    ensures open { FailsOpen form.now place.now result (held window.new) }
     ensures fits { IfOk result (StepFits place.now) }
     ensures others { IfErr result IsRecordFault }
-    ensures cause { HasStepCause (S.faults src.old) (S.faults src.new) result }
+    ensures cause { HasStepCause (S.faults window.old.src) (S.faults window.new.src) result }
 {
-    match read_head(src, form, place)? {
+    match read_head(window, form, place)? {
         Head::End => Ok(Step::End),
         Head::Cut => Ok(Step::Cut),
         Head::States { time, len } => {
-            let room = place.room - 16;
-            let count = fill_within(src, &mut buffer[..len as usize], room)?;
-            if count > room as usize {
+            let whole = 16 + len as usize;
+            let room = place.room as usize;
+            let count = window.want(whole.min(room + 1))?;
+            if count > room {
                 return Err(PcapFault::TooLarge);
             }
-            if count < len as usize {
+            if count < whole {
                 return Ok(Step::Cut);
             }
+            window.skip(whole);
             Ok(Step::Record { time, len })
         }
     }
 }
 
-/// Reads the header of a record at this place, and nothing behind the first fault.
-fn read_head<S: Source>(src: &mut S, form: &Form, place: &Place) -> Result<Head, PcapFault>
-    ensures gives { HeadGives (S.left src.old) (S.left src.new) form.now place.now result }
+/// Reads the header of a record at this place, and answers none of its octets.
+fn read_head<S: Source>(
+    window: &mut Window<S>,
+    form: &Form,
+    place: &Place,
+) -> Result<Head, PcapFault>
+    ensures gives { HeadGives (rest S.left window.old) form.now place.now result }
+    ensures keeps { Keeps (rest S.left window.old) (rest S.left window.new) }
+    ensures held { IfOk result (HeadIn form.now (held window.new)) }
+    ensures open { IsErrOf result PcapFault.ReadFault
+        → IsOpen (next_of form.now place.now (held window.new)) }
     ensures fits { IfOk result (HeadFits place.now) }
     ensures others { IfErr result IsRecordFault }
-    ensures cause { HasStepCause (S.faults src.old) (S.faults src.new) result }
+    ensures cause { HasStepCause (S.faults window.old.src) (S.faults window.new.src) result }
 {
     if place.number > MOST_RECORDS {
-        return read_end(src, form, place);
+        return read_end(window, form, place);
     }
-    let mut header = [0u8; 16];
-    let count = fill_within(src, &mut header, place.room)?;
+    let room = place.room as usize;
+    let count = window.want((room + 1).min(16))?;
     if count == 0 {
         return Ok(Head::End);
     }
     if count < 16 {
-        return if count > place.room as usize {
+        return if count > room {
             Err(PcapFault::TooLarge)
         } else {
             Ok(Head::Cut)
         };
     }
-    states(form, place, &header)
+    states(form, place, &window.held()[..16])
 }
 
-/// Reads one octet behind the last record that is allowed.
-fn read_end<S: Source>(src: &mut S, form: &Form, place: &Place) -> Result<Head, PcapFault>
+/// Looks for an octet behind the last record that is allowed.
+fn read_end<S: Source>(
+    window: &mut Window<S>,
+    form: &Form,
+    place: &Place,
+) -> Result<Head, PcapFault>
     requires { MOST_RECORDS < place.now.number }
-    ensures gives { HeadGives (S.left src.old) (S.left src.new) form.now place.now result }
+    ensures gives { HeadGives (rest S.left window.old) form.now place.now result }
+    ensures keeps { Keeps (rest S.left window.old) (rest S.left window.new) }
+    ensures held { IfOk result (HeadIn form.now (held window.new)) }
+    ensures open { IsErrOf result PcapFault.ReadFault
+        → IsOpen (next_of form.now place.now (held window.new)) }
     ensures fits { IfOk result (HeadFits place.now) }
     ensures others { IfErr result IsRecordFault }
-    ensures cause { HasStepCause (S.faults src.old) (S.faults src.new) result }
+    ensures cause { HasStepCause (S.faults window.old.src) (S.faults window.new.src) result }
 {
-    let mut octet = [0u8; 1];
-    if fill_within(src, &mut octet, 0)? > 0 {
+    if window.want(1)? > 0 {
         return Err(PcapFault::TooManyPackets);
     }
     Ok(Head::End)
@@ -106,10 +127,7 @@ fn states(form: &Form, place: &Place, header: &[u8]) -> Result<Head, PcapFault>
 {
     let len = form.order.read_u32(header, 8);
     if len > LONGEST {
-        return Err(PcapFault::BadLength {
-            record: place.number,
-            length: len,
-        });
+        return Err(PcapFault::BadLength(place.number, len));
     }
     if place.room < 16 {
         return Err(PcapFault::TooLarge);

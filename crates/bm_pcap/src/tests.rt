@@ -141,22 +141,8 @@ fn captures_are_refused_by_their_first_fault(rt: HostRuntime) -> Result<(), Fail
         (4, 3, PcapFault::BadVersion),
         (6, 3, PcapFault::BadVersion),
         (20, 105, PcapFault::BadLink(105)),
-        (
-            34,
-            4,
-            PcapFault::BadLength {
-                record: 1,
-                length: 262_184,
-            },
-        ),
-        (
-            90,
-            4,
-            PcapFault::BadLength {
-                record: 2,
-                length: 262_194,
-            },
-        ),
+        (34, 4, PcapFault::BadLength(1, 262_184)),
+        (90, 4, PcapFault::BadLength(2, 262_194)),
     ];
     for (place, octet, want) in rows {
         let mut octets = LITTLE;
@@ -195,12 +181,14 @@ fn a_cut_capture_keeps_the_records_before_the_cut(rt: HostRuntime) -> Result<(),
 #[test]
 fn a_failed_read_is_answered_again(rt: HostRuntime) -> Result<(), Fail> {
     let alloc = rt.alloc();
-    // The calls read the magic number, the rest of the header, and then a record in two parts.
+    // The calls read the magic number, the rest of the header, both records, and then nothing more.
     let src = MemSource::new(LITTLE.to_vec(alloc)?, 1000, vec![in alloc; 4]?);
     let Ok(mut reader) = PcapReader::start(alloc, src) else {
         return Err(Fail::from("the header is whole"));
     };
     assert_eq!(rt; reader.link(), 101);
+    assert!(rt; matches!(reader.next()?, Item::Record { number: 1, .. }));
+    assert!(rt; matches!(reader.next()?, Item::Record { number: 2, .. }));
     assert!(rt; matches!(reader.next(), Err(PcapFault::ReadFault)));
     assert!(rt; matches!(reader.next(), Err(PcapFault::ReadFault)));
     let again = PcapReader::start(alloc, reader.into_source());
@@ -219,5 +207,19 @@ fn the_end_is_answered_again(rt: HostRuntime) -> Result<(), Fail> {
     assert!(rt; matches!(reader.next()?, Item::Record { number: 2, .. }));
     assert!(rt; matches!(reader.next(), Ok(Item::End)));
     assert!(rt; matches!(reader.next(), Ok(Item::End)));
+    Ok(())
+}
+
+#[test]
+fn faults_print_their_numbers(rt: HostRuntime) -> Result<(), Fail> {
+    for (fault, want) in [
+        (PcapFault::BadLink(105), "bad link type 105"),
+        (
+            PcapFault::BadLength(3, 262_145),
+            "record 3 states 262145 octets",
+        ),
+    ] {
+        assert_eq!(rt; fault.to_string(rt.alloc())?.as_str(), want);
+    }
     Ok(())
 }

@@ -1,5 +1,6 @@
 -- No list of moves that reaches the quotas is shorter.
-use Rattle.std.proofs.Common.{◌≡◌, if◌then◌else◌, ℕ, suc, ◌+◌, ◌-◌, ◌<◌, ◌≤◌, true, false, eqb, ltb, List, [], ◌∷◌, length, inl, inr, refl, ap, arith, unwrap_or}
+use Rattle.std.proofs.Common.{◌≡◌, if◌then◌else◌, ℕ, suc, ◌+◌, ◌-◌, ◌<◌, ◌≤◌, true, false, eqb, ltb, List, [], ◌∷◌}
+use Rattle.std.proofs.Common.{length, inl, inr, refl, ap, arith, unwrap_or}
 use Rattle.std.proofs.lemmas.Bool.{cases_eq, ne_eqb, lt-ltb}
 use Rattle.bm_base.specs.declared.ids.ServerId.{ServerId}
 use Rattle.bm_quota.proofs.RoomLemmas.{cases_room, cases_server, owned-cons, owners_after-later, same_server-refl}
@@ -13,7 +14,8 @@ abbrev pub gives : (ServerId → ℕ) → List ServerId → ℕ
 gives room [] = 0
 gives room (o ∷ owners) = if ltb 0 (room o) then gives (kept room o) owners else suc (gives room owners)
 
-pub length-given : (room : ServerId → ℕ) (b : ℕ) (owners : List ServerId) → length (given room b owners) ≡ gives room owners
+pub length-given : (room : ServerId → ℕ) (b : ℕ) (owners : List ServerId)
+    → length (given room b owners) ≡ gives room owners
 length-given room b [] = refl
 length-given room b (o ∷ owners) =
     elim (cases_room (room o)) [
@@ -55,7 +57,8 @@ kept_none room a h = λ i s. at s i
         ]
 
 -- one place less makes at most one given bucket more
-pub gives-kept : (room : ServerId → ℕ) (o : ServerId) (owners : List ServerId) → gives (kept room o) owners ≤ suc (gives room owners)
+pub gives-kept : (room : ServerId → ℕ) (o : ServerId) (owners : List ServerId)
+    → gives (kept room o) owners ≤ suc (gives room owners)
 gives-kept room o [] = omega arith
 gives-kept room o (x ∷ owners) =
     elim (cases_room (kept room o x)) [
@@ -65,13 +68,16 @@ gives-kept room o (x ∷ owners) =
             | inr y ↦ let e : kept room o x ≡ room x = kept_beside room o x y.0 in omega arith
           ]
           in let t : ltb 0 (room x) ≡ true = lt-ltb 0 (room x) here
-          in let old : gives (kept (kept room x) o) owners ≤ suc (gives (kept room x) owners) = gives-kept (kept room x) o owners
-          in let old' : gives (kept (kept room o) x) owners ≤ suc (gives (kept room x) owners) = rw (kept_comm room x o) at old
+          in let old : gives (kept (kept room x) o) owners ≤ suc (gives (kept room x) owners) =
+          gives-kept (kept room x) o owners
+          in let old' : gives (kept (kept room o) x) owners ≤ suc (gives (kept room x) owners) =
+          rw (kept_comm room x o) at old
           in rw (some.0, t) old'
       | inr none ↦ elim (cases_room (room x)) [
         | inl was ↦ elim (cases_server o x) [
           | inl y ↦ rw (none.0, was.0, y.1) (omega arith)
-          | inr y ↦ let e : kept room o x ≡ room x = kept_beside room o x y.0 in absurd (omega (arith, none.1, was.1, e))
+          | inr y ↦ let e : kept room o x ≡ room x =
+              kept_beside room o x y.0 in absurd (omega (arith, none.1, was.1, e))
         ]
         | inr also ↦
             let old : gives (kept room o) owners ≤ suc (gives room owners) = gives-kept room o owners
@@ -86,12 +92,16 @@ differ (o ∷ owners) [] = 0
 differ (o ∷ owners) (p ∷ others) = if same_server o p then differ owners others else suc (differ owners others)
 
 present : (room : ServerId → ℕ) (p : ServerId) (others : List ServerId) → owned (p ∷ others) p ≤ room p → 0 < room p
-present room p others h = let t : same_server p p ≡ true = same_server-refl p in let h' : suc (owned others p) ≤ room p = rw t at h in omega arith
+present room p others h =
+    let t : same_server p p ≡ true = same_server-refl p in let h' : suc (owned others p) ≤ room p =
+    rw t at h in omega arith
 
-without : (room : ServerId → ℕ) (p : ServerId) (others : List ServerId) (s : ServerId) → owned (p ∷ others) s ≤ room s → owned others s ≤ room s
+without : (room : ServerId → ℕ) (p : ServerId) (others : List ServerId) (s : ServerId) → owned (p ∷ others) s ≤ room s
+    → owned others s ≤ room s
 without room p others s h = omega (arith, owned-cons p others s)
 
-fewer : (room : ServerId → ℕ) (o p : ServerId) (others : List ServerId) → o ≡ p → (s : ServerId) → owned (p ∷ others) s ≤ room s → owned others s ≤ kept room o s
+fewer : (room : ServerId → ℕ) (o p : ServerId) (others : List ServerId) → o ≡ p → (s : ServerId)
+    → owned (p ∷ others) s ≤ room s → owned others s ≤ kept room o s
 fewer room o p others e s h =
     elim (cases_server o s) [
       | inl same ↦
@@ -102,7 +112,8 @@ fewer room o p others e s h =
     ]
 
 -- owners for which there is room differ at least as often as buckets are given
-pub gives-le-differ : (room : ServerId → ℕ) (owners others : List ServerId) → length others ≡ length owners → ((s : ServerId) → owned others s ≤ room s)
+pub gives-le-differ : (room : ServerId → ℕ) (owners others : List ServerId) → length others ≡ length owners
+    → ((s : ServerId) → owned others s ≤ room s)
     → gives room owners ≤ differ owners others
 gives-le-differ room [] others h fits = omega arith
 gives-le-differ room (o ∷ owners) [] h fits = absurd (omega arith)
@@ -111,15 +122,18 @@ gives-le-differ room (o ∷ owners) (p ∷ others) h fits =
       | inl same ↦
           let there : 0 < room o = rw (← same.1) at (present room p others (fits p))
           in let t : ltb 0 (room o) ≡ true = lt-ltb 0 (room o) there
-          in let old : gives (kept room o) owners ≤ differ owners others = gives-le-differ (kept room o) owners others (omega arith) (λ s. fewer room o p others same.1 s (fits s))
+          in let old : gives (kept room o) owners ≤ differ owners others =
+          gives-le-differ (kept room o) owners others (omega arith) (λ s. fewer room o p others same.1 s (fits s))
           in rw (t, same.0) old
       | inr other ↦ elim (cases_room (room o)) [
         | inl some ↦
             let step : gives (kept room o) owners ≤ suc (gives room owners) = gives-kept room o owners
-            in let old : gives room owners ≤ differ owners others = gives-le-differ room owners others (omega arith) (λ s. without room p others s (fits s))
+            in let old : gives room owners ≤ differ owners others =
+            gives-le-differ room owners others (omega arith) (λ s. without room p others s (fits s))
             in rw (some.0, other.0) (omega arith)
         | inr none ↦
-            let old : gives room owners ≤ differ owners others = gives-le-differ room owners others (omega arith) (λ s. without room p others s (fits s))
+            let old : gives room owners ≤ differ owners others =
+            gives-le-differ room owners others (omega arith) (λ s. without room p others s (fits s))
             in rw (none.0, other.0) (omega arith)
       ]
     ]
@@ -129,14 +143,17 @@ differ-same : (owners : List ServerId) (b : ℕ) → differ owners (owners_after
 differ-same [] b = refl
 differ-same (o ∷ owners) b = let t : same_server o o ≡ true = same_server-refl o in rw t (differ-same owners (b + 1))
 
-differ-cons-le : (o p : ServerId) (owners others : List ServerId) → (differ owners others ≤ differ (o ∷ owners) (p ∷ others)) × (differ (o ∷ owners) (p ∷ others) ≤ suc (differ owners others))
+differ-cons-le : (o p : ServerId) (owners others : List ServerId)
+    → (differ owners others ≤ differ (o ∷ owners) (p ∷ others))
+    × (differ (o ∷ owners) (p ∷ others) ≤ suc (differ owners others))
 differ-cons-le o p owners others =
     elim (cases_server o p) [
       | inl same ↦ rw same.0 (omega arith, omega arith)
       | inr other ↦ rw other.0 (omega arith, omega arith)
     ]
 
-differ-head : (o p : ServerId) (owners xs ys : List ServerId) → differ owners xs ≤ suc (differ owners ys) → differ (o ∷ owners) (p ∷ xs) ≤ suc (differ (o ∷ owners) (p ∷ ys))
+differ-head : (o p : ServerId) (owners xs ys : List ServerId) → differ owners xs ≤ suc (differ owners ys)
+    → differ (o ∷ owners) (p ∷ xs) ≤ suc (differ (o ∷ owners) (p ∷ ys))
 differ-head o p owners xs ys h =
     elim (cases_server o p) [
       | inl same ↦ rw same.0 h
@@ -150,29 +167,42 @@ differ-more m moves b [] = omega arith
 differ-more m moves b (o ∷ owners) =
     elim (cases_eq m.bucket b) [
       | inl here ↦
-          let rest : owners_after (m ∷ moves) (b + 1) owners ≡ owners_after moves (b + 1) owners = owners_after-later (b + 1) m moves owners (omega arith)
-          in let above : differ (o ∷ owners) (unwrap_or (target (m ∷ moves) b) o ∷ owners_after moves (b + 1) owners) ≤ suc (differ owners (owners_after moves (b + 1) owners))
+          let rest : owners_after (m ∷ moves) (b + 1) owners ≡ owners_after moves (b + 1) owners =
+          owners_after-later (b + 1) m moves owners (omega arith)
+          in let above : differ (o ∷ owners) (unwrap_or (target (m ∷ moves) b) o ∷ owners_after moves (b + 1) owners)
+          ≤ suc (differ owners (owners_after moves (b + 1) owners))
           = (differ-cons-le o (unwrap_or (target (m ∷ moves) b) o) owners (owners_after moves (b + 1) owners)).1
-          in let below : differ owners (owners_after moves (b + 1) owners) ≤ differ (o ∷ owners) (unwrap_or (target moves b) o ∷ owners_after moves (b + 1) owners)
+          in let below : differ owners (owners_after moves (b + 1) owners) ≤ differ (o ∷ owners)
+          (unwrap_or (target moves b) o ∷ owners_after moves (b + 1) owners)
           = (differ-cons-le o (unwrap_or (target moves b) o) owners (owners_after moves (b + 1) owners)).0
-          in let same : differ (o ∷ owners) (unwrap_or (target (m ∷ moves) b) o ∷ owners_after (m ∷ moves) (b + 1) owners) ≡ differ (o ∷ owners) (unwrap_or (target (m ∷ moves) b) o ∷ owners_after moves (b + 1) owners)
+          in let same : differ (o ∷ owners)
+          (unwrap_or (target (m ∷ moves) b) o ∷ owners_after (m ∷ moves) (b + 1) owners)
+          ≡ differ (o ∷ owners) (unwrap_or (target (m ∷ moves) b) o ∷ owners_after moves (b + 1) owners)
           = ap (λ (xs : List ServerId). differ (o ∷ owners) (unwrap_or (target (m ∷ moves) b) o ∷ xs)) rest
           in omega (arith, above, below, same)
       | inr elsewhere ↦
           let t : eqb m.bucket b ≡ false = ne_eqb _ _ elsewhere
-          in rw t (differ-head o (unwrap_or (target moves b) o) owners (owners_after (m ∷ moves) (b + 1) owners) (owners_after moves (b + 1) owners) (differ-more m moves (b + 1) owners))
+          in rw t (differ-head o (unwrap_or (target moves b) o) owners (owners_after (m ∷ moves) (b + 1) owners)
+          (owners_after moves (b + 1) owners) (differ-more m moves (b + 1) owners))
     ]
 
-pub differ-le-length : (moves : List Move) (b : ℕ) (owners : List ServerId) → differ owners (owners_after moves b owners) ≤ length moves
+pub differ-le-length : (moves : List Move) (b : ℕ) (owners : List ServerId)
+    → differ owners (owners_after moves b owners) ≤ length moves
 differ-le-length [] b owners = omega (arith, differ-same owners b)
 differ-le-length (m ∷ moves) b owners = omega (arith, differ-more m moves b owners, differ-le-length moves b owners)
 
-length-owners_after : (moves : List Move) (b : ℕ) (owners : List ServerId) → length (owners_after moves b owners) ≡ length owners
+length-owners_after : (moves : List Move) (b : ℕ) (owners : List ServerId)
+    → length (owners_after moves b owners) ≡ length owners
 length-owners_after moves b [] = refl
 length-owners_after moves b (o ∷ owners) = ap suc (length-owners_after moves (b + 1) owners)
 
 -- moves after which each server has room for what it owns are at least as many as the given buckets
-pub gives-le-length : (room : ServerId → ℕ) (owners : List ServerId) (moves : List Move) → ((s : ServerId) → owned (owners_after moves 0 owners) s ≤ room s)
+pub gives-le-length : (room : ServerId → ℕ) (owners : List ServerId) (moves : List Move)
+    → ((s : ServerId) → owned (owners_after moves 0 owners) s ≤ room s)
     → gives room owners ≤ length moves
 gives-le-length room owners moves fits =
-    omega (arith, gives-le-differ room owners (owners_after moves 0 owners) (length-owners_after moves 0 owners) fits, differ-le-length moves 0 owners)
+    omega (
+      arith,
+      gives-le-differ room owners (owners_after moves 0 owners) (length-owners_after moves 0 owners) fits,
+      differ-le-length moves 0 owners,
+    )

@@ -1,5 +1,6 @@
 -- Quotas of servers, and the list of moves that reaches them.
-use Rattle.std.specs.Prelude.{◌≡◌, ℕ, zero, suc, ◌+◌, ◌-◌, ◌/◌, ◌%◌, nat_lt, nat_le, if◌then◌else◌, List, [], ◌∷◌, map, replicate, unwrap_or}
+use Rattle.std.specs.Prelude.{◌≡◌, ℕ, zero, suc, ◌+◌, ◌-◌, ◌/◌, ◌%◌, nat_lt, nat_le, if◌then◌else◌}
+use Rattle.std.specs.Prelude.{List, [], ◌∷◌, map, replicate, unwrap_or}
 use Rattle.std.specs.List.{flat_map, range_with_len}
 use Rattle.bm_base.specs.declared.ids.ServerId.{ServerId}
 use Rattle.bm_table.specs.declared.plan.Move.{Move}
@@ -21,16 +22,19 @@ owned (owner ∷ owners) s = if same_server owner s then suc (owned owners s) el
 abbrev pub quota_of : List ServerId → List ℕ → ServerId → ℕ
 quota_of [] quotas s = 0
 quota_of (t ∷ active) [] s = 0
-quota_of (t ∷ active) (quota ∷ quotas) s = if same_server t s then quota else quota_of active quotas s
+quota_of (t ∷ active) (quota ∷ quotas) s =
+    if same_server t s then quota else quota_of active quotas s
 
 -- the owner of each bucket, from bucket b on, after the moves
 abbrev pub owners_after : List Move → ℕ → List ServerId → List ServerId
 owners_after moves b [] = []
-owners_after moves b (owner ∷ owners) = unwrap_or (target moves b) owner ∷ owners_after moves (b + 1) owners
+owners_after moves b (owner ∷ owners) =
+    unwrap_or (target moves b) owner ∷ owners_after moves (b + 1) owners
 
 -- after the moves each active server owns its quota, and no other server owns a bucket
 abbrev pub ReachQuotas : List ServerId → List ServerId → List ℕ → List Move → Type 0
-ReachQuotas owners active quotas moves = (s : ServerId) → owned (owners_after moves 0 owners) s ≡ quota_of active quotas s
+ReachQuotas owners active quotas moves =
+    (s : ServerId) → owned (owners_after moves 0 owners) s ≡ quota_of active quotas s
 
 -- what a server owns above its quota
 abbrev pub surplus : List ServerId → List ServerId → List ℕ → ServerId → ℕ
@@ -45,7 +49,8 @@ sum_below f (suc n) = f (record { 0 = n }) + sum_below f n
 abbrev pub highest : (ServerId → ℕ) → ℕ → List ServerId → List ℕ
 highest gives b [] = []
 highest gives b (owner ∷ owners) =
-    if nat_le (owned (owner ∷ owners) owner) (gives owner) then b ∷ highest gives (b + 1) owners else highest gives (b + 1) owners
+    if nat_le (owned (owner ∷ owners) owner) (gives owner) then b ∷ highest gives (b + 1) owners
+    else highest gives (b + 1) owners
 
 -- the servers in order, each as often as it takes a bucket
 abbrev pub takers : (ServerId → ℕ) → List ServerId → List ServerId
@@ -61,4 +66,5 @@ moves_to (b ∷ buckets) (s ∷ servers) = record { bucket = b; to = s } ∷ mov
 -- rising order, go to the servers below their quota, in rising number, each filled before the next.
 abbrev pub rebalancing : List ServerId → List ServerId → List ℕ → List Move
 rebalancing owners active quotas =
-    moves_to (highest (surplus owners active quotas) 0 owners) (takers (λ s. quota_of active quotas s - owned owners s) active)
+    moves_to (highest (surplus owners active quotas) 0 owners)
+    (takers (λ s. quota_of active quotas s - owned owners s) active)

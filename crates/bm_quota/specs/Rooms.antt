@@ -14,9 +14,12 @@ kept room owner s = if same_server owner s then room s - 1 else room s
 -- the buckets, from b on, for which there was no room
 abbrev pub given : (ServerId → ℕ) → ℕ → List ServerId → List ℕ
 given room b [] = []
-given room b (owner ∷ owners) = if nat_lt 0 (room owner) then given (kept room owner) (b + 1) owners else b ∷ given room (b + 1) owners
+given room b (owner ∷ owners) =
+    if nat_lt 0 (room owner) then given (kept room owner) (b + 1) owners
+    else b ∷ given room (b + 1) owners
 
 -- the room that is left
 abbrev pub left : (ServerId → ℕ) → List ServerId → ServerId → ℕ
 left room [] s = room s
-left room (owner ∷ owners) s = if nat_lt 0 (room owner) then left (kept room owner) owners s else left room owners s
+left room (owner ∷ owners) s =
+    if nat_lt 0 (room owner) then left (kept room owner) owners s else left room owners s

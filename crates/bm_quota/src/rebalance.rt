@@ -1,5 +1,6 @@
 //! The moves that bring each active server to its quota.
-ghost use Rattle.std.specs.Prelude.{◌≡◌, ◌≤◌, ◌<◌, ◌+◌, ◌-◌, ℕ, List, length, map, sum, nat_lt, slice_index, slice_set, vec_len, All, IfOk, OnOk};
+ghost use Rattle.std.specs.Prelude.{◌≡◌, ◌≤◌, ◌<◌, ◌+◌, ◌-◌, ℕ, List, length, map, sum, nat_lt};
+ghost use Rattle.std.specs.Prelude.{slice_index, slice_set, vec_len, All, IfOk, OnOk};
 ghost use Rattle.std.specs.List.{zip};
 ghost use Rattle.bm_base.specs.declared.ids.ServerId.{ServerId};
 ghost use Rattle.bm_quota.specs.Rebalancing as rule;

@@ -1,5 +1,6 @@
 -- What carriers carry, and where they go on to.
-use Rattle.std.proofs.Common.{◌≡◌, ℕ, zero, suc, ◌^◌, ◌<◌, ◌≤◌, List, [], ◌∷◌, ◌++◌, length, take, drop, Option, Some, None, Result, Ok, Err, refl, sym, ap, subst, ◌∙◌, arith}
+use Rattle.std.proofs.Common.{◌≡◌, ℕ, zero, suc, ◌^◌, ◌<◌, ◌≤◌, List, [], ◌∷◌, ◌++◌, length, take, drop, Option, Some}
+use Rattle.std.proofs.Common.{None, Result, Ok, Err, refl, sym, ap, subst, ◌∙◌, arith}
 use Rattle.std.specs.Prelude.{All, IfSome, MatchResult}
 use Rattle.std.specs.Int.{byte_at, bytes_high_first}
 use Rattle.std.specs.Option.{option_map}
@@ -15,7 +16,8 @@ use Rattle.bm_base.specs.declared.label.Hop.TheVariants.{Direct, Chained}
 use Rattle.bm_base.specs.declared.label.Tag.{Tag}
 use Rattle.bm_base.specs.Tags.{IsServer, IsTag}
 use Rattle.bm_ipv4.specs.Fields.{u32_at}
-use Rattle.bm_link.specs.Fits.{ReadsAs}
+use Rattle.bm_tcp.specs.declared.packet.InnerFault.{InnerFault}
+use Rattle.bm_tcp.specs.Packets.{ReadsAs}
 use Rattle.bm_encap.specs.declared.fault.EncapFault.{EncapFault}
 use Rattle.bm_encap.specs.Faults.{chained, chained_from, next_hop, next_of, spelling_of, u64_at, unwrapped}
 use Rattle.bm_encap.specs.Spellings.{fields, header, spelled, spelling}
@@ -24,21 +26,24 @@ use Rattle.bm_encap.proofs.NumberLemmas.{AreOctets, octets_from, u16_below}
 use Rattle.bm_encap.proofs.Says.{says}
 use Rattle.bm_encap.proofs.Spelled.{spelling_read}
 use Rattle.bm_encap.proofs.Valid.{valid}
-use Rattle.bm_replay.specs.Carriers.{carried, carried_by, next_by, next_tag}
+use Rattle.bm_replay.specs.Carriers.{carried, carried_by, next_by, next_tag, with_tag}
 
 -- A CARRIER THAT SPELLS A TAG
 
-pub carries : (tag : Tag) (packet : List ℕ) (s : Segment) → IsTag tag → tag.stamp.0 < 2 ^ 64 → tag.version.0 < 2 ^ 32 → length packet ≤ 65491 → ReadsAs packet s
+pub carries : (tag : Tag) (packet : List ℕ) (s : Segment) → IsTag tag → tag.stamp.0 < 2 ^ 64 → tag.version.0 < 2 ^ 32
+    → length packet ≤ 65491 → ReadsAs packet s
     → carried (spelling tag packet) ≡ Some (tag, s)
 carries tag packet s is stamp version few reads =
-    let within : carried_by (Ok (tag, packet)) ≡ Some (tag, s) = rw (reads.1.0, reads.1.3, reads.1.1, reads.1.2) refl in
-    ap carried_by (spelling_read tag packet is stamp version few) ∙ within
+    ap carried_by (spelling_read tag packet is stamp version few)
+    ∙ ap (λ (r : Result (Segment × List ℕ) InnerFault). with_tag tag r) reads
 
-pub goes_on : (tag : Tag) (packet : List ℕ) (to : ServerId) → IsTag tag → tag.stamp.0 < 2 ^ 64 → tag.version.0 < 2 ^ 32 → length packet ≤ 65491 → tag.hop ≡ Direct → tag.prev ≡ Some to
+pub goes_on : (tag : Tag) (packet : List ℕ) (to : ServerId) → IsTag tag → tag.stamp.0 < 2 ^ 64 → tag.version.0 < 2 ^ 32
+    → length packet ≤ 65491 → tag.hop ≡ Direct → tag.prev ≡ Some to
     → next_tag (spelling tag packet) ≡ Some (record tag { hop = Chained; dest = to })
 goes_on tag packet to is stamp version few direct prev =
     ap next_by (spelling_read tag packet is stamp version few)
-    ∙ (ap (λ (h : Hop). result_ok (next_of h tag.prev tag)) direct ∙ ap (λ (o : Option ServerId). result_ok (next_of Direct o tag)) prev)
+    ∙ (ap (λ (h : Hop). result_ok (next_of h tag.prev tag)) direct
+    ∙ ap (λ (o : Option ServerId). result_ok (next_of Direct o tag)) prev)
 
 -- OCTETS ARE BELOW 256
 
@@ -58,7 +63,8 @@ octets_of_number (suc n) v (suc i) = octets_of_number n v i
 
 octets_of_fields : (fields : List (ℕ × ℕ)) → AreOctets (spelled fields)
 octets_of_fields [] = λ i. omega arith
-octets_of_fields (f ∷ fields) = octets_more (bytes_high_first f.0 f.1) (spelled fields) (octets_of_number f.0 f.1) (octets_of_fields fields)
+octets_of_fields (f ∷ fields) =
+    octets_more (bytes_high_first f.0 f.1) (spelled fields) (octets_of_number f.0 f.1) (octets_of_fields fields)
 
 octets_of_header : (tag : Tag) (total sum : ℕ) → AreOctets (header tag total sum)
 unfolding header
@@ -116,14 +122,22 @@ record IsNextOf (tag next : Tag) : Type 0 where
   stamp : next.stamp ≡ tag.stamp
   version : next.version ≡ tag.version
 
-next_is : (tag next : Tag) (hop : Hop) (prev : Option ServerId) → IsTag tag → tag.prev ≡ prev → next_of hop prev tag ≡ Ok next → IsNextOf tag next
+next_is : (tag next : Tag) (hop : Hop) (prev : Option ServerId) → IsTag tag → tag.prev ≡ prev
+    → next_of hop prev tag ≡ Ok next → IsNextOf tag next
 next_is tag next Chained prev is from hop = absurd (cc)
 next_is tag next Direct None is from hop = absurd (cc)
 next_is tag next Direct (Some s) is from hop =
     let same : record tag { hop = Chained; dest = s } ≡ next = cc in
     subst (λ (t : Tag). IsNextOf tag t) same
     (record {
-      valid = record { dest = subst (λ (o : Option ServerId). IfSome o IsServer) from is.prev; prev = is.prev; mux = is.mux; hop = from; stamp = is.stamp };
+      valid = record {
+        dest = subst (λ (o : Option ServerId). IfSome o IsServer) from is.prev;
+        prev = is.prev;
+        mux =
+            is.mux;
+        hop = from;
+        stamp = is.stamp;
+      };
       stamp = refl;
       version = refl;
     })
@@ -136,7 +150,8 @@ pub record IsTurned (octets new : List ℕ) : Type 0 where
   pub is_read : unwrapped new ≡ Ok (next, inner)
   pub are_octets : AreOctets new
 
-turned_to : (octets new : List ℕ) (read : Tag × List ℕ) (n : Result Tag EncapFault) → AreOctets octets → unwrapped octets ≡ Ok read → next_hop read.0 ≡ n → spelling_of n read.1 ≡ Ok new → IsTurned octets new
+turned_to : (octets new : List ℕ) (read : Tag × List ℕ) (n : Result Tag EncapFault) → AreOctets octets
+    → unwrapped octets ≡ Ok read → next_hop read.0 ≡ n → spelling_of n read.1 ≡ Ok new → IsTurned octets new
 turned_to octets new read (Err fault) are was hop is = absurd (cc)
 turned_to octets new read (Ok next) are was hop is =
     let r = is_said octets read are was in
@@ -146,33 +161,52 @@ turned_to octets new read (Ok next) are was hop is =
       next = next;
       inner = read.1;
       is_next = ap next_by was ∙ ap result_ok hop;
-      is_read = subst (λ (o : List ℕ). unwrapped o ≡ Ok (next, read.1)) same (spelling_read next read.1 n.valid (rw n.stamp r.stamp) (rw n.version r.version) r.short);
+      is_read =
+          subst (λ (o : List ℕ). unwrapped o ≡ Ok (next, read.1)) same
+          (spelling_read next read.1 n.valid (rw n.stamp r.stamp) (rw n.version r.version) r.short);
       are_octets = subst AreOctets same (octets_spelled next read.1 r.inner);
     }
 
-turned_by : (octets new : List ℕ) (r : Result (Tag × List ℕ) EncapFault) → AreOctets octets → unwrapped octets ≡ r → chained_from r ≡ Ok new → IsTurned octets new
+turned_by : (octets new : List ℕ) (r : Result (Tag × List ℕ) EncapFault) → AreOctets octets → unwrapped octets ≡ r
+    → chained_from r ≡ Ok new → IsTurned octets new
 turned_by octets new (Err fault) are was is = absurd (cc)
 turned_by octets new (Ok read) are was is = turned_to octets new read (next_hop read.0) are was refl is
 
-turned_lent : (octets new : List ℕ) (r : Result (Unit {0}) EncapFault) (u : Unit {0}) → AreOctets octets → MatchResult r (λ _. chained octets ≡ Ok new) (λ fault. (chained octets ≡ Err fault) × (new ≡ octets)) → Some u ≡ result_ok r
+turned_lent : (octets new : List ℕ) (r : Result (Unit {0}) EncapFault) (u : Unit {0}) → AreOctets octets
+    → MatchResult r (λ _. chained octets ≡ Ok new) (λ fault. (chained octets ≡ Err fault) × (new ≡ octets))
+    → Some u ≡ result_ok r
     → IsTurned octets new
 turned_lent octets new (Ok v) u are set is = turned_by octets new (unwrapped octets) are refl set
 turned_lent octets new (Err fault) u are set is = absurd (cc)
 
 -- the octets of a vector, lent as a slice, were turned
-pub turned_in : (items lent new : List ℕ) (len : ℕ) (r : Result (Unit {0}) EncapFault) (u : Unit {0}) → All (λ octet. octet < 256) items → lent ≡ items → len ≡ length items → length new ≡ length lent
-    → MatchResult r (λ _. chained lent ≡ Ok new) (λ fault. (chained lent ≡ Err fault) × (new ≡ lent)) → Some u ≡ result_ok r
+pub turned_in : (items lent new : List ℕ) (len : ℕ) (r : Result (Unit {0}) EncapFault) (u : Unit {0})
+    → All (λ octet. octet < 256) items → lent ≡ items → len ≡ length items → length new ≡ length lent
+    → MatchResult r (λ _. chained lent ≡ Ok new) (λ fault. (chained lent ≡ Err fault) × (new ≡ lent))
+    → Some u ≡ result_ok r
     → IsTurned items (take len (new ++ drop (length new) items))
 turned_in items lent new len r u below same whole kept set is =
     let all : len ≡ length new = whole ∙ (ap (λ (xs : List ℕ). length xs) (sym same) ∙ sym kept) in
-    let written : take len (new ++ drop (length new) items) ≡ new = ap (λ n. take n (new ++ drop (length new) items)) all ∙ take-append_seam new (drop (length new) items) in
+    let written : take len (new ++ drop (length new) items) ≡ new =
+    ap (λ n. take n (new ++ drop (length new) items)) all ∙ take-append_seam new (drop (length new) items) in
     subst (λ (xs : List ℕ). IsTurned xs (take len (new ++ drop (length new) items))) same
-    (subst (λ (xs : List ℕ). IsTurned lent xs) (sym written) (turned_lent lent new r u (subst AreOctets (sym same) (octets_by items below)) set is))
+    (subst (λ (xs : List ℕ). IsTurned lent xs) (sym written)
+    (turned_lent lent new r u (subst AreOctets (sym same) (octets_by items below)) set is))
 
 -- the answer is the tag of the next hop
-pub answered : (octets new : List ℕ) (r : Result (Tag × Bor (List ℕ)) EncapFault) → IsTurned octets new → MatchResult r (λ read. unwrapped new ≡ Ok (read.0, read.1.now)) (λ fault. unwrapped new ≡ Err fault)
+pub answered : (octets new : List ℕ) (r : Result (Tag × Bor (List ℕ)) EncapFault) → IsTurned octets new
+    → MatchResult r (λ read. unwrapped new ≡ Ok (read.0, read.1.now)) (λ fault. unwrapped new ≡ Err fault)
     → option_map (λ x. x.0) (result_ok r) ≡ next_tag octets
 answered octets new (Ok read) turned is =
     let same : (read.0, read.1.now) ≡ (turned.next, turned.inner) = cc in
     ap (λ (x : Tag × List ℕ). Some x.0) same ∙ sym turned.is_next
 answered octets new (Err fault) turned is = absurd (cc)
+
+-- a carrier that was loaded, or was not for want of memory
+pub all_loaded : {A E : Type 0} (r : Result A E) (old new octets : List ℕ) → old ≡ [] → AreOctets octets
+    → MatchResult r (λ _. new ≡ old ++ octets) (λ _. new ≡ old) → All (λ octet. octet < 256) new
+all_loaded (Ok x) old new octets none are is =
+    subst (λ (xs : List ℕ). All (λ octet. octet < 256) xs) (sym (is ∙ ap (λ (xs : List ℕ). xs ++ octets) none))
+    (all_below octets are)
+all_loaded (Err e) old new octets none are is =
+    subst (λ (xs : List ℕ). All (λ octet. octet < 256) xs) (sym (is ∙ none)) (all_below [] (λ i. omega arith))

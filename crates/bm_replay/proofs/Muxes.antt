@@ -8,17 +8,21 @@ use Rattle.bm_core.specs.declared.schedule.Due.{Due}
 use Rattle.bm_core.specs.Schedule.{least, switch_due}
 use Rattle.bm_replay.specs.declared.mux.Mux.{Mux}
 use Rattle.bm_replay.specs.Muxes.{switch_after, switches_of, version_in}
-use Rattle.bm_replay.specs.Turns.{sooner_of}
-use Rattle.bm_replay.proofs.Least.{least_append}
+use Rattle.bm_replay.specs.Comings.{sooner_of}
+use Rattle.bm_replay.proofs.LeastOfTwo.{least_append}
 
-switch_least : (muxes lag m v : ℕ) (o : Option Change) → least (switch_due muxes lag m v o) ≡ switch_after muxes lag m v o
+switch_least : (muxes lag m v : ℕ) (o : Option Change)
+    → least (switch_due muxes lag m v o) ≡ switch_after muxes lag m v o
 switch_least muxes lag m v None = refl
 switch_least muxes lag m v (Some c) = refl
 
 -- the soonest switch of one mux more
 pub switches_more : (plan : Planned) (lags : List ℕ) (total : ℕ) (muxes : List Mux) (m : ℕ)
     → least (switches_of plan lags total muxes (suc m))
-    ≡ sooner_of (least (switches_of plan lags total muxes m)) (switch_after total (slice_index_or lags m 0) m (version_in muxes m) (next_change plan (version_in muxes m)))
+    ≡ sooner_of (least (switches_of plan lags total muxes m))
+    (switch_after total (slice_index_or lags m 0) m (version_in muxes m) (next_change plan (version_in muxes m)))
 switches_more plan lags total muxes m =
-    least_append (switches_of plan lags total muxes m) (switch_due total (slice_index_or lags m 0) m (version_in muxes m) (next_change plan (version_in muxes m)))
-    ∙ ap (λ (o : Option Due). sooner_of (least (switches_of plan lags total muxes m)) o) (switch_least total (slice_index_or lags m 0) m (version_in muxes m) (next_change plan (version_in muxes m)))
+    least_append (switches_of plan lags total muxes m)
+    (switch_due total (slice_index_or lags m 0) m (version_in muxes m) (next_change plan (version_in muxes m)))
+    ∙ ap (λ (o : Option Due). sooner_of (least (switches_of plan lags total muxes m)) o)
+    (switch_least total (slice_index_or lags m 0) m (version_in muxes m) (next_change plan (version_in muxes m)))

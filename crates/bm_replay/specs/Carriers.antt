@@ -3,14 +3,14 @@ use Rattle.std.specs.Prelude.{ℕ, List, Option, Some, None, Result, Ok, Err}
 use Rattle.std.specs.Result.{result_ok}
 use Rattle.bm_base.specs.declared.flow.Segment.{Segment}
 use Rattle.bm_base.specs.declared.label.Tag.{Tag}
-use Rattle.bm_base.specs.declared.capture.Reason.{Reason}
-use Rattle.bm_link.specs.Classes.{segment_in}
+use Rattle.bm_tcp.specs.declared.packet.InnerFault.{InnerFault}
+use Rattle.bm_tcp.specs.Packets.{segment_in}
 use Rattle.bm_encap.specs.declared.fault.EncapFault.{EncapFault}
 use Rattle.bm_encap.specs.Faults.{next_hop, unwrapped}
 
 -- the tag beside the segment, where there is one
-abbrev pub with_tag : Tag → Result (Segment × List ℕ) Reason → Option (Tag × Segment)
-with_tag tag (Err reason) = None
+abbrev pub with_tag : Tag → Result (Segment × List ℕ) InnerFault → Option (Tag × Segment)
+with_tag tag (Err fault) = None
 with_tag tag (Ok read) = Some (tag, read.0)
 
 abbrev pub carried_by : Result (Tag × List ℕ) EncapFault → Option (Tag × Segment)

@@ -20,7 +20,8 @@ pub record IsFlying (stage : Stage) (past : List Event) (f : Flying) (u : Underw
 -- the copies on the wire are these, in their order
 abbrev pub AreFlying : Stage → List Event → List Flying → List Underway → Type 0
 AreFlying stage past [] [] = Unit {0}
-AreFlying stage past (f ∷ flying) (u ∷ dues) = IsFlying stage past f u × AreFlying stage past flying dues
+AreFlying stage past (f ∷ flying) (u ∷ dues) =
+    IsFlying stage past f u × AreFlying stage past flying dues
 AreFlying stage past _ _ = ⊥
 
 -- so many copies of one sending

@@ -6,4 +6,4 @@ pub mod Playing
 pub mod Queues
 pub mod Replays
 pub mod Shards
-pub mod Turns
+pub mod Comings

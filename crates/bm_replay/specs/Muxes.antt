@@ -1,5 +1,6 @@
 -- The muxes of a stage: the version of each, and its table.
-use Rattle.std.specs.Prelude.{◌≡◌, ℕ, zero, suc, ◌+◌, ◌*◌, List, [], ◌++◌, Option, Some, None, slice_get, slice_index_or}
+use Rattle.std.specs.Prelude.{◌≡◌, ℕ, zero, suc, ◌+◌, ◌*◌, List, [], ◌++◌, Option, Some, None}
+use Rattle.std.specs.Prelude.{slice_get, slice_index_or}
 use Rattle.bm_base.specs.declared.ids.MuxId.{MuxId}
 use Rattle.bm_base.specs.declared.label.Label.{Label}
 use Rattle.bm_table.specs.declared.plan.Change.{Change}
@@ -30,7 +31,8 @@ pub record IsMoved (change : Change) (v : ℕ) (old : Mux) (o : Option Mux) : Ty
   pub mux : Mux
   pub is_mux : o ≡ Some mux
   pub version : mux.version ≡ v
-  pub table : (plan : Planned) (w : ℕ) → IsPlan plan → next_change plan w ≡ Some change → IsTable plan w old.table → IsTable plan (w + 1) mux.table
+  pub table : (plan : Planned) (w : ℕ) → IsPlan plan → next_change plan w ≡ Some change
+      → IsTable plan w old.table → IsTable plan (w + 1) mux.table
 
 -- the version of a mux
 abbrev pub version_in : List Mux → ℕ → ℕ
@@ -39,11 +41,19 @@ version_in muxes m = (slice_index_or muxes m (record { version = 0; table = [] }
 -- the mux's switch to the version after v, if there is a change
 abbrev pub switch_after : ℕ → ℕ → ℕ → ℕ → Option Change → Option Due
 switch_after total lag m v None = None
-switch_after total lag m v (Some c) = Some (record { moment = c.moment.0 + lag; rank = 1; number = v * total + m; call = Switches m (suc v) })
+switch_after total lag m v (Some c) =
+    Some (record {
+      moment = c.moment.0 + lag;
+      rank = 1;
+      number = v * total + m;
+      call =
+          Switches m (suc v);
+    })
 
 -- the next switch of each of the first n muxes, by their versions
 abbrev pub switches_of : Planned → List ℕ → ℕ → List Mux → ℕ → List Due
 switches_of plan lags total muxes zero = []
 switches_of plan lags total muxes (suc m) =
     switches_of plan lags total muxes m
-    ++ switch_due total (slice_index_or lags m 0) m (version_in muxes m) (next_change plan (version_in muxes m))
+    ++ switch_due total (slice_index_or lags m 0) m (version_in muxes m)
+    (next_change plan (version_in muxes m))

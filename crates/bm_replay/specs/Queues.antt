@@ -1,4 +1,5 @@
--- What is left of the commands of each kind, and of the packets, behind a place of the script or the capture.
+-- What is left of the commands of each kind, and of the packets, behind a place of the script or
+-- the capture.
 use Rattle.std.specs.Prelude.{◌≡◌, ℕ, suc, List, [], ◌∷◌, ◌++◌, Option, Some, None}
 use Rattle.bm_base.specs.declared.ids.ServerId.{ServerId}
 use Rattle.bm_base.specs.declared.capture.Record.{Record}
@@ -6,7 +7,8 @@ use Rattle.bm_table.specs.declared.script.Command.{Command}
 use Rattle.bm_core.specs.declared.schedule.Call.{Call}
 use Rattle.bm_core.specs.declared.schedule.Call.TheVariants.{Retires}
 use Rattle.bm_core.specs.declared.schedule.Due.{Due}
-use Rattle.bm_core.specs.Schedule.{close_commands, dropped, packets_from, retire_commands, retire_dues, sync_commands}
+use Rattle.bm_core.specs.Schedule.{close_commands, dropped, packets_from, retire_commands}
+use Rattle.bm_core.specs.Schedule.{retire_dues, sync_commands}
 use Rattle.bm_replay.specs.declared.queue.Queue.{Queue}
 
 -- the head is the first of these, and the others come behind it

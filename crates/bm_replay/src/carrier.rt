@@ -1,5 +1,5 @@
 //! The octets of a packet on its way.
-ghost use Rattle.std.specs.Prelude.{◌≡◌, ◌≤◌, length, IfOk, IfSome, Ok as ok};
+ghost use Rattle.std.specs.Prelude.{◌≡◌, ◌≤◌, length, IfSome, OnOk, Ok as ok};
 ghost use Rattle.bm_base.specs.Tags.{IsTag};
 ghost use Rattle.bm_encap.specs.Faults.{chained};
 ghost use Rattle.bm_encap.specs.Spellings.{spelling};
@@ -7,11 +7,11 @@ ghost use Rattle.bm_replay.specs.Carriers.{carried, next_tag};
 
 use bm_base::{Memory, Segment, Tag};
 use bm_encap::{set_chained, unwrap, wrap};
-use bm_link::read_segment;
+use bm_tcp::read_packet;
 use std::alloc::Global;
 use std::marker::Model;
 
-/// A packet on its way: a carrier header, and the packet within.
+/// A packet on its way: a carrier header, and the packet within. One serves all packets in turn.
 #[derive(Debug, Drop)]
 pub(crate) struct Carrier {
     octets: Vec<u8>,
@@ -28,15 +28,21 @@ impl Model for Carrier {
 }
 
 impl Carrier {
-    /// The packet behind the header of the tag.
-    pub(crate) fn new(alloc: Global, tag: &Tag, packet: &[u8]) -> Result<Carrier, Memory>
+    /// No octets yet. Takes no memory.
+    pub(crate) fn empty(alloc: Global) -> Carrier {
+        Carrier {
+            octets: Vec::new(alloc),
+        }
+    }
+
+    /// The packet behind the header of the tag, in place of what was there.
+    pub(crate) fn load(&mut self, tag: &Tag, packet: &[u8]) -> Result<(), Memory>
         requires tag { IsTag tag.now }
         requires short { length packet.now ≤ 65491 }
-        ensures { IfOk result (λ carrier. carrier ≡ spelling tag.now packet.now) }
+        ensures { OnOk result (self.new ≡ spelling tag.now packet.now) }
     {
-        let mut octets = Vec::new(alloc);
-        wrap(tag, packet, &mut octets)?;
-        Ok(Carrier { octets })
+        self.octets.clear();
+        wrap(tag, packet, &mut self.octets)
     }
 
     /// The tag and the segment that the octets carry.
@@ -45,7 +51,7 @@ impl Carrier {
         ensures tag { IfSome result (λ read. IsTag read.0) }
     {
         let (tag, packet) = unwrap(&self.octets).ok()?;
-        let (segment, _) = read_segment(packet).ok()?;
+        let (segment, _) = read_packet(packet).ok()?;
         Some((tag, segment))
     }
 

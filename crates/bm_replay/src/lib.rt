@@ -2,17 +2,13 @@
 #![tactic(auto)]
 
 mod carrier;
-mod changes;
-mod commands;
+mod coming;
 mod events;
 mod mux;
-mod packets;
 mod player;
 mod queue;
 mod replaying;
 mod shards;
-mod steps;
-mod turn;
 
 pub use replaying::replay;
 

@@ -1,12 +1,14 @@
 //! The muxes: the version of each, and its table.
-ghost use Rattle.std.specs.Prelude.{◌≡◌, ◌≢◌, ℕ, ◌*◌, ◌^◌, ◌<◌, ◌≤◌, All, IfOk, Some, length, slice_get};
+ghost use Rattle.std.specs.Prelude.{◌≡◌, ◌≢◌, ℕ, ◌*◌, ◌^◌, ◌<◌, ◌≤◌, All, IfOk, Some, length};
+ghost use Rattle.std.specs.Prelude.{slice_get};
 ghost use Rattle.bm_core.specs.Schedule.{least};
 ghost use Rattle.bm_table.specs.Planned.{Planned};
-ghost use Rattle.bm_table.specs.Tables.{moment_of, next_change};
+ghost use Rattle.bm_table.specs.Tables.{change_moment, next_change};
 ghost use Rattle.bm_replay.specs.declared.mux.Mux.{Mux};
-ghost use Rattle.bm_replay.specs.Muxes.{HasTable, IsMoved, IsWritten, switch_after, switches_of, version_in};
+ghost use Rattle.bm_replay.specs.Muxes.{HasTable, IsMoved, IsWritten, switch_after, switches_of};
+ghost use Rattle.bm_replay.specs.Muxes.{version_in};
 
-use crate::turn::sooner;
+use crate::coming::sooner;
 use bm_base::{Label, Memory, MuxId, Version};
 use bm_core::{Call, Due};
 use bm_table::{Change, Plan, Table};
@@ -39,7 +41,8 @@ impl Muxes {
     /// So many muxes, each with the table of version 0.
     pub(crate) fn new(alloc: Global, plan: &Plan, total: u16) -> Result<Muxes, Memory>
         ensures so_many { IfOk result (λ muxes. length muxes ≡ total) }
-        ensures each { IfOk result (λ muxes. (m : ℕ) → m < total → HasTable plan.now 0 (slice_get muxes m)) }
+        ensures each { IfOk result
+            (λ muxes. (m : ℕ) → m < total → HasTable plan.now 0 (slice_get muxes m)) }
     {
         let mut list = Vec::new(alloc);
         for _ in 0..total {
@@ -68,7 +71,8 @@ impl Muxes {
         requires { mux < length self.old }
         ensures count { length self.new ≡ length self.old }
         ensures others { (m : ℕ) → m ≢ mux → slice_get self.new m ≡ slice_get self.old m }
-        ensures moved { (x : Mux) → slice_get self.old mux ≡ Some x → IsMoved change.now version x (slice_get self.new mux) }
+        ensures moved { (x : Mux) → slice_get self.old mux ≡ Some x
+            → IsMoved change.now version x (slice_get self.new mux) }
     {
         let by = &mut self.muxes[usize::from(mux)];
         by.table.apply(change);
@@ -80,7 +84,7 @@ impl Muxes {
         requires there { total ≤ length self.now }
         requires lag_of_each { total ≤ length lags.now }
         requires few { length plan.now.changes ≤ 4096 }
-        requires moments { (v : ℕ) → moment_of (next_change plan.now v) ≤ 4 * 10 ^ 18 }
+        requires moments { (v : ℕ) → change_moment (next_change plan.now v) ≤ 4 * 10 ^ 18 }
         requires lags { All (λ lag. lag ≤ 86400 * 10 ^ 9) lags.now }
         ensures { result ≡ least (switches_of plan.now lags.now total self.now total) }
     {
@@ -96,7 +100,7 @@ impl Muxes {
 
 /// The mux's switch to the version after this one, if the plan leads there.
 fn next_switch(plan: &Plan, total: u16, mux: u16, version: u32, lag: u64) -> Option<Due>
-    requires moment { moment_of (next_change plan.now version) ≤ 4 * 10 ^ 18 }
+    requires moment { change_moment (next_change plan.now version) ≤ 4 * 10 ^ 18 }
     requires lag { lag ≤ 86400 * 10 ^ 9 }
     requires few { length plan.now.changes ≤ 4096 }
     ensures { result ≡ switch_after total lag mux version (next_change plan.now version) }

@@ -1,18 +1,37 @@
-//! A replay on its way: its state, and what comes next.
-ghost use Rattle.std.specs.Prelude.{◌≡◌, ◌≤◌, IfOk, length};
-ghost use Rattle.bm_core.specs.Stages.{IsSound};
+//! A replay on its way: its state, what comes next, and the steps.
+ghost use Rattle.std.specs.Prelude.{◌≡◌, ◌*◌, ◌^◌, ◌<◌, ◌≤◌, IfOk, OnOk, Some, length, suc};
+ghost use Rattle.bm_base.specs.declared.ids.ServerId.{ServerId};
 ghost use Rattle.bm_link.specs.Fits.{ArePackets};
 ghost use Rattle.bm_table.specs.Tables.{next_change};
-ghost use Rattle.bm_replay.specs.Players.{IsNew, happened, publish_after, turn_for};
+ghost use Rattle.bm_route.specs.Routes.{Answers, IsRoute};
+ghost use Rattle.bm_fault.specs.Faults.{Gives, IsRule};
+ghost use Rattle.bm_core.specs.Stages.{IsSound};
+ghost use Rattle.bm_core.specs.Weights.{IsSoon};
+ghost use Rattle.bm_replay.specs.declared.coming.Coming.TheVariants.{Arrive, Call as called};
+ghost use Rattle.bm_replay.specs.Carriers.{next_tag};
+ghost use Rattle.bm_replay.specs.Flights.{copies_put};
+ghost use Rattle.bm_replay.specs.Players as players;
+ghost use Rattle.bm_replay.specs.Players.{CanArrive, CanSteer, CanSwitch, HasArrived, HasClosed};
+ghost use Rattle.bm_replay.specs.Players.{HasGone, HasPlaces, HasRetired, HasSent, HasSteered};
+ghost use Rattle.bm_replay.specs.Players.{HasSwitched, HasSynced, IsNew, after_call, after_loss};
+ghost use Rattle.bm_replay.specs.Players.{after_publish, chained, coming_for, forwards, happened};
+ghost use Rattle.bm_replay.specs.Players.{publish_after, what_for};
+ghost use Rattle.bm_replay.specs.Playing.{HasPlayed, HasStepped, IsComing, IsPlaying};
+ghost use Rattle.bm_shard.specs.Books.{IsTaken};
+ghost use Rattle.bm_replay.specs.Shards.{place_of};
 
+use crate::carrier::Carrier;
+use crate::coming::{Coming, first_coming, sooner};
 use crate::events::Events;
 use crate::mux::Muxes;
-use crate::queue::{Queue, next_close, next_packet, next_retire, next_sync};
-use crate::shards::Shards;
-use crate::turn::{Turn, next_turn, sooner};
-use bm_base::{Hop, Memory, Moment, Octets, Version};
-use bm_core::{Call, Due, Event, History, Stage, What};
-use bm_fault::Wire;
+use crate::queue::{Queue, later_retire, next_close, next_packet, next_retire, next_sync};
+use crate::shards::{Shards, before};
+use bm_base::{Fate, Flow, Hop, Memory, Moment, MuxId, Octets, ServerId, Version, tag_of};
+use bm_core::{Call, Due, Event, History, Stage, Verdict, What, next_clock};
+use bm_fault::{Faults, Flight, Wire};
+use bm_hash::{bucket_of, shard_of};
+use bm_route::Route;
+use bm_shard::ShardCall;
 use std::alloc::Global;
 
 /// How many servers there may be, and one more, since they count from 1.
@@ -28,7 +47,6 @@ pub(crate) struct Loss {
 /// A replay on its way.
 #[derive(Drop)]
 pub(crate) struct Player<'a> {
-    pub(crate) alloc: Global,
     pub(crate) stage: Stage,
     /// The packet of each record.
     pub(crate) packets: &'a Octets,
@@ -82,7 +100,6 @@ impl<'a> Player<'a> {
         let sync = next_sync(commands, 0);
         let packet = next_packet(stage.capture.records.items(), 0);
         Ok(Player {
-            alloc,
             stage,
             packets,
             events,
@@ -101,21 +118,23 @@ impl<'a> Player<'a> {
     }
 
     /// What comes next.
-    pub(crate) fn turn(&self) -> Turn
+    fn coming(&self) -> Coming
         requires { length self.now.stage.script.plan.changes ≤ 4096 }
-        ensures { result ≡ turn_for self.now }
+        ensures { result ≡ coming_for self.now }
     {
         let change = sooner(self.publication(), self.switch);
         let close = sooner(change, self.close.head);
         let retire = sooner(close, self.retire.head);
         let command = sooner(retire, self.sync.head);
-        next_turn(command, self.wire.least(), self.packet.head)
+        first_coming(command, self.wire.least(), self.packet.head)
     }
 
     /// The publication of the next change.
     fn publication(&self) -> Option<Due>
         requires { length self.now.stage.script.plan.changes ≤ 4096 }
-        ensures { result ≡ publish_after self.now.published (next_change self.now.stage.script.plan self.now.published) }
+        ensures { result
+            ≡ publish_after self.now.published
+            (next_change self.now.stage.script.plan self.now.published) }
     {
         let change = self.stage.script.plan.next_change(Version(self.published))?;
         Some(Due {
@@ -127,7 +146,7 @@ impl<'a> Player<'a> {
     }
 
     /// This happens at this clock.
-    pub(crate) fn write(&mut self, clock: Moment, what: What) -> Result<(), Memory>
+    fn write(&mut self, clock: Moment, what: What) -> Result<(), Memory>
         ensures { IfOk result (λ _. self.new ≡ happened clock what self.old) }
     {
         self.events.push(Event { clock, what })?;
@@ -143,5 +162,360 @@ impl<'a> Player<'a> {
             stage: self.stage,
             events: self.events.into_list(),
         }
+    }
+}
+
+impl Player<'_> {
+    /// What comes next happens; false where nothing is left. Octets on their way are written into
+    /// the carrier.
+    pub(crate) fn step<R: Fn(u32, &Flow) -> u16, F: Fn(u32, Hop) -> Fate>(
+        &mut self,
+        carrier: &mut Carrier,
+        route: &Route<R>,
+        faults: &Faults<F>,
+    ) -> Result<bool, Memory>
+        requires playing { IsPlaying (Answers R.Fn route.now.rule) (Gives F.Fn faults.now.rule)
+            self.old }
+        requires route { IsRoute R.Fn route.now.rule route.now.muxes }
+        requires muxes { route.now.muxes ≡ self.old.stage.script.setting.muxes }
+        requires faults { IsRule F.Fn faults.now.rule }
+        ensures { IfOk result
+            (HasStepped (Answers R.Fn route.now.rule) (Gives F.Fn faults.now.rule) self.old
+            self.new) }
+    {
+        if let Some(loss) = self.loss {
+            self.lose(loss)?;
+            return Ok(true);
+        }
+        match self.coming() {
+            Coming::Arrive(moment) => {
+                let clock = next_clock(self.clock, moment);
+                self.arrive(clock, carrier, faults)?;
+            }
+            Coming::Call(due) => {
+                let clock = next_clock(self.clock, Moment(due.moment));
+                self.carry_out(clock, due, route, faults)?;
+            }
+            Coming::Over => return Ok(false),
+        }
+        Ok(true)
+    }
+
+    /// The change, command or packet that is due comes.
+    fn carry_out<R: Fn(u32, &Flow) -> u16, F: Fn(u32, Hop) -> Fate>(
+        &mut self,
+        clock: Moment,
+        due: Due,
+        route: &Route<R>,
+        faults: &Faults<F>,
+    ) -> Result<(), Memory>
+        requires coming { IsComing (Answers R.Fn route.now.rule) (Gives F.Fn faults.now.rule) clock
+            (called due) self.old }
+        requires route { IsRoute R.Fn route.now.rule route.now.muxes }
+        requires muxes { route.now.muxes ≡ self.old.stage.script.setting.muxes }
+        requires faults { IsRule F.Fn faults.now.rule }
+        ensures { IfOk result
+            (λ _. HasPlayed (Answers R.Fn route.now.rule) (Gives F.Fn faults.now.rule) self.old
+            self.new) }
+    {
+        match due.call {
+            Call::Publishes(version) => self.publish(clock, version)?,
+            Call::Switches(mux, version) => self.switch(clock, mux, version)?,
+            Call::Closes(server, flow) => self.close(clock, server, &flow)?,
+            Call::Retires(server, shard, at) => self.retire(clock, server, shard, Moment(at))?,
+            Call::Syncs => self.sync(clock)?,
+            Call::Steers(packet) => self.steer(clock, packet, route, faults)?,
+            Call::Arrives(..) | Call::Loses(..) => unreachable!(),
+        }
+        Ok(())
+    }
+
+    /// The loss is recorded, directly after its sending.
+    fn lose(&mut self, loss: Loss) -> Result<(), Memory>
+        requires { self.old.clock.0 < 2 ^ 63 }
+        ensures { IfOk result (λ _. self.new ≡ after_loss loss self.old) }
+    {
+        self.loss = None;
+        self.write(
+            Moment(self.clock.0 + 1),
+            What::Lose {
+                packet: loss.packet,
+                hop: loss.hop,
+            },
+        )
+    }
+
+    /// The version is published.
+    fn publish(&mut self, clock: Moment, version: u32) -> Result<(), Memory>
+        ensures { IfOk result (λ _. self.new ≡ after_publish clock version self.old) }
+    {
+        self.published = version;
+        self.write(clock, What::Publish(Version(version)))
+    }
+
+    /// The mux switches to the version.
+    fn switch(&mut self, clock: Moment, mux: u16, version: u32) -> Result<(), Memory>
+        requires { CanSwitch mux version self.old }
+        ensures { IfOk result (λ _. HasSwitched clock mux version self.old self.new) }
+    {
+        let setting = &self.stage.script.setting;
+        let plan = &self.stage.script.plan;
+        let Some(change) = plan.next_change(Version(version - 1)) else {
+            unreachable!()
+        };
+        self.muxes.switch(mux, version, change);
+        self.switch = self
+            .muxes
+            .soonest(plan, setting.lags.items(), setting.muxes);
+        self.write(
+            clock,
+            What::Switch {
+                mux: MuxId(mux),
+                version: Version(version),
+            },
+        )
+    }
+
+    /// The server closes the flow's connection, if it holds one.
+    fn close(&mut self, clock: Moment, server: ServerId, flow: &Flow) -> Result<(), Memory>
+        requires places { HasPlaces self.old }
+        requires server { server.0 ≤ 1024 }
+        requires clock { clock.0 ≤ 5 * 10 ^ 18 }
+        ensures { IfOk result (λ _. HasClosed clock server flow.now self.old self.new) }
+    {
+        let shard = shard_of(flow, self.stage.script.setting.shards);
+        self.close = next_close(self.stage.script.commands.items(), self.close.next);
+        let call = ShardCall::Close {
+            flow: *flow,
+            at: before(clock),
+        };
+        self.serve(clock, server, shard, call)?;
+        Ok(())
+    }
+
+    /// The server's shard retires, if it may.
+    fn retire(
+        &mut self,
+        clock: Moment,
+        server: ServerId,
+        shard: u16,
+        at: Moment,
+    ) -> Result<(), Memory>
+        requires places { HasPlaces self.old }
+        requires server { server.0 ≤ 1024 }
+        requires shard { shard < self.old.stage.script.setting.shards }
+        requires at { at.0 ≤ 5 * 10 ^ 18 }
+        requires published { self.old.published ≤ length self.old.stage.script.plan.changes }
+        ensures { IfOk result (λ _. HasRetired clock server shard at self.old self.new) }
+    {
+        let setting = &self.stage.script.setting;
+        let result = self
+            .stage
+            .script
+            .plan
+            .retirement(Version(self.published), server, at, setting.timeout);
+        self.retire = later_retire(
+            self.stage.script.commands.items(),
+            setting.shards,
+            &self.retire,
+        );
+        self.serve(clock, server, shard, ShardCall::Retire { at, result })?;
+        Ok(())
+    }
+
+    /// The server's shard is called, and what happens there is written at this clock.
+    fn serve(
+        &mut self,
+        clock: Moment,
+        server: ServerId,
+        shard: u16,
+        call: ShardCall,
+    ) -> Result<What, Memory>
+        requires places { HasPlaces self.old }
+        requires server { server.0 ≤ 1024 }
+        requires shard { shard < self.old.stage.script.setting.shards }
+        requires taken { IsTaken call }
+        ensures what { IfOk result (λ what. what ≡ what_for self.old server shard call) }
+        ensures effect { OnOk result (self.new ≡ after_call clock server shard call self.old) }
+    {
+        let place = self.place(server, shard);
+        let what = self.shards.call(place, call)?;
+        self.write(clock, what)?;
+        Ok(what)
+    }
+
+    /// A phase ends.
+    fn sync(&mut self, clock: Moment) -> Result<(), Memory>
+        ensures { IfOk result (λ _. HasSynced clock self.old self.new) }
+    {
+        self.sync = next_sync(self.stage.script.commands.items(), self.sync.next);
+        self.write(clock, What::Sync)
+    }
+
+    /// Where the server's shard lies.
+    fn place(&self, server: ServerId, shard: u16) -> usize
+        ensures { result ≡ place_of self.now.stage server shard }
+    {
+        usize::from(server.0) * usize::from(self.stage.script.setting.shards) + usize::from(shard)
+    }
+
+    /// The packet is steered by the mux that the route gives it, and sent.
+    fn steer<R: Fn(u32, &Flow) -> u16, F: Fn(u32, Hop) -> Fate>(
+        &mut self,
+        clock: Moment,
+        packet: u32,
+        route: &Route<R>,
+        faults: &Faults<F>,
+    ) -> Result<(), Memory>
+        requires can { CanSteer clock packet self.old }
+        requires route { IsRoute R.Fn route.now.rule route.now.muxes }
+        requires muxes { route.now.muxes ≡ self.old.stage.script.setting.muxes }
+        requires faults { IsRule F.Fn faults.now.rule }
+        ensures { IfOk result
+            (λ _. HasSteered (Answers R.Fn route.now.rule) (Gives F.Fn faults.now.rule) clock packet
+            self.old self.new) }
+    {
+        let Some(segment) = self.stage.segment(packet) else {
+            unreachable!()
+        };
+        let mux = route.mux_of(packet, &segment.flow);
+        let bucket = bucket_of(&segment.flow, self.stage.script.setting.buckets);
+        let label = self.muxes.label(mux, bucket);
+        let tag = tag_of(&label, Hop::Direct);
+        self.packet = next_packet(self.stage.capture.records.items(), self.packet.next);
+        self.write(clock, What::Steer { packet, mux })?;
+        self.send(clock, Flight { packet, tag }, faults)?;
+        Ok(())
+    }
+
+    /// The first copy under way arrives, and goes on where it is forwarded.
+    fn arrive<F: Fn(u32, Hop) -> Fate>(
+        &mut self,
+        clock: Moment,
+        carrier: &mut Carrier,
+        faults: &Faults<F>,
+    ) -> Result<(), Memory>
+        requires can { CanArrive clock self.old }
+        requires faults { IsRule F.Fn faults.now.rule }
+        ensures { IfOk result
+            (λ _. HasArrived (Gives F.Fn faults.now.rule) clock self.old self.new) }
+    {
+        let Some(flight) = self.wire.pop() else {
+            unreachable!()
+        };
+        let packet = flight.packet;
+        let octets = self.packets.get(packet - 1);
+        carrier.load(&flight.tag, octets)?;
+        let Some((tag, segment)) = carrier.read() else {
+            unreachable!()
+        };
+        let shard = shard_of(&segment.flow, self.stage.script.setting.shards);
+        let call = ShardCall::Arrive {
+            packet,
+            tag,
+            segment,
+            due: before(clock),
+        };
+        let what = self.serve(clock, tag.dest, shard, call)?;
+        self.go_on(
+            clock,
+            Flight { packet, tag },
+            carrier,
+            next_server(what),
+            faults,
+        )?;
+        Ok(())
+    }
+
+    /// A copy that is forwarded is sent on, with its octets turned to the next hop.
+    fn go_on<F: Fn(u32, Hop) -> Fate>(
+        &mut self,
+        clock: Moment,
+        flight: Flight,
+        carrier: &mut Carrier,
+        next: Option<ServerId>,
+        faults: &Faults<F>,
+    ) -> Result<(), Memory>
+        requires clock { clock.0 ≤ 5 * 10 ^ 18 }
+        requires next { (to : ServerId) → next ≡ Some to
+            → next_tag carrier.old ≡ Some (chained to flight).tag }
+        requires faults { IsRule F.Fn faults.now.rule }
+        ensures { IfOk result
+            (λ _. HasGone (Gives F.Fn faults.now.rule) clock flight next self.old self.new) }
+    {
+        if let Some(_) = next {
+            let Some(tag) = carrier.go_on() else {
+                unreachable!()
+            };
+            let packet = flight.packet;
+            self.send(clock, Flight { packet, tag }, faults)?;
+        }
+        Ok(())
+    }
+
+    /// The flight is sent, with the fate that the faults give it.
+    fn send<F: Fn(u32, Hop) -> Fate>(
+        &mut self,
+        clock: Moment,
+        flight: Flight,
+        faults: &Faults<F>,
+    ) -> Result<(), Memory>
+        requires clock { clock.0 ≤ 5 * 10 ^ 18 }
+        requires faults { IsRule F.Fn faults.now.rule }
+        ensures { IfOk result
+            (λ _. HasSent (Gives F.Fn faults.now.rule) clock flight self.old self.new) }
+    {
+        let fate = faults.fate(flight.packet, flight.tag.hop);
+        self.put(clock, fate, flight)
+    }
+
+    /// The copies of a sending are under way, or its loss is to be recorded.
+    fn put(&mut self, clock: Moment, fate: Fate, flight: Flight) -> Result<(), Memory>
+        requires clock { clock.0 ≤ 5 * 10 ^ 18 }
+        requires soon { IsSoon fate }
+        ensures { IfOk result (λ _. self.new ≡ players.sent fate clock flight self.old) }
+    {
+        let due = Moment(clock.0 + fate.delay);
+        put_copies(&mut self.wire, fate.copies, due, flight)?;
+        self.loss = loss_of(fate, &flight);
+        Ok(())
+    }
+}
+
+/// Puts so many copies of a flight on the wire.
+fn put_copies(wire: &mut Wire, copies: u8, due: Moment, flight: Flight) -> Result<(), Memory>
+    ensures { IfOk result
+        (λ _. wire.new ≡ copies_put copies (record { due = due; flight = flight }) wire.old) }
+{
+    for _ in 0..copies {
+        wire.put(due, flight)?;
+    }
+    Ok(())
+}
+
+/// The server that an arrival passes its copy on to, if it does.
+fn next_server(what: What) -> Option<ServerId>
+    ensures { result ≡ forwards what }
+{
+    match what {
+        What::Arrive { verdict, .. } => match verdict {
+            Verdict::Forward(server) => Some(server),
+            _ => None,
+        },
+        _ => None,
+    }
+}
+
+/// A sending without copies is lost.
+fn loss_of(fate: Fate, flight: &Flight) -> Option<Loss>
+    ensures { result ≡ players.loss_of fate flight.now }
+{
+    if fate.copies == 0 {
+        Some(Loss {
+            packet: flight.packet,
+            hop: flight.tag.hop,
+        })
+    } else {
+        None
     }
 }

@@ -1,6 +1,7 @@
 //! The commands of each kind and the packets, each in their order.
 ghost use Rattle.std.specs.Prelude.{◌≡◌, ℕ, ◌<◌, ◌≤◌, length};
-ghost use Rattle.bm_replay.specs.Queues.{IsHead, behind, retire_at, closes_from, packets_after, retires_after, retires_from, syncs_from};
+ghost use Rattle.bm_replay.specs.Queues.{IsHead, behind, retire_at, closes_from, packets_after};
+ghost use Rattle.bm_replay.specs.Queues.{retires_after, retires_from, syncs_from};
 
 use bm_base::{Body, Record, ServerId};
 use bm_core::{Call, Due};
@@ -15,7 +16,8 @@ pub(crate) struct Queue {
 
 /// The first close from this command on.
 pub(crate) fn next_close(commands: &[Command], from: usize) -> Queue
-    ensures { IsHead (closes_from commands.now from) (closes_from commands.now result.next) result.head }
+    ensures { IsHead (closes_from commands.now from) (closes_from commands.now result.next)
+        result.head }
 {
     for i in from..commands.len() {
         if let Command::Close { at, server, flow } = commands[i] {
@@ -39,7 +41,8 @@ pub(crate) fn next_close(commands: &[Command], from: usize) -> Queue
 /// The first retire from this command on, for shard 0.
 pub(crate) fn next_retire(commands: &[Command], from: usize) -> Queue
     ensures { (shards : ℕ) → 0 < shards
-        → IsHead (retires_from shards commands.now from) (retires_after shards commands.now result) result.head }
+        → IsHead (retires_from shards commands.now from) (retires_after shards commands.now result)
+        result.head }
 {
     for i in from..commands.len() {
         if let Command::Retire { at, server } = commands[i] {
@@ -58,7 +61,8 @@ pub(crate) fn next_retire(commands: &[Command], from: usize) -> Queue
 /// The retire of the server's next shard, or else of the next command.
 pub(crate) fn later_retire(commands: &[Command], shards: u16, queue: &Queue) -> Queue
     requires { 0 < shards }
-    ensures { IsHead (retires_after shards commands.now queue.now) (retires_after shards commands.now result) result.head }
+    ensures { IsHead (retires_after shards commands.now queue.now)
+        (retires_after shards commands.now result) result.head }
 {
     match later_shard(shards, queue.head) {
         Some(due) => Queue {
@@ -95,7 +99,8 @@ fn retire_due(server: ServerId, shard: u16, at: u64) -> Due
 
 /// The first sync from this command on.
 pub(crate) fn next_sync(commands: &[Command], from: usize) -> Queue
-    ensures { IsHead (syncs_from commands.now from) (syncs_from commands.now result.next) result.head }
+    ensures { IsHead (syncs_from commands.now from) (syncs_from commands.now result.next)
+        result.head }
 {
     for i in from..commands.len() {
         if let Command::Sync { at } = commands[i] {
@@ -119,7 +124,8 @@ pub(crate) fn next_sync(commands: &[Command], from: usize) -> Queue
 /// The first steerable record from this index on.
 pub(crate) fn next_packet(records: &[Record], from: usize) -> Queue
     requires { length records.now ≤ 200000 }
-    ensures { IsHead (packets_after records.now from) (packets_after records.now result.next) result.head }
+    ensures { IsHead (packets_after records.now from) (packets_after records.now result.next)
+        result.head }
 {
     for i in from..records.len() {
         if let Body::Steerable(_) = records[i].body {

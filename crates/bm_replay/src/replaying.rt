@@ -6,6 +6,7 @@ ghost use Rattle.bm_fault.specs.Faults.{Gives, IsRule};
 ghost use Rattle.bm_link.specs.Fits.{ArePackets};
 ghost use Rattle.bm_route.specs.Routes.{Answers, IsRoute};
 
+use crate::carrier::Carrier;
 use crate::player::Player;
 use bm_base::{Fate, Flow, Hop, Memory, Octets};
 use bm_core::{History, Stage};
@@ -29,9 +30,11 @@ pub fn replay<R: Fn(u32, &Flow) -> u16, F: Fn(u32, Hop) -> Fate>(
     requires muxes { route.now.muxes ≡ stage.script.setting.muxes }
     requires faults { IsRule F.Fn faults.now.rule }
     ensures stage { IfOk result (λ h. h.stage ≡ stage) }
-    ensures replay { IfOk result (IsReplay (Answers R.Fn route.now.rule) (Gives F.Fn faults.now.rule)) }
+    ensures replay { IfOk result
+        (IsReplay (Answers R.Fn route.now.rule) (Gives F.Fn faults.now.rule)) }
 {
     let mut player = Player::new(alloc, stage, octets)?;
-    while player.step(route, faults)? {}
+    let mut carrier = Carrier::empty(alloc);
+    while player.step(&mut carrier, route, faults)? {}
     Ok(player.into_history())
 }

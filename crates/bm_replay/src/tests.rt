@@ -106,7 +106,8 @@ fn setting(alloc: Global, capacity: u32) -> Result<Setting, Memory>
 fn two_closes(alloc: Global, wanted: bool) -> Result<Vec<Command>, Memory>
     ensures { IfOk result (λ commands. commands.items ≡ (if wanted
         then closes (record { 0 = 500 }) (record { 0 = 1 }) (record { src = 0x0a00_0001; dst = 0xc000_0201; sport = 1000; dport = 80 })
-        ∷ closes (record { 0 = 600 }) (record { 0 = 1 }) (record { src = 0x0a00_0001; dst = 0xc000_0201; sport = 1000; dport = 80 }) ∷ []
+        ∷ closes (record { 0 = 600 }) (record { 0 = 1 })
+        (record { src = 0x0a00_0001; dst = 0xc000_0201; sport = 1000; dport = 80 }) ∷ []
         else [])) }
 {
     let mut commands = Vec::new(alloc);
@@ -153,7 +154,13 @@ fn moved_plan(alloc: Global) -> Result<Plan, Fail>
     ensures { IfOk result (λ plan. plan ≡ record {
       buckets = 8;
       servers = record { 0 = 1 } ∷ record { 0 = 2 } ∷ [];
-      changes = record { moment = record { 0 = 500 }; kind = shift; moves = record { bucket = 4; to = record { 0 = 2 } } ∷ [] } ∷ [];
+      changes =
+          record {
+            moment = record { 0 = 500 };
+            kind = shift;
+            moves =
+                record { bucket = 4; to = record { 0 = 2 } } ∷ [];
+          } ∷ [];
     }) }
 {
     let mut plan = Plan::new(alloc, 8, &[ServerId(1), ServerId(2)])?;

@@ -5,4 +5,4 @@ mod route;
 #[cfg(test)]
 mod tests;
 
-pub use route::{Route, mux_by};
+pub use route::{Route, setting_mux};

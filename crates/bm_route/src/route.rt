@@ -33,8 +33,9 @@ impl<F: Fn(u32, &Flow) -> u16> Route<F> {
     }
 }
 
-/// The mux to which a setting's route gives a packet: by the source port of its flow, or by its number.
-pub fn mux_by(kind: RouteKind, muxes: u16, packet: u32, flow: &Flow) -> u16
+/// The mux to which a setting's route gives a packet: by the source port of its flow, or by its
+/// number.
+pub fn setting_mux(kind: RouteKind, muxes: u16, packet: u32, flow: &Flow) -> u16
     requires { 0 < muxes }
     ensures mux { result ≡ routes.mux_of_kind kind muxes packet flow.now }
     ensures below { result < muxes }

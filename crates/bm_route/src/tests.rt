@@ -29,7 +29,7 @@ fn a_setting_gives_packets_to_muxes_by_port_or_by_number(rt: HostRuntime) {
         (RouteKind::Turn, 64, 200_000, 0),
     ];
     for (kind, muxes, packet, mux) in rows {
-        let got = mux_by(kind, muxes.max(1), packet, &FLOW);
+        let got = setting_mux(kind, muxes.max(1), packet, &FLOW);
         assert_eq!(rt; got, mux, "at {muxes} {packet}");
     }
 }

@@ -1,5 +1,7 @@
 -- Items read one after the other, as a loop does.
-use Rattle.std.proofs.Common.{◌≡◌, ℕ, ◌+◌, ◌<◌, ◌≤◌, Bool, true, false, ◌&&◌, nat_le, List, [], ◌∷◌, ◌++◌, length, get_or, drop, Option, Some, None, Result, Ok, Err, refl, sym, ap, ◌∙◌, append_assoc, arith, cond}
+use Rattle.std.proofs.Common.{◌≡◌, ℕ, ◌+◌, ◌<◌, ◌≤◌, Bool, true, false, ◌&&◌, nat_le, List, [], ◌∷◌, ◌++◌, length}
+use Rattle.std.proofs.Common.{get_or, drop, Option, Some, None, Result, Ok, Err, refl, sym, ap, ◌∙◌, append_assoc}
+use Rattle.std.proofs.Common.{arith, cond}
 use Rattle.std.proofs.lemmas.List.{append-nil, drop_all}
 use Rattle.toml.specs.declared.value.Value.{Value}
 use Rattle.toml.specs.Data.{Data, Items, item, as_array, as_table, Members}
@@ -22,7 +24,8 @@ pub count-items_view : (vs : List Value) → values.count (items_view vs) ≡ le
 count-items_view [] = refl
 count-items_view (v ∷ vs) = omega (arith, count-items_view vs)
 
-pub items_from-fits : (low high : ℕ) (d : Data) (vs : List Value) (fits : Bool) → Some (items_view vs) ≡ as_array d → fits ≡ (nat_le low (length vs) && nat_le (length vs) high)
+pub items_from-fits : (low high : ℕ) (d : Data) (vs : List Value) (fits : Bool) → Some (items_view vs) ≡ as_array d
+    → fits ≡ (nat_le low (length vs) && nat_le (length vs) high)
     → values.items_from low high d ≡ cond fits (Some (items_view vs)) None
 items_from-fits low high d vs fits found is = rw (← found, count-items_view vs, ← is) refl
 
@@ -39,76 +42,103 @@ then_rest (Some x) None = None
 then_rest (Some x) (Some xs) = Some (x ∷ xs)
 
 module _ {A : Type 0} where
-  regroup : (front : List A) (x : A) (rest : Option (List A)) → with_front front (then_rest (Some x) rest) ≡ with_front (front ++ x ∷ []) rest
+  regroup : (front : List A) (x : A) (rest : Option (List A))
+      → with_front front (then_rest (Some x) rest) ≡ with_front (front ++ x ∷ []) rest
   regroup front x None = refl
   regroup front x (Some xs) = ap (λ (ys : List A). Some ys) (simp append_assoc)
 
-  each-item : (read : Data → Option A) (d : Data) (items : Items) → values.each read (item d items) ≡ then_rest (read d) (values.each read items)
+  each-item : (read : Data → Option A) (d : Data) (items : Items)
+      → values.each read (item d items) ≡ then_rest (read d) (values.each read items)
   each-item read d items = split_read (read d) (values.each read items) where
-    split_read : (x : Option A) (rest : Option (List A)) → values.◌>>=◌ x (λ y. values.◌>>=◌ rest (λ ys. Some (y ∷ ys))) ≡ then_rest x rest
+    split_read : (x : Option A) (rest : Option (List A))
+        → values.◌>>=◌ x (λ y. values.◌>>=◌ rest (λ ys. Some (y ∷ ys))) ≡ then_rest x rest
     split_read None rest = refl
     split_read (Some x) None = refl
     split_read (Some x) (Some xs) = refl
 
-  each-turn : (read : Data → Option A) (vs : List Value) (i : ℕ) (d : Value) (front : List A) (total : Option (List A)) (x : Option A) → i < length vs
+  each-turn : (read : Data → Option A) (vs : List Value) (i : ℕ) (d : Value) (front : List A) (total : Option (List A))
+      (x : Option A) → i < length vs
       → x ≡ read (view (get_or vs i d)) → with_front front (values.each read (items_view (drop i vs))) ≡ total
       → total ≡ with_front front (then_rest x (values.each read (items_view (drop (i + 1) vs))))
   each-turn read vs i d front total x lt is so_far =
-      sym so_far ∙ rw (items_view-drop vs i d lt, is) (ap (with_front front) (each-item read (view (get_or vs i d)) (items_view (drop (i + 1) vs))))
+      sym so_far
+      ∙ rw (items_view-drop vs i d lt, is)
+      (ap (with_front front) (each-item read (view (get_or vs i d)) (items_view (drop (i + 1) vs))))
 
-  pub each-more : (read : Data → Option A) (vs : List Value) (i : ℕ) (d : Value) (front : List A) (total : Option (List A)) (x : A) → i < length vs
+  pub each-more : (read : Data → Option A) (vs : List Value) (i : ℕ) (d : Value) (front : List A)
+      (total : Option (List A)) (x : A) → i < length vs
       → Some x ≡ read (view (get_or vs i d)) → with_front front (values.each read (items_view (drop i vs))) ≡ total
       → with_front (front ++ x ∷ []) (values.each read (items_view (drop (i + 1) vs))) ≡ total
   each-more read vs i d front total x lt is so_far =
-      sym (each-turn read vs i d front total (Some x) lt is so_far ∙ regroup front x (values.each read (items_view (drop (i + 1) vs))))
+      sym (each-turn read vs i d front total (Some x) lt is so_far
+      ∙ regroup front x (values.each read (items_view (drop (i + 1) vs))))
 
-  pub each-bad : (read : Data → Option A) (vs : List Value) (i : ℕ) (d : Value) (front : List A) (total : Option (List A)) → i < length vs
-      → None ≡ read (view (get_or vs i d)) → with_front front (values.each read (items_view (drop i vs))) ≡ total → total ≡ None
+  pub each-bad : (read : Data → Option A) (vs : List Value) (i : ℕ) (d : Value) (front : List A)
+      (total : Option (List A)) → i < length vs
+      → None ≡ read (view (get_or vs i d)) → with_front front (values.each read (items_view (drop i vs))) ≡ total
+      → total ≡ None
   each-bad read vs i d front total lt is so_far = each-turn read vs i d front total None lt is so_far
 
-  pub each-end : (read : Data → Option A) (vs : List Value) (i : ℕ) (front : List A) (total : Option (List A)) → length vs ≤ i
+  pub each-end : (read : Data → Option A) (vs : List Value) (i : ℕ) (front : List A) (total : Option (List A))
+      → length vs ≤ i
       → with_front front (values.each read (items_view (drop i vs))) ≡ total → total ≡ Some front
-  each-end read vs i front total le so_far = sym so_far ∙ rw (drop_all i vs le) (ap (λ (xs : List A). Some xs) (append-nil front))
+  each-end read vs i front total le so_far =
+      sym so_far ∙ rw (drop_all i vs le) (ap (λ (xs : List A). Some xs) (append-nil front))
 
 -- RISING SERVERS
 
 abbrev pub server_at : ℕ → Option ServerId
 server_at n = Some (record { 0 = n })
 
-rising-turn : (low : ℕ) (vs : List Value) (i : ℕ) (d : Value) (front : List ServerId) (total : Option (List ServerId)) (n : ℕ) → i < length vs
-    → Some n ≡ values.number low 1024 (view (get_or vs i d)) → with_front front (values.rising low (items_view (drop i vs))) ≡ total
+rising-turn : (low : ℕ) (vs : List Value) (i : ℕ) (d : Value) (front : List ServerId) (total : Option (List ServerId))
+    (n : ℕ) → i < length vs
+    → Some n ≡ values.number low 1024 (view (get_or vs i d))
+    → with_front front (values.rising low (items_view (drop i vs))) ≡ total
     → total ≡ with_front front (then_rest (server_at n) (values.rising (n + 1) (items_view (drop (i + 1) vs))))
 rising-turn low vs i d front total n lt is so_far =
-    sym so_far ∙ rw (items_view-drop vs i d lt, ← is) (ap (with_front front) (split_rest (values.rising (n + 1) (items_view (drop (i + 1) vs))))) where
-      split_rest : (rest : Option (List ServerId)) → values.◌>>=◌ rest (λ ys. Some (record { 0 = n } ∷ ys)) ≡ then_rest (server_at n) rest
+    sym so_far
+    ∙ rw (items_view-drop vs i d lt, ← is)
+    (ap (with_front front) (split_rest (values.rising (n + 1) (items_view (drop (i + 1) vs))))) where
+      split_rest : (rest : Option (List ServerId))
+          → values.◌>>=◌ rest (λ ys. Some (record { 0 = n } ∷ ys)) ≡ then_rest (server_at n) rest
       split_rest None = refl
       split_rest (Some xs) = refl
 
-pub rising-more : (low : ℕ) (vs : List Value) (i : ℕ) (d : Value) (front : List ServerId) (total : Option (List ServerId)) (n : ℕ) → i < length vs
-    → Some n ≡ values.number low 1024 (view (get_or vs i d)) → with_front front (values.rising low (items_view (drop i vs))) ≡ total
+pub rising-more : (low : ℕ) (vs : List Value) (i : ℕ) (d : Value) (front : List ServerId)
+    (total : Option (List ServerId)) (n : ℕ) → i < length vs
+    → Some n ≡ values.number low 1024 (view (get_or vs i d))
+    → with_front front (values.rising low (items_view (drop i vs))) ≡ total
     → with_front (front ++ record { 0 = n } ∷ []) (values.rising (n + 1) (items_view (drop (i + 1) vs))) ≡ total
 rising-more low vs i d front total n lt is so_far =
-    sym (rising-turn low vs i d front total n lt is so_far ∙ regroup front (record { 0 = n }) (values.rising (n + 1) (items_view (drop (i + 1) vs))))
+    sym (rising-turn low vs i d front total n lt is so_far
+    ∙ regroup front (record { 0 = n }) (values.rising (n + 1) (items_view (drop (i + 1) vs))))
 
-pub rising-bad : (low : ℕ) (vs : List Value) (i : ℕ) (d : Value) (front : List ServerId) (total : Option (List ServerId)) → i < length vs
-    → None ≡ values.number low 1024 (view (get_or vs i d)) → with_front front (values.rising low (items_view (drop i vs))) ≡ total → total ≡ None
+pub rising-bad : (low : ℕ) (vs : List Value) (i : ℕ) (d : Value) (front : List ServerId)
+    (total : Option (List ServerId)) → i < length vs
+    → None ≡ values.number low 1024 (view (get_or vs i d))
+    → with_front front (values.rising low (items_view (drop i vs))) ≡ total → total ≡ None
 rising-bad low vs i d front total lt is so_far = sym so_far ∙ rw (items_view-drop vs i d lt, ← is) refl
 
-pub rising-end : (low : ℕ) (vs : List Value) (i : ℕ) (front : List ServerId) (total : Option (List ServerId)) → length vs ≤ i
+pub rising-end : (low : ℕ) (vs : List Value) (i : ℕ) (front : List ServerId) (total : Option (List ServerId))
+    → length vs ≤ i
     → with_front front (values.rising low (items_view (drop i vs))) ≡ total → total ≡ Some front
-rising-end low vs i front total le so_far = sym so_far ∙ rw (drop_all i vs le) (ap (λ (xs : List ServerId). Some xs) (append-nil front))
+rising-end low vs i front total le so_far =
+    sym so_far ∙ rw (drop_all i vs le) (ap (λ (xs : List ServerId). Some xs) (append-nil front))
 
 -- TABLES
 
-pub tables-more : (vs : List Value) (i : ℕ) (d : Value) (total : Bool) → i < length vs → true ≡ values.is_table (view (get_or vs i d))
+pub tables-more : (vs : List Value) (i : ℕ) (d : Value) (total : Bool) → i < length vs
+    → true ≡ values.is_table (view (get_or vs i d))
     → values.are_tables (items_view (drop i vs)) ≡ total → values.are_tables (items_view (drop (i + 1) vs)) ≡ total
 tables-more vs i d total lt is so_far = rw (← so_far, items_view-drop vs i d lt, ← is) refl
 
-pub tables-bad : (vs : List Value) (i : ℕ) (d : Value) (total : Bool) → i < length vs → false ≡ values.is_table (view (get_or vs i d))
+pub tables-bad : (vs : List Value) (i : ℕ) (d : Value) (total : Bool) → i < length vs
+    → false ≡ values.is_table (view (get_or vs i d))
     → values.are_tables (items_view (drop i vs)) ≡ total → false ≡ total
 tables-bad vs i d total lt is so_far = rw (← so_far, items_view-drop vs i d lt, ← is) refl
 
-pub tables-end : (vs : List Value) (i : ℕ) (total : Bool) → length vs ≤ i → values.are_tables (items_view (drop i vs)) ≡ total → true ≡ total
+pub tables-end : (vs : List Value) (i : ℕ) (total : Bool) → length vs ≤ i
+    → values.are_tables (items_view (drop i vs)) ≡ total → true ≡ total
 tables-end vs i total le so_far = rw (← so_far, drop_all i vs le) refl
 
 -- FAULT ROWS
@@ -122,37 +152,56 @@ regroup_rows : (front : List FaultRow) (row : FaultRow) (rest : Result (List Fau
 regroup_rows front row (Ok rows) = ap (λ (xs : List FaultRow). Ok xs) (simp append_assoc)
 regroup_rows front row (Err fault) = refl
 
-pub rows-more : (n : ℕ) (vs : List Value) (i : ℕ) (d : Value) (front : List FaultRow) (total : Result (List FaultRow) ScriptFault) (inside : Members) (row : FaultRow) → i < length vs
-    → Some inside ≡ as_table (view (get_or vs i d)) → row_of n inside ≡ Ok row → with_rows front (rows_from n (items_view (drop i vs))) ≡ total
+pub rows-more : (n : ℕ) (vs : List Value) (i : ℕ) (d : Value) (front : List FaultRow)
+    (total : Result (List FaultRow) ScriptFault) (inside : Members) (row : FaultRow) → i < length vs
+    → Some inside ≡ as_table (view (get_or vs i d)) → row_of n inside ≡ Ok row
+    → with_rows front (rows_from n (items_view (drop i vs))) ≡ total
     → with_rows (front ++ row ∷ []) (rows_from (n + 1) (items_view (drop (i + 1) vs))) ≡ total
 rows-more n vs i d front total inside row lt table is so_far =
-    sym (sym so_far ∙ rw (items_view-drop vs i d lt, ← table, is) (regroup_rows front row (rows_from (n + 1) (items_view (drop (i + 1) vs)))))
+    sym (sym so_far
+    ∙ rw (items_view-drop vs i d lt, ← table, is)
+    (regroup_rows front row (rows_from (n + 1) (items_view (drop (i + 1) vs)))))
 
-pub rows-fault : (n : ℕ) (vs : List Value) (i : ℕ) (d : Value) (front : List FaultRow) (total : Result (List FaultRow) ScriptFault) (inside : Members) (fault : ScriptFault) → i < length vs
-    → Some inside ≡ as_table (view (get_or vs i d)) → row_of n inside ≡ Err fault → with_rows front (rows_from n (items_view (drop i vs))) ≡ total → total ≡ Err fault
-rows-fault n vs i d front total inside fault lt table is so_far = sym so_far ∙ rw (items_view-drop vs i d lt, ← table, is) refl
+pub rows-fault : (n : ℕ) (vs : List Value) (i : ℕ) (d : Value) (front : List FaultRow)
+    (total : Result (List FaultRow) ScriptFault) (inside : Members) (fault : ScriptFault) → i < length vs
+    → Some inside ≡ as_table (view (get_or vs i d)) → row_of n inside ≡ Err fault
+    → with_rows front (rows_from n (items_view (drop i vs))) ≡ total → total ≡ Err fault
+rows-fault n vs i d front total inside fault lt table is so_far =
+    sym so_far ∙ rw (items_view-drop vs i d lt, ← table, is) refl
 
-pub rows-bad : (n : ℕ) (vs : List Value) (i : ℕ) (d : Value) (front : List FaultRow) (total : Result (List FaultRow) ScriptFault) → i < length vs
-    → None ≡ as_table (view (get_or vs i d)) → with_rows front (rows_from n (items_view (drop i vs))) ≡ total → total ≡ Err (BadValue Top key.Fault)
+pub rows-bad : (n : ℕ) (vs : List Value) (i : ℕ) (d : Value) (front : List FaultRow)
+    (total : Result (List FaultRow) ScriptFault) → i < length vs
+    → None ≡ as_table (view (get_or vs i d)) → with_rows front (rows_from n (items_view (drop i vs))) ≡ total
+    → total ≡ Err (BadValue Top key.Fault)
 rows-bad n vs i d front total lt table so_far = sym so_far ∙ rw (items_view-drop vs i d lt, ← table) refl
 
-pub rows-end : (n : ℕ) (vs : List Value) (i : ℕ) (front : List FaultRow) (total : Result (List FaultRow) ScriptFault) → length vs ≤ i
+pub rows-end : (n : ℕ) (vs : List Value) (i : ℕ) (front : List FaultRow) (total : Result (List FaultRow) ScriptFault)
+    → length vs ≤ i
     → with_rows front (rows_from n (items_view (drop i vs))) ≡ total → total ≡ Ok front
-rows-end n vs i front total le so_far = sym so_far ∙ rw (drop_all i vs le) (ap (λ (xs : List FaultRow). Ok xs) (append-nil front))
+rows-end n vs i front total le so_far =
+    sym so_far ∙ rw (drop_all i vs le) (ap (λ (xs : List FaultRow). Ok xs) (append-nil front))
 
 -- COMMANDS
 
-pub commands-more : (p q : Progress) (vs : List Value) (i : ℕ) (d : Value) (total : Result Progress ScriptFault) (inside : Members) → i < length vs
-    → Some inside ≡ as_table (view (get_or vs i d)) → after_command p inside ≡ Ok q → after_commands p (items_view (drop i vs)) ≡ total
+pub commands-more : (p q : Progress) (vs : List Value) (i : ℕ) (d : Value) (total : Result Progress ScriptFault)
+    (inside : Members) → i < length vs
+    → Some inside ≡ as_table (view (get_or vs i d)) → after_command p inside ≡ Ok q
+    → after_commands p (items_view (drop i vs)) ≡ total
     → after_commands q (items_view (drop (i + 1) vs)) ≡ total
-commands-more p q vs i d total inside lt table is so_far = sym (sym so_far ∙ rw (items_view-drop vs i d lt, ← table, is) refl)
+commands-more p q vs i d total inside lt table is so_far =
+    sym (sym so_far ∙ rw (items_view-drop vs i d lt, ← table, is) refl)
 
-pub commands-fault : (p : Progress) (vs : List Value) (i : ℕ) (d : Value) (total : Result Progress ScriptFault) (inside : Members) (fault : ScriptFault) → i < length vs
-    → Some inside ≡ as_table (view (get_or vs i d)) → after_command p inside ≡ Err fault → after_commands p (items_view (drop i vs)) ≡ total → total ≡ Err fault
-commands-fault p vs i d total inside fault lt table is so_far = sym so_far ∙ rw (items_view-drop vs i d lt, ← table, is) refl
+pub commands-fault : (p : Progress) (vs : List Value) (i : ℕ) (d : Value) (total : Result Progress ScriptFault)
+    (inside : Members) (fault : ScriptFault) → i < length vs
+    → Some inside ≡ as_table (view (get_or vs i d)) → after_command p inside ≡ Err fault
+    → after_commands p (items_view (drop i vs)) ≡ total → total ≡ Err fault
+commands-fault p vs i d total inside fault lt table is so_far =
+    sym so_far ∙ rw (items_view-drop vs i d lt, ← table, is) refl
 
-pub commands-bad : (p : Progress) (vs : List Value) (i : ℕ) (d : Value) (total : Result Progress ScriptFault) → i < length vs
-    → None ≡ as_table (view (get_or vs i d)) → after_commands p (items_view (drop i vs)) ≡ total → total ≡ Err (BadValue Top key.Command)
+pub commands-bad : (p : Progress) (vs : List Value) (i : ℕ) (d : Value) (total : Result Progress ScriptFault)
+    → i < length vs
+    → None ≡ as_table (view (get_or vs i d)) → after_commands p (items_view (drop i vs)) ≡ total
+    → total ≡ Err (BadValue Top key.Command)
 commands-bad p vs i d total lt table so_far = sym so_far ∙ rw (items_view-drop vs i d lt, ← table) refl
 
 pub commands-end : (p : Progress) (vs : List Value) (i : ℕ) (total : Result Progress ScriptFault) → length vs ≤ i

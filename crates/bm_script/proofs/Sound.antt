@@ -1,5 +1,7 @@
 -- What the definition gives is sound: a setting in its ranges, commands in their order, refusals of a script.
-use Rattle.std.proofs.Common.{◌≡◌, ℕ, ℤ, pos, negsuc, zero, suc, ◌+◌, ◌≤◌, Bool, true, false, ◌&&◌, nat_le, cond, List, [], ◌∷◌, length, replicate, Option, Some, None, ok_or, Result, Ok, Err, refl, sym, ap, subst, arith, All}
+use Rattle.std.proofs.Common.{◌≡◌, ℕ, ℤ, pos, negsuc, zero, suc, ◌+◌, ◌≤◌, Bool, true, false, ◌&&◌, nat_le, cond, List}
+use Rattle.std.proofs.Common.{[], ◌∷◌, length, replicate, Option, Some, None, ok_or, Result, Ok, Err, refl, sym, ap}
+use Rattle.std.proofs.Common.{subst, arith, All}
 use Rattle.std.proofs.lemmas.Bool.{and_parts, leb-true}
 use Rattle.std.proofs.lemmas.List.Elements.{All-nil, All-cons}
 use Rattle.toml.specs.Data.{Data, as_array, as_integer, as_table, Items, no_items, item, Members}
@@ -30,7 +32,8 @@ abbrev pub Any : {A : Type 0} → A → Type 0
 Any x = Unit {0}
 
 module _ {A : Type 0} where
-  pub meets-then : {B : Type 0} (P : A → Type 0) (Q : B → Type 0) (r : Result A ScriptFault) (f : A → Result B ScriptFault) → Meets P r → ((x : A) → P x → Meets Q (f x)) → Meets Q (r >>= f)
+  pub meets-then : {B : Type 0} (P : A → Type 0) (Q : B → Type 0) (r : Result A ScriptFault)
+      (f : A → Result B ScriptFault) → Meets P r → ((x : A) → P x → Meets Q (f x)) → Meets Q (r >>= f)
   meets-then P Q (Ok x) f h g = g x h
   meets-then P Q (Err fault) f h g = h
 
@@ -38,23 +41,30 @@ module _ {A : Type 0} where
   abbrev pub Reads : (Data → Option A) → (A → Type 0) → Type 0
   Reads read P = (d : Data) (x : A) → read d ≡ Some x → P x
 
-  pub meets_valued : (place : Place) (key : Key) (P : A → Type 0) (x : Option A) → ((y : A) → x ≡ Some y → P y) → Meets P (valued place key x)
+  pub meets_valued : (place : Place) (key : Key) (P : A → Type 0) (x : Option A) → ((y : A) → x ≡ Some y → P y)
+      → Meets P (valued place key x)
   meets_valued place key P None h = tt
   meets_valued place key P (Some y) h = h y refl
 
-  meets-required_of : (place : Place) (key : Key) (read : Data → Option A) (P : A → Type 0) → Reads read P → (o : Option Data)
-      → Meets P (ok_or o (Rattle.bm_script.specs.declared.fault.ScriptFault.TheVariants.Missing place key) >>= λ d. valued place key (read d))
+  meets-required_of : (place : Place) (key : Key) (read : Data → Option A) (P : A → Type 0) → Reads read P
+      → (o : Option Data)
+      → Meets P
+      (ok_or o (Rattle.bm_script.specs.declared.fault.ScriptFault.TheVariants.Missing place key) >>= λ d. valued place
+      key (read d))
   meets-required_of place key read P h None = tt
   meets-required_of place key read P h (Some d) = meets_valued place key P (read d) (h d)
 
-  pub meets-required : (place : Place) (key : Key) (read : Data → Option A) (P : A → Type 0) (inside : Members) → Reads read P → Meets P (required place key read inside)
+  pub meets-required : (place : Place) (key : Key) (read : Data → Option A) (P : A → Type 0) (inside : Members)
+      → Reads read P → Meets P (required place key read inside)
   meets-required place key read P inside h = meets-required_of place key read P h (value_at key inside)
 
-  meets-optional_of : (key : Key) (plain : A) (read : Data → Option A) (P : A → Type 0) → P plain → Reads read P → (o : Option Data) → Meets P (of_optional key plain read o)
+  meets-optional_of : (key : Key) (plain : A) (read : Data → Option A) (P : A → Type 0) → P plain → Reads read P
+      → (o : Option Data) → Meets P (of_optional key plain read o)
   meets-optional_of key plain read P p h None = p
   meets-optional_of key plain read P p h (Some d) = meets_valued at_.Top key P (read d) (h d)
 
-  pub meets-optional : (key : Key) (plain : A) (read : Data → Option A) (P : A → Type 0) (inside : Members) → P plain → Reads read P → Meets P (optional key plain read inside)
+  pub meets-optional : (key : Key) (plain : A) (read : Data → Option A) (P : A → Type 0) (inside : Members) → P plain
+      → Reads read P → Meets P (optional key plain read inside)
   meets-optional key plain read P inside p h = meets-optional_of key plain read P p h (value_at key inside)
 
   pub reads_any : (read : Data → Option A) → Reads read Any
@@ -69,7 +79,8 @@ meets-only_keys place keys inside = meets-none_unknown place (first_unknown keys
 
 -- NUMBERS
 
-within-cond : (low high k n : ℕ) (b : Bool) → b ≡ (nat_le low k && nat_le k high) → cond b (Some k) None ≡ Some n → IsWithin low high n
+within-cond : (low high k n : ℕ) (b : Bool) → b ≡ (nat_le low k && nat_le k high) → cond b (Some k) None ≡ Some n
+    → IsWithin low high n
 within-cond low high k n false is e = absurd cc
 within-cond low high k n true is e =
     let (below, above) = and_parts (nat_le low k) (nat_le k high) (sym is) in
@@ -80,7 +91,8 @@ within-range : (low high n : ℕ) (z : ℤ) → values.in_range low high z ≡ S
 within-range low high n (pos k) e = within-cond low high k n (nat_le low k && nat_le k high) refl e
 within-range low high n (negsuc k) e = absurd cc
 
-within-integer : (low high n : ℕ) (o : Option ℤ) → values.◌>>=◌ o (values.in_range low high) ≡ Some n → IsWithin low high n
+within-integer : (low high n : ℕ) (o : Option ℤ) → values.◌>>=◌ o (values.in_range low high) ≡ Some n
+    → IsWithin low high n
 within-integer low high n None e = absurd cc
 within-integer low high n (Some z) e = within-range low high n z e
 
@@ -91,7 +103,8 @@ reads-number low high d n e = within-integer low high n (as_integer d) e
 
 -- a value before a list of values
 module _ {A B : Type 0} where
-  some-then : (o : Option A) (f : A → Option B) (y : B) → values.◌>>=◌ o f ≡ Some y → (x : A) × (o ≡ Some x) × (f x ≡ Some y)
+  some-then : (o : Option A) (f : A → Option B) (y : B) → values.◌>>=◌ o f ≡ Some y → (x : A) × (o ≡ Some x)
+      × (f x ≡ Some y)
   some-then None f y e = absurd cc
   some-then (Some x) f y e = (x, refl, e)
 
@@ -100,14 +113,17 @@ pub record AreRead {A : Type 0} (P : A → Type 0) (items : Items) (xs : List A)
   pub each : All P xs
   pub count : length xs ≡ values.count items
 
-pub reads-each : {A : Type 0} (read : Data → Option A) (P : A → Type 0) → Reads read P → (items : Items) (xs : List A) → values.each read items ≡ Some xs → AreRead P items xs
-reads-each {A} read P h no_items xs e = let same : [] ≡ xs = cc in subst (AreRead P no_items) same (record { each = All-nil P; count = refl })
+pub reads-each : {A : Type 0} (read : Data → Option A) (P : A → Type 0) → Reads read P → (items : Items) (xs : List A)
+    → values.each read items ≡ Some xs → AreRead P items xs
+reads-each {A} read P h no_items xs e =
+    let same : [] ≡ xs = cc in subst (AreRead P no_items) same (record { each = All-nil P; count = refl })
 reads-each {A} read P h (item d items) xs e =
     let (x, is, after) = some-then (read d) _ xs e in
     let (ys, are, whole) = some-then (values.each read items) _ xs after in
     let rest = reads-each read P h items ys are in
     let same : x ∷ ys ≡ xs = cc in
-    subst (AreRead P (item d items)) same (record { each = All-cons P x ys (h d x is) rest.each; count = omega (arith, rest.count) })
+    subst (AreRead P (item d items)) same
+    (record { each = All-cons P x ys (h d x is) rest.each; count = omega (arith, rest.count) })
 
 -- servers that rise from low on, as many as the items
 record AreServers (low : ℕ) (items : Items) (ss : List ServerId) : Type 0 where
@@ -119,8 +135,12 @@ RiseFrom-lower : (low n : ℕ) (ss : List ServerId) → low ≤ n → RiseFrom n
 RiseFrom-lower low n [] le rise = tt
 RiseFrom-lower low n (s ∷ ss) le rise = (omega (arith, rise.0), rise.1)
 
-reads-rising : (low : ℕ) (items : Items) (ss : List ServerId) → values.rising low items ≡ Some ss → AreServers low items ss
-reads-rising low no_items ss e = let same : [] ≡ ss = cc in subst (AreServers low no_items) same (record { rising = tt; numbers = All-nil (λ (s : ServerId). s.0 ≤ 1024); count = refl })
+reads-rising : (low : ℕ) (items : Items) (ss : List ServerId) → values.rising low items ≡ Some ss
+    → AreServers low items ss
+reads-rising low no_items ss e =
+    let same : [] ≡ ss =
+    cc in subst (AreServers low no_items) same
+    (record { rising = tt; numbers = All-nil (λ (s : ServerId). s.0 ≤ 1024); count = refl })
 reads-rising low (item d items) ss e =
     let (n, is, after) = some-then (values.number low 1024 d) _ ss e in
     let (rest, are, whole) = some-then (values.rising (n + 1) items) _ ss after in
@@ -134,14 +154,17 @@ reads-rising low (item d items) ss e =
       count = omega (arith, more.count);
     })
 
-count-cond : (low high : ℕ) (found items : Items) (b : Bool) → b ≡ (nat_le low (values.count found) && nat_le (values.count found) high) → cond b (Some found) None ≡ Some items → IsWithin low high (values.count items)
+count-cond : (low high : ℕ) (found items : Items) (b : Bool)
+    → b ≡ (nat_le low (values.count found) && nat_le (values.count found) high) → cond b (Some found) None ≡ Some items
+    → IsWithin low high (values.count items)
 count-cond low high found items false is e = absurd cc
 count-cond low high found items true is e =
     let (below, above) = and_parts (nat_le low (values.count found)) (nat_le (values.count found) high) (sym is) in
     let same : found ≡ items = cc in
     subst (λ (xs : Items). IsWithin low high (values.count xs)) same (leb-true _ _ below, leb-true _ _ above)
 
-pub reads-items_from : (low high : ℕ) → Reads (values.items_from low high) (λ items. IsWithin low high (values.count items))
+pub reads-items_from : (low high : ℕ)
+    → Reads (values.items_from low high) (λ items. IsWithin low high (values.count items))
 reads-items_from low high d items e =
     let (found, is, after) = some-then (as_array d) _ items e in
     count-cond low high found items (nat_le low (values.count found) && nat_le (values.count found) high) refl after
@@ -153,7 +176,8 @@ reads-servers d ss e =
     let read = reads-rising 1 items ss after in
     (subst (IsWithin 1 1024) (sym read.count) few, read.rising, read.numbers)
 
-service-cond : (e : Endpoint) (v : Vip) (b : Bool) → b ≡ nat_le 1 e.port → cond b (Some (record { addr = e.addr; port = e.port })) None ≡ Some v → 1 ≤ v.port
+service-cond : (e : Endpoint) (v : Vip) (b : Bool) → b ≡ nat_le 1 e.port
+    → cond b (Some (record { addr = e.addr; port = e.port })) None ≡ Some v → 1 ≤ v.port
 service-cond e v false is h = absurd cc
 service-cond e v true is h =
     let served : Vip = record { addr = e.addr; port = e.port } in
@@ -181,31 +205,52 @@ reads-lag d lag e = (reads-number 0 86400000000000 d lag e).1
 
 pub reads-lags : (muxes : ℕ) → Reads (values.lags muxes) (AreLags muxes)
 reads-lags muxes d lags e =
-    let (items, is, after) = some-then (values.items_from muxes muxes d) (values.each (values.number 0 86400000000000)) lags e in
+    let (items, is, after) =
+    some-then (values.items_from muxes muxes d) (values.each (values.number 0 86400000000000)) lags e in
     let many = reads-items_from muxes muxes d items is in
     let read = reads-each (values.number 0 86400000000000) (λ lag. lag ≤ seconds 86400) reads-lag items lags after in
     (omega (arith, many.0, many.1, read.count), read.each)
 
 no_lags : (muxes : ℕ) → AreLags muxes (replicate muxes 0)
 no_lags zero = (refl, All-nil (λ (lag : ℕ). lag ≤ seconds 86400))
-no_lags (suc n) = let more = no_lags n in (ap suc more.0, All-cons (λ (lag : ℕ). lag ≤ seconds 86400) 0 (replicate n 0) (omega arith) more.1)
+no_lags (suc n) =
+    let more =
+    no_lags n in (ap suc more.0, All-cons (λ (lag : ℕ). lag ≤ seconds 86400) 0 (replicate n 0) (omega arith) more.1)
 
 -- THE SETTING
 
 pub setting-sound : (inside : Members) → Meets IsSetting (setting_of inside)
 setting-sound inside =
-    meets-then (IsWithin 1 1) IsSetting _ _ (meets-optional key.Version 1 (values.number 1 1) (IsWithin 1 1) inside (omega arith, omega arith) (reads-number 1 1)) λ version _.
-    meets-then (IsWithin 1 65536) IsSetting _ _ (meets-optional key.Buckets plain_setting.buckets (values.number 1 65536) (IsWithin 1 65536) inside IsSetting-plain_setting.buckets (reads-number 1 65536)) λ buckets is_buckets.
+    meets-then (IsWithin 1 1) IsSetting _ _
+    (meets-optional key.Version 1 (values.number 1 1) (IsWithin 1 1) inside (omega arith, omega arith)
+    (reads-number 1 1)) λ version _.
+    meets-then (IsWithin 1 65536) IsSetting _ _
+    (meets-optional key.Buckets plain_setting.buckets (values.number 1 65536) (IsWithin 1 65536) inside
+    IsSetting-plain_setting.buckets (reads-number 1 65536)) λ buckets is_buckets.
     meets-then (λ ss. IsWithin 1 1024 (length ss) × RiseFrom 1 ss × All (λ s. s.0 ≤ 1024) ss) IsSetting _ _
-    (meets-optional key.Servers plain_setting.servers values.servers _ inside (IsSetting-plain_setting.servers, IsSetting-plain_setting.rising, IsSetting-plain_setting.numbers) reads-servers) λ servers are_servers.
-    meets-then (IsWithin 1 64) IsSetting _ _ (meets-optional key.Muxes plain_setting.muxes (values.number 1 64) (IsWithin 1 64) inside IsSetting-plain_setting.muxes (reads-number 1 64)) λ muxes is_muxes.
-    meets-then (IsWithin 1 64) IsSetting _ _ (meets-optional key.Shards plain_setting.shards (values.number 1 64) (IsWithin 1 64) inside IsSetting-plain_setting.shards (reads-number 1 64)) λ shards is_shards.
-    meets-then (IsWithin 1 65536) IsSetting _ _ (meets-optional key.Capacity plain_setting.capacity (values.number 1 65536) (IsWithin 1 65536) inside IsSetting-plain_setting.capacity (reads-number 1 65536)) λ capacity is_capacity.
-    meets-then (IsWithin 1 86400) IsSetting _ _ (meets-optional key.Timeout 240 (values.number 1 86400) (IsWithin 1 86400) inside (omega arith, omega arith) (reads-number 1 86400)) λ timeout is_timeout.
+    (meets-optional key.Servers plain_setting.servers values.servers _ inside
+    (IsSetting-plain_setting.servers, IsSetting-plain_setting.rising, IsSetting-plain_setting.numbers)
+    reads-servers) λ servers are_servers.
+    meets-then (IsWithin 1 64) IsSetting _ _
+    (meets-optional key.Muxes plain_setting.muxes (values.number 1 64) (IsWithin 1 64) inside
+    IsSetting-plain_setting.muxes (reads-number 1 64)) λ muxes is_muxes.
+    meets-then (IsWithin 1 64) IsSetting _ _
+    (meets-optional key.Shards plain_setting.shards (values.number 1 64) (IsWithin 1 64) inside
+    IsSetting-plain_setting.shards (reads-number 1 64)) λ shards is_shards.
+    meets-then (IsWithin 1 65536) IsSetting _ _
+    (meets-optional key.Capacity plain_setting.capacity (values.number 1 65536) (IsWithin 1 65536) inside
+    IsSetting-plain_setting.capacity (reads-number 1 65536)) λ capacity is_capacity.
+    meets-then (IsWithin 1 86400) IsSetting _ _
+    (meets-optional key.Timeout 240 (values.number 1 86400) (IsWithin 1 86400) inside (omega arith, omega arith)
+    (reads-number 1 86400)) λ timeout is_timeout.
     meets-then (λ vs. IsWithin 1 64 (length vs) × All (λ v. 1 ≤ v.port) vs) IsSetting _ _
-    (meets-optional key.Vips plain_setting.vips values.vips _ inside (IsSetting-plain_setting.vips, IsSetting-plain_setting.ports) reads-vips) λ vips are_vips.
-    meets-then Any IsSetting _ _ (meets-optional key.Route plain_setting.route values.route Any inside tt (reads_any values.route)) λ route _.
-    meets-then (AreLags muxes) IsSetting _ _ (meets-optional key.Lags (replicate muxes 0) (values.lags muxes) (AreLags muxes) inside (no_lags muxes) (reads-lags muxes)) λ lags are_lags.
+    (meets-optional key.Vips plain_setting.vips values.vips _ inside
+    (IsSetting-plain_setting.vips, IsSetting-plain_setting.ports) reads-vips) λ vips are_vips.
+    meets-then Any IsSetting _ _
+    (meets-optional key.Route plain_setting.route values.route Any inside tt (reads_any values.route)) λ route _.
+    meets-then (AreLags muxes) IsSetting _ _
+    (meets-optional key.Lags (replicate muxes 0) (values.lags muxes) (AreLags muxes) inside (no_lags muxes)
+    (reads-lags muxes)) λ lags are_lags.
     record {
       buckets = is_buckets;
       servers = are_servers.0;
@@ -228,10 +273,17 @@ setting-sound inside =
 row-sound : (n : ℕ) (inside : Members) → Meets IsFaultRow (row_of n inside)
 row-sound n inside =
     meets-then Any IsFaultRow _ _ (meets-only_keys (at_.Fault n) row_keys inside) λ only _.
-    meets-then (IsWithin 1 200000) IsFaultRow _ _ (meets-required (at_.Fault n) key.Packet (values.number 1 200000) (IsWithin 1 200000) inside (reads-number 1 200000)) λ packet is_packet.
-    meets-then Any IsFaultRow _ _ (meets-required (at_.Fault n) key.Hop values.hop Any inside (reads_any values.hop)) λ hop _.
-    meets-then (IsWithin 0 3) IsFaultRow _ _ (meets-required (at_.Fault n) key.Copies (values.number 0 3) (IsWithin 0 3) inside (reads-number 0 3)) λ copies is_copies.
-    meets-then (IsWithin 0 60000000000) IsFaultRow _ _ (meets-required (at_.Fault n) key.Delay (values.number 0 60000000000) (IsWithin 0 60000000000) inside (reads-number 0 60000000000)) λ delay is_delay.
+    meets-then (IsWithin 1 200000) IsFaultRow _ _
+    (meets-required (at_.Fault n) key.Packet (values.number 1 200000) (IsWithin 1 200000) inside
+    (reads-number 1 200000)) λ packet is_packet.
+    meets-then Any IsFaultRow _ _ (meets-required (at_.Fault n) key.Hop values.hop Any inside (reads_any values.hop))
+    λ hop _.
+    meets-then (IsWithin 0 3) IsFaultRow _ _
+    (meets-required (at_.Fault n) key.Copies (values.number 0 3) (IsWithin 0 3) inside (reads-number 0 3)) λ copies
+    is_copies.
+    meets-then (IsWithin 0 60000000000) IsFaultRow _ _
+    (meets-required (at_.Fault n) key.Delay (values.number 0 60000000000) (IsWithin 0 60000000000) inside
+    (reads-number 0 60000000000)) λ delay is_delay.
     record { packet = is_packet; copies = is_copies.1; delay = is_delay.1 }
 
 -- fault rows in their ranges, as many as the tables
@@ -241,19 +293,25 @@ AreRows items rows = All IsFaultRow rows × (length rows ≡ values.count items)
 pub rows-sound : (n : ℕ) (items : Items) → Meets (AreRows items) (rows_from n items)
 rows-sound n no_items = (All-nil IsFaultRow, refl)
 rows-sound n (item d items) =
-    meets-then Any (AreRows (item d items)) _ _ (meets_valued at_.Top key.Fault Any (as_table d) (λ y e. tt)) λ inside _.
+    meets-then Any (AreRows (item d items)) _ _ (meets_valued at_.Top key.Fault Any (as_table d) (λ y e. tt)) λ inside
+    _.
     meets-then IsFaultRow (AreRows (item d items)) _ _ (row-sound n inside) λ row is_row.
     meets-then (AreRows items) (AreRows (item d items)) _ _ (rows-sound (n + 1) items) λ rows are_rows.
     (All-cons IsFaultRow row rows is_row are_rows.0, omega (arith, are_rows.1))
 
-tables-cond : (most : ℕ) (found items : Items) (b : Bool) → values.count found ≤ most → cond b (Some found) None ≡ Some items → values.count items ≤ most
+tables-cond : (most : ℕ) (found items : Items) (b : Bool) → values.count found ≤ most
+    → cond b (Some found) None ≡ Some items → values.count items ≤ most
 tables-cond most found items false few e = absurd cc
-tables-cond most found items true few e = let same : found ≡ items = cc in subst (λ (xs : Items). values.count xs ≤ most) same few
+tables-cond most found items true few e =
+    let same : found ≡ items = cc in subst (λ (xs : Items). values.count xs ≤ most) same few
 
 reads-tables : (most : ℕ) → Reads (values.tables most) (λ items. values.count items ≤ most)
 reads-tables most d items e =
     let (found, is, after) = some-then (values.items_from 0 most d) _ items e in
     tables-cond most found items (values.are_tables found) (reads-items_from 0 most d found is).1 after
 
-pub meets-tables : (key : Key) (most : ℕ) (inside : Members) → Meets (λ items. values.count items ≤ most) (optional key no_items (values.tables most) inside)
-meets-tables key most inside = meets-optional key no_items (values.tables most) (λ items. values.count items ≤ most) inside (omega arith) (reads-tables most)
+pub meets-tables : (key : Key) (most : ℕ) (inside : Members)
+    → Meets (λ items. values.count items ≤ most) (optional key no_items (values.tables most) inside)
+meets-tables key most inside =
+    meets-optional key no_items (values.tables most) (λ items. values.count items ≤ most) inside (omega arith)
+    (reads-tables most)

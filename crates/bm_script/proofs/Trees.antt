@@ -7,7 +7,8 @@ use Rattle.toml.specs.Data.{Members}
 use Rattle.toml.specs.Parse.{parse_document}
 use Rattle.bm_script.specs.Scripts.{tree_of}
 
-pub tree_of_text : (text same : List ℕ) (tree : Option Members) → IsUtf8 text → same ≡ text → parse_document same ≡ tree → tree_of text ≡ tree
+pub tree_of_text : (text same : List ℕ) (tree : Option Members) → IsUtf8 text → same ≡ text → parse_document same ≡ tree
+    → tree_of text ≡ tree
 unfolding tree_of
 tree_of_text text same tree h e p = rw (is_utf8-from_IsUtf8 text h) (ap parse_document (sym e) ∙ p)
 

@@ -1,11 +1,13 @@
 -- A script that the definition gives is sound, beside what the controller says of its plan.
-use Rattle.std.proofs.Common.{◌≡◌, ◌≢◌, ℕ, ◌*◌, ◌^◌, ◌≤◌, List, length, map, Option, Some, None, Result, Ok, Err, IfOk, IfErr, refl, ap, ◌∙◌, subst, arith}
+use Rattle.std.proofs.Common.{◌≡◌, ◌≢◌, ℕ, ◌*◌, ◌^◌, ◌≤◌, List, length, map, Option, Some, None, Result, Ok, Err, IfOk}
+use Rattle.std.proofs.Common.{IfErr, refl, ap, ◌∙◌, subst, arith}
 use Rattle.std.specs.List.{AllByRecursion}
 use Rattle.toml.specs.Data.{Items, Members}
 use Rattle.bm_base.specs.Captures.{AreRising}
 use Rattle.bm_controller.specs.Membership.{KeepsMembership}
 use Rattle.bm_script.proofs.Ordered.{commands-ordered, AreOrdered, AreRising-higher}
-use Rattle.bm_script.proofs.Sound.{Any, AreRows, Meets, meets-only_keys, meets-tables, meets-then, rows-sound, setting-sound}
+use Rattle.bm_script.proofs.Sound.{Any, AreRows, Meets, meets-only_keys, meets-tables, meets-then, rows-sound}
+use Rattle.bm_script.proofs.Sound.{setting-sound}
 use Rattle.bm_script.specs.declared.fault.Place.TheVariants.{Top}
 use Rattle.bm_script.specs.declared.fault.ScriptFault.{ScriptFault}
 use Rattle.bm_script.specs.declared.fault.ScriptFault.TheVariants.{NotToml, Missing, BadValue, Unknown, Refused, Memory}
@@ -42,7 +44,8 @@ opened-ordered setting = record {
   of_known = tt;
 }
 
-with_rows : (setting : Setting) (items : Items) (rows : List FaultRow) → IsSetting setting → values.count items ≤ 4096 → AreRows items rows → IsSetting (record setting { faults = rows })
+with_rows : (setting : Setting) (items : Items) (rows : List FaultRow) → IsSetting setting → values.count items ≤ 4096
+    → AreRows items rows → IsSetting (record setting { faults = rows })
 with_rows setting items rows h few are = record {
   buckets = h.buckets;
   servers = h.servers;
@@ -64,16 +67,21 @@ read-tree : (inside : Members) → Meets IsRead (script_in inside)
 read-tree inside =
     meets-then Any IsRead _ _ (meets-only_keys Top top_keys inside) λ only _.
     meets-then IsSetting IsRead _ _ (setting-sound inside) λ setting is_setting.
-    meets-then (λ items. values.count items ≤ 4096) IsRead _ _ (meets-tables key.Fault 4096 inside) λ fault_tables few_rows.
-    meets-then (λ items. values.count items ≤ 65536) IsRead _ _ (meets-tables key.Command 65536 inside) λ command_tables few.
+    meets-then (λ items. values.count items ≤ 4096) IsRead _ _ (meets-tables key.Fault 4096 inside) λ fault_tables
+    few_rows.
+    meets-then (λ items. values.count items ≤ 65536) IsRead _ _ (meets-tables key.Command 65536 inside) λ command_tables
+    few.
     meets-then (AreRows fault_tables) IsRead _ _ (rows-sound 1 fault_tables) λ rows are_rows.
-    meets-then (AreOrdered (opened setting).plan (values.count command_tables)) IsRead _ _ (commands-ordered (opened setting).plan 0 (values.count command_tables) (opened setting) command_tables (omega arith) (opened-ordered setting)) λ p are.
+    meets-then (AreOrdered (opened setting).plan (values.count command_tables)) IsRead _ _
+    (commands-ordered (opened setting).plan 0 (values.count command_tables) (opened setting) command_tables
+    (omega arith) (opened-ordered setting)) λ p are.
     record {
       setting = with_rows setting fault_tables rows is_setting few_rows are_rows;
       buckets = are.buckets;
       servers = are.servers;
       few = omega (arith, are.few);
-      rise = AreRising-higher 0 p.last (4 * 10 ^ 18) (map (λ c. moment_of_command p.plan c) p.commands) are.rise are.last;
+      rise = AreRising-higher 0 p.last (4 * 10 ^ 18) (map (λ c. moment_of_command p.plan c) p.commands) are.rise
+          are.last;
       versions = are.versions;
       of_known = are.of_known;
     }
@@ -85,7 +93,8 @@ read-of_tree (Some inside) = read-tree inside
 pub script-read : (text : List ℕ) → Meets IsRead (script_of text)
 script-read text = read-of_tree (tree_of text)
 
-script-sound : (text : List ℕ) (script : Script) → script_of text ≡ Ok script → KeepsMembership script.plan → IsSoundScript script
+script-sound : (text : List ℕ) (script : Script) → script_of text ≡ Ok script → KeepsMembership script.plan
+    → IsSoundScript script
 script-sound text script is membership =
     let h : Meets IsRead (Ok script) = subst (Meets IsRead) is (script-read text) in
     record {
@@ -113,7 +122,8 @@ fault-sound text Memory is = tt
 
 -- of an answer that is what the definition gives
 module _ (text : List ℕ) (inside : Members) (tree : tree_of text ≡ Some inside) where
-  pub answer-sound : (result : Result Script ScriptFault) → Gives result (script_in inside) → IfOk result (λ script. KeepsMembership script.plan) → IfOk result IsSoundScript
+  pub answer-sound : (result : Result Script ScriptFault) → Gives result (script_in inside)
+      → IfOk result (λ script. KeepsMembership script.plan) → IfOk result IsSoundScript
   answer-sound (Ok script) gives membership = script-sound text script (ap of_tree tree ∙ gives) membership
   answer-sound (Err fault) gives membership = tt
 

@@ -1,6 +1,7 @@
 -- What the fault tables and the command tables of a script say.
 -- Commands are read in their order, each beside the plan that those before it made.
-use Rattle.std.specs.Prelude.{ℕ, ◌+◌, List, [], ◌∷◌, ◌++◌, length, Option, Some, None, Result, Ok, Err, if◌then◌else◌}
+use Rattle.std.specs.Prelude.{ℕ, ◌+◌, List, [], ◌∷◌, ◌++◌, length, Option, Some, None, Result, Ok}
+use Rattle.std.specs.Prelude.{Err, if◌then◌else◌}
 use Rattle.toml.specs.Data.{as_table, Items, no_items, item, Members}
 use Rattle.bm_base.specs.declared.ids.ServerId.{ServerId}
 use Rattle.bm_controller.specs.Commands as controller
@@ -8,7 +9,8 @@ use Rattle.bm_controller.specs.Membership.{knows}
 use Rattle.bm_quota.specs.declared.refusal.Refusal.{Refusal}
 use Rattle.bm_quota.specs.declared.refusal.Refusal.TheVariants.{UnknownServer}
 use Rattle.bm_script.specs.declared.commands.Verb.{Verb}
-use Rattle.bm_script.specs.declared.commands.Verb.TheVariants.{Add, Drain, Move, Close, Retire, Sync}
+use Rattle.bm_script.specs.declared.commands.Verb.TheVariants.{Add, Drain, Move, Close, Retire}
+use Rattle.bm_script.specs.declared.commands.Verb.TheVariants.{Sync}
 use Rattle.bm_script.specs.declared.fault.Place.TheVariants as at_
 use Rattle.bm_script.specs.declared.fault.ScriptFault.{ScriptFault}
 use Rattle.bm_script.specs.declared.fault.ScriptFault.TheVariants.{Refused}
@@ -18,7 +20,10 @@ use Rattle.bm_script.specs.Keys.{row_keys, verb_keys}
 use Rattle.bm_script.specs.Values.{endpoint_value, hop, number, server, verb}
 use Rattle.bm_table.specs.declared.plan.Change.{Change}
 use Rattle.bm_table.specs.declared.script.Command.{Command}
-use Rattle.bm_table.specs.declared.script.Command.TheVariants.{Change as ChangeCommand, Close as CloseCommand, Retire as RetireCommand, Sync as SyncCommand}
+use Rattle.bm_table.specs.declared.script.Command.TheVariants.{Change as ChangeCommand}
+use Rattle.bm_table.specs.declared.script.Command.TheVariants.{Close as CloseCommand}
+use Rattle.bm_table.specs.declared.script.Command.TheVariants.{Retire as RetireCommand}
+use Rattle.bm_table.specs.declared.script.Command.TheVariants.{Sync as SyncCommand}
 use Rattle.bm_table.specs.declared.setting.FaultRow.{FaultRow}
 use Rattle.bm_table.specs.Planned.{Planned}
 use Rattle.bm_table.specs.Plans.{with_change}
@@ -59,7 +64,8 @@ next p = length p.commands + 1
 
 -- one more command
 abbrev pub with_command : Progress → ℕ → Command → Progress
-with_command p at command = record { plan = p.plan; last = at; commands = p.commands ++ command ∷ [] }
+with_command p at command =
+    record { plan = p.plan; last = at; commands = p.commands ++ command ∷ [] }
 
 -- one more change of the plan, to which a command leads, unless it is refused
 abbrev pub changed : Progress → ℕ → Change → Option Refusal → Result Progress ScriptFault
@@ -72,25 +78,31 @@ changed p at change None = Ok (record {
 
 -- a command to a server that has to be known
 abbrev pub asked_of_known : Progress → ℕ → ServerId → Command → Result Progress ScriptFault
-asked_of_known p at s command = if knows p.plan s then Ok (with_command p at command) else Err (Refused (next p) UnknownServer)
+asked_of_known p at s command =
+    if knows p.plan s then Ok (with_command p at command) else Err (Refused (next p) UnknownServer)
 
 -- after a command with this verb, at this moment
 abbrev pub carried : Progress → ℕ → Verb → Members → Result Progress ScriptFault
 carried p at Add entries = do
   s ← required (at_.Command (next p)) key.Server server entries
-  changed p at (controller.addition p.plan (record { 0 = at }) s) (controller.add_refusal p.plan (record { 0 = at }) s)
+  changed p at (controller.addition p.plan (record { 0 = at }) s)
+      (controller.add_refusal p.plan (record { 0 = at }) s)
 carried p at Drain entries = do
   s ← required (at_.Command (next p)) key.Server server entries
-  changed p at (controller.removal p.plan (record { 0 = at }) s) (controller.drain_refusal p.plan (record { 0 = at }) s)
+  changed p at (controller.removal p.plan (record { 0 = at }) s)
+      (controller.drain_refusal p.plan (record { 0 = at }) s)
 carried p at Move entries = do
   bucket ← required (at_.Command (next p)) key.Bucket (number 0 65535) entries
   s ← required (at_.Command (next p)) key.Server server entries
-  changed p at (controller.shift_of (record { 0 = at }) bucket s) (controller.shift_refusal p.plan (record { 0 = at }) bucket s)
+  changed p at (controller.shift_of (record { 0 = at }) bucket s)
+      (controller.shift_refusal p.plan (record { 0 = at }) bucket s)
 carried p at Close entries = do
   s ← required (at_.Command (next p)) key.Server server entries
   from ← required (at_.Command (next p)) key.From endpoint_value entries
   to ← required (at_.Command (next p)) key.To endpoint_value entries
-  asked_of_known p at s (CloseCommand (record { 0 = at }) s (record { src = from.addr; dst = to.addr; sport = from.port; dport = to.port }))
+  asked_of_known p at s
+      (CloseCommand (record { 0 = at }) s
+      (record { src = from.addr; dst = to.addr; sport = from.port; dport = to.port }))
 carried p at Retire entries = do
   s ← required (at_.Command (next p)) key.Server server entries
   asked_of_known p at s (RetireCommand (record { 0 = at }) s)

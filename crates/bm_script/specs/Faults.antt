@@ -1,11 +1,16 @@
 -- The faults of a script: their texts, and the readers that end at the first one.
-use Rattle.std.specs.Prelude.{◌≡◌, ◌≢◌, ℕ, List, ◌++◌, Option, Some, None, Result, Ok, Err, ok_or, codes, decimal}
+use Rattle.std.specs.Prelude.{◌≡◌, ◌≢◌, ℕ, List, ◌++◌, Option, Some, None, Result, Ok, Err, ok_or}
+use Rattle.std.specs.Prelude.{codes, decimal}
 use Rattle.bm_quota.specs.declared.refusal.Refusal.{Refusal}
-use Rattle.bm_quota.specs.declared.refusal.Refusal.TheVariants.{KnownServer, UnknownServer, NotActive, LastServer, BadBucket, SameServer, StampFell, TooMany, Memory as no_memory}
+use Rattle.bm_quota.specs.declared.refusal.Refusal.TheVariants.{KnownServer, UnknownServer}
+use Rattle.bm_quota.specs.declared.refusal.Refusal.TheVariants.{NotActive, LastServer, BadBucket}
+use Rattle.bm_quota.specs.declared.refusal.Refusal.TheVariants.{SameServer, StampFell, TooMany}
+use Rattle.bm_quota.specs.declared.refusal.Refusal.TheVariants.{Memory as no_memory}
 use Rattle.bm_script.specs.declared.fault.Place.{Place}
 use Rattle.bm_script.specs.declared.fault.Place.TheVariants.{Top, Fault, Command}
 use Rattle.bm_script.specs.declared.fault.ScriptFault.{ScriptFault}
-use Rattle.bm_script.specs.declared.fault.ScriptFault.TheVariants.{NotToml, Missing, BadValue, Unknown, Refused, Memory}
+use Rattle.bm_script.specs.declared.fault.ScriptFault.TheVariants.{NotToml, Missing, BadValue}
+use Rattle.bm_script.specs.declared.fault.ScriptFault.TheVariants.{Unknown, Refused, Memory}
 use Rattle.bm_script.specs.declared.key.Key.{Key}
 use Rattle.bm_script.specs.Keys.{first_unknown, key_word, value_at}
 use Rattle.bm_table.specs.declared.plan.Limit.TheVariants.{Changes, Moves}
@@ -50,7 +55,8 @@ Gives (Err fault) wanted = fault ≢ Memory → wanted ≡ Err fault
 
 -- what comes after a value; a fault ends it
 infixl 10 ◌>>=◌
-abbrev pub ◌>>=◌ : {A B : Type 0} → Result A ScriptFault → (A → Result B ScriptFault) → Result B ScriptFault
+abbrev pub ◌>>=◌ : {A B : Type 0} → Result A ScriptFault → (A → Result B ScriptFault)
+    → Result B ScriptFault
 Ok x >>= f = f x
 Err fault >>= f = Err fault
 
@@ -59,12 +65,14 @@ abbrev pub valued : {A : Type 0} → Place → Key → Option A → Result A Scr
 valued place key x = ok_or x (BadValue place key)
 
 -- the value of a key that has to be there
-abbrev pub required : {A : Type 0} → Place → Key → (Data → Option A) → Members → Result A ScriptFault
+abbrev pub required : {A : Type 0} → Place → Key → (Data → Option A) → Members
+    → Result A ScriptFault
 required place key read members = do
   d ← ok_or (value_at key members) (Missing place key)
   valued place key (read d)
 
-abbrev pub of_optional : {A : Type 0} → Key → A → (Data → Option A) → Option Data → Result A ScriptFault
+abbrev pub of_optional : {A : Type 0} → Key → A → (Data → Option A) → Option Data
+    → Result A ScriptFault
 of_optional key plain read None = Ok plain
 of_optional key plain read (Some d) = valued Top key (read d)
 

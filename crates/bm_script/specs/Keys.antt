@@ -5,7 +5,8 @@ use Rattle.toml.specs.Data.{Data, Members, no_members, member, get_member}
 use Rattle.bm_script.specs.declared.key.Key.{Key}
 use Rattle.bm_script.specs.declared.key.Key.TheVariants as key
 use Rattle.bm_script.specs.declared.commands.Verb.{Verb}
-use Rattle.bm_script.specs.declared.commands.Verb.TheVariants.{Add, Drain, Move, Close, Retire, Sync}
+use Rattle.bm_script.specs.declared.commands.Verb.TheVariants.{Add, Drain, Move, Close, Retire}
+use Rattle.bm_script.specs.declared.commands.Verb.TheVariants.{Sync}
 
 abbrev pub key_word : Key → List ℕ
 key_word key.Version = codes "version"

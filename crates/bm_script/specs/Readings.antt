@@ -21,7 +21,8 @@ pub record IsPublished (old new : Reading) (at : ℕ) : Type 0 where
   pub plan : new.controller ≡ old.controller
   pub last : new.last ≡ at
   pub versions : new.versions ≡ old.versions + 1
-  pub commands : new.commands.items ≡ old.commands.items ++ Change (record { 0 = old.versions + 1 }) ∷ []
+  pub commands : new.commands.items ≡ old.commands.items
+      ++ Change (record { 0 = old.versions + 1 }) ∷ []
 
 -- one more command was read
 pub record HasRead (old new : Reading) (wanted : Result Progress ScriptFault) : Type 0 where
@@ -30,7 +31,8 @@ pub record HasRead (old new : Reading) (wanted : Result Progress ScriptFault) : 
   pub one : length new.commands.items ≡ length old.commands.items + 1
 
 -- what was read is what the definition gives, unless memory was refused
-abbrev pub Reads : Reading → Reading → Result Progress ScriptFault → Result (Unit {0}) ScriptFault → Type 0
+abbrev pub Reads : Reading → Reading → Result Progress ScriptFault → Result (Unit {0}) ScriptFault
+    → Type 0
 Reads old new wanted (Ok x) = HasRead old new wanted
 Reads old new wanted (Err fault) = fault ≢ Memory → wanted ≡ Err fault
 

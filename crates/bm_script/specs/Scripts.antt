@@ -1,5 +1,6 @@
 -- What the text of a script means: the script, or its first fault.
-use Rattle.std.specs.Prelude.{ℕ, List, [], replicate, Option, Some, None, Result, Ok, Err, if◌then◌else◌}
+use Rattle.std.specs.Prelude.{ℕ, List, [], replicate, Option, Some, None, Result, Ok, Err}
+use Rattle.std.specs.Prelude.{if◌then◌else◌}
 use Rattle.std.specs.Str.{is_utf8}
 use Rattle.toml.specs.Data.{no_items, Members}
 use Rattle.toml.specs.Parse.{parse_document}

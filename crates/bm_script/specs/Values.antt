@@ -1,5 +1,7 @@
 -- What the values of a script read as, each None where it is of another kind or out of its range.
-use Rattle.std.specs.Prelude.{ℕ, ◌+◌, ◌-◌, ◌*◌, ℤ, pos, negsuc, List, [], ◌∷◌, Bool, true, false, not, ◌&&◌, ◌==◌, nat_le, if◌then◌else◌, Option, Some, None, option_map, codes, bytes_eq, is_some}
+use Rattle.std.specs.Prelude.{ℕ, ◌+◌, ◌-◌, ◌*◌, ℤ, pos, negsuc, List, [], ◌∷◌, Bool, true, false}
+use Rattle.std.specs.Prelude.{not, ◌&&◌, ◌==◌, nat_le, if◌then◌else◌, Option, Some, None}
+use Rattle.std.specs.Prelude.{option_map, codes, bytes_eq, is_some}
 use Rattle.toml.specs.Data.{Data, as_array, as_integer, as_str, as_table, Items, no_items, item}
 use Rattle.bm_base.specs.declared.capture.Vip.{Vip}
 use Rattle.bm_base.specs.declared.ids.ServerId.{ServerId}
@@ -7,7 +9,8 @@ use Rattle.bm_base.specs.declared.label.Hop.{Hop}
 use Rattle.bm_base.specs.declared.label.Hop.TheVariants.{Direct, Chained}
 use Rattle.bm_script.specs.declared.endpoint.Endpoint.{Endpoint}
 use Rattle.bm_script.specs.declared.commands.Verb.{Verb}
-use Rattle.bm_script.specs.declared.commands.Verb.TheVariants.{Add, Drain, Move, Close, Retire, Sync}
+use Rattle.bm_script.specs.declared.commands.Verb.TheVariants.{Add, Drain, Move, Close, Retire}
+use Rattle.bm_script.specs.declared.commands.Verb.TheVariants.{Sync}
 use Rattle.bm_table.specs.declared.setting.RouteKind.{RouteKind}
 use Rattle.bm_table.specs.declared.setting.RouteKind.TheVariants.{Port, Turn}
 
@@ -34,7 +37,8 @@ server d = option_map (λ n. record { 0 = n }) (number 1 1024 d)
 abbrev pub digits : ℕ → ℕ → List ℕ → Option ℕ
 digits high n [] = Some n
 digits high n (c ∷ text) =
-    if (nat_le 48 c && nat_le c 57) && nat_le (n * 10 + (c - 48)) high then digits high (n * 10 + (c - 48)) text else None
+    if (nat_le 48 c && nat_le c 57)
+    && nat_le (n * 10 + (c - 48)) high then digits high (n * 10 + (c - 48)) text else None
 
 -- a text that isn't empty, and begins with no 0 that others follow
 abbrev pub is_plain : List ℕ → Bool
@@ -49,7 +53,9 @@ decimal_number high text = if is_plain text then digits high 0 text else None
 -- the text before the first such octet, and the text behind it
 abbrev pub parted : ℕ → List ℕ → Option (List ℕ × List ℕ)
 parted mark [] = None
-parted mark (c ∷ text) = if c == mark then Some ([], text) else option_map (λ parts. (c ∷ parts.0, parts.1)) (parted mark text)
+parted mark (c ∷ text) =
+    if c == mark then Some ([], text)
+    else option_map (λ parts. (c ∷ parts.0, parts.1)) (parted mark text)
 
 -- a number of an octet before a mark, and the text behind it
 abbrev pub octet_before : ℕ → List ℕ → Option (ℕ × List ℕ)
@@ -135,7 +141,9 @@ count (item d items) = count items + 1
 
 -- an array of as many items as from low to high
 abbrev pub items_from : ℕ → ℕ → Data → Option Items
-items_from low high d = as_array d >>= λ items. if nat_le low (count items) && nat_le (count items) high then Some items else None
+items_from low high d =
+    as_array d >>= λ items. if nat_le low (count items) && nat_le (count items) high then Some items
+    else None
 
 abbrev pub servers : Data → Option (List ServerId)
 servers d = items_from 1 1024 d >>= rising 1

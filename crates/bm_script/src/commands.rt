@@ -97,7 +97,8 @@ pub(crate) fn read_commands(
     requires setting { IsSetting setting.now }
     requires few { length tables.now ≤ 65536 }
     ensures ok { IfOk result (λ reading.
-        commands.after_commands (opened setting.now) (items_view tables.now) ≡ Ok (progress reading)) }
+        commands.after_commands (opened setting.now) (items_view tables.now)
+        ≡ Ok (progress reading)) }
     ensures err { IfErr result (λ fault. fault ≢ memory
         → commands.after_commands (opened setting.now) (items_view tables.now) ≡ Err fault) }
 {
@@ -270,7 +271,8 @@ impl Reading {
     fn tell(&mut self, at: u64, server: ServerId, command: Command) -> Result<(), ScriptFault>
         requires few { length self.old.commands.items < 65536 }
         requires counted { IsCounted self.old }
-        ensures { Reads self.old self.new (commands.asked_of_known (progress self.old) at server command) result }
+        ensures { Reads self.old self.new
+            (commands.asked_of_known (progress self.old) at server command) result }
     {
         if !self.controller.knows(server) {
             return Err(ScriptFault::Refused(self.number(), Refusal::UnknownServer));
@@ -280,7 +282,8 @@ impl Reading {
 
     fn push(&mut self, at: u64, command: Command) -> Result<(), ScriptFault>
         requires { IsCounted self.old }
-        ensures { Reads self.old self.new (Ok (commands.with_command (progress self.old) at command)) result }
+        ensures { Reads self.old self.new
+            (Ok (commands.with_command (progress self.old) at command)) result }
     {
         self.commands.push(command)?;
         self.last = at;

@@ -8,8 +8,8 @@ use bm_base::{Memory, Text};
 use bm_quota::Refusal;
 use bm_table::Limit;
 use std::alloc::{AllocError, AllocFailed};
-use std::error::Error;
 use std::fmt;
+use thiserror::Error;
 
 /// Where a fault stands: at the top of a script, or in the fault table or the command table of this
 /// number, from 1.
@@ -34,7 +34,7 @@ impl fmt::Display for Place {
 
 /// The first fault of a script. Its text names the place and the key, as in
 /// `script command 3: missing server`.
-#[derive(Debug, Drop)]
+#[derive(Debug, Drop, Error)]
 pub enum ScriptFault {
     /// The text isn't UTF-8, or it isn't TOML.
     NotToml,
@@ -49,8 +49,6 @@ pub enum ScriptFault {
     /// Memory was refused.
     Memory,
 }
-
-impl Error for ScriptFault {}
 
 impl fmt::Display for ScriptFault {
     ghost output = { λ fault. Some (faults.fault_text fault) };

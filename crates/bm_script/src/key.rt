@@ -96,7 +96,8 @@ pub(crate) fn only_keys(
 
 /// The least key in byte order that is none of these.
 fn first_unknown<'a>(table: &'a Table, keys: &[Key]) -> Option<&'a str>
-    ensures { option_map (λ name. name.now) result ≡ known.first_unknown keys.now (table_view table.now) }
+    ensures { option_map (λ name. name.now) result
+        ≡ known.first_unknown keys.now (table_view table.now) }
 {
     for (name, _) in table {
         if !is_key(keys, name.as_str()) {

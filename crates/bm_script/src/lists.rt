@@ -1,5 +1,6 @@
 //! The arrays of a script.
-ghost use Rattle.std.specs.Prelude.{◌≡◌, ◌≤◌, true, false, Some, None, IfOk, MatchResult, ◌&&◌, nat_le, length};
+ghost use Rattle.std.specs.Prelude.{◌≡◌, ◌≤◌, true, false, Some, None, IfOk, MatchResult, ◌&&◌};
+ghost use Rattle.std.specs.Prelude.{nat_le, length};
 ghost use Rattle.bm_script.specs.Faults as faults;
 ghost use Rattle.bm_script.specs.Values as values;
 ghost use Rattle.bm_script.specs.declared.fault.Place.TheVariants.{Top};
@@ -23,8 +24,10 @@ pub(crate) fn items(
     low: usize,
     high: usize,
 ) -> Result<&[Value], ScriptFault>
-    ensures items { MatchResult result (λ found. values.items_from low high (view value.now) ≡ Some (items_view found.now))
-        (λ fault. (values.items_from low high (view value.now) ≡ None) × (fault ≡ BadValue Top key)) }
+    ensures items { MatchResult result
+        (λ found. values.items_from low high (view value.now) ≡ Some (items_view found.now))
+        (λ fault. (values.items_from low high (view value.now) ≡ None)
+        × (fault ≡ BadValue Top key)) }
     ensures few { IfOk result (λ found. length found.now ≤ high) }
 {
     let Some(found) = value.as_array() else {
@@ -45,7 +48,8 @@ fn is_within(count: usize, low: usize, high: usize) -> bool
 
 /// The items, where each is a table.
 pub(crate) fn tables_alone(items: &[Value], key: Key) -> Result<&[Value], ScriptFault>
-    ensures { MatchResult result (λ found. (values.are_tables (items_view items.now) ≡ true) × (found.now ≡ items.now))
+    ensures { MatchResult result
+        (λ found. (values.are_tables (items_view items.now) ≡ true) × (found.now ≡ items.now))
         (λ fault. (values.are_tables (items_view items.now) ≡ false) × (fault ≡ BadValue Top key)) }
 {
     if are_tables(items) {
@@ -68,7 +72,8 @@ fn are_tables(items: &[Value]) -> bool
 
 /// Server numbers that rise.
 pub(crate) fn server_list(alloc: Global, items: &[Value]) -> Result<List<ServerId>, ScriptFault>
-    ensures { faults.Gives result (faults.valued Top key_.Servers (values.rising 1 (items_view items.now))) }
+    ensures { faults.Gives result
+        (faults.valued Top key_.Servers (values.rising 1 (items_view items.now))) }
 {
     let mut servers = Vec::new(alloc);
     let mut low = 1;
@@ -84,7 +89,8 @@ pub(crate) fn server_list(alloc: Global, items: &[Value]) -> Result<List<ServerI
 
 /// Services, each an address and a port other than 0.
 pub(crate) fn vip_list(alloc: Global, items: &[Value]) -> Result<List<Vip>, ScriptFault>
-    ensures { faults.Gives result (faults.valued Top key_.Vips (values.each values.vip (items_view items.now))) }
+    ensures { faults.Gives result
+        (faults.valued Top key_.Vips (values.each values.vip (items_view items.now))) }
 {
     let mut vips = Vec::new(alloc);
     for item in items {
@@ -111,7 +117,9 @@ fn vip(value: &Value) -> Option<Vip>
 
 /// Lags in nanoseconds, each at most a day.
 pub(crate) fn lag_list(alloc: Global, items: &[Value]) -> Result<List<u64>, ScriptFault>
-    ensures { faults.Gives result (faults.valued Top key_.Lags (values.each (values.number 0 86400000000000) (items_view items.now))) }
+    ensures { faults.Gives result
+        (faults.valued Top key_.Lags
+        (values.each (values.number 0 86400000000000) (items_view items.now))) }
 {
     let mut lags = Vec::new(alloc);
     for item in items {

@@ -46,7 +46,8 @@ pub fn read_script(alloc: Global, text: &[u8]) -> Result<Script, ScriptFault>
 /// The table that the text gives.
 fn read_table(alloc: Global, text: &[u8]) -> Result<Table, ScriptFault>
     ensures ok { IfOk result (λ table. tree_of text.now ≡ Some (table_view table)) }
-    ensures err { IfErr result (λ fault. fault ≢ memory → (fault ≡ NotToml) × (tree_of text.now ≡ None)) }
+    ensures err { IfErr result
+        (λ fault. fault ≢ memory → (fault ≡ NotToml) × (tree_of text.now ≡ None)) }
     ensures refusals { IfErr result IsOfScript }
 {
     match std::str::from_utf8(text) {

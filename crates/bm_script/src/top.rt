@@ -55,7 +55,8 @@ pub(crate) fn read_setting(alloc: Global, table: &Table) -> Result<Setting, Scri
 /// The number of a key, or `plain` where the key isn't there.
 fn top_number(table: &Table, key: Key, plain: u64, low: u64, high: u64) -> Result<u64, ScriptFault>
     requires { IsWithin low high plain }
-    ensures gives { result ≡ faults.optional key plain (values.number low high) (table_view table.now) }
+    ensures gives { result ≡ faults.optional key plain (values.number low high)
+        (table_view table.now) }
     ensures within { IfOk result (IsWithin low high) }
 {
     match find(table, key) {
@@ -65,7 +66,8 @@ fn top_number(table: &Table, key: Key, plain: u64, low: u64, high: u64) -> Resul
 }
 
 fn top_servers(alloc: Global, table: &Table) -> Result<List<ServerId>, ScriptFault>
-    ensures { faults.Gives result (faults.optional key_.Servers plain_setting.servers values.servers (table_view table.now)) }
+    ensures { faults.Gives result
+        (faults.optional key_.Servers plain_setting.servers values.servers (table_view table.now)) }
 {
     match find(table, Key::Servers) {
         None => Ok(List::of(vec![in alloc; ServerId(1), ServerId(2)]?)),
@@ -74,7 +76,8 @@ fn top_servers(alloc: Global, table: &Table) -> Result<List<ServerId>, ScriptFau
 }
 
 fn top_vips(alloc: Global, table: &Table) -> Result<List<Vip>, ScriptFault>
-    ensures { faults.Gives result (faults.optional key_.Vips plain_setting.vips values.vips (table_view table.now)) }
+    ensures { faults.Gives result
+        (faults.optional key_.Vips plain_setting.vips values.vips (table_view table.now)) }
 {
     match find(table, Key::Vips) {
         None => Ok(List::of(vec![in alloc;
@@ -88,7 +91,8 @@ fn top_vips(alloc: Global, table: &Table) -> Result<List<Vip>, ScriptFault>
 }
 
 fn top_route(table: &Table) -> Result<RouteKind, ScriptFault>
-    ensures { result ≡ faults.optional key_.Route plain_setting.route values.route (table_view table.now) }
+    ensures { result ≡ faults.optional key_.Route plain_setting.route values.route
+        (table_view table.now) }
 {
     match find(table, Key::Route) {
         None => Ok(RouteKind::Port),
@@ -108,7 +112,8 @@ fn route(value: &Value) -> Option<RouteKind>
 
 /// A lag for each mux, 0 where the key isn't there.
 fn top_lags(alloc: Global, table: &Table, muxes: usize) -> Result<List<u64>, ScriptFault>
-    ensures { faults.Gives result (faults.optional key_.Lags (replicate muxes 0) (values.lags muxes) (table_view table.now)) }
+    ensures { faults.Gives result
+        (faults.optional key_.Lags (replicate muxes 0) (values.lags muxes) (table_view table.now)) }
 {
     match find(table, Key::Lags) {
         None => Ok(List::of(vec![in alloc; 0; muxes]?)),
@@ -118,27 +123,39 @@ fn top_lags(alloc: Global, table: &Table, muxes: usize) -> Result<List<u64>, Scr
 
 /// The fault tables, at most 4,096.
 pub(crate) fn fault_tables(table: &Table) -> Result<&[Value], ScriptFault>
-    ensures ok { IfOk result (λ found. faults.optional key_.Fault no_items (values.tables 4096) (table_view table.now) ≡ Ok (items_view found.now)) }
+    ensures ok { IfOk result
+        (λ found. faults.optional key_.Fault no_items (values.tables 4096) (table_view table.now)
+        ≡ Ok (items_view found.now)) }
     ensures few { IfOk result (λ found. length found.now ≤ 4096) }
-    ensures err { IfErr result (λ fault. faults.optional key_.Fault no_items (values.tables 4096) (table_view table.now) ≡ Err fault) }
+    ensures err { IfErr result
+        (λ fault. faults.optional key_.Fault no_items (values.tables 4096) (table_view table.now)
+        ≡ Err fault) }
 {
     tables(table, Key::Fault, MAX_FAULTS)
 }
 
 /// The command tables, at most 65,536.
 pub(crate) fn command_tables(table: &Table) -> Result<&[Value], ScriptFault>
-    ensures ok { IfOk result (λ found. faults.optional key_.Command no_items (values.tables 65536) (table_view table.now) ≡ Ok (items_view found.now)) }
+    ensures ok { IfOk result
+        (λ found. faults.optional key_.Command no_items (values.tables 65536) (table_view table.now)
+        ≡ Ok (items_view found.now)) }
     ensures few { IfOk result (λ found. length found.now ≤ 65536) }
-    ensures err { IfErr result (λ fault. faults.optional key_.Command no_items (values.tables 65536) (table_view table.now) ≡ Err fault) }
+    ensures err { IfErr result
+        (λ fault. faults.optional key_.Command no_items (values.tables 65536) (table_view table.now)
+        ≡ Err fault) }
 {
     tables(table, Key::Command, MAX_COMMANDS)
 }
 
 /// The tables of a key, none where the key isn't there.
 fn tables(table: &Table, key: Key, most: usize) -> Result<&[Value], ScriptFault>
-    ensures ok { IfOk result (λ found. faults.optional key no_items (values.tables most) (table_view table.now) ≡ Ok (items_view found.now)) }
+    ensures ok { IfOk result
+        (λ found. faults.optional key no_items (values.tables most) (table_view table.now)
+        ≡ Ok (items_view found.now)) }
     ensures few { IfOk result (λ found. length found.now ≤ most) }
-    ensures err { IfErr result (λ fault. faults.optional key no_items (values.tables most) (table_view table.now) ≡ Err fault) }
+    ensures err { IfErr result
+        (λ fault. faults.optional key no_items (values.tables most) (table_view table.now)
+        ≡ Err fault) }
 {
     match find(table, key) {
         None => Ok(&[]),

@@ -45,7 +45,8 @@ pub(crate) fn required<'a>(
     place: Place,
     key: Key,
 ) -> Result<&'a Value, ScriptFault>
-    ensures { MatchResult result (λ value. keys.value_at key (table_view table.now) ≡ Some (view value.now))
+    ensures { MatchResult result
+        (λ value. keys.value_at key (table_view table.now) ≡ Some (view value.now))
         (λ fault. (keys.value_at key (table_view table.now) ≡ None) × (fault ≡ Missing place key)) }
 {
     find(table, key).ok_or(ScriptFault::Missing(place, key))
@@ -59,7 +60,8 @@ pub(crate) fn required_number(
     low: u64,
     high: u64,
 ) -> Result<u64, ScriptFault>
-    ensures gives { result ≡ faults.required place key (values.number low high) (table_view table.now) }
+    ensures gives { result ≡ faults.required place key (values.number low high)
+        (table_view table.now) }
     ensures within { IfOk result (IsWithin low high) }
 {
     let value = required(table, place, key)?;
@@ -68,7 +70,8 @@ pub(crate) fn required_number(
 
 /// The number of a server.
 pub(crate) fn required_server(table: &Table, place: Place) -> Result<ServerId, ScriptFault>
-    ensures gives { result ≡ faults.required place key_.Server values.server (table_view table.now) }
+    ensures gives { result ≡ faults.required place key_.Server values.server
+        (table_view table.now) }
     ensures within { IfOk result (λ s. IsWithin 1 1024 s.0) }
 {
     let value = required(table, place, Key::Server)?;

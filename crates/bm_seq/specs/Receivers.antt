@@ -1,8 +1,10 @@
 -- The receiving end of a connection. Sequence numbers are modulo 2^32 (RFC 9293, section 3.4).
-use Rattle.std.specs.Prelude.{ℕ, ◌+◌, ◌-◌, ◌%◌, ◌^◌, Bool, false, not, ◌&&◌, ◌||◌, ◌==◌, nat_lt, nat_le, if◌then◌else◌}
+use Rattle.std.specs.Prelude.{ℕ, ◌+◌, ◌-◌, ◌%◌, ◌^◌, Bool, false, not, ◌&&◌, ◌||◌, ◌==◌, nat_lt}
+use Rattle.std.specs.Prelude.{nat_le, if◌then◌else◌}
 use Rattle.bm_base.specs.declared.flow.Segment.{Segment}
 use Rattle.bm_base.specs.declared.receive.Taken.{Taken}
-use Rattle.bm_base.specs.declared.receive.Taken.TheVariants.{Advance, Duplicate, Ahead, Outside, Challenge, Ended}
+use Rattle.bm_base.specs.declared.receive.Taken.TheVariants.{Advance, Duplicate, Ahead, Outside}
+use Rattle.bm_base.specs.declared.receive.Taken.TheVariants.{Challenge, Ended}
 use Rattle.bm_base.specs.Segments.{has_flag, is_opening, FIN, RST, SYN}
 use Rattle.bm_seq.specs.declared.receiver.Receiver.{Receiver}
 
@@ -14,12 +16,14 @@ distance a b = (a + 2 ^ 32 - b) % 2 ^ 32
 abbrev pub is_in_window : ℕ → ℕ → ℕ → Bool
 is_in_window next window x = nat_lt (distance x next) window
 
--- the test of acceptability of RFC 9293, section 3.10.7.4: the segment begins or ends in the window, or both are empty and it stands at its place
+-- the test of acceptability of RFC 9293, section 3.10.7.4: the segment begins or ends in the
+-- window, or both are empty and it stands at its place
 unfoldable pub acceptable : ℕ → ℕ → ℕ → ℕ → Bool
 acceptable next window seq len =
     if len == 0
     then (if window == 0 then seq == next else is_in_window next window seq)
-    else nat_lt 0 window && (is_in_window next window seq || is_in_window next window ((seq + len - 1) % 2 ^ 32))
+    else nat_lt 0 window
+    && (is_in_window next window seq || is_in_window next window ((seq + len - 1) % 2 ^ 32))
 
 -- the receive window of a server
 abbrev pub receive_window : ℕ
@@ -43,12 +47,14 @@ taken r s =
     else if has_flag RST s then taken_reset r s
     else if has_flag SYN s then Challenge
     else if not (acceptable r.next receive_window s.seq s.len)
-    then (if nat_lt (distance r.next ((s.seq + s.len) % 2 ^ 32)) (2 ^ 31) then Duplicate else Outside)
+    then (if nat_lt (distance r.next ((s.seq + s.len) % 2 ^ 32)) (2 ^ 31) then Duplicate
+    else Outside)
     else if comes_in_turn r s then Advance
     else Ahead
 
 unfoldable pub after_taken : Taken → Receiver → Segment → Receiver
-after_taken Advance r s = record r { next = (s.seq + s.len) % 2 ^ 32; finished = r.finished || has_flag FIN s }
+after_taken Advance r s =
+    record r { next = (s.seq + s.len) % 2 ^ 32; finished = r.finished || has_flag FIN s }
 after_taken Duplicate r s = r
 after_taken Ahead r s = r
 after_taken Outside r s = r

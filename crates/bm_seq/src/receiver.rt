@@ -26,8 +26,8 @@ fn distance(a: u32, b: u32) -> u32
 }
 
 /// RFC 9293's test of acceptability (section 3.10.7.4): whether a segment that begins at `seq` and
-/// takes `len` sequence numbers begins or ends in the window of `window` octets that begins at `next`;
-/// where both are empty, whether it begins at `next`.
+/// takes `len` sequence numbers begins or ends in the window of `window` octets that begins at
+/// `next`; where both are empty, whether it begins at `next`.
 #[tactic(auto, unfolding(crate::specs::Receivers::acceptable))]
 pub fn acceptable(next: u32, window: u32, seq: u32, len: u32) -> bool
     requires window { window ≤ 65535 }

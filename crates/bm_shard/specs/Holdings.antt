@@ -23,20 +23,24 @@ local_in h f = record {
 
 -- what is held after the turn
 pub record TakesTurn (turn : Turn) (old new : Holding) : Type 0 where
-  pub held : (f : Flow) → receiver_in new.table.connections f ≡ turn_held turn f (receiver_in old.table.connections f)
+  pub held : (f : Flow)
+      → receiver_in new.table.connections f ≡ turn_held turn f (receiver_in old.table.connections f)
   pub retired : new.retired ≡ (turn_retires turn || old.retired)
   pub capacity : new.table.capacity ≡ old.table.capacity
 
 -- what is held after a segment was taken that ends no connection
 pub record Takes (s : Segment) (old new : Holding) : Type 0 where
   pub held : (f : Flow) → receiver_in new.table.connections f
-      ≡ (if same_flow s.flow f then option_map (λ r. receiver_after r s) (receiver_in old.table.connections f) else receiver_in old.table.connections f)
+      ≡ (if same_flow s.flow f then option_map (λ r. receiver_after r s)
+      (receiver_in old.table.connections f) else receiver_in old.table.connections f)
   pub retired : new.retired ≡ old.retired
   pub capacity : new.table.capacity ≡ old.table.capacity
 
 -- the flow is held, or there is a place for it that needs no memory
 abbrev pub CanOpen : Flow → Holding → Type 0
-CanOpen f h = receiver_in h.table.connections f ≡ None → (length h.table.connections < h.table.capacity) × HasRoom h.table
+CanOpen f h =
+    receiver_in h.table.connections f ≡ None → (length h.table.connections < h.table.capacity)
+    × HasRoom h.table
 
 -- an Accept has its place
 abbrev pub CanTake : Verdict → Segment → Holding → Type 0

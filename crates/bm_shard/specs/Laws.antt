@@ -15,7 +15,8 @@ pub record IsOf (stage : Stage) (shard : Shard) : Type 0 where
 
 -- the entries are the shard's turns among these events
 abbrev pub AreOf : Stage → List Event → Book → Type 0
-AreOf stage past book = turns (reverse book.entries) ≡ book_of stage past book.shard.server book.shard.number
+AreOf stage past book =
+    turns (reverse book.entries) ≡ book_of stage past book.shard.server book.shard.number
 
 -- a retirement of the shard was done
 abbrev pub IsRetired : Book → Type 0

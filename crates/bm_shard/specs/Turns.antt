@@ -9,14 +9,15 @@ use Rattle.bm_shard.specs.declared.calls.ShardCall.TheVariants.{Arrive, Close, R
 use Rattle.bm_shard.specs.declared.calls.ShardEntry.{ShardEntry}
 
 -- when the copy of an Arrive was due, or the command of a Close or Retire was given
-abbrev pub moment_of : ShardCall → Moment
-moment_of (Arrive packet tag segment due) = due
-moment_of (Close flow at) = at
-moment_of (Retire at result) = at
+abbrev pub call_moment : ShardCall → Moment
+call_moment (Arrive packet tag segment due) = due
+call_moment (Close flow at) = at
+call_moment (Retire at result) = at
 
 -- the turn of a call with this event
 abbrev pub turn_kept : ShardCall → What → Option Turn
-turn_kept (Arrive packet tag segment due) (Arrived k hop server verdict) = Some (Took segment verdict)
+turn_kept (Arrive packet tag segment due) (Arrived k hop server verdict) =
+    Some (Took segment verdict)
 turn_kept (Close flow at) (Closes server f closed) = Some (Closed flow closed)
 turn_kept (Retire at result) what = Some (RetiredAs result)
 turn_kept _ _ = None

@@ -1,5 +1,6 @@
 //! The book of a shard.
-ghost use Rattle.std.specs.Prelude.{◌≡◌, ◌≤◌, ◌<◌, ◌+◌, ◌*◌, ◌^◌, ◌++◌, ◌∷◌, [], length, reverse, IfOk, OnOk, OnErr};
+ghost use Rattle.std.specs.Prelude.{◌≡◌, ◌≤◌, ◌<◌, ◌+◌, ◌*◌, ◌^◌, ◌++◌, ◌∷◌, [], length, reverse};
+ghost use Rattle.std.specs.Prelude.{IfOk, OnOk, OnErr};
 ghost use Rattle.bm_shard.specs.Books.{IsTaken, Replays, clock_of, entry_after, reply_after};
 
 use crate::holding::Holding;
@@ -10,8 +11,8 @@ use bm_core::{Event, next_clock};
 use std::alloc::Global;
 use std::marker::Model;
 
-/// What no call to a shard changes: its server, its number there, how many connections it may hold, and how many
-/// nanoseconds after a move it passes packets on.
+/// What no call to a shard changes: its server, its number there, how many connections it may hold,
+/// and how many nanoseconds after a move it passes packets on.
 #[derive(Clone, Copy, Debug, PartialEq, Eq)]
 pub struct Shard {
     pub server: ServerId,
@@ -52,7 +53,9 @@ impl ShardBook {
         timeout: u64,
     ) -> Result<ShardBook, Memory>
         requires { (1 ≤ capacity) × (capacity ≤ 65536) }
-        ensures shard { IfOk result (λ book. book.shard ≡ record { server = server; number = shard; capacity = capacity; timeout = timeout }) }
+        ensures shard { IfOk result
+            (λ book. book.shard
+            ≡ record { server = server; number = shard; capacity = capacity; timeout = timeout }) }
         ensures entries { IfOk result (λ book. book.entries ≡ []) }
     {
         let table = ConnTable::new(alloc, capacity)?;
@@ -72,13 +75,17 @@ impl ShardBook {
         })
     }
 
-    /// Makes a call under the number of a seat, and keeps it. Where memory is refused, nothing changes.
+    /// Makes a call under the number of a seat, and keeps it. Where memory is refused, nothing
+    /// changes.
     pub fn apply(&mut self, seat: u16, call: ShardCall) -> Result<ShardReply, Memory>
         requires taken { IsTaken call }
         requires few { length self.old.entries < 2 ^ 48 }
-        ensures reply { IfOk result (λ reply. reply ≡ reply_after self.old.shard (reverse self.old.entries) call) }
+        ensures reply { IfOk result
+            (λ reply. reply ≡ reply_after self.old.shard (reverse self.old.entries) call) }
         ensures kept { OnOk result (self.new ≡ record self.old {
-          entries = self.old.entries ++ entry_after self.old.shard (reverse self.old.entries) seat call ∷ [];
+          entries =
+              self.old.entries
+              ++ entry_after self.old.shard (reverse self.old.entries) seat call ∷ [];
         }) }
         ensures memory { OnErr result (self.new ≡ self.old) }
     {

@@ -1,7 +1,7 @@
 //! What a shard is asked, what it replies, and what its book keeps.
 ghost use Rattle.std.specs.Prelude.{◌≡◌};
 ghost use Rattle.bm_shard.specs.Replies.{answer_for};
-ghost use Rattle.bm_shard.specs.Turns.{moment_of};
+ghost use Rattle.bm_shard.specs.Turns.{call_moment};
 
 use bm_base::{Flow, Moment, Segment, Tag};
 use bm_core::{Event, Verdict};
@@ -58,7 +58,7 @@ pub struct ShardEntry {
 impl ShardCall {
     /// When an arrival was due, or a close or retirement was made.
     pub(crate) fn moment(&self) -> Moment
-        ensures { result ≡ moment_of self.now }
+        ensures { result ≡ call_moment self.now }
     {
         match *self {
             ShardCall::Arrive { due, .. } => due,

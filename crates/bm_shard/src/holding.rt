@@ -4,9 +4,12 @@ ghost use Rattle.std.specs.Bool.{OnFalse};
 ghost use Rattle.bm_conn.specs.Connections.{HasRoom, IsMap, receiver_in};
 ghost use Rattle.bm_core.specs.Books.{Closed, RetiredAs, Took};
 ghost use Rattle.bm_core.specs.Verdicts.{verdict_on};
-ghost use Rattle.bm_core.specs.declared.events.What.TheVariants.{Arrive as Arrives, Close as Closes, Retire as Retires};
+ghost use Rattle.bm_core.specs.declared.events.What.TheVariants.{Arrive as Arrives};
+ghost use Rattle.bm_core.specs.declared.events.What.TheVariants.{Close as Closes};
+ghost use Rattle.bm_core.specs.declared.events.What.TheVariants.{Retire as Retires};
 ghost use Rattle.bm_shard.specs.Holdings.{CanOpen, CanServe, CanTake, Takes, TakesTurn, local_in};
-ghost use Rattle.bm_shard.specs.Replies.{answer_for, is_held_by, reply_of, turn_of, verdict_by, what_of};
+ghost use Rattle.bm_shard.specs.Replies.{answer_for, is_held_by, reply_of, turn_of, verdict_by};
+ghost use Rattle.bm_shard.specs.Replies.{what_of};
 ghost use Rattle.bm_shard.specs.declared.calls.ShardReply.TheVariants.{Arrived, Retired};
 
 use crate::calls::answer_to;
@@ -28,7 +31,8 @@ impl Holding {
     /// What the shard knows of a flow.
     fn local(&self, flow: &Flow) -> Local
         ensures local { result ≡ local_in self.now flow.now }
-        ensures free { OnFalse result.full (length self.now.table.connections < self.now.table.capacity) }
+        ensures free { OnFalse result.full
+            (length self.now.table.connections < self.now.table.capacity) }
     {
         Local {
             retired: self.retired,
@@ -47,7 +51,8 @@ impl Holding {
         requires { CanServe call.now self.old }
         ensures what { result.0 ≡ what_of shard.now (local_in self.old) clock call.now }
         ensures reply { result.1 ≡ reply_of shard.now (local_in self.old) clock call.now }
-        ensures effect { TakesTurn (turn_of shard.now (local_in self.old) clock call.now) self.old self.new }
+        ensures effect { TakesTurn (turn_of shard.now (local_in self.old) clock call.now) self.old
+            self.new }
     {
         match *call {
             ShardCall::Arrive {
@@ -75,10 +80,14 @@ impl Holding {
     ) -> (What, ShardReply)
         requires room { HasRoom self.old.table }
         requires len { segment.now.len ≤ 1048576 }
-        ensures what { result.0 ≡ Arrives packet tag.now.hop shard.now.server (verdict_by shard.now (local_in self.old) clock tag.now segment.now) }
-        ensures reply { let verdict = verdict_by shard.now (local_in self.old) clock tag.now segment.now in
+        ensures what { result.0 ≡ Arrives packet tag.now.hop shard.now.server
+            (verdict_by shard.now (local_in self.old) clock tag.now segment.now) }
+        ensures reply { let verdict =
+            verdict_by shard.now (local_in self.old) clock tag.now segment.now in
             result.1 ≡ Arrived clock verdict (answer_for verdict segment.now) }
-        ensures effect { TakesTurn (Took segment.now (verdict_by shard.now (local_in self.old) clock tag.now segment.now)) self.old self.new }
+        ensures effect { TakesTurn
+            (Took segment.now (verdict_by shard.now (local_in self.old) clock tag.now segment.now))
+            self.old self.new }
     {
         let verdict = self.arrive(tag, segment, clock, shard.timeout);
         let answer = answer_to(verdict, segment);
@@ -98,9 +107,11 @@ impl Holding {
 
     /// The server ends a connection, if it holds one.
     fn serve_close(&mut self, shard: &Shard, clock: Moment, flow: Flow) -> (What, ShardReply)
-        ensures what { result.0 ≡ Closes shard.now.server flow (is_held_by (local_in self.old) flow) }
+        ensures what { result.0
+            ≡ Closes shard.now.server flow (is_held_by (local_in self.old) flow) }
         ensures reply { result.1 ≡ ShardReply.Closed clock (is_held_by (local_in self.old) flow) }
-        ensures effect { TakesTurn (Closed flow (is_held_by (local_in self.old) flow)) self.old self.new }
+        ensures effect { TakesTurn (Closed flow (is_held_by (local_in self.old) flow)) self.old
+            self.new }
     {
         let closed = self.close(&flow);
         let what = What::Close {
@@ -137,7 +148,8 @@ impl Holding {
     fn arrive(&mut self, tag: &Tag, segment: &Segment, clock: Moment, timeout: u64) -> Verdict
         requires room { HasRoom self.old.table }
         requires len { segment.now.len ≤ 1048576 }
-        ensures verdict { result ≡ verdict_on (local_in self.old segment.now.flow) timeout clock.0 tag.now segment.now }
+        ensures verdict { result ≡ verdict_on (local_in self.old segment.now.flow) timeout clock.0
+            tag.now segment.now }
         ensures effect { TakesTurn (Took segment.now result) self.old self.new }
     {
         let local = self.local(&segment.flow);

@@ -19,13 +19,15 @@ ghost use Rattle.bm_shard.specs.Replies.{is_held_by, verdict_by};
 use crate::ShardBook;
 use bm_core::Stage;
 
-/// A shard whose entries are the turns of that shard in a history decides on a copy of a packet as the history says.
+/// A shard whose entries are the turns of that shard in a history decides on a copy of a packet as
+/// the history says.
 pub fn verdicts(book: &ShardBook, stage: &Stage)
     requires { IsOf stage.now book.now.shard }
     ensures { (past : List Event) → AreOf stage.now past book.now
         → (label : Label) (hop : Hop) (tag : Tag) (s : Segment) (clock : Moment)
         → tag_of label hop ≡ Some tag → shard stage.now s.flow ≡ book.now.shard.number
-        → verdict_by book.now.shard (knows_after book.now.shard (reverse book.now.entries)) clock tag s
+        → verdict_by book.now.shard (knows_after book.now.shard (reverse book.now.entries)) clock
+        tag s
         ≡ verdict_at stage.now past clock.0 label hop book.now.shard.server s }
 {}
 
@@ -41,9 +43,11 @@ pub fn holdings(book: &ShardBook, stage: &Stage)
 /// After a retirement that is done no connection is held, and every packet is dropped.
 pub fn retired(book: &ShardBook)
     requires { IsRetired book.now }
-    ensures ended { (flow : Flow) → (knows_after book.now.shard (reverse book.now.entries) flow).held ≡ None }
+    ensures ended { (flow : Flow)
+        → (knows_after book.now.shard (reverse book.now.entries) flow).held ≡ None }
     ensures dropped { (clock : Moment) (tag : Tag) (s : Segment)
-        → verdict_by book.now.shard (knows_after book.now.shard (reverse book.now.entries)) clock tag s
+        → verdict_by book.now.shard (knows_after book.now.shard (reverse book.now.entries)) clock
+        tag s
         ≡ Drop Retired }
 {
     let _entries = book.history();

@@ -30,7 +30,8 @@ fn ask(book: &mut ShardBook, call: ShardCall) -> Option<ShardReply>
     book.apply(3, call).ok()
 }
 
-/// A direct copy arrives whose bucket went from the previous server at 500: its port, sequence number, length and flags.
+/// A direct copy arrives whose bucket went from the previous server at 500: its port, sequence
+/// number, length and flags.
 fn arrive(
     book: &mut ShardBook,
     prev: Option<ServerId>,
@@ -157,7 +158,8 @@ fn a_shard_closes_and_retires(rt: HostRuntime) -> Result<(), Fail> {
     Ok(())
 }
 
-// The reset of a segment with an acknowledgment number has that as its sequence number, and the flag RST alone.
+// The reset of a segment with an acknowledgment number has that as its sequence number, and the
+// flag RST alone.
 #[test]
 fn a_packet_of_no_connection_is_answered_by_a_reset(rt: HostRuntime) -> Result<(), Fail> {
     let mut book = new_book(rt.alloc())?;

@@ -1,5 +1,6 @@
 -- The table of a version as an array of entries, and what the moves of a change do to it.
-use Rattle.std.specs.Prelude.{◌≡◌, ℕ, ◌<◌, if◌then◌else◌, ◌==◌, List, [], ◌∷◌, length, Some, None, slice_get, slice_index_or}
+use Rattle.std.specs.Prelude.{◌≡◌, ℕ, ◌<◌, if◌then◌else◌, ◌==◌, List, [], ◌∷◌, length, Some, None}
+use Rattle.std.specs.Prelude.{slice_get, slice_index_or}
 use Rattle.bm_base.specs.declared.ids.ServerId.{ServerId}
 use Rattle.bm_base.specs.declared.label.Entry.{Entry}
 use Rattle.bm_table.specs.declared.plan.Move.{Move}
@@ -9,7 +10,8 @@ use Rattle.bm_table.specs.Tables.{moved, table}
 -- the entry of bucket b after these moves of one moment, in their order
 abbrev pub after_moves : ℕ → List Move → ℕ → Entry → Entry
 after_moves at [] b entry = entry
-after_moves at (m ∷ moves) b entry = after_moves at moves b (if m.bucket == b then moved entry at (Some m.to) else entry)
+after_moves at (m ∷ moves) b entry =
+    after_moves at moves b (if m.bucket == b then moved entry at (Some m.to) else entry)
 
 -- the entries are those of each bucket after the first v changes
 pub record IsTable (plan : Planned) (v : ℕ) (entries : List Entry) : Type 0 where
@@ -18,4 +20,6 @@ pub record IsTable (plan : Planned) (v : ℕ) (entries : List Entry) : Type 0 wh
 
 -- the server of bucket b
 abbrev pub server_in : List Entry → ℕ → ServerId
-server_in entries b = (slice_index_or entries b (record { cur = record { 0 = 0 }; prev = None; stamp = record { 0 = 0 } })).cur
+server_in entries b =
+    (slice_index_or entries b
+    (record { cur = record { 0 = 0 }; prev = None; stamp = record { 0 = 0 } })).cur

@@ -1,11 +1,13 @@
--- Which buckets left a server, and the least of them.
-use Rattle.std.specs.Prelude.{◌≡◌, ℕ, ◌+◌, ◌<◌, ◌≤◌, min, Bool, true, false, ◌&&◌, ◌==◌, nat_le, List, [], ◌∷◌, map, Option, Some, None}
+-- Which buckets leave a server, and the least of them. Only the proofs of bodies use this.
+use Rattle.std.specs.Prelude.{◌≡◌, ℕ, ◌<◌, min, Bool, true, false, ◌==◌, nat_le, if◌then◌else◌}
+use Rattle.std.specs.Prelude.{List, [], ◌∷◌, Option, Some, None}
+use Rattle.std.specs.BTreeMap.{get}
 use Rattle.std.specs.List.{list_any}
+use Rattle.std.specs.Ordering.{nat_cmp}
 use Rattle.bm_base.specs.declared.ids.ServerId.{ServerId}
-use Rattle.bm_table.specs.declared.plan.Leave.{Leave}
 use Rattle.bm_table.specs.declared.plan.Move.{Move}
 use Rattle.bm_table.specs.declared.plan.Step.{Step}
-use Rattle.bm_table.specs.Tables.{is_drain, same_server}
+use Rattle.bm_table.specs.Tables.{is_drain}
 
 -- b is the least number that passes the test, or none passes
 abbrev pub IsLeast : (ℕ → Bool) → Option ℕ → Type 0
@@ -18,22 +20,20 @@ lesser_of None y = y
 lesser_of (Some x) None = Some x
 lesser_of (Some x) (Some y) = Some (min x y)
 
--- what the moves leave, by the server where each bucket is
-abbrev pub leaves_by : (ℕ → ServerId) → List Move → List Leave
-leaves_by server moves = map (λ m. record { bucket = m.bucket; from = server m.bucket }) moves
+-- the first bucket that leaves the server of this number, where each bucket is at a server
+abbrev pub first_left : (ℕ → ServerId) → List Move → ℕ → Option ℕ
+first_left server [] s = None
+first_left server (m ∷ moves) s =
+    if (server m.bucket).0 == s then Some m.bucket else first_left server moves s
 
--- the buckets of the leaves rise, from low on
-abbrev pub LeavesRise : ℕ → List Leave → Type 0
-LeavesRise low [] = Unit {0}
-LeavesRise low (l ∷ leaves) = (low ≤ l.bucket) × LeavesRise (l.bucket + 1) leaves
+-- the least bucket that left the server by a step that isn't before a moment
+abbrev pub step_left : Step → ServerId → ℕ → Option ℕ
+step_left step s since =
+    if nat_le since step.change.moment.0 then get nat_cmp step.left s.0 else None
 
--- the bucket is among these leaves of the server
-abbrev pub has_left : List Leave → ServerId → ℕ → Bool
-has_left leaves s b = list_any (λ l. l.bucket == b && same_server l.from s) leaves
-
--- by one of the steps that aren't before a moment the bucket left the server
-abbrev pub left_since : List Step → ServerId → ℕ → ℕ → Bool
-left_since steps s since b = list_any (λ step. nat_le since step.change.moment.0 && has_left step.leaves.items s b) steps
+abbrev pub least_since : List Step → ServerId → ℕ → Option ℕ
+least_since [] s since = None
+least_since (step ∷ steps) s since = lesser_of (step_left step s since) (least_since steps s since)
 
 abbrev pub has_drain : List Step → ServerId → Bool
 has_drain steps s = list_any (λ step. is_drain step.change.kind s) steps

@@ -1,16 +1,20 @@
 -- What each plan keeps, and which changes it refuses.
-use Rattle.std.specs.Prelude.{◌≡◌, ◌≢◌, ℕ, ◌+◌, ◌-◌, ◌<◌, ◌≤◌, ◌&&◌, nat_le, nat_lt, if◌then◌else◌, List, [], ◌∷◌, ◌++◌, length, map, All, IfSome, sum_by, Option, Some, None}
+use Rattle.std.specs.Prelude.{◌≡◌, ◌≢◌, ℕ, ◌+◌, ◌-◌, ◌<◌, ◌≤◌, ◌&&◌, nat_le, nat_lt, if◌then◌else◌}
+use Rattle.std.specs.Prelude.{List, [], ◌∷◌, ◌++◌, length, map, All, IfSome, sum_by, Option, Some}
+use Rattle.std.specs.Prelude.{None}
 use Rattle.std.specs.List.{range_with_len}
 use Rattle.std.specs.Option.{option_map}
+use Rattle.bm_base.specs.declared.ids.Moment.{Moment}
 use Rattle.bm_base.specs.declared.ids.ServerId.{ServerId}
 use Rattle.bm_table.specs.declared.plan.Change.{Change}
 use Rattle.bm_table.specs.declared.plan.Limit.TheVariants.{Changes, Moves}
 use Rattle.bm_table.specs.declared.plan.Move.{Move}
 use Rattle.bm_table.specs.declared.plan.PlanFault.{PlanFault}
-use Rattle.bm_table.specs.declared.plan.PlanFault.TheVariants.{StampFell, BadBucket, SameServer, TooMany, Memory}
+use Rattle.bm_table.specs.declared.plan.PlanFault.TheVariants.{StampFell, BadBucket, SameServer}
+use Rattle.bm_table.specs.declared.plan.PlanFault.TheVariants.{TooMany, Memory}
 use Rattle.bm_table.specs.Planned.{Planned}
 use Rattle.bm_table.specs.Settings.{IsWithin, RiseFrom}
-use Rattle.bm_table.specs.Tables.{brings, moment_of, next_change, same_server, table}
+use Rattle.bm_table.specs.Tables.{brings, change_moment, next_change, same_server, table}
 
 -- the plan with one more change
 abbrev pub with_change : Planned → Change → Planned
@@ -27,7 +31,8 @@ owners_now plan = map (server_now plan) (range_with_len 0 plan.buckets)
 -- the moves' buckets rise, from low on, and are below the number of buckets
 abbrev pub MovesRise : ℕ → ℕ → List Move → Type 0
 MovesRise buckets low [] = Unit {0}
-MovesRise buckets low (m ∷ moves) = (low ≤ m.bucket) × (m.bucket < buckets) × MovesRise buckets (m.bucket + 1) moves
+MovesRise buckets low (m ∷ moves) =
+    (low ≤ m.bucket) × (m.bucket < buckets) × MovesRise buckets (m.bucket + 1) moves
 
 -- how many moves the changes have together
 abbrev pub total_moves : List Change → ℕ
@@ -38,7 +43,8 @@ pub record IsPlan (plan : Planned) : Type 0 where
   pub servers : 0 < length plan.servers
   pub rising : RiseFrom 0 plan.servers
   -- stamps don't fall
-  pub stamps : (v w : ℕ) → v ≤ w → w < length plan.changes → moment_of (next_change plan v) ≤ moment_of (next_change plan w)
+  pub stamps : (v w : ℕ) → v ≤ w → w < length plan.changes
+      → change_moment (next_change plan v) ≤ change_moment (next_change plan w)
   -- each move changes its bucket's server
   pub changes : (v b : ℕ) → IfSome (brings (next_change plan v) b) (λ to. to ≢ (table plan v b).cur)
   -- the buckets of a change rise
@@ -48,33 +54,49 @@ pub record IsPlan (plan : Planned) : Type 0 where
 
 -- the moment of the last change, or 0
 abbrev pub last_moment : Planned → ℕ
-last_moment plan = moment_of (next_change plan (length plan.changes - 1))
+last_moment plan = change_moment (next_change plan (length plan.changes - 1))
 
--- the first bucket that isn't below the number of buckets, or is below low or not above the one before it
+-- the first bucket that isn't below the number of buckets, or is below low or not above the one
+-- before it
 abbrev pub bad_bucket : ℕ → ℕ → List Move → Option ℕ
 bad_bucket buckets low [] = None
 bad_bucket buckets low (m ∷ moves) =
-    if nat_le low m.bucket && nat_lt m.bucket buckets then bad_bucket buckets (m.bucket + 1) moves else Some m.bucket
+    if nat_le low m.bucket && nat_lt m.bucket buckets then bad_bucket buckets (m.bucket + 1) moves
+    else Some m.bucket
 
 -- the first bucket that a move brings to the server where it is
 abbrev pub bucket_already_there : (ℕ → ServerId) → List Move → Option ℕ
 bucket_already_there server [] = None
-bucket_already_there server (m ∷ moves) = if same_server (server m.bucket) m.to then Some m.bucket else bucket_already_there server moves
+bucket_already_there server (m ∷ moves) =
+    if same_server (server m.bucket) m.to then Some m.bucket else bucket_already_there server moves
 
 abbrev pub first_fault : List (Option PlanFault) → Option PlanFault
 first_fault [] = None
 first_fault (None ∷ faults) = first_fault faults
 first_fault (Some fault ∷ faults) = Some fault
 
+-- a moment below that of the last change
+abbrev pub late_fault : Planned → Moment → Option PlanFault
+late_fault plan at = if nat_lt at.0 (last_moment plan) then Some StampFell else None
+
+-- the limits of a plan that gets one more change, with so many moves
+abbrev pub limit_faults : Planned → ℕ → List (Option PlanFault)
+limit_faults plan count =
+    (if nat_lt (length plan.changes) 4096 then None else Some (TooMany Changes))
+    ∷ (if nat_le (total_moves plan.changes + count) 1000000 then None else Some (TooMany Moves))
+    ∷ []
+
+-- why the plan refuses a change at this moment with so many moves, whatever the moves
+abbrev pub limit_refusal : Planned → Moment → ℕ → Option PlanFault
+limit_refusal plan at count = first_fault (late_fault plan at ∷ limit_faults plan count)
+
 -- why the plan refuses the change, want of memory aside
 abbrev pub refusal : Planned → Change → Option PlanFault
 refusal plan change = first_fault (
-    (if nat_lt change.moment.0 (last_moment plan) then Some StampFell else None)
+    late_fault plan change.moment
     ∷ option_map BadBucket (bad_bucket plan.buckets 0 change.moves)
     ∷ option_map SameServer (bucket_already_there (server_now plan) change.moves)
-    ∷ (if nat_lt (length plan.changes) 4096 then None else Some (TooMany Changes))
-    ∷ (if nat_le (total_moves plan.changes + length change.moves) 1000000 then None else Some (TooMany Moves))
-    ∷ [])
+    ∷ limit_faults plan (length change.moves))
 
 -- want of memory comes only where nothing else is refused
 abbrev pub IsRefusal : Planned → Change → PlanFault → Type 0

@@ -1,5 +1,7 @@
 -- The table of a version, by looking back through the plan's changes, and when a server may retire.
-use Rattle.std.specs.Prelude.{◌≡◌, ◌≢◌, ℕ, zero, suc, ◌+◌, ◌%◌, ◌<◌, ◌≤◌, Bool, true, false, ◌&&◌, ◌||◌, ◌==◌, nat_le, if◌then◌else◌, List, [], ◌∷◌, length, Option, Some, None, slice_get, slice_index_or, IfSome, is_some}
+use Rattle.std.specs.Prelude.{◌≡◌, ◌≢◌, ℕ, zero, suc, ◌+◌, ◌%◌, ◌<◌, ◌≤◌, Bool, true, false, ◌&&◌}
+use Rattle.std.specs.Prelude.{◌||◌, ◌==◌, nat_le, if◌then◌else◌, List, [], ◌∷◌, length, Option}
+use Rattle.std.specs.Prelude.{Some, None, slice_get, slice_index_or, IfSome, is_some}
 use Rattle.bm_base.specs.declared.ids.ServerId.{ServerId}
 use Rattle.bm_base.specs.declared.label.Entry.{Entry}
 use Rattle.bm_table.specs.declared.plan.Move.{Move}
@@ -31,9 +33,9 @@ abbrev pub moves_next : Planned → ℕ → ℕ → Bool
 moves_next plan v b = is_some (brings (next_change plan v) b)
 
 -- the moment of that change
-abbrev pub moment_of : Option Change → ℕ
-moment_of None = 0
-moment_of (Some c) = c.moment.0
+abbrev pub change_moment : Option Change → ℕ
+change_moment None = 0
+change_moment (Some c) = c.moment.0
 
 -- an entry after its bucket was brought to a server, or not
 abbrev pub moved : Entry → ℕ → Option ServerId → Entry
@@ -51,12 +53,14 @@ opening plan b = record {
 -- the entry of a bucket after the first v changes
 abbrev pub table : Planned → ℕ → ℕ → Entry
 table plan zero b = opening plan b
-table plan (suc v) b = moved (table plan v b) (moment_of (next_change plan v)) (brings (next_change plan v) b)
+table plan (suc v) b =
+    moved (table plan v b) (change_moment (next_change plan v)) (brings (next_change plan v) b)
 
 -- how many of the changes w + 1 to v move the bucket
 abbrev pub moves : Planned → ℕ → ℕ → ℕ → ℕ
 moves plan b w zero = 0
-moves plan b w (suc v) = if nat_le w v && moves_next plan v b then suc (moves plan b w v) else moves plan b w v
+moves plan b w (suc v) =
+    if nat_le w v && moves_next plan v b then suc (moves plan b w v) else moves plan b w v
 
 abbrev pub is_drain : Kind → ServerId → Bool
 is_drain (Drain t) s = same_server t s
@@ -72,11 +76,13 @@ abbrev pub is_drained : Planned → ℕ → ServerId → Bool
 is_drained plan zero s = false
 is_drained plan (suc n) s = drains (next_change plan n) s || is_drained plan n s
 
--- by one of the first n changes the bucket left the server, and so late that it may not retire at this moment
+-- by one of the first n changes the bucket left the server, and so late that it may not retire at
+-- this moment
 abbrev pub leaves_late : Planned → ℕ → ℕ → ServerId → ℕ → ℕ → Bool
 leaves_late plan timeout zero s at b = false
 leaves_late plan timeout (suc n) s at b =
-    (moves_next plan n b && same_server (table plan n b).cur s && nat_le at (moment_of (next_change plan n) + timeout))
+    (moves_next plan n b && same_server (table plan n b).cur s
+    && nat_le at (change_moment (next_change plan n) + timeout))
     || leaves_late plan timeout n s at b
 
 -- the answer to the wish to retire the server at this moment, when n changes are published
@@ -110,10 +116,13 @@ is_known plan (suc n) s = adds (next_change plan n) s || is_known plan n s
 -- what holds of a plan that was made change by change
 pub record IsOrderly (plan : Planned) : Type 0 where
   -- each move's target is known
-  pub known : (v b : ℕ) → IfSome (brings (next_change plan v) b) (λ to. is_known plan (suc v) to ≡ true)
+  pub known : (v b : ℕ)
+      → IfSome (brings (next_change plan v) b) (λ to. is_known plan (suc v) to ≡ true)
   -- stamps don't fall
-  pub stamps : (v w : ℕ) → v ≤ w → w < length plan.changes → moment_of (next_change plan v) ≤ moment_of (next_change plan w)
+  pub stamps : (v w : ℕ) → v ≤ w → w < length plan.changes
+      → change_moment (next_change plan v) ≤ change_moment (next_change plan w)
   -- each move changes its bucket's server
   pub changes : (v b : ℕ) → IfSome (brings (next_change plan v) b) (λ to. to ≢ (table plan v b).cur)
   -- after the change that drains a server no bucket is at it
-  pub drained : (n v b : ℕ) (s : ServerId) → is_drained plan n s ≡ true → n ≤ v → v ≤ length plan.changes → b < plan.buckets → (table plan v b).cur ≢ s
+  pub drained : (n v b : ℕ) (s : ServerId) → is_drained plan n s ≡ true → n ≤ v
+      → v ≤ length plan.changes → b < plan.buckets → (table plan v b).cur ≢ s

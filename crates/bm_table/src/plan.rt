@@ -1,6 +1,7 @@
 //! The plan: where the buckets open, and the changes in their order.
-ghost use Rattle.std.specs.Prelude.{◌≡◌, ◌≤◌, ◌<◌, ◌+◌, ◌-◌, ℕ, [], ◌∷◌, length, map, All, IfOk, IfErr, OnOk, OnErr, MatchResult, Some, None};
-ghost use Rattle.bm_table.specs.Leaves.{IsLeast, LeavesRise, has_drain, has_left, left_since, lesser_of};
+ghost use Rattle.std.specs.Prelude.{◌≡◌, ◌≤◌, ◌<◌, ◌+◌, ◌-◌, ℕ, [], ◌∷◌, length, map, All, IfOk};
+ghost use Rattle.std.specs.Prelude.{IfErr, OnOk, OnErr, MatchResult, Some, None};
+ghost use Rattle.bm_table.specs.Leaves.{has_drain, least_since, lesser_of, step_left};
 ghost use Rattle.bm_table.specs.Limits.{limit_word};
 ghost use Rattle.bm_table.specs.Plans.{MovesRise, bad_bucket, bucket_already_there};
 ghost use Rattle.bm_table.specs.Settings.{IsWithin, RiseFrom};
@@ -9,6 +10,7 @@ ghost use Rattle.bm_table.specs.declared.plan.PlanFault.TheVariants.{Memory as m
 use crate::Table;
 use bm_base::{List, Memory, Moment, ServerId, Version};
 use std::alloc::{AllocError, Global};
+use std::collections::BTreeMap;
 use std::fmt;
 use std::marker::Model;
 use thiserror::Error;
@@ -96,18 +98,19 @@ impl From<AllocError> for PlanFault {
     }
 }
 
-/// A bucket leaves a server.
-#[derive(Clone, Copy, Debug, PartialEq, Eq)]
-pub(crate) struct Leave {
-    pub(crate) bucket: u32,
-    pub(crate) from: ServerId,
+impl From<Memory> for PlanFault {
+    ghost from_gives = { λ _ fault. fault ≡ memory };
+
+    fn from(_e: Memory) -> PlanFault {
+        PlanFault::Memory
+    }
 }
 
-/// A change, and what its moves leave.
+/// A change, and the least bucket that leaves each server by it, by the server's number.
 #[derive(Debug, Drop)]
 struct Step {
     change: Change,
-    leaves: Vec<Leave>,
+    left: BTreeMap<u16, u32>,
 }
 
 /// The number of buckets, the servers that they open on, and the changes in their order.
@@ -135,12 +138,14 @@ impl Model for Plan {
 }
 
 impl Plan {
-    ghost use Rattle.bm_table.specs.Plans.{IsPlan, IsRefusal, refusal, with_change, last_moment, owners_now, server_now};
+    ghost use Rattle.bm_table.specs.Plans.{IsPlan, IsRefusal, first_fault, late_fault};
+    ghost use Rattle.bm_table.specs.Plans.{limit_faults, limit_refusal, refusal, with_change};
+    ghost use Rattle.bm_table.specs.Plans.{last_moment, owners_now, server_now};
     ghost use Rattle.bm_table.specs.Tables.{IsRetirement, next_change, opening};
     ghost use Rattle.std.specs.Option.{option_copied};
 
-    /// A plan without changes. Bucket b opens on server number `b mod n` of the list, from 0. `Memory`
-    /// where memory was refused.
+    /// A plan without changes. Bucket b opens on server number `b mod n` of the list, from 0.
+    /// `Memory` where memory was refused.
     pub fn new(alloc: Global, buckets: u32, servers: &[ServerId]) -> Result<Plan, Memory>
         requires buckets { IsWithin 1 65536 buckets }
         requires servers { 0 < length servers.now }
@@ -196,7 +201,8 @@ impl Plan {
         self.latest.server(bucket)
     }
 
-    /// The server of each bucket after all changes, by the bucket. `Memory` where memory was refused.
+    /// The server of each bucket after all changes, by the bucket. `Memory` where memory was
+    /// refused.
     pub fn owners(&self) -> Result<Vec<ServerId>, Memory>
         ensures { IfOk result (λ owners. owners.items ≡ owners_now self.now) }
     {
@@ -237,11 +243,44 @@ impl Plan {
     {
         self.admit(&change)?;
         let alloc = *self.steps.allocator();
-        let leaves = self.latest.leaves(alloc, change.moves.items())?;
+        let left = self.latest.left(alloc, change.moves.items())?;
         self.steps.reserve(1)?;
         self.latest.apply(&change);
         self.moves += change.moves.items().len();
-        self.steps.push_reserved(Step { change, leaves });
+        self.steps.push_reserved(Step { change, left });
+        Ok(())
+    }
+
+    /// Whether a change at this moment with so many moves may come next, whatever the moves. The
+    /// fault is StampFell or TooMany. Takes no memory.
+    pub fn check_limits(&self, at: Moment, moves: usize) -> Result<(), PlanFault>
+        ensures { MatchResult result (λ _. limit_refusal self.now at moves ≡ None)
+            (λ fault. limit_refusal self.now at moves ≡ Some fault) }
+    {
+        self.check_moment(at)?;
+        self.check_counts(moves)
+    }
+
+    fn check_moment(&self, at: Moment) -> Result<(), PlanFault>
+        ensures { MatchResult result (λ _. late_fault self.now at ≡ None)
+            (λ fault. late_fault self.now at ≡ Some fault) }
+    {
+        if at.0 < self.last_moment().0 {
+            return Err(PlanFault::StampFell);
+        }
+        Ok(())
+    }
+
+    fn check_counts(&self, moves: usize) -> Result<(), PlanFault>
+        ensures { MatchResult result (λ _. first_fault (limit_faults self.now moves) ≡ None)
+            (λ fault. first_fault (limit_faults self.now moves) ≡ Some fault) }
+    {
+        if self.steps.len() >= MAX_CHANGES {
+            return Err(PlanFault::TooMany(Limit::Changes));
+        }
+        if moves > MAX_MOVES - self.moves {
+            return Err(PlanFault::TooMany(Limit::Moves));
+        }
         Ok(())
     }
 
@@ -251,22 +290,14 @@ impl Plan {
             (λ fault. refusal self.now change.now ≡ Some fault) }
     {
         let moves = change.moves.items();
-        if change.moment.0 < self.last_moment().0 {
-            return Err(PlanFault::StampFell);
-        }
+        self.check_moment(change.moment)?;
         if let Some(bucket) = first_bad_bucket(self.buckets, moves) {
             return Err(PlanFault::BadBucket(bucket));
         }
         if let Some(bucket) = self.latest.first_already_there(moves) {
             return Err(PlanFault::SameServer(bucket));
         }
-        if self.steps.len() >= MAX_CHANGES {
-            return Err(PlanFault::TooMany(Limit::Changes));
-        }
-        if moves.len() > MAX_MOVES - self.moves {
-            return Err(PlanFault::TooMany(Limit::Moves));
-        }
-        Ok(())
+        self.check_counts(moves.len())
     }
 
     /// The moment of the last change, or 0.
@@ -280,7 +311,8 @@ impl Plan {
     }
 
     /// Whether the server may retire at the moment `at`, when `published` changes are published
-    /// and a chain ends `timeout` nanoseconds after a move. Takes no memory.
+    /// and a chain ends `timeout` nanoseconds after a move. Takes no memory, and time in proportion
+    /// to the changes, however many moves they have.
     pub fn retirement(
         &self,
         published: Version,
@@ -303,17 +335,15 @@ impl Plan {
 }
 
 impl Step {
-    /// The least bucket that leaves the server.
-    fn least_left(&self, s: ServerId) -> Option<u32>
-        requires { LeavesRise 0 self.now.leaves.items }
-        ensures { IsLeast (has_left self.now.leaves.items s) result }
+    /// The least bucket that leaves the server by this step; none where the step is before the
+    /// moment.
+    fn left_since(&self, s: ServerId, since: Moment) -> Option<u32>
+        ensures { result ≡ step_left self.now s since.0 }
     {
-        for leave in &self.leaves {
-            if leave.from == s {
-                return Some(leave.bucket);
-            }
+        if self.change.moment < since {
+            return None;
         }
-        None
+        self.left.get(&s.0).copied()
     }
 }
 
@@ -340,14 +370,11 @@ fn any_drains(steps: &[Step], s: ServerId) -> bool
 
 /// The least bucket that left the server by a step that isn't before the moment `since`.
 fn least_left(steps: &[Step], s: ServerId, since: Moment) -> Option<u32>
-    requires { All (λ step. LeavesRise 0 step.leaves.items) steps.now }
-    ensures { IsLeast (left_since steps.now s since.0) result }
+    ensures { result ≡ least_since steps.now s since.0 }
 {
     let mut least = None;
     for step in steps {
-        if step.change.moment >= since {
-            least = lesser(least, step.least_left(s));
-        }
+        least = lesser(least, step.left_since(s, since));
     }
     least
 }

@@ -19,7 +19,8 @@ pub struct FaultRow {
     pub fate: Fate,
 }
 
-/// The numbers of a setting: of buckets, servers, muxes and shards. `timeout` and `lags` are nanoseconds, `capacity` is that of a shard.
+/// The numbers of a setting: of buckets, servers, muxes and shards. `timeout` and `lags` are
+/// nanoseconds, `capacity` is that of a shard.
 #[derive(Debug, Drop)]
 pub struct Setting {
     pub buckets: u32,

@@ -1,16 +1,20 @@
 //! The table of one version: an array of entries that each change alters in place.
-ghost use Rattle.std.specs.Prelude.{◌≡◌, ◌≤◌, ◌<◌, ◌+◌, ◌%◌, ℕ, [], ◌∷◌, length, map, All, IfOk, Some, None, slice_get, slice_set, slice_index_or};
-ghost use Rattle.std.specs.Option.{option_map};
+ghost use Rattle.std.specs.Prelude.{◌≡◌, ◌≤◌, ◌<◌, ◌+◌, ◌%◌, ℕ, [], ◌∷◌, length, map, All, IfOk};
+ghost use Rattle.std.specs.Prelude.{if◌then◌else◌, ◌==◌, Some, None, slice_get, slice_set};
+ghost use Rattle.std.specs.Prelude.{slice_index_or};
+ghost use Rattle.std.specs.Option.{option_map, option_or};
 ghost use Rattle.bm_table.specs.Entries.{IsTable, after_moves, server_in};
 ghost use Rattle.bm_table.specs.Planned.{Planned};
-ghost use Rattle.bm_table.specs.Leaves.{leaves_by};
+ghost use Rattle.std.specs.BTreeMap.{get};
+ghost use Rattle.std.specs.Ordering.{nat_cmp};
+ghost use Rattle.bm_table.specs.Leaves.{first_left};
 ghost use Rattle.bm_table.specs.Plans.{IsPlan, bucket_already_there};
 ghost use Rattle.bm_table.specs.Tables.{moved, next_change, opening};
 
-use crate::plan::Leave;
 use crate::{Change, Move, Plan};
 use bm_base::{Entry, Memory, Moment, ServerId};
-use std::alloc::{AllocError, Global};
+use std::alloc::Global;
+use std::collections::BTreeMap;
 use std::marker::Model;
 
 /// What each bucket's server is, which was the one before, and since when.
@@ -61,7 +65,8 @@ impl Table {
 
         // What becomes of each entry, whatever the change.
         ensures entries { (b : ℕ) → slice_get self.new b
-            ≡ option_map (after_moves change.now.moment.0 change.now.moves b) (slice_get self.old b) }
+            ≡ option_map (after_moves change.now.moment.0 change.now.moves b)
+            (slice_get self.old b) }
 
         // From the table of a version a plan's next change makes the table of the next version.
         ensures next { (plan : Planned) (v : ℕ) → IsPlan plan
@@ -104,19 +109,29 @@ impl Table {
         None
     }
 
-    /// What the moves leave.
-    pub(crate) fn leaves(&self, alloc: Global, moves: &[Move]) -> Result<Vec<Leave>, AllocError>
+    /// The first bucket that leaves each server by these moves, by the server's number.
+    pub(crate) fn left(&self, alloc: Global, moves: &[Move]) -> Result<BTreeMap<u16, u32>, Memory>
         requires { All (λ m. m.bucket < length self.now) moves.now }
-        ensures { IfOk result (λ leaves. leaves.items ≡ leaves_by (server_in self.now) moves.now) }
+        ensures { IfOk result
+            (λ left. (s : ℕ) → get nat_cmp left s ≡ first_left (server_in self.now) moves.now s) }
     {
-        moves
-            .iter()
-            .map(|m| Leave {
-                bucket: m.bucket,
-                from: self.server(m.bucket),
-            })
-            .collect(alloc)
+        let mut left = BTreeMap::new(alloc);
+        for m in moves {
+            note_left(&mut left, self.server(m.bucket), m.bucket)?;
+        }
+        Ok(left)
     }
+}
+
+/// Notes that a bucket leaves the server, unless another is noted.
+fn note_left(left: &mut BTreeMap<u16, u32>, from: ServerId, bucket: u32) -> Result<(), Memory>
+    ensures { IfOk result (λ _. (s : ℕ) → get nat_cmp left.new s
+        ≡ option_or (get nat_cmp left.old s) (if from.0 == s then Some bucket else None)) }
+{
+    if !left.contains_key(&from.0) {
+        left.insert(from.0, bucket)?;
+    }
+    Ok(())
 }
 
 /// Carries out the moves of one moment in their order.

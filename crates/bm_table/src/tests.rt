@@ -117,6 +117,11 @@ fn faults_print_their_bucket_or_limit(rt: HostRuntime) -> Result<(), Fail> {
     let alloc = rt.alloc();
     let rows = [
         (
+            PlanFault::StampFell,
+            "the moment is below that of the last change",
+        ),
+        (PlanFault::SameServer(4), "bucket 4 is at that server"),
+        (
             PlanFault::BadBucket(8),
             "bucket 8 is out of range or out of order",
         ),

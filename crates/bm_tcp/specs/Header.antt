@@ -1,5 +1,6 @@
 -- The header of a TCP segment (RFC 9293, section 3.1), as a function of the packet that carries it.
-use Rattle.std.specs.Prelude.{ℕ, ◌+◌, ◌-◌, ◌*◌, ◌/◌, List, length, ◌||◌, nat_lt, bit_and, if◌then◌else◌, Result, Ok, Err}
+use Rattle.std.specs.Prelude.{ℕ, ◌+◌, ◌-◌, ◌*◌, ◌/◌, List, length, ◌||◌, nat_lt, bit_and}
+use Rattle.std.specs.Prelude.{if◌then◌else◌, Result, Ok, Err}
 use Rattle.bm_base.specs.declared.flow.Flow.{Flow}
 use Rattle.bm_base.specs.declared.flow.Segment.{Segment}
 use Rattle.bm_base.specs.Segments.{FIN, SYN}
@@ -22,10 +23,12 @@ count_of flag flags = if nat_lt 0 (bit_and flags flag) then 1 else 0
 -- SEG.LEN: the data octets that the packet states, one for SYN and one for FIN
 abbrev pub segment_length : Packet → ℕ
 segment_length p =
-    p.stated_payload - data_offset p.payload + count_of SYN (flags_of p.payload) + count_of FIN (flags_of p.payload)
+    p.stated_payload - data_offset p.payload + count_of SYN (flags_of p.payload) + count_of FIN
+    (flags_of p.payload)
 
 abbrev pub flow_of : Packet → Flow
-flow_of p = record { src = p.src; dst = p.dst; sport = u16_at p.payload 0; dport = u16_at p.payload 2 }
+flow_of p =
+    record { src = p.src; dst = p.dst; sport = u16_at p.payload 0; dport = u16_at p.payload 2 }
 
 abbrev pub segment_of : Packet → Segment
 segment_of p = record {
@@ -40,5 +43,6 @@ segment_of p = record {
 unfoldable pub tcp_of : Packet → Result Segment TcpFault
 tcp_of p =
     if nat_lt (length p.payload) 20 then Err Short
-    else if nat_lt (data_offset p.payload) 20 || nat_lt p.stated_payload (data_offset p.payload) then Err BadOffset
+    else if nat_lt (data_offset p.payload) 20
+    || nat_lt p.stated_payload (data_offset p.payload) then Err BadOffset
     else Ok (segment_of p)

@@ -1,5 +1,6 @@
 -- The reset that answers a segment (RFC 9293, section 3.5.2), and its octets.
-use Rattle.std.specs.Prelude.{ℕ, ◌+◌, ◌%◌, ◌^◌, bit_or, List, [], ◌∷◌, ◌++◌, Option, Some, None, if◌then◌else◌}
+use Rattle.std.specs.Prelude.{ℕ, ◌+◌, ◌%◌, ◌^◌, bit_or, List, [], ◌∷◌, ◌++◌, Option, Some, None}
+use Rattle.std.specs.Prelude.{if◌then◌else◌}
 use Rattle.std.specs.Int.{to_be_bytes, w16, w32}
 use Rattle.bm_base.specs.declared.flow.Flow.{Flow}
 use Rattle.bm_base.specs.declared.flow.Segment.{Segment}
@@ -15,21 +16,32 @@ unfoldable pub reset_of : Segment → Segment
 reset_of s =
     if has_flag ACK s
     then record { flow = reversed s.flow; seq = s.ack; ack = 0; len = 0; flags = RST }
-    else record { flow = reversed s.flow; seq = 0; ack = (s.seq + s.len) % 2 ^ 32; len = 0; flags = bit_or RST ACK }
+    else record {
+      flow =
+          reversed s.flow;
+      seq = 0;
+      ack = (s.seq + s.len) % 2 ^ 32;
+      len = 0;
+      flags = bit_or RST ACK;
+    }
 
 -- The header of IPv4 with this checksum (RFC 791, section 3.1): version 4, five words, type of
 -- service 0, 40 octets, identification 0, not to be fragmented, time to live 64, protocol 6.
 unfoldable pub ip_header : ℕ → Flow → List ℕ
 ip_header sum f =
-    0x45 ∷ 0 ∷ 0 ∷ 40 ∷ 0 ∷ 0 ∷ 0x40 ∷ 0 ∷ 64 ∷ 6 ∷ [] ++ to_be_bytes w16 sum ++ to_be_bytes w32 f.src ++ to_be_bytes w32 f.dst
+    0x45 ∷ 0 ∷ 0 ∷ 40 ∷ 0 ∷ 0 ∷ 0x40 ∷ 0 ∷ 64 ∷ 6 ∷ [] ++ to_be_bytes w16 sum
+    ++ to_be_bytes w32 f.src ++ to_be_bytes w32 f.dst
 
--- The header of TCP with this checksum (RFC 9293, section 3.1): five words, window 0, urgent pointer 0.
+-- The header of TCP with this checksum (RFC 9293, section 3.1): five words, window 0, urgent
+-- pointer 0.
 unfoldable pub tcp_header : ℕ → Segment → List ℕ
 tcp_header sum s =
-    to_be_bytes w16 s.flow.sport ++ to_be_bytes w16 s.flow.dport ++ to_be_bytes w32 s.seq ++ to_be_bytes w32 s.ack
+    to_be_bytes w16 s.flow.sport ++ to_be_bytes w16 s.flow.dport ++ to_be_bytes w32 s.seq
+    ++ to_be_bytes w32 s.ack
     ++ 0x50 ∷ s.flags ∷ 0 ∷ 0 ∷ [] ++ to_be_bytes w16 sum ++ 0 ∷ 0 ∷ []
 
--- what stands before the TCP octets in their checksum: the addresses, a zero, the protocol, the length
+-- what stands before the TCP octets in their checksum: the addresses, a zero, the protocol, the
+-- length
 unfoldable pub pseudo_header : Flow → List ℕ
 pseudo_header f = to_be_bytes w32 f.src ++ to_be_bytes w32 f.dst ++ 0 ∷ 6 ∷ 0 ∷ 20 ∷ []
 

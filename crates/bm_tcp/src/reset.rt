@@ -4,10 +4,11 @@ ghost use Rattle.bm_tcp.specs.Resets as resets;
 
 use bm_base::flags::{ACK, RST};
 use bm_base::{Flow, Segment};
+use bm_ipv4::fields::{write_u16, write_u32};
 use bm_ipv4::header_sum;
 
-/// The packet that answers a segment with a reset (RFC 9293, section 3.5.2): a header of IPv4 and one
-/// of TCP, both with their checksums. A reset isn't answered.
+/// The packet that answers a segment with a reset (RFC 9293, section 3.5.2): a header of IPv4 and
+/// one of TCP, both with their checksums. A reset isn't answered.
 #[tactic(auto, unfolding(crate::specs::Resets::reset_packet))]
 pub fn reset_for(s: &Segment) -> Option<[u8; 40]>
     ensures { result ≡ resets.reset_packet s.now }
@@ -64,36 +65,46 @@ fn packet_of(s: &Segment) -> [u8; 40]
     joined(&ip, &tcp_header(header_sum(&summed), s))
 }
 
+/// The header of IPv4, with zero for the checksum and the addresses.
+const IP: [u8; 20] = [
+    0x45, 0, 0, 40, 0, 0, 0x40, 0, 64, 6, 0, 0, 0, 0, 0, 0, 0, 0, 0, 0,
+];
+
+#[tactic(auto, unfolding(crate::specs::Resets::ip_header))]
 fn ip_header(sum: u16, f: &Flow) -> [u8; 20]
     ensures { result ≡ resets.ip_header sum f.now }
 {
-    let [c0, c1] = sum.to_be_bytes();
-    let [s0, s1, s2, s3] = f.src.to_be_bytes();
-    let [d0, d1, d2, d3] = f.dst.to_be_bytes();
-    [
-        0x45, 0, 0, 40, 0, 0, 0x40, 0, 64, 6, c0, c1, s0, s1, s2, s3, d0, d1, d2, d3,
-    ]
+    let mut octets = IP;
+    write_u16(&mut octets, 10, sum);
+    write_u32(&mut octets, 12, f.src);
+    write_u32(&mut octets, 16, f.dst);
+    octets
 }
 
+#[tactic(auto, unfolding(crate::specs::Resets::tcp_header))]
 fn tcp_header(sum: u16, s: &Segment) -> [u8; 20]
     ensures { result ≡ resets.tcp_header sum s.now }
 {
-    let [p0, p1] = s.flow.sport.to_be_bytes();
-    let [q0, q1] = s.flow.dport.to_be_bytes();
-    let [s0, s1, s2, s3] = s.seq.to_be_bytes();
-    let [a0, a1, a2, a3] = s.ack.to_be_bytes();
-    let [c0, c1] = sum.to_be_bytes();
-    [
-        p0, p1, q0, q1, s0, s1, s2, s3, a0, a1, a2, a3, 0x50, s.flags, 0, 0, c0, c1, 0, 0,
-    ]
+    let mut octets = [0; 20];
+    write_u16(&mut octets, 0, s.flow.sport);
+    write_u16(&mut octets, 2, s.flow.dport);
+    write_u32(&mut octets, 4, s.seq);
+    write_u32(&mut octets, 8, s.ack);
+    octets[12] = 0x50;
+    octets[13] = s.flags;
+    write_u16(&mut octets, 16, sum);
+    octets
 }
 
+/// The addresses, a zero, the protocol, and how many octets follow.
+#[tactic(auto, unfolding(crate::specs::Resets::pseudo_header))]
 fn pseudo_header(f: &Flow) -> [u8; 12]
     ensures { result ≡ resets.pseudo_header f.now }
 {
-    let [s0, s1, s2, s3] = f.src.to_be_bytes();
-    let [d0, d1, d2, d3] = f.dst.to_be_bytes();
-    [s0, s1, s2, s3, d0, d1, d2, d3, 0, 6, 0, 20]
+    let mut octets = [0, 0, 0, 0, 0, 0, 0, 0, 0, 6, 0, 20];
+    write_u32(&mut octets, 0, f.src);
+    write_u32(&mut octets, 4, f.dst);
+    octets
 }
 
 /// The octets of both parts, one after the other.

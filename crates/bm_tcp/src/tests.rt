@@ -87,3 +87,17 @@ fn a_segment_is_answered_by_a_reset(rt: HostRuntime) -> Result<(), Fail> {
     }
     Ok(())
 }
+
+#[test]
+fn faults_print_what_is_wrong(rt: HostRuntime) -> Result<(), Fail> {
+    for (fault, want) in [
+        (InnerFault::Fragment, "the packet is a fragment"),
+        (
+            InnerFault::Tcp(TcpFault::Short),
+            "the TCP header is cut short",
+        ),
+    ] {
+        assert_eq!(rt; fault.to_string(rt.alloc())?.as_str(), want);
+    }
+    Ok(())
+}

@@ -1,242 +1,14 @@
-//! Captures and words that the program is given.
-use bm_base::{List, Text};
-use bm_cli::beamer;
-use bm_io::{MemFile, MemFiles, MemSink, SureFile, SureFiles, SureSink};
-use std::alloc::{AllocError, Global};
+//! Captures of other links, and captures that are refused.
+use crate::capture::{Form, OPENED, ethernet, raw};
+use crate::program::check;
+use std::alloc::Global;
 use std::process::Abort;
 use std::test::Fail;
 
-/// A capture, and what the program ends with and writes.
-struct Row {
-    name: &'static str,
-    capture: &'static [u8],
-    status: u8,
-    text: &'static str,
-}
-
-pub(crate) fn words(alloc: Global, words: &[&str]) -> Result<Vec<String>, AllocError> {
-    let mut all = Vec::new(alloc);
-    for word in words {
-        all.push(String::from_str(alloc, word)?)?;
-    }
-    Ok(all)
-}
-
-pub(crate) fn file(alloc: Global, name: &str, octets: &[u8]) -> Result<SureFile, AllocError> {
-    Ok(SureFile {
-        name: Text::of(String::from_str(alloc, name)?),
-        octets: List::of(Vec::from_slice(alloc, octets)?),
-        step: 100,
-    })
-}
-
-/// Tests what the program ends with and writes for these words and files.
-pub(crate) fn check(
-    rt: &impl Abort,
-    alloc: Global,
-    words: &[String],
-    files: Vec<SureFile>,
-    name: &str,
-    status: u8,
-    text: &str,
-) {
-    let mut files = SureFiles::new(alloc, files);
-    let mut out = SureSink::new(alloc);
-    let ended = beamer(alloc, words, &mut files, &mut out);
-    assert_eq!(rt; out.written(), text.as_bytes(), "{}", name);
-    assert_eq!(rt; ended, status, "{}", name);
-}
-
-fn check_each(rt: &impl Abort, alloc: Global, rows: &[Row]) -> Result<(), Fail> {
-    let words = words(alloc, &["replay", "c"])?;
-    for row in rows {
-        let files = vec![in alloc; file(alloc, "c", row.capture)?]?;
-        check(rt, alloc, &words, files, row.name, row.status, row.text);
-    }
-    Ok(())
-}
-
 #[test]
-fn captures_are_replayed(rt: HostRuntime) -> Result<(), Fail> {
-    check_each(&rt, rt.alloc(), &REPLAYED)
-}
-
-#[test]
-fn captures_are_refused(rt: HostRuntime) -> Result<(), Fail> {
-    check_each(&rt, rt.alloc(), &REFUSED)
-}
-
-#[test]
-fn words_of_no_form_get_the_usage_line(rt: HostRuntime) -> Result<(), Fail> {
+fn ethernet_frames_are_read_or_not_steered(rt: HostRuntime) -> Result<(), Fail> {
     let alloc = rt.alloc();
-    let rows: [&[&str]; 8] = [
-        &[],
-        &["replay"],
-        &["replay", "-c"],
-        &["replay", ""],
-        &["load", "0"],
-        &["load", "007"],
-        &["run", "c", "s"],
-        &["replay", "c", "s", "t"],
-    ];
-    for row in rows {
-        let mut files = MemFiles::new(alloc, Vec::new(alloc));
-        let mut out = MemSink::new(alloc, Vec::new(alloc));
-        let status = beamer(alloc, &words(alloc, row)?, &mut files, &mut out);
-        assert_eq!(rt; status, 1);
-        assert_eq!(rt;
-            out.written(),
-            b"usage: beamer replay CAPTURE [SCRIPT] | run CAPTURE SCRIPT | load N\n".as_slice()
-        );
-    }
-    Ok(())
-}
-
-#[test]
-fn a_source_or_a_sink_that_fails_is_told_apart(rt: HostRuntime) -> Result<(), Fail> {
-    let alloc = rt.alloc();
-    let words = words(alloc, &["replay", "c"])?;
-    // the source fails at its second call; there is no such file; the sink fails
-    let rows: [(&str, &[u32], &[u32], u8, &str); 3] = [
-        ("c", &[2], &[], 2, "beamer: read fault\n"),
-        ("d", &[], &[], 2, "beamer: read fault\n"),
-        ("c", &[], &[1], 5, ""),
-    ];
-    for (name, reads, writes, status, text) in rows {
-        let file = MemFile {
-            name: Text::of(String::from_str(alloc, name)?),
-            octets: List::of(Vec::from_slice(alloc, REPLAYED[0].capture)?),
-            step: 24,
-            fails: List::of(Vec::from_slice(alloc, reads)?),
-        };
-        let mut files = MemFiles::new(alloc, vec![in alloc; file]?);
-        let mut out = MemSink::new(alloc, Vec::from_slice(alloc, writes)?);
-        assert_eq!(rt; beamer(alloc, &words, &mut files, &mut out), status);
-        assert_eq!(rt; out.written(), text.as_bytes());
-    }
-    Ok(())
-}
-
-static REPLAYED: [Row; 9] = [
-    Row {
-        name: "a SYN and a data packet",
-        capture: b"\xd4\xc3\xb2\xa1\x02\x00\x04\x00\x00\x00\x00\x00\x00\x00\x00\x00\xff\xff\x00\x00e\x00\x00\x00\x00\x00\x00\x00\x00\x00\x00\x00(\x00\x00\x00(\x00\x00\x00E\x00\x00(\x00\x00@\x00@\x06\x00\x00\n\x00\x00\x01\xc0\x00\x02\x01\x03\xe8\x00P\x00\x00\x00d\x00\x00\x00\x00P\x02\xff\xff\x00\x00\x00\x00\x00\x00\x00\x00\x01\x00\x00\x002\x00\x00\x002\x00\x00\x00E\x00\x002\x00\x00@\x00@\x06\x00\x00\n\x00\x00\x01\xc0\x00\x02\x01\x03\xe8\x00P\x00\x00\x00e\x00\x00\x01\xf5P\x18\xff\xff\x00\x00\x00\x00abcdefghij",
-        status: 0,
-        text: "1 steer 1 0 0 4\n\
-             2 arrive 1 direct 1 accept\n\
-             1001 steer 2 0 0 4\n\
-             1002 arrive 2 direct 1 process advance\n\
-             packet 1 accepted 1\n\
-             packet 2 processed 1\n\
-             total packets 2 steered 2 unsteered 0 accepted 1 processed 1 forwarded 0 reset 0 dropped 0 lost 0 stray 0\n",
-    },
-    Row {
-        name: "a capture without records",
-        capture: b"\xd4\xc3\xb2\xa1\x02\x00\x04\x00\x00\x00\x00\x00\x00\x00\x00\x00\xff\xff\x00\x00e\x00\x00\x00",
-        status: 0,
-        text: "total packets 0 steered 0 unsteered 0 accepted 0 processed 0 forwarded 0 reset 0 dropped 0 lost 0 stray 0\n",
-    },
-    Row {
-        name: "eight flows open in eight buckets",
-        capture: b"\xd4\xc3\xb2\xa1\x02\x00\x04\x00\x00\x00\x00\x00\x00\x00\x00\x00\xff\xff\x00\x00e\x00\x00\x00\x00\x00\x00\x00\x00\x00\x00\x00(\x00\x00\x00(\x00\x00\x00E\x00\x00(\x00\x00@\x00@\x06\x00\x00\n\x00\x00\x01\xc0\x00\x02\x01\x03\xe8\x00P\x00\x00\x00d\x00\x00\x00\x00P\x02\xff\xff\x00\x00\x00\x00\x00\x00\x00\x00\x01\x00\x00\x00(\x00\x00\x00(\x00\x00\x00E\x00\x00(\x00\x00@\x00@\x06\x00\x00\n\x00\x00\x01\xc0\x00\x02\x01\x03\xe9\x00P\x00\x00\x00d\x00\x00\x00\x00P\x02\xff\xff\x00\x00\x00\x00\x00\x00\x00\x00\x02\x00\x00\x00(\x00\x00\x00(\x00\x00\x00E\x00\x00(\x00\x00@\x00@\x06\x00\x00\n\x00\x00\x01\xc0\x00\x02\x01\x03\xea\x00P\x00\x00\x00d\x00\x00\x00\x00P\x02\xff\xff\x00\x00\x00\x00\x00\x00\x00\x00\x03\x00\x00\x00(\x00\x00\x00(\x00\x00\x00E\x00\x00(\x00\x00@\x00@\x06\x00\x00\n\x00\x00\x01\xc0\x00\x02\x01\x03\xeb\x00P\x00\x00\x00d\x00\x00\x00\x00P\x02\xff\xff\x00\x00\x00\x00\x00\x00\x00\x00\x04\x00\x00\x00(\x00\x00\x00(\x00\x00\x00E\x00\x00(\x00\x00@\x00@\x06\x00\x00\n\x00\x00\x01\xc0\x00\x02\x01\x03\xec\x00P\x00\x00\x00d\x00\x00\x00\x00P\x02\xff\xff\x00\x00\x00\x00\x00\x00\x00\x00\x05\x00\x00\x00(\x00\x00\x00(\x00\x00\x00E\x00\x00(\x00\x00@\x00@\x06\x00\x00\n\x00\x00\x01\xc0\x00\x02\x01\x03\xed\x00P\x00\x00\x00d\x00\x00\x00\x00P\x02\xff\xff\x00\x00\x00\x00\x00\x00\x00\x00\x06\x00\x00\x00(\x00\x00\x00(\x00\x00\x00E\x00\x00(\x00\x00@\x00@\x06\x00\x00\n\x00\x00\x01\xc0\x00\x02\x01\x03\xee\x00P\x00\x00\x00d\x00\x00\x00\x00P\x02\xff\xff\x00\x00\x00\x00\x00\x00\x00\x00\x07\x00\x00\x00(\x00\x00\x00(\x00\x00\x00E\x00\x00(\x00\x00@\x00@\x06\x00\x00\n\x00\x00\x01\xc0\x00\x02\x01\x03\xef\x00P\x00\x00\x00d\x00\x00\x00\x00P\x02\xff\xff\x00\x00\x00\x00",
-        status: 0,
-        text: "1 steer 1 0 0 4\n\
-             2 arrive 1 direct 1 accept\n\
-             1001 steer 2 0 0 1\n\
-             1002 arrive 2 direct 2 accept\n\
-             2001 steer 3 0 0 6\n\
-             2002 arrive 3 direct 1 accept\n\
-             3001 steer 4 0 0 3\n\
-             3002 arrive 4 direct 2 accept\n\
-             4001 steer 5 0 0 0\n\
-             4002 arrive 5 direct 1 accept\n\
-             5001 steer 6 0 0 5\n\
-             5002 arrive 6 direct 2 accept\n\
-             6001 steer 7 0 0 2\n\
-             6002 arrive 7 direct 1 accept\n\
-             7001 steer 8 0 0 7\n\
-             7002 arrive 8 direct 2 accept\n\
-             packet 1 accepted 1\n\
-             packet 2 accepted 2\n\
-             packet 3 accepted 1\n\
-             packet 4 accepted 2\n\
-             packet 5 accepted 1\n\
-             packet 6 accepted 2\n\
-             packet 7 accepted 1\n\
-             packet 8 accepted 2\n\
-             total packets 8 steered 8 unsteered 0 accepted 8 processed 0 forwarded 0 reset 0 dropped 0 lost 0 stray 0\n",
-    },
-    Row {
-        name: "data of a connection that was never accepted",
-        capture: b"\xd4\xc3\xb2\xa1\x02\x00\x04\x00\x00\x00\x00\x00\x00\x00\x00\x00\xff\xff\x00\x00e\x00\x00\x00\x00\x00\x00\x00\x00\x00\x00\x002\x00\x00\x002\x00\x00\x00E\x00\x002\x00\x00@\x00@\x06\x00\x00\n\x00\x00\x01\xc0\x00\x02\x01\x03\xe9\x00P\x00\x00\x00e\x00\x00\x01\xf5P\x18\xff\xff\x00\x00\x00\x00abcdefghij",
-        status: 0,
-        text: "1 steer 1 0 0 1\n\
-             2 arrive 1 direct 2 reset no-previous because never-accepted\n\
-             packet 1 reset 2\n\
-             total packets 1 steered 1 unsteered 0 accepted 0 processed 0 forwarded 0 reset 1 dropped 0 lost 0 stray 0\n",
-    },
-    Row {
-        name: "resets outside the window, in it, and in turn",
-        capture: b"\xd4\xc3\xb2\xa1\x02\x00\x04\x00\x00\x00\x00\x00\x00\x00\x00\x00\xff\xff\x00\x00e\x00\x00\x00\x00\x00\x00\x00\x00\x00\x00\x00(\x00\x00\x00(\x00\x00\x00E\x00\x00(\x00\x00@\x00@\x06\x00\x00\n\x00\x00\x01\xc0\x00\x02\x01\x03\xe8\x00P\x00\x00\x00d\x00\x00\x00\x00P\x02\xff\xff\x00\x00\x00\x00\x00\x00\x00\x00\x01\x00\x00\x00(\x00\x00\x00(\x00\x00\x00E\x00\x00(\x00\x00@\x00@\x06\x00\x00\n\x00\x00\x01\xc0\x00\x02\x01\x03\xe8\x00P\x00\x01\x01\xd0\x00\x00\x00\x00P\x04\xff\xff\x00\x00\x00\x00\x00\x00\x00\x00\x02\x00\x00\x00(\x00\x00\x00(\x00\x00\x00E\x00\x00(\x00\x00@\x00@\x06\x00\x00\n\x00\x00\x01\xc0\x00\x02\x01\x03\xe8\x00P\x00\x00\x00f\x00\x00\x00\x00P\x04\xff\xff\x00\x00\x00\x00\x00\x00\x00\x00\x03\x00\x00\x00(\x00\x00\x00(\x00\x00\x00E\x00\x00(\x00\x00@\x00@\x06\x00\x00\n\x00\x00\x01\xc0\x00\x02\x01\x03\xe8\x00P\x00\x00\x00e\x00\x00\x00\x00P\x04\xff\xff\x00\x00\x00\x00\x00\x00\x00\x00\x04\x00\x00\x002\x00\x00\x002\x00\x00\x00E\x00\x002\x00\x00@\x00@\x06\x00\x00\n\x00\x00\x01\xc0\x00\x02\x01\x03\xe8\x00P\x00\x00\x00e\x00\x00\x01\xf5P\x18\xff\xff\x00\x00\x00\x00abcdefghij\x00\x00\x00\x00\x05\x00\x00\x00(\x00\x00\x00(\x00\x00\x00E\x00\x00(\x00\x00@\x00@\x06\x00\x00\n\x00\x00\x01\xc0\x00\x02\x01\x03\xe8\x00P\x00\x00\x00e\x00\x00\x00\x00P\x04\xff\xff\x00\x00\x00\x00",
-        status: 0,
-        text: "1 steer 1 0 0 4\n\
-             2 arrive 1 direct 1 accept\n\
-             1001 steer 2 0 0 4\n\
-             1002 arrive 2 direct 1 process outside\n\
-             2001 steer 3 0 0 4\n\
-             2002 arrive 3 direct 1 process challenge\n\
-             3001 steer 4 0 0 4\n\
-             3002 arrive 4 direct 1 process ended\n\
-             4001 steer 5 0 0 4\n\
-             4002 arrive 5 direct 1 reset no-previous because not-held\n\
-             5001 steer 6 0 0 4\n\
-             5002 arrive 6 direct 1 drop silent because not-held\n\
-             packet 1 accepted 1\n\
-             packet 2 processed 1\n\
-             packet 3 processed 1\n\
-             packet 4 processed 1\n\
-             packet 5 reset 1\n\
-             packet 6 dropped 1\n\
-             total packets 6 steered 6 unsteered 0 accepted 1 processed 3 forwarded 0 reset 1 dropped 1 lost 0 stray 0\n",
-    },
-    Row {
-        name: "sequence numbers that wrap, and a finished connection that is replaced",
-        capture: b"\xd4\xc3\xb2\xa1\x02\x00\x04\x00\x00\x00\x00\x00\x00\x00\x00\x00\xff\xff\x00\x00e\x00\x00\x00\x00\x00\x00\x00\x00\x00\x00\x00(\x00\x00\x00(\x00\x00\x00E\x00\x00(\x00\x00@\x00@\x06\x00\x00\n\x00\x00\x01\xc0\x00\x02\x01\x03\xe8\x00P\xff\xff\xff\xfa\x00\x00\x00\x00P\x02\xff\xff\x00\x00\x00\x00\x00\x00\x00\x00\x01\x00\x00\x002\x00\x00\x002\x00\x00\x00E\x00\x002\x00\x00@\x00@\x06\x00\x00\n\x00\x00\x01\xc0\x00\x02\x01\x03\xe8\x00P\xff\xff\xff\xfb\x00\x00\x01\xf5P\x18\xff\xff\x00\x00\x00\x00abcdefghij\x00\x00\x00\x00\x02\x00\x00\x00(\x00\x00\x00(\x00\x00\x00E\x00\x00(\x00\x00@\x00@\x06\x00\x00\n\x00\x00\x01\xc0\x00\x02\x01\x03\xe8\x00P\x00\x00\x00\x05\x00\x00\x01\xf5P\x11\xff\xff\x00\x00\x00\x00\x00\x00\x00\x00\x03\x00\x00\x00(\x00\x00\x00(\x00\x00\x00E\x00\x00(\x00\x00@\x00@\x06\x00\x00\n\x00\x00\x01\xc0\x00\x02\x01\x03\xe8\x00P\x00\x00\x03\xe8\x00\x00\x00\x00P\x02\xff\xff\x00\x00\x00\x00\x00\x00\x00\x00\x04\x00\x00\x00(\x00\x00\x00(\x00\x00\x00E\x00\x00(\x00\x00@\x00@\x06\x00\x00\n\x00\x00\x01\xc0\x00\x02\x01\x03\xe8\x00P\x00\x00\x07\xd0\x00\x00\x00\x00P\x02\xff\xff\x00\x00\x00\x00",
-        status: 0,
-        text: "1 steer 1 0 0 4\n\
-             2 arrive 1 direct 1 accept\n\
-             1001 steer 2 0 0 4\n\
-             1002 arrive 2 direct 1 process advance\n\
-             2001 steer 3 0 0 4\n\
-             2002 arrive 3 direct 1 process advance\n\
-             3001 steer 4 0 0 4\n\
-             3002 arrive 4 direct 1 accept\n\
-             4001 steer 5 0 0 4\n\
-             4002 arrive 5 direct 1 process challenge\n\
-             packet 1 accepted 1\n\
-             packet 2 processed 1\n\
-             packet 3 processed 1\n\
-             packet 4 accepted 1\n\
-             packet 5 processed 1\n\
-             total packets 5 steered 5 unsteered 0 accepted 2 processed 3 forwarded 0 reset 0 dropped 0 lost 0 stray 0\n",
-    },
-    Row {
-        name: "two packets of one moment",
-        capture: b"\xd4\xc3\xb2\xa1\x02\x00\x04\x00\x00\x00\x00\x00\x00\x00\x00\x00\xff\xff\x00\x00e\x00\x00\x00\x00\x00\x00\x00\x00\x00\x00\x00(\x00\x00\x00(\x00\x00\x00E\x00\x00(\x00\x00@\x00@\x06\x00\x00\n\x00\x00\x01\xc0\x00\x02\x01\x03\xe8\x00P\x00\x00\x00d\x00\x00\x00\x00P\x02\xff\xff\x00\x00\x00\x00\x00\x00\x00\x00\x00\x00\x00\x002\x00\x00\x002\x00\x00\x00E\x00\x002\x00\x00@\x00@\x06\x00\x00\n\x00\x00\x01\xc0\x00\x02\x01\x03\xe8\x00P\x00\x00\x00e\x00\x00\x01\xf5P\x18\xff\xff\x00\x00\x00\x00abcdefghij",
-        status: 0,
-        text: "1 steer 1 0 0 4\n\
-             2 steer 2 0 0 4\n\
-             3 arrive 1 direct 1 accept\n\
-             4 arrive 2 direct 1 process advance because never-accepted\n\
-             packet 1 accepted 1\n\
-             packet 2 processed 1\n\
-             total packets 2 steered 2 unsteered 0 accepted 1 processed 1 forwarded 0 reset 0 dropped 0 lost 0 stray 1\n",
-    },
-    Row {
-        name: "Ethernet with other protocols, a fragment, another service, a tag, an offloaded length, and a record cut short",
-        capture: b"\xd4\xc3\xb2\xa1\x02\x00\x04\x00\x00\x00\x00\x00\x00\x00\x00\x00\xff\xff\x00\x00\x01\x00\x00\x00\x00\x00\x00\x00\x00\x00\x00\x00*\x00\x00\x00*\x00\x00\x00\x02\x00\x00\x00\x00\x01\x02\x00\x00\x00\x00\x02\x08\x06\x00\x00\x00\x00\x00\x00\x00\x00\x00\x00\x00\x00\x00\x00\x00\x00\x00\x00\x00\x00\x00\x00\x00\x00\x00\x00\x00\x00\x00\x00\x00\x00\x01\x00\x00\x006\x00\x00\x006\x00\x00\x00\x02\x00\x00\x00\x00\x01\x02\x00\x00\x00\x00\x02\x86\xdd`\x00\x00\x00\x00\x00\x00\x00\x00\x00\x00\x00\x00\x00\x00\x00\x00\x00\x00\x00\x00\x00\x00\x00\x00\x00\x00\x00\x00\x00\x00\x00\x00\x00\x00\x00\x00\x00\x00\x00\x00\x00\x00\x00\x02\x00\x00\x006\x00\x00\x006\x00\x00\x00\x02\x00\x00\x00\x00\x01\x02\x00\x00\x00\x00\x02\x08\x00E\x00\x00(\x00\x00 \x00@\x06\x00\x00\n\x00\x00\x01\xc0\x00\x02\x01\x03\xe8\x00P\x00\x00\x00d\x00\x00\x00\x00P\x02\xff\xff\x00\x00\x00\x00\x00\x00\x00\x00\x03\x00\x00\x006\x00\x00\x006\x00\x00\x00\x02\x00\x00\x00\x00\x01\x02\x00\x00\x00\x00\x02\x08\x00E\x00\x00(\x00\x00@\x00@\x06\x00\x00\n\x00\x00\x01\xc0\x00\x02\x09\x03\xe8\x00P\x00\x00\x00d\x00\x00\x00\x00P\x02\xff\xff\x00\x00\x00\x00\x00\x00\x00\x00\x04\x00\x00\x00:\x00\x00\x00:\x00\x00\x00\x02\x00\x00\x00\x00\x01\x02\x00\x00\x00\x00\x02\x81\x00\x00\x07\x08\x00E\x00\x00(\x00\x00@\x00@\x06\x00\x00\n\x00\x00\x01\xc0\x00\x02\x01\x03\xe8\x00P\x00\x00\x00d\x00\x00\x00\x00P\x02\xff\xff\x00\x00\x00\x00\x00\x00\x00\x00\x05\x00\x00\x00@\x00\x00\x00@\x00\x00\x00\x02\x00\x00\x00\x00\x01\x02\x00\x00\x00\x00\x02\x08\x00E\x00\x00\x00\x00\x00@\x00@\x06\x00\x00\n\x00\x00\x01\xc0\x00\x02\x01\x03\xe8\x00P\x00\x00\x00e\x00\x00\x01\xf5P\x18\xff\xff\x00\x00\x00\x00abcdefghij\x00\x00\x00\x00\x00\x00\x00\x00\x00",
-        status: 0,
-        text: "4001 steer 5 0 0 4\n\
+    let text = "4001 steer 5 0 0 4\n\
              4002 arrive 5 direct 1 accept\n\
              5001 steer 6 0 0 4\n\
              5002 arrive 6 direct 1 process advance\n\
@@ -247,51 +19,51 @@ static REPLAYED: [Row; 9] = [
              packet 5 accepted 1\n\
              packet 6 processed 1\n\
              note record 7 cut short\n\
-             total packets 6 steered 2 unsteered 4 accepted 1 processed 1 forwarded 0 reset 0 dropped 0 lost 0 stray 0\n",
-    },
-    Row {
-        name: "the other byte order",
-        capture: b"\xa1\xb2\xc3\xd4\x00\x02\x00\x04\x00\x00\x00\x00\x00\x00\x00\x00\x00\x00\xff\xff\x00\x00\x00e\x00\x00\x00\x00\x00\x00\x00\x00\x00\x00\x00(\x00\x00\x00(E\x00\x00(\x00\x00@\x00@\x06\x00\x00\n\x00\x00\x01\xc0\x00\x02\x01\x03\xe8\x00P\x00\x00\x00d\x00\x00\x00\x00P\x02\xff\xff\x00\x00\x00\x00\x00\x00\x00\x00\x00\x00\x00\x01\x00\x00\x002\x00\x00\x002E\x00\x002\x00\x00@\x00@\x06\x00\x00\n\x00\x00\x01\xc0\x00\x02\x01\x03\xe8\x00P\x00\x00\x00e\x00\x00\x01\xf5P\x18\xff\xff\x00\x00\x00\x00abcdefghij",
-        status: 0,
-        text: "1 steer 1 0 0 4\n\
-             2 arrive 1 direct 1 accept\n\
-             1001 steer 2 0 0 4\n\
-             1002 arrive 2 direct 1 process advance\n\
-             packet 1 accepted 1\n\
-             packet 2 processed 1\n\
-             total packets 2 steered 2 unsteered 0 accepted 1 processed 1 forwarded 0 reset 0 dropped 0 lost 0 stray 0\n",
-    },
-];
+             total packets 6 steered 2 unsteered 4 accepted 1 processed 1 \
+             forwarded 0 reset 0 dropped 0 lost 0 stray 0\n";
+    let frames = ethernet(alloc)?;
+    check(&rt, alloc, (&frames, None), "ethernet", (0, text))
+}
 
-static REFUSED: [Row; 5] = [
-    Row {
-        name: "a record that is too long",
-        capture: b"\xd4\xc3\xb2\xa1\x02\x00\x04\x00\x00\x00\x00\x00\x00\x00\x00\x00\xff\xff\x00\x00e\x00\x00\x00\x00\x00\x00\x00\x00\x00\x00\x00(\x00\x00\x00(\x00\x00\x00E\x00\x00(\x00\x00@\x00@\x06\x00\x00\n\x00\x00\x01\xc0\x00\x02\x01\x03\xe8\x00P\x00\x00\x00d\x00\x00\x00\x00P\x02\xff\xff\x00\x00\x00\x00\x00\x00\x00\x00\x01\x00\x00\x002\x00\x00\x002\x00\x00\x00E\x00\x002\x00\x00@\x00@\x06\x00\x00\n\x00\x00\x01\xc0\x00\x02\x01\x03\xe8\x00P\x00\x00\x00e\x00\x00\x01\xf5P\x18\xff\xff\x00\x00\x00\x00abcdefghij\x00\x00\x00\x00\x02\x00\x00\x00\x01\x00\x04\x00\x01\x00\x04\x00",
-        status: 3,
-        text: "beamer: capture record 3: bad length 262145\n",
-    },
-    Row {
-        name: "no capture",
-        capture: b"GIF89a\x00\x00\x00\x00\x00\x00\x00\x00\x00\x00\x00\x00\x00\x00\x00\x00\x00\x00\x00\x00\x00\x00\x00\x00\x00\x00\x00\x00\x00\x00\x00\x00\x00\x00\x00\x00\x00\x00\x00\x00",
-        status: 3,
-        text: "beamer: capture: not a capture\n",
-    },
-    Row {
-        name: "23 octets",
-        capture: b"\xd4\xc3\xb2\xa1\x02\x00\x04\x00\x00\x00\x00\x00\x00\x00\x00\x00\xff\xff\x00\x00e\x00\x00",
-        status: 3,
-        text: "beamer: capture: not a capture\n",
-    },
-    Row {
-        name: "another version",
-        capture: b"\xd4\xc3\xb2\xa1\x03\x00\x04\x00\x00\x00\x00\x00\x00\x00\x00\x00\xff\xff\x00\x00e\x00\x00\x00",
-        status: 3,
-        text: "beamer: capture: bad version\n",
-    },
-    Row {
-        name: "a link type that is not read",
-        capture: b"\xd4\xc3\xb2\xa1\x02\x00\x04\x00\x00\x00\x00\x00\x00\x00\x00\x00\xff\xff\x00\x00i\x00\x00\x00",
-        status: 3,
-        text: "beamer: capture: bad link type 105\n",
-    },
-];
+#[test]
+fn headers_are_refused(rt: HostRuntime) -> Result<(), Fail> {
+    let alloc = rt.alloc();
+    // an octet of a header that is changed: the magic number, the version, the link type
+    let rows: [(usize, u8, &str); 3] = [
+        (0, b'G', "beamer: capture: not a capture\n"),
+        (4, 3, "beamer: capture: bad version\n"),
+        (20, 105, "beamer: capture: bad link type 105\n"),
+    ];
+    for (place, octet, text) in rows {
+        refuse(&rt, alloc, place, octet, text)?;
+    }
+    Ok(())
+}
+
+fn refuse(rt: &impl Abort, alloc: Global, place: usize, octet: u8, text: &str) -> Result<(), Fail> {
+    let mut capture = raw(alloc, Form::Micro, &[])?;
+    if let Some(at) = capture.get_mut(place) {
+        *at = octet;
+    }
+    check(rt, alloc, (&capture, None), text, (3, text))
+}
+
+#[test]
+fn captures_that_end_early_are_refused(rt: HostRuntime) -> Result<(), Fail> {
+    let alloc = rt.alloc();
+    let text = "beamer: capture: not a capture\n";
+    let mut capture = raw(alloc, Form::Micro, &[])?;
+    capture.truncate(23);
+    check(&rt, alloc, (&capture, None), "23 octets", (3, text))
+}
+
+#[test]
+fn a_record_that_states_too_much_is_refused(rt: HostRuntime) -> Result<(), Fail> {
+    let alloc = rt.alloc();
+    let text = "beamer: capture record 3: bad length 262145\n";
+    let mut capture = raw(alloc, Form::Micro, OPENED)?;
+    for number in [0, 2, 262_145_u32, 262_145] {
+        capture.extend_from_slice(&number.to_le_bytes())?;
+    }
+    check(&rt, alloc, (&capture, None), "too long", (3, text))
+}

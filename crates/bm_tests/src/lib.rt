@@ -1,9 +1,18 @@
-//! Tests of `bm_script` and of `bm_cli`, in a crate of their own: a run of tests proves its crate again.
+//! Tests of `bm_script` and `bm_cli`, in a crate of their own: a run of tests proves its crate
+//! again.
 #![tactic(auto)]
 
 #[cfg(test)]
+mod capture;
+#[cfg(test)]
 mod captures;
 #[cfg(test)]
-mod script;
+mod forms;
 #[cfg(test)]
-mod scripts;
+mod limits;
+#[cfg(test)]
+mod program;
+#[cfg(test)]
+mod rows;
+#[cfg(test)]
+mod script;

@@ -19,12 +19,15 @@ use Rattle.bm_core.proofs.Lawful.{cause_law}
 use Rattle.bm_trace.specs.CauseOf.{cause_of, is_fault, is_fault_after, is_fault_at}
 
 -- what is no fault has no cause
-no_cause : (stage : Stage) (past : List Event) (clock : ℕ) (server : ServerId) (verdict : Verdict) (a : Option Accepted) (s : Option Segment) (l : Option Label)
+no_cause : (stage : Stage) (past : List Event) (clock : ℕ) (server : ServerId) (verdict : Verdict) (a : Option Accepted)
+    (s : Option Segment) (l : Option Label)
     → wants_cause verdict a server s ≡ false → cause_at stage past clock server verdict a s l ≡ None
 no_cause stage past clock server verdict a s l h = grind (arith, nat_tests)
 
-none_caused : (stage : Stage) (past : List Event) (clock : ℕ) (what : What) → is_fault stage past what ≡ false → is_some (cause stage past clock what) ≡ false
-none_caused stage past clock (Arrive k hop server verdict) h = ap is_some (no_cause stage past clock server verdict (owner stage past k) (segment_of stage k) _ h)
+none_caused : (stage : Stage) (past : List Event) (clock : ℕ) (what : What) → is_fault stage past what ≡ false
+    → is_some (cause stage past clock what) ≡ false
+none_caused stage past clock (Arrive k hop server verdict) h =
+    ap is_some (no_cause stage past clock server verdict (owner stage past k) (segment_of stage k) _ h)
 none_caused stage past clock (Publish v) h = refl
 none_caused stage past clock (Switch m v) h = refl
 none_caused stage past clock (Steer k m) h = refl
@@ -43,12 +46,14 @@ fault_is stage past (Close server flow closed) h = cc
 fault_is stage past (Retire server shard at result) h = cc
 fault_is stage past Sync h = cc
 
-found : (h : History) (place : ℕ) (o : Option Event) → event_at h place ≡ o → IsRun h → is_some (cause_of h place) ≡ is_fault_after h.stage (past_at h place) o
+found : (h : History) (place : ℕ) (o : Option Event) → event_at h place ≡ o → IsRun h
+    → is_some (cause_of h place) ≡ is_fault_after h.stage (past_at h place) o
 found h place None e run = rw e refl
 found h place (Some event) e run =
     elim (cases_Bool (is_fault h.stage (past_at h place) event.what)) [
       | inl fault ↦
-          let here : At h place (λ stage past clock what. IsFault stage past what) = rw e (fault_is h.stage (past_at h place) event.what fault)
+          let here : At h place (λ stage past clock what. IsFault stage past what) =
+          rw e (fault_is h.stage (past_at h place) event.what fault)
           in let there = cause_law h place run here
           in rw (e, fault) (rw e at there)
       | inr other ↦ rw (e, other) (none_caused h.stage (past_at h place) event.clock.0 event.what other)

@@ -1,5 +1,6 @@
 -- The words of an event name one event.
-use Rattle.std.proofs.Common.{◌≡◌, ℕ, ◌<◌, ◌^◌, ◌==◌, Bool, true, false, ◌&&◌, ◌||◌, not, List, [], ◌∷◌, ◌++◌, refl, ap, ◌∙◌, sym, arith, append_assoc}
+use Rattle.std.proofs.Common.{◌≡◌, ℕ, ◌<◌, ◌^◌, ◌==◌, Bool, true, false, ◌&&◌, ◌||◌, not, List, [], ◌∷◌, ◌++◌, refl, ap}
+use Rattle.std.proofs.Common.{◌∙◌, sym, arith, append_assoc}
 use Rattle.std.specs.Prelude.{decimal, codes, if◌then◌else◌, Option, Some, None, slice_index}
 use Rattle.std.specs.Int.{to_be_bytes, from_be_bytes, w32}
 use Rattle.std.proofs.lemmas.Fmt.{decimal_injective}
@@ -13,7 +14,8 @@ use Rattle.bm_table.specs.declared.plan.Retirement.{Retirement}
 use Rattle.bm_table.specs.declared.plan.Retirement.TheVariants.{Done, NotDrained, TooEarly}
 use Rattle.bm_base.specs.declared.ids.ServerId.{ServerId}
 use Rattle.bm_core.specs.declared.events.Cause.{Cause}
-use Rattle.bm_core.specs.declared.events.Cause.TheVariants.{NeverAccepted, NotHeld, StaleMux, MovedTwice, ChainLate, SynElsewhere, Full as FullShard, OldTable}
+use Rattle.bm_core.specs.declared.events.Cause.TheVariants.{NeverAccepted, NotHeld, StaleMux, MovedTwice, ChainLate}
+use Rattle.bm_core.specs.declared.events.Cause.TheVariants.{SynElsewhere, Full as FullShard, OldTable}
 use Rattle.bm_core.specs.Causes.{cause}
 use Rattle.bm_core.specs.Past.{segment_of, version_at}
 use Rattle.bm_core.specs.declared.events.Event.{Event}
@@ -23,11 +25,14 @@ use Rattle.bm_core.specs.declared.events.Verdict.TheVariants.{Accept, Process, F
 use Rattle.bm_core.specs.declared.events.What.{What}
 use Rattle.bm_core.specs.declared.events.What.TheVariants.{Publish, Switch, Steer, Lose, Arrive, Close, Retire, Sync}
 use Rattle.bm_core.specs.declared.events.Why.{Why}
-use Rattle.bm_core.specs.declared.events.Why.TheVariants.{NoPrevious, ChainExpired, ChainedUnknown, Silent, Full, Retired}
+use Rattle.bm_core.specs.declared.events.Why.TheVariants.{NoPrevious, ChainExpired, ChainedUnknown, Silent, Full}
+use Rattle.bm_core.specs.declared.events.Why.TheVariants.{Retired}
 use Rattle.bm_trace.specs.Report.{bucket_of_packet, event_words}
-use Rattle.bm_trace.specs.Words.{because_words, cause_word, endpoint, hop_word, retirement_words, taken_word, verdict_words, why_word}
+use Rattle.bm_trace.specs.Words.{because_words, cause_word, endpoint, hop_word, retirement_words, taken_word}
+use Rattle.bm_trace.specs.Words.{verdict_words, why_word}
 use Rattle.std.proofs.lemmas.Bool.Decides.{nat_tests}
-use Rattle.bm_trace.proofs.Reading.{AreWords, both_true, decimal_runs, ends_word, is_word, is_word_decimal, runs_on, split, word_append}
+use Rattle.bm_trace.proofs.Reading.{AreWords, both_true, decimal_runs, ends_word, is_word, is_word_decimal, runs_on}
+use Rattle.bm_trace.proofs.Reading.{split, word_append}
 use Rattle.bm_trace.specs.Types.{IsFlow, IsVerdict, IsAnswer, IsWhat}
 
 abbrev same_text : List ℕ → List ℕ → Bool
@@ -98,7 +103,8 @@ closed_back : (closed : Bool) → is_closed_word (if closed then codes "closed" 
 closed_back true = refl
 closed_back false = refl
 
-same_closed_word : (a b : Bool) → (if a then codes "closed" else codes "none") ≡ (if b then codes "closed" else codes "none") → a ≡ b
+same_closed_word : (a b : Bool)
+    → (if a then codes "closed" else codes "none") ≡ (if b then codes "closed" else codes "none") → a ≡ b
 same_closed_word a b e = sym (closed_back a) ∙ ap is_closed_word e ∙ closed_back b
 
 -- VERDICTS AND ANSWERS
@@ -111,14 +117,18 @@ verdict_kind w =
     else if same_text w (codes "reset") then 3
     else 4
 
-same_verdict : (v u : Verdict) (c d : Option Cause) → IsVerdict v → IsVerdict u → verdict_words v ++ because_words c ≡ verdict_words u ++ because_words d → v ≡ u
+same_verdict : (v u : Verdict) (c d : Option Cause) → IsVerdict v → IsVerdict u → verdict_words v
+    ++ because_words c ≡ verdict_words u ++ because_words d → v ≡ u
 same_verdict Accept Accept c d hv hu e = refl
-same_verdict (Process t) (Process s) c d hv hu e = let w : taken_word t ≡ taken_word s = cc in ap Process (same_taken_word t s w)
-same_verdict (Forward t) (Forward s) c d hv hu e = let w : decimal t.0 ≡ decimal s.0 = cc in ap (λ n. Forward (record { 0 = n })) (decimal_injective t.0 s.0 hv hu w)
+same_verdict (Process t) (Process s) c d hv hu e =
+    let w : taken_word t ≡ taken_word s = cc in ap Process (same_taken_word t s w)
+same_verdict (Forward t) (Forward s) c d hv hu e =
+    let w : decimal t.0 ≡ decimal s.0 = cc in ap (λ n. Forward (record { 0 = n })) (decimal_injective t.0 s.0 hv hu w)
 same_verdict (Reset t) (Reset s) c d hv hu e = let w : why_word t ≡ why_word s = cc in ap Reset (same_why_word t s w)
 same_verdict (Drop t) (Drop s) c d hv hu e = let w : why_word t ≡ why_word s = cc in ap Drop (same_why_word t s w)
 same_verdict v u c d hv hu e =
-    let k : verdict_kind (first_word (verdict_words v ++ because_words c)) ≡ verdict_kind (first_word (verdict_words u ++ because_words d)) = ap (λ ws. verdict_kind (first_word ws)) e
+    let k : verdict_kind (first_word (verdict_words v ++ because_words c))
+    ≡ verdict_kind (first_word (verdict_words u ++ because_words d)) = ap (λ ws. verdict_kind (first_word ws)) e
     in absurd (omega (arith, k))
 
 abbrev answer_kind : List ℕ → ℕ
@@ -127,9 +137,11 @@ answer_kind w = if same_text w (codes "done") then 0 else if same_text w (codes 
 same_answer : (a b : Retirement) → IsAnswer a → IsAnswer b → retirement_words a ≡ retirement_words b → a ≡ b
 same_answer Done Done ha hb e = refl
 same_answer NotDrained NotDrained ha hb e = refl
-same_answer (TooEarly n) (TooEarly m) ha hb e = let w : decimal n ≡ decimal m = cc in ap TooEarly (decimal_injective n m ha hb w)
+same_answer (TooEarly n) (TooEarly m) ha hb e =
+    let w : decimal n ≡ decimal m = cc in ap TooEarly (decimal_injective n m ha hb w)
 same_answer a b ha hb e =
-    let k : answer_kind (first_word (retirement_words a)) ≡ answer_kind (first_word (retirement_words b)) = ap (λ ws. answer_kind (first_word ws)) e
+    let k : answer_kind (first_word (retirement_words a)) ≡ answer_kind (first_word (retirement_words b)) =
+    ap (λ ws. answer_kind (first_word ws)) e
     in absurd (omega (arith, k))
 
 -- ENDPOINTS
@@ -145,7 +157,9 @@ byte addr i = slice_index (to_be_bytes w32 addr) i
 
 nested : ℕ → ℕ → List ℕ
 nested addr port =
-    decimal (byte addr 0) ++ (46 ∷ (decimal (byte addr 1) ++ (46 ∷ (decimal (byte addr 2) ++ (46 ∷ (decimal (byte addr 3) ++ (58 ∷ decimal port)))))))
+    decimal (byte addr 0)
+    ++ (46 ∷ (decimal (byte addr 1)
+    ++ (46 ∷ (decimal (byte addr 2) ++ (46 ∷ (decimal (byte addr 3) ++ (58 ∷ decimal port)))))))
 
 nested_is : (addr port : ℕ) → endpoint addr port ≡ nested addr port
 unfolding endpoint nested
@@ -180,28 +194,45 @@ small_2 addr = omega arith
 small_3 : (addr : ℕ) → byte addr 3 < 2 ^ 64
 small_3 addr = omega arith
 
-same_nested : (a b p q : ℕ) → a < 2 ^ 32 → b < 2 ^ 32 → p < 2 ^ 64 → q < 2 ^ 64 → nested a p ≡ nested b q → (a ≡ b) × (p ≡ q)
+same_nested : (a b p q : ℕ) → a < 2 ^ 32 → b < 2 ^ 32 → p < 2 ^ 64 → q < 2 ^ 64 → nested a p ≡ nested b q → (a ≡ b)
+    × (p ≡ q)
 unfolding nested
 same_nested a b p q ha hb hp hq e =
-    let s0 = split ends_number (decimal (byte a 0)) (decimal (byte b 0)) 46 46 _ _ (number_runs (byte a 0)) (number_runs (byte b 0)) refl refl e
-    in let e1 : decimal (byte a 1) ++ (46 ∷ (decimal (byte a 2) ++ (46 ∷ (decimal (byte a 3) ++ (58 ∷ decimal p))))) ≡ decimal (byte b 1) ++ (46 ∷ (decimal (byte b 2) ++ (46 ∷ (decimal (byte b 3) ++ (58 ∷ decimal q))))) = cc (s0.1)
-    in let s1 = split ends_number (decimal (byte a 1)) (decimal (byte b 1)) 46 46 _ _ (number_runs (byte a 1)) (number_runs (byte b 1)) refl refl e1
-    in let e2 : decimal (byte a 2) ++ (46 ∷ (decimal (byte a 3) ++ (58 ∷ decimal p))) ≡ decimal (byte b 2) ++ (46 ∷ (decimal (byte b 3) ++ (58 ∷ decimal q))) = cc (s1.1)
-    in let s2 = split ends_number (decimal (byte a 2)) (decimal (byte b 2)) 46 46 _ _ (number_runs (byte a 2)) (number_runs (byte b 2)) refl refl e2
+    let s0 = split ends_number (decimal (byte a 0)) (decimal (byte b 0)) 46 46 _ _ (number_runs (byte a 0))
+    (number_runs (byte b 0)) refl refl e
+    in let e1 : decimal (byte a 1)
+    ++ (46 ∷ (decimal (byte a 2) ++ (46 ∷ (decimal (byte a 3) ++ (58 ∷ decimal p))))) ≡ decimal (byte b 1)
+    ++ (46 ∷ (decimal (byte b 2) ++ (46 ∷ (decimal (byte b 3) ++ (58 ∷ decimal q))))) = cc (s0.1)
+    in let s1 =
+    split ends_number (decimal (byte a 1)) (decimal (byte b 1)) 46 46 _ _ (number_runs (byte a 1))
+    (number_runs (byte b 1)) refl refl e1
+    in let e2 : decimal (byte a 2) ++ (46 ∷ (decimal (byte a 3) ++ (58 ∷ decimal p))) ≡ decimal (byte b 2)
+    ++ (46 ∷ (decimal (byte b 3) ++ (58 ∷ decimal q))) = cc (s1.1)
+    in let s2 =
+    split ends_number (decimal (byte a 2)) (decimal (byte b 2)) 46 46 _ _ (number_runs (byte a 2))
+    (number_runs (byte b 2)) refl refl e2
     in let e3 : decimal (byte a 3) ++ (58 ∷ decimal p) ≡ decimal (byte b 3) ++ (58 ∷ decimal q) = cc (s2.1)
-    in let s3 = split ends_number (decimal (byte a 3)) (decimal (byte b 3)) 58 58 _ _ (number_runs (byte a 3)) (number_runs (byte b 3)) refl refl e3
+    in let s3 =
+    split ends_number (decimal (byte a 3)) (decimal (byte b 3)) 58 58 _ _ (number_runs (byte a 3))
+    (number_runs (byte b 3)) refl refl e3
     in let e4 : decimal p ≡ decimal q = cc (s3.1)
     in let b0 = decimal_injective (byte a 0) (byte b 0) (small_0 a) (small_0 b) s0.0
     in let b1 = decimal_injective (byte a 1) (byte b 1) (small_1 a) (small_1 b) s1.0
     in let b2 = decimal_injective (byte a 2) (byte b 2) (small_2 a) (small_2 b) s2.0
     in let b3 = decimal_injective (byte a 3) (byte b 3) (small_3 a) (small_3 b) s3.0
     in let bytes : to_be_bytes w32 a ≡ to_be_bytes w32 b = cc (b0, b1, b2, b3)
-    in (sym (from_be_bytes-to_be_bytes_4 a ha) ∙ ap (λ x. from_be_bytes w32 x) bytes ∙ from_be_bytes-to_be_bytes_4 b hb, decimal_injective p q hp hq e4)
+    in (
+      sym (from_be_bytes-to_be_bytes_4 a ha) ∙ ap (λ x. from_be_bytes w32 x) bytes
+          ∙ from_be_bytes-to_be_bytes_4 b hb,
+      decimal_injective p q hp hq e4,
+    )
 
-same_endpoint : (a b p q : ℕ) → a < 2 ^ 32 → b < 2 ^ 32 → p < 2 ^ 64 → q < 2 ^ 64 → endpoint a p ≡ endpoint b q → (a ≡ b) × (p ≡ q)
+same_endpoint : (a b p q : ℕ) → a < 2 ^ 32 → b < 2 ^ 32 → p < 2 ^ 64 → q < 2 ^ 64 → endpoint a p ≡ endpoint b q
+    → (a ≡ b) × (p ≡ q)
 same_endpoint a b p q ha hb hp hq e = same_nested a b p q ha hb hp hq (sym (nested_is a p) ∙ e ∙ nested_is b q)
 
-same_flow : (f g : Flow) → IsFlow f → IsFlow g → endpoint f.src f.sport ≡ endpoint g.src g.sport → endpoint f.dst f.dport ≡ endpoint g.dst g.dport → f ≡ g
+same_flow : (f g : Flow) → IsFlow f → IsFlow g → endpoint f.src f.sport ≡ endpoint g.src g.sport
+    → endpoint f.dst f.dport ≡ endpoint g.dst g.dport → f ≡ g
 same_flow f g hf hg s d =
     let p = same_endpoint f.src g.src f.sport g.sport hf.0 hg.0 hf.2 hg.2 s
     in let q = same_endpoint f.dst g.dst f.dport g.dport hf.1 hg.1 hf.3 hg.3 d
@@ -224,7 +255,8 @@ same_server_word : (a b : ServerId) → a.0 < 2 ^ 64 → b.0 < 2 ^ 64 → decima
 same_server_word a b ha hb e = ap (λ n. record { 0 = n }) (decimal_injective a.0 b.0 ha hb e)
 
 -- behind the same events, the same words name the same event
-pub same_what : (stage : Stage) (past : List Event) (clock : ℕ) (a b : What) → IsWhat a → IsWhat b → event_words stage past clock a ≡ event_words stage past clock b → a ≡ b
+pub same_what : (stage : Stage) (past : List Event) (clock : ℕ) (a b : What) → IsWhat a → IsWhat b
+    → event_words stage past clock a ≡ event_words stage past clock b → a ≡ b
 same_what stage past clock (Publish v) (Publish u) ha hb e =
     let w : decimal v.0 ≡ decimal u.0 = cc in ap (λ n. Publish (record { 0 = n })) (decimal_injective v.0 u.0 ha hb w)
 same_what stage past clock (Switch m v) (Switch n u) ha hb e =
@@ -249,11 +281,14 @@ same_what stage past clock (Arrive k hop s v) (Arrive l leap t u) ha hb e =
     let w : decimal k ≡ decimal l = cc
     in let x : hop_word hop ≡ hop_word leap = cc
     in let y : decimal s.0 ≡ decimal t.0 = cc
-    in let z : verdict_words v ++ because_words (cause stage past clock (Arrive k hop s v)) ≡ verdict_words u ++ because_words (cause stage past clock (Arrive l leap t u)) = cc
+    in let z : verdict_words v ++ because_words (cause stage past clock (Arrive k hop s v)) ≡ verdict_words u
+    ++ because_words (cause stage past clock (Arrive l leap t u)) = cc
     in let p = decimal_injective k l ha.0 hb.0 w
     in let q = same_hop_word hop leap x
     in let r = same_server_word s t ha.1 hb.1 y
-    in let o = same_verdict v u (cause stage past clock (Arrive k hop s v)) (cause stage past clock (Arrive l leap t u)) ha.2 hb.2 z
+    in let o =
+    same_verdict v u (cause stage past clock (Arrive k hop s v)) (cause stage past clock (Arrive l leap t u)) ha.2 hb.2
+    z
     in λ i. Arrive (p i) (q i) (r i) (o i)
 same_what stage past clock (Close s f c) (Close t g d) ha hb e =
     let w : decimal s.0 ≡ decimal t.0 = cc
@@ -276,7 +311,8 @@ same_what stage past clock (Retire s h at a) (Retire t g be b) ha hb e =
     in λ i. Retire (p i) (q i) (record { 0 = r i }) (o i)
 same_what stage past clock Sync Sync ha hb e = refl
 same_what stage past clock a b ha hb e =
-    let k : event_kind (first_word (event_words stage past clock a)) ≡ event_kind (first_word (event_words stage past clock b)) = ap (λ ws. event_kind (first_word ws)) e
+    let k : event_kind (first_word (event_words stage past clock a))
+    ≡ event_kind (first_word (event_words stage past clock b)) = ap (λ ws. event_kind (first_word ws)) e
     in absurd (omega (arith, k))
 
 words_append : (a b : List (List ℕ)) → AreWords a → AreWords b → AreWords (a ++ b)
@@ -333,13 +369,42 @@ closed_are : (c : Bool) → is_word (if c then codes "closed" else codes "none")
 closed_are true = refl
 closed_are false = refl
 
-pub event_are : (stage : Stage) (past : List Event) (clock : ℕ) (what : What) → AreWords (event_words stage past clock what)
+pub event_are : (stage : Stage) (past : List Event) (clock : ℕ) (what : What)
+    → AreWords (event_words stage past clock what)
 event_are stage past clock (Publish v) = (refl, (is_word_decimal v.0, tt))
 event_are stage past clock (Switch m v) = (refl, (is_word_decimal m.0, (is_word_decimal v.0, tt)))
-event_are stage past clock (Steer k m) = (refl, (is_word_decimal k, (is_word_decimal m.0, (is_word_decimal (version_at past m).0, (is_word_decimal (bucket_of_packet stage (segment_of stage k)), tt)))))
+event_are stage past clock (Steer k m) = (
+  refl,
+  (
+    is_word_decimal k,
+    (
+      is_word_decimal m.0,
+      (is_word_decimal (version_at past m).0, (is_word_decimal (bucket_of_packet stage (segment_of stage k)), tt)),
+    ),
+  ),
+)
 event_are stage past clock (Lose k hop) = (refl, (is_word_decimal k, (hop_are hop, tt)))
-event_are stage past clock (Arrive k hop s v) =
-    (refl, (is_word_decimal k, (hop_are hop, (is_word_decimal s.0, words_append (verdict_words v) (because_words (cause stage past clock (Arrive k hop s v))) (verdict_are v) (because_are (cause stage past clock (Arrive k hop s v)))))))
-event_are stage past clock (Close s f c) = (refl, (is_word_decimal s.0, (is_word_endpoint f.src f.sport, (is_word_endpoint f.dst f.dport, (closed_are c, tt)))))
-event_are stage past clock (Retire s h at a) = (refl, (is_word_decimal s.0, (is_word_decimal h, (refl, (is_word_decimal at.0, answer_are a)))))
+event_are stage past clock (Arrive k hop s v) = (
+  refl,
+  (
+    is_word_decimal k,
+    (
+      hop_are hop,
+      (
+        is_word_decimal s.0,
+        words_append (verdict_words v) (because_words (cause stage past clock (Arrive k hop s v)))
+            (verdict_are v) (because_are (cause stage past clock (Arrive k hop s v))),
+      ),
+    ),
+  ),
+)
+event_are stage past clock (Close s f c) = (
+  refl,
+  (
+    is_word_decimal s.0,
+    (is_word_endpoint f.src f.sport, (is_word_endpoint f.dst f.dport, (closed_are c, tt))),
+  ),
+)
+event_are stage past clock (Retire s h at a) =
+    (refl, (is_word_decimal s.0, (is_word_decimal h, (refl, (is_word_decimal at.0, answer_are a)))))
 event_are stage past clock Sync = (refl, tt)

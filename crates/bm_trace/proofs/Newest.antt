@@ -9,7 +9,8 @@ pub reverse_last : {X : Type 0} (xs rest : List X) (x : X) → xs ≡ rest ++ x 
 reverse_last xs rest x e = rw (e, reverse-append rest (x ∷ [])) refl
 
 -- one event more comes first in the past
-pub reverse_take : {X : Type 0} (xs : List X) (i : ℕ) (d : X) → i < length xs → reverse (take (i + 1) xs) ≡ get_or xs i d ∷ reverse (take i xs)
+pub reverse_take : {X : Type 0} (xs : List X) (i : ℕ) (d : X) → i < length xs
+    → reverse (take (i + 1) xs) ≡ get_or xs i d ∷ reverse (take i xs)
 reverse_take xs i d h =
     let e : take (i + 1) xs ≡ take i xs ++ get_or xs i d ∷ [] = grind (arith, common_steps)
     in reverse_last (take (i + 1) xs) (take i xs) (get_or xs i d) e

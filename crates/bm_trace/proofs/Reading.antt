@@ -1,5 +1,6 @@
 -- What a text says can be read back from it: its words are parted by spaces, and its lines by line feeds.
-use Rattle.std.proofs.Common.{◌≡◌, ℕ, zero, suc, ◌+◌, ◌%◌, ◌/◌, ◌<◌, ◌^◌, ◌==◌, Bool, true, false, ◌&&◌, ◌||◌, not, inl, inr, List, [], ◌∷◌, ◌++◌, refl, ap, ◌∙◌, sym, arith, append_assoc}
+use Rattle.std.proofs.Common.{◌≡◌, ℕ, zero, suc, ◌+◌, ◌%◌, ◌/◌, ◌<◌, ◌^◌, ◌==◌, Bool, true, false, ◌&&◌, ◌||◌, not, inl}
+use Rattle.std.proofs.Common.{inr, List, [], ◌∷◌, ◌++◌, refl, ap, ◌∙◌, sym, arith, append_assoc}
 use Rattle.std.specs.Prelude.{decimal, nat_le, nat_lt}
 use Rattle.std.specs.Fmt.{digits, digits_onto, digit_glyph}
 use Rattle.std.proofs.lemmas.Bool.{cases_Bool, and_parts, le-leb, lt-ltb}
@@ -20,11 +21,14 @@ abbrev pub is_word : List ℕ → Bool
 is_word w = runs_on ends_word w
 
 -- where a run is stopped, it is the same run
-pub split : (stops : ℕ → Bool) (w v : List ℕ) (c d : ℕ) (x y : List ℕ) → runs_on stops w ≡ true → runs_on stops v ≡ true → stops c ≡ true → stops d ≡ true
+pub split : (stops : ℕ → Bool) (w v : List ℕ) (c d : ℕ) (x y : List ℕ) → runs_on stops w ≡ true → runs_on stops v ≡ true
+    → stops c ≡ true → stops d ≡ true
     → w ++ c ∷ x ≡ v ++ d ∷ y → (w ≡ v) × (c ∷ x ≡ d ∷ y)
 split stops [] [] c d x y hw hv hc hd e = (refl, e)
-split stops [] (b ∷ v) c d x y hw hv hc hd e = let s : c ≡ b = cc in let p = and_parts (not (stops b)) (runs_on stops v) hv in absurd (grind (arith, nat_tests))
-split stops (b ∷ w) [] c d x y hw hv hc hd e = let s : b ≡ d = cc in let p = and_parts (not (stops b)) (runs_on stops w) hw in absurd (grind (arith, nat_tests))
+split stops [] (b ∷ v) c d x y hw hv hc hd e =
+    let s : c ≡ b = cc in let p = and_parts (not (stops b)) (runs_on stops v) hv in absurd (grind (arith, nat_tests))
+split stops (b ∷ w) [] c d x y hw hv hc hd e =
+    let s : b ≡ d = cc in let p = and_parts (not (stops b)) (runs_on stops w) hw in absurd (grind (arith, nat_tests))
 split stops (a ∷ w) (b ∷ v) c d x y hw hv hc hd e =
     let s : a ≡ b = cc
     in let t : w ++ c ∷ x ≡ v ++ d ∷ y = cc
@@ -55,31 +59,42 @@ first_stops [] = refl
 first_stops (w ∷ words) = refl
 
 -- the same words stand in the same text
-pub read_words : (ws vs : List (List ℕ)) (x y : List ℕ) → AreWords ws → AreWords vs → spaced ws ++ 10 ∷ x ≡ spaced vs ++ 10 ∷ y → (ws ≡ vs) × (x ≡ y)
+pub read_words : (ws vs : List (List ℕ)) (x y : List ℕ) → AreWords ws → AreWords vs → spaced ws ++ 10 ∷ x ≡ spaced vs
+    ++ 10 ∷ y → (ws ≡ vs) × (x ≡ y)
 read_words [] [] x y hw hv e = (refl, cc)
 read_words [] (v ∷ vs) x y hw hv e = let n : ◌≡◌ {A = ℕ} 10 32 = cc in absurd (omega arith)
 read_words (w ∷ ws) [] x y hw hv e = let n : ◌≡◌ {A = ℕ} 32 10 = cc in absurd (omega arith)
 read_words (w ∷ ws) (v ∷ vs) x y hw hv e =
-    let t : w ++ (spaced ws ++ 10 ∷ x) ≡ v ++ (spaced vs ++ 10 ∷ y) = cc (stopped (w ∷ ws) x, append_assoc w (spaced ws) (10 ∷ x), append_assoc v (spaced vs) (10 ∷ y))
+    let t : w ++ (spaced ws ++ 10 ∷ x) ≡ v ++ (spaced vs ++ 10 ∷ y) =
+    cc (stopped (w ∷ ws) x, append_assoc w (spaced ws) (10 ∷ x), append_assoc v (spaced vs) (10 ∷ y))
     in let u : w ++ (first_of ws ∷ rest_of ws x) ≡ v ++ (first_of vs ∷ rest_of vs y) = cc (stopped ws x, stopped vs y)
-    in let p = split ends_word w v (first_of ws) (first_of vs) (rest_of ws x) (rest_of vs y) hw.0 hv.0 (first_stops ws) (first_stops vs) u
+    in let p =
+    split ends_word w v (first_of ws) (first_of vs) (rest_of ws x) (rest_of vs y) hw.0 hv.0 (first_stops ws)
+    (first_stops vs) u
     in let r : spaced ws ++ 10 ∷ x ≡ spaced vs ++ 10 ∷ y = stopped ws x ∙ p.1 ∙ sym (stopped vs y)
     in let i = read_words ws vs x y hw.1 hv.1 r
     in (cc, i.1)
 
 -- a line, and what stands behind it
-pub read_line : (f g : List ℕ) (ws vs : List (List ℕ)) (x y : List ℕ) → is_word f ≡ true → is_word g ≡ true → AreWords ws → AreWords vs
+pub read_line : (f g : List ℕ) (ws vs : List (List ℕ)) (x y : List ℕ) → is_word f ≡ true → is_word g ≡ true
+    → AreWords ws → AreWords vs
     → line f ws ++ x ≡ line g vs ++ y → (f ≡ g) × (ws ≡ vs) × (x ≡ y)
 read_line f g ws vs x y hf hg hw hv e =
-    let a : line f ws ++ x ≡ f ++ (spaced ws ++ 10 ∷ x) = append_assoc (f ++ spaced ws) (10 ∷ []) x ∙ append_assoc f (spaced ws) (10 ∷ x)
-    in let b : line g vs ++ y ≡ g ++ (spaced vs ++ 10 ∷ y) = append_assoc (g ++ spaced vs) (10 ∷ []) y ∙ append_assoc g (spaced vs) (10 ∷ y)
-    in let u : f ++ (first_of ws ∷ rest_of ws x) ≡ g ++ (first_of vs ∷ rest_of vs y) = cc (a, b, stopped ws x, stopped vs y)
-    in let p = split ends_word f g (first_of ws) (first_of vs) (rest_of ws x) (rest_of vs y) hf hg (first_stops ws) (first_stops vs) u
+    let a : line f ws ++ x ≡ f ++ (spaced ws ++ 10 ∷ x) =
+    append_assoc (f ++ spaced ws) (10 ∷ []) x ∙ append_assoc f (spaced ws) (10 ∷ x)
+    in let b : line g vs ++ y ≡ g ++ (spaced vs ++ 10 ∷ y) =
+    append_assoc (g ++ spaced vs) (10 ∷ []) y ∙ append_assoc g (spaced vs) (10 ∷ y)
+    in let u : f ++ (first_of ws ∷ rest_of ws x) ≡ g ++ (first_of vs ∷ rest_of vs y) =
+    cc (a, b, stopped ws x, stopped vs y)
+    in let p =
+    split ends_word f g (first_of ws) (first_of vs) (rest_of ws x) (rest_of vs y) hf hg (first_stops ws)
+    (first_stops vs) u
     in let r : spaced ws ++ 10 ∷ x ≡ spaced vs ++ 10 ∷ y = stopped ws x ∙ p.1 ∙ sym (stopped vs y)
     in let i = read_words ws vs x y hw hv r
     in (p.0, i.0, i.1)
 
-runs_on_append : (stops : ℕ → Bool) (w v : List ℕ) → runs_on stops w ≡ true → runs_on stops v ≡ true → runs_on stops (w ++ v) ≡ true
+runs_on_append : (stops : ℕ → Bool) (w v : List ℕ) → runs_on stops w ≡ true → runs_on stops v ≡ true
+    → runs_on stops (w ++ v) ≡ true
 runs_on_append stops [] v hw hv = hv
 runs_on_append stops (c ∷ w) v hw hv =
     let p = and_parts (not (stops c)) (runs_on stops w) hw
@@ -88,7 +103,8 @@ runs_on_append stops (c ∷ w) v hw hv =
     in grind (arith, nat_tests)
 
 -- digits stop nothing that starts below them or above them
-pub decimal_runs_on : (stops : ℕ → Bool) → ((d : ℕ) → d < 10 → stops (48 + d) ≡ false) → (n : ℕ) → n < 2 ^ 64 → runs_on stops (decimal n) ≡ true
+pub decimal_runs_on : (stops : ℕ → Bool) → ((d : ℕ) → d < 10 → stops (48 + d) ≡ false) → (n : ℕ) → n < 2 ^ 64
+    → runs_on stops (decimal n) ≡ true
 decimal_runs_on stops h n small =
     decimal_by_steps (λ m ds. runs_on stops ds ≡ true)
     (λ m low. let s : stops (48 + m) ≡ false = h m low in grind (arith, nat_tests))
@@ -107,7 +123,8 @@ glyph_is d low = let t : nat_lt d 10 ≡ true = lt-ltb d 10 low in rw t refl
 pub both_true : {a b : Bool} → a ≡ true → b ≡ true → (a && b) ≡ true
 both_true ha hb = grind (arith, nat_tests)
 
-onto_runs_on : (stops : ℕ → Bool) → ((d : ℕ) → d < 10 → stops (48 + d) ≡ false) → (k n : ℕ) (acc : List ℕ) → runs_on stops acc ≡ true → runs_on stops (digits_onto k 10 false n acc) ≡ true
+onto_runs_on : (stops : ℕ → Bool) → ((d : ℕ) → d < 10 → stops (48 + d) ≡ false) → (k n : ℕ) (acc : List ℕ)
+    → runs_on stops acc ≡ true → runs_on stops (digits_onto k 10 false n acc) ≡ true
 onto_runs_on stops h zero n acc ha = ha
 onto_runs_on stops h (suc k) n acc ha =
     let low : n % 10 < 10 = omega arith
@@ -120,7 +137,8 @@ onto_runs_on stops h (suc k) n acc ha =
       | inr z ↦ rw z (onto_runs_on stops h k (n / 10) (digit_glyph false (n % 10) ∷ acc) r)
     ]
 
-pub decimal_runs : (stops : ℕ → Bool) → ((d : ℕ) → d < 10 → stops (48 + d) ≡ false) → (n : ℕ) → runs_on stops (decimal n) ≡ true
+pub decimal_runs : (stops : ℕ → Bool) → ((d : ℕ) → d < 10 → stops (48 + d) ≡ false) → (n : ℕ)
+    → runs_on stops (decimal n) ≡ true
 unfolding digits
 decimal_runs stops h n = onto_runs_on stops h 64 n [] refl
 

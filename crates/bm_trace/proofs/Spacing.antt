@@ -1,5 +1,6 @@
 -- Words behind words.
-use Rattle.std.proofs.Common.{◌≡◌, ℕ, ◌+◌, ◌-◌, ◌<◌, ◌≤◌, ◌==◌, if◌then◌else◌, true, false, inl, inr, List, [], ◌∷◌, ◌++◌, length, take, get_or, set, refl, ap, ◌∙◌, sym, arith, append_assoc}
+use Rattle.std.proofs.Common.{◌≡◌, ℕ, ◌+◌, ◌-◌, ◌<◌, ◌≤◌, ◌==◌, if◌then◌else◌, true, false, inl, inr, List, [], ◌∷◌}
+use Rattle.std.proofs.Common.{◌++◌, length, take, get_or, set, refl, ap, ◌∙◌, sym, arith, append_assoc}
 use Rattle.std.proofs.lemmas.Bool.{cases_eq, eq-eqb, ne_eqb}
 use Rattle.std.proofs.lemmas.List.{append-nil}
 use Rattle.std.proofs.lemmas.Grind.{common_steps}
@@ -13,13 +14,18 @@ spaced_append (w ∷ a) b = ap (λ x. 32 ∷ w ++ x) (spaced_append a b) ∙ sym
 
 pub ends_append : (a b : List End) → words_of_ends (a ++ b) ≡ words_of_ends a ++ words_of_ends b
 ends_append [] b = refl
-ends_append (e ∷ a) b = ap (λ x. words_of_end e ++ x) (ends_append a b) ∙ sym (append_assoc (words_of_end e) (words_of_ends a) (words_of_ends b))
+ends_append (e ∷ a) b =
+    ap (λ x. words_of_end e ++ x) (ends_append a b)
+    ∙ sym (append_assoc (words_of_end e) (words_of_ends a) (words_of_ends b))
 
 -- one end more
-pub ends_push : (ends : List End) (end : End) → words_of_ends (ends ++ end ∷ []) ≡ words_of_ends ends ++ words_of_end end
+pub ends_push : (ends : List End) (end : End) → words_of_ends (ends ++ end ∷ []) ≡ words_of_ends ends
+    ++ words_of_end end
 ends_push ends end = ends_append ends (end ∷ []) ∙ ap (λ x. words_of_ends ends ++ x) (append-nil (words_of_end end))
 
-pub spaced_more : (ends : List End) (i : ℕ) (d : End) → i < length ends → spaced (words_of_ends (take (i + 1) ends)) ≡ spaced (words_of_ends (take i ends)) ++ spaced (words_of_end (get_or ends i d))
+pub spaced_more : (ends : List End) (i : ℕ) (d : End) → i < length ends
+    → spaced (words_of_ends (take (i + 1) ends)) ≡ spaced (words_of_ends (take i ends))
+    ++ spaced (words_of_end (get_or ends i d))
 spaced_more ends i d h =
     let e : take (i + 1) ends ≡ take i ends ++ get_or ends i d ∷ [] = grind (arith, common_steps)
     in ap (λ x. spaced (words_of_ends x)) e
@@ -27,8 +33,10 @@ spaced_more ends i d h =
     ∙ spaced_append (words_of_ends (take i ends)) (words_of_end (get_or ends i d))
 
 -- an end is put into the list of its packet
-pub end_added : (table : List (List End)) (p : ℕ) (end : End) (old new : List End) → 0 < p → p ≤ length table → old ≡ get_or table (p - 1) old → new ≡ old ++ end ∷ [] → (k : ℕ) → k < length table
-    → words_of_ends (get_or (set table (p - 1) new) k []) ≡ words_of_ends (get_or table k []) ++ (if p == k + 1 then words_of_end end else [])
+pub end_added : (table : List (List End)) (p : ℕ) (end : End) (old new : List End) → 0 < p → p ≤ length table
+    → old ≡ get_or table (p - 1) old → new ≡ old ++ end ∷ [] → (k : ℕ) → k < length table
+    → words_of_ends (get_or (set table (p - 1) new) k []) ≡ words_of_ends (get_or table k [])
+    ++ (if p == k + 1 then words_of_end end else [])
 end_added table p end old new some few was now k below =
     elim (cases_eq p (k + 1)) [
       | inl same ↦
@@ -36,7 +44,8 @@ end_added table p end old new some few was now k below =
           in let eq : (p == k + 1) ≡ true = eq-eqb p (k + 1) same
           in let here : get_or (set table (p - 1) new) k [] ≡ new = grind (arith, common_steps)
           in let there : get_or table k [] ≡ old = grind (arith, common_steps)
-          in rw eq (ap words_of_ends (here ∙ now) ∙ ends_push old end ∙ ap (λ x. words_of_ends x ++ words_of_end end) (sym there))
+          in rw eq (ap words_of_ends (here ∙ now) ∙ ends_push old end
+          ∙ ap (λ x. words_of_ends x ++ words_of_end end) (sym there))
       | inr other ↦
           let ne : (p == k + 1) ≡ false = ne_eqb p (k + 1) other
           in let apart : get_or (set table (p - 1) new) k [] ≡ get_or table k [] = grind (arith, common_steps)

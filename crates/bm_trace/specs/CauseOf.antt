@@ -20,7 +20,8 @@ cause_of h place = cause_after h.stage (past_at h place) (event_at h place)
 
 -- a packet is dropped, reset or processed elsewhere
 abbrev pub is_fault : Stage → List Event → What → Bool
-is_fault stage past (Arrive packet hop server verdict) = wants_cause verdict (owner stage past packet) server (segment_of stage packet)
+is_fault stage past (Arrive packet hop server verdict) =
+    wants_cause verdict (owner stage past packet) server (segment_of stage packet)
 is_fault stage past _ = false
 
 abbrev pub is_fault_after : Stage → List Event → Option Event → Bool

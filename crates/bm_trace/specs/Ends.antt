@@ -3,7 +3,8 @@ use Rattle.std.specs.Prelude.{ℕ, List, [], ◌∷◌, ◌++◌, Option, Some, 
 use Rattle.bm_base.specs.declared.capture.Body.{Body}
 use Rattle.bm_base.specs.declared.capture.Body.TheVariants.{Steerable, Unsteered}
 use Rattle.bm_trace.specs.declared.records.End.{End}
-use Rattle.bm_trace.specs.declared.records.End.TheVariants.{Lost, Accepted, Processed, Reset, Dropped}
+use Rattle.bm_trace.specs.declared.records.End.TheVariants.{Lost, Accepted, Processed, Reset}
+use Rattle.bm_trace.specs.declared.records.End.TheVariants.{Dropped}
 use Rattle.bm_trace.specs.Words.{reason_word}
 
 abbrev pub words_of_end : End → List (List ℕ)

@@ -1,5 +1,7 @@
--- The report of a history: a line for each event, a line for each record, a note where the capture is cut short, and the totals.
-use Rattle.std.specs.Prelude.{ℕ, suc, ◌==◌, if◌then◌else◌, List, [], ◌∷◌, ◌++◌, Option, Some, None, reverse, codes, decimal}
+-- The report of a history: a line for each event, a line for each record, a note where the capture
+-- is cut short, and the totals.
+use Rattle.std.specs.Prelude.{ℕ, suc, ◌==◌, if◌then◌else◌, List, [], ◌∷◌, ◌++◌, Option, Some, None}
+use Rattle.std.specs.Prelude.{reverse, codes, decimal}
 use Rattle.bm_base.specs.declared.capture.Body.{Body}
 use Rattle.bm_base.specs.declared.capture.Body.TheVariants.{Steerable, Unsteered}
 use Rattle.bm_base.specs.declared.capture.Record.{Record}
@@ -11,12 +13,14 @@ use Rattle.bm_core.specs.declared.events.Stage.{Stage}
 use Rattle.bm_core.specs.declared.events.Verdict.{Verdict}
 use Rattle.bm_core.specs.declared.events.Verdict.TheVariants.{Accept, Process, Forward, Reset, Drop}
 use Rattle.bm_core.specs.declared.events.What.{What}
-use Rattle.bm_core.specs.declared.events.What.TheVariants.{Publish, Switch, Steer, Lose, Arrive, Close, Retire, Sync}
+use Rattle.bm_core.specs.declared.events.What.TheVariants.{Publish, Switch, Steer, Lose, Arrive}
+use Rattle.bm_core.specs.declared.events.What.TheVariants.{Close, Retire, Sync}
 use Rattle.bm_core.specs.Causes.{cause}
 use Rattle.bm_core.specs.Past.{bucket, segment_of, version_at}
 use Rattle.bm_trace.specs.declared.sums.Totals.{Totals}
 use Rattle.bm_trace.specs.Totals.{totals_of}
-use Rattle.bm_trace.specs.Words.{line, counted, endpoint, hop_word, verdict_words, because_words, retirement_words, reason_word}
+use Rattle.bm_trace.specs.Words.{line, counted, endpoint, hop_word, verdict_words, because_words}
+use Rattle.bm_trace.specs.Words.{retirement_words, reason_word}
 
 -- THE EVENTS
 
@@ -30,7 +34,8 @@ abbrev pub event_words : Stage → List Event → ℕ → What → List (List �
 event_words stage past clock (Publish v) = codes "publish" ∷ decimal v.0 ∷ []
 event_words stage past clock (Switch m v) = codes "switch" ∷ decimal m.0 ∷ decimal v.0 ∷ []
 event_words stage past clock (Steer k m) =
-    codes "steer" ∷ decimal k ∷ decimal m.0 ∷ decimal (version_at past m).0 ∷ decimal (bucket_of_packet stage (segment_of stage k)) ∷ []
+    codes "steer" ∷ decimal k ∷ decimal m.0 ∷ decimal (version_at past m).0 ∷ decimal
+    (bucket_of_packet stage (segment_of stage k)) ∷ []
 event_words stage past clock (Lose k hop) = codes "lost" ∷ decimal k ∷ hop_word hop ∷ []
 event_words stage past clock (Arrive k hop server verdict) =
     (codes "arrive" ∷ decimal k ∷ hop_word hop ∷ decimal server.0 ∷ [])
@@ -40,7 +45,8 @@ event_words stage past clock (Close server flow closed) =
     codes "close" ∷ decimal server.0 ∷ endpoint flow.src flow.sport ∷ endpoint flow.dst flow.dport
     ∷ (if closed then codes "closed" else codes "none") ∷ []
 event_words stage past clock (Retire server shard at result) =
-    (codes "retire" ∷ decimal server.0 ∷ decimal shard ∷ codes "at" ∷ decimal at.0 ∷ []) ++ retirement_words result
+    (codes "retire" ∷ decimal server.0 ∷ decimal shard ∷ codes "at" ∷ decimal at.0 ∷ [])
+    ++ retirement_words result
 event_words stage past clock Sync = codes "sync" ∷ []
 
 abbrev pub event_line : Stage → List Event → Event → List ℕ
@@ -63,11 +69,13 @@ verdict_end server (Drop why) = codes "dropped" ∷ decimal server.0 ∷ []
 
 -- the end of a copy of packet k, where the event is one
 abbrev pub end_words : What → ℕ → List (List ℕ)
-end_words (Arrive packet hop server verdict) k = if packet == k then verdict_end server verdict else []
+end_words (Arrive packet hop server verdict) k =
+    if packet == k then verdict_end server verdict else []
 end_words (Lose packet hop) k = if packet == k then codes "lost" ∷ [] else []
 end_words _ k = []
 
--- the ends of packet k among these events, of which the newest is first, in the order in which they came
+-- the ends of packet k among these events, of which the newest is first, in the order in which they
+-- came
 abbrev pub ends_of : List Event → ℕ → List (List ℕ)
 ends_of [] k = []
 ends_of (e ∷ past) k = ends_of past k ++ end_words e.what k
@@ -79,13 +87,16 @@ record_words past k (Steerable s) = ends_of past k
 -- the lines of the records, of which the first has this number
 abbrev pub record_lines : List Event → ℕ → List Record → List ℕ
 record_lines past k [] = []
-record_lines past k (r ∷ records) = line (codes "packet") (decimal k ∷ record_words past k r.body) ++ record_lines past (suc k) records
+record_lines past k (r ∷ records) =
+    line (codes "packet") (decimal k ∷ record_words past k r.body)
+    ++ record_lines past (suc k) records
 
 -- THE REST
 
 abbrev pub note_line : Option ℕ → List ℕ
 note_line None = []
-note_line (Some k) = line (codes "note") (codes "record" ∷ decimal k ∷ codes "cut" ∷ codes "short" ∷ [])
+note_line (Some k) =
+    line (codes "note") (codes "record" ∷ decimal k ∷ codes "cut" ∷ codes "short" ∷ [])
 
 abbrev pub totals_line : Totals → List ℕ
 totals_line t =

@@ -1,5 +1,7 @@
--- What the code keeps of the events while it writes their lines, so that a line needs a look back only where it asks what servers hold.
-use Rattle.std.specs.Prelude.{◌≡◌, ℕ, suc, ◌<◌, List, length, Option, None, option_map, slice_index_or}
+-- What the code keeps of the events while it writes their lines, so that a line needs a look back
+-- only where it asks what servers hold.
+use Rattle.std.specs.Prelude.{◌≡◌, ℕ, suc, ◌<◌, List, length, Option, None, option_map}
+use Rattle.std.specs.Prelude.{slice_index_or}
 use Rattle.std.specs.BTreeMap as tree
 use Rattle.bm_base.specs.contracts.flow.FlowOrd.TheImpl as flow_order
 use Rattle.bm_base.specs.declared.flow.Flow.{Flow}
@@ -16,16 +18,26 @@ use Rattle.bm_trace.specs.Sent.{label_from, owner_from}
 
 -- these are the versions of the muxes, as many as there are
 abbrev pub AreVersions : List Event → List Version → Type 0
-AreVersions past versions = (m : MuxId) → m.0 < length versions → slice_index_or versions m.0 (record { 0 = 0 }) ≡ version_at past m
+AreVersions past versions =
+    (m : MuxId) → m.0 < length versions
+    → slice_index_or versions m.0 (record { 0 = 0 }) ≡ version_at past m
 
--- the newest version, the versions of the muxes, the flows' last Accepts, and what is known of the packets, after these events
-pub record IsKept (stage : Stage) (past : List Event) (published : Version) (versions : List Version) (accepts : Flow → Option Owner) (packets : List (Option Sent)) : Type 0 where
+-- the newest version, the versions of the muxes, the flows' last Accepts, and what is known of the
+-- packets, after these events
+pub record IsKept (stage : Stage) (past : List Event) (published : Version)
+    (versions : List Version) (accepts : Flow → Option Owner) (packets : List (Option Sent)) : Type
+    0 where
   pub newest_one : published.0 ≡ newest past
   pub version_of_each : AreVersions past versions
   pub accept_of_each : (f : Flow) → option_map as_accepted (accepts f) ≡ accept_of stage past f
-  pub label_of_each : (k : ℕ) → k < length packets → label_from stage (segment_of stage (suc k)) (slice_index_or packets k None) ≡ label_of stage past (suc k)
-  pub owner_of_each : (k : ℕ) → k < length packets → owner_from (slice_index_or packets k None) ≡ owner stage past (suc k)
+  pub label_of_each : (k : ℕ) → k < length packets
+      → label_from stage (segment_of stage (suc k)) (slice_index_or packets k None)
+      ≡ label_of stage past (suc k)
+  pub owner_of_each : (k : ℕ) → k < length packets
+      → owner_from (slice_index_or packets k None) ≡ owner stage past (suc k)
 
 -- they are what is kept here
 abbrev pub Keeps : Stage → List Event → Running → Type 0
-Keeps stage past r = IsKept stage past r.newest r.versions.items (tree.get (flow_order.ghosts).cmp r.accepts.owners) r.packets.items
+Keeps stage past r =
+    IsKept stage past r.newest r.versions.items (tree.get (flow_order.ghosts).cmp r.accepts.owners)
+    r.packets.items

@@ -27,5 +27,8 @@ place_after Ends place before = None
 place_after Keeps place before = option_map (λ h. h.place) before
 
 -- the event has this effect on the flow at the server
-pub record HasEffect (stage : Stage) (what : What) (s : ServerId) (f : Flow) (effect : Effect) : Type 0 where
-  pub place : (place : ℕ) (before : Option Holding) → option_map (λ h. h.place) (held_after stage place what s f before) ≡ place_after effect place before
+pub record HasEffect (stage : Stage) (what : What) (s : ServerId) (f : Flow) (effect : Effect) :
+    Type 0 where
+  pub place : (place : ℕ) (before : Option Holding)
+      → option_map (λ h. h.place) (held_after stage place what s f before)
+      ≡ place_after effect place before

@@ -12,7 +12,13 @@ use Rattle.bm_trace.specs.Seen.{as_accepted}
 
 -- the label of a packet of this flow
 abbrev pub label_sent : Stage → Flow → Sent → Label
-label_sent stage f sent = record { mux = sent.mux; version = sent.version; entry = table stage.script.plan sent.version.0 (bucket stage f) }
+label_sent stage f sent =
+    record {
+      mux = sent.mux;
+      version = sent.version;
+      entry =
+          table stage.script.plan sent.version.0 (bucket stage f);
+    }
 
 -- the label of a packet with this segment, where it was steered
 abbrev pub label_from : Stage → Option Segment → Option Sent → Option Label

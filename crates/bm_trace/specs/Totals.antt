@@ -1,5 +1,6 @@
 -- The ten numbers of a history's last line.
-use Rattle.std.specs.Prelude.{ℕ, suc, Bool, true, false, ◌&&◌, not, is_some, if◌then◌else◌, List, [], ◌∷◌, Some, length, reverse, count_by}
+use Rattle.std.specs.Prelude.{ℕ, suc, Bool, true, false, ◌&&◌, not, is_some, if◌then◌else◌, List}
+use Rattle.std.specs.Prelude.{[], ◌∷◌, Some, length, reverse, count_by}
 use Rattle.bm_base.specs.declared.capture.Record.{Record}
 use Rattle.bm_core.specs.declared.events.Event.{Event}
 use Rattle.bm_core.specs.declared.events.History.{History}
@@ -35,12 +36,14 @@ is_lost _ = false
 -- a packet that isn't opening is processed without an owner, or at a server other than its owner's
 abbrev pub is_stray : Stage → List Event → What → Bool
 is_stray stage past (Arrive packet hop server verdict) =
-    is_process verdict && wants_cause verdict (owner stage past packet) server (segment_of stage packet)
+    is_process verdict
+    && wants_cause verdict (owner stage past packet) server (segment_of stage packet)
 is_stray stage past _ = false
 
 abbrev pub strays : Stage → List Event → ℕ
 strays stage [] = 0
-strays stage (e ∷ past) = if is_stray stage past e.what then suc (strays stage past) else strays stage past
+strays stage (e ∷ past) =
+    if is_stray stage past e.what then suc (strays stage past) else strays stage past
 
 abbrev pub totals_of : History → Totals
 totals_of h = record {

@@ -1,21 +1,30 @@
--- The words of the report, and the lines that they make: words are parted by one space, and each line ends with a line feed.
+-- The words of the report, and the lines that they make: words are parted by one space, and each
+-- line ends with a line feed.
 use Rattle.std.specs.Prelude.{ℕ, List, [], ◌∷◌, ◌++◌, Option, Some, None, codes, decimal}
 use Rattle.std.specs.Int.{to_be_bytes, w32}
 use Rattle.std.specs.Net.Text.{ipv4_text}
 use Rattle.bm_base.specs.declared.capture.Reason.{Reason}
-use Rattle.bm_base.specs.declared.capture.Reason.TheVariants.{ShortLink, NotIpv4, ShortIp, NotVersion4, BadHeaderLength, BadTotalLength, Fragment, NotTcp, ShortTcp, BadOffset, OtherDestination, TooLong, Later}
+use Rattle.bm_base.specs.declared.capture.Reason.TheVariants.{ShortLink, NotIpv4, ShortIp}
+use Rattle.bm_base.specs.declared.capture.Reason.TheVariants.{NotVersion4, BadHeaderLength}
+use Rattle.bm_base.specs.declared.capture.Reason.TheVariants.{BadTotalLength, Fragment, NotTcp}
+use Rattle.bm_base.specs.declared.capture.Reason.TheVariants.{ShortTcp, BadOffset, OtherDestination}
+use Rattle.bm_base.specs.declared.capture.Reason.TheVariants.{TooLong, Later}
 use Rattle.bm_base.specs.declared.label.Hop.{Hop}
 use Rattle.bm_base.specs.declared.label.Hop.TheVariants.{Direct, Chained}
 use Rattle.bm_base.specs.declared.receive.Taken.{Taken}
-use Rattle.bm_base.specs.declared.receive.Taken.TheVariants.{Advance, Duplicate, Ahead, Outside, Challenge, Ended}
+use Rattle.bm_base.specs.declared.receive.Taken.TheVariants.{Advance, Duplicate, Ahead, Outside}
+use Rattle.bm_base.specs.declared.receive.Taken.TheVariants.{Challenge, Ended}
 use Rattle.bm_table.specs.declared.plan.Retirement.{Retirement}
 use Rattle.bm_table.specs.declared.plan.Retirement.TheVariants.{Done, NotDrained, TooEarly}
 use Rattle.bm_core.specs.declared.events.Cause.{Cause}
-use Rattle.bm_core.specs.declared.events.Cause.TheVariants.{NeverAccepted, NotHeld, StaleMux, MovedTwice, ChainLate, SynElsewhere, Full as FullShard, OldTable}
+use Rattle.bm_core.specs.declared.events.Cause.TheVariants.{NeverAccepted, NotHeld, StaleMux}
+use Rattle.bm_core.specs.declared.events.Cause.TheVariants.{MovedTwice, ChainLate, SynElsewhere}
+use Rattle.bm_core.specs.declared.events.Cause.TheVariants.{Full as FullShard, OldTable}
 use Rattle.bm_core.specs.declared.events.Verdict.{Verdict}
 use Rattle.bm_core.specs.declared.events.Verdict.TheVariants.{Accept, Process, Forward, Reset, Drop}
 use Rattle.bm_core.specs.declared.events.Why.{Why}
-use Rattle.bm_core.specs.declared.events.Why.TheVariants.{NoPrevious, ChainExpired, ChainedUnknown, Silent, Full, Retired}
+use Rattle.bm_core.specs.declared.events.Why.TheVariants.{NoPrevious, ChainExpired, ChainedUnknown}
+use Rattle.bm_core.specs.declared.events.Why.TheVariants.{Silent, Full, Retired}
 
 -- each word behind a space
 abbrev pub spaced : List (List ℕ) → List ℕ

@@ -1,5 +1,6 @@
 //! Why a packet is dropped, reset or processed elsewhere.
-ghost use Rattle.std.specs.Prelude.{◌≡◌, ◌+◌, ◌<◌, ◌≤◌, ◌&&◌, List, length, reverse, Some, None, option_map, is_some};
+ghost use Rattle.std.specs.Prelude.{◌≡◌, ◌+◌, ◌<◌, ◌≤◌, ◌&&◌, List, length, reverse, Some, None};
+ghost use Rattle.std.specs.Prelude.{option_map, is_some};
 ghost use Rattle.bm_core.specs.Past as past;
 ghost use Rattle.bm_core.specs.Causes as causes;
 ghost use Rattle.bm_trace.specs.Ranges.{HasRanges};
@@ -33,7 +34,13 @@ impl Arrival {
         verdict: Verdict,
         sent: Option<Sent>,
     ) -> Arrival
-        ensures { result ≡ record { server = server; verdict = verdict; segment = past.segment_of stage.now packet; sent = sent } }
+        ensures { result ≡ record {
+          server =
+              server;
+          verdict = verdict;
+          segment = past.segment_of stage.now packet;
+          sent = sent;
+        } }
     {
         Arrival {
             server,
@@ -44,8 +51,9 @@ impl Arrival {
     }
 
     /// Whether the packet is dropped, reset or processed elsewhere.
-    fn wants_cause(&self) -> bool
-        ensures { result ≡ causes.wants_cause self.now.verdict (owner_from self.now.sent) self.now.server self.now.segment }
+    pub(crate) fn wants_cause(&self) -> bool
+        ensures { result ≡ causes.wants_cause self.now.verdict (owner_from self.now.sent)
+            self.now.server self.now.segment }
     {
         let Some(segment) = self.segment else {
             return false;
@@ -59,7 +67,8 @@ impl Arrival {
         }
     }
 
-    /// Whether the packet isn't opening and is processed without an owner, or elsewhere than at its owner's server.
+    /// Whether the packet isn't opening and is processed without an owner, or elsewhere than at its
+    /// owner's server.
     pub(crate) fn is_stray(&self) -> bool
         ensures { result ≡ (causes.is_process self.now.verdict
             && causes.wants_cause self.now.verdict (owner_from self.now.sent) self.now.server self.now.segment) }
@@ -77,7 +86,8 @@ impl Arrival {
     ) -> Option<Cause>
         requires ranges { HasRanges stage.now }
         requires newest { newest ≡ past.newest (reverse events.now) }
-        ensures { result ≡ causes.cause_at stage.now (reverse events.now) clock.0 self.now.server self.now.verdict
+        ensures { result ≡ causes.cause_at stage.now (reverse events.now) clock.0 self.now.server
+            self.now.verdict
             (owner_from self.now.sent) self.now.segment (label_from stage.now self.now.segment self.now.sent) }
     {
         if !self.wants_cause() {
@@ -94,7 +104,7 @@ impl Arrival {
 }
 
 /// The cause where an opening packet arrives.
-fn opening_cause(verdict: &Verdict, version: u32, newest: u32) -> Option<Cause>
+pub(crate) fn opening_cause(verdict: &Verdict, version: u32, newest: u32) -> Option<Cause>
     ensures { result ≡ causes.opening_cause verdict.now version newest }
 {
     match verdict {
@@ -123,7 +133,9 @@ fn first_broken(
     sent: &Sent,
 ) -> Option<Cause>
     requires { HasRanges stage.now }
-    ensures { result ≡ causes.first_broken stage.now (reverse events.now) clock.0 (label_sent stage.now flow.now sent.now) flow.now server (option_map as_accepted sent.now.owner) }
+    ensures { result ≡ causes.first_broken stage.now (reverse events.now) clock.0
+        (label_sent stage.now flow.now sent.now) flow.now server
+        (option_map as_accepted sent.now.owner) }
 {
     let Some(owner) = sent.owner else {
         return Some(Cause::NeverAccepted);

@@ -1,5 +1,6 @@
 //! The whole report.
-ghost use Rattle.std.specs.Prelude.{◌≡◌, ◌+◌, ◌<◌, ◌≤◌, ◌++◌, List, length, reverse, OnOk, OnErr, IfOk, string_bytes, is_ok, if◌then◌else◌};
+ghost use Rattle.std.specs.Prelude.{◌≡◌, ◌+◌, ◌<◌, ◌≤◌, ◌++◌, List, length, reverse, OnOk, OnErr};
+ghost use Rattle.std.specs.Prelude.{IfOk, string_bytes, is_ok, if◌then◌else◌};
 ghost use Rattle.bm_core.specs.Runs.{IsRun};
 ghost use Rattle.bm_trace.specs.Parts.{AppendsPart};
 ghost use Rattle.bm_trace.specs.Ranges.{HasRanges};
@@ -8,14 +9,15 @@ ghost use Rattle.bm_trace.specs.Totals as totals;
 
 use crate::counts::totals_with;
 use crate::endings::ends_of_packets;
+use crate::known::Known;
 use crate::lines::{write_event, write_note, write_totals};
 use crate::records::write_record;
-use crate::running::Running;
 use bm_base::Memory;
 use bm_core::History;
 
 fn put_line(out: &mut Vec<u8>, line: &String) -> Result<(), Memory>
-    ensures { out.new.items ≡ (if is_ok result then out.old.items ++ string_bytes line.now else out.old.items) }
+    ensures { out.new.items
+        ≡ (if is_ok result then out.old.items ++ string_bytes line.now else out.old.items) }
 {
     out.extend_from_slice(line.as_bytes())?;
     Ok(())
@@ -24,28 +26,26 @@ fn put_line(out: &mut Vec<u8>, line: &String) -> Result<(), Memory>
 /// Appends the lines of the events, and counts the strays.
 fn put_events(h: &History, out: &mut Vec<u8>) -> Result<u64, Memory>
     requires { HasRanges h.now.stage }
-    ensures ok { OnOk result (out.new.items ≡ out.old.items ++ report.event_lines h.now.stage (reverse h.now.events)) }
+    ensures ok { OnOk result
+        (out.new.items ≡ out.old.items ++ report.event_lines h.now.stage (reverse h.now.events)) }
     ensures strays { IfOk result (λ n. n ≡ totals.strays h.now.stage (reverse h.now.events)) }
-    ensures err { OnErr result (AppendsPart out.old.items out.new.items (report.event_lines h.now.stage (reverse h.now.events))) }
+    ensures err { OnErr result
+        (AppendsPart out.old.items out.new.items
+        (report.event_lines h.now.stage (reverse h.now.events))) }
 {
     let alloc = *out.allocator();
     let events = h.events.items();
-    let setting = &h.stage.script.setting;
-    let mut running = Running::new(
-        alloc,
-        usize::from(setting.muxes),
-        h.stage.capture.records.items().len(),
-    )?;
+    let mut known = Known::new(alloc, &h.stage)?;
     let mut line = String::new(alloc);
     let mut strays = 0;
     for (place, event) in events.iter().enumerate() {
         let before = &events[..place];
         line.clear();
-        write_event(&mut line, &running, &h.stage, before, event)?;
-        if running.is_stray(&h.stage, before, &event.what) {
+        write_event(&mut line, &known, &h.stage, before, event)?;
+        if known.is_stray(&h.stage, before, &event.what) {
             strays += 1;
         }
-        running.note(&h.stage, before, event)?;
+        known.note(alloc, &h.stage, before, event)?;
         put_line(out, &line)?;
     }
     Ok(strays)
@@ -54,8 +54,12 @@ fn put_events(h: &History, out: &mut Vec<u8>) -> Result<u64, Memory>
 /// Appends the lines of the records.
 fn put_records(h: &History, out: &mut Vec<u8>) -> Result<(), Memory>
     requires { HasRanges h.now.stage }
-    ensures ok { OnOk result (out.new.items ≡ out.old.items ++ report.record_lines (reverse h.now.events) 1 h.now.stage.capture.records) }
-    ensures err { OnErr result (AppendsPart out.old.items out.new.items (report.record_lines (reverse h.now.events) 1 h.now.stage.capture.records)) }
+    ensures ok { OnOk result
+        (out.new.items ≡ out.old.items
+        ++ report.record_lines (reverse h.now.events) 1 h.now.stage.capture.records) }
+    ensures err { OnErr result
+        (AppendsPart out.old.items out.new.items
+        (report.record_lines (reverse h.now.events) 1 h.now.stage.capture.records)) }
 {
     let mut line = String::new(*out.allocator());
     let records = h.stage.capture.records.items();

@@ -1,5 +1,6 @@
 //! The ends of each packet's copies, in the order of the events.
-ghost use Rattle.std.specs.Prelude.{◌≡◌, ℕ, ◌+◌, ◌<◌, ◌≤◌, ◌==◌, ◌∷◌, ◌++◌, [], List, length, reverse, OnOk, IfOk, slice_index_or, if◌then◌else◌, vec_len};
+ghost use Rattle.std.specs.Prelude.{◌≡◌, ℕ, ◌+◌, ◌<◌, ◌≤◌, ◌==◌, ◌∷◌, ◌++◌, [], List, length};
+ghost use Rattle.std.specs.Prelude.{reverse, OnOk, IfOk, slice_index_or, if◌then◌else◌, vec_len};
 ghost use Rattle.bm_trace.specs.Ends.{words_of_end, words_of_ends};
 ghost use Rattle.bm_trace.specs.Report as report;
 
@@ -49,7 +50,8 @@ impl Ends {
 /// No end for any of so many packets.
 fn no_ends(alloc: Global, packets: usize) -> Result<Vec<Ends>, AllocError>
     ensures count { IfOk result (λ table. vec_len table ≡ packets) }
-    ensures none { IfOk result (λ table. (k : ℕ) → k < packets → slice_index_or table.items k [] ≡ []) }
+    ensures none { IfOk result
+        (λ table. (k : ℕ) → k < packets → slice_index_or table.items k [] ≡ []) }
 {
     let mut table = Vec::with_capacity(alloc, packets)?;
     for _ in 0..packets {
@@ -62,7 +64,9 @@ fn no_ends(alloc: Global, packets: usize) -> Result<Vec<Ends>, AllocError>
 fn add_ending(table: &mut Vec<Ends>, ending: Ending) -> Result<(), AllocError>
     ensures count { OnOk result (vec_len table.new ≡ vec_len table.old) }
     ensures added { OnOk result ((k : ℕ) → k < vec_len table.old →
-        words_of_ends (slice_index_or table.new.items k []) ≡ words_of_ends (slice_index_or table.old.items k []) ++ (if ending.packet == k + 1 then words_of_end ending.end else [])) }
+        words_of_ends (slice_index_or table.new.items k [])
+        ≡ words_of_ends (slice_index_or table.old.items k [])
+        ++ (if ending.packet == k + 1 then words_of_end ending.end else [])) }
 {
     let packet = ending.packet as usize;
     if 0 < packet && packet <= table.len() {
@@ -79,7 +83,10 @@ pub(crate) fn ends_of_packets(
     events: &[Event],
 ) -> Result<Vec<Ends>, AllocError>
     ensures count { IfOk result (λ table. vec_len table ≡ packets) }
-    ensures ends { IfOk result (λ table. (k : ℕ) → k < packets → words_of_ends (slice_index_or table.items k []) ≡ report.ends_of (reverse events.now) (k + 1)) }
+    ensures ends { IfOk result
+        (λ table. (k : ℕ) → k < packets
+        → words_of_ends (slice_index_or table.items k [])
+        ≡ report.ends_of (reverse events.now) (k + 1)) }
 {
     let mut table = no_ends(alloc, packets)?;
     for event in events {

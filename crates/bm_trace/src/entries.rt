@@ -27,8 +27,8 @@ fn brings(change: Option<&Change>, bucket: u32) -> Option<ServerId>
     target(change?.moves.items(), bucket)
 }
 
-fn moment_of(change: Option<&Change>) -> Moment
-    ensures { result.0 ≡ tables.moment_of (option_copied change.entry) }
+pub(crate) fn moment_of(change: Option<&Change>) -> Moment
+    ensures { result.0 ≡ tables.change_moment (option_copied change.entry) }
 {
     match change {
         None => Moment(0),
@@ -37,7 +37,8 @@ fn moment_of(change: Option<&Change>) -> Moment
 }
 
 fn moved(old: Entry, change: Option<&Change>, bucket: u32) -> Entry
-    ensures { result ≡ tables.moved old (tables.moment_of (option_copied change.entry)) (tables.brings (option_copied change.entry) bucket) }
+    ensures { result ≡ tables.moved old (tables.change_moment (option_copied change.entry))
+        (tables.brings (option_copied change.entry) bucket) }
 {
     match brings(change, bucket) {
         None => old,

@@ -1,7 +1,8 @@
 //! Which connections servers hold.
 #![tactic(auto, using(crate::proofs::Newest::reverse_last))]
 
-ghost use Rattle.std.specs.Prelude.{◌≡◌, ◌+◌, ◌<◌, ◌≤◌, List, length, reverse, Some, None, option_map, true, false};
+ghost use Rattle.std.specs.Prelude.{◌≡◌, ◌+◌, ◌<◌, ◌≤◌, List, length, reverse, Some, None};
+ghost use Rattle.std.specs.Prelude.{option_map, true, false};
 ghost use Rattle.bm_core.specs.Past as past;
 ghost use Rattle.bm_core.specs.Causes as causes;
 ghost use Rattle.bm_trace.specs.Ranges.{HasRanges};
@@ -71,7 +72,8 @@ pub(crate) fn held_place(
     flow: &Flow,
 ) -> Option<usize>
     requires { HasRanges stage.now }
-    ensures { result ≡ option_map (λ h. h.place) (past.held stage.now (reverse events.now) server flow.now) }
+    ensures { result
+        ≡ option_map (λ h. h.place) (past.held stage.now (reverse events.now) server flow.now) }
 {
     let mut rest = events;
     while let Some((event, before)) = rest.split_last() {
@@ -93,7 +95,8 @@ fn accepts_elsewhere(
     server: ServerId,
 ) -> bool
     requires { HasRanges stage.now }
-    ensures { result ≡ causes.accepts_elsewhere stage.now (reverse events.now) what.now flow.now server }
+    ensures { result ≡ causes.accepts_elsewhere stage.now (reverse events.now) what.now flow.now
+        server }
 {
     match what {
         What::Arrive {
@@ -113,7 +116,8 @@ fn accepts_elsewhere(
 /// Whether a server other than this holds the flow.
 pub(crate) fn is_elsewhere(stage: &Stage, events: &[Event], flow: &Flow, server: ServerId) -> bool
     requires { HasRanges stage.now }
-    ensures { result ≡ causes.is_elsewhere stage.now (reverse events.now) (reverse events.now) flow.now server }
+    ensures { result ≡ causes.is_elsewhere stage.now (reverse events.now) (reverse events.now)
+        flow.now server }
 {
     let mut rest = events;
     while let Some((event, before)) = rest.split_last() {

@@ -100,7 +100,8 @@ fn read_events(events: &[Event])
     }
 }
 
-/// Two histories of one stage with the same report have the same events: a report names one history.
+/// Two histories of one stage with the same report have the same events: a report names one
+/// history.
 #[tactic(auto, using(crate::proofs::OneHistory::same_events))]
 pub fn one_history(a: &History, b: &History)
     requires stage { a.now.stage ≡ b.now.stage }

@@ -1,12 +1,13 @@
 //! The lines of a report.
-ghost use Rattle.std.specs.Prelude.{◌≡◌, ◌+◌, ◌<◌, ◌≤◌, ◌∷◌, ◌++◌, [], List, length, reverse, OnOk, OnErr, codes, decimal, string_bytes, if◌then◌else◌};
+ghost use Rattle.std.specs.Prelude.{◌≡◌, ◌+◌, ◌<◌, ◌≤◌, ◌∷◌, ◌++◌, [], List, length, reverse, OnOk};
+ghost use Rattle.std.specs.Prelude.{OnErr, codes, decimal, string_bytes, if◌then◌else◌};
 ghost use Rattle.bm_core.specs.Past as past;
 ghost use Rattle.bm_trace.specs.Ranges.{HasRanges};
 ghost use Rattle.bm_trace.specs.Words as words;
 ghost use Rattle.bm_trace.specs.Report as report;
-ghost use Rattle.bm_trace.specs.Running.{Keeps};
+ghost use Rattle.bm_trace.specs.Known.{Knows};
 
-use crate::running::Running;
+use crate::known::Known;
 use crate::sums::Totals;
 use crate::words::{BecauseWords, Counted, Endpoint, RetirementWords, VerdictWords, hop_word};
 use bm_base::{Flow, Hop, MuxId, ServerId};
@@ -24,7 +25,8 @@ fn write_arrival(
     verdict: Verdict,
     cause: Option<Cause>,
 ) -> Result<(), AllocError>
-    ensures { OnOk result (string_bytes line.new ≡ string_bytes line.old ++ words.line (decimal clock)
+    ensures { OnOk result
+        (string_bytes line.new ≡ string_bytes line.old ++ words.line (decimal clock)
         ((codes "arrive" ∷ decimal packet ∷ words.hop_word hop ∷ decimal server.0 ∷ []) ++ words.verdict_words verdict ++ words.because_words cause)) }
 {
     let hop = hop_word(hop);
@@ -44,7 +46,8 @@ fn write_close(
     flow: &Flow,
     closed: bool,
 ) -> Result<(), AllocError>
-    ensures { OnOk result (string_bytes line.new ≡ string_bytes line.old ++ words.line (decimal clock)
+    ensures { OnOk result
+        (string_bytes line.new ≡ string_bytes line.old ++ words.line (decimal clock)
         (codes "close" ∷ decimal server.0 ∷ words.endpoint flow.now.src flow.now.sport ∷ words.endpoint flow.now.dst flow.now.dport
         ∷ (if closed then codes "closed" else codes "none") ∷ [])) }
 {
@@ -69,7 +72,8 @@ fn write_retirement(
     at: u64,
     answer: Retirement,
 ) -> Result<(), AllocError>
-    ensures { OnOk result (string_bytes line.new ≡ string_bytes line.old ++ words.line (decimal clock)
+    ensures { OnOk result
+        (string_bytes line.new ≡ string_bytes line.old ++ words.line (decimal clock)
         ((codes "retire" ∷ decimal server.0 ∷ decimal shard ∷ codes "at" ∷ decimal at ∷ []) ++ words.retirement_words answer)) }
 {
     let server = server.0;
@@ -90,7 +94,7 @@ fn bucket_of_packet(stage: &Stage, packet: u32) -> u32
 
 fn write_steer(
     line: &mut String,
-    known: &Running,
+    known: &Known,
     stage: &Stage,
     events: &[Event],
     clock: u64,
@@ -98,12 +102,13 @@ fn write_steer(
     mux: MuxId,
 ) -> Result<(), AllocError>
     requires ranges { HasRanges stage.now }
-    requires kept { Keeps stage.now (reverse events.now) known.now }
-    ensures { OnOk result (string_bytes line.new ≡ string_bytes line.old ++ words.line (decimal clock)
+    requires kept { Knows stage.now (reverse events.now) known.now }
+    ensures { OnOk result
+        (string_bytes line.new ≡ string_bytes line.old ++ words.line (decimal clock)
         (codes "steer" ∷ decimal packet ∷ decimal mux.0 ∷ decimal (past.version_at (reverse events.now) mux).0
         ∷ decimal (report.bucket_of_packet stage.now (past.segment_of stage.now packet)) ∷ [])) }
 {
-    let version = known.version(events, mux).0;
+    let version = known.version(stage, events, mux).0;
     let bucket = bucket_of_packet(stage, packet);
     writeln!(line, "{clock} steer {packet} {} {version} {bucket}", mux.0)
 }
@@ -111,14 +116,16 @@ fn write_steer(
 /// The line of an event that has these before it.
 pub(crate) fn write_event(
     line: &mut String,
-    known: &Running,
+    known: &Known,
     stage: &Stage,
     events: &[Event],
     event: &Event,
 ) -> Result<(), AllocError>
     requires ranges { HasRanges stage.now }
-    requires kept { Keeps stage.now (reverse events.now) known.now }
-    ensures { OnOk result (string_bytes line.new ≡ string_bytes line.old ++ report.event_line stage.now (reverse events.now) event.now) }
+    requires kept { Knows stage.now (reverse events.now) known.now }
+    ensures { OnOk result
+        (string_bytes line.new ≡ string_bytes line.old
+        ++ report.event_line stage.now (reverse events.now) event.now) }
 {
     let clock = event.clock.0;
     let cause = known.cause(stage, events, event);
@@ -150,13 +157,17 @@ pub(crate) fn write_event(
 
 /// The note on the record that is cut short.
 pub(crate) fn write_note(line: &mut String, number: u32) -> Result<(), AllocError>
-    ensures { OnOk result (string_bytes line.new ≡ string_bytes line.old ++ words.line (codes "note") (codes "record" ∷ decimal number ∷ codes "cut" ∷ codes "short" ∷ [])) }
+    ensures { OnOk result
+        (string_bytes line.new ≡ string_bytes line.old
+        ++ words.line (codes "note")
+        (codes "record" ∷ decimal number ∷ codes "cut" ∷ codes "short" ∷ [])) }
 {
     writeln!(line, "note record {number} cut short")
 }
 
 pub(crate) fn write_totals(line: &mut String, t: &Totals) -> Result<(), AllocError>
-    ensures { OnOk result (string_bytes line.new ≡ string_bytes line.old ++ report.totals_line t.now) }
+    ensures { OnOk result
+        (string_bytes line.new ≡ string_bytes line.old ++ report.totals_line t.now) }
 {
     let packets = Counted("packets", t.packets);
     let steered = Counted("steered", t.steered);

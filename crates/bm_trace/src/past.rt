@@ -1,7 +1,8 @@
 //! What the events before a place of a history say. A past is a slice with its newest event last.
 #![tactic(auto, using(crate::proofs::Newest::reverse_last))]
 
-ghost use Rattle.std.specs.Prelude.{◌≡◌, ◌+◌, ◌<◌, ◌≤◌, List, length, reverse, MatchOption, Some, None, option_map};
+ghost use Rattle.std.specs.Prelude.{◌≡◌, ◌+◌, ◌<◌, ◌≤◌, List, length, reverse, MatchOption, Some};
+ghost use Rattle.std.specs.Prelude.{None, option_map};
 ghost use Rattle.bm_core.specs.declared.events.Stage.{Stage};
 ghost use Rattle.bm_core.specs.Past as past;
 ghost use Rattle.bm_base.specs.Segments.{same_flow};
@@ -72,10 +73,12 @@ pub(crate) struct Steered<'a> {
 pub(crate) fn steer_of(events: &[Event], packet: u32) -> Option<Steered<'_>>
     ensures label { (stage : Stage) → MatchOption result
         (past.label_of stage (reverse events.now) packet ≡ None)
-        (λ s. past.label_of stage (reverse events.now) packet ≡ past.labelled stage (reverse s.before.now) s.mux (past.segment_of stage packet)) }
+        (λ s. past.label_of stage (reverse events.now) packet
+        ≡ past.labelled stage (reverse s.before.now) s.mux (past.segment_of stage packet)) }
     ensures owner { (stage : Stage) → MatchOption result
         (past.owner stage (reverse events.now) packet ≡ None)
-        (λ s. past.owner stage (reverse events.now) packet ≡ past.accept_before stage (reverse s.before.now) (past.segment_of stage packet)) }
+        (λ s. past.owner stage (reverse events.now) packet
+        ≡ past.accept_before stage (reverse s.before.now) (past.segment_of stage packet)) }
 {
     let mut rest = events;
     while let Some((event, before)) = rest.split_last() {
@@ -163,7 +166,8 @@ pub(crate) struct Sent {
 
 /// The last Accept of the packet's flow.
 fn owner_before(stage: &Stage, events: &[Event], packet: u32) -> Option<Owner>
-    ensures { option_map as_accepted result ≡ past.accept_before stage.now (reverse events.now) (past.segment_of stage.now packet) }
+    ensures { option_map as_accepted result ≡ past.accept_before stage.now (reverse events.now)
+        (past.segment_of stage.now packet) }
 {
     let segment = stage.segment(packet)?;
     let accepting = accept_of(stage, events, &segment.flow)?;

@@ -1,8 +1,11 @@
 //! The lines of records.
 #![tactic(auto, using(crate::proofs::Newest::reverse_take))]
 
-ghost use Rattle.std.specs.Prelude.{◌≡◌, ℕ, ◌+◌, ◌<◌, ◌≤◌, ◌==◌, ◌∷◌, ◌++◌, [], List, length, reverse, OnOk, MatchOption, codes, decimal, string_bytes, if◌then◌else◌};
-ghost use Rattle.bm_trace.specs.Ends.{words_of_end, words_of_ends, words_of_option, words_of_record};
+ghost use Rattle.std.specs.Prelude.{◌≡◌, ℕ, ◌+◌, ◌<◌, ◌≤◌, ◌==◌, ◌∷◌, ◌++◌, [], List, length};
+ghost use Rattle.std.specs.Prelude.{reverse, OnOk, MatchOption, codes, decimal, string_bytes};
+ghost use Rattle.std.specs.Prelude.{if◌then◌else◌};
+ghost use Rattle.bm_trace.specs.Ends.{words_of_end, words_of_ends, words_of_option};
+ghost use Rattle.bm_trace.specs.Ends.{words_of_record};
 ghost use Rattle.bm_trace.specs.Words as words;
 ghost use Rattle.bm_trace.specs.Report as report;
 
@@ -44,7 +47,8 @@ pub(crate) struct Ending {
 pub(crate) fn ending_of(what: &What) -> Option<Ending>
     ensures { MatchOption result
         ((k : ℕ) → report.end_words what.now k ≡ [])
-        (λ e. (k : ℕ) → report.end_words what.now k ≡ (if e.packet == k then words_of_end e.end else [])) }
+        (λ e. (k : ℕ)
+        → report.end_words what.now k ≡ (if e.packet == k then words_of_end e.end else [])) }
 {
     match *what {
         What::Arrive {
@@ -66,7 +70,8 @@ pub(crate) fn ending_of(what: &What) -> Option<Ending>
 
 /// An end, each word behind a space.
 fn write_end(line: &mut String, end: End) -> Result<(), AllocError>
-    ensures { OnOk result (string_bytes line.new ≡ string_bytes line.old ++ words.spaced (words_of_end end)) }
+    ensures { OnOk result
+        (string_bytes line.new ≡ string_bytes line.old ++ words.spaced (words_of_end end)) }
 {
     match end {
         End::Lost => write!(line, " lost"),
@@ -80,7 +85,8 @@ fn write_end(line: &mut String, end: End) -> Result<(), AllocError>
 /// The ends of a packet, each word behind a space.
 #[tactic(auto, using(crate::proofs::Spacing::spaced_more))]
 fn write_ends(line: &mut String, ends: &[End]) -> Result<(), AllocError>
-    ensures { OnOk result (string_bytes line.new ≡ string_bytes line.old ++ words.spaced (words_of_ends ends.now)) }
+    ensures { OnOk result
+        (string_bytes line.new ≡ string_bytes line.old ++ words.spaced (words_of_ends ends.now)) }
 {
     for end in ends {
         write_end(line, *end)?;
@@ -95,7 +101,9 @@ pub(crate) fn write_record(
     body: &Body,
     ends: &[End],
 ) -> Result<(), AllocError>
-    ensures { OnOk result (string_bytes line.new ≡ string_bytes line.old ++ words.line (codes "packet") (decimal number ∷ words_of_record body.now ends.now)) }
+    ensures { OnOk result
+        (string_bytes line.new ≡ string_bytes line.old
+        ++ words.line (codes "packet") (decimal number ∷ words_of_record body.now ends.now)) }
 {
     write!(line, "packet {number}")?;
     match body {

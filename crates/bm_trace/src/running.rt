@@ -1,5 +1,7 @@
 //! What is kept of the events while their lines are written.
-ghost use Rattle.std.specs.Prelude.{◌≡◌, ℕ, ◌+◌, ◌-◌, ◌<◌, ◌≤◌, ◌==◌, List, length, reverse, OnOk, IfOk, Some, None, if◌then◌else◌, slice_set, slice_index_or, [], ◌∷◌, ◌&&◌};
+ghost use Rattle.std.specs.Prelude.{◌≡◌, ℕ, ◌+◌, ◌-◌, ◌<◌, ◌≤◌, ◌==◌, List, length, reverse, OnOk};
+ghost use Rattle.std.specs.Prelude.{IfOk, Some, None, if◌then◌else◌, slice_set, slice_index_or, []};
+ghost use Rattle.std.specs.Prelude.{◌∷◌, ◌&&◌};
 ghost use Rattle.std.specs.BTreeMap as tree;
 ghost use Rattle.bm_base.specs.declared.flow.Flow.{Flow};
 ghost use Rattle.bm_base.specs.Segments.{same_flow};
@@ -14,7 +16,7 @@ ghost use Rattle.bm_trace.specs.Accepts.{owner_before};
 use crate::causes::Arrival;
 use crate::past::{Owner, Sent, sent_of, version_at};
 use bm_base::{Flow, Hop, MuxId, Segment, ServerId, Version};
-use bm_core::{Cause, Event, Stage, Verdict, What};
+use bm_core::{Event, Stage, Verdict, What};
 use std::alloc::{AllocError, Global};
 use std::collections::BTreeMap;
 
@@ -48,7 +50,8 @@ impl Accepts {
 
     fn put(&mut self, flow: Flow, owner: Owner) -> Result<(), AllocError>
         ensures { OnOk result ((q : Flow) → tree.get ⟦<Flow as Ord>⟧.cmp self.new.owners q
-            ≡ (if same_flow flow q then Some owner else tree.get ⟦<Flow as Ord>⟧.cmp self.old.owners q)) }
+            ≡ (if same_flow flow q then Some owner
+            else tree.get ⟦<Flow as Ord>⟧.cmp self.old.owners q)) }
     {
         self.owners.insert(flow, owner)?;
         Ok(())
@@ -62,7 +65,8 @@ impl Accepts {
         verdict: Verdict,
     ) -> Result<(), AllocError>
         ensures { OnOk result ((q : Flow) → tree.get ⟦<Flow as Ord>⟧.cmp self.new.owners q
-            ≡ (if is_accept verdict && past.is_of segment q then Some owner else tree.get ⟦<Flow as Ord>⟧.cmp self.old.owners q)) }
+            ≡ (if is_accept verdict && past.is_of segment q then Some owner
+            else tree.get ⟦<Flow as Ord>⟧.cmp self.old.owners q)) }
     {
         match (segment, verdict) {
             (Some(segment), Verdict::Accept) => self.put(segment.flow, owner),
@@ -81,7 +85,9 @@ fn set_version(versions: &mut Vec<Version>, mux: MuxId, version: Version)
 }
 
 fn set_sent(packets: &mut Vec<Option<Sent>>, packet: u32, sent: Sent)
-    ensures { packets.new.items ≡ (if packet == 0 then packets.old.items else slice_set packets.old.items (packet - 1) (Some sent)) }
+    ensures { packets.new.items
+        ≡ (if packet == 0 then packets.old.items
+        else slice_set packets.old.items (packet - 1) (Some sent)) }
 {
     let packet = packet as usize;
     if 0 < packet && packet <= packets.len() {
@@ -128,8 +134,16 @@ impl Running {
         }
     }
 
+    /// The newest version after these events.
+    pub(crate) fn newest(&self, stage: &Stage, events: &[Event]) -> Version
+        requires { Keeps stage.now (reverse events.now) self.now }
+        ensures { result.0 ≡ past.newest (reverse events.now) }
+    {
+        self.newest
+    }
+
     /// What is known of the packet after these events.
-    fn sent(&self, stage: &Stage, events: &[Event], packet: u32) -> Option<Sent>
+    pub(crate) fn sent(&self, stage: &Stage, events: &[Event], packet: u32) -> Option<Sent>
         requires { Keeps stage.now (reverse events.now) self.now }
         ensures { IsSent stage.now (reverse events.now) packet result }
     {
@@ -170,7 +184,8 @@ impl Running {
 
     fn note_steer(&mut self, stage: &Stage, events: &[Event], packet: u32, mux: MuxId)
         requires { Keeps stage.now (reverse events.now) self.old }
-        ensures { (e : Event) → e.what ≡ What.Steer packet mux → Keeps stage.now (e ∷ reverse events.now) self.new }
+        ensures { (e : Event) → e.what ≡ What.Steer packet mux
+            → Keeps stage.now (e ∷ reverse events.now) self.new }
     {
         let sent = Sent {
             mux,
@@ -225,27 +240,6 @@ impl Running {
             What::Lose { .. } | What::Close { .. } | What::Retire { .. } | What::Sync => {}
         }
         Ok(())
-    }
-
-    /// The cause of the event after these, where it has one.
-    pub(crate) fn cause(&self, stage: &Stage, events: &[Event], event: &Event) -> Option<Cause>
-        requires ranges { HasRanges stage.now }
-        requires kept { Keeps stage.now (reverse events.now) self.now }
-        ensures { result ≡ causes.cause stage.now (reverse events.now) event.now.clock.0 event.now.what }
-    {
-        match event.what {
-            What::Arrive {
-                packet,
-                server,
-                verdict,
-                ..
-            } => {
-                let sent = self.sent(stage, events, packet);
-                let arrival = Arrival::new(stage, packet, server, verdict, sent);
-                arrival.cause(stage, events, self.newest.0, event.clock)
-            }
-            _ => None,
-        }
     }
 
     /// Whether the event after these is a stray.

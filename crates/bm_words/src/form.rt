@@ -1,10 +1,10 @@
 //! Whether the words are of a form.
 ghost use Rattle.std.specs.Prelude.{◌≡◌, map, string_bytes, is_some};
-ghost use Rattle.bm_words.specs.Form.{form_of, is_name};
+ghost use Rattle.bm_words.specs.Form.{is_name, replay_of};
 
-/// Whether the words are of a form.
-pub(crate) fn is_form(words: &[String]) -> bool
-    ensures { result ≡ is_some (form_of (map string_bytes words.now)) }
+/// Whether the words ask for a replay.
+pub(crate) fn is_replay(words: &[String]) -> bool
+    ensures { result ≡ is_some (replay_of (map string_bytes words.now)) }
 {
     match words {
         [word, capture] => word.as_str() == "replay" && is_name(capture.as_str()),

@@ -2,16 +2,23 @@
 ghost use Rattle.std.specs.Prelude.{◌≡◌, IfErr, IfOk, IsSome, map, option_map, string_bytes};
 ghost use Rattle.clap.specs.Words.{app_of};
 ghost use Rattle.bm_words.specs.Command.{beamer};
-ghost use Rattle.bm_words.specs.Form.{form_of, named};
+ghost use Rattle.bm_words.specs.Form.{asked, form_in, named, replay_of};
 
-use crate::form::is_form;
+use crate::form::is_replay;
 use clap::error::ErrorKind;
 use clap::{Arg, Command};
 use std::alloc::{AllocError, Global};
 
-/// The replay of a capture, with a script or without one. Both are names of files.
+/// What the words ask for.
 #[derive(Debug, Drop)]
-pub struct Form<'a> {
+pub enum Form<'a> {
+    /// The replay of a capture, with a script or without one.
+    Replay(Names<'a>),
+}
+
+/// The names of a capture, and perhaps of a script. Both are names of files.
+#[derive(Debug, Drop)]
+pub struct Names<'a> {
     pub capture: &'a str,
     pub script: Option<&'a str>,
 }
@@ -20,11 +27,24 @@ pub struct Form<'a> {
 /// of no form. A name isn't empty and doesn't begin with `-`. The words are without the program's
 /// own name. `AllocError` where memory was refused.
 pub fn read_words<'a>(alloc: Global, words: &'a [String]) -> Result<Option<Form<'a>>, AllocError>
-    ensures form { IfOk result (λ form. option_map named form ≡ form_of (map string_bytes words.entry.now)) }
+    ensures form { IfOk result (λ form. option_map asked form ≡ form_in words.entry.now) }
     // Words of no form take no memory.
-    ensures memory { IfErr result (λ _. IsSome (form_of (map string_bytes words.entry.now))) }
+    ensures memory { IfErr result (λ _. IsSome (form_in words.entry.now)) }
 {
-    if !is_form(words) {
+    match read_replay(alloc, words) {
+        Ok(Some(names)) => Ok(Some(Form::Replay(names))),
+        Ok(None) => Ok(None),
+        Err(AllocError) => Err(AllocError),
+    }
+}
+
+/// The names of a replay, where the words ask for one.
+fn read_replay<'a>(alloc: Global, words: &'a [String]) -> Result<Option<Names<'a>>, AllocError>
+    ensures form { IfOk result (λ names.
+        option_map named names ≡ replay_of (map string_bytes words.entry.now)) }
+    ensures memory { IfErr result (λ _. IsSome (replay_of (map string_bytes words.entry.now))) }
+{
+    if !is_replay(words) {
         return Ok(None);
     }
     let command = command(alloc)?;
@@ -40,7 +60,7 @@ pub fn read_words<'a>(alloc: Global, words: &'a [String]) -> Result<Option<Form<
     let Some(capture) = found.get_str("capture") else {
         unreachable!()
     };
-    Ok(Some(Form {
+    Ok(Some(Names {
         capture,
         script: found.get_str("script"),
     }))

@@ -10,7 +10,8 @@ pub(super) const ROWS: [(&'static str, &'static str); 34] = [
         "",
     ),
     (
-        "fault = [{packet=1,hop='direct',copies=1,delay_ns=0},{packet=1,hop='direct',copies=2,delay_ns=0}]",
+        "fault = [{packet=1,hop='direct',copies=1,delay_ns=0}, \
+         {packet=1,hop='direct',copies=2,delay_ns=0}]",
         "",
     ),
     ("[[fault]]", "script fault 1: missing packet"),

@@ -1,8 +1,9 @@
-use Rattle.std.proofs.Common.{subst}
+use Rattle.std.proofs.Common.{Ok, Err, subst}
 use Rattle.bm_base.specs.Captures.{IsReplayable}
 use Rattle.bm_words.specs.Form.{named}
-use Rattle.bm_cli.proofs.Names.{asks_capture}
+use Rattle.bm_cli.proofs.Stages.{captured_stage, script_refused, stage_through}
 use Rattle.bm_cli.proofs.Sound.{stage_sound}
+use Rattle.bm_cli.specs.declared.fault.StageFault.TheVariants.{Capture as OfCapture}
 use Rattle.bm_cli.proofs.stage.read_stage.Goals as goal
 
 pub returns-clause-sound : goal.returns-clause-sound
@@ -10,8 +11,27 @@ returns-clause-sound g c =
     stage_sound c.in_ok-script.script c.in_ok-capture.capture c.in_ok-script.ensures.sound
     (subst (λ v. IsReplayable v c.in_ok-capture.capture) c.items.ensures c.in_ok-capture.ensures.replayable)
 
-pub returns-clause-asked : goal.returns-clause-asked
-returns-clause-asked g c = asks_capture (named c.args.form) (g.F.Files.octets c.args.files.now) c.in_ok-script.script _ _ _ c.in_ok-script.ensures.script c.in_ok-script.ensures.all c.read_file.ensures.asked
+pub returns-in_err-script-clause-stage : goal.returns-in_err-script-clause-stage
+returns-in_err-script-clause-stage g c =
+    let script = c.in_err-script in
+    stage_through (named c.args.names) _ _ c.from_residual.result script.field-0.0 c.from_residual.ensures.1
+    (script_refused (named c.args.names) _ _ script.field-0.0 script.ensures.script script.ensures.asked
+    script.ensures.all script.ensures.cause)
 
-pub returns-in_err-capture-clause-asked : goal.returns-in_err-capture-clause-asked
-returns-in_err-capture-clause-asked g c = asks_capture (named c.args.form) (g.F.Files.octets c.args.files.now) c.in_ok-script.script _ _ _ c.in_ok-script.ensures.script c.in_ok-script.ensures.all c.read_file.ensures.asked
+pub returns-in_err-capture-clause-stage : goal.returns-in_err-capture-clause-stage
+returns-in_err-capture-clause-stage g c =
+    let script = c.in_ok-script in
+    let capture = c.in_err-capture in
+    stage_through (named c.args.names) _ _ c.from_residual-in_err-capture.result (OfCapture capture.field-0.0)
+    c.from_residual-in_err-capture.ensures.1
+    (captured_stage (named c.args.names) _ _ _ _ script.script _ (Err capture.field-0.0) _ script.ensures.octets
+    c.items.ensures script.ensures.script capture.ensures.capture script.ensures.all capture.ensures.asked
+    capture.ensures.all script.ensures.later capture.ensures.cause)
+
+pub returns-clause-stage : goal.returns-clause-stage
+returns-clause-stage g c =
+    let script = c.in_ok-script in
+    let capture = c.in_ok-capture in
+    captured_stage (named c.args.names) _ _ _ _ script.script _ (Ok (capture.capture, capture.packets)) _
+    script.ensures.octets c.items.ensures script.ensures.script capture.ensures.capture script.ensures.all
+    capture.ensures.asked capture.ensures.all script.ensures.later capture.ensures.cause

@@ -12,8 +12,10 @@ loop-s-init c = record {
 pub loop-s-preserved : goal.loop-s-preserved
 loop-s-preserved c = record {
   long = c.loop-s.invariant.long;
-  each = λ s l. known-more c.args.servers.now c.loop-s.s-index (record { 0 = 0 }) c.loop-s.known.items c.loop-s-test.true (search rules) s (c.loop-s.invariant.each s l);
+  each = λ s l. known-more c.args.servers.now c.loop-s.s-index (record { 0 = 0 }) c.loop-s.known.items
+      c.loop-s-test.true (search rules) s (c.loop-s.invariant.each s l);
 }
 
 pub returns-clause-known : goal.returns-clause-known
-returns-clause-known c = λ s l. known-end c.args.servers.now c.loop-s.s-index _ s c.loop-s-test.false (c.loop-s.invariant.each s l)
+returns-clause-known c =
+    λ s l. known-end c.args.servers.now c.loop-s.s-index _ s c.loop-s-test.false (c.loop-s.invariant.each s l)

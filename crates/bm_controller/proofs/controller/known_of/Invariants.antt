@@ -6,5 +6,7 @@ use Rattle.bm_controller.proofs.controller.known_of.Given as goal
 abbrev pub invariant-loop-s : goal.invariant-loop-s
 invariant-loop-s l = record {
   long : vec_len l.known ≡ 65536;
-  each : (s : ServerId) → s.0 < 65536 → (slice_index_or l.known.items s.0 false || tables.is_among (drop l.s-index l.servers) s) ≡ tables.is_among l.servers s;
+  each : (s : ServerId) → s.0 < 65536
+      → (slice_index_or l.known.items s.0 false || tables.is_among (drop l.s-index l.servers) s)
+      ≡ tables.is_among l.servers s;
 }

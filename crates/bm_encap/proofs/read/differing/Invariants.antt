@@ -4,4 +4,5 @@ use Rattle.bm_encap.specs.declared.fault.EncapFault.{EncapFault}
 use Rattle.bm_encap.proofs.read.differing.Given as goal
 
 abbrev pub invariant-loop-place : goal.invariant-loop-place
-invariant-loop-place l = (fault : ℕ → EncapFault) → differing l.octets fault (drop l.place-index l.fixed) ≡ differing l.octets fault l.fixed
+invariant-loop-place l =
+    (fault : ℕ → EncapFault) → differing l.octets fault (drop l.place-index l.fixed) ≡ differing l.octets fault l.fixed

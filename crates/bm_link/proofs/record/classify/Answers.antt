@@ -3,5 +3,8 @@ use Rattle.bm_link.proofs.Services.{goes_to-true}
 use Rattle.bm_link.proofs.record.classify.Goals as goal
 
 pub returns-clause-fit : goal.returns-clause-fit
-returns-clause-fit c moment =
-    (goes_to-true c.args.vips.now c.in-Ok-read_segment.read.0.flow (sym c.if-not-goes_to.ensures), let bound = c.in-Ok-read_segment.ensures.bound in omega arith)
+returns-clause-fit c moment = (
+  goes_to-true c.args.vips.now c.in-Ok-read_packet.read.0.flow (sym c.if-not-goes_to.ensures),
+  let bound =
+      c.in-Ok-read_packet.ensures.bound in omega arith,
+)

@@ -8,12 +8,17 @@ returns-then-branch-lt4-clause-form g c =
 
 pub returns-in_default-clause-form : goal.returns-in_default-clause-form
 returns-in_default-clause-form g c =
-    no_magic _ _ _ _ c.fill.auto.buf c.in_ok-fill.ensures.octets c.if-branch-lt4.false (sym c.magic.ensures ∙ c.in_default.is)
+    no_magic _ _ _ _ c.fill.auto.buf c.in_ok-fill.ensures.octets c.if-branch-lt4.false
+    (sym c.magic.ensures ∙ c.in_default.is)
 
 pub returns-then-branch-lt20-clause-form : goal.returns-then-branch-lt20-clause-form
 returns-then-branch-lt20-clause-form g c =
-    no_rest _ _ _ _ _ _ _ c.fill.auto.buf c.in_ok-fill.ensures.octets c.if-branch-lt4.false c.fill-2.auto.buf c.in_ok-fill-2.ensures.octets c.if-branch-lt20.true
+    no_rest _ _ _ _ _ _ _ c.fill.auto.buf c.in_ok-fill.ensures.octets c.if-branch-lt4.false c.fill-2.auto.buf
+    c.in_ok-fill-2.ensures.octets c.if-branch-lt20.true
 
 pub returns-clause-form : goal.returns-clause-form
 returns-clause-form g c =
-    form_read _ _ _ _ _ c.fill.new.buf c.fill-2.new.buf _ c.in-Some.order c.in-Some.unit c.form_behind.result c.fill.auto.buf c.in_ok-fill.ensures.octets c.if-branch-lt4.false c.fill-2.auto.buf c.in_ok-fill-2.ensures.octets c.if-branch-lt20.false (sym c.magic.ensures ∙ c.in-Some.is) c.join.ensures c.form_behind.ensures.form
+    form_read _ _ _ _ _ c.fill.new.buf c.fill-2.new.buf _ c.in-Some.order c.in-Some.unit c.form_behind.result
+    c.fill.auto.buf c.in_ok-fill.ensures.octets c.if-branch-lt4.false c.fill-2.auto.buf
+    c.in_ok-fill-2.ensures.octets c.if-branch-lt20.false (sym c.magic.ensures ∙ c.in-Some.is) c.join.ensures
+    c.form_behind.ensures.form

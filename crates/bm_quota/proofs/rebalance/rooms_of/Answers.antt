@@ -5,5 +5,6 @@ use Rattle.bm_quota.proofs.rebalance.rooms_of.Goals as goal
 pub loop-i-preserved : goal.loop-i-preserved
 loop-i-preserved c = record {
   long = search rules;
-  are = AreRooms-more c.args.active.now c.args.quotas.now c.loop-i.rooms.items c.loop-i.i (record { 0 = 0 }) (omega arith) (omega arith) (search rules) c.loop-i.invariant.are;
+  are = AreRooms-more c.args.active.now c.args.quotas.now c.loop-i.rooms.items c.loop-i.i (record { 0 = 0 })
+      (omega arith) (omega arith) (search rules) c.loop-i.invariant.are;
 }

@@ -4,8 +4,9 @@ use Rattle.bm_route.specs.Routes.{Answers}
 use Rattle.bm_replay.specs.Playing.{IsPlaying}
 use Rattle.bm_replay.proofs.replaying.replay.Given as goal
 
-abbrev pub invariant-loop-player : goal.invariant-loop-player
-invariant-loop-player g l = (l.player.stage ≡ l.fn.stage) × IsPlaying (Answers g.R.Fn l.route.rule) (Gives g.F.Fn l.faults.rule) l.player
+abbrev pub invariant-loop-carrier : goal.invariant-loop-carrier
+invariant-loop-carrier g l =
+    (l.player.stage ≡ l.fn.stage) × IsPlaying (Answers g.R.Fn l.route.rule) (Gives g.F.Fn l.faults.rule) l.player
 
-abbrev pub decreases-loop-player : goal.decreases-loop-player
-decreases-loop-player g l = 6859841 - length l.player.events
+abbrev pub decreases-loop-carrier : goal.decreases-loop-carrier
+decreases-loop-carrier g l = 6859841 - length l.player.events

@@ -5,4 +5,6 @@ use Rattle.toml.specs.View.{items_view}
 use Rattle.bm_script.proofs.lists.vip_list.Given as goal
 
 abbrev pub invariant-loop-item : goal.invariant-loop-item
-invariant-loop-item l = with_front l.vips.items (values.each values.vip (items_view (drop l.item-index l.items))) ≡ values.each values.vip (items_view l.items)
+invariant-loop-item l =
+    with_front l.vips.items (values.each values.vip (items_view (drop l.item-index l.items)))
+    ≡ values.each values.vip (items_view l.items)

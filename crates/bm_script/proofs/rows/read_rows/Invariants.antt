@@ -6,6 +6,7 @@ use Rattle.bm_script.proofs.rows.read_rows.Given as goal
 
 abbrev pub invariant-loop-value : goal.invariant-loop-value
 invariant-loop-value l = record {
-  so_far : with_rows l.rows.items (rows_from l.number (items_view (drop l.value-index l.tables))) ≡ rows_from 1 (items_view l.tables);
+  so_far : with_rows l.rows.items (rows_from l.number (items_view (drop l.value-index l.tables)))
+      ≡ rows_from 1 (items_view l.tables);
   number : l.number ≡ l.value-index + 1;
 }

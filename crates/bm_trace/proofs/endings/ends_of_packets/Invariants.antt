@@ -6,5 +6,6 @@ use Rattle.bm_trace.proofs.endings.ends_of_packets.Given as goal
 abbrev pub invariant-loop-event : goal.invariant-loop-event
 invariant-loop-event l = record {
   count : vec_len l.table ≡ l.packets;
-  ends : (k : ℕ) → k < l.packets → words_of_ends (get_or l.table.items k []) ≡ report.ends_of (reverse (take l.event-index l.events)) (k + 1);
+  ends : (k : ℕ) → k < l.packets
+      → words_of_ends (get_or l.table.items k []) ≡ report.ends_of (reverse (take l.event-index l.events)) (k + 1);
 }

@@ -4,7 +4,8 @@ use Rattle.bm_trace.proofs.held.held_place.Given as goal
 
 abbrev pub invariant-loop-event : goal.invariant-loop-event
 invariant-loop-event l =
-    option_map (λ h. h.place) (past.held l.stage (reverse l.rest) l.server l.flow) ≡ option_map (λ h. h.place) (past.held l.stage (reverse l.events) l.server l.flow)
+    option_map (λ h. h.place) (past.held l.stage (reverse l.rest) l.server l.flow)
+    ≡ option_map (λ h. h.place) (past.held l.stage (reverse l.events) l.server l.flow)
 
 abbrev pub decreases-loop-event : goal.decreases-loop-event
 decreases-loop-event l = length l.rest

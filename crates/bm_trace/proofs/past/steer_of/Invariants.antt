@@ -5,7 +5,8 @@ use Rattle.bm_trace.proofs.past.steer_of.Given as goal
 
 abbrev pub invariant-loop-event : goal.invariant-loop-event
 invariant-loop-event l = record {
-  label : (stage : Stage) → past.label_of stage (reverse l.rest) l.packet ≡ past.label_of stage (reverse l.events) l.packet;
+  label : (stage : Stage)
+      → past.label_of stage (reverse l.rest) l.packet ≡ past.label_of stage (reverse l.events) l.packet;
   owner : (stage : Stage) → past.owner stage (reverse l.rest) l.packet ≡ past.owner stage (reverse l.events) l.packet;
 }
 

@@ -4,4 +4,5 @@ use Rattle.bm_trace.specs.Ends.{words_of_ends}
 use Rattle.bm_trace.proofs.records.write_ends.Given as goal
 
 abbrev pub invariant-loop-end : goal.invariant-loop-end
-invariant-loop-end l = string_bytes l.line ≡ string_bytes l.initial.line ++ words.spaced (words_of_ends (take l.end-index l.ends))
+invariant-loop-end l =
+    string_bytes l.line ≡ string_bytes l.initial.line ++ words.spaced (words_of_ends (take l.end-index l.ends))

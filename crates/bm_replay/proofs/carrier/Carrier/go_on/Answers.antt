@@ -11,10 +11,13 @@ use Rattle.bm_replay.proofs.carrier.Carrier.go_on.Goals as goal
 is_turned : (c : goal.After-map) → IsTurned c.self.inside.octets.items c.deref.result.now
 is_turned c =
     subst (λ (xs : List ℕ). IsTurned c.self.inside.octets.items xs) (sym c.deref.ensures.value)
-    (turned_in c.self.inside.octets.items _ _ _ c.set_chained.result _ c.self.invariant c.deref_mut.ensures.value c.self.inside.octets.ok.0 c.set_chained.auto.octets c.set_chained.ensures c.in_ok-ok.ensures.value)
+    (turned_in c.self.inside.octets.items _ _ _ c.set_chained.result _ c.self.invariant c.deref_mut.ensures.value
+    c.self.inside.octets.ok.0 c.set_chained.auto.octets c.set_chained.ensures c.in_ok-ok.ensures.value)
 
 pub invariant_of-self-2 : goal.invariant_of-self-2
-invariant_of-self-2 c = subst (λ (xs : List ℕ). All (λ octet. octet < 256) xs) c.deref.ensures.value (all_below c.deref.result.now (is_turned c).are_octets)
+invariant_of-self-2 c =
+    subst (λ (xs : List ℕ). All (λ octet. octet < 256) xs) c.deref.ensures.value
+    (all_below c.deref.result.now (is_turned c).are_octets)
 
 mapped : (c : goal.After-map) → c.map.result ≡ option_map (λ x. x.0) c.ok-2.result
 mapped c = grind (arith, common_steps)
@@ -23,4 +26,5 @@ pub returns-clause-next : goal.returns-clause-next
 returns-clause-next c =
     mapped c
     ∙ (ap (λ (o : Option (Tag × Bor (List ℕ))). option_map (λ x. x.0) o) c.ok-2.ensures.value
-    ∙ (answered c.self.inside.octets.items c.deref.result.now c.unwrap.result (is_turned c) c.unwrap.ensures.read ∙ ap next_tag c.self.view_is))
+    ∙ (answered c.self.inside.octets.items c.deref.result.now c.unwrap.result (is_turned c) c.unwrap.ensures.read
+    ∙ ap next_tag c.self.view_is))

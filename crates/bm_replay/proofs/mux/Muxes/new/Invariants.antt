@@ -3,4 +3,5 @@ use Rattle.bm_replay.specs.Muxes.{HasTable}
 use Rattle.bm_replay.proofs.mux.Muxes.new.Given as goal
 
 abbrev pub invariant-loop : goal.invariant-loop
-invariant-loop l = (length l.list.items ≡ l.counter) × ((m : ℕ) → m < l.counter → HasTable l.plan 0 (slice_get l.list.items m))
+invariant-loop l =
+    (length l.list.items ≡ l.counter) × ((m : ℕ) → m < l.counter → HasTable l.plan 0 (slice_get l.list.items m))

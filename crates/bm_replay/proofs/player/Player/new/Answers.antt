@@ -4,7 +4,7 @@ use Rattle.bm_table.specs.declared.script.Command.{Command}
 use Rattle.bm_core.specs.Schedule.{least}
 use Rattle.bm_replay.specs.Muxes.{switches_of}
 use Rattle.bm_replay.specs.Queues.{IsHead, closes_from, packets_after, retires_after, retires_from, syncs_from}
-use Rattle.bm_replay.proofs.Moments.{change_early}
+use Rattle.bm_core.proofs.Moments.{change_early}
 use Rattle.bm_replay.proofs.player.Player.new.Goals as goal
 
 pub soonest-switch-requires-clause-moments : goal.soonest-switch-requires-clause-moments
@@ -21,12 +21,25 @@ returns c = record {
   published = refl;
   muxes = c.in_ok-muxes.ensures.so_many;
   tables = c.in_ok-muxes.ensures.each;
-  switch = c.soonest-switch.ensures ∙ ap (λ (lags : List ℕ). least (switches_of c.args.stage.script.plan lags c.args.stage.script.setting.muxes c.in_ok-muxes.muxes c.args.stage.script.setting.muxes)) c.items.ensures;
-  close = subst (λ (l : List Command). IsHead (closes_from l 0) (closes_from l c.next_close-close.result.next) c.next_close-close.result.head) c.items-commands.ensures c.next_close-close.ensures;
-  retire = subst (λ (l : List Command). IsHead (retires_from c.args.stage.script.setting.shards l 0) (retires_after c.args.stage.script.setting.shards l c.next_retire-retire.result) c.next_retire-retire.result.head) c.items-commands.ensures
-      (c.next_retire-retire.ensures c.args.stage.script.setting.shards (let h = c.requires.sound.script.setting.shards.0 in omega arith));
-  sync = subst (λ (l : List Command). IsHead (syncs_from l 0) (syncs_from l c.next_sync-sync.result.next) c.next_sync-sync.result.head) c.items-commands.ensures c.next_sync-sync.ensures;
-  packet = subst (λ (l : List Record). IsHead (packets_after l 0) (packets_after l c.next_packet-packet.result.next) c.next_packet-packet.result.head) c.items-2.ensures c.next_packet-packet.ensures;
+  switch = c.soonest-switch.ensures
+      ∙ ap (λ (lags : List ℕ). least
+      (switches_of c.args.stage.script.plan lags c.args.stage.script.setting.muxes c.in_ok-muxes.muxes
+      c.args.stage.script.setting.muxes)) c.items.ensures;
+  close = subst
+      (λ (l : List Command). IsHead (closes_from l 0) (closes_from l c.next_close-close.result.next)
+      c.next_close-close.result.head) c.items-commands.ensures c.next_close-close.ensures;
+  retire = subst
+      (λ (l : List Command). IsHead (retires_from c.args.stage.script.setting.shards l 0)
+      (retires_after c.args.stage.script.setting.shards l c.next_retire-retire.result) c.next_retire-retire.result.head)
+      c.items-commands.ensures
+      (c.next_retire-retire.ensures c.args.stage.script.setting.shards
+      (let h = c.requires.sound.script.setting.shards.0 in omega arith));
+  sync = subst
+      (λ (l : List Command). IsHead (syncs_from l 0) (syncs_from l c.next_sync-sync.result.next)
+      c.next_sync-sync.result.head) c.items-commands.ensures c.next_sync-sync.ensures;
+  packet = subst
+      (λ (l : List Record). IsHead (packets_after l 0) (packets_after l c.next_packet-packet.result.next)
+      c.next_packet-packet.result.head) c.items-2.ensures c.next_packet-packet.ensures;
   shards = c.in_ok-shards.ensures;
   packets = c.requires.packets;
 }

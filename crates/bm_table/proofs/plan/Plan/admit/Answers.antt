@@ -1,8 +1,9 @@
-use Rattle.std.proofs.Common.{◌≤◌, length, ap, sym, ◌∙◌, arith}
-use Rattle.bm_table.proofs.KeptLemmas.{at_home, in_table, length-changes_of}
-use Rattle.bm_table.proofs.PlanLemmas.{refusal-server, refusal-changes, refusal-moves, refusal-none}
+use Rattle.std.proofs.Common.{◌≡◌, Option, Some, None, MatchResult, length, ap, sym, ◌∙◌, subst}
+use Rattle.bm_table.proofs.KeptLemmas.{at_home, in_table}
+use Rattle.bm_table.proofs.PlanLemmas.{refusal-home, refusal-limits}
 use Rattle.bm_table.proofs.plan.Plan.admit.Goals as goal
-use Rattle.bm_table.specs.Plans.{last_moment}
+use Rattle.bm_table.specs.declared.plan.PlanFault.{PlanFault}
+use Rattle.bm_table.specs.Plans.{first_fault, late_fault, limit_faults, refusal}
 use Rattle.bm_table.specs.Views.{planned}
 
 pub first_already_there-requires : goal.first_already_there-requires
@@ -14,46 +15,23 @@ pub returns-in-Some-first_already_there : goal.returns-in-Some-first_already_the
 returns-in-Some-first_already_there c =
     let good = rw c.items-moves.ensures at (sym c.first_bad_bucket.ensures ∙ c.in_default.is)
     in let home = rw c.items-moves.ensures at (sym c.first_already_there.ensures ∙ c.in-Some-first_already_there.is)
-    in let later : last_moment c.args.self.now ≤ c.args.change.now.moment.0 = omega arith
-    in let late = rw (← c.self.view_is) at later
+    in let late : late_fault c.args.self.now c.args.change.now.moment ≡ None = c.in_ok-check_moment.ensures
+    in let on_time = rw (← c.self.view_is) at late
     in rw (← c.self.view_is) (
-    refusal-server (planned c.self.inside) c.args.change.now c.in-Some-first_already_there.bucket late good
+    refusal-home (planned c.self.inside) c.args.change.now c.in-Some-first_already_there.bucket on_time good
     (sym (at_home c.self.inside c.self.invariant c.args.change.now.moves good) ∙ home))
-
-pub returns-then-len-ge-MAX_CHANGES : goal.returns-then-len-ge-MAX_CHANGES
-returns-then-len-ge-MAX_CHANGES c =
-    let good = rw c.items-moves.ensures at (sym c.first_bad_bucket.ensures ∙ c.in_default.is)
-    in let home = rw c.items-moves.ensures at (sym c.first_already_there.ensures ∙ c.in_default-first_already_there.is)
-    in let later : last_moment c.args.self.now ≤ c.args.change.now.moment.0 = omega arith
-    in let late = rw (← c.self.view_is) at later
-    in rw (← c.self.view_is) (
-    refusal-changes (planned c.self.inside) c.args.change.now late good
-    (sym (at_home c.self.inside c.self.invariant c.args.change.now.moves good) ∙ home)
-    (omega (arith, length-changes_of c.self.inside)))
-
-pub returns-then-moves-self : goal.returns-then-moves-self
-returns-then-moves-self c =
-    let good = rw c.items-moves.ensures at (sym c.first_bad_bucket.ensures ∙ c.in_default.is)
-    in let home = rw c.items-moves.ensures at (sym c.first_already_there.ensures ∙ c.in_default-first_already_there.is)
-    in let later : last_moment c.args.self.now ≤ c.args.change.now.moment.0 = omega arith
-    in let late = rw (← c.self.view_is) at later
-    in rw (← c.self.view_is) (
-    refusal-moves (planned c.self.inside) c.args.change.now late good
-    (sym (at_home c.self.inside c.self.invariant c.args.change.now.moves good) ∙ home)
-    (omega (arith, length-changes_of c.self.inside))
-    (omega (arith, ap length c.items-moves.ensures, c.self.invariant.moves, c.self.invariant.plan.moves)))
 
 pub returns : goal.returns
 returns c =
     let good = rw c.items-moves.ensures at (sym c.first_bad_bucket.ensures ∙ c.in_default.is)
     in let home = rw c.items-moves.ensures at (sym c.first_already_there.ensures ∙ c.in_default-first_already_there.is)
-    in let later : last_moment c.args.self.now ≤ c.args.change.now.moment.0 = omega arith
-    in let late = rw (← c.self.view_is) at later
-    in rw (← c.self.view_is) (
-    refusal-none (planned c.self.inside) c.args.change.now (record {
-      stamp = late;
-      buckets = good;
-      servers = sym (at_home c.self.inside c.self.invariant c.args.change.now.moves good) ∙ home;
-      changes = omega (arith, length-changes_of c.self.inside);
-      moves = omega (arith, ap length c.items-moves.ensures, c.self.invariant.moves, c.self.invariant.plan.moves);
-    }))
+    in let late : late_fault c.args.self.now c.args.change.now.moment ≡ None = c.in_ok-check_moment.ensures
+    in let on_time = rw (← c.self.view_is) at late
+    in let refused : refusal c.args.self.now c.args.change.now
+    ≡ first_fault (limit_faults c.args.self.now (length c.args.change.now.moves))
+    = rw (← c.self.view_is) (
+    refusal-limits (planned c.self.inside) c.args.change.now on_time good
+    (sym (at_home c.self.inside c.self.invariant c.args.change.now.moves good) ∙ home))
+    in let count = ap (λ n. first_fault (limit_faults c.args.self.now n)) (ap length c.items-moves.ensures)
+    in subst (λ (o : Option PlanFault). MatchResult c.check_counts.result (λ _. o ≡ None) (λ fault. o ≡ Some fault))
+    (count ∙ sym refused) c.check_counts.ensures

@@ -1,0 +1,160 @@
+-- How a call ends, by what was read and what was written.
+use Rattle.std.proofs.Common.{◌≡◌, ◌≢◌, inl, inr, ℕ, List, [], Option, Some, None, Ok, Err}
+use Rattle.std.proofs.Common.{sym, subst, ◌∙◌, refl}
+use Rattle.bm_core.specs.declared.events.Stage.{Stage}
+use Rattle.bm_words.specs.Form.{Asked, Named}
+use Rattle.bm_pcap.specs.declared.fault.PcapFault.TheVariants.{Memory as NoMemory}
+use Rattle.bm_cli.specs.declared.fault.StageFault.{StageFault}
+use Rattle.bm_cli.specs.declared.fault.StageFault.TheVariants.{Memory as WantsMemory}
+use Rattle.bm_cli.specs.declared.status.Status.{Status}
+use Rattle.bm_cli.specs.declared.status.Status.TheVariants.{ReadFault, Memory}
+use Rattle.bm_cli.specs.Dues.{Answer, Due, Misused, Refused, answer_for, due, due_of_stage, names_behind}
+use Rattle.bm_cli.specs.Dues.{status_of}
+use Rattle.bm_cli.specs.Ends.{AsksFor, Ends, IsOf, IsSaid}
+use Rattle.bm_cli.specs.Inside.Scripts.{IsOutside, IsRead}
+use Rattle.bm_cli.specs.Inside.Stages.{ReadsStage, status_by}
+use Rattle.bm_cli.specs.Inside.Telling.{Tells}
+use Rattle.bm_cli.specs.Reading.{Holds, Octets, Reading, Reads, reading, reads_of, script_for}
+use Rattle.bm_cli.specs.Statuses.{FilesDid, SinkDid}
+use Rattle.bm_cli.proofs.Faults.{memory_line, read_line}
+use Rattle.bm_cli.proofs.Names.{all_of_none, asks_nothing}
+use Rattle.bm_cli.proofs.Telling.{untouched, writes_nothing}
+
+-- SOME READS
+
+pub holds_more : (told : Octets) (fact more : Reads → Type 0) → ((reads : Reads) → fact reads → more reads) →
+    Holds told fact → Holds told more
+holds_more told fact more by h = record { reads = h.reads; known = h.known; holds = by h.reads h.holds }
+
+abbrev nothing : Reads
+nothing = record { script = λ name. Err WantsMemory; capture = λ name vips. Err NoMemory }
+
+pub holds_any : (told : Octets) (fact : Reads → Type 0) → ((reads : Reads) → fact reads) → Holds told fact
+holds_any None fact any = record { reads = nothing; known = tt; holds = any nothing }
+holds_any (Some octets) fact any = record { reads = reads_of octets; known = refl; holds = any (reads_of octets) }
+
+-- A STAGE
+
+-- a fault from outside may be answered in place of anything
+said_outside : (answer : Answer) (fault : StageFault) (says : Status) (text : List ℕ) → IsOutside fault →
+    IsOf (Refused fault) says text → IsSaid answer says text
+said_outside answer fault says text outside (inr none) = inl (inr none)
+said_outside answer fault says text (inl is) (inl said) = inr (said.0 ∙ is, said.1 ∙ read_line fault is)
+said_outside answer fault says text (inr is) (inl said) = inl (inr (said.0 ∙ is, said.1 ∙ memory_line fault is))
+
+-- what was read is answered as what is due
+said_stage : (is : Stage → List ℕ → Type 0) (due r : Reading) (says : Status) (text : List ℕ) → IsRead due r →
+    IsOf (answer_for is r) says text → IsSaid (answer_for is due) says text
+said_stage is due (Ok stage) says text read said =
+    subst (λ (d : Reading). IsSaid (answer_for is d) says text) (sym read) (inl said)
+said_stage is due (Err fault) says text (inl outside) said =
+    said_outside (answer_for is due) fault says text outside said
+said_stage is due (Err fault) says text (inr read) said =
+    subst (λ (d : Reading). IsSaid (answer_for is d) says text) (sym read) (inl said)
+
+-- the status that was answered is that of what was read, or want of memory
+says_read : (is : Stage → List ℕ → Type 0) (r : Reading) (says : Status) (text : List ℕ) →
+    IsOf (answer_for is r) says text → says ≢ Memory → says ≡ status_by r
+says_read is r says text (inr none) memory = absurd (memory none.0)
+says_read is (Ok stage) says text (inl said) memory = said.0
+says_read is (Err fault) says text (inl said) memory = said.0
+
+not_memory : (says : Status) → says ≡ ReadFault → says ≢ Memory
+not_memory says e = λ is. let no : ReadFault ≡ Memory = sym e ∙ is in cc
+
+asks_as : (names : List (List ℕ)) (files : FilesDid) (by says : Status) →
+    AsksFor names by files → (says ≢ Memory → says ≡ by) → AsksFor names says files
+asks_as names files by says asks is = record {
+  some = asks.some;
+  all = λ read memory. asks.all (λ e. read (is memory ∙ e)) (λ e. memory (is memory ∙ e));
+  rose = λ e. asks.rose (sym (is (not_memory says e)) ∙ e);
+  opens = λ e. asks.opens (sym (is (not_memory says e)) ∙ e);
+}
+
+-- what was read of a stage was answered
+pub ends_stage : (is : Stage → List ℕ → Type 0) (names : Named) (reads : Reads) (files : FilesDid)
+    (sink : SinkDid) (r : Reading) (result : Status) → ReadsStage names reads files r →
+    Tells (answer_for is r) sink result → Ends (due_of_stage is names reads) files sink result
+ends_stage is names reads files sink r result read tells = record {
+  says = tells.says;
+  text = tells.text;
+  said = said_stage is (reading names reads) r tells.says tells.text read.read tells.is;
+  writes = tells.writes;
+  asks =
+      asks_as (names_behind names (script_for reads names.script)) files (status_by r) tells.says read.asks
+      (says_read is r tells.says tells.text tells.is);
+}
+
+pub replay_ends : (is : Stage → List ℕ → Type 0) (names : Named) (told : Octets) (files : FilesDid)
+    (sink : SinkDid) (r : Reading) (result : Status) →
+    Holds told (λ reads. ReadsStage names reads files r) → Tells (answer_for is r) sink result →
+    Holds told (λ reads. Ends (due_of_stage is names reads) files sink result)
+replay_ends is names told files sink r result read tells =
+    holds_more told (λ reads. ReadsStage names reads files r)
+    (λ reads. Ends (due_of_stage is names reads) files sink result)
+    (λ reads stage. ends_stage is names reads files sink r result stage tells) read
+
+-- NO FILE IS READ
+
+-- memory was refused before anything was done
+pub ends_nothing : (due : Due) (asked : Option (List (List ℕ))) (fails : ℕ) (before : Option (List ℕ))
+    (faults : ℕ) →
+    Ends due (untouched asked fails) (untouched before faults) Memory
+ends_nothing due asked fails before faults = record {
+  says = Memory;
+  text = [];
+  said = inl (inr (refl, refl));
+  writes = writes_nothing before faults;
+  asks = record {
+    some = asks_nothing asked due.names;
+    all = λ read memory. absurd (memory refl);
+    rose = λ e. absurd (cc);
+    opens = λ e. absurd (cc);
+  };
+}
+
+-- an answer that asks for no file was written
+pub ends_unread : (answer : Answer) (asked : Option (List (List ℕ))) (fails : ℕ) (sink : SinkDid)
+    (result : Status) → status_of answer ≢ ReadFault → Tells answer sink result →
+    Ends (record { names = []; answer = answer }) (untouched asked fails) sink result
+ends_unread answer asked fails sink result not tells = record {
+  says = tells.says;
+  text = tells.text;
+  said = inl tells.is;
+  writes = tells.writes;
+  asks = record {
+    some = asks_nothing asked [];
+    all = λ read memory. all_of_none asked;
+    rose = λ e. absurd (unread tells.is e);
+    opens = λ e. absurd (unread tells.is e);
+  };
+}
+  where
+    unread : IsOf answer tells.says tells.text → tells.says ≢ ReadFault
+    unread (inl said) = λ e. not (sym said.0 ∙ e)
+    unread (inr none) = λ e. let no : Memory ≡ ReadFault = sym none.0 ∙ e in cc
+
+-- THE WORDS
+
+-- what the words ask for was answered
+pub words_end : (form : Option Asked) (words : Option Asked) (told : Octets) (files : FilesDid)
+    (sink : SinkDid) (result : Status) → form ≡ words →
+    Holds told (λ reads. Ends (due form reads) files sink result) →
+    Holds told (λ reads. Ends (due words reads) files sink result)
+words_end form words told files sink result same ends =
+    subst (λ f. Holds told (λ reads. Ends (due f reads) files sink result)) same ends
+
+pub usage_ends : (words : Option Asked) (told : Octets) (asked : Option (List (List ℕ))) (fails : ℕ)
+    (sink : SinkDid) (result : Status) → None ≡ words → Tells Misused sink result →
+    Holds told (λ reads. Ends (due words reads) (untouched asked fails) sink result)
+usage_ends words told asked fails sink result none tells =
+    words_end None words told (untouched asked fails) sink result none
+    (holds_any told (λ reads. Ends (due None reads) (untouched asked fails) sink result)
+    (λ reads. ends_unread Misused asked fails sink result (λ e. cc) tells))
+
+pub memory_ends : (words : Option Asked) (told : Octets) (asked : Option (List (List ℕ))) (fails : ℕ)
+    (before : Option (List ℕ)) (faults : ℕ) →
+    Holds told (λ reads. Ends (due words reads) (untouched asked fails) (untouched before faults) Memory)
+memory_ends words told asked fails before faults =
+    holds_any told (λ reads. Ends (due words reads) (untouched asked fails) (untouched before faults) Memory)
+    (λ reads. ends_nothing (due words reads) asked fails before faults)

@@ -1,0 +1,59 @@
+-- What is due: by the words, and by what is read under the names in them.
+use Rattle.std.specs.Prelude.{◌≡◌, [], ℕ, List, Option, Some, None, Result, Ok, Err}
+use Rattle.bm_table.specs.declared.script.Script.{Script}
+use Rattle.bm_core.specs.declared.events.Stage.{Stage}
+use Rattle.bm_words.specs.Form.{Asked, Named, Replay}
+use Rattle.bm_cli.specs.declared.fault.StageFault.{StageFault}
+use Rattle.bm_cli.specs.declared.status.Status.{Status}
+use Rattle.bm_cli.specs.declared.status.Status.TheVariants.{Done, Usage}
+use Rattle.bm_cli.specs.Headline.{IsReportOf}
+use Rattle.bm_cli.specs.Lines.{fault_line, fault_status, usage_line}
+use Rattle.bm_cli.specs.Names.{names_in, script_names}
+use Rattle.bm_cli.specs.Reading.{Reading, Reads, reading, script_for}
+
+-- the words are of no form; there is a fault; or a text of which this is true is shown
+pub data Answer : Type 1 where
+  Misused : Answer
+  Refused : StageFault → Answer
+  Shown : (List ℕ → Type 0) → Answer
+
+-- the names that the files are asked for, in their order, and what is answered
+pub record Due : Type 1 where
+  pub names : List (List ℕ)
+  pub answer : Answer
+
+-- the status that is due
+abbrev pub status_of : Answer → Status
+status_of Misused = Usage
+status_of (Refused fault) = fault_status fault
+status_of (Shown is) = Done
+
+-- what the text that is due must be
+abbrev pub text_of : Answer → List ℕ → Type 0
+text_of Misused text = text ≡ usage_line
+text_of (Refused fault) text = text ≡ fault_line fault
+text_of (Shown is) text = is text
+
+-- A STAGE AND WHAT IS SHOWN OF IT
+
+-- behind a fault of the script the capture isn't asked for
+abbrev pub names_behind : Named → Result Script StageFault → List (List ℕ)
+names_behind names (Ok script) = names_in names
+names_behind names (Err fault) = script_names names.script
+
+abbrev pub answer_for : (Stage → List ℕ → Type 0) → Reading → Answer
+answer_for is (Ok stage) = Shown (is stage)
+answer_for is (Err fault) = Refused fault
+
+-- of the stage that the words and the files ask for such a text is due, or the line of its fault
+abbrev pub due_of_stage : (Stage → List ℕ → Type 0) → Named → Reads → Due
+due_of_stage is names reads = record {
+  names = names_behind names (script_for reads names.script);
+  answer = answer_for is (reading names reads);
+}
+
+-- THE FORMS
+
+abbrev pub due : Option Asked → Reads → Due
+due None reads = record { names = []; answer = Misused }
+due (Some (Replay names)) reads = due_of_stage IsReportOf names reads

@@ -1,0 +1,44 @@
+-- How a call ended, by what was due.
+use Rattle.std.specs.Prelude.{◌≡◌, ◌≢◌, ◌⊎◌, [], ℕ, List}
+use Rattle.bm_io.specs.Causes.{Rose}
+use Rattle.bm_cli.specs.declared.fault.StageFault.TheVariants.{Files}
+use Rattle.bm_cli.specs.declared.status.Status.{Status}
+use Rattle.bm_cli.specs.declared.status.Status.TheVariants.{ReadFault, Memory}
+use Rattle.bm_cli.specs.Dues.{Answer, Due, status_of, text_of}
+use Rattle.bm_cli.specs.Lines.{fault_line}
+use Rattle.bm_cli.specs.Names.{AsksAll, AsksPrefix}
+use Rattle.bm_cli.specs.Statuses.{Writes, code_of, FilesDid, SinkDid}
+
+-- the answer's status and a text of it; or nothing, since memory was refused
+abbrev pub IsOf : Answer → Status → List ℕ → Type 0
+IsOf answer says text =
+    ((says ≡ status_of answer) × text_of answer text) ⊎ ((says ≡ Memory) × (text ≡ []))
+
+-- or the line of a read that failed
+abbrev pub IsSaid : Answer → Status → List ℕ → Type 0
+IsSaid answer says text =
+    IsOf answer says text ⊎ ((says ≡ ReadFault) × (text ≡ fault_line Files))
+
+-- What the files were asked for, by the names that are due and by the status that it led to.
+pub record AsksFor (names : List (List ℕ)) (says : Status) (files : FilesDid) : Type 0 where
+  -- the names in their order: all of them, but where a read failed or memory was refused
+  pub some : AsksPrefix files.before files.now names
+  pub all : says ≢ ReadFault → says ≢ Memory → AsksAll files.before files.now names
+  -- a read has failed where it says so, and there was a file to read
+  pub rose : says ≡ ReadFault → Rose files.faults files.later
+  pub opens : says ≡ ReadFault → names ≢ []
+
+-- How a call ended.
+pub record Ends (due : Due) (files : FilesDid) (sink : SinkDid) (result : Status) : Type 0 where
+  -- the status and the text that it set out to answer
+  pub says : Status
+  pub text : List ℕ
+  pub said : IsSaid due.answer says text
+  pub writes : Writes says text sink result
+  pub asks : AsksFor due.names says files
+
+-- the same, by the exit status
+pub record EndsWith (due : Due) (files : FilesDid) (sink : SinkDid) (code : ℕ) : Type 0 where
+  pub status : Status
+  pub is : code ≡ code_of status
+  pub ends : Ends due files sink status

@@ -1,0 +1,7 @@
+-- Only the proofs of bodies use these.
+pub mod Captures
+pub mod Faults
+pub mod Rules
+pub mod Scripts
+pub mod Stages
+pub mod Telling

@@ -1,0 +1,216 @@
+//! The slots of a table, and the walk from a flow's home.
+ghost use Rattle.std.specs.Prelude.{if◌then◌else◌, is_some, IfOk, IsSome, Some, None, replicate};
+ghost use Rattle.std.specs.Prelude.{◌≡◌, ◌<◌, ◌≤◌, ◌+◌, ◌^◌, ℕ, length, true, false};
+ghost use Rattle.bm_conn.specs.Connections.{AreOnce, receiver_in};
+ghost use Rattle.bm_conn.specs.Slots.{slot_at, is_free, is_of, used};
+ghost use Rattle.bm_conn.specs.Slots as slots;
+
+use bm_base::{Flow, Memory};
+use bm_hash::flow_hash;
+use bm_seq::Receiver;
+use std::alloc::Global;
+
+/// A place of a table: free, or with a flow and its receiver.
+#[derive(Clone, Copy, Debug, PartialEq, Eq)]
+pub enum Slot {
+    Free,
+    Used(Flow, Receiver),
+}
+
+/// How many steps from one place to another, of `count` places, going round at the end.
+#[tactic(auto, unfolding(crate::specs::Slots::distance))]
+pub(crate) fn distance(count: usize, from: usize, to: usize) -> usize
+    requires few { count ≤ 2 ^ 32 }
+    requires from { from < count }
+    requires to { to < count }
+    ensures { result ≡ slots.distance count from to }
+{
+    if from <= to {
+        to - from
+    } else {
+        to + count - from
+    }
+}
+
+/// The place where the flow's way begins, of `count` places.
+#[tactic(auto, unfolding(crate::specs::Slots::home))]
+pub(crate) fn home(count: usize, flow: &Flow) -> usize
+    requires some { 1 ≤ count }
+    ensures within { result < count }
+    ensures home { result ≡ slots.home count flow.now }
+{
+    (flow_hash(flow) % (count as u64)) as usize
+}
+
+/// The next place, going round at the end.
+pub(crate) fn after(count: usize, place: usize) -> usize
+    requires few { count ≤ 2 ^ 32 }
+    requires within { place < count }
+    ensures { result ≡ slots.after count place }
+{
+    if place + 1 == count { 0 } else { place + 1 }
+}
+
+/// The place of the flow, or the free slot where its way ends.
+pub(crate) fn seek(places: &[Slot], flow: &Flow) -> usize
+    requires few { length places.now ≤ 2 ^ 32 }
+    requires free { (place : ℕ) × (place < length places.now)
+        × (is_free (slot_at places.now place) ≡ true) }
+    ensures within { result < length places.now }
+    ensures stops { slots.Stops places.now flow.now result }
+    ensures passed { (between : ℕ) → between < length places.now
+        → slots.distance (length places.now) (slots.home (length places.now) flow.now)
+        between < slots.distance (length places.now) (slots.home (length places.now) flow.now)
+        result
+        → (is_free (slot_at places.now between) ≡ false)
+        × (is_of flow.now (slot_at places.now between) ≡ false) }
+{
+    let count = places.len();
+    let mut place = home(count, flow);
+    for _ in 0..count {
+        match places[place] {
+            Slot::Free => return place,
+            Slot::Used(other, _) => {
+                if other == *flow {
+                    return place;
+                }
+            }
+        }
+        place = after(count, place);
+    }
+    // Never reached: a slot is free.
+    place
+}
+
+/// Puts the flow at the place into the hole, if its way goes over the hole; where the hole is then.
+fn shift(places: &mut [Slot], hole: usize, place: usize, flow: &Flow) -> usize
+    requires few { length places.old ≤ 2 ^ 32 }
+    requires hole { hole < length places.old }
+    requires place { place < length places.old }
+    ensures { slots.Shifts (length places.old) flow.now places.old places.new hole place result }
+{
+    let count = places.len();
+    let home = home(count, flow);
+    if distance(count, home, hole) < distance(count, home, place) {
+        let moved = places[place];
+        places[place] = Slot::Free;
+        places[hole] = moved;
+        place
+    } else {
+        hole
+    }
+}
+
+/// Closes the hole at the start: shifts back what follows, until a slot is free.
+pub(crate) fn close_up(places: &mut [Slot], start: usize)
+    requires few { length places.old ≤ 2 ^ 32 }
+    requires spare { length (used places.old) + 2 ≤ length places.old }
+    requires once { AreOnce (used places.old) }
+    requires hole { slots.HasHole places.old (length places.old) start }
+    ensures reached { slots.AreReached places.new (length places.old) }
+    ensures same { slots.HoldsSame places.old places.new }
+{
+    let count = places.len();
+    let mut hole = start;
+    let mut place = start;
+    // It returns inside: a slot other than the hole is free.
+    for _ in 1..count {
+        place = after(count, place);
+        match places[place] {
+            Slot::Free => return,
+            Slot::Used(flow, _) => {
+                hole = shift(places, hole, place, &flow);
+            }
+        }
+    }
+}
+
+/// So many free slots.
+pub(crate) fn free_slots(alloc: Global, count: usize) -> Result<Vec<Slot>, Memory>
+    ensures { IfOk result (λ places. places.items ≡ replicate count Slot.Free) }
+{
+    Ok(vec![in alloc; Slot::Free; count]?)
+}
+
+/// The receiver of the flow, if the flow is there.
+pub(crate) fn look(places: &[Slot], flow: &Flow) -> Option<Receiver>
+    requires few { length places.now ≤ 2 ^ 32 }
+    requires spare { length (used places.now) < length places.now }
+    requires placed { slots.IsPlaced places.now }
+    ensures { result ≡ receiver_in (used places.now) flow.now }
+{
+    match places[seek(places, flow)] {
+        Slot::Free => None,
+        Slot::Used(_, receiver) => Some(receiver),
+    }
+}
+
+/// Takes a flow that isn't there.
+pub(crate) fn put(places: &mut [Slot], flow: Flow, receiver: Receiver)
+    requires few { length places.old ≤ 2 ^ 32 }
+    requires spare { length (used places.old) < length places.old }
+    requires placed { slots.IsPlaced places.old }
+    requires absent { receiver_in (used places.old) flow ≡ None }
+    ensures puts { slots.IsPutInto flow (Some receiver) places.old places.new }
+    ensures count { length (used places.new) ≡ length (used places.old) + 1 }
+{
+    let place = seek(places, &flow);
+    places[place] = Slot::Used(flow, receiver);
+}
+
+/// Gives a flow that is there another receiver.
+pub(crate) fn give(places: &mut [Slot], flow: &Flow, receiver: Receiver)
+    requires few { length places.old ≤ 2 ^ 32 }
+    requires spare { length (used places.old) < length places.old }
+    requires placed { slots.IsPlaced places.old }
+    requires there { IsSome (receiver_in (used places.old) flow.now) }
+    ensures puts { slots.IsPutInto flow.now (Some receiver) places.old places.new }
+    ensures count { length (used places.new) ≡ length (used places.old) }
+{
+    let place = seek(places, flow);
+    places[place] = Slot::Used(*flow, receiver);
+}
+
+/// Takes the flow away; true exactly where it was there.
+pub(crate) fn take(places: &mut [Slot], flow: &Flow) -> bool
+    requires few { length places.old ≤ 2 ^ 32 }
+    requires spare { length (used places.old) < length places.old }
+    requires placed { slots.IsPlaced places.old }
+    ensures there { result ≡ is_some (receiver_in (used places.old) flow.now) }
+    ensures puts { slots.IsPutInto flow.now None places.old places.new }
+    ensures count { length (used places.new) + (if result then 1 else 0)
+        ≡ length (used places.old) }
+{
+    let place = seek(places, flow);
+    match places[place] {
+        Slot::Free => false,
+        Slot::Used(_, _) => {
+            places[place] = Slot::Free;
+            close_up(places, place);
+            true
+        }
+    }
+}
+
+/// Puts the flows of the old slots into the new ones, which are free and more than enough.
+pub(crate) fn move_all(old: &[Slot], places: &mut [Slot])
+    requires few { length places.old ≤ 2 ^ 32 }
+    requires spare { length (used old.now) < length places.old }
+    requires once { AreOnce (used old.now) }
+    requires free { places.old ≡ replicate (length places.old) Slot.Free }
+    ensures { slots.AreMoved old.now places.new (length places.old) }
+{
+    for place in old {
+        match *place {
+            Slot::Free => {}
+            Slot::Used(flow, receiver) => put(places, flow, receiver),
+        }
+    }
+}
+
+/// Frees all slots.
+pub(crate) fn wipe(places: &mut [Slot])
+    ensures { places.new ≡ replicate (length places.old) Slot.Free }
+{
+    places.fill(Slot::Free);
+}

@@ -1,0 +1,22 @@
+-- A source that is read ahead of what is answered.
+use Rattle.std.specs.Prelude.{◌≡◌, ℕ, List, length, take, min, slice_range, Option, Some, None}
+use Rattle.std.specs.Io.KnownBytes.{prepend_known}
+use Rattle.bm_pcap.specs.declared.window.Window.{Window}
+
+-- what was read ahead
+abbrev pub held : {S : Type 0} → Window S → List ℕ
+held window = slice_range window.octets.items window.from window.upto
+
+-- what stands before it in the buffer: the last that was answered is at its end
+abbrev pub passed : {S : Type 0} → Window S → List ℕ
+passed window = take window.from window.octets.items
+
+-- The octets that are not answered yet, where the source tells its octets: those that were read
+-- ahead, and then those that the source has left.
+abbrev pub rest : {S : Type 0} → (S → Option (List ℕ)) → Window S → Option (List ℕ)
+rest left window = prepend_known (held window) (left window.src)
+
+-- The first octets of the rest are held: as many as were wanted, or all of them.
+abbrev pub Ahead : Option (List ℕ) → ℕ → ℕ → List ℕ → Type 0
+Ahead None most n ahead = Unit {0}
+Ahead (Some octets) most n ahead = (n ≡ min most (length octets)) × (take n ahead ≡ take n octets)

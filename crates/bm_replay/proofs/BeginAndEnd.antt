@@ -1,0 +1,101 @@
+-- How a replay begins, and what it is at its end.
+use Rattle.std.proofs.Common.{◌≡◌, ◌≤◌, List, [], Option, None, length, refl, sym, ap, subst, ◌∙◌, arith}
+use Rattle.std.specs.Prelude.{reverse}
+use Rattle.std.proofs.lemmas.List.{length-reverse}
+use Rattle.bm_core.specs.declared.events.Event.{Event}
+use Rattle.bm_core.specs.declared.events.Stage.{Stage}
+use Rattle.bm_core.specs.declared.schedule.Due.{Due}
+use Rattle.bm_core.specs.Accounts.{Routes, Rules}
+use Rattle.bm_core.specs.Histories.{IsReplay}
+use Rattle.bm_core.specs.Schedule.{IsOver, arrival_due, can_come, least, wire}
+use Rattle.bm_core.specs.Stages.{IsSound}
+use Rattle.bm_core.proofs.Accounted.{accounted}
+use Rattle.bm_core.proofs.Existing.{length_law}
+use Rattle.bm_replay.specs.declared.player.Loss.{Loss}
+use Rattle.bm_replay.specs.declared.player.Player.{Player}
+use Rattle.bm_replay.specs.declared.coming.Coming.{Coming}
+use Rattle.bm_replay.specs.declared.coming.Coming.TheVariants.{Over}
+use Rattle.bm_replay.specs.Players.{IsNew, soonest_command, coming_for}
+use Rattle.bm_replay.specs.Playing.{IsPlaying, KeepsState, lost_call, past_of}
+use Rattle.bm_replay.specs.Shards.{IsBookOf, KeepsBooks, all_books}
+use Rattle.bm_shard.specs.Books.{Book}
+use Rattle.bm_replay.proofs.ShardBooks.{book_at_first, length_all}
+use Rattle.bm_replay.specs.Comings.{sooner_of}
+use Rattle.bm_replay.proofs.NextEvents.{IsComingOf}
+use Rattle.bm_replay.proofs.Unchanged.{switches_are}
+use Rattle.bm_replay.proofs.LeastOfTwo.{least_none}
+use Rattle.bm_replay.proofs.ReadyEvents.{come_least, state_turn}
+
+first_books : (stage : Stage) → KeepsBooks stage [] (all_books stage.script.setting 1025)
+first_books stage = record {
+  lie = let l = length_all stage.script.setting 1025 in omega arith;
+  each = λ s h few below. subst (λ (x : Book). IsBookOf stage [] s h x)
+      (sym (book_at_first stage.script.setting 1025 s h (omega arith) below))
+      (record { shard = refl; calls = refl; clock = omega arith; few = omega arith });
+}
+
+new_state : (stage : Stage) (p : Player) → IsNew stage p → p.stage ≡ stage → KeepsState [] [] p
+new_state stage p new about = record {
+  clock = new.clock;
+  loss = ap (λ (o : Option Loss). lost_call o) new.loss;
+  flights = rw new.wire tt;
+  published = new.published;
+  muxes = rw about (record {
+    count = new.muxes;
+    tables = new.tables;
+    versions = λ m. refl;
+    soonest =
+        new.switch
+        ∙ ap (λ (l : List Due). least l)
+        (switches_are stage [] p.muxes new.tables stage.script.setting.muxes (omega arith));
+  });
+  queues = rw about
+      (record { due_closes = new.close; due_retires = new.retire; due_syncs = new.sync; due_packets = new.packet });
+  books = rw about (rw new.shards (first_books stage));
+  packets = rw about new.packets;
+}
+
+pub begins : (R : Routes) (F : Rules) (stage : Stage) (p : Player) → IsSound stage → IsNew stage p → IsPlaying R F p
+begins R F stage p sound new =
+    let past : past_of p ≡ [] = ap (λ (l : List Event). reverse l) new.events
+    in record {
+      fates = [];
+      played = rw (new.about, past)
+          (record { sound = sound; plan = new.plan; run = tt; follows = tt; answered = tt; soon = tt });
+      state = subst (λ (l : List Event). KeepsState [] l p) (sym past) (new_state stage p new new.about);
+    }
+
+-- nothing can come where the turn is over
+pub ends : (R : Routes) (F : Rules) (p : Player) → IsPlaying R F p → p.loss ≡ None → coming_for p ≡ Over
+    → IsReplay R F (record { stage = p.stage; events = p.events })
+ends R F p playing none over = record {
+  run = record { sound = playing.played.sound; run = playing.played.run };
+  fates = playing.fates;
+  follows = playing.played.follows;
+  over = is_over;
+  account =
+      accounted R F playing.fates p.stage (past_of p) playing.played.run playing.played.follows is_over
+      playing.played.answered;
+} where
+  turn : IsComingOf (soonest_command p) (wire playing.fates (past_of p)) p.packet.head Over
+  turn = subst (λ (t : Coming). IsComingOf (soonest_command p) (wire playing.fates (past_of p)) p.packet.head t) over
+      (state_turn playing.fates (past_of p) p playing.state)
+
+  no_least : least (can_come (wire playing.fates (past_of p)) p.stage (past_of p)) ≡ None
+  no_least =
+      come_least playing.fates (past_of p) p playing.state
+      ∙ (λ i. sooner_of (sooner_of (turn.0 i) (least (arrival_due (turn.1 i)))) (turn.2 i))
+
+  is_over : IsOver playing.fates p.stage (past_of p)
+  is_over = record {
+    none = least_none (can_come (wire playing.fates (past_of p)) p.stage (past_of p)) no_least;
+    no_loss_due = sym playing.state.loss ∙ ap (λ (o : Option Loss). lost_call o) none;
+  }
+
+-- a replay on its way has few events
+pub few_events : (R : Routes) (F : Rules) (p : Player) → IsPlaying R F p → length p.events ≤ 6859840
+few_events R F p playing =
+    let few : length (past_of p) ≤ 6859840 =
+    length_law playing.fates p.stage (past_of p) playing.played.sound playing.played.follows playing.played.soon
+    in let same : length (past_of p) ≡ length p.events = length-reverse p.events
+    in omega arith

@@ -1,0 +1,73 @@
+//! What comes first of what can come.
+ghost use Rattle.std.specs.Prelude.{◌≡◌};
+ghost use Rattle.bm_core.specs.Schedule.{comes_first};
+ghost use Rattle.bm_replay.specs.Comings.{is_before, is_no_later, first_coming, sooner_of};
+
+use bm_base::Moment;
+use bm_core::Due;
+
+/// What comes next: a copy that is due at this moment arrives, a call is carried out, or nothing
+/// is left.
+#[derive(Clone, Copy, Debug, PartialEq, Eq)]
+pub(crate) enum Coming {
+    Arrive(Moment),
+    Call(Due),
+    Over,
+}
+
+/// The sooner of the two, and the first of two alike.
+pub(crate) fn sooner(a: Option<Due>, b: Option<Due>) -> Option<Due>
+    ensures { result ≡ sooner_of a b }
+{
+    match (a, b) {
+        (None, b) => b,
+        (a, None) => a,
+        (Some(x), Some(y)) => Some(if comes_first(&y, &x) { y } else { x }),
+    }
+}
+
+/// Whether `a` comes before `b`: by moment, then by rank, then by number.
+fn comes_first(a: &Due, b: &Due) -> bool
+    ensures { result ≡ comes_first a.now b.now }
+{
+    a.moment < b.moment
+        || a.moment == b.moment && (a.rank < b.rank || a.rank == b.rank && a.number < b.number)
+}
+
+/// Of the soonest command, the moment of the first copy under way and the next packet: a copy
+/// arrives after the commands of its moment, and before the packets.
+pub(crate) fn first_coming(
+    command: Option<Due>,
+    copy: Option<Moment>,
+    packet: Option<Due>,
+) -> Coming
+    ensures { result ≡ first_coming command copy packet }
+{
+    match copy {
+        Some(moment) if is_before(moment, command) && is_no_later(moment, packet) => {
+            Coming::Arrive(moment)
+        }
+        _ => match sooner(command, packet) {
+            Some(due) => Coming::Call(due),
+            None => Coming::Over,
+        },
+    }
+}
+
+fn is_before(moment: Moment, due: Option<Due>) -> bool
+    ensures { result ≡ is_before moment.0 due }
+{
+    match due {
+        Some(due) => moment.0 < due.moment,
+        None => true,
+    }
+}
+
+fn is_no_later(moment: Moment, due: Option<Due>) -> bool
+    ensures { result ≡ is_no_later moment.0 due }
+{
+    match due {
+        Some(due) => moment.0 <= due.moment,
+        None => true,
+    }
+}

@@ -1,0 +1,155 @@
+//! Captures, built of their packets.
+use std::alloc::{AllocError, Global};
+
+/// What a packet is.
+#[derive(Clone, Copy)]
+pub(crate) enum Kind {
+    /// A SYN.
+    Syn,
+    /// Ten octets of data.
+    Data,
+    /// A FIN.
+    Fin,
+    /// A reset.
+    Rst,
+}
+
+/// A TCP packet from 10.0.0.1 to 192.0.2.1 port 80: seconds and parts of a second from the first
+/// record on, source port, sequence number, and what it is.
+#[derive(Clone, Copy)]
+pub(crate) struct Packet(pub u32, pub u32, pub u16, pub u32, pub Kind);
+
+/// A SYN and, a part of a second later, data.
+pub(crate) const OPENED: &'static [Packet] = &[
+    Packet(0, 0, 1000, 100, Kind::Syn),
+    Packet(0, 1, 1000, 101, Kind::Data),
+];
+
+/// The unit and the order of octets of a capture's numbers.
+#[derive(Clone, Copy, PartialEq, Eq)]
+pub(crate) enum Form {
+    /// Microseconds, the least octet first.
+    Micro,
+    /// Nanoseconds, the least octet first.
+    Nano,
+    /// Microseconds, the greatest octet first.
+    Turned,
+}
+
+/// A capture of raw IP packets.
+pub(crate) fn raw(alloc: Global, form: Form, packets: &[Packet]) -> Result<Vec<u8>, AllocError> {
+    let mut octets = header(alloc, form, 101)?;
+    for packet in packets {
+        let network = network(alloc, packet, 1, 0x4000)?;
+        record(&mut octets, form, (packet.0, packet.1), &network)?;
+    }
+    Ok(octets)
+}
+
+/// A capture of Ethernet frames: ARP, IPv6, a fragment, another destination, a VLAN tag, a length
+/// that the card fills in, and a record cut short.
+pub(crate) fn ethernet(alloc: Global) -> Result<Vec<u8>, AllocError> {
+    let mut octets = header(alloc, Form::Micro, 1)?;
+    let syn = Packet(0, 0, 1000, 100, Kind::Syn);
+    let data = Packet(0, 0, 1000, 101, Kind::Data);
+    frame(alloc, &mut octets, 0, b"\x08\x06", &[0; 28])?;
+    frame(alloc, &mut octets, 1, b"\x86\xdd\x60", &[0; 39])?;
+    frame(
+        alloc,
+        &mut octets,
+        2,
+        b"\x08\x00",
+        &network(alloc, &syn, 1, 0x2000)?,
+    )?;
+    frame(
+        alloc,
+        &mut octets,
+        3,
+        b"\x08\x00",
+        &network(alloc, &syn, 9, 0x4000)?,
+    )?;
+    let tag = b"\x81\x00\x00\x07\x08\x00";
+    frame(
+        alloc,
+        &mut octets,
+        4,
+        tag,
+        &network(alloc, &syn, 1, 0x4000)?,
+    )?;
+    let mut offloaded = network(alloc, &data, 1, 0x4000)?;
+    if let [_, _, high, low, ..] = offloaded.as_mut_slice() {
+        *high = 0;
+        *low = 0;
+    }
+    frame(alloc, &mut octets, 5, b"\x08\x00", &offloaded)?;
+    octets.extend_from_slice(&[0; 9])?;
+    Ok(octets)
+}
+
+/// The header of a capture of this link type.
+fn header(alloc: Global, form: Form, link: u32) -> Result<Vec<u8>, AllocError> {
+    let (magic, version): (u32, &[u8]) = match form {
+        Form::Micro => (0xa1b2_c3d4, b"\x02\x00\x04\x00"),
+        Form::Nano => (0xa1b2_3c4d, b"\x02\x00\x04\x00"),
+        Form::Turned => (0xa1b2_c3d4, b"\x00\x02\x00\x04"),
+    };
+    let mut octets = Vec::new(alloc);
+    put(&mut octets, form, magic)?;
+    octets.extend_from_slice(version)?;
+    for number in [0, 0, 65_535, link] {
+        put(&mut octets, form, number)?;
+    }
+    Ok(octets)
+}
+
+/// A record with these octets.
+fn record(octets: &mut Vec<u8>, form: Form, at: (u32, u32), body: &[u8]) -> Result<(), AllocError> {
+    let length = u32::try_from(body.len()).unwrap_or(0);
+    for number in [at.0, at.1, length, length] {
+        put(octets, form, number)?;
+    }
+    octets.extend_from_slice(body)
+}
+
+/// A record with an Ethernet frame, so many microseconds after the first.
+fn frame(
+    alloc: Global,
+    octets: &mut Vec<u8>,
+    micros: u32,
+    kind: &[u8],
+    network: &[u8],
+) -> Result<(), AllocError> {
+    let mut body = Vec::from_slice(alloc, b"\x02\x00\x00\x00\x00\x01\x02\x00\x00\x00\x00\x02")?;
+    body.extend_from_slice(kind)?;
+    body.extend_from_slice(network)?;
+    record(octets, Form::Micro, (0, micros), &body)
+}
+
+/// The IPv4 packet of a TCP packet, to 192.0.2.`to`, with this word of flags and fragment offset.
+fn network(alloc: Global, packet: &Packet, to: u8, fragment: u16) -> Result<Vec<u8>, AllocError> {
+    let Packet(_, _, port, seq, kind) = *packet;
+    let (length, flags, ack, data): (u8, u8, u32, &[u8]) = match kind {
+        Kind::Syn => (40, 0x02, 0, b""),
+        Kind::Data => (50, 0x18, 501, b"abcdefghij"),
+        Kind::Fin => (40, 0x11, 501, b""),
+        Kind::Rst => (40, 0x04, 0, b""),
+    };
+    let mut octets = Vec::from_slice(alloc, &[0x45, 0, 0, length, 0, 0])?;
+    octets.extend_from_slice(&fragment.to_be_bytes())?;
+    octets.extend_from_slice(&[64, 6, 0, 0, 10, 0, 0, 1, 192, 0, 2, to])?;
+    octets.extend_from_slice(&port.to_be_bytes())?;
+    octets.extend_from_slice(&[0, 80])?;
+    octets.extend_from_slice(&seq.to_be_bytes())?;
+    octets.extend_from_slice(&ack.to_be_bytes())?;
+    octets.extend_from_slice(&[0x50, flags, 255, 255, 0, 0, 0, 0])?;
+    octets.extend_from_slice(data)?;
+    Ok(octets)
+}
+
+fn put(octets: &mut Vec<u8>, form: Form, number: u32) -> Result<(), AllocError> {
+    if form == Form::Turned {
+        octets.extend_from_slice(&number.to_be_bytes())
+    } else {
+        octets.extend_from_slice(&number.to_le_bytes())
+    }
+}

@@ -1,0 +1,88 @@
+//! The program, run on files in memory.
+use crate::capture::{Form, Packet, raw};
+use bm_base::{List, Text};
+use bm_cli::beamer;
+use bm_io::{SureFile, SureFiles, SureSink};
+use std::alloc::{AllocError, Global};
+use std::process::Abort;
+use std::test::Fail;
+
+/// A capture and perhaps a script, and what the program ends with and writes.
+pub(crate) struct Row {
+    pub name: &'static str,
+    pub form: Form,
+    pub packets: &'static [Packet],
+    pub script: Option<&'static str>,
+    pub status: u8,
+    pub text: &'static str,
+}
+
+pub(crate) fn words(alloc: Global, words: &[&str]) -> Result<Vec<String>, AllocError> {
+    let mut all = Vec::new(alloc);
+    for word in words {
+        all.push(String::from_str(alloc, word)?)?;
+    }
+    Ok(all)
+}
+
+pub(crate) fn file(alloc: Global, name: &str, octets: &[u8]) -> Result<SureFile, AllocError> {
+    Ok(SureFile {
+        name: Text::of(String::from_str(alloc, name)?),
+        octets: List::of(Vec::from_slice(alloc, octets)?),
+        step: 100,
+    })
+}
+
+/// The file of a capture, and perhaps that of a script.
+fn files(
+    alloc: Global,
+    capture: &[u8],
+    script: Option<&[u8]>,
+) -> Result<Vec<SureFile>, AllocError> {
+    let capture = file(alloc, "c", capture)?;
+    match script {
+        Some(script) => Ok(vec![in alloc; capture, file(alloc, "s", script)?]?),
+        None => Ok(vec![in alloc; capture]?),
+    }
+}
+
+/// Tests what the program ends with and writes where its words are `replay c`, or `replay c s`
+/// where there is a script.
+pub(crate) fn check(
+    rt: &impl Abort,
+    alloc: Global,
+    (capture, script): (&[u8], Option<&[u8]>),
+    name: &str,
+    (status, text): (u8, &str),
+) -> Result<(), Fail> {
+    let form: &[&str] = match script {
+        Some(_) => &["replay", "c", "s"],
+        None => &["replay", "c"],
+    };
+    let words = words(alloc, form)?;
+    let mut files = SureFiles::new(alloc, files(alloc, capture, script)?);
+    let mut out = SureSink::new(alloc);
+    let ended = beamer(alloc, &words, &mut files, &mut out);
+    assert_eq!(rt; out.written(), text.as_bytes(), "{}", name);
+    assert_eq!(rt; ended, status, "{}", name);
+    Ok(())
+}
+
+pub(crate) fn check_row(rt: &impl Abort, alloc: Global, row: &Row) -> Result<(), Fail> {
+    let capture = raw(alloc, row.form, row.packets)?;
+    let script = row.script.map(|script| script.as_bytes());
+    check(
+        rt,
+        alloc,
+        (&capture, script),
+        row.name,
+        (row.status, row.text),
+    )
+}
+
+pub(crate) fn check_rows(rt: &impl Abort, alloc: Global, rows: &[Row]) -> Result<(), Fail> {
+    for row in rows {
+        check_row(rt, alloc, row)?;
+    }
+    Ok(())
+}

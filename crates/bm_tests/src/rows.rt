@@ -1,0 +1,28 @@
+//! Worked rows: captures with and without scripts, and what the program writes.
+use crate::program::check_rows;
+use std::test::Fail;
+
+mod captures;
+mod commands;
+mod moves;
+mod refused;
+
+#[test]
+fn captures_are_replayed(rt: HostRuntime) -> Result<(), Fail> {
+    check_rows(&rt, rt.alloc(), &captures::CAPTURES)
+}
+
+#[test]
+fn moves_are_replayed(rt: HostRuntime) -> Result<(), Fail> {
+    check_rows(&rt, rt.alloc(), &moves::MOVES)
+}
+
+#[test]
+fn commands_and_faults_are_replayed(rt: HostRuntime) -> Result<(), Fail> {
+    check_rows(&rt, rt.alloc(), &commands::COMMANDS)
+}
+
+#[test]
+fn scripts_are_refused(rt: HostRuntime) -> Result<(), Fail> {
+    check_rows(&rt, rt.alloc(), &refused::REFUSED)
+}

@@ -1,0 +1,121 @@
+-- One cause for each event, in their order.
+use Rattle.std.proofs.Common.{◌≡◌, ℕ, zero, suc, ◌+◌, ◌<◌, ◌≤◌, Bool, ◌&&◌, inl, inr, List, [], ◌∷◌, ◌++◌, length, take}
+use Rattle.std.proofs.Common.{get_or, Option, Some, None, is_some, refl, sym, ap, ◌∙◌, arith, subst}
+use Rattle.std.specs.Prelude.{reverse, slice_get, if◌then◌else◌}
+use Rattle.std.proofs.lemmas.Bool.{cases_lt}
+use Rattle.std.proofs.lemmas.Grind.{common_steps}
+use Rattle.bm_core.specs.declared.events.Cause.{Cause}
+use Rattle.bm_core.specs.declared.events.Event.{Event}
+use Rattle.bm_core.specs.declared.events.History.{History}
+use Rattle.bm_core.specs.declared.events.Stage.{Stage}
+use Rattle.bm_core.specs.declared.events.What.{What}
+use Rattle.bm_core.specs.declared.events.What.TheVariants.{Publish, Switch, Steer, Lose, Arrive, Close, Retire, Sync}
+use Rattle.bm_core.specs.Causes.{cause, is_process}
+use Rattle.bm_core.specs.Runs.{IsRun, past_at}
+use Rattle.bm_trace.specs.CauseOf.{cause_after, cause_of, is_fault, is_fault_after}
+use Rattle.bm_trace.specs.declared.known.Known.{Known}
+use Rattle.bm_trace.specs.Known.{Knows}
+use Rattle.bm_trace.specs.Swept.{AreCauses, AreFirst, cause_in}
+use Rattle.bm_trace.specs.Totals.{arrives, is_stray, strays}
+use Rattle.bm_trace.proofs.Caused.{cause_there}
+use Rattle.bm_trace.proofs.Moved.{get_past}
+use Rattle.bm_trace.proofs.Newest.{reverse_take}
+
+get_within : {X : Type 0} (xs : List X) (i : ℕ) (d : X) → i < length xs → slice_get xs i ≡ Some (get_or xs i d)
+get_within [] i d h = absurd (omega arith)
+get_within (x ∷ xs) zero d h = refl
+get_within (x ∷ xs) (suc i) d h = get_within xs i d (omega arith)
+
+here : (h : History) (place : ℕ) (d : Event) → place < length h.events
+    → cause_of h place ≡ cause h.stage (reverse (take place h.events)) (get_or h.events place d).clock.0
+    (get_or h.events place d).what
+here h place d below =
+    let e : slice_get h.events place ≡ Some (get_or h.events place d) = get_within h.events place d below
+    in ap (λ o. cause_after h.stage (past_at h place) o) e
+
+-- one event more
+pub one_more : (h : History) (n : ℕ) (d : Event) (shown : List Event) (causes new : List (Option Cause))
+    (found : Option Cause)
+    → shown ≡ h.events → n < length shown
+    → found ≡ cause h.stage (reverse (take n shown)) (get_or shown n d).clock.0 (get_or shown n d).what
+    → new ≡ causes ++ found ∷ [] → AreFirst h n causes → AreFirst h (n + 1) new
+one_more h n d shown causes new found same below is e first = record {
+  count = let c = first.count in rw e (grind (arith, common_steps));
+  each = λ place few.
+      let c = first.count
+      in elim (cases_lt place n) [
+        | inl before ↦
+            let old : cause_in (causes ++ found ∷ []) place ≡ cause_in causes place = grind (arith, common_steps)
+            in rw e (old ∙ first.each place before)
+        | inr last ↦
+            let at : place ≡ n = omega (arith, few, last)
+            in let new' : cause_in (causes ++ found ∷ []) n ≡ found = grind (arith, common_steps)
+            in let below' : n < length h.events = rw same at below
+            in let is' : found ≡ cause h.stage (reverse (take n h.events)) (get_or h.events n d).clock.0
+            (get_or h.events n d).what = rw same at is
+            in let end : cause_in (causes ++ found ∷ []) n ≡ cause_of h n = new' ∙ is' ∙ sym (here h n d below')
+            in ap (λ xs. cause_in xs place) e ∙ ap (λ k. cause_in (causes ++ found ∷ []) k) at ∙ end
+            ∙ ap (λ k. cause_of h k) (sym at)
+      ];
+}
+
+get_beyond : {X : Type 0} (xs : List X) (i : ℕ) (d : X) → length xs ≤ i → get_or xs i d ≡ d
+get_beyond [] i d h = refl
+get_beyond (x ∷ xs) zero d h = absurd (omega arith)
+get_beyond (x ∷ xs) (suc i) d h = get_beyond xs i d (omega arith)
+
+pub all_causes : (h : History) (causes : List (Option Cause)) → AreFirst h (length h.events) causes → AreCauses h causes
+all_causes h causes first place =
+    elim (cases_lt place (length h.events)) [
+      | inl within ↦ first.each place within
+      | inr beyond ↦
+          let c = first.count
+          in get_beyond causes place None (omega (arith, c, beyond))
+          ∙ sym (ap (λ o. cause_after h.stage (past_at h place) o) (get_past h.events place beyond))
+    ]
+
+-- STRAYS
+
+stray_is : (stage : Stage) (past : List Event) (what : What)
+    → is_stray stage past what ≡ (arrives is_process what && is_fault stage past what)
+stray_is stage past (Arrive packet hop server verdict) = refl
+stray_is stage past (Publish v) = refl
+stray_is stage past (Switch m v) = refl
+stray_is stage past (Steer k m) = refl
+stray_is stage past (Lose k hop) = refl
+stray_is stage past (Close server flow closed) = refl
+stray_is stage past (Retire server h at result) = refl
+stray_is stage past Sync = refl
+
+-- an arrival that is processed is a stray just where it has a cause
+stray_by_cause : (h : History) (place : ℕ) (d : Event) (found : Option Cause) → IsRun h → place < length h.events
+    → found ≡ cause_of h place
+    → is_stray h.stage (reverse (take place h.events)) (get_or h.events place d).what
+    ≡ (arrives is_process (get_or h.events place d).what && is_some found)
+stray_by_cause h place d found run below is =
+    let e : slice_get h.events place ≡ Some (get_or h.events place d) = get_within h.events place d below
+    in stray_is h.stage (reverse (take place h.events)) (get_or h.events place d).what
+    ∙ ap (λ b. arrives is_process (get_or h.events place d).what && b)
+    (sym (ap is_some is ∙ cause_there h place run ∙ ap (λ o. is_fault_after h.stage (past_at h place) o) e))
+
+strays_more : (h : History) (n count : ℕ) (d : Event) → n < length h.events
+    → count ≡ strays h.stage (reverse (take n h.events))
+    → strays h.stage (reverse (take (n + 1) h.events))
+    ≡ (if is_stray h.stage (reverse (take n h.events)) (get_or h.events n d).what then suc count else count)
+strays_more h n count d below is = rw (reverse_take h.events n d below, is) refl
+
+pub stray_counted : (h : History) (n count new : ℕ) (d : Event) (shown : List Event) (found : Option Cause)
+    (stray : Bool)
+    → IsRun h → shown ≡ h.events → n < length shown → found ≡ cause_of h n
+    → count ≡ strays h.stage (reverse (take n h.events))
+    → stray ≡ (arrives is_process (get_or shown n d).what && is_some found) → new ≡ (if stray then suc count else count)
+    → new ≡ strays h.stage (reverse (take (n + 1) h.events))
+stray_counted h n count new d shown found stray run same below is was s e =
+    let below' : n < length h.events = rw same at below
+    in let s' : stray ≡ (arrives is_process (get_or h.events n d).what && is_some found) = rw same at s
+    in e ∙ ap (λ b. if b then suc count else count) (s' ∙ sym (stray_by_cause h n d found run below' is))
+    ∙ sym (strays_more h n count d below' was)
+
+pub known_more : (stage : Stage) (shown : List Event) (n : ℕ) (d : Event) (k : Known) → n < length shown
+    → Knows stage (get_or shown n d ∷ reverse (take n shown)) k → Knows stage (reverse (take (n + 1) shown)) k
+known_more stage shown n d k below knows = subst (λ past. Knows stage past k) (sym (reverse_take shown n d below)) knows

@@ -1,0 +1,406 @@
+//! Which servers hold which flows, kept along the events.
+ghost use Rattle.std.specs.Prelude.{◌≡◌, ◌&&◌, ◌||◌, List, length, reverse, OnOk, OnErr, IfOk};
+ghost use Rattle.std.specs.Prelude.{Option, Some, None, option_map, find, if◌then◌else◌, [], ◌∷◌};
+ghost use Rattle.std.specs.Prelude.{false};
+ghost use Rattle.std.specs.BTreeMap as tree;
+ghost use Rattle.bm_base.specs.declared.flow.Flow.{Flow};
+ghost use Rattle.bm_base.specs.Segments.{same_flow};
+ghost use Rattle.std.specs.Option.{option_copied};
+ghost use Rattle.bm_table.specs.Tables.{same_server};
+ghost use Rattle.bm_core.specs.declared.events.Event.{Event};
+ghost use Rattle.bm_core.specs.Past as past;
+ghost use Rattle.bm_core.specs.Causes as causes;
+ghost use Rattle.bm_trace.specs.HolderLists.{put_holder, without_server, listed, place_in};
+ghost use Rattle.bm_trace.specs.HolderLists.{is_alive, other_alive, alive_place};
+ghost use Rattle.bm_trace.specs.Holders.{ruling, ruled};
+ghost use Rattle.bm_trace.specs.Ranges.{HasRanges};
+
+use bm_base::{Flow, Hop, Moment, Segment, ServerId, Taken};
+use bm_core::{Event, Stage, Verdict, What};
+use bm_hash::shard_of;
+use bm_table::Retirement;
+use std::alloc::{AllocError, Global};
+use std::collections::BTreeMap;
+
+/// A server that holds a flow, and how many events stand before its Accept.
+#[derive(Clone, Copy)]
+pub(crate) struct Holder {
+    pub(crate) server: ServerId,
+    pub(crate) place: usize,
+}
+
+/// A shard of a server.
+#[derive(Clone, Copy, PartialEq, Eq, PartialOrd, Ord)]
+pub(crate) struct ShardKey {
+    pub(crate) server: u16,
+    pub(crate) shard: u16,
+}
+
+fn drop_holder(holders: &mut Vec<Holder>, server: ServerId)
+    ensures { holders.new.items ≡ without_server server holders.old.items }
+{
+    holders.retain(|holder| holder.server != server);
+}
+
+fn put_holder(
+    holders: &mut Vec<Holder>,
+    server: ServerId,
+    place: Option<usize>,
+) -> Result<(), AllocError>
+    ensures { OnOk result (holders.new.items ≡ put_holder server place holders.old.items) }
+{
+    drop_holder(holders, server);
+    if let Some(place) = place {
+        holders.push(Holder { server, place })?;
+    }
+    Ok(())
+}
+
+/// What the verdict on an arrival at this place has the server hold, where it changes that.
+fn ruling(place: usize, verdict: &Verdict) -> Option<Option<usize>>
+    ensures { result ≡ ruling place verdict.now }
+{
+    match verdict {
+        Verdict::Accept => Some(Some(place)),
+        Verdict::Process(Taken::Ended) => Some(None),
+        _ => None,
+    }
+}
+
+fn is_done(answer: &Retirement) -> bool
+    ensures { result ≡ past.is_done answer.now }
+{
+    matches!(answer, Retirement::Done)
+}
+
+fn holder_of(holders: &[Holder], server: ServerId) -> Option<&Holder>
+    ensures { option_copied result ≡ find (λ h. same_server h.server server) holders.now }
+{
+    holders.iter().find(|h| h.server == server)
+}
+
+#[tactic(auto, using(crate::proofs::Holding::place_find))]
+fn place_in(holders: &[Holder], server: ServerId) -> Option<usize>
+    ensures { result ≡ place_in holders.now server }
+{
+    Some(holder_of(holders, server)?.place)
+}
+
+/// The holders of each flow.
+#[derive(Drop)]
+pub(crate) struct Lists {
+    lists: BTreeMap<Flow, Vec<Holder>>,
+}
+
+impl Lists {
+    fn new(alloc: Global) -> Lists
+        ensures { (q : Flow) → listed (tree.get ⟦<Flow as Ord>⟧.cmp result.lists q) ≡ [] }
+    {
+        Lists {
+            lists: BTreeMap::new(alloc),
+        }
+    }
+
+    /// Takes the flow's list away.
+    fn take(&mut self, alloc: Global, flow: &Flow) -> Vec<Holder>
+        ensures list { result.items
+            ≡ listed (tree.get ⟦<Flow as Ord>⟧.cmp self.old.lists flow.now) }
+        ensures others { (q : Flow) → same_flow flow.now q ≡ false
+            → tree.get ⟦<Flow as Ord>⟧.cmp self.new.lists q
+            ≡ tree.get ⟦<Flow as Ord>⟧.cmp self.old.lists q }
+    {
+        match self.lists.remove(flow) {
+            Some(list) => list,
+            None => Vec::new(alloc),
+        }
+    }
+
+    fn put(&mut self, flow: Flow, list: Vec<Holder>) -> Result<(), AllocError>
+        ensures { OnOk result ((q : Flow) → tree.get ⟦<Flow as Ord>⟧.cmp self.new.lists q
+            ≡ (if same_flow flow q then Some list
+            else tree.get ⟦<Flow as Ord>⟧.cmp self.old.lists q)) }
+    {
+        self.lists.insert(flow, list)?;
+        Ok(())
+    }
+
+    /// The server holds the flow's Accept of this place alone, or none.
+    fn set(
+        &mut self,
+        alloc: Global,
+        flow: Flow,
+        server: ServerId,
+        place: Option<usize>,
+    ) -> Result<(), AllocError>
+        ensures { OnOk result ((q : Flow) → listed (tree.get ⟦<Flow as Ord>⟧.cmp self.new.lists q)
+            ≡ (if same_flow flow q
+            then put_holder server place (listed (tree.get ⟦<Flow as Ord>⟧.cmp self.old.lists q))
+            else listed (tree.get ⟦<Flow as Ord>⟧.cmp self.old.lists q))) }
+    {
+        let mut list = self.take(alloc, &flow);
+        put_holder(&mut list, server, place)?;
+        self.put(flow, list)
+    }
+
+    /// Takes note of a segment's arrival.
+    #[tactic(auto, using(crate::proofs::Holding::cond_same))]
+    fn rule(
+        &mut self,
+        alloc: Global,
+        segment: Option<Segment>,
+        server: ServerId,
+        ruling: Option<Option<usize>>,
+    ) -> Result<(), AllocError>
+        ensures { OnOk result ((q : Flow) → listed (tree.get ⟦<Flow as Ord>⟧.cmp self.new.lists q)
+            ≡ (if past.is_of segment q
+            then ruled server ruling (listed (tree.get ⟦<Flow as Ord>⟧.cmp self.old.lists q))
+            else listed (tree.get ⟦<Flow as Ord>⟧.cmp self.old.lists q))) }
+    {
+        match (segment, ruling) {
+            (Some(segment), Some(place)) => self.set(alloc, segment.flow, server, place),
+            _ => Ok(()),
+        }
+    }
+
+    fn get(&self, flow: &Flow) -> &[Holder]
+        ensures { result.now ≡ listed (tree.get ⟦<Flow as Ord>⟧.cmp self.now.lists flow.now) }
+    {
+        match self.lists.get(flow) {
+            Some(list) => list.as_slice(),
+            None => &[],
+        }
+    }
+}
+
+/// When each shard was last retired.
+#[derive(Drop)]
+pub(crate) struct Retirements {
+    places: BTreeMap<ShardKey, usize>,
+}
+
+impl Retirements {
+    ghost use Rattle.bm_trace.specs.declared.holders.ShardKey.{ShardKey};
+    ghost use Rattle.bm_trace.specs.HolderLists.{same_key};
+
+    fn new(alloc: Global) -> Retirements
+        ensures { (q : ShardKey) → tree.get ⟦<ShardKey as Ord>⟧.cmp result.places q ≡ None }
+    {
+        Retirements {
+            places: BTreeMap::new(alloc),
+        }
+    }
+
+    fn get(&self, key: ShardKey) -> Option<usize>
+        ensures { result ≡ tree.get ⟦<ShardKey as Ord>⟧.cmp self.now.places key }
+    {
+        self.places.get(&key).copied()
+    }
+
+    fn put(&mut self, key: ShardKey, place: usize) -> Result<(), AllocError>
+        ensures { OnOk result ((q : ShardKey) → tree.get ⟦<ShardKey as Ord>⟧.cmp self.new.places q
+            ≡ (if same_key key q then Some place
+            else tree.get ⟦<ShardKey as Ord>⟧.cmp self.old.places q)) }
+    {
+        self.places.insert(key, place)?;
+        Ok(())
+    }
+
+    /// Whether an Accept at this place is younger than the shard's last retirement.
+    fn is_alive(&self, key: ShardKey, place: usize) -> bool
+        ensures { result ≡ is_alive (tree.get ⟦<ShardKey as Ord>⟧.cmp self.now.places key) place }
+    {
+        match self.get(key) {
+            None => true,
+            Some(retired) => retired < place,
+        }
+    }
+
+    /// The place of the Accept that the server holds, by this list.
+    fn alive_in(&self, holders: &[Holder], server: ServerId, shard: u16) -> Option<usize>
+        ensures { result
+            ≡ alive_place
+            (tree.get ⟦<ShardKey as Ord>⟧.cmp self.now.places
+            (record { server = server.0; shard = shard })) (place_in holders.now server) }
+    {
+        let place = place_in(holders, server)?;
+        let key = ShardKey {
+            server: server.0,
+            shard,
+        };
+        if self.is_alive(key, place) {
+            Some(place)
+        } else {
+            None
+        }
+    }
+
+    /// Whether one of these, at a server other than this, is younger than its shard's last
+    /// retirement.
+    fn is_other_alive(&self, holders: &[Holder], server: ServerId, shard: u16) -> bool
+        ensures { result
+            ≡ other_alive
+            (λ t. tree.get ⟦<ShardKey as Ord>⟧.cmp self.now.places
+            (record { server = t.0; shard = shard })) holders.now server }
+    {
+        let mut rest = holders;
+        while let Some((holder, others)) = rest.split_first() {
+            let key = ShardKey {
+                server: holder.server.0,
+                shard,
+            };
+            if holder.server != server && self.is_alive(key, holder.place) {
+                return true;
+            }
+            rest = others;
+        }
+        false
+    }
+}
+
+/// Which servers hold which flows, after some events.
+#[derive(Drop)]
+pub(crate) struct Holders {
+    lists: Lists,
+    retired: Retirements,
+}
+
+impl Holders {
+    ghost use Rattle.bm_trace.specs.Holding.{HoldsAfter};
+
+    pub(crate) fn new(alloc: Global) -> Holders
+        ensures { (stage : Stage) → HoldsAfter stage [] result }
+    {
+        Holders {
+            lists: Lists::new(alloc),
+            retired: Retirements::new(alloc),
+        }
+    }
+
+    #[tactic(auto, using(crate::proofs::Holding::kept_arrival))]
+    fn note_arrival(
+        &mut self,
+        alloc: Global,
+        stage: &Stage,
+        place: usize,
+        packet: u32,
+        hop: Hop,
+        server: ServerId,
+        verdict: Verdict,
+    ) -> Result<(), AllocError>
+        ensures { (seen : List Event) (e : Event) → e.what ≡ What.Arrive packet hop server verdict
+            → place ≡ length seen
+            → HoldsAfter stage.now seen self.old
+            → OnOk result (HoldsAfter stage.now (e ∷ seen) self.new) }
+    {
+        self.lists.rule(
+            alloc,
+            stage.segment(packet),
+            server,
+            ruling(place, &verdict),
+        )
+    }
+
+    #[tactic(auto, using(crate::proofs::Holding::kept_closed, crate::proofs::Holding::kept_unclosed))]
+    fn note_close(
+        &mut self,
+        alloc: Global,
+        stage: &Stage,
+        server: ServerId,
+        flow: Flow,
+        closed: bool,
+    ) -> Result<(), AllocError>
+        ensures { (seen : List Event) (e : Event) → e.what ≡ What.Close server flow closed
+            → HoldsAfter stage.now seen self.old
+            → OnOk result (HoldsAfter stage.now (e ∷ seen) self.new) }
+    {
+        if closed {
+            self.lists.set(alloc, flow, server, None)?;
+        }
+        Ok(())
+    }
+
+    #[tactic(auto, using(crate::proofs::Holding::kept_retired, crate::proofs::Holding::kept_unretired))]
+    fn note_retire(
+        &mut self,
+        stage: &Stage,
+        place: usize,
+        server: ServerId,
+        shard: u16,
+        at: Moment,
+        answer: Retirement,
+    ) -> Result<(), AllocError>
+        ensures { (seen : List Event) (e : Event) → e.what ≡ What.Retire server shard at answer
+            → place ≡ length seen
+            → HoldsAfter stage.now seen self.old
+            → OnOk result (HoldsAfter stage.now (e ∷ seen) self.new) }
+    {
+        if is_done(&answer) {
+            let key = ShardKey {
+                server: server.0,
+                shard,
+            };
+            self.retired.put(key, place)?;
+        }
+        Ok(())
+    }
+
+    /// Takes note of the event that comes after `place` others.
+    #[tactic(auto, using(crate::proofs::Holding::kept_still))]
+    pub(crate) fn note(
+        &mut self,
+        alloc: Global,
+        stage: &Stage,
+        place: usize,
+        event: &Event,
+    ) -> Result<(), AllocError>
+        ensures { (seen : List Event) → place ≡ length seen
+            → HoldsAfter stage.now seen self.old
+            → OnOk result (HoldsAfter stage.now (event.now ∷ seen) self.new) }
+    {
+        match event.what {
+            What::Arrive {
+                packet,
+                hop,
+                server,
+                verdict,
+            } => self.note_arrival(alloc, stage, place, packet, hop, server, verdict),
+            What::Close {
+                server,
+                flow,
+                closed,
+            } => self.note_close(alloc, stage, server, flow, closed),
+            What::Retire {
+                server,
+                shard,
+                at,
+                result,
+            } => self.note_retire(stage, place, server, shard, at, result),
+            What::Publish(_)
+            | What::Switch { .. }
+            | What::Steer { .. }
+            | What::Lose { .. }
+            | What::Sync => Ok(()),
+        }
+    }
+
+    /// The place of the Accept of the flow that the server holds.
+    pub(crate) fn held_place(&self, stage: &Stage, server: ServerId, flow: &Flow) -> Option<usize>
+        requires { HasRanges stage.now }
+        ensures { (seen : List Event) → HoldsAfter stage.now seen self.now
+            → result ≡ option_map (λ h. h.place) (past.held stage.now seen server flow.now) }
+    {
+        let shard = shard_of(flow, stage.script.setting.shards);
+        self.retired.alive_in(self.lists.get(flow), server, shard)
+    }
+
+    /// Whether a server other than this holds the flow.
+    pub(crate) fn is_elsewhere(&self, stage: &Stage, flow: &Flow, server: ServerId) -> bool
+        requires { HasRanges stage.now }
+        ensures { (seen : List Event) → HoldsAfter stage.now seen self.now
+            → result ≡ causes.is_elsewhere stage.now seen seen flow.now server }
+    {
+        let shard = shard_of(flow, stage.script.setting.shards);
+        self.retired
+            .is_other_alive(self.lists.get(flow), server, shard)
+    }
+}

@@ -1,0 +1,199 @@
+//! What is known after some events, for the causes of those that follow.
+ghost use Rattle.std.specs.Prelude.{◌≡◌, List, length, reverse, OnOk, IfOk, Some, None, option_map};
+ghost use Rattle.std.specs.Prelude.{[], ◌∷◌};
+ghost use Rattle.bm_core.specs.Past as past;
+ghost use Rattle.bm_core.specs.Causes as causes;
+ghost use Rattle.bm_trace.specs.Holding.{HoldsAfter};
+ghost use Rattle.bm_trace.specs.PlanMovers.{AreMovers};
+ghost use Rattle.bm_trace.specs.Ranges.{HasRanges};
+ghost use Rattle.bm_trace.specs.Seen.{as_accepted};
+ghost use Rattle.bm_trace.specs.Sent.{label_from, label_sent, owner_from};
+ghost use Rattle.bm_trace.specs.Totals as totals;
+
+use crate::causes::{Arrival, opening_cause};
+use crate::holders::Holders;
+use crate::movers::Movers;
+use crate::past::Sent;
+use crate::running::Running;
+use bm_base::{Flow, Moment, MuxId, ServerId, Version, is_opening};
+use bm_core::{Cause, Event, Stage, What};
+use bm_hash::bucket_of;
+use std::alloc::{AllocError, Global};
+
+/// The newest version, what is known of muxes, flows and packets, the holders of each flow, and the
+/// changes that move each bucket.
+#[derive(Drop)]
+pub(crate) struct Known {
+    running: Running,
+    holders: Holders,
+    movers: Movers,
+}
+
+fn is_late(movers: &Movers, stage: &Stage, bucket: u32, sent: &Sent, clock: Moment) -> bool
+    requires { AreMovers stage.now.script.plan movers.now }
+    ensures { (f : Flow) → bucket ≡ past.bucket stage.now f
+        → result ≡ causes.is_late stage.now (label_sent stage.now f sent.now) clock.0 }
+{
+    let stamp = movers.stamp(&stage.script.plan, bucket, sent.version.0);
+    u128::from(stamp.0) + u128::from(stage.script.setting.timeout) < u128::from(clock.0)
+}
+
+impl Known {
+    ghost use Rattle.bm_trace.specs.Known.{Knows};
+
+    /// Before the first event.
+    pub(crate) fn new(alloc: Global, stage: &Stage) -> Result<Known, AllocError>
+        ensures { IfOk result (λ k. Knows stage.now [] k) }
+    {
+        let packets = stage.capture.records.items().len();
+        Ok(Known {
+            running: Running::new(alloc, usize::from(stage.script.setting.muxes), packets)?,
+            holders: Holders::new(alloc),
+            movers: Movers::new(alloc, &stage.script.plan)?,
+        })
+    }
+
+    /// Takes note of the event that comes after these.
+    pub(crate) fn note(
+        &mut self,
+        alloc: Global,
+        stage: &Stage,
+        events: &[Event],
+        event: &Event,
+    ) -> Result<(), AllocError>
+        requires { Knows stage.now (reverse events.now) self.old }
+        ensures { OnOk result (Knows stage.now (event.now ∷ reverse events.now) self.new) }
+    {
+        self.running.note(stage, events, event)?;
+        self.holders.note(alloc, stage, events.len(), event)
+    }
+
+    fn held_place(
+        &self,
+        stage: &Stage,
+        events: &[Event],
+        server: ServerId,
+        flow: &Flow,
+    ) -> Option<usize>
+        requires ranges { HasRanges stage.now }
+        requires knows { Knows stage.now (reverse events.now) self.now }
+        ensures { result
+            ≡ option_map (λ h. h.place) (past.held stage.now (reverse events.now) server flow.now) }
+    {
+        self.holders.held_place(stage, server, flow)
+    }
+
+    fn is_elsewhere(&self, stage: &Stage, events: &[Event], flow: &Flow, server: ServerId) -> bool
+        requires ranges { HasRanges stage.now }
+        requires knows { Knows stage.now (reverse events.now) self.now }
+        ensures { result ≡ causes.is_elsewhere stage.now (reverse events.now) (reverse events.now)
+            flow.now server }
+    {
+        self.holders.is_elsewhere(stage, flow, server)
+    }
+
+    /// The first premise that is broken where a packet arrives that isn't opening.
+    fn first_broken(
+        &self,
+        stage: &Stage,
+        events: &[Event],
+        clock: Moment,
+        flow: &Flow,
+        server: ServerId,
+        sent: &Sent,
+    ) -> Option<Cause>
+        requires ranges { HasRanges stage.now }
+        requires knows { Knows stage.now (reverse events.now) self.now }
+        ensures { result ≡ causes.first_broken stage.now (reverse events.now) clock.0
+            (label_sent stage.now flow.now sent.now) flow.now server
+            (option_map as_accepted sent.now.owner) }
+    {
+        let Some(owner) = sent.owner else {
+            return Some(Cause::NeverAccepted);
+        };
+        let bucket = bucket_of(flow, stage.script.setting.buckets);
+        if self.held_place(stage, events, owner.server, flow) != Some(owner.place) {
+            Some(Cause::NotHeld)
+        } else if sent.version.0 < owner.version {
+            Some(Cause::StaleMux)
+        } else if self
+            .movers
+            .moves_twice(&stage.script.plan, bucket, owner.version, sent.version.0)
+        {
+            Some(Cause::MovedTwice)
+        } else if server != owner.server && is_late(&self.movers, stage, bucket, sent, clock) {
+            Some(Cause::ChainLate)
+        } else if self.is_elsewhere(stage, events, flow, owner.server) {
+            Some(Cause::SynElsewhere)
+        } else {
+            None
+        }
+    }
+
+    fn cause_of(
+        &self,
+        stage: &Stage,
+        events: &[Event],
+        arrival: &Arrival,
+        clock: Moment,
+    ) -> Option<Cause>
+        requires ranges { HasRanges stage.now }
+        requires knows { Knows stage.now (reverse events.now) self.now }
+        ensures { result ≡ causes.cause_at stage.now (reverse events.now) clock.0 arrival.now.server
+            arrival.now.verdict
+            (owner_from arrival.now.sent) arrival.now.segment (label_from stage.now arrival.now.segment arrival.now.sent) }
+    {
+        if !arrival.wants_cause() {
+            return None;
+        }
+        let segment = arrival.segment?;
+        let sent = arrival.sent?;
+        if is_opening(&segment) {
+            opening_cause(
+                &arrival.verdict,
+                sent.version.0,
+                self.running.newest(stage, events).0,
+            )
+        } else {
+            self.first_broken(stage, events, clock, &segment.flow, arrival.server, &sent)
+        }
+    }
+
+    /// The cause of the event after these, where it has one.
+    pub(crate) fn cause(&self, stage: &Stage, events: &[Event], event: &Event) -> Option<Cause>
+        requires ranges { HasRanges stage.now }
+        requires knows { Knows stage.now (reverse events.now) self.now }
+        ensures { result ≡ causes.cause stage.now (reverse events.now) event.now.clock.0
+            event.now.what }
+    {
+        match event.what {
+            What::Arrive {
+                packet,
+                server,
+                verdict,
+                ..
+            } => {
+                let sent = self.running.sent(stage, events, packet);
+                let arrival = Arrival::new(stage, packet, server, verdict, sent);
+                self.cause_of(stage, events, &arrival, event.clock)
+            }
+            _ => None,
+        }
+    }
+
+    /// The version of the mux after these events.
+    pub(crate) fn version(&self, stage: &Stage, events: &[Event], mux: MuxId) -> Version
+        requires { Knows stage.now (reverse events.now) self.now }
+        ensures { result ≡ past.version_at (reverse events.now) mux }
+    {
+        self.running.version(events, mux)
+    }
+
+    /// Whether the event after these is a stray.
+    pub(crate) fn is_stray(&self, stage: &Stage, events: &[Event], what: &What) -> bool
+        requires { Knows stage.now (reverse events.now) self.now }
+        ensures { result ≡ totals.is_stray stage.now (reverse events.now) what.now }
+    {
+        self.running.is_stray(stage, events, what)
+    }
+}

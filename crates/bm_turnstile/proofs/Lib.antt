@@ -1,0 +1,7 @@
+pub mod Sums
+pub mod Entries
+pub mod Steps
+pub mod Changes
+pub mod Seats
+pub mod Tellings
+pub mod Places

@@ -1,0 +1,5 @@
+pub mod Sittings
+pub mod Seen
+pub mod Told
+pub mod Views
+pub mod Rule
