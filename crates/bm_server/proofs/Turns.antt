@@ -1,0 +1,80 @@
+-- The seats of a server after a turn at one shard.
+use Rattle.std.proofs.Common.{◌≡◌, ℕ, zero, suc, ◌+◌, ◌<◌, ◌≤◌, ◌==◌, Bool, cond, List, [], ◌∷◌, ◌++◌, length, map}
+use Rattle.std.proofs.Common.{get_or, set, slice_get, Some, Result, Ok, Err, IfOk, reverse, inl, inr, refl, sym, ap}
+use Rattle.std.proofs.Common.{◌∙◌}
+use Rattle.std.proofs.Common.{append-nil, arith}
+use Rattle.std.proofs.lemmas.Bool.{cases_Bool, eqb-true, eqb-false}
+use Rattle.std.proofs.lemmas.List.{length-map}
+use Rattle.std.proofs.lemmas.Option.{slice_get-get_or}
+use Rattle.atomic_table.specs.Seated.{TableId}
+use Rattle.bm_table.proofs.Gets.{slice_get-set_same, slice_get-set_other}
+use Rattle.bm_shard.specs.declared.book.Shard.{Shard}
+use Rattle.bm_shard.specs.declared.calls.ShardCall.{ShardCall}
+use Rattle.bm_shard.specs.declared.calls.ShardReply.{ShardReply}
+use Rattle.bm_turnstile.specs.Seen.{Turned}
+use Rattle.bm_turnstile.specs.Sittings.{Who, who}
+use Rattle.bm_turnstile.specs.Told.{IsTold}
+use Rattle.bm_server.specs.Servings.{Serving, shard_at}
+use Rattle.bm_server.specs.Seats.{row, row_from}
+use Rattle.bm_server.specs.Seats.{Seated, Answered, IsReply, seat_of, call_of, reply_of}
+use Rattle.bm_server.specs.Seats.{told_of, told_at, added, said, most_turns}
+
+pub inside : (tables : List TableId) (l seat : List Seated) (h : ℕ) → l ≡ seat
+    → map (λ (s : Seated). s.table) seat ≡ tables → h < length tables → h < length l
+inside tables l seat h view mine lt =
+    let a : length l ≡ length seat = ap (λ (l : List Seated). length l) view in
+    let b : length (map (λ (s : Seated). s.table) seat) ≡ length tables = ap (λ (l : List TableId). length l) mine in
+    omega (arith, a, b, lt, length-map seat (λ (s : Seated). s.table))
+
+tables_row : (f : ℕ → Shard) (n i h : ℕ) (ts : List TableId)
+    → map (λ (w : Who Shard). w.table) (row_from f n i h ts) ≡ ts
+tables_row f n i h [] = refl
+tables_row f n i h (t ∷ ts) = ap (λ (l : List TableId). t ∷ l) (tables_row f n i (suc h) ts)
+
+tables_who : (l : List Seated) → map (λ (w : Who Shard). w.table) (map who l) ≡ map (λ (s : Seated). s.table) l
+tables_who [] = refl
+tables_who (s ∷ l) = ap (λ (ts : List TableId). s.table ∷ ts) (tables_who l)
+
+-- a seat of a server has the turnstiles of its shards
+pub row_tables : (seat : List Seated) (server : Serving) (i : ℕ) → map who seat ≡ row server i
+    → map (λ (s : Seated). s.table) seat ≡ server.tables
+row_tables seat server i is =
+    sym (tables_who seat)
+    ∙ (ap (map (λ (w : Who Shard). w.table)) is ∙ tables_row (shard_at server) server.seats i 0 server.tables)
+
+pub turns_at : (l : List Seated) (h : ℕ) (d : Seated) → h < length l → (get_or l h d).turns ≤ most_turns l
+turns_at [] h d lt = absurd (omega arith)
+turns_at (x ∷ xs) zero d lt = omega arith
+turns_at (x ∷ xs) (suc h) d lt = let a = turns_at xs h d (omega arith) in omega arith
+
+pub turns_set : (l : List Seated) (h : ℕ) (d t : Seated) → h < length l → t.turns ≡ (get_or l h d).turns + 1
+    → most_turns (set l h t) ≤ most_turns l + 1
+turns_set [] h d t lt e = absurd (omega arith)
+turns_set (x ∷ xs) zero d t lt e = omega arith
+turns_set (x ∷ xs) (suc h) d t lt e = let a = turns_set xs h d t (omega arith) e in omega arith
+
+told_by : {M : Type 0} (s t : Seated) (call : ShardCall) (r : Result ShardReply M)
+    → IsTold seat_of call_of reply_of s t call r → told_of (Some t) ≡ told_of (Some s) ++ added call r
+told_by s t call (Ok x) told = told
+told_by s t call (Err e) told = told ∙ sym (append-nil (told_of (Some s)))
+
+pub told_set : {M : Type 0} (l : List Seated) (h : ℕ) (s t : Seated) (call : ShardCall) (r : Result ShardReply M)
+    → h < length l → s ≡ get_or l h s → IsTold seat_of call_of reply_of s t call r
+    → (k : ℕ) → told_at (set l h t) k ≡ told_at l k ++ said h call r k
+told_set l h s t call r lt is told k = elim (cases_Bool (k == h)) [
+  | inl here ↦
+      let e : k ≡ h = eqb-true k h here in
+      let old : slice_get l k ≡ Some s = ap (slice_get l) e ∙ (slice_get-get_or l h s lt ∙ ap Some (sym is)) in
+      let new : slice_get (set l h t) k ≡ Some t = ap (slice_get (set l h t)) e ∙ slice_get-set_same l h t lt in
+      let more : said h call r k ≡ added call r = ap (λ (b : Bool). cond b (added call r) []) here in
+      ap told_of new ∙ (told_by s t call r told ∙ (λ i. told_of (sym old i) ++ sym more i))
+  | inr other ↦
+      let rest : said h call r k ≡ [] = ap (λ (b : Bool). cond b (added call r) []) other in
+      ap told_of (slice_get-set_other l h k t (λ e. eqb-false k h other (sym e)))
+      ∙ (sym (append-nil (told_at l k)) ∙ ap (λ (more : List Answered). told_at l k ++ more) (sym rest))
+]
+
+pub turned_reply : {M : Type 0} (s t : Seated) (call : ShardCall) (r : Result ShardReply M)
+    → IfOk r (Turned seat_of call_of reply_of s t call) → IsReply call r
+turned_reply s t call (Ok reply) turned = (turned.about, reverse (s.seen ++ turned.between), turned.replied)
+turned_reply s t call (Err e) turned = tt

@@ -1,0 +1,4 @@
+pub mod Servings
+pub mod Seats
+pub mod Copies
+pub mod Books

@@ -1,0 +1,85 @@
+-- The seats of a server, and what its shards told them (docs/DEFINITIONS.md).
+use Rattle.std.specs.Prelude.{◌≡◌, ℕ, suc, ◌==◌, cond, max, List, [], ◌∷◌, ◌++◌, map, reverse}
+use Rattle.std.specs.Prelude.{slice_get, Option, Some, None, Result, Ok, Err}
+use Rattle.atomic_table.specs.Seated.{TableId}
+use Rattle.bm_shard.specs.Books.{reply_after}
+use Rattle.bm_shard.specs.declared.book.Shard.{Shard}
+use Rattle.bm_shard.specs.declared.calls.ShardCall.{ShardCall}
+use Rattle.bm_shard.specs.declared.calls.ShardEntry.{ShardEntry}
+use Rattle.bm_shard.specs.declared.calls.ShardReply.{ShardReply}
+use Rattle.bm_turnstile.specs.Sittings.{Sitting, Who, post, who}
+use Rattle.bm_turnstile.specs.Told.{told}
+use Rattle.bm_server.specs.Servings.{Serving, shard_at}
+
+-- a seat at one shard. A seat of a server is the list of its seats at the shards
+abbrev pub Seated : Type 0
+Seated = Sitting Shard ShardEntry
+
+-- WHOSE SEAT IT IS
+
+-- the seat i of n at each of these shards, whose numbers begin with h
+abbrev pub row_from : (ℕ → Shard) → ℕ → ℕ → ℕ → List TableId → List (Who Shard)
+row_from shard n i h [] = []
+row_from shard n i h (t ∷ ts) = post t (Some (shard h)) n i ∷ row_from shard n i (suc h) ts
+
+-- the seat i of a server
+abbrev pub row : Serving → ℕ → List (Who Shard)
+row server i = row_from (shard_at server) server.seats i 0 server.tables
+
+-- the most turns that were made at one shard
+abbrev pub most_turns : List Seated → ℕ
+most_turns [] = 0
+most_turns (s ∷ ss) = max s.turns (most_turns ss)
+
+-- WHAT IT WAS TOLD
+
+abbrev pub seat_of : ShardEntry → ℕ
+seat_of e = e.seat
+
+abbrev pub call_of : ShardEntry → ShardCall
+call_of e = e.call
+
+-- what a shard replies to a call after these entries, whoever makes it
+abbrev pub reply_of : Shard → List ShardEntry → ℕ → ShardCall → ShardReply
+reply_of shard entries n call = reply_after shard (reverse entries) call
+
+-- a call with its reply
+abbrev pub Answered : Type 0
+Answered = ShardCall × ShardReply
+
+-- the calls under the number n among these entries of a shard's book, each with its reply
+abbrev pub telling : Option Shard → ℕ → List ShardEntry → List Answered
+telling = told seat_of call_of reply_of
+
+abbrev pub told_of : Option Seated → List Answered
+told_of None = []
+told_of (Some s) = telling s.fixed s.number s.seen
+
+-- what the seat was told by the shard h
+abbrev pub told_at : List Seated → ℕ → List Answered
+told_at seat h = told_of (slice_get seat h)
+
+abbrev pub added : {M : Type 0} → ShardCall → Result ShardReply M → List Answered
+added call (Ok reply) = (call, reply) ∷ []
+added call (Err e) = []
+
+-- what a call to the shard h adds to what the shard k told
+abbrev pub said : {M : Type 0} → ℕ → ShardCall → Result ShardReply M → ℕ → List Answered
+said h call result k = cond (k == h) (added call result) []
+
+-- a seat after a call to the shard h
+abbrev pub Tells : {M : Type 0} → ℕ → ShardCall → Result ShardReply M → List Seated → List Seated
+    → Type 0
+Tells h call result old new = (k : ℕ) → told_at new k ≡ told_at old k ++ said h call result k
+
+-- a reply is what a shard's book gives after some entries
+abbrev pub IsReply : {M : Type 0} → ShardCall → Result ShardReply M → Type 0
+IsReply call (Ok reply) = (shard : Shard) × (past : List ShardEntry)
+    × (reply ≡ reply_after shard past call)
+IsReply call (Err e) = Unit {0}
+
+-- the seat i of a server, which made no turn and was told nothing
+pub record IsNewSeat (server : Serving) (i : ℕ) (seat : List Seated) : Type 0 where
+  pub «is» : map who seat ≡ row server i
+  pub turns : most_turns seat ≡ 0
+  pub told : (h : ℕ) → told_at seat h ≡ []
