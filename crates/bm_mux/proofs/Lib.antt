@@ -1,0 +1,4 @@
+pub mod Kept
+pub mod Tags
+pub mod Batches
+pub mod NamedServers

@@ -1,0 +1,20 @@
+use Rattle.std.proofs.Common.{◌≡◌, ◌<◌, arith, ap, sym, ◌∙◌, subst}
+use Rattle.std.proofs.lemmas.Nat.{mod_below}
+use Rattle.std.proofs.lemmas.Option.{same_Some}
+use Rattle.bm_base.specs.declared.label.Entry.{Entry}
+use Rattle.bm_base.specs.Tags.{IsTag}
+use Rattle.bm_hash.specs.Buckets.{flow_hash}
+use Rattle.bm_publish.specs.Posts.{last_version}
+use Rattle.bm_mux.proofs.Tags.{IsEntry, direct_valid, table_entry}
+use Rattle.bm_mux.proofs.notes.Notes.tag.Goals as goal
+
+pub returns-clause-valid : goal.returns-clause-valid
+returns-clause-valid c =
+    let seen = c.args.guard.now in
+    let posted = c.version-version.ensures.posted in
+    let below = mod_below (flow_hash c.args.segment.now.flow) seen.plan.buckets posted.plan.buckets.0 in
+    let inside : c.bucket_of.result < seen.plan.buckets = rw (c.bucket_of.ensures, c.requires.kept.buckets_are) below in
+    let entry : IsEntry c.entry.result = subst IsEntry (sym c.entry.ensures)
+    (table_entry seen.plan posted.plan c.requires.kept.servers (last_version seen) c.bucket_of.result posted.few inside)
+    in
+    subst IsTag (same_Some _ _ c.tag_of.ensures) (direct_valid _ entry c.requires.kept.mux)

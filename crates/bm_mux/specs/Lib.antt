@@ -1,0 +1,4 @@
+pub mod Steers
+pub mod Muxes
+pub mod Keeping
+pub mod Noting

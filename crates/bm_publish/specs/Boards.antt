@@ -1,0 +1,38 @@
+-- The rule of a board. Only the proofs of bodies use this.
+use Rattle.std.specs.Prelude.{◌≡◌, ℕ, suc, List, [], ◌∷◌, Option, Some, IfSome}
+use mathlib.Core.Option.{some}
+use lib.ListN.{get_elem?}
+use Rattle.logbook.specs.Pages.{Book}
+use Rattle.bm_base.specs.declared.label.Entry.{Entry}
+use Rattle.bm_table.specs.declared.plan.Change.{Change}
+use Rattle.bm_table.specs.Entries.{IsTable, after_moves}
+use Rattle.bm_publish.specs.Posts.{Posted, last_version}
+
+-- the entries from bucket b on, after the change
+abbrev pub changed_from : Change → ℕ → List Entry → List Entry
+changed_from change b [] = []
+changed_from change b (entry ∷ entries) =
+    after_moves change.moment.0 change.moves b entry ∷ changed_from change (suc b) entries
+
+-- the table is that of the version to which the posts lead
+abbrev pub IsRight : List Entry → Posted → Type 0
+IsRight entries posted = IsTable posted.plan (last_version posted) entries
+
+-- what a seat was told is of this board
+abbrev pub IsOn : Book → Option Posted → Type 0
+IsOn board told = IfSome told (λ t. t.board ≡ board)
+
+-- the table is right, and what each seat was told is of this board
+pub record Keeps (entries : List Entry) (p : Posted) (views : List (Option Posted)) : Type 0 where
+  pub right : IsRight entries p
+  pub each : (seat : ℕ) (v : Option Posted) → get_elem? views seat ≡ some v → IsOn p.board v
+
+-- a seat that sees this is told of it
+pub record Sees (entries : List Entry) (p : Posted) (before after : Option Posted) : Type 0 where
+  pub right : IsRight entries p
+  pub told : after ≡ Some p
+  pub board : IsOn p.board before
+
+-- a seat was told of this board
+abbrev pub Knows : Book → Option Posted → Type 0
+Knows board view = (told : Posted) × (view ≡ Some told) × (told.board ≡ board)

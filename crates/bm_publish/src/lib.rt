@@ -1,0 +1,14 @@
+//! The board: a table that one thread posts and others read, without locks and without copies.
+#![tactic(auto)]
+
+mod look;
+mod poster;
+mod shown;
+mod told;
+
+pub use look::{Guard, Look};
+pub use poster::{Poster, board};
+pub use told::Told;
+
+#[cfg(test)]
+mod tests;

@@ -1,0 +1,208 @@
+//! The end that posts, and how a board is made.
+ghost use Rattle.std.specs.Prelude.{◌≡◌, ◌*◌, ◌^◌, ◌<◌, ◌≤◌, [], Some, All, IfOk, OnErr, OnOk};
+ghost use Rattle.std.specs.Prelude.{drop, length};
+ghost use Rattle.bm_table.specs.Tables.{next_change};
+ghost use Rattle.left_right.specs.Sides.{view as seat_view};
+ghost use Rattle.bm_publish.specs.Boards.{IsRight, changed_from};
+ghost use Rattle.bm_publish.specs.Posts.{last_post, last_version, with_post};
+
+use crate::look::Look;
+use crate::shown::{Hearing, Kept, Post, Seeing, Shown, Telling};
+use crate::told::{Head, Told, open};
+use bm_base::{List, Memory, Moment};
+use bm_table::{Change, Kind, Plan, Table};
+use core::mem::replace_with;
+use left_right::writer::Writer;
+use std::alloc::Global;
+use std::marker::Model;
+use std::sync::Wait;
+
+type Ends = Writer<Shown, Post, Option<Told>, Kept>;
+
+/// The end of a board that posts. It isn't Drop: end it by `end`. Contracts see what is posted.
+pub struct Poster {
+    writer: Ends,
+    head: Head,
+}
+
+impl Model for Poster {
+    ghost use Rattle.std.specs.Prelude.{◌≡◌, [], Some, drop};
+    ghost use Rattle.left_right.specs.Sides.{view as seat_view};
+    ghost use Rattle.bm_publish.specs.Boards.{IsRight};
+    ghost use Rattle.bm_publish.specs.Histories.{head_of};
+    ghost use Rattle.bm_publish.specs.Posts.{Posted};
+
+    ghost Value = { Posted };
+
+    ghost view = { λ p. p.writer.desk.shown.value.told };
+
+    ghost invariant = { λ p. (drop p.writer.behind p.writer.log.items ≡ [])
+        × IsRight p.writer.desk.shown.value.table p.writer.desk.shown.value.told
+        × (seat_view p.writer.desk.place ≡ Some p.writer.desk.shown.value.told)
+        × (p.head ≡ head_of p.writer.desk.shown.value.told.board) };
+}
+
+/// A board that shows version 0 and clock 0 of the plan, its poster and so many looks. `Memory`
+/// where memory was refused; then it waits for nobody, since nobody reads.
+pub fn board<R: Wait>(
+    rt: &R,
+    alloc: Global,
+    plan: &Plan,
+    readers: u16,
+) -> Result<(Poster, Vec<Look>), Memory>
+    requires { 1 ≤ readers }
+    ensures new { IfOk result (λ ends. (ends.0.plan ≡ plan.now) × (ends.0.clocks ≡ [])) }
+    ensures count { IfOk result (λ ends. length ends.1.items ≡ readers) }
+    ensures looks { IfOk result (λ ends. All (λ look. look ≡ ends.0) ends.1.items) }
+{
+    let mut poster = Poster::new(rt, alloc, plan, readers)?;
+    match poster.seats(alloc, readers) {
+        Ok(looks) => Ok((poster, looks)),
+        Err(why) => {
+            poster.end(rt);
+            Err(why)
+        }
+    }
+}
+
+/// A change that moves nothing.
+fn idle_change(alloc: Global) -> Change
+    ensures { result.moves ≡ [] }
+{
+    Change {
+        moment: Moment(0),
+        kind: Kind::Shift,
+        moves: List::of(Vec::new(alloc)),
+    }
+}
+
+/// Shows a post. The ends come back, and show what they showed where memory was refused.
+fn publish<R: Wait>(rt: &R, mut writer: Ends, post: Post) -> (Ends, Result<(), Memory>)
+    requires idle { drop writer.behind writer.log.items ≡ [] }
+    requires right { IsRight writer.desk.shown.value.table writer.desk.shown.value.told }
+    requires next { IsRight (changed_from post.change 0 writer.desk.shown.value.table) post.told }
+    requires board { post.told.board ≡ writer.desk.shown.value.told.board }
+    ensures idle { drop result.0.behind result.0.log.items ≡ [] }
+    ensures ok { OnOk result.1 ((result.0.desk.shown.value.told ≡ post.told)
+        × IsRight result.0.desk.shown.value.table post.told
+        × (seat_view result.0.desk.place ≡ Some post.told)) }
+    ensures err { OnErr result.1 ((result.0.desk.shown.value ≡ writer.desk.shown.value)
+        × (seat_view result.0.desk.place ≡ seat_view writer.desk.place)) }
+{
+    let Ok(()) = writer.append(post) else {
+        return (writer, Err(Memory));
+    };
+    let (writer, published) = writer.publish_as::<Seeing, R>(rt);
+    match published {
+        Ok(()) => (writer, Ok(())),
+        Err(_) => (writer, Err(Memory)),
+    }
+}
+
+impl Poster {
+    /// A new board. The opening is posted too, so that the poster's seat is told of its board, and
+    /// the log of posts has its memory.
+    fn new<R: Wait>(rt: &R, alloc: Global, plan: &Plan, readers: u16) -> Result<Poster, Memory>
+        requires { 1 ≤ readers }
+        ensures { IfOk result (λ poster. (poster.plan ≡ plan.now) × (poster.clocks ≡ [])) }
+    {
+        let (head, told) = open(plan);
+        let writer = Writer::new(
+            alloc,
+            shown(alloc, plan, &told)?,
+            shown(alloc, plan, &told)?,
+            usize::from(readers),
+        )?;
+        let post = Post {
+            change: idle_change(alloc),
+            told,
+        };
+        let (writer, opened) = publish(rt, writer, post);
+        if let Err(why) = opened {
+            writer.take(rt);
+            return Err(why);
+        }
+        Ok(Poster { writer, head })
+    }
+
+    /// One look more.
+    fn seat(&mut self) -> Result<Look, Memory>
+        ensures kept { self.new ≡ self.old }
+        ensures look { IfOk result (λ look. look ≡ self.old) }
+    {
+        let mut reader = self.writer.factory().reader()?;
+        reader.learn::<Hearing>(self.writer.tell::<Telling>());
+        Ok(Look::new(reader, self.tell()))
+    }
+
+    /// So many looks.
+    fn seats(&mut self, alloc: Global, readers: u16) -> Result<Vec<Look>, Memory>
+        ensures kept { self.new ≡ self.old }
+        ensures count { IfOk result (λ looks. length looks.items ≡ readers) }
+        ensures looks { IfOk result (λ looks. All (λ look. look ≡ self.old) looks.items) }
+    {
+        let mut looks = Vec::with_capacity(alloc, usize::from(readers))?;
+        for _ in 0..readers {
+            looks.push(self.seat()?)?;
+        }
+        Ok(looks)
+    }
+
+    /// Posts the plan's next change. It waits for the looks that still read the table before the
+    /// last one. `Memory` where memory was refused; then nothing is posted.
+    pub fn post<R: Wait>(&mut self, rt: &R, change: Change, clock: Moment) -> Result<(), Memory>
+        requires next { next_change self.old.plan (last_version self.old) ≡ Some change }
+        requires later { last_post self.old < clock.0 }
+        requires last { clock.0 ≤ 9 * 10 ^ 18 }
+        ensures ok { OnOk result (self.new ≡ with_post self.old clock.0) }
+        ensures err { OnErr result (self.new ≡ self.old) }
+    {
+        replace_with(self, change, |poster, change| {
+            poster.posted(rt, change, clock)
+        })
+    }
+
+    /// The poster after a post.
+    fn posted<R: Wait>(self, rt: &R, change: Change, clock: Moment) -> (Poster, Result<(), Memory>)
+        requires next { next_change self.plan (last_version self) ≡ Some change }
+        requires later { last_post self < clock.0 }
+        requires last { clock.0 ≤ 9 * 10 ^ 18 }
+        ensures ok { OnOk result.1 (result.0 ≡ with_post self clock.0) }
+        ensures err { OnErr result.1 (result.0 ≡ self) }
+    {
+        let Poster { writer, head } = self;
+        let Some(told) = writer.published().told.with_post(&head, clock) else {
+            return (Poster { writer, head }, Err(Memory));
+        };
+        let (writer, answer) = publish(rt, writer, Post { change, told });
+        (Poster { writer, head }, answer)
+    }
+
+    /// What carries all that was posted, for one look to hear. Takes no memory.
+    pub fn tell(&self) -> Told
+        ensures { result ≡ self.now }
+    {
+        self.writer.published().told.again()
+    }
+
+    /// Gives the board up. It waits for the looks that read.
+    pub fn end<R: Wait>(self, rt: &R) {
+        let Poster {
+            writer,
+            head: _head,
+        } = self;
+        writer.take(rt);
+    }
+}
+
+/// The table of version 0.
+fn shown(alloc: Global, plan: &Plan, told: &Told) -> Result<Shown, Memory>
+    requires { (told.now.plan ≡ plan.now) × (told.now.clocks ≡ []) }
+    ensures told { IfOk result (λ s. s.told ≡ told.now) }
+    ensures right { IfOk result (λ s. IsRight s.table s.told) }
+{
+    Ok(Shown {
+        table: Table::opening(alloc, plan)?,
+        told: told.again(),
+    })
+}

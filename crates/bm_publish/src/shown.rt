@@ -1,0 +1,81 @@
+//! What a board shows: the table, with the history that leads to it.
+ghost use Rattle.std.specs.Prelude.{◌≡◌, IfSome};
+ghost use Rattle.bm_publish.specs.Boards.{changed_from};
+
+use crate::told::Told;
+use atomic_table::{Join, Split};
+use bm_table::{Change, Table};
+use crossbeam_utils::rule::{Outcome, Protocol};
+use left_right::Absorb;
+use std::alloc::AllocError;
+
+/// A table, and the posts that lead to it.
+#[derive(Drop)]
+pub struct Shown {
+    pub(crate) table: Table,
+    pub(crate) told: Told,
+}
+
+/// A change, and the posts that end with it.
+#[derive(Drop)]
+pub struct Post {
+    pub(crate) change: Change,
+    pub(crate) told: Told,
+}
+
+impl Absorb<Post> for Shown {
+    type State = Shown;
+
+    ghost state = { λ s. s };
+
+    ghost applied = { λ s m. record { table = changed_from m.change 0 s.table; told = m.told } };
+
+    ghost never_fails = { Unit {0} };
+
+    fn absorb_first(&mut self, operation: &Post, _other: &Shown) -> Result<(), AllocError> {
+        self.table.apply(&operation.change);
+        self.told = operation.told.again();
+        Ok(())
+    }
+}
+
+/// The rule of a board. A seat's view is what it was told, if it was told anything.
+pub struct Kept;
+
+impl Protocol<Shown, Option<Told>> for Kept {
+    ghost use Rattle.std.specs.Prelude.{None};
+    ghost use Rattle.bm_publish.specs.Boards.{Keeps};
+
+    ghost holds = { λ x views. Keeps x.table x.told views };
+
+    ghost first = { None };
+}
+
+/// A seat that looks or posts sees what is shown.
+pub(crate) struct Seeing;
+
+impl Outcome<Shown, Option<Told>> for Seeing {
+    ghost use Rattle.bm_publish.specs.Boards.{Sees};
+
+    ghost then = { λ v x y w. Sees y.table y.told v w };
+}
+
+/// The poster tells a new reader all that it was told.
+pub(crate) struct Telling;
+
+impl Split<Option<Told>> for Telling {
+    ghost left = { λ v. v };
+
+    ghost right = { λ v. v };
+}
+
+/// A reader takes that over.
+pub(crate) struct Hearing;
+
+impl Join<Option<Told>> for Hearing {
+    ghost use Rattle.std.specs.Prelude.{None};
+
+    ghost both = { λ v w. w };
+
+    ghost spent = { None };
+}
