@@ -1,0 +1,119 @@
+use super::*;
+use bm_base::{Capture, Hop, List, Memory, Moment, MuxId, ServerId, Taken, Version};
+use bm_core::{Event, Log, Stage, Verdict, What};
+use bm_table::{Plan, Retirement, Script, Setting};
+use std::alloc::Global;
+use std::test::Fail;
+
+fn event(clock: u64, what: What) -> Event {
+    Event {
+        clock: Moment(clock),
+        what,
+    }
+}
+
+fn publish(clock: u64, version: u32) -> Event {
+    event(clock, What::Publish(Version(version)))
+}
+
+fn switch(clock: u64, version: u32) -> Event {
+    let mux = MuxId(0);
+    let version = Version(version);
+    event(clock, What::Switch { mux, version })
+}
+
+fn steer(clock: u64, packet: u32) -> Event {
+    let mux = MuxId(0);
+    event(clock, What::Steer { packet, mux })
+}
+
+fn arrive(clock: u64, packet: u32, hop: Hop, server: u16, verdict: Verdict) -> Event {
+    let server = ServerId(server);
+    event(
+        clock,
+        What::Arrive {
+            packet,
+            hop,
+            server,
+            verdict,
+        },
+    )
+}
+
+/// The logs with these events.
+fn logs(alloc: Global, parts: &[&[Event]]) -> Result<Vec<Log>, Memory> {
+    let mut logs = Vec::new(alloc);
+    for part in parts {
+        logs.push(List::of(Vec::from_slice(alloc, part)?))?;
+    }
+    Ok(logs)
+}
+
+/// No change, no command and no record.
+fn stage(alloc: Global) -> Result<Stage, Memory> {
+    let records = List::of(Vec::new(alloc));
+    let script = Script {
+        setting: Setting::plain(alloc)?,
+        plan: Plan::new(alloc, 8, &[ServerId(1), ServerId(2)])?,
+        commands: List::of(Vec::new(alloc)),
+    };
+    let capture = Capture { records, cut: None };
+    Ok(Stage { script, capture })
+}
+
+/// Whether the logs with these events merge to the others.
+fn merge_to(alloc: Global, parts: &[&[Event]], want: &[Event]) -> Result<bool, Memory> {
+    let logs = logs(alloc, parts)?;
+    let history = merge(alloc, stage(alloc)?, logs)?;
+    Ok(history.events.items() == want)
+}
+
+#[test]
+fn a_moved_connection_is_put_together(rt: HostRuntime) -> Result<(), Fail> {
+    let direct = arrive(1_002, 2, Hop::Direct, 2, Verdict::Forward(ServerId(1)));
+    let chained = arrive(1_003, 2, Hop::Chained, 1, Verdict::Process(Taken::Advance));
+    let accepted = arrive(2, 1, Hop::Direct, 1, Verdict::Accept);
+    let mux = [steer(1, 1), switch(502, 1), steer(1_001, 2)];
+    let parts: [&[Event]; 4] = [&[publish(501, 1)], &mux, &[accepted, chained], &[direct]];
+    let want = [
+        mux[0],
+        accepted,
+        publish(501, 1),
+        mux[1],
+        mux[2],
+        direct,
+        chained,
+    ];
+    assert!(rt; merge_to(rt.alloc(), &parts, &want)?);
+    Ok(())
+}
+
+#[test]
+fn a_loss_may_have_a_later_clock_than_what_stands_behind_it(rt: HostRuntime) -> Result<(), Fail> {
+    let packet = 1;
+    let hop = Hop::Chained;
+    let lost = event(901, What::Lose { packet, hop });
+    let retired = event(
+        501,
+        What::Retire {
+            server: ServerId(1),
+            shard: 2,
+            at: Moment(500),
+            result: Retirement::NotDrained,
+        },
+    );
+    let direct = arrive(900, 1, Hop::Direct, 2, Verdict::Forward(ServerId(1)));
+    let mux = [switch(1, 0), steer(2, 1), lost, switch(502, 1)];
+    let parts: [&[Event]; 4] = [&[publish(501, 1)], &mux, &[retired], &[direct]];
+    let want = [
+        mux[0],
+        mux[1],
+        publish(501, 1),
+        retired,
+        mux[3],
+        direct,
+        lost,
+    ];
+    assert!(rt; merge_to(rt.alloc(), &parts, &want)?);
+    Ok(())
+}
