@@ -1,0 +1,106 @@
+-- What the calls of worker 0 do, and what its seats hear of them.
+use Rattle.std.proofs.Common.{◌≡◌, ℕ, ◌+◌, ◌*◌, ◌^◌, ◌<◌, ◌≤◌, max, false, List, [], ◌∷◌}
+use Rattle.std.proofs.Common.{Option, Some, refl, sym, ap, ◌∙◌, append-nil, arith, subst}
+use Rattle.bm_base.specs.declared.ids.Moment.{Moment}
+use Rattle.bm_base.specs.declared.ids.ServerId.{ServerId}
+use Rattle.bm_table.specs.declared.plan.Change.{Change}
+use Rattle.bm_table.specs.declared.plan.Retirement.{Retirement}
+use Rattle.bm_table.specs.Tables.{change_moment, next_change}
+use Rattle.bm_core.specs.declared.events.Stage.{Stage}
+use Rattle.bm_core.specs.Runs.Actor.{ShardOf}
+use Rattle.bm_core.specs.Stages.{IsSound}
+use Rattle.bm_core.proofs.Moments.{sound_early}
+use Rattle.bm_merge.specs.Notes.{Note}
+use Rattle.bm_merge.specs.Workers.{is_home}
+use Rattle.bm_server.specs.Servings.{Serving, shard_at}
+use Rattle.bm_server.specs.Seats.{Seated}
+use Rattle.bm_worker.specs.Deeds.{Hears, IsSamePorter, Sits, retiring, saying}
+use Rattle.bm_worker.specs.Portings.{Porting}
+use Rattle.bm_worker.specs.Told.{told_there}
+use Rattle.bm_worker.proofs.Hearing.{hears_more, hears_none}
+use Rattle.bm_publish.specs.Posts.{Posted}
+use Rattle.bm_lead.specs.declared.head.Head.{Head}
+use Rattle.bm_lead.specs.Commands.{control_log}
+use Rattle.bm_lead.specs.Steps.{AreRetirings, HasCalled, HasDone}
+
+-- the moment of a change of a sound script
+pub change_early : (stage : Stage) (v : ℕ) (change : Change) → IsSound stage
+    → next_change stage.script.plan v ≡ Some change → change.moment.0 ≤ 45 * 10 ^ 17
+change_early stage v change sound is =
+    subst (λ (o : Option Change). change_moment o ≤ 45 * 10 ^ 17) is ((sound_early stage sound).changes v)
+
+-- what isn't at a shard is heard nowhere
+pub hears_elsewhere : (stage : Stage) (servers : List Serving) (a b : List (List Seated)) (n : Note) → b ≡ a
+    → ((s h : ℕ) → is_home stage (ShardOf s h) n ≡ false) → Hears stage servers a b (n ∷ [])
+hears_elsewhere stage servers a b n same away s h server at =
+    rw (same, away server.id.0 h) (sym (append-nil (saying (shard_at server h) (told_there a s h))))
+
+pub same_porter : (a b d : Porting) → IsSamePorter a b → IsSamePorter b d → IsSamePorter a d
+same_porter a b d first then =
+    record { number = then.number ∙ first.number; who_is = then.who_is ∙ first.who_is }
+
+pub sits_kept : (servers : List Serving) (a b : Porting) → Sits servers a → IsSamePorter a b → Sits servers b
+sits_kept servers a b sits same = rw same.number (same.who_is ∙ sits)
+
+-- no call yet
+pub none_called : (stage : Stage) (servers : List Serving) (a : Porting) → HasCalled stage servers 0 a a []
+none_called stage servers a = record {
+  heard = hears_none stage servers a.seats;
+  same = record { number = refl; who_is = refl };
+  tries = omega arith;
+  latest = omega arith;
+}
+
+-- one shard more
+pub retired_more : (stage : Stage) (servers : List Serving) (i k : ℕ) (server : Serving) (at clock : Moment)
+    (outcome : Retirement) (a b d : Porting) (deeds : List Note) → b.number ≡ 0
+    → AreRetirings i server.id at outcome k deeds → HasCalled stage servers k a b deeds
+    → Hears stage servers b.seats d.seats (retiring clock server.id k at outcome i b.number ∷ [])
+    → IsSamePorter b d → d.tries ≤ b.tries + 1 → d.latest ≡ max b.latest clock.0 → at.0 < clock.0
+    → (deeds : List Note) × AreRetirings i server.id at outcome (k + 1) deeds
+    × HasCalled stage servers (k + 1) a d deeds
+retired_more stage servers i k server at clock outcome a b d deeds zero are called heard same tries latest later =
+    let n = retiring clock server.id k at outcome i 0 in
+    let one : Hears stage servers b.seats d.seats (n ∷ []) =
+    subst (λ (w : ℕ). Hears stage servers b.seats d.seats (retiring clock server.id k at outcome i w ∷ [])) zero
+    heard in (
+      n ∷ deeds,
+      (clock, k, omega arith, refl, later, are),
+      record {
+        heard = hears_more stage servers a.seats b.seats d.seats deeds (n ∷ []) called.heard one;
+        same = same_porter a b d called.same same;
+        tries = let t = called.tries in omega arith;
+        latest = let l = called.latest in omega arith;
+      },
+    )
+
+pub called_up_to : (stage : Stage) (servers : List Serving) (n m : ℕ) (a b : Porting) (deeds : List Note) → n ≤ m
+    → HasCalled stage servers n a b deeds → HasCalled stage servers m a b deeds
+called_up_to stage servers n m a b deeds low called = record {
+  heard = called.heard;
+  same = called.same;
+  tries = let t = called.tries in omega arith;
+  latest = called.latest;
+}
+
+-- the controller has nothing of it in its log
+pub retirings_elsewhere : (stage : Stage) (i h : ℕ) (server : ServerId) (at : Moment) (outcome : Retirement)
+    (deeds : List Note) → AreRetirings i server at outcome h deeds → control_log stage deeds ≡ []
+retirings_elsewhere stage i h server at outcome [] are = refl
+retirings_elsewhere stage i h server at outcome (n ∷ deeds) are =
+    subst (λ (n : Note). control_log stage (n ∷ deeds) ≡ []) (sym are.3)
+    (retirings_elsewhere stage i are.1 server at outcome deeds are.5)
+
+-- calls alone
+pub has_called : (stage : Stage) (servers : List Serving) (p : Posted) (a b : Head) (deeds : List Note)
+    → HasCalled stage servers 64 a.porter b.porter deeds → control_log stage deeds ≡ [] → b.next ≡ a.next
+    → b.log.items ≡ a.log.items → b.last_post.0 ≡ a.last_post.0 → b.published.0 ≡ a.published.0
+    → HasDone stage servers p p a b deeds
+has_called stage servers p a b deeds called away next log last published = record {
+  called = called;
+  next = next;
+  log = rw away (log ∙ sym (append-nil a.log.items));
+  posted = rw away (ap (λ (l : List ℕ). record p { clocks = l }) (sym (append-nil p.clocks)));
+  last_post = rw away last;
+  published = rw away published;
+}

@@ -1,0 +1,41 @@
+use Rattle.std.proofs.Common.{ℕ, ◌-◌, Option, refl, sym, ap, ◌∙◌, arith, [], ◌∷◌}
+use Rattle.bm_core.specs.Runs.{next_clock}
+use Rattle.bm_table.specs.declared.plan.Change.{Change}
+use Rattle.bm_table.specs.Tables.{change_moment}
+use Rattle.bm_lead.specs.Commands.{publishing}
+use Rattle.bm_lead.proofs.Calling.{change_early, hears_elsewhere}
+use Rattle.bm_lead.proofs.command.publish.Goals as goal
+
+pub clock_up_to-requires-clause-cause : goal.clock_up_to-requires-clause-cause
+clock_up_to-requires-clause-cause g c =
+    let early = change_early c.args.stage.now (c.args.version.0 - 1) c.in_ok-change.change c.requires.sound
+    c.in_ok-change.ensures in omega arith
+
+pub returns-clause-ok : goal.returns-clause-ok
+returns-clause-ok g c =
+    let n = publishing c.in_ok-clock.clock c.args.version c.args.head.now.next in
+    let a = c.args.head.now in (
+      n ∷ [],
+      (
+        c.in_ok-clock.clock,
+        refl,
+        c.in_ok-clock.ensures.ok.0 ∙ (ap (λ (k : ℕ). next_clock k c.in_ok-change.change.moment.0) c.latest.ensures
+            ∙ ap (λ (o : Option Change). next_clock a.porter.latest (change_moment o)) (sym c.in_ok-change.ensures)),
+        omega (arith, c.in_ok-clock.ensures.ok.1),
+      ),
+      record {
+        called = record {
+          heard = hears_elsewhere c.args.stage.now c.args.servers.now a.porter.seats c.see.new.self.seats n
+              c.see.ensures.seats
+              (λ s h. refl);
+          same = c.see.ensures.same;
+          tries = let e = c.see.ensures.tries in omega arith;
+          latest = let e = c.see.ensures.latest in omega arith;
+        };
+        next = refl;
+        log = c.in_ok-write_down.ensures;
+        posted = c.in_ok-post.ensures.ok;
+        last_post = refl;
+        published = refl;
+      },
+    )

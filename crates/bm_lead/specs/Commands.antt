@@ -1,0 +1,74 @@
+-- Deeds of worker 0 (docs/DEFINITIONS.md), as notes, and what holds of those by which the first
+-- commands of a script are carried out. Deeds have the newest first.
+use Rattle.std.specs.Prelude.{◌≡◌, ℕ, ◌<◌, ◌≤◌, ◌==◌, if◌then◌else◌, List, [], ◌∷◌, ◌++◌, take}
+use Rattle.std.specs.Prelude.{IfSome, slice_get}
+use Rattle.std.specs.List.{AllByRecursion}
+use Rattle.bm_base.specs.declared.flow.Flow.{Flow}
+use Rattle.bm_base.specs.declared.ids.Moment.{Moment}
+use Rattle.bm_base.specs.declared.ids.ServerId.{ServerId}
+use Rattle.bm_base.specs.declared.ids.Version.{Version}
+use Rattle.bm_table.specs.Tables.{IsRetirement}
+use Rattle.bm_core.specs.declared.events.Event.{Event}
+use Rattle.bm_core.specs.declared.events.Stage.{Stage}
+use Rattle.bm_core.specs.declared.events.What.{What}
+use Rattle.bm_core.specs.declared.events.What.TheVariants.{Publish, Retire, Sync}
+use Rattle.bm_core.specs.Accounts.{closes_flow, count_of, is_sync, retires_shard}
+use Rattle.bm_core.specs.Accounts.{wants_close, wants_retire, wants_sync}
+use Rattle.bm_core.specs.Past.{timeout}
+use Rattle.bm_core.specs.Runs.{own_clock}
+use Rattle.bm_core.specs.Runs.Actor.{Controller}
+use Rattle.bm_merge.specs.Merges.{IsNextVersion, newest_until}
+use Rattle.bm_merge.specs.Notes.{Note, events_of, many, size_of}
+use Rattle.bm_merge.specs.Workers.{home_part, is_publish}
+use Rattle.bm_worker.specs.Deeds.{deed, no_fate}
+
+-- a version is published, by the command of this number
+abbrev pub publishing : Moment → Version → ℕ → Note
+publishing clock version command = deed clock (Publish version) no_fate command 0 0
+
+-- all workers have met, by the command of this number
+abbrev pub syncing : Moment → ℕ → Note
+syncing clock command = deed clock Sync no_fate command 0 0
+
+-- THE CONTROLLER'S LOG
+
+-- the events of the deeds that stand in it
+abbrev pub control_log : Stage → List Note → List Event
+control_log stage deeds = events_of (home_part stage Controller deeds)
+
+-- the clocks of its Publishes, the oldest first
+abbrev pub posted_clocks : List Event → List ℕ
+posted_clocks [] = []
+posted_clocks (e ∷ past) =
+    if is_publish e.what then posted_clocks past ++ e.clock.0 ∷ [] else posted_clocks past
+
+-- the clocks of the log rise, and it publishes the versions in their order
+pub record IsControlStep (stage : Stage) (rest : List Event) (e : Event) : Type 0 where
+  pub own : IfSome (own_clock stage rest Controller) (λ c. c < e.clock.0)
+  pub version : IsNextVersion stage rest e.what
+
+-- a retirement is answered by the versions that the log publishes up to its clock
+abbrev pub IsJudgedBy : Stage → List Event → ℕ → What → Type 0
+IsJudgedBy stage control clock (Retire server h at result) =
+    IsRetirement stage.script.plan (timeout stage) (newest_until clock control) server at.0 result
+IsJudgedBy stage control clock _ = Unit {0}
+
+-- COUNTS
+
+-- the first i commands, and no others, have all their events
+pub record AreDone (stage : Stage) (i : ℕ) (deeds : List Note) : Type 0 where
+  pub earlier : AllByRecursion (λ n. n.command < i) deeds
+  pub complete : (j : ℕ) → j < i
+      → many (λ n. n.command == j) deeds
+      ≡ size_of stage.script.setting.shards (slice_get stage.script.commands j)
+  -- so many of each kind as these commands ask for
+  pub closes : (s : ServerId) (f : Flow)
+      → many (λ n. closes_flow n.event.what s f) deeds
+      ≡ count_of (λ c. wants_close c s f) (take i stage.script.commands)
+  pub retires : (s : ServerId) (h : ℕ) → h < stage.script.setting.shards
+      → many (λ n. retires_shard n.event.what s h) deeds
+      ≡ count_of (λ c. wants_retire c s) (take i stage.script.commands)
+  pub no_other : (s : ServerId) (h : ℕ) → stage.script.setting.shards ≤ h
+      → many (λ n. retires_shard n.event.what s h) deeds ≡ 0
+  pub syncs : many (λ n. is_sync n.event.what) deeds
+      ≡ count_of wants_sync (take i stage.script.commands)

@@ -1,0 +1,70 @@
+-- What worker 0 keeps while it goes through the commands of a script.
+use Rattle.std.specs.Prelude.{◌≡◌, ℕ, ◌+◌, ◌*◌, ◌^◌, ◌<◌, ◌≤◌, List, [], drop, length, slice_get}
+use Rattle.std.specs.Prelude.{Option, Some}
+use Rattle.std.specs.Prelude.{Result, Err}
+use Rattle.bm_table.specs.declared.script.Command.{Command}
+use Rattle.bm_table.specs.declared.script.Command.TheVariants.{Sync}
+use Rattle.bm_table.specs.Scripts.{NamesVersions}
+use Rattle.bm_core.specs.declared.events.Stage.{Stage}
+use Rattle.bm_server.specs.Servings.{Serving}
+use Rattle.bm_publish.specs.Posts.{Posted, last_post}
+use Rattle.bm_worker.specs.Deeds.{Sits}
+use Rattle.bm_worker.specs.Portings.{Porting}
+use Rattle.bm_worker.specs.declared.stop.Stop.{Stop}
+use Rattle.bm_worker.specs.declared.stop.Stop.TheVariants.{Late, Memory}
+use Rattle.bm_lead.specs.declared.head.Head.{Head}
+
+-- what was posted on the board is what worker 0 has published
+pub record HasPosted (stage : Stage) (posted : Posted) (head : Head) : Type 0 where
+  pub plan : posted.plan ≡ stage.script.plan
+  pub count : length posted.clocks ≡ head.published.0
+  pub few : head.published.0 ≤ length stage.script.plan.changes
+  pub last : last_post posted ≡ head.last_post.0
+
+-- worker 0 may go on
+pub record IsReady (stage : Stage) (servers : List Serving) (posted : Posted) (head : Head)
+    : Type 0 where
+  pub next : head.next ≤ length stage.script.commands
+  -- the commands that are left name the versions that aren't published
+  pub versions : NamesVersions (head.published.0 + 1) (length stage.script.plan.changes)
+      (drop head.next stage.script.commands)
+  pub posted_is : HasPosted stage posted head
+  -- the last post is no later than what worker 0 did, and than LAST less 4,096
+  pub below : head.last_post.0 ≤ head.porter.latest
+  pub early : head.last_post.0 + 4096 ≤ 9 * 10 ^ 18
+  -- one call for each shard of a command
+  pub tries : head.porter.tries ≤ 64 * head.next
+  pub number : head.porter.number ≡ 0
+  pub sits : Sits servers head.porter
+
+-- nothing is posted, and worker 0 has a seat of every server and has done nothing
+pub record Begins (stage : Stage) (servers : List Serving) (posted : Posted) (porter : Porting)
+    : Type 0 where
+  pub plan : posted.plan ≡ stage.script.plan
+  pub clocks : posted.clocks ≡ []
+  pub number : porter.number ≡ 0
+  pub sits : Sits servers porter
+  pub tries : porter.tries ≡ 0
+  pub latest : porter.latest ≡ 0
+
+-- the command is a sync
+abbrev pub IsSyncCommand : Option Command → Type 0
+IsSyncCommand (Some (Sync at)) = Unit {0}
+IsSyncCommand _ = ⊥
+
+-- the commands at the places from the first to below the second, which are no syncs
+pub record IsPhase (commands : List Command) («from» until : ℕ) : Type 0 where
+  pub order : «from» ≤ until
+  pub end : until ≤ length commands
+  pub no_sync : (i : ℕ) → «from» ≤ i → i < until → IsSyncCommand (slice_get commands i) → ⊥
+
+-- what holds unless memory was refused
+abbrev pub UnlessMemory : {T : Type 0} → Result T Stop → Type 0 → Type 0
+UnlessMemory (Err Memory) P = Unit {0}
+UnlessMemory _ P = P
+
+-- why worker 0 gave up: memory, or a moment above the most, at most one above this clock
+abbrev pub IsStopFrom : ℕ → ℕ → Stop → Type 0
+IsStopFrom most clock Memory = Unit {0}
+IsStopFrom most clock (Late moment c) =
+    (c.0 ≡ clock) × (most < moment.0) × (moment.0 ≤ clock + 1)

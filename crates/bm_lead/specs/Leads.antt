@@ -1,0 +1,77 @@
+-- What worker 0 promises of its deeds (docs/DEFINITIONS.md). Deeds have the newest first.
+use Rattle.std.specs.Prelude.{◌≡◌, ℕ, false, ◌+◌, ◌*◌, ◌^◌, ◌<◌, ◌≤◌, List, [], ◌∷◌, ◌++◌, reverse}
+use Rattle.std.specs.Prelude.{slice_get}
+use Rattle.std.specs.List.{AllByRecursion}
+use Rattle.bm_base.specs.declared.ids.Moment.{Moment}
+use Rattle.bm_core.specs.declared.events.Stage.{Stage}
+use Rattle.bm_core.specs.declared.events.What.{What}
+use Rattle.bm_core.specs.declared.events.What.TheVariants.{Close, Retire}
+use Rattle.bm_core.specs.Accounts.{is_sync}
+use Rattle.bm_core.specs.Past.{newest}
+use Rattle.bm_core.specs.Runs.{AtEach, next_clock}
+use Rattle.bm_core.specs.Threads.{moment_at}
+use Rattle.bm_merge.specs.Notes.{Note, greatest}
+use Rattle.bm_merge.specs.Workers.{IsCommanded}
+use Rattle.bm_server.specs.Servings.{Serving}
+use Rattle.bm_publish.specs.Posts.{Posted}
+use Rattle.bm_worker.specs.Deeds.{HasServer, Hears, IsSamePorter}
+use Rattle.bm_lead.specs.declared.head.Head.{Head}
+use Rattle.bm_lead.specs.Commands.{AreDone, IsControlStep, IsJudgedBy, control_log, posted_clocks}
+use Rattle.bm_lead.specs.Commands.{syncing}
+use Rattle.bm_lead.specs.Heads.{IsReady}
+
+-- all that worker 0 did so far: the commands before the next one, and nothing else
+pub record IsLed (stage : Stage) (posted : Posted) (head : Head) (deeds : List Note) : Type 0 where
+  pub each : AtEach (IsCommanded stage) deeds
+  pub done : AreDone stage head.next deeds
+  pub seats : AllByRecursion (λ n. n.seat ≡ 0) deeds
+  -- the controller's log
+  pub log : reverse head.log.items ≡ control_log stage deeds
+  pub steps : AtEach (IsControlStep stage) (control_log stage deeds)
+  pub judged : AllByRecursion
+      (λ n. IsJudgedBy stage (control_log stage deeds) n.event.clock.0 n.event.what) deeds
+  -- what was posted on the board
+  pub published : newest (control_log stage deeds) ≡ head.published.0
+  pub posts : posted.clocks ≡ posted_clocks (control_log stage deeds)
+  -- the greatest clock
+  pub latest : head.porter.latest ≡ greatest (λ n. n.event.clock.0) deeds
+
+-- a Close is at one of the servers, a Retire at a shard of one
+abbrev pub IsPlaced : Stage → List Serving → What → Type 0
+IsPlaced stage servers (Close server flow closed) = HasServer servers server
+IsPlaced stage servers (Retire server h at result) =
+    HasServer servers server × (h < stage.script.setting.shards)
+IsPlaced stage servers _ = Unit {0}
+
+-- by these deeds worker 0 goes on, from p and a to q and b
+pub record Leads (stage : Stage) (servers : List Serving) (p q : Posted) (a b : Head)
+    (deeds : List Note) : Type 0 where
+  pub led : (before : List Note) → IsLed stage p a before → IsLed stage q b (deeds ++ before)
+  pub board : q.board ≡ p.board
+  pub same : IsSamePorter a.porter b.porter
+  -- what its seats hear is just what it does at their shards
+  pub heard : Hears stage servers a.porter.seats b.porter.seats deeds
+  pub placed : AllByRecursion (λ n. IsPlaced stage servers n.event.what) deeds
+  -- each clock is above all that were before
+  pub since : AllByRecursion (λ n. a.porter.latest < n.event.clock.0) deeds
+  pub rises : a.porter.latest ≤ b.porter.latest
+
+-- they have no Sync
+abbrev pub HaveNoSync : List Note → Type 0
+HaveNoSync deeds = AllByRecursion (λ n. is_sync n.event.what ≡ false) deeds
+
+-- worker 0 went on by some deeds, of which none is a Sync, and may go on
+abbrev pub HasLed : Stage → List Serving → Posted → Posted → Head → Head → Type 0
+HasLed stage servers p q a b = IsReady stage servers q b
+    × ((deeds : List Note) × Leads stage servers p q a b deeds × HaveNoSync deeds)
+
+-- worker 0 logged a Sync above all clocks, of which this one is the greatest
+pub record HasSynced (stage : Stage) (servers : List Serving) (posted : Posted) (top : ℕ)
+    (a b : Head) : Type 0 where
+  pub clock : Moment
+  pub is_next : clock.0 ≡ next_clock top (moment_at (slice_get stage.script.commands a.next))
+  pub bound : clock.0 ≤ 9 * 10 ^ 18
+  pub leads : Leads stage servers posted posted a b (syncing clock a.next ∷ [])
+  pub ready : IsReady stage servers posted b
+  pub latest : b.porter.latest ≡ clock.0
+  pub next : b.next ≡ a.next + 1

@@ -1,0 +1,50 @@
+//! Worker 0, and what it keeps.
+ghost use Rattle.std.specs.Prelude.{◌≡◌, [], List};
+ghost use Rattle.bm_core.specs.declared.events.Stage.{Stage};
+ghost use Rattle.bm_core.specs.Stages.{IsSound};
+ghost use Rattle.bm_server.specs.Servings.{Serving};
+ghost use Rattle.bm_publish.specs.Posts.{Posted};
+ghost use Rattle.bm_lead.specs.Heads.{Begins, IsReady};
+ghost use Rattle.bm_lead.specs.Leads.{IsLed};
+
+use bm_base::{Moment, Version};
+use bm_core::Event;
+use bm_worker::Porter;
+use std::alloc::Global;
+
+/// Worker 0.
+#[derive(Drop)]
+pub struct Head {
+    /// Its seats. The greatest clock of what it did is the controller's clock.
+    pub porter: Porter,
+    /// The place of the next command, from 0.
+    pub next: usize,
+    /// How many versions are published.
+    pub published: Version,
+    /// The clock of the last version that is published, or 0.
+    pub last_post: Moment,
+    /// The controller's log of Publishes and Syncs.
+    pub log: Vec<Event>,
+}
+
+impl Head {
+    /// Worker 0 before the first command. Takes no memory.
+    pub fn new(alloc: Global, porter: Porter) -> Head
+        ensures porter { result.porter ≡ porter }
+        ensures next { result.next ≡ 0 }
+        ensures published { (result.published.0 ≡ 0) × (result.last_post.0 ≡ 0) }
+        ensures log { result.log.items ≡ [] }
+        ensures ready { (stage : Stage) (servers : List Serving) (posted : Posted) → IsSound stage
+            → Begins stage servers posted porter → IsReady stage servers posted result }
+        ensures led { (stage : Stage) (servers : List Serving) (posted : Posted)
+            → Begins stage servers posted porter → IsLed stage posted result [] }
+    {
+        Head {
+            porter,
+            next: 0,
+            published: Version(0),
+            last_post: Moment(0),
+            log: Vec::new(alloc),
+        }
+    }
+}

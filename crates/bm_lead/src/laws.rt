@@ -1,0 +1,24 @@
+//! What worker 0 has done in the end. The law is a function that does nothing: its contract is the
+//! law.
+ghost use Rattle.std.specs.Prelude.{◌≡◌, ℕ, List, length};
+ghost use Rattle.bm_core.specs.Past.{newest};
+ghost use Rattle.bm_merge.specs.Notes.{Note};
+ghost use Rattle.bm_merge.specs.Workers.{IsController};
+ghost use Rattle.bm_server.specs.Servings.{Serving};
+ghost use Rattle.bm_publish.specs.Posts.{Posted};
+ghost use Rattle.bm_lead.specs.declared.head.Head.{Head as Heading};
+ghost use Rattle.bm_lead.specs.Commands.{control_log};
+ghost use Rattle.bm_lead.specs.Heads.{IsReady};
+ghost use Rattle.bm_lead.specs.Leads.{IsLed};
+
+use bm_core::Stage;
+
+/// Where no command is left, worker 0 has done what a threaded run asks of it, and all changes are
+/// published.
+pub fn carried_out(stage: &Stage)
+    ensures { (servers : List Serving) (posted : Posted) (head : Heading) (deeds : List Note)
+        → IsReady stage.now servers posted head → IsLed stage.now posted head deeds
+        → head.next ≡ length stage.now.script.commands
+        → IsController stage.now deeds
+        × (newest (control_log stage.now deeds) ≡ length stage.now.script.plan.changes) }
+{}

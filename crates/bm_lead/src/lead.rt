@@ -1,0 +1,109 @@
+//! The commands of a phase, and the Sync behind it.
+ghost use Rattle.std.specs.Prelude.{◌≡◌, ℕ, ◌+◌, ◌-◌, ◌*◌, ◌^◌, ◌<◌, ◌≤◌, length, List};
+ghost use Rattle.std.specs.Prelude.{slice_get, Some, IfErr, OnOk};
+ghost use Rattle.bm_table.specs.declared.script.Command.TheVariants.{Sync};
+ghost use Rattle.bm_core.specs.Stages.{IsSound};
+ghost use Rattle.bm_server.specs.Servings.{Serving};
+ghost use Rattle.bm_publish.specs.Posts.{Posted};
+ghost use Rattle.bm_worker.specs.Deeds.{Suits};
+ghost use Rattle.bm_lead.specs.Heads.{IsPhase, IsReady, IsStopFrom, IsSyncCommand, UnlessMemory};
+ghost use Rattle.bm_lead.specs.Leads.{HasLed, HasSynced};
+ghost use Rattle.bm_lead.specs.Steps.{OnLate};
+
+use crate::Head;
+use crate::clock::clock_up_to;
+use crate::command::{carry_out, write_down};
+use bm_base::{LAST, Moment};
+use bm_core::{Stage, What};
+use bm_io::Gate;
+use bm_publish::Poster;
+use bm_server::Server;
+use bm_table::Command;
+use bm_worker::Stop;
+use std::sync::Wait;
+
+/// Carries out the next command, which is no sync.
+fn lead_next<R: Wait, G: Gate>(
+    rt: &R,
+    gate: &G,
+    stage: &Stage,
+    servers: &[Server],
+    poster: &mut Poster,
+    head: &mut Head,
+) -> Result<(), Stop>
+    requires sound { IsSound stage.now }
+    requires suits { Suits stage.now servers.now }
+    requires ready { IsReady stage.now servers.now poster.old head.old }
+    requires there { head.old.next < length stage.now.script.commands }
+    requires no_sync { IsSyncCommand (slice_get stage.now.script.commands head.old.next) → ⊥ }
+    ensures led { UnlessMemory result
+        (HasLed stage.now servers.now poster.old poster.new head.old head.new) }
+    ensures next { OnOk result (head.new.next ≡ head.old.next + 1) }
+    ensures stop { IfErr result (IsStopFrom (9 * 10 ^ 18 - 4096) head.new.porter.latest) }
+{
+    let place = head.next;
+    let commands = stage.script.commands.items();
+    gate.at(0, place as u32 + 1);
+    carry_out(rt, stage, servers, commands[place], poster, head)?;
+    head.next += 1;
+    Ok(())
+}
+
+/// Carries out the commands of a phase: those from the next one on whose places are below `until`,
+/// where a sync stands, or no command. `Late` where a moment would be above LAST, or the clock of a
+/// post above LAST less 4,096; then the commands before it are carried out. It may wait.
+pub fn lead_phase<R: Wait, G: Gate>(
+    rt: &R,
+    gate: &G,
+    stage: &Stage,
+    servers: &[Server],
+    poster: &mut Poster,
+    head: &mut Head,
+    until: usize,
+) -> Result<(), Stop>
+    requires sound { IsSound stage.now }
+    requires suits { Suits stage.now servers.now }
+    requires ready { IsReady stage.now servers.now poster.old head.old }
+    requires phase { IsPhase stage.now.script.commands head.old.next until }
+    ensures led { UnlessMemory result
+        (HasLed stage.now servers.now poster.old poster.new head.old head.new) }
+    ensures next { OnOk result (head.new.next ≡ until) }
+    ensures stop { IfErr result (IsStopFrom (9 * 10 ^ 18 - 4096) head.new.porter.latest) }
+{
+    while head.next < until {
+        lead_next(rt, gate, stage, servers, poster, head)?;
+    }
+    Ok(())
+}
+
+/// The moment of the sync at a place.
+fn sync_moment(commands: &[Command], place: usize) -> Moment
+    requires there { place < length commands.now }
+    requires sync { IsSyncCommand (slice_get commands.now place) }
+    ensures { slice_get commands.now place ≡ Some (Sync result) }
+{
+    match commands[place] {
+        Command::Sync { at } => at,
+        _ => unreachable!(),
+    }
+}
+
+/// All workers have met, and this is the greatest clock of what they did. Logs the Sync that is the
+/// next command. `Late` where its clock would be above LAST; then nothing changes.
+pub fn sync(stage: &Stage, head: &mut Head, greatest: Moment) -> Result<(), Stop>
+    requires sound { IsSound stage.now }
+    requires sync { IsSyncCommand (slice_get stage.now.script.commands head.old.next) }
+    requires greatest { head.old.porter.latest ≤ greatest.0 }
+    ensures synced { (servers : List Serving) (posted : Posted) → Suits stage.now servers
+        → IsReady stage.now servers posted head.old
+        → OnOk result (HasSynced stage.now servers posted greatest.0 head.old head.new) }
+    ensures late { OnLate result (head.new ≡ head.old) }
+    ensures stop { IfErr result (IsStopFrom (9 * 10 ^ 18) greatest.0) }
+{
+    let at = sync_moment(stage.script.commands.items(), head.next);
+    let clock = clock_up_to(LAST, greatest, at)?;
+    write_down(&mut head.log, clock, What::Sync)?;
+    head.porter.see(clock);
+    head.next += 1;
+    Ok(())
+}

@@ -1,0 +1,15 @@
+pub mod Seating
+pub mod Replying
+pub mod Hearing
+pub mod Paying
+pub mod Keeping
+pub mod Copying
+pub mod Steps
+pub mod Carrying
+pub mod Known
+pub mod Labels
+pub mod Forwarding
+pub mod Collecting
+pub mod Delivering
+pub mod Steering
+pub mod Batching

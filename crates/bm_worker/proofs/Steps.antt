@@ -1,0 +1,253 @@
+-- The steps of a sending: a copy arrives, or the sending is lost.
+use Rattle.std.proofs.Common.{◌≡◌, ℕ, zero, suc, ◌+◌, ◌-◌, ◌<◌, ◌≤◌, ◌==◌, ◌&&◌, max, Bool, true, false, cond, List, []}
+use Rattle.std.proofs.Common.{◌∷◌, ◌++◌}
+use Rattle.std.proofs.Common.{length, reverse, slice_get, Option, Some, None, inl, inr, refl, sym, ap, ◌∙◌, subst}
+use Rattle.std.proofs.Common.{append_assoc, append-nil, arith, ltb}
+use Rattle.std.specs.Prelude.{IfSome, Result, Ok, Err, MatchResult}
+use Rattle.std.specs.Option.{option_map}
+use Rattle.std.specs.List.{AllByRecursion}
+use Rattle.std.proofs.lemmas.Bool.{cases_Bool, eq-eqb, le-ltb, eqb-true, and_from}
+use Rattle.std.proofs.lemmas.List.{reverse-append}
+use Rattle.std.proofs.lemmas.Option.{same_Some}
+use Rattle.bm_base.specs.declared.fate.Fate.{Fate}
+use Rattle.bm_base.specs.declared.flow.Segment.{Segment}
+use Rattle.bm_base.specs.declared.ids.Moment.{Moment}
+use Rattle.bm_base.specs.declared.ids.MuxId.{MuxId}
+use Rattle.bm_base.specs.declared.label.Hop.{Hop}
+use Rattle.bm_base.specs.declared.label.Hop.TheVariants.{Direct, Chained}
+use Rattle.bm_base.specs.declared.label.Label.{Label}
+use Rattle.bm_core.specs.declared.events.Event.{Event}
+use Rattle.bm_core.specs.declared.events.Stage.{Stage}
+use Rattle.bm_core.specs.declared.events.Verdict.{Verdict}
+use Rattle.bm_core.specs.declared.events.What.{What}
+use Rattle.bm_core.specs.declared.events.What.TheVariants.{Publish, Switch, Steer, Lose, Arrive, Close, Retire, Sync}
+use Rattle.bm_core.specs.Accounts.{Rules, steers_packet}
+use Rattle.bm_core.specs.Past.{label_of, same_hop, segment_of, sends, shard}
+use Rattle.bm_core.specs.Runs.{AtEach, is_by}
+use Rattle.bm_core.specs.Runs.Actor.{MuxOf, ShardOf}
+use Rattle.bm_merge.specs.Notes.{Note, events_of, many, total}
+use Rattle.bm_merge.specs.Workers.{IsDrawn, arrives_after, is_copyless, is_due_at, is_home}
+use Rattle.bm_merge.proofs.Noting.{each_append, each_so, total_append, total_none}
+use Rattle.bm_publish.specs.Posts.{Continues, last_version}
+use Rattle.bm_mux.specs.Muxes.{IsSameMux, MuxState}
+use Rattle.bm_mux.specs.Steers.{at_clock}
+use Rattle.bm_server.specs.Servings.{Serving}
+use Rattle.bm_server.specs.Seats.{Seated}
+use Rattle.bm_worker.specs.declared.worker.MuxWorker.{MuxWorker}
+use Rattle.bm_worker.specs.Arrivals.{HasCome}
+use Rattle.bm_worker.specs.Deeds.{Hears, IsSamePorter, Suits, arrival, loss, no_fate}
+use Rattle.bm_worker.specs.Debts.{Debt, IsAmong, IsCopyOf, IsOf, IsUpTo, Owes}
+use Rattle.bm_worker.specs.Lost.{with_loss}
+use Rattle.bm_worker.specs.Phases.{AreCopies, IsDeed, IsInOrder, IsMuxGiven, Kept, Stint, mux_log, mux_of}
+use Rattle.bm_worker.specs.Told.{Stays}
+use Rattle.bm_worker.proofs.Copying.{copies_as, copies_come, copies_stay, tag_hop}
+use Rattle.bm_worker.proofs.Hearing.{hears_arrival, hears_none, hears_stays}
+use Rattle.bm_worker.proofs.Keeping.{Step, kept_more, more_many}
+
+-- what the mux gives beyond its log
+abbrev GivenNow : Stage → Stint → MuxWorker → MuxWorker → List Event → Event → Type 0
+GivenNow stage stint now next rest e =
+    IsMuxGiven stage stint.after (last_version stint.told) next.mux.seen.clocks (rest ++ reverse now.mux.log) e.clock.0
+    e.what
+
+-- the mux is the same
+pub same_posts : (now next : MuxWorker) → next.mux.id ≡ now.mux.id → next.mux.seen ≡ now.mux.seen
+    → IsSameMux now.mux next.mux
+same_posts now next id seen = record {
+  id = id;
+  later = subst (λ p. Continues now.mux.seen p) (sym seen)
+      (record { board = refl; plan = refl; posts = ([], append-nil now.mux.seen.clocks) });
+}
+
+-- NOTHING DONE
+
+pub kept_stays : (F : Rules) (stage : Stage) (servers : List Serving) (stint : Stint) (now next : MuxWorker)
+    (d : List Note)
+    → next.mux ≡ now.mux → Stays now.porter.seats next.porter.seats → next.porter.latest ≡ now.porter.latest
+    → IsSamePorter now.porter next.porter → Kept F stage servers stint now d → Kept F stage servers stint next d
+kept_stays F stage servers stint now next d mux same latest porter kept =
+    kept_more F stage servers stint now next d [] kept (record {
+      each = tt;
+      ordered = tt;
+      logged = ap (λ (x : MuxState). reverse x.log) mux;
+      gives = tt;
+      hears = hears_stays stage servers now.porter.seats next.porter.seats same;
+      copies = λ are. subst (λ (x : MuxState). AreCopies stage (mux_of stint) servers (reverse x.log) next.porter.seats)
+          (sym mux)
+          (copies_stay stage servers (mux_of stint) (reverse now.mux.log) now.porter.seats next.porter.seats same are);
+      latest = omega (arith, latest);
+      mux = same_posts now next (ap (λ (x : MuxState). x.id) mux) (ap (λ (x : MuxState). x.seen) mux);
+      porter = porter;
+    })
+
+-- WHAT IS OWED STAYS SO
+
+pub among_more : (n : Note) (x d : List Note) → IsAmong n d → IsAmong n (x ++ d)
+among_more n x d among f = let a = among f in let b = total_append f x d in omega arith
+
+of_packet_up_to : (k : ℕ) (what : What) → IsOf k what → IsUpTo k what
+of_packet_up_to k (Arrive j hop server verdict) is = omega (arith, is)
+of_packet_up_to k (Lose j hop) is = tt
+of_packet_up_to k (Publish v) is = tt
+of_packet_up_to k (Switch y v) is = tt
+of_packet_up_to k (Steer j y) is = tt
+of_packet_up_to k (Close server flow closed) is = tt
+of_packet_up_to k (Retire server h at result) is = tt
+of_packet_up_to k Sync is = tt
+
+pub owes_more : (stint : Stint) (x d : List Note) (debt : Debt) → AllByRecursion (λ n. IsOf debt.packet n.event.what) x
+    → Owes stint d debt → Owes stint (x ++ d) debt
+owes_more stint x d debt packets owes = record {
+  note = owes.note;
+  among = among_more owes.note x d owes.among;
+  sending = owes.sending;
+  clock = owes.clock;
+  fate = owes.fate;
+  steered = let a = owes.steered in let le = more_many (λ y. steers_packet y.event.what debt.packet) x d in omega arith;
+  later = owes.later;
+  within = owes.within;
+  first = each_append (λ y. IsUpTo debt.packet y.event.what) x d
+      (each_so (λ n. IsOf debt.packet n.event.what) (λ y. IsUpTo debt.packet y.event.what) x
+      (λ n is. of_packet_up_to debt.packet n.event.what is) packets) owes.first;
+}
+
+-- A COPY ARRIVES
+
+pub one_of : (n : Note) (d : List Note) (test : Note → Bool) → IsAmong n d → test n ≡ true → 1 ≤ many test d
+one_of n d test among is =
+    let a = among (λ y. cond (test y) 1 0) in let one : ◌≡◌ {A = ℕ} (cond (test n) 1 0) 1 = rw is refl in omega arith
+
+due_among : (stint : Stint) (d : List Note) (debt : Debt) (due : ℕ) → Owes stint d debt
+    → due ≡ debt.clock + debt.fate.delay
+    → 1 ≤ many (is_due_at debt.packet debt.hop due) d
+due_among stint d debt due owes is =
+    one_of owes.note d (is_due_at debt.packet debt.hop due) owes.among
+    (and_from _ _ owes.sending (eq-eqb due (owes.note.event.clock.0 + owes.note.fate.delay)
+    (is ∙ (λ i. sym owes.clock i + (sym owes.fate i).delay))))
+
+up_to_not_after : (k : ℕ) (what : What) → IsUpTo k what → ◌≡◌ {A = ℕ} (cond (arrives_after k what) 1 0) 0
+up_to_not_after k (Arrive j hop server verdict) is = rw (le-ltb k j (omega (arith, is))) refl
+up_to_not_after k (Lose j hop) is = refl
+up_to_not_after k (Publish v) is = refl
+up_to_not_after k (Switch y v) is = refl
+up_to_not_after k (Steer j y) is = refl
+up_to_not_after k (Close server flow closed) is = refl
+up_to_not_after k (Retire server h at result) is = refl
+up_to_not_after k Sync is = refl
+
+none_after : (k : ℕ) (d : List Note) → AllByRecursion (λ y. IsUpTo k y.event.what) d
+    → many (λ y. arrives_after k y.event.what) d ≡ 0
+none_after k d all =
+    total_none (λ y. cond (arrives_after k y.event.what) 1 0) d
+    (each_so (λ y. IsUpTo k y.event.what) (λ y. ◌≡◌ {A = ℕ} (cond (arrives_after k y.event.what) 1 0) 0) d
+    (λ y is. up_to_not_after k y.event.what is) all)
+
+pub kept_arrival : (F : Rules) (stage : Stage) (servers : List Serving) (stint : Stint) (now next : MuxWorker)
+    (d : List Note) (debt : Debt)
+    (place : ℕ) (octets : List ℕ) (due : Moment) (r : Moment × Verdict) (fate : Fate) → Suits stage servers
+    → (copy : IsCopyOf stage servers now.mux place debt.packet debt.hop octets)
+    → due.0 ≡ debt.clock + debt.fate.delay → due.0 < r.0.0
+    → IsDrawn F (arrival r.0 debt.packet debt.hop copy.server.id r.1 fate due.0 ((mux_of stint).0 + 1))
+    → HasCome place copy.server debt.packet (copy.tag, copy.segment) due r now.porter.seats next.porter.seats
+    → next.mux ≡ now.mux → next.porter.latest ≡ max now.porter.latest r.0.0 → IsSamePorter now.porter next.porter
+    → Owes stint d debt → Kept F stage servers stint now d
+    → Kept F stage servers stint next
+    (arrival r.0 debt.packet debt.hop copy.server.id r.1 fate due.0 ((mux_of stint).0 + 1) ∷ d)
+kept_arrival F stage servers stint now next d debt place octets due r fate suits copy is lt drawn come mux latest porter
+    owes kept =
+    let m = (mux_of stint).0 in
+    let n = arrival r.0 debt.packet debt.hop copy.server.id r.1 fate due.0 (m + 1) in
+    let hop_is : copy.tag.hop ≡ debt.hop = tag_hop copy.label debt.hop copy.tag copy.tagged in
+    let not_mine : is_home stage (MuxOf m) n ≡ false =
+    ap (λ (o : Option Segment). is_by (option_map (λ (x : Segment). ShardOf copy.server.id.0 (shard stage x.flow)) o)
+    (MuxOf m)) copy.is_segment in
+    let none : mux_log stage m (n ∷ []) ≡ [] = ap (λ (b : Bool). events_of (cond b (n ∷ []) [])) not_mine in
+    kept_more F stage servers stint now next d (n ∷ []) kept (record {
+      each = (
+        record {
+          kind = refl;
+          seat = refl;
+          later = let a = owes.later in omega (arith, is, lt);
+          within = owes.within;
+          turn = tt;
+          owed = (
+            let a = owes.steered in let le =
+                more_many (λ y. steers_packet y.event.what debt.packet) (n ∷ []) d in omega arith,
+            let a = due_among stint d debt due.0 owes is in let le =
+                more_many (is_due_at debt.packet debt.hop due.0) (n ∷ []) d in omega arith,
+          );
+          lost = tt;
+          drawn = drawn;
+          placed = (place, copy.server, copy.is_server, refl);
+        },
+        tt,
+      );
+      ordered = (none_after debt.packet d owes.first, tt);
+      logged = ap (λ (x : MuxState). reverse x.log) mux ∙ ap (λ (l : List Event). l ++ reverse now.mux.log) (sym none);
+      gives = subst (λ (l : List Event). AtEach (GivenNow stage stint now next) l) (sym none) tt;
+      hears = subst (λ (h : Hop). Hears stage servers now.porter.seats next.porter.seats
+          (arrival r.0 debt.packet h copy.server.id r.1 fate due.0 (m + 1) ∷ [])) hop_is
+          (hears_arrival stage servers place debt.packet (m + 1) copy.server (copy.tag, copy.segment) due r fate
+          now.porter.seats next.porter.seats
+          suits copy.is_server come copy.is_segment);
+      copies = λ are. subst (λ (x : MuxState). AreCopies stage (mux_of stint) servers (reverse x.log) next.porter.seats)
+          (sym mux)
+          (subst (λ (y : MuxId). AreCopies stage y servers (reverse now.mux.log) next.porter.seats) kept.mux.id
+          (copies_come stage servers now.mux place debt.packet debt.hop octets due r now.porter.seats next.porter.seats
+          suits copy come
+          (subst (λ (y : MuxId). AreCopies stage y servers (reverse now.mux.log) now.porter.seats) (sym kept.mux.id)
+          are)));
+      latest = omega (arith, latest);
+      mux = same_posts now next (ap (λ (x : MuxState). x.id) mux) (ap (λ (x : MuxState). x.seen) mux);
+      porter = porter;
+    })
+
+-- A SENDING IS LOST
+
+pub kept_loss : (F : Rules) (stage : Stage) (servers : List Serving) (stint : Stint) (now : MuxWorker) (d : List Note)
+    (debt : Debt)
+    → debt.fate.copies ≡ 0 → Owes stint d debt → Kept F stage servers stint now d
+    → Kept F stage servers stint (with_loss debt.packet debt.hop debt.clock now)
+    (loss (debt.clock + 1) debt.packet debt.hop ((mux_of stint).0 + 1) ∷ d)
+kept_loss F stage servers stint now d debt none owes kept =
+    let m = (mux_of stint).0 in
+    let n = loss (debt.clock + 1) debt.packet debt.hop (m + 1) in
+    let next = with_loss debt.packet debt.hop debt.clock now in
+    let e = at_clock (debt.clock + 1) (Lose debt.packet debt.hop) in
+    let mine : is_home stage (MuxOf m) n ≡ true = eq-eqb ((m + 1) - 1) m (omega arith) in
+    let one : mux_log stage m (n ∷ []) ≡ e ∷ [] = ap (λ (b : Bool). events_of (cond b (n ∷ []) [])) mine in
+    let turned : reverse next.mux.log ≡ e ∷ reverse now.mux.log = reverse-append now.mux.log (e ∷ []) in
+    kept_more F stage servers stint now next d (n ∷ []) kept (record {
+      each = (
+        record {
+          kind = refl;
+          seat = refl;
+          later = let a = owes.later in omega arith;
+          within = owes.within;
+          turn = tt;
+          owed = tt;
+          lost = (
+            debt.clock,
+            omega arith,
+            let a = one_of owes.note d (is_copyless debt.packet debt.hop debt.clock) owes.among
+                (and_from _ _ owes.sending
+                (and_from _ _ (eq-eqb owes.note.fate.copies 0 (ap (λ (x : Fate). x.copies) owes.fate ∙ none))
+                (eq-eqb owes.note.event.clock.0 debt.clock owes.clock))) in
+                let le = more_many (is_copyless debt.packet debt.hop debt.clock) (n ∷ []) d in omega arith,
+          );
+          drawn = tt;
+          placed = tt;
+        },
+        tt,
+      );
+      ordered = (tt, tt);
+      logged = turned ∙ ap (λ (l : List Event). l ++ reverse now.mux.log) (sym one);
+      gives = subst (λ (l : List Event). AtEach (GivenNow stage stint now next) l) (sym one) (tt, tt);
+      hears = hears_none stage servers now.porter.seats;
+      copies = λ are. copies_as stage servers (mux_of stint) (reverse now.mux.log) (reverse next.mux.log)
+          now.porter.seats
+          (λ k l is. subst (λ (past : List Event). label_of stage past k ≡ Some l) (sym turned) is) are;
+      latest = omega arith;
+      mux = same_posts now next refl refl;
+      porter = record { number = refl; who_is = refl };
+    })

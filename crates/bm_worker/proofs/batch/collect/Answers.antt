@@ -1,0 +1,36 @@
+use Rattle.std.proofs.Common.{◌≡◌, ◌+◌, ◌<◌, ◌≤◌, ℕ, length, sym, ap, ◌∙◌, arith}
+use Rattle.bm_fault.specs.Faults.{Gives}
+use Rattle.bm_worker.proofs.Collecting.{collected_new, collected_push}
+use Rattle.bm_worker.proofs.batch.collect.Goals as goal
+
+pub loop-at-init : goal.loop-at-init
+loop-at-init g c = record {
+  at = omega arith;
+  all = collected_new (Gives g.F.Fn c.args.shared.now.faults.now.rule) c.args.shared.now.stage.now
+      c.args.shared.now.routes.now c.args.mux.0 c.args.from
+      c.new-items.result.items c.new-fates.result.items c.new-items.ensures.items c.new-fates.ensures.items;
+}
+
+pub returns-then-len-eq-BATCH-clause-more : goal.returns-then-len-eq-BATCH-clause-more
+returns-then-len-eq-BATCH-clause-more g c =
+    let l = c.len.ensures in let t = c.if-len-eq-BATCH.true in let n = c.loop-at.invariant.all.count in
+    let test = c.loop-at-test.true in let ok = c.loop-at.items.ok.0 in
+    (omega (arith, l, t, n, ok), omega (arith, test))
+
+pub loop-at-preserved : goal.loop-at-preserved
+loop-at-preserved g c =
+    let i = c.loop-at.invariant in
+    let few : length c.loop-at.items.items < 256 =
+    (let l = c.len.ensures in let t = c.if-len-eq-BATCH.false in let n = i.all.few in let ok =
+    c.loop-at.items.ok.0 in omega (arith, l, t, n, ok)) in
+    record {
+      at = let le = i.at in omega (arith, le);
+      all = collected_push (Gives g.F.Fn c.args.shared.now.faults.now.rule) c.args.shared.now.stage.now
+          c.args.shared.now.routes.now c.args.mux.0
+          c.args.from c.loop-at.at c.loop-at.items.items c.push.new.self.items c.loop-at.fates.items
+          c.push-in-loop-at.new.self.items
+          c.item_at-item.result c.fate-fate.result c.in_ok-push.ensures.items c.in_ok-push-2.ensures.items i.at few
+          c.item_at-item.ensures.packet
+          c.item_at-item.ensures.item c.fate-fate.ensures.gives c.fate-fate.ensures.copies c.fate-fate.ensures.delay
+          i.all;
+    }

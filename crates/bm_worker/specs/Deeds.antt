@@ -1,0 +1,123 @@
+-- What a worker does, as notes, and what its seats hear of it. A worker's deeds have the newest
+-- first.
+use Rattle.std.specs.Prelude.{◌≡◌, ℕ, if◌then◌else◌, Bool, true, List, [], ◌∷◌, ◌++◌, length, map}
+use Rattle.std.specs.Prelude.{slice_get, Some}
+use Rattle.bm_base.specs.declared.fate.Fate.{Fate}
+use Rattle.bm_base.specs.declared.flow.Flow.{Flow}
+use Rattle.bm_base.specs.declared.ids.Moment.{Moment}
+use Rattle.bm_base.specs.declared.ids.ServerId.{ServerId}
+use Rattle.bm_base.specs.declared.label.Hop.{Hop}
+use Rattle.bm_table.specs.declared.plan.Retirement.{Retirement}
+use Rattle.bm_table.specs.Tables.{is_known}
+use Rattle.bm_core.specs.declared.events.Event.{Event}
+use Rattle.bm_core.specs.declared.events.Stage.{Stage}
+use Rattle.bm_core.specs.declared.events.Verdict.{Verdict}
+use Rattle.bm_core.specs.declared.events.What.{What}
+use Rattle.bm_core.specs.declared.events.What.TheVariants.{Arrive, Close, Lose, Retire}
+use Rattle.bm_core.specs.Runs.{Actor}
+use Rattle.bm_core.specs.Runs.Actor.{ShardOf}
+use Rattle.bm_merge.specs.Notes.{Note}
+use Rattle.bm_merge.specs.Workers.{is_home}
+use Rattle.bm_shard.specs.declared.book.Shard.{Shard}
+use Rattle.bm_shard.specs.Turns.{call_moment}
+use Rattle.bm_turnstile.specs.Sittings.{who}
+use Rattle.bm_server.specs.Servings.{Serving}
+use Rattle.bm_server.specs.Seats.{Answered, Seated, row}
+use Rattle.bm_server.specs.Servings.{shard_at}
+use Rattle.bm_worker.specs.Portings.{Porting}
+use Rattle.bm_worker.specs.Told.{event_told, told_there}
+
+-- SEATS
+
+-- the worker has the seat of its number at each of these servers
+abbrev pub Sits : List Serving → Porting → Type 0
+Sits servers p = map (map who) p.seats ≡ map (λ server. row server p.number) servers
+
+-- what no call changes
+pub record IsSamePorter (old new : Porting) : Type 0 where
+  pub number : new.number ≡ old.number
+  pub who_is : map (map who) new.seats ≡ map (map who) old.seats
+
+-- one of the servers has this number
+abbrev pub HasServer : List Serving → ServerId → Type 0
+HasServer servers id =
+    (s : ℕ) × (server : Serving) × (slice_get servers s ≡ Some server) × (server.id ≡ id)
+
+-- these are the servers that the script knows at its end, each once, as its setting has them
+pub record Suits (stage : Stage) (servers : List Serving) : Type 0 where
+  pub differ : (s t : ℕ) (a b : Serving) → slice_get servers s ≡ Some a
+      → slice_get servers t ≡ Some b
+      → a.id ≡ b.id → s ≡ t
+  pub shards : (s : ℕ) (server : Serving) → slice_get servers s ≡ Some server
+      → length server.tables ≡ stage.script.setting.shards
+  pub capacity : (s : ℕ) (server : Serving) → slice_get servers s ≡ Some server
+      → server.capacity ≡ stage.script.setting.capacity
+  pub timeout : (s : ℕ) (server : Serving) → slice_get servers s ≡ Some server
+      → server.timeout ≡ stage.script.setting.timeout
+  pub known : (id : ServerId)
+      → is_known stage.script.plan (length stage.script.plan.changes) id ≡ true
+      → HasServer servers id
+
+-- WHAT THE SEATS HEAR
+
+-- an event, and the moment that was handed in
+abbrev pub Said : Type 0
+Said = Event × ℕ
+
+abbrev pub said_of : Shard → Answered → Said
+said_of shard a = (event_told shard a.0 a.1, (call_moment a.0).0)
+
+-- what these calls with their replies say, in order
+abbrev pub saying : Shard → List Answered → List Said
+saying shard told = map (said_of shard) told
+
+-- what the deeds say of one actor's log, in the order in which they were done
+abbrev pub noted : Stage → Actor → List Note → List Said
+noted stage a [] = []
+noted stage a (n ∷ deeds) =
+    noted stage a deeds ++ (if is_home stage a n then (n.event, n.due) ∷ [] else [])
+
+-- what the seats were told grew by just these deeds, at each shard in their order
+abbrev pub Hears : Stage → List Serving → List (List Seated) → List (List Seated) → List Note
+    → Type 0
+Hears stage servers a b deeds = (s h : ℕ) (server : Serving) → slice_get servers s ≡ Some server
+    → saying (shard_at server h) (told_there b s h)
+    ≡ saying (shard_at server h) (told_there a s h) ++ noted stage (ShardOf server.id.0 h) deeds
+
+-- DEEDS
+
+-- what happens at a clock, due at a moment, by the worker of this seat
+abbrev pub deed : Moment → What → Fate → ℕ → ℕ → ℕ → Note
+deed clock what fate command due seat = record {
+  event = record { clock = clock; what = what };
+  fate = fate;
+  command = command;
+  due = due;
+  seat = seat;
+}
+
+-- the fate of what sends nothing
+abbrev pub no_fate : Fate
+no_fate = record { copies = 1; delay = 0 }
+
+-- a copy of the packet arrives, and this fate is drawn for what it sends
+abbrev pub arrival : Moment → ℕ → Hop → ServerId → Verdict → Fate → ℕ → ℕ → Note
+arrival clock k hop server verdict fate due seat =
+    deed clock (Arrive k hop server verdict) fate 0 due seat
+
+-- the copies of a sending are lost
+abbrev pub loss : ℕ → ℕ → Hop → ℕ → Note
+loss clock k hop seat = deed (record { 0 = clock }) (Lose k hop) no_fate 0 0 seat
+
+-- a server ends a connection, by the command of this number
+abbrev pub closing : Moment → ServerId → Flow → Bool → ℕ → ℕ → ℕ → Note
+closing clock server flow closed command at seat =
+    deed clock (Close server flow closed) no_fate command at seat
+
+-- a shard is to be retired, by the command of this number
+abbrev pub retiring : Moment → ServerId → ℕ → Moment → Retirement → ℕ → ℕ → Note
+retiring clock server shard at outcome command seat =
+    deed clock (Retire server shard at outcome) no_fate command at.0 seat
+
+abbrev pub clock_of : Note → ℕ
+clock_of n = n.event.clock.0

@@ -1,0 +1,11 @@
+pub mod Portings
+pub mod Told
+pub mod Arrivals
+pub mod Deeds
+pub mod Turns
+pub mod Phases
+pub mod Debts
+pub mod Lost
+pub mod Batches
+pub mod Answers
+pub mod Views

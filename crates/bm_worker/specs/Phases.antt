@@ -1,0 +1,257 @@
+-- What a mux's worker promises of one phase: the time between two Syncs, in which it carries those
+-- of the mux's packets that lie in it. Its deeds have the newest first.
+use Rattle.std.specs.Prelude.{◌≡◌, ℕ, suc, ◌+◌, ◌-◌, ◌*◌, ◌^◌, ◌<◌, ◌≤◌, ◌==◌, max, Bool, true}
+use Rattle.std.specs.Prelude.{false, MatchBool}
+use Rattle.std.specs.Prelude.{if◌then◌else◌, List, ◌++◌, length, reverse, slice_get, Option, Some}
+use Rattle.std.specs.Prelude.{None, IfSome, is_some}
+use Rattle.std.specs.List.{AllByRecursion}
+use Rattle.bm_base.specs.declared.flow.Segment.{Segment}
+use Rattle.bm_base.specs.declared.ids.MuxId.{MuxId}
+use Rattle.bm_base.specs.declared.label.Label.{Label}
+use Rattle.bm_base.specs.Labels.{tag_of}
+use Rattle.bm_core.specs.declared.events.Event.{Event}
+use Rattle.bm_core.specs.declared.events.Stage.{Stage}
+use Rattle.bm_core.specs.declared.events.What.{What}
+use Rattle.bm_core.specs.declared.events.What.TheVariants.{Arrive, Lose, Steer, Switch}
+use Rattle.bm_core.specs.Accounts.{Rules, counts, steers_packet}
+use Rattle.bm_core.specs.Past.{is_switch_of, label_of, segment_of, shard, version_at}
+use Rattle.bm_core.specs.Stages.{IsSound}
+use Rattle.bm_core.specs.Runs.{AtEach, next_clock}
+use Rattle.bm_core.specs.Runs.Actor.{MuxOf}
+use Rattle.bm_core.specs.Threads.{last_own, packet_of, record_moment, steers_later}
+use Rattle.bm_merge.specs.Notes.{Note, events_of, greatest, many, switched_since}
+use Rattle.bm_merge.specs.Workers.{IsCarrier, IsDrawn, IsOwed, arrives_after, carries, home_part}
+use Rattle.bm_merge.specs.Workers.{is_copyless}
+use Rattle.bm_link.specs.Fits.{ArePackets}
+use Rattle.bm_shard.specs.declared.calls.ShardCall.{ShardCall}
+use Rattle.bm_shard.specs.declared.calls.ShardCall.TheVariants.{Arrive as Arrives}
+use Rattle.bm_server.specs.Servings.{Serving}
+use Rattle.bm_server.specs.Seats.{Answered, Seated}
+use Rattle.bm_publish.specs.Posts.{Continues, Posted, last_version}
+use Rattle.bm_mux.specs.Muxes.{IsOwn, IsSameMux, post_clock}
+use Rattle.bm_worker.specs.declared.span.Span.{Span}
+use Rattle.bm_worker.specs.declared.stop.Stop.{Stop}
+use Rattle.bm_worker.specs.declared.stop.Stop.TheVariants.{Memory, Late}
+use Rattle.bm_worker.specs.declared.worker.MuxWorker.{MuxWorker}
+use Rattle.bm_worker.specs.Deeds.{HasServer, Hears, IsSamePorter, Sits, Suits, clock_of}
+use Rattle.bm_worker.specs.Told.{told_there}
+use Rattle.bm_worker.specs.Turns.{RoutedBy, is_turn, mux_at}
+
+-- one worker's part of a phase
+pub record Stint : Type 0 where
+  -- the mux of each packet
+  pub routes : List (Option MuxId)
+  -- the phase's packets are those of the records at the places from..until
+  pub from : ℕ
+  pub until : ℕ
+  -- the clock of the Sync before it, or 0
+  pub after : ℕ
+  -- what was posted before it
+  pub told : Posted
+  -- the worker before it
+  pub start : MuxWorker
+
+abbrev pub stint_of : List (Option MuxId) → Span → Posted → MuxWorker → Stint
+stint_of routes span told start = record {
+  routes = routes;
+  from = span.from;
+  until = span.until;
+  after = span.after.0;
+  told = told;
+  start = start;
+}
+
+abbrev pub mux_of : Stint → MuxId
+mux_of stint = stint.start.mux.id
+
+-- WHAT THE MUX LOGS
+
+-- what these deeds say of the log of the mux m
+abbrev pub mux_log : Stage → ℕ → List Note → List Event
+mux_log stage m deeds = events_of (home_part stage (MuxOf m) deeds)
+
+-- an event of a mux, after the rest of its log, in a phase that begins at the clock after and with
+-- the version first, where the mux was shown these posts: the first Switch of the phase is to a
+-- version no older than its own and than first, each other one to a newer one; the packets' numbers
+-- rise
+abbrev pub IsMuxGiven : Stage → ℕ → ℕ → List ℕ → List Event → ℕ → What → Type 0
+IsMuxGiven stage after first posts rest clock (Switch m v) =
+    MatchBool (switched_since after m.0 rest) ((version_at rest m).0 < v.0)
+    ((first ≤ v.0) × ((version_at rest m).0 ≤ v.0))
+    × ((post : ℕ) × (post_clock posts v.0 ≡ Some post)
+    × (clock ≡ next_clock (last_own stage rest (Some (MuxOf m.0))) (max post after)))
+IsMuxGiven stage after first posts rest clock (Steer k m) =
+    (switched_since after m.0 rest ≡ true)
+    × (counts rest (λ what. steers_later what m k) ≡ 0)
+    × (clock ≡ next_clock (last_own stage rest (Some (MuxOf m.0))) (record_moment stage k))
+IsMuxGiven stage after first posts rest clock _ = Unit {0}
+
+-- WHAT THE SHARDS ARE TOLD
+
+-- a copy of a packet with the tag of the label that its mux gave it, for this server and its flow's
+-- shard
+abbrev pub IsCopyCall : Stage → List Event → MuxId → Serving → ℕ → ShardCall → Type 0
+IsCopyCall stage past m server h (Arrives packet tag segment due) =
+    (segment_of stage packet ≡ Some segment) × (shard stage segment.flow ≡ h)
+    × ((label : Label) × (label.mux ≡ m) × (label_of stage past packet ≡ Some label)
+    × (tag_of label tag.hop ≡ Some tag) × (tag.dest ≡ server.id))
+IsCopyCall stage past m server h _ = ⊥
+
+-- all calls that these seats made are of such copies, by the mux's log past
+abbrev pub AreCopies : Stage → MuxId → List Serving → List Event → List (List Seated) → Type 0
+AreCopies stage m servers past seats =
+    (s h : ℕ) (server : Serving) → slice_get servers s ≡ Some server
+    → AllByRecursion (λ (a : Answered). IsCopyCall stage past m server h a.0) (told_there seats s h)
+
+-- EACH DEED
+
+-- an arrival of a packet comes after no arrival of a later one
+abbrev pub IsInOrder : List Note → What → Type 0
+IsInOrder rest (Arrive k hop server verdict) = many (λ y. arrives_after k y.event.what) rest ≡ 0
+IsInOrder rest _ = Unit {0}
+
+abbrev pub is_steer : What → Bool
+is_steer (Steer k m) = true
+is_steer _ = false
+
+-- a Steer is of one of the mux's packets
+abbrev pub IsTurn : Stint → What → Type 0
+IsTurn stint (Steer k m) = is_turn stint.routes (mux_of stint).0 stint.from stint.until k ≡ true
+IsTurn stint _ = Unit {0}
+
+-- a Lose has its sending, without copies, at the clock before
+abbrev pub IsLossOf : List Note → ℕ → What → Type 0
+IsLossOf deeds clock (Lose k hop) =
+    (sending : ℕ) × (clock ≡ suc sending) × (1 ≤ many (is_copyless k hop sending) deeds)
+IsLossOf deeds clock _ = Unit {0}
+
+-- an arrival is at one of the servers
+abbrev pub IsPlaced : List Serving → What → Type 0
+IsPlaced servers (Arrive k hop server verdict) = HasServer servers server
+IsPlaced servers _ = Unit {0}
+
+-- a deed of the phase, of which these are all
+pub record IsDeed (F : Rules) (stage : Stage) (servers : List Serving) (stint : Stint)
+    (deeds : List Note) (n : Note) : Type 0 where
+  pub kind : carries (mux_of stint).0 n.event.what ≡ true
+  pub seat : n.seat ≡ (mux_of stint).0 + 1
+  -- its clock is above that of the Sync
+  pub later : stint.after < n.event.clock.0
+  pub within : IfSome (packet_of n.event.what) (λ k. (stint.from < k) × (k ≤ stint.until))
+  pub turn : IsTurn stint n.event.what
+  pub owed : IsOwed deeds n n.event.what
+  pub lost : IsLossOf deeds n.event.clock.0 n.event.what
+  pub drawn : IsDrawn F n
+  pub placed : IsPlaced servers n.event.what
+
+-- THE PHASE
+
+-- what holds at every moment of a phase, and of what was done when a worker gives up
+pub record Kept (F : Rules) (stage : Stage) (servers : List Serving) (stint : Stint)
+    (now : MuxWorker) (deeds : List Note) : Type 0 where
+  pub each : AllByRecursion (IsDeed F stage servers stint deeds) deeds
+  pub ordered : AtEach (λ rest n. IsInOrder rest n.event.what) deeds
+  -- the mux's log grew by just these deeds' events
+  pub logged : reverse now.mux.log
+      ≡ mux_log stage (mux_of stint).0 deeds ++ reverse stint.start.mux.log
+  pub gives : AtEach
+      (λ rest e. IsMuxGiven stage stint.after (last_version stint.told) now.mux.seen.clocks
+      (rest ++ reverse stint.start.mux.log) e.clock.0 e.what) (mux_log stage (mux_of stint).0 deeds)
+  -- so did what the seats were told
+  pub hears : Hears stage servers stint.start.porter.seats now.porter.seats deeds
+  pub copies : AreCopies stage (mux_of stint) servers (reverse stint.start.mux.log)
+      stint.start.porter.seats
+      → AreCopies stage (mux_of stint) servers (reverse now.mux.log) now.porter.seats
+  -- the exact greatest clock
+  pub latest : now.porter.latest ≡ max stint.start.porter.latest (greatest clock_of deeds)
+  pub mux : IsSameMux stint.start.mux now.mux
+  pub porter : IsSamePorter stint.start.porter now.porter
+
+-- besides the first Switch, at most 14 deeds for each packet: a Switch, its Steer, 3 copies and 9
+-- of their forwards
+abbrev pub AreFew : List Note → Type 0
+AreFew deeds = length deeds ≤ 14 * many (λ n. is_steer n.event.what) deeds + 1
+
+-- what a worker did of a phase, to its end
+pub record Phase (F : Rules) (stage : Stage) (servers : List Serving) (stint : Stint)
+    (now : MuxWorker) (deeds : List Note) : Type 0 where
+  pub kept : Kept F stage servers stint now deeds
+  -- every sending has its copies, or its Lose
+  pub carrier : IsCarrier (RoutedBy stint.routes) F stage (mux_of stint).0 deeds
+  -- the mux looked, at what was posted before the phase or later
+  pub looked : 1 ≤ many (λ n. is_switch_of n.event.what (mux_of stint).0) deeds
+  pub heard : Continues stint.told now.mux.seen
+  -- each of the mux's packets is steered once, and no other
+  pub steered : (k : ℕ) → many (λ n. steers_packet n.event.what k) deeds
+      ≡ (if is_turn stint.routes (mux_of stint).0 stint.from stint.until k then 1 else 0)
+  pub few : AreFew deeds
+
+-- why the worker gave up: memory, or a moment that was too large, which it had from the clock of
+-- one of its deeds
+abbrev pub IsStopOf : List Note → Stop → Type 0
+IsStopOf deeds Memory = Unit {0}
+IsStopOf deeds (Late moment clock) =
+    (9 * 10 ^ 18 < moment.0) × (moment.0 ≤ clock.0 + 60 * 10 ^ 9)
+    × (1 ≤ many (λ n. n.event.clock.0 == clock.0) deeds)
+
+-- THE WORKER
+
+-- what the run has, for all phases
+pub record IsRunnable (stage : Stage) (octets : List (List ℕ)) (routes : List (Option MuxId))
+    (servers : List Serving)
+    : Type 0 where
+  pub sound : IsSound stage
+  pub packets : ArePackets stage.capture.records octets
+  pub suits : Suits stage servers
+  pub count : length routes ≡ length stage.capture.records
+  -- a packet that has a mux is steerable
+  pub steerable : (k m : ℕ) → mux_at routes k ≡ Some m → is_some (segment_of stage k) ≡ true
+
+-- an event in the mux's log from before the phase
+pub record IsOlder (m : MuxId) (from after : ℕ) (e : Event) : Type 0 where
+  pub own : IsOwn m e.what
+  pub packet : IfSome (packet_of e.what) (λ k. k ≤ from)
+  pub clock : e.clock.0 < after
+
+-- the worker may begin its part of the phase
+pub record IsReady (stage : Stage) (servers : List Serving) (stint : Stint) : Type 0 where
+  pub until : (stint.from ≤ stint.until) × (stint.until ≤ length stage.capture.records)
+  pub after : stint.after ≤ 9 * 10 ^ 18
+  pub sits : Sits servers stint.start.porter
+  pub mux : (mux_of stint).0 < 64
+  pub number : stint.start.porter.number ≡ (mux_of stint).0 + 1
+  pub told : stint.told.board ≡ stint.start.mux.seen.board
+  pub plan : stint.start.mux.seen.plan ≡ stage.script.plan
+  pub older : AllByRecursion (IsOlder (mux_of stint) stint.from stint.after) stint.start.mux.log
+  pub tries : stint.start.porter.tries + 12 * (stint.until - stint.from) ≤ 4294967295
+  pub steps : stint.start.steps + (stint.until - stint.from) ≤ 4294967295
+  pub room : length stint.start.mux.log + 5 * (stint.until - stint.from) + 1 < 2 ^ 48
+
+-- how far the worker's counts may rise in the phase
+pub record HasGrown (stint : Stint) (now : MuxWorker) : Type 0 where
+  pub tries : now.porter.tries ≤ stint.start.porter.tries + 12 * (stint.until - stint.from)
+  pub steps : now.steps ≤ stint.start.steps + (stint.until - stint.from)
+  pub log : length now.mux.log ≤ length stint.start.mux.log + 5 * (stint.until - stint.from) + 1
+
+-- the phase is done, or the worker gave up in it
+abbrev pub HasEnded : Rules → Stage → List Serving → Stint → MuxWorker → Option Stop → Type 0
+HasEnded F stage servers stint now None =
+    (deeds : List Note) × Phase F stage servers stint now deeds
+HasEnded F stage servers stint now (Some stop) =
+    (deeds : List Note) × Kept F stage servers stint now deeds × IsStopOf deeds stop × AreFew deeds
+
+-- a worker that hasn't given up and was told may begin
+abbrev pub CanWork : Stage → List Serving → List (Option MuxId) → Span → MuxWorker → Type 0
+CanWork stage servers routes span w =
+    w.stop ≡ None → (told : Posted) × (w.told ≡ Some told)
+    × IsReady stage servers (stint_of routes span told w)
+
+-- it did its part of the phase; one that had given up did nothing
+pub record HasWorked (F : Rules) (stage : Stage) (servers : List Serving)
+    (routes : List (Option MuxId)) (span : Span)
+    (old new : MuxWorker) : Type 0 where
+  pub idle : (stop : Stop) → old.stop ≡ Some stop → new ≡ old
+  pub ended : (told : Posted) → old.stop ≡ None → old.told ≡ Some told
+      → HasEnded F stage servers (stint_of routes span told old) new new.stop
+  pub grown : (told : Posted) → old.stop ≡ None → old.told ≡ Some told
+      → HasGrown (stint_of routes span told old) new

@@ -1,0 +1,13 @@
+-- The seats of a worker as contracts see them.
+use Rattle.std.specs.Prelude.{ℕ, List}
+use Rattle.bm_server.specs.Seats.{Seated}
+
+pub record Porting : Type 0 where
+  -- the worker: 0, or the number of its mux and one
+  pub number : ℕ
+  -- a seat of every server, in their order
+  pub seats : List (List Seated)
+  -- no fewer than the calls that it made
+  pub tries : ℕ
+  -- the greatest clock of all that it did, or 0
+  pub latest : ℕ

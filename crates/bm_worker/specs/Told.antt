@@ -1,0 +1,40 @@
+-- What the seats of a worker were told: each call with its reply, by server and shard.
+use Rattle.std.specs.Prelude.{◌≡◌, ℕ, ◌==◌, ◌&&◌, if◌then◌else◌, List, [], ◌∷◌, ◌++◌, slice_get}
+use Rattle.std.specs.Prelude.{Option, Some, None}
+use Rattle.bm_core.specs.declared.events.Event.{Event}
+use Rattle.bm_core.specs.declared.events.What.TheVariants.{Sync}
+use Rattle.bm_core.specs.declared.events.What.TheVariants.{Arrive as Arrives, Close as Closes}
+use Rattle.bm_core.specs.declared.events.What.TheVariants.{Retire as Retires}
+use Rattle.bm_shard.specs.declared.book.Shard.{Shard}
+use Rattle.bm_shard.specs.declared.calls.ShardCall.{ShardCall}
+use Rattle.bm_shard.specs.declared.calls.ShardCall.TheVariants.{Arrive, Close, Retire}
+use Rattle.bm_shard.specs.declared.calls.ShardReply.{ShardReply}
+use Rattle.bm_shard.specs.declared.calls.ShardReply.TheVariants.{Arrived, Closed, Retired}
+use Rattle.bm_server.specs.Seats.{Seated, Answered, told_at}
+
+abbrev pub told_in : Option (List Seated) → ℕ → List Answered
+told_in None h = []
+told_in (Some seat) h = told_at seat h
+
+-- what the seats were told by the shard h of the server at the place s, in order
+abbrev pub told_there : List (List Seated) → ℕ → ℕ → List Answered
+told_there seats s h = told_in (slice_get seats s) h
+
+-- one call more at this place and shard, and no other
+abbrev pub Gains : ℕ → ℕ → ShardCall → ShardReply → List (List Seated) → List (List Seated) → Type 0
+Gains place shard call reply a b = (s h : ℕ) → told_there b s h
+    ≡ told_there a s h ++ (if s == place && h == shard then (call, reply) ∷ [] else [])
+
+-- no call more
+abbrev pub Stays : List (List Seated) → List (List Seated) → Type 0
+Stays a b = (s h : ℕ) → told_there b s h ≡ told_there a s h
+
+-- the event of a call with this reply
+abbrev pub event_told : Shard → ShardCall → ShardReply → Event
+event_told shard (Arrive packet tag segment due) (Arrived clock verdict answer) =
+    record { clock = clock; what = Arrives packet tag.hop shard.server verdict }
+event_told shard (Close flow at) (Closed clock closed) =
+    record { clock = clock; what = Closes shard.server flow closed }
+event_told shard (Retire at result) (Retired clock) =
+    record { clock = clock; what = Retires shard.server shard.number at result }
+event_told shard call reply = record { clock = record { 0 = 0 }; what = Sync }

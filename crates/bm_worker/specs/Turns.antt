@@ -1,0 +1,28 @@
+-- Whose turn a packet is: the mux that the route gave it. Packet k is the record at the place k -
+-- 1.
+use Rattle.std.specs.Prelude.{◌≡◌, ℕ, zero, suc, Bool, false, ◌&&◌, ◌==◌, nat_le, nat_lt, List}
+use Rattle.std.specs.Prelude.{slice_get}
+use Rattle.std.specs.Prelude.{Option, Some, None}
+use Rattle.bm_base.specs.declared.ids.MuxId.{MuxId}
+use Rattle.bm_core.specs.Accounts.{Routes}
+
+abbrev pub mux_in : Option (Option MuxId) → Option ℕ
+mux_in (Some (Some m)) = Some m.0
+mux_in _ = None
+
+-- the mux of the packet, where there is one
+abbrev pub mux_at : List (Option MuxId) → ℕ → Option ℕ
+mux_at routes zero = None
+mux_at routes (suc i) = mux_in (slice_get routes i)
+
+abbrev pub is_mux : Option ℕ → ℕ → Bool
+is_mux None m = false
+is_mux (Some n) m = n == m
+
+-- the packet is one of the mux's, among the records at the places from..until
+abbrev pub is_turn : List (Option MuxId) → ℕ → ℕ → ℕ → ℕ → Bool
+is_turn routes m from until k = nat_lt from k && nat_le k until && is_mux (mux_at routes k) m
+
+-- the route that gives each packet the mux that it has here
+abbrev pub RoutedBy : List (Option MuxId) → Routes
+RoutedBy routes k flow m = mux_at routes k ≡ Some m

@@ -1,0 +1,21 @@
+//! Where a server lies among those of a run.
+ghost use Rattle.std.specs.Prelude.{◌≡◌, ◌≢◌, ℕ, ◌<◌, Some, None, length, slice_get};
+ghost use Rattle.bm_server.specs.Servings.{Serving};
+
+use bm_base::ServerId;
+use bm_server::Server;
+
+/// The place of the server of this number. Takes no memory.
+pub fn place_of(servers: &[Server], id: ServerId) -> Option<usize>
+    ensures some { (place : ℕ) → result ≡ Some place → (server : Serving)
+        × (slice_get servers.now place ≡ Some server) × (server.id ≡ id) }
+    ensures none { result ≡ None → (s : ℕ) (server : Serving)
+        → slice_get servers.now s ≡ Some server → server.id ≢ id }
+{
+    for (place, server) in servers.iter().enumerate() {
+        if server.id() == id {
+            return Some(place);
+        }
+    }
+    None
+}

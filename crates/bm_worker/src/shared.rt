@@ -1,0 +1,18 @@
+//! What all workers of a run share.
+use bm_base::{MuxId, Octets};
+use bm_core::Stage;
+use bm_fault::Faults;
+use bm_server::Server;
+use std::alloc::Global;
+
+/// What all workers of a run share. The place i of `octets` and of `routes` is that of the record
+/// of packet i + 1: its packet, and its mux if it is steerable.
+pub struct Shared<'a, F, G> {
+    pub alloc: Global,
+    pub stage: &'a Stage,
+    pub octets: &'a Octets,
+    pub routes: &'a [Option<MuxId>],
+    pub servers: &'a [Server],
+    pub faults: &'a Faults<F>,
+    pub gate: &'a G,
+}

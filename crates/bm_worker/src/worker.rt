@@ -1,0 +1,17 @@
+//! The worker of a mux.
+use crate::{Porter, Stop};
+use bm_mux::Mux;
+use bm_publish::Told;
+
+/// The worker of a mux: it steers the mux's packets, and delivers their copies.
+#[derive(Drop)]
+pub struct MuxWorker {
+    pub mux: Mux,
+    pub porter: Porter,
+    /// How many packets it delivered, of all phases.
+    pub steps: u32,
+    /// What was posted before the phase that comes next.
+    pub told: Option<Told>,
+    /// Why it gave up, if it did. Then it does nothing more.
+    pub stop: Option<Stop>,
+}

@@ -1,0 +1,365 @@
+-- At the end of a run its workers and its servers have handed back what a threaded run asks for.
+use Rattle.std.proofs.Common.{◌≡◌, ℕ, zero, suc, ◌+◌, ◌<◌, ◌≤◌, Bool, true, false, cond, ◌&&◌, List, [], ◌∷◌, ◌++◌}
+use Rattle.std.proofs.Common.{length, map}
+use Rattle.std.proofs.Common.{Option, Some, None, refl, sym, ap, ◌∙◌, subst, arith, eqb, leb, ltb, inl, inr, append-nil}
+use Rattle.std.specs.Prelude.{slice_get, IfSome, is_some}
+use Rattle.std.specs.List.{AllByRecursion}
+use Rattle.std.proofs.lemmas.Bool.{cases_Bool, cases_lt, cases_eq, eq-eqb, ne_eqb, eqb-true, lt-ltb, le-ltb, le-leb}
+use Rattle.std.proofs.lemmas.Bool.{lt-leb}
+use Rattle.std.proofs.lemmas.Nat.{mod_below}
+use Rattle.std.proofs.lemmas.Option.{same_Some, slice_get_within}
+use Rattle.std.proofs.lemmas.List.{length-map}
+use mathlib.Core.List.{IsPrefix}
+use Rattle.logbook.specs.Pages.{Book as Board}
+use Rattle.bm_rows.proofs.Places.{there}
+use Rattle.bm_base.specs.declared.flow.Segment.{Segment}
+use Rattle.bm_base.specs.declared.flow.Flow.{Flow}
+use Rattle.bm_base.specs.declared.ids.MuxId.{MuxId}
+use Rattle.bm_base.specs.declared.ids.ServerId.{ServerId}
+use Rattle.bm_core.specs.declared.events.Event.{Event}
+use Rattle.bm_core.specs.declared.events.Stage.{Stage}
+use Rattle.bm_core.specs.declared.events.What.{What}
+use Rattle.bm_core.specs.declared.events.What.TheVariants.{Publish, Switch, Steer, Lose, Arrive, Close, Retire, Sync}
+use Rattle.bm_core.specs.Accounts.{Routes, Rules, steers_packet}
+use Rattle.bm_core.specs.Past.{segment_of, shard, newest, steerable}
+use Rattle.std.proofs.lemmas.Option.{slice_get_past}
+use Rattle.bm_core.specs.Runs.{AtEach}
+use Rattle.bm_core.specs.Runs.Actor.{Controller}
+use Rattle.bm_core.specs.Stages.{IsSound}
+use Rattle.bm_core.specs.Threads.{is_command}
+use Rattle.bm_shard.specs.Books.{Book}
+use Rattle.bm_merge.specs.Notes.{Note, events_of, many, total}
+use Rattle.bm_merge.specs.Workers.{home_part, deeds_of, all_deeds, IsController, IsMet, carries}
+use Rattle.bm_merge.proofs.Commanding.{all_kinds}
+use Rattle.bm_merge.proofs.Keeping.{no_deeds}
+use Rattle.bm_merge.proofs.Noting.{each_append, each_so}
+use Rattle.bm_merge.proofs.Phasing.{met_shared}
+use Rattle.bm_merge.proofs.Reaching.{one_if}
+use Rattle.bm_merge.proofs.Sharing.{deeds_upto, sum_seats}
+use Rattle.bm_server.specs.Seats.{Seated}
+use Rattle.bm_server.specs.Servings.{Serving}
+use Rattle.bm_worker.specs.Deeds.{HasServer, Suits}
+use Rattle.bm_worker.specs.Phases.{mux_log, IsPlaced, AreCopies}
+use Rattle.bm_worker.specs.Turns.{is_mux, is_turn, mux_at}
+use Rattle.bm_worker.specs.declared.worker.MuxWorker.{MuxWorker}
+use Rattle.bm_world.specs.Handed.{control_log, posted_clocks, IsCarriage, IsControl, IsBooked, has_book, AreHandedBack}
+use Rattle.bm_world.specs.Running.{HaveHeard, IsAtWork, AreAtWork, HaveLooked}
+use Rattle.bm_world.specs.Served.{AreBooksThere}
+use Rattle.bm_world.proofs.Assembled.{at_change}
+use Rattle.bm_world.proofs.Deeds.{all_carried}
+use Rattle.bm_world.proofs.Finishing.{AreDone, all_books, has_shard, own_books, books_of_all}
+use Rattle.bm_world.proofs.Growing.{carriage_later}
+
+-- EACH PACKET ONCE
+
+seats_same : (g h : ℕ → ℕ) (n : ℕ) → ((w : ℕ) → w < n → g w ≡ h w) → sum_seats g n ≡ sum_seats h n
+seats_same g h zero same = refl
+seats_same g h (suc n) same =
+    let old = seats_same g h n (λ w low. same w (omega arith)) in let here = same n (omega arith) in omega arith
+
+-- the mux is one of so many
+abbrev is_under : Option ℕ → ℕ → Bool
+is_under None n = false
+is_under (Some m) n = ltb m n
+
+none_if : (t : Bool) → one_if (t && false) ≡ 0
+none_if true = refl
+none_if false = refl
+
+one_mux : (t : Bool) (o : Option ℕ) (n : ℕ) → sum_seats (λ w. one_if (t && is_mux o w)) n ≡ one_if (t && is_under o n)
+one_mux t None zero = sym (none_if t)
+one_mux t None (suc n) = let old = one_mux t None n in let none = none_if t in omega arith
+one_mux t (Some m) zero =
+    let no : ltb m 0 ≡ false = le-ltb _ _ (omega arith) in rw no (sym (none_if t))
+one_mux t (Some m) (suc n) = elim (cases_eq m n) [
+  | inl same ↦
+      let old = one_mux t (Some m) n
+      in let yes : eqb m n ≡ true = eq-eqb _ _ same
+      in let before : ltb m n ≡ false = le-ltb _ _ (omega arith)
+      in let after : ltb m (suc n) ≡ true = lt-ltb _ _ (omega arith)
+      in let none = none_if t
+      in let was : sum_seats (λ w. one_if (t && eqb m w)) n ≡ one_if (t && false) = rw before at old
+      in rw (yes, after) (omega arith)
+  | inr apart ↦
+      let old = one_mux t (Some m) n
+      in let not : eqb m n ≡ false = ne_eqb _ _ apart
+      in let none = none_if t
+      in let same : ltb m (suc n) ≡ ltb m n = next_same m n apart
+      in rw (not, same) (omega arith)
+] where
+  next_same : (m n : ℕ) → (m ≡ n → ⊥) → ltb m (suc n) ≡ ltb m n
+  next_same m n apart = elim (cases_lt m n) [
+    | inl low ↦
+        let a : ltb m (suc n) ≡ true = lt-ltb _ _ (omega arith)
+        in let b : ltb m n ≡ true = lt-ltb _ _ low
+        in a ∙ sym b
+    | inr high ↦ elim (cases_lt n m) [
+      | inl over ↦
+          let a : ltb m (suc n) ≡ false = le-ltb _ _ (omega arith)
+          in let b : ltb m n ≡ false = le-ltb _ _ high
+          in a ∙ sym b
+      | inr under ↦ absurd (apart (omega arith))
+    ]
+  ]
+
+-- what the routes of the packets are
+pub record AreRouted (stage : Stage) (routes : List (Option MuxId)) : Type 0 where
+  pub below : (k m : ℕ) → mux_at routes k ≡ Some m → m < stage.script.setting.muxes
+  pub steerable : (k m : ℕ) → mux_at routes k ≡ Some m → is_some (segment_of stage k) ≡ true
+  pub given : (k : ℕ) → is_some (segment_of stage k) ≡ true → is_some (mux_at routes k) ≡ true
+  pub count : length routes ≡ length stage.capture.records
+
+beyond : (stage : Stage) (k : ℕ) → length stage.capture.records < k → segment_of stage k ≡ None
+beyond stage zero high = refl
+beyond stage (suc i) high = ap steerable (slice_get_past stage.capture.records i (omega arith))
+
+packet_once : (stage : Stage) (routes : List (Option MuxId)) (k : ℕ) → AreRouted stage routes
+    → one_if ((ltb 0 k && leb k (length stage.capture.records))
+    && is_under (mux_at routes k) stage.script.setting.muxes)
+    ≡ one_if (is_some (segment_of stage k))
+packet_once stage routes zero routed = refl
+packet_once stage routes (suc i) routed = elim (cases_lt (length stage.capture.records) (suc i)) [
+  | inl high ↦
+      let none = beyond stage (suc i) high
+      in let no : leb (suc i) (length stage.capture.records) ≡ false = lt-leb _ _ high
+      in let yes : ltb 0 (suc i) ≡ true = lt-ltb _ _ (omega arith)
+      in rw (none, no, yes) refl
+  | inr low ↦
+      let a : ltb 0 (suc i) ≡ true = lt-ltb _ _ (omega arith)
+      in let b : leb (suc i) (length stage.capture.records) ≡ true = le-leb _ _ low
+      in rw (a, b) (go (mux_at routes (suc i)) refl (is_some (segment_of stage (suc i))) refl)
+] where
+  go : (o : Option ℕ) → mux_at routes (suc i) ≡ o → (s : Bool) → is_some (segment_of stage (suc i)) ≡ s
+      → one_if ((true && true) && is_under o stage.script.setting.muxes) ≡ one_if s
+  go None at true is = absurd (let has = routed.given (suc i) is in let no = rw at at has in cc)
+  go None at false is = refl
+  go (Some m) at true is =
+      let low : ltb m stage.script.setting.muxes ≡ true = lt-ltb _ _ (routed.below (suc i) m at) in rw low refl
+  go (Some m) at false is =
+      absurd (let has = routed.steerable (suc i) m at in let bad : true ≡ false = sym has ∙ is in cc)
+
+-- WORKER 0'S PLACES
+
+-- a Close is at one of the servers, a Retire at a shard of one
+abbrev pub IsLedAt : Stage → List Serving → What → Type 0
+IsLedAt stage servers (Close server flow closed) = HasServer servers server
+IsLedAt stage servers (Retire server h at result) = HasServer servers server × (h < stage.script.setting.shards)
+IsLedAt stage servers _ = Unit {0}
+
+server_booked : (stage : Stage) (servers : List Serving) (rows : List (List (List Seated))) (all : List (List Book))
+    (id : ServerId)
+    (h : ℕ) → Suits stage servers → length all ≡ length servers
+    → ((s : ℕ) (books : List Book) → slice_get all s ≡ Some books → AreBooksThere servers rows s books)
+    → HasServer servers id → h < stage.script.setting.shards → has_book (all_books all) id.0 h ≡ true
+server_booked stage servers rows all id h suits count books has low =
+    let server = has.1
+    in let shards = suits.shards has.0 server has.2
+    in subst (λ (i : ServerId). has_book (all_books all) i.0 h ≡ true) has.3
+    (has_shard servers rows all has.0 h server count books has.2 (omega arith))
+
+led_booked : (stage : Stage) (servers : List Serving) (rows : List (List (List Seated))) (all : List (List Book))
+    (what : What)
+    → Suits stage servers → length all ≡ length servers → 0 < stage.script.setting.shards
+    → ((s : ℕ) (books : List Book) → slice_get all s ≡ Some books → AreBooksThere servers rows s books)
+    → is_command what ≡ true → IsLedAt stage servers what → IsBooked stage (all_books all) what
+led_booked stage servers rows all (Close server flow closed) suits count some books is at =
+    server_booked stage servers rows all server (shard stage flow) suits count books at
+    (mod_below _ stage.script.setting.shards some)
+led_booked stage servers rows all (Retire server h moment result) suits count some books is at =
+    server_booked stage servers rows all server h suits count books at.0 at.1
+led_booked stage servers rows all (Publish v) suits count some books is at = tt
+led_booked stage servers rows all Sync suits count some books is at = tt
+led_booked stage servers rows all (Switch m v) suits count some books is at = absurd (cc)
+led_booked stage servers rows all (Steer k m) suits count some books is at = absurd (cc)
+led_booked stage servers rows all (Lose k hop) suits count some books is at = absurd (cc)
+led_booked stage servers rows all (Arrive k hop server verdict) suits count some books is at = absurd (cc)
+
+carried_booked : (stage : Stage) (servers : List Serving) (rows : List (List (List Seated))) (all : List (List Book))
+    (what : What)
+    → Suits stage servers → length all ≡ length servers → 0 < stage.script.setting.shards
+    → ((s : ℕ) (books : List Book) → slice_get all s ≡ Some books → AreBooksThere servers rows s books)
+    → is_command what ≡ false → IsPlaced servers what → IsBooked stage (all_books all) what
+carried_booked stage servers rows all (Arrive k hop server verdict) suits count some books is at =
+    go (segment_of stage k) where
+      go : (o : Option Segment) → IfSome o (λ s. has_book (all_books all) server.0 (shard stage s.flow) ≡ true)
+      go None = tt
+      go (Some s) = server_booked stage servers rows all server (shard stage s.flow) suits count books at
+          (mod_below _ stage.script.setting.shards some)
+carried_booked stage servers rows all (Switch m v) suits count some books is at = tt
+carried_booked stage servers rows all (Steer k m) suits count some books is at = tt
+carried_booked stage servers rows all (Lose k hop) suits count some books is at = tt
+carried_booked stage servers rows all (Publish v) suits count some books is at = tt
+carried_booked stage servers rows all Sync suits count some books is at = tt
+carried_booked stage servers rows all (Close server flow closed) suits count some books is at = absurd (cc)
+carried_booked stage servers rows all (Retire server h moment result) suits count some books is at = absurd (cc)
+
+-- TOGETHER
+
+pub record IsEnded (R : Routes) (F : Rules) (stage : Stage) (servers : List Serving) (routes : List (Option MuxId))
+    (board : Board) (p phases : ℕ) (workers : List MuxWorker) (head : List (List Seated)) (controller : List Note)
+    (carriers : List (List Note)) : Type 0 where
+  pub sound : IsSound stage
+  pub suits : Suits stage servers
+  pub seats : (s : ℕ) (server : Serving) → slice_get servers s ≡ Some server → server.seats ≡ suc (length workers)
+  pub routed : AreRouted stage routes
+  pub muxes : length workers ≡ stage.script.setting.muxes
+  pub controls : IsController stage controller
+  pub control : IsControl stage controller
+  pub changes : newest (control_log stage controller) ≡ length stage.script.plan.changes
+  pub heard : HaveHeard stage servers head controller
+  pub led_at : AllByRecursion (λ n. IsLedAt stage servers n.event.what) controller
+  pub at_work : AreAtWork R F stage servers routes board p phases (length stage.capture.records) workers controller
+      carriers
+  pub looked : HaveLooked stage controller carriers
+  -- the muxes were shown what was posted, and nothing else
+  pub shown : (m : ℕ) (w : MuxWorker) → slice_get workers m ≡ Some w
+      → IsPrefix w.mux.seen.clocks (posted_clocks (control_log stage controller))
+
+-- each worker's seats
+abbrev pub rows_of : List (List Seated) → List MuxWorker → List (List (List Seated))
+rows_of head workers = head ∷ map (λ (w : MuxWorker). w.porter.seats) workers
+
+row_of : (workers : List MuxWorker) (m : ℕ) (seats : List (List Seated))
+    → slice_get (map (λ (w : MuxWorker). w.porter.seats) workers) m ≡ Some seats
+    → (w : MuxWorker) × (slice_get workers m ≡ Some w) × (w.porter.seats ≡ seats)
+row_of [] m seats here = absurd (cc)
+row_of (w ∷ workers) zero seats here = (w, refl, same_Some _ _ here)
+row_of (w ∷ workers) (suc m) seats here = row_of workers m seats here
+
+deeds_each : (P : ℕ → Note → Type 0) (carriers : List (List Note))
+    → ((m : ℕ) → m < length carriers → AllByRecursion (P m) (deeds_of carriers m))
+    → (m : ℕ) → AllByRecursion (P m) (deeds_of carriers m)
+deeds_each P carriers each m = elim (cases_lt m (length carriers)) [
+  | inl low ↦ each m low
+  | inr high ↦ subst (λ (x : List Note). AllByRecursion (P m) x) (sym (no_deeds carriers m high)) tt
+]
+
+heard_of : (R : Routes) (F : Rules) (stage : Stage) (servers : List Serving) (routes : List (Option MuxId))
+    (board : Board) (p phases : ℕ) (workers : List MuxWorker) (head : List (List Seated)) (controller : List Note)
+    (carriers : List (List Note)) → IsEnded R F stage servers routes board p phases workers head controller carriers
+    → (w : ℕ) (seats : List (List Seated)) → slice_get (rows_of head workers) w ≡ Some seats
+    → HaveHeard stage servers seats (deeds_of (controller ∷ carriers) w)
+heard_of R F stage servers routes board p phases workers head controller carriers end zero seats here =
+    subst (λ (x : List (List Seated)). HaveHeard stage servers x controller) (same_Some head seats here) end.heard
+heard_of R F stage servers routes board p phases workers head controller carriers end (suc m) seats here =
+    let w = row_of workers m seats here
+    in subst (λ (x : List (List Seated)). HaveHeard stage servers x (deeds_of carriers m)) w.2
+    (end.at_work.each m w.0 w.1).heard
+
+are_done : (R : Routes) (F : Rules) (stage : Stage) (servers : List Serving) (routes : List (Option MuxId))
+    (board : Board) (p phases : ℕ) (workers : List MuxWorker) (head : List (List Seated)) (controller : List Note)
+    (carriers : List (List Note)) → IsEnded R F stage servers routes board p phases workers head controller carriers
+    → AreDone stage servers (rows_of head workers) controller carriers
+are_done R F stage servers routes board p phases workers head controller carriers end =
+    let count = end.at_work.count
+    in let lines : length (map (λ (w : MuxWorker). w.porter.seats) workers) ≡ length workers =
+    length-map workers (λ (w : MuxWorker). w.porter.seats)
+    in record {
+      suits = end.suits;
+      lines = omega arith;
+      seats = λ s server here. let n = end.seats s server here in omega arith;
+      commands = all_kinds stage controller end.controls.each;
+      first = end.control.seats;
+      others = deeds_each (λ m n. n.seat ≡ suc m) carriers (λ m low.
+          let w = there workers m (omega arith) in (end.at_work.each m w.0 w.1).carriage.seats);
+      heard = heard_of R F stage servers routes board p phases workers head controller carriers end;
+      copies = λ m seats here.
+          let w = row_of workers m seats here
+          in let at = end.at_work.each m w.0 w.1
+          in (
+            w.0.mux.id,
+            at.id,
+            subst (λ (x : List (List Seated)). AreCopies stage w.0.mux.id servers (mux_log stage m (deeds_of carriers m))
+                x) w.2
+                (subst (λ (l : List Event). AreCopies stage w.0.mux.id servers l w.0.porter.seats) at.logged at.copies),
+          );
+    }
+
+all_steered : (R : Routes) (F : Rules) (stage : Stage) (servers : List Serving) (routes : List (Option MuxId))
+    (board : Board) (p phases : ℕ) (workers : List MuxWorker) (head : List (List Seated)) (controller : List Note)
+    (carriers : List (List Note)) → IsEnded R F stage servers routes board p phases workers head controller carriers
+    → (k : ℕ) → many (λ n. steers_packet n.event.what k) (all_deeds carriers) ≡ one_if (is_some (segment_of stage k))
+all_steered R F stage servers routes board p phases workers head controller carriers end k =
+    let count = end.at_work.count
+    in let muxes = end.muxes
+    in let records = length stage.capture.records
+    in let sum = deeds_upto (λ n. one_if (steers_packet n.event.what k)) carriers
+    in let each = seats_same (λ w. total (λ n. one_if (steers_packet n.event.what k)) (deeds_of carriers w))
+    (λ w. one_if ((ltb 0 k && leb k records) && is_mux (mux_at routes k) w)) (length carriers) (λ m low.
+    let w = there workers m (omega arith) in (end.at_work.each m w.0 w.1).steered k)
+    in let one = one_mux (ltb 0 k && leb k records) (mux_at routes k) (length carriers)
+    in let whole : length carriers ≡ stage.script.setting.muxes = count ∙ muxes
+    in sum ∙ each ∙ one ∙ ap (λ (n : ℕ). one_if ((ltb 0 k && leb k records) && is_under (mux_at routes k) n)) whole
+    ∙ packet_once stage routes k end.routed
+
+all_tt : (x : List Note) → AllByRecursion (λ (n : Note). Unit {0}) x
+all_tt [] = tt
+all_tt (n ∷ x) = (tt, all_tt x)
+
+each_two : (P Q S : Note → Type 0) (x : List Note) → ((n : Note) → P n → Q n → S n) → AllByRecursion P x
+    → AllByRecursion Q x → AllByRecursion S x
+each_two P Q S [] f ps qs = tt
+each_two P Q S (n ∷ x) f ps qs = (f n ps.0 qs.0, each_two P Q S x f ps.1 qs.1)
+
+carried_no_command : (m : ℕ) (what : What) → carries m what ≡ true → is_command what ≡ false
+carried_no_command m (Switch x v) h = refl
+carried_no_command m (Steer k x) h = refl
+carried_no_command m (Arrive k hop server verdict) h = refl
+carried_no_command m (Lose k hop) h = refl
+carried_no_command m (Publish v) h = absurd (cc)
+carried_no_command m (Close server flow closed) h = absurd (cc)
+carried_no_command m (Retire server x at result) h = absurd (cc)
+carried_no_command m Sync h = absurd (cc)
+
+-- what the workers and the books have handed back
+pub ended : (R : Routes) (F : Rules) (stage : Stage) (servers : List Serving) (routes : List (Option MuxId))
+    (board : Board) (p phases : ℕ) (workers : List MuxWorker) (head : List (List Seated)) (controller : List Note)
+    (carriers : List (List Note)) (all : List (List Book))
+    → IsEnded R F stage servers routes board p phases workers head controller carriers → length all ≡ length servers
+    → ((s : ℕ) (books : List Book) → slice_get all s ≡ Some books
+    → AreBooksThere servers (rows_of head workers) s books)
+    → AreHandedBack R F stage controller carriers (all_books all)
+ended R F stage servers routes board p phases workers head controller carriers all end count books =
+    let at = end.at_work
+    in let long = at.count
+    in let muxes = end.muxes
+    in let done = are_done R F stage servers routes board p phases workers head controller carriers end
+    in let shards = end.sound.script.setting.shards.0
+    in let control = control_log stage controller
+    in let booked : Note → Type 0 = λ n. IsBooked stage (all_books all) n.event.what
+    in record {
+      sound = end.sound;
+      muxes = long ∙ muxes;
+      controls = end.controls;
+      control = end.control;
+      carried = λ m low.
+          let w = there workers m (omega arith)
+          in carriage_later R F stage control [] w.0.mux.seen.clocks (posted_clocks control) m (deeds_of carriers m)
+          (each_so (λ n. Unit {0}) (λ n. AllByRecursion (λ (z : Event). n.event.clock.0 < z.clock.0) [])
+          (deeds_of carriers m)
+          (λ n t. tt) (all_tt (deeds_of carriers m))) (end.shown m w.0 w.1) (at.each m w.0 w.1).carriage;
+      steered = all_steered R F stage servers routes board p phases workers head controller carriers end;
+      met = at_change (λ rest n. IsMet stage at.all (events_of rest) n n.event.what)
+          (λ rest n. IsMet stage (controller ++ all_deeds carriers) (events_of rest) n n.event.what)
+          (home_part stage Controller controller)
+          (λ rest n h. met_shared stage at.all (controller ++ all_deeds carriers) (events_of rest) n n.event.what
+          at.same h)
+          at.phased.met;
+      changes = end.changes;
+      looked = end.looked;
+      kept = books_of_all stage servers (rows_of head workers) controller carriers all done books;
+      own = own_books servers (rows_of head workers) all end.suits.differ books;
+      booked = each_append booked controller (all_deeds carriers)
+          (each_two (λ n. is_command n.event.what ≡ true) (λ n. IsLedAt stage servers n.event.what) booked controller
+          (λ n k l. led_booked stage servers (rows_of head workers) all n.event.what end.suits count (omega arith) books
+          k l)
+          done.commands end.led_at)
+          (all_carried booked carriers (λ m low.
+          let w = there workers m (omega arith)
+          in let one = at.each m w.0 w.1
+          in each_two (λ n. carries m n.event.what ≡ true) (λ n. IsPlaced servers n.event.what) booked
+          (deeds_of carriers m)
+          (λ n k l. carried_booked stage servers (rows_of head workers) all n.event.what end.suits count (omega arith)
+          books
+          (carried_no_command m n.event.what k) l) one.carriage.carrier.kinds one.placed));
+    }

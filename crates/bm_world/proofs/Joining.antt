@@ -1,0 +1,316 @@
+-- A phase more: what all workers did in it, beside what they did before.
+use Rattle.std.proofs.Common.{◌≡◌, ℕ, zero, suc, ◌+◌, ◌*◌, ◌<◌, ◌≤◌, max, Bool, true, false, cond, ◌&&◌, List, [], ◌∷◌}
+use Rattle.std.proofs.Common.{◌++◌, length}
+use Rattle.std.proofs.Common.{Option, Some, None, refl, sym, ap, ◌∙◌, subst, arith, eqb, leb, ltb, inl, inr}
+use Rattle.std.proofs.Common.{append_assoc}
+use Rattle.std.specs.Prelude.{reverse, IfSome, is_some, slice_get}
+use Rattle.std.specs.List.{AllByRecursion}
+use Rattle.std.proofs.lemmas.Bool.{cases_Bool, cases_lt, cases_eq, eq-eqb, ne_eqb, eqb-true}
+use mathlib.Core.List.{IsPrefix}
+use Rattle.logbook.specs.Pages.{Book}
+use Rattle.bm_base.specs.declared.flow.Segment.{Segment}
+use Rattle.bm_base.specs.declared.ids.MuxId.{MuxId}
+use Rattle.bm_core.specs.declared.events.What.{What}
+use Rattle.bm_core.specs.declared.events.What.TheVariants.{Publish, Switch, Steer, Lose, Arrive, Close, Retire, Sync}
+use Rattle.bm_core.specs.declared.events.Event.{Event}
+use Rattle.bm_core.specs.declared.events.Stage.{Stage}
+use Rattle.bm_core.specs.Accounts.{Routes, Rules, counts, is_sync, steers_packet}
+use Rattle.bm_core.specs.Past.{segment_of, newest}
+use Rattle.bm_core.specs.Runs.{Actor, AtEach}
+use Rattle.std.proofs.Common.{append-nil as append_nil}
+use Rattle.bm_core.specs.Runs.Actor.{Controller, MuxOf, ShardOf}
+use Rattle.bm_core.specs.Threads.{sync_clock, newest_before, packet_of, phase_of, is_command}
+use Rattle.bm_merge.specs.Notes.{Note, events_of, many, total, greatest}
+use Rattle.bm_merge.specs.Workers.{home_part, is_home, deeds_of, all_deeds, IsCarrier}
+use Rattle.bm_merge.proofs.Keeping.{no_deeds}
+use Rattle.bm_merge.proofs.Noting.{total_append, each_append, each_so, events_append, greatest_append}
+use Rattle.bm_merge.proofs.Phasing.{IsPhased, phased_more, phased_publish}
+use Rattle.bm_merge.proofs.Reaching.{one_if}
+use Rattle.bm_server.specs.Seats.{Seated}
+use Rattle.bm_server.specs.Servings.{Serving, shard_at}
+use Rattle.bm_worker.specs.Deeds.{clock_of, noted, saying, Sits, Hears, IsSamePorter}
+use Rattle.bm_worker.specs.Phases.{mux_log, AreCopies, IsPlaced, IsDeed, IsMuxGiven, Kept, Phase, Stint, stint_of}
+use Rattle.bm_worker.specs.Phases.{HasGrown}
+use Rattle.bm_worker.specs.Portings.{Porting}
+use Rattle.bm_worker.specs.declared.span.Span.{Span}
+use Rattle.bm_publish.specs.Posts.{Posted, last_version}
+use Rattle.bm_server.specs.Seats.{row}
+use Rattle.bm_turnstile.specs.Sittings.{who}
+use Rattle.std.proofs.Common.{map}
+use Rattle.std.proofs.lemmas.Bool.{le-leb, lt-leb, lt-ltb, le-ltb}
+use Rattle.bm_worker.specs.Told.{told_there}
+use Rattle.bm_worker.specs.Turns.{is_mux, is_turn, mux_at, RoutedBy}
+use Rattle.bm_worker.specs.declared.stop.Stop.{Stop}
+use Rattle.bm_worker.specs.declared.worker.MuxWorker.{MuxWorker}
+use Rattle.bm_world.specs.Handed.{control_log, IsCarriage}
+use Rattle.bm_world.specs.Running.{HaveHeard, IsAtWork, AreAtWork, AreApart, add_deeds}
+use Rattle.bm_world.proofs.Homes.{home_append, home_each}
+use Rattle.bm_world.proofs.Growing.{carriage_later, carriage_more, carrier_routed, log_append}
+
+-- LISTS OF DEEDS
+
+pub added_of : (more carriers : List (List Note)) (m : ℕ) → length more ≡ length carriers
+    → deeds_of (add_deeds more carriers) m ≡ deeds_of more m ++ deeds_of carriers m
+added_of [] [] m count = refl
+added_of [] (d ∷ carriers) m count = absurd (omega arith)
+added_of (x ∷ more) [] m count = absurd (omega arith)
+added_of (x ∷ more) (d ∷ carriers) zero count = refl
+added_of (x ∷ more) (d ∷ carriers) (suc m) count = added_of more carriers m (omega arith)
+
+pub added_count : (more carriers : List (List Note)) → length more ≡ length carriers
+    → length (add_deeds more carriers) ≡ length carriers
+added_count [] [] count = refl
+added_count [] (d ∷ carriers) count = absurd (omega arith)
+added_count (x ∷ more) [] count = absurd (omega arith)
+added_count (x ∷ more) (d ∷ carriers) count = let old = added_count more carriers (omega arith) in omega arith
+
+pub added_total : (f : Note → ℕ) (more carriers : List (List Note)) → length more ≡ length carriers
+    → total f (all_deeds (add_deeds more carriers)) ≡ total f (all_deeds more) + total f (all_deeds carriers)
+added_total f [] [] count = refl
+added_total f [] (d ∷ carriers) count = absurd (omega arith)
+added_total f (x ∷ more) [] count = absurd (omega arith)
+added_total f (x ∷ more) (d ∷ carriers) count =
+    let old = added_total f more carriers (omega arith)
+    in let a = total_append f (x ++ d) (all_deeds (add_deeds more carriers))
+    in let b = total_append f x d
+    in let c = total_append f x (all_deeds more)
+    in let e = total_append f d (all_deeds carriers)
+    in omega arith
+
+-- WORKER 0'S PART
+
+-- what worker 0 does in a phase
+pub record AreOfPhase (after : ℕ) (x : List Note) : Type 0 where
+  pub kinds : AllByRecursion (λ n. is_command n.event.what ≡ true) x
+  pub no_sync : AllByRecursion (λ n. is_sync n.event.what ≡ false) x
+  pub later : AllByRecursion (λ n. after < clock_of n) x
+
+command_no_packet : (what : What) → is_command what ≡ true → packet_of what ≡ None
+command_no_packet (Publish v) is = refl
+command_no_packet (Close server flow closed) is = refl
+command_no_packet (Retire server h moment result) is = refl
+command_no_packet Sync is = refl
+command_no_packet (Switch m v) is = absurd (cc)
+command_no_packet (Steer k m) is = absurd (cc)
+command_no_packet (Lose k hop) is = absurd (cc)
+command_no_packet (Arrive k hop server verdict) is = absurd (cc)
+
+control_step : (stage : Stage) (n : Note) (x : List Note) (b : Bool) → is_sync n.event.what ≡ false
+    → (sync_clock (events_of (cond b (n ∷ x) x)) ≡ sync_clock (events_of x))
+    × (newest_before (events_of (cond b (n ∷ x) x)) ≡ newest_before (events_of x))
+    × (counts (events_of (cond b (n ∷ x) x)) is_sync ≡ counts (events_of x) is_sync)
+control_step stage n x true not = (rw not refl, rw not refl, rw not (omega arith))
+control_step stage n x false not = (refl, refl, refl)
+
+-- the last Sync is the same
+pub control_same : (stage : Stage) (x controller : List Note) → AllByRecursion (λ n. is_sync n.event.what ≡ false) x
+    → (sync_clock (control_log stage (x ++ controller)) ≡ sync_clock (control_log stage controller))
+    × (newest_before (control_log stage (x ++ controller)) ≡ newest_before (control_log stage controller))
+    × (counts (control_log stage (x ++ controller)) is_sync ≡ counts (control_log stage controller) is_sync)
+control_same stage [] controller not = (refl, refl, refl)
+control_same stage (n ∷ x) controller not =
+    let old = control_same stage x controller not.1
+    in let here = control_step stage n (home_part stage Controller (x ++ controller)) (is_home stage Controller n) not.0
+    in (here.0 ∙ old.0, here.1 ∙ old.1, here.2 ∙ old.2)
+
+phased_led_one : (stage : Stage) (p : ℕ) (n : Note) (control all : List Note) (b : Bool)
+    → is_sync n.event.what ≡ false → packet_of n.event.what ≡ None → sync_clock (events_of control) < clock_of n
+    → IsPhased stage p control all → IsPhased stage p (cond b (n ∷ control) control) (n ∷ all)
+phased_led_one stage p n control all true not none later old = phased_publish stage p control all n old not none later
+phased_led_one stage p n control all false not none later old =
+    phased_more stage p control all (n ∷ []) old (omega arith, tt) (rw none tt, tt)
+
+pub phased_led : (stage : Stage) (p after : ℕ) (x controller all : List Note) → AreOfPhase after x
+    → sync_clock (control_log stage controller) ≡ after → IsPhased stage p (home_part stage Controller controller) all
+    → IsPhased stage p (home_part stage Controller (x ++ controller)) (x ++ all)
+phased_led stage p after [] controller all are is old = old
+phased_led stage p after (n ∷ x) controller all are is old =
+    let same = control_same stage x controller are.no_sync.1
+    in let at : sync_clock (control_log stage (x ++ controller)) ≡ after = same.0 ∙ is
+    in phased_led_one stage p n (home_part stage Controller (x ++ controller)) (x ++ all) (is_home stage Controller n)
+    are.no_sync.0 (command_no_packet n.event.what are.kinds.0) (omega (arith, at, are.later.0))
+    (phased_led stage p after x controller all
+    (record { kinds = are.kinds.1; no_sync = are.no_sync.1; later = are.later.1 }) is old)
+
+-- HEARING
+
+pub noted_append : (stage : Stage) (a : Actor) (x y : List Note) → noted stage a (x ++ y) ≡ noted stage a y
+    ++ noted stage a x
+noted_append stage a [] y = sym (append_nil (noted stage a y))
+noted_append stage a (n ∷ x) y =
+    ap (λ (l : List (Event × ℕ)). l ++ cond (is_home stage a n) ((n.event, n.due) ∷ []) []) (noted_append stage a x y)
+    ∙ append_assoc (noted stage a y) (noted stage a x) (cond (is_home stage a n) ((n.event, n.due) ∷ []) [])
+
+pub heard_more : (stage : Stage) (servers : List Serving) (a b : List (List Seated)) (x deeds : List Note)
+    → Hears stage servers a b x → HaveHeard stage servers a deeds → HaveHeard stage servers b (x ++ deeds)
+heard_more stage servers a b x deeds more old s h server at =
+    more s h server at
+    ∙ ap (λ (l : List (Event × ℕ)). l ++ noted stage (ShardOf server.id.0 h) x) (old s h server at)
+    ∙ sym (noted_append stage (ShardOf server.id.0 h) x deeds)
+
+-- A MUX'S WORKER
+
+pub control_append : (stage : Stage) (x controller : List Note)
+    → control_log stage (x ++ controller) ≡ control_log stage x ++ control_log stage controller
+control_append stage x controller =
+    ap (λ (h : List Note). events_of h) (home_append stage Controller x controller)
+    ∙ events_append (home_part stage Controller x) (home_part stage Controller controller)
+
+pub control_each : (P : Event → Type 0) (stage : Stage) (x : List Note) → AllByRecursion (λ n. P n.event) x
+    → AllByRecursion P (control_log stage x)
+control_each P stage x all = go (home_part stage Controller x) (home_each (λ n. P n.event) stage Controller x all) where
+  go : (h : List Note) → AllByRecursion (λ n. P n.event) h → AllByRecursion P (events_of h)
+  go [] a = tt
+  go (n ∷ h) a = (a.0, go h a.1)
+
+all_above : (after : ℕ) (y : List Event) (x : List Note) → AllByRecursion (λ e. after < e.clock.0) y
+    → AllByRecursion (λ n. clock_of n < after) x
+    → AllByRecursion (λ n. AllByRecursion (λ e. n.event.clock.0 < e.clock.0) y) x
+all_above after y x later below =
+    each_so (λ n. clock_of n < after) (λ n. AllByRecursion (λ e. n.event.clock.0 < e.clock.0) y) x
+    (λ n h. above y n later h) below where
+      above : (z : List Event) (n : Note) → AllByRecursion (λ e. after < e.clock.0) z → clock_of n < after
+          → AllByRecursion (λ e. n.event.clock.0 < e.clock.0) z
+      above [] n later low = tt
+      above (e ∷ z) n later low = (omega (arith, later.0), above z n later.1 low)
+
+if_some : (P Q : ℕ → Type 0) (o : Option ℕ) → ((k : ℕ) → P k → Q k) → IfSome o P → IfSome o Q
+if_some P Q None f h = tt
+if_some P Q (Some k) f h = f k h
+
+turn_sum : (routes : List (Option MuxId)) (m before until k : ℕ) → before ≤ until
+    → one_if (is_turn routes m before until k) + one_if (is_turn routes m 0 before k)
+    ≡ one_if (is_turn routes m 0 until k)
+turn_sum routes m before until k low =
+    elim (cases_lt before k) [
+      | inl over ↦
+          let a : ltb before k ≡ true = lt-ltb _ _ over
+          in let b : ltb 0 k ≡ true = lt-ltb _ _ (omega arith)
+          in let c : leb k before ≡ false = lt-leb _ _ over
+          in rw (a, b, c) (go (leb k until) (is_mux (mux_at routes k) m))
+      | inr under ↦
+          let a : ltb before k ≡ false = le-ltb _ _ under
+          in let b : leb k before ≡ true = le-leb _ _ under
+          in let c : leb k until ≡ true = le-leb _ _ (omega arith)
+          in rw (a, b, c) (omega arith)
+    ] where
+      go : (x y : Bool) → one_if ((true && x) && y) + one_if ((true && false) && y) ≡ one_if ((true && x) && y)
+      go x y = omega arith
+
+pub sits_still : (servers : List Serving) (a b : Porting) → IsSamePorter a b → Sits servers a → Sits servers b
+sits_still servers a b same sits =
+    same.who_is ∙ sits ∙ ap (λ (n : ℕ). map (λ server. row server n) servers) (sym same.number)
+
+given_same : (stage : Stage) (x : List Note) (posts : List ℕ) (a a' f f' m m' : ℕ) (old old' : List Event) → a ≡ a'
+    → f ≡ f'
+    → m ≡ m' → old ≡ old'
+    → AtEach (λ rest e. IsMuxGiven stage a f posts (rest ++ old) e.clock.0 e.what) (mux_log stage m x)
+    → AtEach (λ rest e. IsMuxGiven stage a' f' posts (rest ++ old') e.clock.0 e.what) (mux_log stage m' x)
+given_same stage x posts a a' f f' m m' old old' ea ef em eo given =
+    subst (λ (l : List Event). AtEach (λ rest e. IsMuxGiven stage a' f' posts (rest ++ l) e.clock.0 e.what)
+    (mux_log stage m' x))
+    eo (subst
+    (λ (k : ℕ). AtEach (λ rest e. IsMuxGiven stage a' f' posts (rest ++ old) e.clock.0 e.what) (mux_log stage k x))
+    em
+    (subst (λ (v : ℕ). AtEach (λ rest e. IsMuxGiven stage a' v posts (rest ++ old) e.clock.0 e.what)
+    (mux_log stage m x)) ef
+    (subst (λ (c : ℕ). AtEach (λ rest e. IsMuxGiven stage c f posts (rest ++ old) e.clock.0 e.what) (mux_log stage m x))
+    ea
+    given)))
+
+-- what a mux's worker did in a phase
+pub record HasDone (F : Rules) (stage : Stage) (servers : List Serving) (routes : List (Option MuxId)) (span : Span)
+    (told : Posted) (old now : MuxWorker) (x : List Note) : Type 0 where
+  pub phase : Phase F stage servers (stint_of routes span told old) now x
+  pub grown : HasGrown (stint_of routes span told old) now
+  pub stop : now.stop ≡ None
+
+pub at_work_more : (R : Routes) (F : Rules) (stage : Stage) (servers : List Serving) (routes : List (Option MuxId))
+    (control y : List Event) (board : Book) (p phases m : ℕ) (span : Span) (told : Posted) (old now : MuxWorker)
+    (deeds x : List Note)
+    → ((k m : ℕ) (s : Segment) → mux_at routes k ≡ Some m → segment_of stage k ≡ Some s → R k s.flow m)
+    → ((k : ℕ) → span.from < k → k ≤ span.until → phase_of stage k ≡ p)
+    → span.from ≤ span.until → sync_clock (y ++ control) ≡ span.after.0
+    → newest_before (y ++ control) ≡ last_version told → counts (y ++ control) is_sync ≡ p
+    → AllByRecursion (λ e. span.after.0 < e.clock.0) y → AllByRecursion (λ n. clock_of n < span.after.0) deeds
+    → HasDone F stage servers routes span told old now x
+    → IsAtWork R F stage servers routes control board phases span.from m old deeds
+    → IsAtWork R F stage servers routes (y ++ control) board (phases + 1) span.until m now (x ++ deeds)
+at_work_more R F stage servers routes control y board p phases m span told old now deeds x route numbers order sync
+    first
+    syncs later below done at =
+    let phase = done.phase
+    in let kept = phase.kept
+    in let stint = stint_of routes span told old
+    in let id : old.mux.id.0 ≡ m = at.id
+    in let posts = kept.mux.later.posts
+    in let log : mux_log stage m x ++ mux_log stage m deeds ≡ mux_log stage m (x ++ deeds) =
+    sym (log_append stage m x deeds)
+    in let D : Note → Type 0 = IsDeed F stage servers stint x
+    in let within : AllByRecursion (λ n. IfSome (packet_of n.event.what) (λ k. (span.from < k) × (k ≤ span.until))) x =
+    each_so D (λ n. IfSome (packet_of n.event.what) (λ k. (span.from < k) × (k ≤ span.until))) x (λ n d. d.within)
+    kept.each
+    in let given : AtEach (λ rest e. IsMuxGiven stage (sync_clock (y ++ control)) (newest_before (y ++ control))
+    now.mux.seen.clocks (rest ++ mux_log stage m deeds) e.clock.0 e.what) (mux_log stage m x) =
+    given_same stage x now.mux.seen.clocks span.after.0 (sync_clock (y ++ control)) (last_version told)
+    (newest_before (y ++ control)) old.mux.id.0 m (reverse old.mux.log) (mux_log stage m deeds) (sym sync) (sym first)
+    id
+    at.logged kept.gives
+    in record {
+      carriage = carriage_more R F stage (y ++ control) now.mux.seen.clocks m p span.from x deeds syncs
+          (carrier_routed R F routes stage m x route
+          (subst (λ (k : ℕ). IsCarrier (RoutedBy routes) F stage k x) id phase.carrier))
+          (each_so D (λ n. n.seat ≡ suc m) x (λ n d. let s = d.seat in omega arith) kept.each)
+          (each_so D (λ n. sync_clock (y ++ control) < n.event.clock.0) x (λ n d. let l = d.later in omega arith)
+          kept.each)
+          (each_so (λ n. IfSome (packet_of n.event.what) (λ k. (span.from < k) × (k ≤ span.until)))
+          (λ n. IfSome (packet_of n.event.what) (λ k. span.from < k)) x
+          (λ n w. if_some (λ k. (span.from < k) × (k ≤ span.until)) (λ k. span.from < k) (packet_of n.event.what)
+          (λ k h. h.0) w) within)
+          (each_so (λ n. IfSome (packet_of n.event.what) (λ k. (span.from < k) × (k ≤ span.until)))
+          (λ n. IfSome (packet_of n.event.what) (λ k. phase_of stage k ≡ p)) x
+          (λ n w. if_some (λ k. (span.from < k) × (k ≤ span.until)) (λ k. phase_of stage k ≡ p) (packet_of n.event.what)
+          (λ k h. numbers k h.0 h.1) w) within)
+          kept.ordered given at.within
+          (carriage_later R F stage control y old.mux.seen.clocks now.mux.seen.clocks m deeds
+          (all_above span.after.0 y deeds later below) posts at.carriage);
+      id = ap (λ (i : MuxId). i.0) kept.mux.id ∙ id;
+      logged = kept.logged ∙ ap (λ (k : ℕ). mux_log stage k x ++ reverse old.mux.log) id
+          ∙ ap (λ (l : List Event). mux_log stage m x ++ l) at.logged ∙ log;
+      heard = heard_more stage servers old.porter.seats now.porter.seats x deeds kept.hears at.heard;
+      copies = subst (λ (i : MuxId). AreCopies stage i servers (reverse now.mux.log) now.porter.seats) (sym kept.mux.id)
+          (kept.copies at.copies);
+      placed = each_append (λ n. IsPlaced servers n.event.what) x deeds
+          (each_so D (λ n. IsPlaced servers n.event.what) x (λ n d. d.placed) kept.each) at.placed;
+      latest =
+          let sum = greatest_append clock_of x deeds
+          in let a = kept.latest
+          in let b = at.latest
+          in omega arith;
+      steered = λ k.
+          let sum = total_append (λ n. one_if (steers_packet n.event.what k)) x deeds
+          in let a = phase.steered k
+          in let b = at.steered k
+          in let c = turn_sum routes m span.from span.until k order
+          in let d : is_turn routes old.mux.id.0 span.from span.until k ≡ is_turn routes m span.from span.until k =
+          ap (λ (i : ℕ). is_turn routes i span.from span.until k) id
+          in let e = ap (λ (t : Bool). one_if t) d
+          in omega arith;
+      within = each_append (λ n. IfSome (packet_of n.event.what) (λ k. k ≤ span.until)) x deeds
+          (each_so (λ n. IfSome (packet_of n.event.what) (λ k. (span.from < k) × (k ≤ span.until)))
+          (λ n. IfSome (packet_of n.event.what) (λ k. k ≤ span.until)) x
+          (λ n w. if_some (λ k. (span.from < k) × (k ≤ span.until)) (λ k. k ≤ span.until) (packet_of n.event.what)
+          (λ k h. h.1) w) within)
+          (each_so (λ n. IfSome (packet_of n.event.what) (λ k. k ≤ span.from))
+          (λ n. IfSome (packet_of n.event.what) (λ k. k ≤ span.until)) deeds
+          (λ n w. if_some (λ k. k ≤ span.from) (λ k. k ≤ span.until) (packet_of n.event.what) (λ k h. omega arith) w)
+          at.within);
+      number = kept.porter.number ∙ at.number;
+      sits = sits_still servers old.porter now.porter kept.porter at.sits;
+      board_is = kept.mux.later.board ∙ at.board_is;
+      plan = kept.mux.later.plan ∙ at.plan;
+      tries = let a = done.grown.tries in let b = at.tries in omega arith;
+      steps = let a = done.grown.steps in let b = at.steps in omega arith;
+      room = let a = done.grown.log in let b = at.room in omega arith;
+      stop = done.stop;
+    }

@@ -1,0 +1,183 @@
+-- What a seat was told is what its worker noted of the shard's book.
+use Rattle.std.proofs.Common.{◌≡◌, ℕ, zero, suc, ◌+◌, ◌<◌, ◌≤◌, Bool, true, false, cond, List, [], ◌∷◌, ◌++◌, length}
+use Rattle.std.proofs.Common.{map}
+use Rattle.std.proofs.Common.{Option, Some, None, refl, sym, ap, ◌∙◌, subst, arith, eqb, inl, inr, append_assoc}
+use Rattle.std.proofs.Common.{append-nil}
+use Rattle.std.specs.Prelude.{reverse, slice_get}
+use Rattle.std.specs.List.{AllByRecursion}
+use Rattle.std.proofs.lemmas.Bool.{cases_Bool, eq-eqb, ne_eqb, eqb-true}
+use Rattle.std.proofs.lemmas.List.{reverse-append}
+use Rattle.bm_rows.proofs.Lasts.{lasts, heads, tails}
+use Rattle.std.proofs.Common.{length-append}
+use Rattle.bm_core.specs.declared.events.Event.{Event}
+use Rattle.bm_core.specs.declared.events.Stage.{Stage}
+use Rattle.bm_core.specs.Runs.{Actor}
+use Rattle.bm_shard.specs.Books.{Book, Replays, event_after, reply_after}
+use Rattle.bm_shard.specs.Turns.{call_moment}
+use Rattle.bm_shard.specs.declared.book.Shard.{Shard}
+use Rattle.bm_shard.specs.declared.calls.ShardCall.{ShardCall}
+use Rattle.bm_shard.specs.declared.calls.ShardCall.TheVariants.{Arrive, Close, Retire}
+use Rattle.bm_shard.specs.declared.calls.ShardEntry.{ShardEntry}
+use Rattle.bm_merge.specs.Notes.{Note}
+use Rattle.bm_merge.specs.Workers.{home_part, is_home}
+use Rattle.bm_server.specs.Seats.{Answered, seat_of, call_of, reply_of, telling}
+use Rattle.bm_turnstile.specs.Told.{told_after}
+use Rattle.bm_worker.specs.Deeds.{Said, said_of, saying, noted}
+use Rattle.bm_worker.specs.Told.{event_told}
+use Rattle.bm_world.specs.Shards.{entries_by, AreNoted}
+
+-- ONE MORE ENTRY
+
+-- what an entry tells under the number n, after these
+abbrev pub told_one : Shard → ℕ → List ShardEntry → ShardEntry → Bool → List Answered
+told_one about n before e b = cond b ((e.call, reply_of about before n e.call) ∷ []) []
+
+pub told_last : (about : Shard) (n : ℕ) (before es : List ShardEntry) (e : ShardEntry)
+    → told_after seat_of call_of reply_of about n before (es ++ e ∷ [])
+    ≡ told_after seat_of call_of reply_of about n before es
+    ++ told_one about n (before ++ es) e (eqb e.seat n)
+told_last about n before [] e =
+    let same : before ++ [] ≡ before = append-nil before
+    in go (eqb e.seat n) same where
+      go : (b : Bool) → before ++ [] ≡ before
+          → told_one about n before e b ≡ told_one about n (before ++ []) e b
+      go true same = ap (λ (l : List ShardEntry). (e.call, reply_of about l n e.call) ∷ []) (sym same)
+      go false same = refl
+told_last about n before (x ∷ es) e =
+    let old = told_last about n (before ++ x ∷ []) es e
+    in let same : (before ++ x ∷ []) ++ es ≡ before ++ x ∷ es = append_assoc before (x ∷ []) es
+    in go (eqb x.seat n)
+    (old ∙ ap (λ (l : List ShardEntry). told_after seat_of call_of reply_of about n (before ++ x ∷ []) es
+    ++ told_one about n l e (eqb e.seat n)) same) where
+      go : (b : Bool) → told_after seat_of call_of reply_of about n (before ++ x ∷ []) (es ++ e ∷ [])
+          ≡ told_after seat_of call_of reply_of about n (before ++ x ∷ []) es
+          ++ told_one about n (before ++ x ∷ es) e (eqb e.seat n)
+          → cond b ((x.call, reply_of about before n x.call) ∷ told_after seat_of call_of reply_of about n
+          (before ++ x ∷ []) (es ++ e ∷ []))
+          (told_after seat_of call_of reply_of about n (before ++ x ∷ []) (es ++ e ∷ []))
+          ≡ cond b ((x.call, reply_of about before n x.call) ∷ told_after seat_of call_of reply_of about n
+          (before ++ x ∷ []) es)
+          (told_after seat_of call_of reply_of about n (before ++ x ∷ []) es)
+          ++ told_one about n (before ++ x ∷ es) e (eqb e.seat n)
+      go true was = ap (λ (l : List Answered). (x.call, reply_of about before n x.call) ∷ l) was
+      go false was = was
+
+saying_append : (about : Shard) (x y : List Answered) → saying about (x ++ y) ≡ saying about x ++ saying about y
+saying_append about [] y = refl
+saying_append about (a ∷ x) y = ap (λ (l : List Said). said_of about a ∷ l) (saying_append about x y)
+
+-- WHAT AN ENTRY SAYS
+
+abbrev say_entry : ShardEntry → Said
+say_entry e = (e.event, (call_moment e.call).0)
+
+abbrev say_note : Note → Said
+say_note n = (n.event, n.due)
+
+-- turned round
+abbrev back : {X : Type 0} → List X → List X
+back [] = []
+back (x ∷ xs) = back xs ++ x ∷ []
+
+one_event : (shard : Shard) (past : List ShardEntry) (call : ShardCall)
+    → event_told shard call (reply_after shard past call) ≡ event_after shard past call
+one_event shard past (Arrive packet tag segment due) = refl
+one_event shard past (Close flow at) = refl
+one_event shard past (Retire at result) = refl
+
+pub reverse_more : (e : ShardEntry) (past : List ShardEntry) → reverse (e ∷ past) ≡ reverse past ++ e ∷ []
+reverse_more e past = reverse-append (e ∷ []) past
+
+pub reverse_twice : (past : List ShardEntry) → reverse (reverse past) ≡ past
+reverse_twice [] = refl
+reverse_twice (e ∷ past) =
+    ap (λ (l : List ShardEntry). reverse l) (reverse_more e past) ∙ reverse-append (reverse past) (e ∷ [])
+    ∙ ap (λ (l : List ShardEntry). e ∷ l) (reverse_twice past)
+
+-- the entries of a seat say what it was told
+pub entries_say : (about : Shard) (w : ℕ) (past : List ShardEntry) → Replays about past
+    → saying about (telling (Some about) w (reverse past)) ≡ back (map say_entry (entries_by w past))
+entries_say about w [] replays = refl
+entries_say about w (e ∷ past) replays =
+    let old = entries_say about w past replays.1
+    in let event : event_told about e.call (reply_of about (reverse past) w e.call) ≡ e.event =
+    ap (λ (l : List ShardEntry). event_told about e.call (reply_after about l e.call)) (reverse_twice past)
+    ∙ one_event about past e.call ∙ sym replays.0
+    in ap (λ (l : List ShardEntry). saying about (telling (Some about) w l)) (reverse_more e past)
+    ∙ ap (λ (l : List Answered). saying about l) (told_last about w [] (reverse past) e)
+    ∙ saying_append about (telling (Some about) w (reverse past))
+    (told_one about w (reverse past) e (eqb e.seat w))
+    ∙ ap (λ (l : List Said). l ++ saying about (told_one about w (reverse past) e (eqb e.seat w)))
+    old ∙ go (eqb e.seat w) event where
+      go : (b : Bool) → event_told about e.call (reply_of about (reverse past) w e.call) ≡ e.event
+          → back (map say_entry (entries_by w past))
+          ++ saying about (told_one about w (reverse past) e b)
+          ≡ back (map say_entry (cond b (e ∷ entries_by w past) (entries_by w past)))
+      go true event =
+          ap (λ (x : Event). back (map say_entry (entries_by w past)) ++ (x, (call_moment e.call).0) ∷ []) event
+      go false event = append-nil (back (map say_entry (entries_by w past)))
+
+-- and so do the notes
+pub notes_say : (stage : Stage) (a : Actor) (d : List Note)
+    → noted stage a d ≡ back (map say_note (home_part stage a d))
+notes_say stage a [] = refl
+notes_say stage a (n ∷ d) =
+    ap (λ (l : List Said). l ++ cond (is_home stage a n) ((n.event, n.due) ∷ []) []) (notes_say stage a d)
+    ∙ go (is_home stage a n) where
+      go : (b : Bool) → back (map say_note (home_part stage a d)) ++ cond b ((n.event, n.due) ∷ []) []
+          ≡ back (map say_note (cond b (n ∷ home_part stage a d) (home_part stage a d)))
+      go true = refl
+      go false = append-nil (back (map say_note (home_part stage a d)))
+
+back_long : (x : List Said) → length (back x) ≡ length x
+back_long [] = refl
+back_long (a ∷ x) =
+    let old = back_long x in let more : length (back x ++ a ∷ []) ≡ length (back x) + 1 =
+    length-append (back x) (a ∷ [])
+    in omega arith
+
+back_same : (x y : List Said) → back x ≡ back y → x ≡ y
+back_same [] [] same = refl
+back_same [] (b ∷ y) same =
+    let l = ap (λ (z : List Said). length z) same in let m = back_long (b ∷ y) in absurd (omega arith)
+back_same (a ∷ x) [] same =
+    let l = ap (λ (z : List Said). length z) same in let m = back_long (a ∷ x) in absurd (omega arith)
+back_same (a ∷ x) (b ∷ y) same =
+    let parts = lasts (back x) (back y) a b same
+    in let rest = back_same x y parts.0
+    in λ i. parts.1 i ∷ rest i
+
+noted_same : (w : ℕ) (es : List ShardEntry) (ns : List Note) → map say_entry es ≡ map say_note ns
+    → AllByRecursion (λ (e : ShardEntry). e.seat ≡ w) es → AllByRecursion (λ n. n.seat ≡ w) ns → AreNoted es ns
+noted_same w [] [] same a b = tt
+noted_same w [] (n ∷ ns) same a b = let l = ap (λ (z : List Said). length z) same in absurd (omega arith)
+noted_same w (e ∷ es) [] same a b = let l = ap (λ (z : List Said). length z) same in absurd (omega arith)
+noted_same w (e ∷ es) (n ∷ ns) same a b =
+    let first = heads (say_entry e) (say_note n) (map say_entry es) (map say_note ns) same
+    in let rest = tails (say_entry e) (say_note n) (map say_entry es) (map say_note ns) same
+    in (
+      (sym (ap (λ (s : Said). s.0) first), sym (ap (λ (s : Said). s.1) first), b.0 ∙ sym a.0),
+      noted_same w es ns rest a.1 b.1,
+    )
+
+by_seat : (w : ℕ) (es : List ShardEntry) → AllByRecursion (λ (e : ShardEntry). e.seat ≡ w) (entries_by w es)
+by_seat w [] = tt
+by_seat w (e ∷ es) = go (eqb e.seat w) refl (by_seat w es) where
+  go : (b : Bool) → eqb e.seat w ≡ b → AllByRecursion (λ (x : ShardEntry). x.seat ≡ w) (entries_by w es)
+      → AllByRecursion (λ (x : ShardEntry). x.seat ≡ w) (cond b (e ∷ entries_by w es) (entries_by w es))
+  go true is old = (eqb-true _ _ is, old)
+  go false is old = old
+
+-- what was told under a number is what the worker of that number noted
+pub told_noted : (stage : Stage) (a : Actor) (about : Shard) (w : ℕ) (entries : List ShardEntry) (d : List Note)
+    → Replays about (reverse entries) → AllByRecursion (λ n. n.seat ≡ w) (home_part stage a d)
+    → saying about (telling (Some about) w entries) ≡ noted stage a d
+    → AreNoted (entries_by w (reverse entries)) (home_part stage a d)
+told_noted stage a about w entries d replays seats same =
+    let back_is = entries_say about w (reverse entries) replays
+    in let whole : saying about (telling (Some about) w (reverse (reverse entries)))
+    ≡ saying about (telling (Some about) w entries) =
+    ap (λ (l : List ShardEntry). saying about (telling (Some about) w l)) (reverse_twice entries)
+    in noted_same w (entries_by w (reverse entries)) (home_part stage a d)
+    (back_same (map say_entry (entries_by w (reverse entries))) (map say_note (home_part stage a d))
+    (sym back_is ∙ whole ∙ same ∙ notes_say stage a d)) (by_seat w (reverse entries)) seats

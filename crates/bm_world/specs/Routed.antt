@@ -1,0 +1,20 @@
+-- What the route gives each packet. Only the proofs of bodies use this.
+use Rattle.std.specs.Prelude.{◌≡◌, ℕ, suc, ◌<◌, List, length, slice_get, Option, Some, None}
+use Rattle.bm_base.specs.declared.flow.Segment.{Segment}
+use Rattle.bm_base.specs.declared.ids.MuxId.{MuxId}
+use Rattle.bm_core.specs.declared.events.Stage.{Stage}
+use Rattle.bm_core.specs.Accounts.{Routes}
+use Rattle.bm_core.specs.Past.{segment_of}
+
+-- a steerable packet is given a mux that the route may answer, and no other is given one
+abbrev pub IsGivenTo : Routes → Stage → ℕ → ℕ → Option MuxId → Type 0
+IsGivenTo R stage muxes k None = segment_of stage k ≡ None
+IsGivenTo R stage muxes k (Some m) =
+    (m.0 < muxes) × ((s : Segment) × (segment_of stage k ≡ Some s) × R k s.flow m.0)
+
+-- so is each packet of these places
+pub record AreGiven (R : Routes) (stage : Stage) (muxes : ℕ) (routes : List (Option MuxId)) : Type
+    0 where
+  pub count : length routes ≡ length stage.capture.records
+  pub each : (i : ℕ) (o : Option MuxId) → slice_get routes i ≡ Some o
+      → IsGivenTo R stage muxes (suc i) o
