@@ -63,6 +63,11 @@ abbrev pub UnlessMemory : {T : Type 0} → Result T Stop → Type 0 → Type 0
 UnlessMemory (Err Memory) P = Unit {0}
 UnlessMemory _ P = P
 
+-- what holds where a moment is too large
+abbrev pub OnLate : {T : Type 0} → Result T Stop → Type 0 → Type 0
+OnLate (Err (Late moment clock)) P = P
+OnLate _ P = Unit {0}
+
 -- why worker 0 gave up: memory, or a moment above the most, at most one above this clock
 abbrev pub IsStopFrom : ℕ → ℕ → Stop → Type 0
 IsStopFrom most clock Memory = Unit {0}

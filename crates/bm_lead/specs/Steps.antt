@@ -1,7 +1,6 @@
 -- How worker 0 carries out one command. Only the proofs of bodies use this.
 use Rattle.std.specs.Prelude.{◌≡◌, ℕ, suc, ◌+◌, ◌-◌, ◌*◌, ◌^◌, ◌<◌, ◌≤◌, max, Bool, true}
 use Rattle.std.specs.Prelude.{List, [], ◌∷◌, ◌++◌, length}
-use Rattle.std.specs.Prelude.{Result, Err}
 use Rattle.bm_base.specs.declared.ids.Moment.{Moment}
 use Rattle.bm_base.specs.declared.ids.ServerId.{ServerId}
 use Rattle.bm_table.specs.declared.plan.Retirement.{Retirement}
@@ -17,8 +16,6 @@ use Rattle.bm_server.specs.Servings.{Serving}
 use Rattle.bm_publish.specs.Posts.{Posted, last_or}
 use Rattle.bm_worker.specs.Deeds.{Hears, IsSamePorter, closing, retiring}
 use Rattle.bm_worker.specs.Portings.{Porting}
-use Rattle.bm_worker.specs.declared.stop.Stop.{Stop}
-use Rattle.bm_worker.specs.declared.stop.Stop.TheVariants.{Late}
 use Rattle.bm_lead.specs.declared.head.Head.{Head}
 use Rattle.bm_lead.specs.Commands.{control_log, posted_clocks, publishing, syncing}
 
@@ -80,8 +77,3 @@ CarriesOut stage servers p q a b c =
 abbrev pub IsKnown : Stage → ServerId → Type 0
 IsKnown stage id =
     is_known stage.script.plan (length stage.script.plan.changes) id ≡ true
-
--- what holds where a moment is too large
-abbrev pub OnLate : {T : Type 0} → Result T Stop → Type 0 → Type 0
-OnLate (Err (Late moment clock)) P = P
-OnLate _ P = Unit {0}

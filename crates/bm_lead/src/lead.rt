@@ -6,9 +6,9 @@ ghost use Rattle.bm_core.specs.Stages.{IsSound};
 ghost use Rattle.bm_server.specs.Servings.{Serving};
 ghost use Rattle.bm_publish.specs.Posts.{Posted};
 ghost use Rattle.bm_worker.specs.Deeds.{Suits};
-ghost use Rattle.bm_lead.specs.Heads.{IsPhase, IsReady, IsStopFrom, IsSyncCommand, UnlessMemory};
+ghost use Rattle.bm_lead.specs.Heads.{IsPhase, IsReady, IsStopFrom, IsSyncCommand, OnLate};
+ghost use Rattle.bm_lead.specs.Heads.{UnlessMemory};
 ghost use Rattle.bm_lead.specs.Leads.{HasLed, HasSynced};
-ghost use Rattle.bm_lead.specs.Steps.{OnLate};
 
 use crate::Head;
 use crate::clock::clock_up_to;
@@ -50,8 +50,9 @@ fn lead_next<R: Wait, G: Gate>(
 }
 
 /// Carries out the commands of a phase: those from the next one on whose places are below `until`,
-/// where a sync stands, or no command. `Late` where a moment would be above LAST, or the clock of a
-/// post above LAST less 4,096; then the commands before it are carried out. It may wait.
+/// where a sync stands, or no command. Directly before each it comes to the gate. `Late` where a
+/// moment would be above LAST, or the clock of a post above LAST less 4,096; then the commands before
+/// it are carried out. `Memory` where memory was refused. It may wait.
 pub fn lead_phase<R: Wait, G: Gate>(
     rt: &R,
     gate: &G,
@@ -89,7 +90,8 @@ fn sync_moment(commands: &[Command], place: usize) -> Moment
 }
 
 /// All workers have met, and this is the greatest clock of what they did. Logs the Sync that is the
-/// next command. `Late` where its clock would be above LAST; then nothing changes.
+/// next command. `Late` where its clock would be above LAST; then nothing changes. `Memory` where
+/// memory was refused.
 pub fn sync(stage: &Stage, head: &mut Head, greatest: Moment) -> Result<(), Stop>
     requires sound { IsSound stage.now }
     requires sync { IsSyncCommand (slice_get stage.now.script.commands head.old.next) }

@@ -74,7 +74,7 @@ is_of_turn routes m from until k low high is =
     and_from _ _ (and_from _ _ (lt-ltb from k low) (le-leb k until high))
     (ap (λ (o : Option ℕ). is_mux o m) is ∙ eq-eqb m m refl)
 
-sent_deeds : (F : Rules) (stage : Stage) (servers : List Serving) (stint : Stint) (seen : Posted) (all : List Note)
+pub sent_deeds : (F : Rules) (stage : Stage) (servers : List Serving) (stint : Stint) (seen : Posted) (all : List Note)
     (last low : ℕ)
     (items : List MuxItem) (fates : List Fate) → stint.after ≤ last → stint.from ≤ low
     → last_packet low items ≤ stint.until → Rise low items
@@ -105,8 +105,8 @@ sent_deeds F stage servers stint seen all last low (i ∷ items) (f ∷ fates) a
       tt,
     )
 
-switch_deeds : (F : Rules) (stage : Stage) (servers : List Serving) (stint : Stint) (seen : Posted) (all : List Note)
-    (past : List Event)
+pub switch_deeds : (F : Rules) (stage : Stage) (servers : List Serving) (stint : Stint) (seen : Posted)
+    (all : List Note) (past : List Event)
     → stint.after < steering_clock past
     → AllByRecursion (IsDeed F stage servers stint all) (switch_notes (mux_of stint) seen past)
 switch_deeds F stage servers stint seen all past begun =
@@ -132,7 +132,7 @@ switch_deeds F stage servers stint seen all past begun =
 
 -- WHAT IS OWED
 
-sent_owed : (F : Rules) (stage : Stage) (stint : Stint) (seen : Posted) (all : List Note) (last low : ℕ)
+pub sent_owed : (F : Rules) (stage : Stage) (stint : Stint) (seen : Posted) (all : List Note) (last low : ℕ)
     (items : List MuxItem) (fates : List Fate) → stint.after ≤ last → stint.from ≤ low
     → last_packet low items ≤ stint.until → Rise low items
     → AreDrawn F items fates

@@ -13,3 +13,4 @@ pub mod Collecting
 pub mod Delivering
 pub mod Steering
 pub mod Batching
+pub mod Phasing

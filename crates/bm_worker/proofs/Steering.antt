@@ -36,8 +36,8 @@ use Rattle.bm_mux.specs.Muxes.{IsOwn, post_clock}
 use Rattle.bm_mux.specs.Steers.{at_clock, is_lose, sent, sent_for, steer_clock, steering_clock, steers, switch_to}
 use Rattle.bm_mux.specs.Steers.{switches}
 use Rattle.bm_server.specs.Servings.{Serving}
-use Rattle.bm_worker.specs.Batches.{AreDrawn, AreOwed, IsItemOf, IsLogged, IsOwed, Rise, last_packet, sent_notes}
-use Rattle.bm_worker.specs.Batches.{steering, switch_note, switch_notes}
+use Rattle.bm_worker.specs.Batches.{AreDrawn, AreOwed, IsItemOf, IsLogged, IsOwed, IsSteerTo, Rise, last_packet}
+use Rattle.bm_worker.specs.Batches.{sent_notes, steering, switch_note, switch_notes}
 use Rattle.bm_worker.specs.Deeds.{Said, clock_of, noted}
 use Rattle.bm_worker.specs.Debts.{IsAmong, IsUpTo, debt}
 use Rattle.bm_worker.specs.Phases.{IsDeed, IsInOrder, IsMuxGiven, Stint, is_steer, mux_log, mux_of}
@@ -177,14 +177,17 @@ steering_up_to k m Sync of = absurd of
 pub logged_more : (m : MuxId) (a b : ℕ) (past : List Event) → a ≤ b → AllByRecursion (IsLogged m a) past
     → AllByRecursion (IsLogged m b) past
 logged_more m a b [] le all = tt
-logged_more m a b (e ∷ past) le all = (
-  record { own = all.0.own; packet = some_more (packet_of e.what) all.0.packet },
-  logged_more m a b past le
-      all.1,
-) where
-  some_more : (o : Option ℕ) → IfSome o (λ k. k ≤ a) → IfSome o (λ k. k ≤ b)
-  some_more None is = tt
-  some_more (Some k) is = omega (arith, is, le)
+logged_more m a b (e ∷ past) le all =
+    (record { own = all.0.own; packet = steer_more e.what all.0.packet }, logged_more m a b past le all.1) where
+      steer_more : (what : What) → IsSteerTo a what → IsSteerTo b what
+      steer_more (Steer k x) is = omega (arith, is, le)
+      steer_more (Switch x v) is = tt
+      steer_more (Publish v) is = tt
+      steer_more (Lose k hop) is = tt
+      steer_more (Arrive k hop server verdict) is = tt
+      steer_more (Close server flow closed) is = tt
+      steer_more (Retire server h at result) is = tt
+      steer_more Sync is = tt
 
 own_step : (stage : Stage) (m : MuxId) (e : Event) (past : List Event) (what : What) → e.what ≡ what → IsOwn m what
     → last_own stage past (Some (MuxOf m.0)) ≡ steering_clock past
@@ -218,7 +221,7 @@ own_steering stage m low [] all = refl
 own_steering stage m low (e ∷ past) all =
     own_step stage m e past e.what refl all.0.own (own_steering stage m low past all.1)
 
-not_later : (m : MuxId) (low k : ℕ) (what : What) → low < k → IfSome (packet_of what) (λ j. j ≤ low)
+not_later : (m : MuxId) (low k : ℕ) (what : What) → low < k → IsSteerTo low what
     → ◌≡◌ {A = ℕ} (cond (steers_later what m k) 1 0) 0
 not_later m low k (Steer j x) lt is = rw (lt-leb k j (omega (arith, lt, is))) (both_no (x.0 == m.0)) where
   both_no : (b : Bool) → ◌≡◌ {A = ℕ} (cond (b && false) 1 0) 0
@@ -308,7 +311,7 @@ pub label_low : (stage : Stage) (m : MuxId) (low k : ℕ) (l : Label) (past : Li
 label_low stage m low k l [] all is = absurd (let bad : None ≡ Some l = is in cc)
 label_low stage m low k l (e ∷ past) all is =
     of_what e.what all.0.packet (λ old. label_low stage m low k l past all.1 old) is where
-      of_what : (what : What) → IfSome (packet_of what) (λ j. j ≤ low) → (label_of stage past k ≡ Some l → k ≤ low)
+      of_what : (what : What) → IsSteerTo low what → (label_of stage past k ≡ Some l → k ≤ low)
           → label_after stage past what k (label_of stage past k) ≡ Some l → k ≤ low
       of_what (Steer j x) le old is = elim (cases_Bool (j == k)) [
         | inl same ↦ let e : j ≡ k = eqb-true j k same in omega (arith, le, e)

@@ -1,7 +1,8 @@
 -- A batch of a mux's packets: what the mux takes, what it logs and sends, and how far a phase then
 -- is. Only the proofs of bodies use this.
-use Rattle.std.specs.Prelude.{◌≡◌, ◌<◌, ◌≤◌, ◌*◌, ◌^◌, ◌+◌, ℕ, true, ◌==◌, if◌then◌else◌, nat_lt}
-use Rattle.std.specs.Prelude.{List, [], ◌∷◌, ◌++◌, length, reverse, Option, Some, Result, IfSome}
+use Rattle.std.specs.Prelude.{◌≡◌, ◌<◌, ◌≤◌, ◌*◌, ◌^◌, ◌+◌, ℕ, true, ◌==◌, if◌then◌else◌, max}
+use Rattle.std.specs.Prelude.{nat_lt}
+use Rattle.std.specs.Prelude.{List, [], ◌∷◌, ◌++◌, length, reverse, Option, Some, Result}
 use Rattle.std.specs.Prelude.{MatchResult}
 use Rattle.std.specs.List.{AllByRecursion}
 use Rattle.bm_base.specs.declared.fate.Fate.{Fate}
@@ -16,20 +17,20 @@ use Rattle.bm_core.specs.declared.events.What.{What}
 use Rattle.bm_core.specs.declared.events.What.TheVariants.{Arrive, Lose, Steer}
 use Rattle.bm_core.specs.Accounts.{Rules, count_of, steers_packet}
 use Rattle.bm_core.specs.Past.{is_switch_of, segment_of, sends, version_at}
-use Rattle.bm_core.specs.Threads.{packet_of, record_moment}
+use Rattle.bm_core.specs.Threads.{record_moment}
 use Rattle.bm_merge.specs.Notes.{Note, many, switched_since, total}
 use Rattle.bm_publish.specs.Posts.{Continues, Posted, last_post, last_version}
 use Rattle.bm_mux.specs.declared.item.MuxItem.{MuxItem}
 use Rattle.bm_mux.specs.declared.item.Steered.{Steered}
-use Rattle.bm_mux.specs.Muxes.{IsOwn, MuxState}
+use Rattle.bm_mux.specs.Muxes.{IsOwn, IsSameMux, MuxState}
 use Rattle.bm_mux.specs.Steers.{steering_clock, switch_to}
 use Rattle.bm_server.specs.Servings.{Serving}
 use Rattle.bm_worker.specs.declared.stop.Stop.{Stop}
 use Rattle.bm_worker.specs.declared.worker.MuxWorker.{MuxWorker}
-use Rattle.bm_worker.specs.Deeds.{deed, no_fate}
+use Rattle.bm_worker.specs.Deeds.{IsSamePorter, deed, no_fate}
 use Rattle.bm_worker.specs.Debts.{Debt, IsAmong, IsCopyOf, IsUpTo, comes, comes_by, copyless_at}
 use Rattle.bm_worker.specs.Debts.{debt, gives, gives_by, lost_at}
-use Rattle.bm_worker.specs.Phases.{AreFew, IsStopOf, Kept, Stint, is_steer, mux_of}
+use Rattle.bm_worker.specs.Phases.{AreFew, HasEnded, IsStopOf, Kept, Stint, mux_of}
 use Rattle.bm_worker.specs.Turns.{is_turn, mux_at}
 
 -- WHAT THE MUX TAKES
@@ -168,15 +169,21 @@ pub record AreSettled (deeds : List Note) : Type 0 where
       ≤ total (gives_by k hop clock) deeds
   pub arrived : (k : ℕ) (hop : Hop) → total (comes k hop) deeds ≡ total (gives k hop) deeds
 
+-- a Steer is of this packet or an earlier one
+abbrev pub IsSteerTo : ℕ → What → Type 0
+IsSteerTo next (Steer k m) = k ≤ next
+IsSteerTo next _ = Unit {0}
+
 -- an event of the mux's log, of a packet up to this one
 pub record IsLogged (m : MuxId) (next : ℕ) (e : Event) : Type 0 where
   pub own : IsOwn m e.what
-  pub packet : IfSome (packet_of e.what) (λ k. k ≤ next)
+  pub packet : IsSteerTo next e.what
 
 -- the phase is done up to the place next
 pub record IsDoneTo (F : Rules) (stage : Stage) (servers : List Serving) (stint : Stint)
     (now : MuxWorker) (next : ℕ)
     (deeds : List Note) : Type 0 where
+  pub from : stint.from ≤ next
   pub kept : Kept F stage servers stint now deeds
   pub settled : AreSettled deeds
   pub steered : (k : ℕ) → many (λ n. steers_packet n.event.what k) deeds
@@ -188,3 +195,27 @@ pub record IsDoneTo (F : Rules) (stage : Stage) (servers : List Serving) (stint 
   pub logged : AllByRecursion (IsLogged (mux_of stint) next) (reverse now.mux.log)
   pub switched : switched_since stint.after (mux_of stint).0 (reverse now.mux.log) ≡ true
   pub begun : stint.after < steering_clock (reverse now.mux.log)
+
+-- what the worker did is noted: the porter has the mux's clock, and nothing else changed
+pub record HasSeen (old new : MuxWorker) : Type 0 where
+  pub seats : new.porter.seats ≡ old.porter.seats
+  pub porter : IsSamePorter old.porter new.porter
+  pub tries : new.porter.tries ≡ old.porter.tries
+  pub latest : new.porter.latest ≡ max old.porter.latest (steering_clock (reverse new.mux.log))
+  pub steps : new.steps ≡ old.steps
+
+-- nothing was done; the mux may have seen or heard more
+pub record HasOnlyLooked (old new : MuxWorker) : Type 0 where
+  pub mux : IsSameMux old.mux new.mux
+  pub log : new.mux.log ≡ old.mux.log
+  pub porter : new.porter ≡ old.porter
+  pub steps : new.steps ≡ old.steps
+
+-- the phase goes on from the place to that of the answer, or the worker gave up
+abbrev pub CarriesTo : Rules → Stage → List Serving → List (Option MuxId) → ℕ → ℕ → MuxWorker
+    → MuxWorker → Result ℕ Stop → Type 0
+CarriesTo F stage servers routes from until old new result =
+    (stint : Stint) (deeds : List Note) → stint.routes ≡ routes → until ≤ stint.until
+    → IsDoneTo F stage servers stint old from deeds
+    → MatchResult result (λ end. (d : List Note) × IsDoneTo F stage servers stint new end d)
+    (λ stop. HasEnded F stage servers stint new (Some stop))
