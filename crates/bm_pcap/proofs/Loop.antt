@@ -17,14 +17,14 @@ use Rattle.bm_pcap.specs.declared.place.Place.{Place}
 use Rattle.bm_pcap.specs.Limits.{most_records}
 use Rattle.bm_pcap.specs.declared.step.Step.{Step}
 use Rattle.bm_pcap.specs.declared.step.Step.TheVariants as step
-use Rattle.bm_pcap.specs.Capture.{Captured, after_found, capture, ends, records_from, with_record}
+use Rattle.bm_pcap.specs.Capture.{Captured, CapturedOr, after_found, capture, ends, records_from, with_record}
 use Rattle.bm_pcap.specs.Causes.{HasStepCause}
 use Rattle.bm_pcap.specs.Reader.{Reader, Advances, AdvancesFrom, Captures, EndsWith, GivesNext, Keeps, StandsIn}
 use Rattle.bm_pcap.specs.Reader.{StepGives, to_come}
 use Rattle.bm_pcap.specs.Records.{whole, next_of, first_place, moment_at, behind_record}
 
 -- what was read before, and what is still read
-abbrev pub with_front : List Record → List (List ℕ) → Captured → Captured
+abbrev pub with_front : {E : Type 0} → List Record → List (List ℕ) → CapturedOr E → CapturedOr E
 with_front records packets (Ok rest) =
     Ok (record { records = records ++ rest.0.records; cut = rest.0.cut }, packets ++ rest.1)
 with_front records packets (Err e) = Err e
@@ -36,7 +36,7 @@ SoFar now form vips total place records packets =
     × ((now ≡ Some left)
     × (with_front records packets (records_from form vips (most_records + 1 - place.number) place left) ≡ total))
 
-no_front : (read : Captured) → with_front [] [] read ≡ read
+pub no_front : {E : Type 0} (read : CapturedOr E) → with_front [] [] read ≡ read
 no_front (Ok read) = refl
 no_front (Err e) = refl
 
@@ -84,8 +84,8 @@ told now new form vips total place records packets found buffer so_far gives =
     let P : Option (List ℕ) → Type 0 = λ m. StepGives m new form place (Ok found) buffer in
     (so_far.0, (so_far.1.1, subst P so_far.1.0 gives))
 
-ended : (records : List Record) (packets : List (List ℕ)) (one : Option ℕ)
-    → with_front records packets (ends one) ≡ Ok (record { records = records; cut = one }, packets)
+pub ended : {E : Type 0} (records : List Record) (packets : List (List ℕ)) (one : Option ℕ)
+    → with_front {E = E} records packets (ends one) ≡ Ok (record { records = records; cut = one }, packets)
 ended records packets one =
     ap₂ (λ (rs : List Record) (ps : List (List ℕ)). Ok (record { records = rs; cut = one }, ps)) (append-nil records)
     (append-nil packets)
@@ -148,7 +148,8 @@ at_fault now new form vips total place records packets (fault.BadLength number n
 at_fault now new form vips total place records packets fault.TooManyPackets buffer so_far gives =
     at_err now new form vips total place records packets fault.TooManyPackets buffer so_far (λ _ h. h.0) gives
 
-regroup : (records : List Record) (packets : List (List ℕ)) (one : Record) (packet : List ℕ) (read : Captured)
+pub regroup : {E : Type 0} (records : List Record) (packets : List (List ℕ)) (one : Record) (packet : List ℕ)
+    (read : CapturedOr E)
     → with_front records packets (with_record one packet read)
     ≡ with_front (records ++ one ∷ []) (packets ++ packet ∷ []) read
 regroup records packets one packet (Ok read) =

@@ -45,10 +45,10 @@ moment_late place time = omega arith
 
 -- what was read so far can be replayed
 pub replayable_so_far : (vips : List Vip) (records : List Record) (cut : Option ℕ) (packets : List (List ℕ))
-    (place : Place) → length packets + 1 ≡ place.number → place.number ≤ most_records + 1 → ArePackets records packets
-    → place.last.0 ≤ latest → ((m : ℕ) → place.last.0 ≤ m → m ≤ latest → AreRising 0 latest (moments records ++ m ∷ []))
+    (number last : ℕ) → length packets + 1 ≡ number → number ≤ most_records + 1 → ArePackets records packets
+    → last ≤ latest → ((m : ℕ) → last ≤ m → m ≤ latest → AreRising 0 latest (moments records ++ m ∷ []))
     → AllByRecursion (λ r. IsFit vips r) records → IsReplayable vips (record { records = records; cut = cut })
-replayable_so_far vips records cut packets place count few packed early rise fit = record {
+replayable_so_far vips records cut packets number last count few packed early rise fit = record {
   few = omega (arith, count, few, packed.count);
   rise = rising_front 0 latest latest (moments records) (rise latest early (omega arith));
   fit = fit;

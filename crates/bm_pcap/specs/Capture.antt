@@ -15,16 +15,19 @@ use Rattle.bm_pcap.specs.Header.{form_of}
 use Rattle.bm_pcap.specs.Records.{Found, whole, cut, end, next_of, first_place, moment_at}
 use Rattle.bm_pcap.specs.Records.{behind_record}
 
--- a capture, and the packet of each of its records
+-- a capture, and the packet of each of its records, or a fault
+abbrev pub CapturedOr : Type 0 → Type 0
+CapturedOr E = Result (Capture × List (List ℕ)) E
+
 abbrev pub Captured : Type 0
-Captured = Result (Capture × List (List ℕ)) PcapFault
+Captured = CapturedOr PcapFault
 
 -- no record more
-abbrev pub ends : Option ℕ → Captured
+abbrev pub ends : {E : Type 0} → Option ℕ → CapturedOr E
 ends cut_record = Ok (record { records = []; cut = cut_record }, [])
 
 -- one record more before the others
-abbrev pub with_record : Record → List ℕ → Captured → Captured
+abbrev pub with_record : {E : Type 0} → Record → List ℕ → CapturedOr E → CapturedOr E
 with_record one packet (Ok others) =
     Ok (record { records = one ∷ others.0.records; cut = others.0.cut }, packet ∷ others.1)
 with_record one packet (Err e) = Err e

@@ -3,6 +3,14 @@ use Rattle.std.specs.Prelude.{◌≡◌, ℕ, List, length, take, min, slice_ran
 use Rattle.std.specs.Io.KnownBytes.{prepend_known}
 use Rattle.bm_pcap.specs.declared.window.Window.{Window}
 
+-- the source behind what was read ahead
+abbrev pub source_of : {S : Type 0} → Window S → S
+source_of window = window.src
+
+-- the most octets that are read ahead
+abbrev pub width : {S : Type 0} → Window S → ℕ
+width window = length window.octets.items
+
 -- what was read ahead
 abbrev pub held : {S : Type 0} → Window S → List ℕ
 held window = slice_range window.octets.items window.from window.upto

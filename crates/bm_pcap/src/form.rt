@@ -46,7 +46,8 @@ impl Unit {
 }
 
 impl Order {
-    pub(crate) fn read_u16(self, octets: &[u8], at: usize) -> u16
+    /// The number in the two octets at this place.
+    pub fn read_u16(self, octets: &[u8], at: usize) -> u16
         requires { at + 2 ≤ length octets.now }
         ensures { result ≡ number_at self 2 at octets.now }
     {
@@ -56,7 +57,8 @@ impl Order {
         }
     }
 
-    pub(crate) fn read_u32(self, octets: &[u8], at: usize) -> u32
+    /// The number in the four octets at this place.
+    pub fn read_u32(self, octets: &[u8], at: usize) -> u32
         requires { at + 4 ≤ length octets.now }
         ensures { result ≡ number_at self 4 at octets.now }
     {

@@ -13,6 +13,9 @@ pub const MOST_OCTETS: u32 = 268_435_456;
 /// The most octets of a record.
 pub const LONGEST: u32 = 262_144;
 
+/// The most octets that are read ahead: the longest record and its header.
+pub const WIDEST: u32 = LONGEST + 16;
+
 /// The number of the next record, how many octets the capture may have from here on, the captured
 /// time of record 1, and the moment of the record before.
 #[derive(Clone, Copy, Debug, PartialEq, Eq)]

@@ -11,7 +11,7 @@ ghost use Rattle.bm_pcap.specs.Reader.{IsLast, ReadsCapture, StartLeaves, Starts
 use crate::PcapFault;
 use crate::form::{Form, read_form};
 use crate::item::Item;
-use crate::place::Place;
+use crate::place::{Place, WIDEST};
 use crate::step::{Step, read_step};
 use crate::window::Window;
 use bm_base::{Capture, List, Octets, Record, Vip};
@@ -35,7 +35,7 @@ impl<S> Model for PcapReader<S> {
     ghost use Rattle.bm_link.specs.Links.{is_link};
     ghost use Rattle.bm_pcap.specs.Limits.{widest};
     ghost use Rattle.bm_pcap.specs.Reader.{Reader, EndsWell};
-    ghost use Rattle.bm_pcap.specs.Window.{held, passed};
+    ghost use Rattle.bm_pcap.specs.Window.{held, passed, width};
 
     ghost Value = { Reader S };
 
@@ -49,7 +49,7 @@ impl<S> Model for PcapReader<S> {
     } };
 
     ghost invariant = { λ a. (length (held a.window) ≤ widest) × IsTrue (is_link a.form.link)
-        × EndsWell a.ended };
+        × EndsWell a.ended × (width a.window ≡ widest) };
 }
 
 impl<S: Source> PcapReader<S> {
@@ -79,7 +79,7 @@ impl<S: Source> PcapReader<S> {
         ensures memory { IfErr result
             (λ refused. (refused.0 ≡ src) × (refused.1 ≡ PcapFault.Memory)) }
     {
-        match Window::new(alloc, src) {
+        match Window::new(alloc, src, WIDEST as usize) {
             Ok(window) => Ok(PcapReader {
                 window,
                 form,

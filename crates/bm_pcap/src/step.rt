@@ -4,10 +4,10 @@ ghost use Rattle.std.specs.Prelude.{IsErrOf, Ok, Err};
 ghost use Rattle.bm_pcap.specs.Causes.{HasStepCause, IsRecordFault};
 ghost use Rattle.std.specs.Io.KnownBytes.{Keeps};
 ghost use Rattle.bm_pcap.specs.Parts.{HeadGives, HeadFits, HeadIn, IsEarly, StepFits, stated};
-ghost use Rattle.bm_pcap.specs.Limits.{latest};
+ghost use Rattle.bm_pcap.specs.Limits.{latest, widest};
 ghost use Rattle.bm_pcap.specs.Reader.{FailsOpen, IsLast, StepGives};
 ghost use Rattle.bm_pcap.specs.Records.{IsOpen, next_of, time_of};
-ghost use Rattle.bm_pcap.specs.Window.{held, passed, rest};
+ghost use Rattle.bm_pcap.specs.Window.{held, passed, rest, width};
 
 use crate::PcapFault;
 use crate::form::Form;
@@ -37,12 +37,14 @@ pub(crate) fn read_step<S: Source>(
     form: &Form,
     place: &Place,
 ) -> Result<Step, PcapFault>
+    requires { width window.old ≡ widest }
     ensures gives { StepGives (rest S.left window.old) (rest S.left window.new) form.now place.now
         result (passed window.new) }
     ensures last { IfOk result (IsLast (passed window.new)) }
     ensures open { FailsOpen form.now place.now result (held window.new) }
     ensures fits { IfOk result (StepFits place.now) }
     ensures others { IfErr result IsRecordFault }
+    ensures wide { width window.new ≡ widest }
     ensures cause { HasStepCause (S.faults window.old.src) (S.faults window.new.src) result }
 {
     match read_head(window, form, place)? {
@@ -70,6 +72,7 @@ fn read_head<S: Source>(
     form: &Form,
     place: &Place,
 ) -> Result<Head, PcapFault>
+    requires { width window.old ≡ widest }
     ensures gives { HeadGives (rest S.left window.old) form.now place.now result }
     ensures keeps { Keeps (rest S.left window.old) (rest S.left window.new) }
     ensures held { IfOk result (HeadIn form.now (held window.new)) }
@@ -77,6 +80,7 @@ fn read_head<S: Source>(
         → IsOpen (next_of form.now place.now (held window.new)) }
     ensures fits { IfOk result (HeadFits place.now) }
     ensures others { IfErr result IsRecordFault }
+    ensures wide { width window.new ≡ widest }
     ensures cause { HasStepCause (S.faults window.old.src) (S.faults window.new.src) result }
 {
     if place.number > MOST_RECORDS {
@@ -103,7 +107,8 @@ fn read_end<S: Source>(
     form: &Form,
     place: &Place,
 ) -> Result<Head, PcapFault>
-    requires { MOST_RECORDS < place.now.number }
+    requires wide { width window.old ≡ widest }
+    requires last { MOST_RECORDS < place.now.number }
     ensures gives { HeadGives (rest S.left window.old) form.now place.now result }
     ensures keeps { Keeps (rest S.left window.old) (rest S.left window.new) }
     ensures held { IfOk result (HeadIn form.now (held window.new)) }
@@ -111,6 +116,7 @@ fn read_end<S: Source>(
         → IsOpen (next_of form.now place.now (held window.new)) }
     ensures fits { IfOk result (HeadFits place.now) }
     ensures others { IfErr result IsRecordFault }
+    ensures wide { width window.new ≡ widest }
     ensures cause { HasStepCause (S.faults window.old.src) (S.faults window.new.src) result }
 {
     if window.want(1)? > 0 {

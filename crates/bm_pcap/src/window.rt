@@ -3,38 +3,34 @@ ghost use Rattle.std.specs.Prelude.{◌≡◌, ◌<◌, ◌≤◌, ◌+◌, ◌-
 ghost use Rattle.std.specs.Prelude.{IfErr, OnErr};
 ghost use Rattle.std.specs.Io.KnownBytes.{Keeps, IsAtEnd};
 ghost use Rattle.bm_io.specs.Causes.{HasCause};
-ghost use Rattle.bm_pcap.specs.Limits.{widest};
 
-use crate::place::LONGEST;
 use bm_io::{Failed, Source};
 use std::alloc::Global;
-
-/// The most octets that are read ahead: the longest record and its header.
-pub const WIDEST: u32 = LONGEST + 16;
 
 /// A source, and the octets that were read ahead of what was answered: those from `from` to `upto`.
 /// What stands before them was answered.
 #[derive(Drop)]
-pub(crate) struct Window<S> {
+pub struct Window<S> {
     src: S,
     octets: Vec<u8>,
     from: usize,
     upto: usize,
-    ghost size: { length octets.items ≡ 262160 },
     ghost ordered: { from ≤ upto },
-    ghost within: { upto ≤ 262160 },
+    ghost within: { upto ≤ length octets.items },
 }
 
 impl<S> Window<S> {
-    ghost use Rattle.bm_pcap.specs.Window.{held, passed};
+    ghost use Rattle.bm_pcap.specs.Window.{held, passed, source_of, width};
 
-    /// Nothing is read ahead. The source comes back where memory was refused.
-    pub(crate) fn new(alloc: Global, src: S) -> Result<Window<S>, S>
-        ensures ok { IfOk result (λ window. (window.src ≡ src) × (held window ≡ [])) }
+    /// A window of a source from which at most so many octets are read ahead, and none is yet. The
+    /// source comes back where memory was refused.
+    pub fn new(alloc: Global, src: S, most: usize) -> Result<Window<S>, S>
+        ensures ok { IfOk result (λ window. (source_of window ≡ src) × (held window ≡ [])) }
+        ensures width { IfOk result (λ window. width window ≡ most) }
         ensures err { IfErr result (λ back. back ≡ src) }
     {
         let mut octets = Vec::new(alloc);
-        if octets.resize(WIDEST as usize, 0).is_err() {
+        if octets.resize(most, 0).is_err() {
             return Err(src);
         }
         Ok(Window {
@@ -46,8 +42,8 @@ impl<S> Window<S> {
     }
 
     /// The source, behind what was read ahead.
-    pub(crate) fn into_source(self) -> S
-        ensures { result ≡ self.src }
+    pub fn into_source(self) -> S
+        ensures { result ≡ source_of self }
     {
         let Window {
             src,
@@ -59,14 +55,14 @@ impl<S> Window<S> {
     }
 
     /// What was read ahead.
-    pub(crate) fn held(&self) -> &[u8]
+    pub fn held(&self) -> &[u8]
         ensures { result.now ≡ held self.now }
     {
         &self.octets[self.from..self.upto]
     }
 
     /// The last octets that were answered.
-    pub(crate) fn last(&self, count: usize) -> &[u8]
+    pub fn last(&self, count: usize) -> &[u8]
         requires { count ≤ length (passed self.now) }
         ensures { result.now ≡ drop (length (passed self.now) - count) (passed self.now) }
     {
@@ -74,11 +70,12 @@ impl<S> Window<S> {
     }
 
     /// Answers the first octets that were read ahead.
-    pub(crate) fn skip(&mut self, count: usize)
+    pub fn skip(&mut self, count: usize)
         requires { count ≤ length (held self.old) }
         ensures held { held self.new ≡ drop count (held self.old) }
         ensures passed { passed self.new ≡ passed self.old ++ take count (held self.old) }
-        ensures source { self.new.src ≡ self.old.src }
+        ensures source { source_of self.new ≡ source_of self.old }
+        ensures wide { width self.new ≡ width self.old }
     {
         self.from += count;
     }
@@ -88,6 +85,7 @@ impl<S> Window<S> {
         ensures held { held self.new ≡ held self.old }
         ensures front { self.new.from ≡ 0 }
         ensures source { self.new.src ≡ self.old.src }
+        ensures wide { width self.new ≡ width self.old }
     {
         let (from, upto) = (self.from, self.upto);
         self.octets.as_mut_slice().copy_within(from..upto, 0);
@@ -97,7 +95,7 @@ impl<S> Window<S> {
 }
 
 impl<S: Source> Window<S> {
-    ghost use Rattle.bm_pcap.specs.Window.{Ahead, held, rest};
+    ghost use Rattle.bm_pcap.specs.Window.{Ahead, held, rest, source_of, width};
 
     /// One piece more of the source, as much as it gives and the buffer has room for. Answers how
     /// many octets these are.
@@ -106,9 +104,10 @@ impl<S: Source> Window<S> {
         ensures grows { take (length (held self.old)) (held self.new) ≡ held self.old }
         ensures count { IfOk result (λ n. self.new.upto ≡ self.old.upto + n) }
         ensures end { IfOk result
-            (λ n. n ≡ 0 → self.old.upto < widest → IsAtEnd (S.left self.new.src)) }
+            (λ n. n ≡ 0 → self.old.upto < width self.old → IsAtEnd (S.left self.new.src)) }
         ensures err { OnErr result (self.new.upto ≡ self.old.upto) }
         ensures from { self.new.from ≡ self.old.from }
+        ensures wide { width self.new ≡ width self.old }
         ensures cause { HasCause (S.faults self.old.src) (S.faults self.new.src) result }
     {
         let upto = self.upto;
@@ -120,15 +119,17 @@ impl<S: Source> Window<S> {
     /// Reads ahead until so many octets are held, or all that are left, and answers how many of
     /// these there are. It reads nothing where they are held, and else in pieces as large as the
     /// buffer has room for. Behind a failure what was read ahead is kept.
-    pub(crate) fn want(&mut self, most: usize) -> Result<usize, Failed>
-        requires { most ≤ widest }
+    pub fn want(&mut self, most: usize) -> Result<usize, Failed>
+        requires { most ≤ width self.old }
         ensures bound { IfOk result (λ n. (n ≤ most) × (n ≤ length (held self.new))) }
         ensures ahead { IfOk result (λ n. Ahead (rest S.left self.old) most n (held self.new)) }
         ensures keeps { Keeps (rest S.left self.old) (rest S.left self.new) }
         ensures grows { take (length (held self.old)) (held self.new) ≡ held self.old }
         ensures short { OnErr result (length (held self.new) < most) }
         ensures still { most ≤ length (held self.old) → self.new ≡ self.old }
-        ensures cause { HasCause (S.faults self.old.src) (S.faults self.new.src) result }
+        ensures wide { width self.new ≡ width self.old }
+        ensures cause { HasCause (S.faults (source_of self.old)) (S.faults (source_of self.new))
+            result }
     {
         if self.upto - self.from >= most {
             return Ok(most);

@@ -22,7 +22,7 @@ routed_more : (R S : Routes) → ((k : ℕ) (f : Flow) (m : ℕ) → R k f m →
 routed_more R S more stage (Steer k m) is = some_more _ _ (λ s. more k s.flow m.0) (segment_of stage k) is
 routed_more R S more stage _ is = tt
 
-answered_more : (R S : Routes) (F G : Rules) → ((k : ℕ) (f : Flow) (m : ℕ) → R k f m → S k f m)
+pub answered_more : (R S : Routes) (F G : Rules) → ((k : ℕ) (f : Flow) (m : ℕ) → R k f m → S k f m)
     → ((k : ℕ) (hop : Hop) (f : Fate) → F k hop f → G k hop f) → (stage : Stage) (fates : List Fate) (past : List Event)
     → AreAnswered R F stage fates past → AreAnswered S G stage fates past
 answered_more R S F G routes rules stage fates [] are = tt

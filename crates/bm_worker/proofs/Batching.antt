@@ -1,65 +1,49 @@
 -- A batch among the deeds of a phase.
-use Rattle.std.proofs.Common.{◌≡◌, ◌≢◌, ℕ, zero, suc, ◌+◌, ◌-◌, ◌*◌, ◌^◌, ◌<◌, ◌≤◌, ◌==◌, ◌&&◌, max, Bool, true, false}
+use Rattle.std.proofs.Common.{◌≡◌, ℕ, ◌+◌, ◌<◌, ◌≤◌, ◌==◌, Bool, true, false}
 use Rattle.std.proofs.Common.{cond, List, [], ◌∷◌, ◌++◌}
-use Rattle.std.proofs.Common.{length, reverse, slice_get, Option, Some, None, inl, inr, refl, sym, ap, ◌∙◌, subst}
-use Rattle.std.proofs.Common.{append_assoc, append-nil, arith, ltb, leb}
-use Rattle.std.specs.Prelude.{IfSome, MatchBool}
+use Rattle.std.proofs.Common.{length, reverse, Option, Some, None, refl, sym, ap, ◌∙◌}
+use Rattle.std.proofs.Common.{append_assoc, arith, ltb}
+use Rattle.std.specs.Prelude.{IfSome}
 use Rattle.std.specs.List.{AllByRecursion}
-use Rattle.std.proofs.lemmas.Bool.{cases_Bool, eq-eqb, ne_eqb, eqb-true, eqb-false, ltb-true, ltb-false, lt-ltb, le-ltb}
-use Rattle.std.proofs.lemmas.Bool.{le-leb, lt-leb, and_from}
-use Rattle.std.proofs.lemmas.List.{reverse-append, length-append}
-use Rattle.std.proofs.lemmas.Option.{same_Some}
+use Rattle.std.proofs.lemmas.Bool.{eq-eqb, ltb-false, lt-ltb}
+use Rattle.std.proofs.lemmas.Bool.{le-leb, and_from}
+use Rattle.std.proofs.lemmas.List.{reverse-append}
 use Rattle.bm_base.specs.declared.fate.Fate.{Fate}
 use Rattle.bm_base.specs.declared.flow.Segment.{Segment}
 use Rattle.bm_base.specs.declared.ids.Moment.{Moment}
 use Rattle.bm_base.specs.declared.ids.MuxId.{MuxId}
 use Rattle.bm_base.specs.declared.ids.ServerId.{ServerId}
-use Rattle.bm_base.specs.declared.ids.Version.{Version}
-use Rattle.bm_base.specs.declared.label.Entry.{Entry}
 use Rattle.bm_base.specs.declared.label.Hop.TheVariants.{Direct}
 use Rattle.bm_base.specs.declared.label.Label.{Label}
 use Rattle.bm_base.specs.declared.label.Tag.{Tag}
-use Rattle.bm_base.specs.Labels.{tag_for, tag_of}
+use Rattle.bm_base.specs.Labels.{tag_for}
 use Rattle.bm_base.specs.Tags.{IsServer, IsTag}
 use Rattle.bm_hash.specs.Buckets.{bucket_of}
-use Rattle.bm_table.specs.Planned.{Planned}
 use Rattle.bm_table.specs.Tables.{is_known, table}
 use Rattle.bm_encap.specs.Spellings.{spelling}
 use Rattle.bm_core.specs.declared.events.Event.{Event}
 use Rattle.bm_core.specs.declared.events.Stage.{Stage}
-use Rattle.bm_core.specs.declared.events.What.{What}
-use Rattle.bm_core.specs.declared.events.What.TheVariants.{Steer, Switch}
-use Rattle.bm_core.specs.Accounts.{Rules, count_of, steers_packet}
+use Rattle.bm_core.specs.declared.events.What.TheVariants.{Steer}
+use Rattle.bm_core.specs.Accounts.{Rules, steers_packet}
 use Rattle.bm_core.specs.Past.{bucket, label_of, labelled, segment_of, version_at}
-use Rattle.bm_core.specs.Runs.{AtEach}
-use Rattle.bm_core.specs.Runs.Actor.{MuxOf, ShardOf}
 use Rattle.bm_core.specs.Stages.{IsSound}
-use Rattle.bm_merge.specs.Notes.{Note, events_of, greatest, many, switched_since, total}
-use Rattle.bm_merge.specs.Workers.{home_part}
-use Rattle.bm_merge.proofs.Noting.{each_append, each_so, events_append, greatest_append, total_append}
-use Rattle.bm_publish.specs.Posts.{Continues, IsPosted, Posted, last_post, last_version}
+use Rattle.bm_merge.specs.Notes.{Note, total}
+use Rattle.bm_merge.proofs.Noting.{each_append, total_append}
+use Rattle.bm_publish.specs.Posts.{Posted, last_post, last_version}
 use Rattle.bm_mux.specs.declared.item.MuxItem.{MuxItem}
-use Rattle.bm_mux.specs.declared.item.Steered.{Steered}
-use Rattle.bm_mux.specs.Muxes.{HasSteered, IsBatch, IsSameMux, MuxState}
+use Rattle.bm_mux.specs.Muxes.{MuxState}
 use Rattle.bm_mux.specs.Steers.{at_clock, label_by, sent, sent_for, steer_clock, steering_clock, steers, switch_to}
 use Rattle.bm_mux.specs.Steers.{switches, tag_by}
 use Rattle.bm_server.specs.Servings.{Serving}
-use Rattle.bm_worker.specs.declared.worker.MuxWorker.{MuxWorker}
-use Rattle.bm_worker.specs.Batches.{AreDrawn, AreOwed, IsItemOf, IsLogged, IsOwed, IsSent, Rise, last_packet}
+use Rattle.bm_worker.specs.Batches.{AreDrawn, AreOwed, IsItemOf, IsSent, Rise, last_packet}
 use Rattle.bm_worker.specs.Batches.{sent_notes, steering, switch_note, switch_notes}
-use Rattle.bm_worker.specs.Deeds.{HasServer, Said, Suits, clock_of, noted}
-use Rattle.bm_worker.specs.Debts.{IsAmong, IsCopyOf, debt}
-use Rattle.bm_worker.specs.Phases.{AreCopies, IsDeed, IsInOrder, IsMuxGiven, Kept, Stint, mux_log, mux_of}
+use Rattle.bm_worker.specs.Deeds.{Suits}
+use Rattle.bm_worker.specs.Debts.{IsAmong}
+use Rattle.bm_worker.specs.Phases.{IsDeed, Stint, mux_of}
 use Rattle.bm_worker.specs.Turns.{is_mux, is_turn, mux_at}
-use Rattle.bm_worker.proofs.Copying.{copies_as}
-use Rattle.bm_worker.proofs.Hearing.{hears_none}
-use Rattle.bm_worker.proofs.Keeping.{Step, at_append, at_so, kept_more}
 use Rattle.bm_worker.proofs.Known.{known_server, table_entry}
-use Rattle.bm_worker.proofs.Steering.{IsSteeringOf, event_snoc, final, final_above, gives_steers, gives_switch}
-use Rattle.bm_worker.proofs.Steering.{greatest_sent, label_high, label_low}
-use Rattle.bm_worker.proofs.Steering.{logged_more, own_steering, sent_events, sent_kinds, steered_clock, steerings_home}
-use Rattle.bm_worker.proofs.Steering.{steerings_noted, steerings_order, steers_above}
-use Rattle.bm_worker.proofs.Steering.{switch_events, switch_kinds, switches_above, steered_logged}
+use Rattle.bm_worker.proofs.Steering.{label_high}
+use Rattle.bm_worker.proofs.Steering.{steers_above}
 
 -- THE DEEDS
 

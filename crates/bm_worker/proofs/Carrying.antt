@@ -8,7 +8,6 @@ use Rattle.std.specs.List.{AllByRecursion}
 use Rattle.std.proofs.lemmas.Bool.{eq-eqb}
 use Rattle.std.proofs.lemmas.List.{length-append}
 use Rattle.std.proofs.lemmas.Option.{same_Some}
-use Rattle.bm_base.specs.declared.fate.Fate.{Fate}
 use Rattle.bm_base.specs.declared.ids.Moment.{Moment}
 use Rattle.bm_base.specs.declared.ids.ServerId.{ServerId}
 use Rattle.bm_base.specs.declared.label.Hop.{Hop}
@@ -18,20 +17,18 @@ use Rattle.bm_core.specs.declared.events.Verdict.{Verdict}
 use Rattle.bm_core.specs.declared.events.What.TheVariants.{Arrive, Lose}
 use Rattle.bm_core.specs.Accounts.{Rules}
 use Rattle.bm_core.specs.Past.{sending_of}
-use Rattle.bm_merge.specs.Notes.{Note, many}
-use Rattle.bm_merge.proofs.Noting.{each_append}
+use Rattle.bm_merge.specs.Notes.{Note}
 use Rattle.bm_mux.specs.Muxes.{MuxState}
 use Rattle.bm_mux.specs.Steers.{at_clock, is_lose}
 use Rattle.bm_server.specs.Servings.{Serving}
-use Rattle.bm_turnstile.specs.Sittings.{who}
 use Rattle.bm_server.specs.Seats.{row}
 use Rattle.bm_worker.specs.declared.stop.Stop.{Stop}
 use Rattle.bm_worker.specs.declared.stop.Stop.TheVariants.{Memory, Late}
 use Rattle.bm_worker.specs.declared.worker.MuxWorker.{MuxWorker}
 use Rattle.bm_worker.specs.Arrivals.{HasCome, IsCopy}
 use Rattle.bm_worker.specs.Deeds.{IsSamePorter, Sits, Suits, arrival, loss, no_fate}
-use Rattle.bm_worker.specs.Debts.{Carries, CarriesOne, Debt, GoesOn, GrowsByLosses, HasCarried, IsCopyOf, IsLateFrom}
-use Rattle.bm_worker.specs.Debts.{IsOf, IsPaid, IsSameWorker, Owes, Pays}
+use Rattle.bm_worker.specs.Debts.{Carries, Debt, GrowsByLosses, HasCarried, IsCopyOf, IsLateFrom}
+use Rattle.bm_worker.specs.Debts.{IsSameWorker, Owes, Pays}
 use Rattle.bm_worker.specs.Debts.{with_copies}
 use Rattle.bm_worker.specs.Lost.{with_loss}
 use Rattle.bm_worker.specs.Phases.{IsStopOf, Kept, Stint, mux_of}

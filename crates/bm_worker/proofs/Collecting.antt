@@ -1,5 +1,5 @@
 -- The packets of a mux, one place after the other.
-use Rattle.std.proofs.Common.{◌≡◌, ◌≢◌, ℕ, zero, suc, ◌+◌, ◌*◌, ◌^◌, ◌<◌, ◌≤◌, ◌==◌, ◌&&◌, Bool, true, false, cond}
+use Rattle.std.proofs.Common.{◌≡◌, ◌≢◌, ℕ, suc, ◌+◌, ◌*◌, ◌^◌, ◌<◌, ◌≤◌, ◌==◌, ◌&&◌, Bool, true, false, cond}
 use Rattle.std.proofs.Common.{List, [], ◌∷◌, ◌++◌, length}
 use Rattle.std.proofs.Common.{slice_get, Option, Some, None, inl, inr, refl, sym, ap, ◌∙◌, subst, arith, leb, ltb}
 use Rattle.std.specs.List.{AllByRecursion}
@@ -22,7 +22,7 @@ use Rattle.bm_core.specs.Past.{segment_of}
 use Rattle.bm_core.specs.Accounts.{Rules, count_of}
 use Rattle.bm_mux.specs.declared.item.MuxItem.{MuxItem}
 use Rattle.bm_worker.specs.Batches.{AreCollected, AreDrawn, IsItemOf, Rise, last_packet}
-use Rattle.bm_worker.specs.Turns.{is_mux, is_turn, mux_at, mux_in}
+use Rattle.bm_worker.specs.Turns.{is_mux, is_turn, mux_at}
 
 -- TURNS
 
@@ -31,7 +31,7 @@ no_turn true b = refl
 no_turn false b = refl
 
 -- no packet lies between a place and itself
-turn_none : (routes : List (Option MuxId)) (m from k : ℕ) → is_turn routes m from from k ≡ false
+pub turn_none : (routes : List (Option MuxId)) (m from k : ℕ) → is_turn routes m from from k ≡ false
 turn_none routes m from k = elim (cases_lt from k) [
   | inl low ↦ rw (lt-ltb from k low, lt-leb k from low) refl
   | inr high ↦ rw (le-ltb from k high) refl

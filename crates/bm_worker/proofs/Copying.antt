@@ -1,36 +1,26 @@
 -- The copies of a packet, as their servers read them and as they stand in what the seats were told.
-use Rattle.std.proofs.Common.{◌≡◌, ℕ, ◌^◌, ◌<◌, ◌==◌, ◌&&◌, Bool, true, false, cond, List, [], ◌∷◌, ◌++◌, Option, Some}
-use Rattle.std.proofs.Common.{None, Result, Ok, Err}
-use Rattle.std.proofs.Common.{slice_get, reverse, refl, sym, ap, ◌∙◌, subst, append_assoc, append-nil, option_map, inl}
-use Rattle.std.proofs.Common.{inr}
+use Rattle.std.proofs.Common.{◌≡◌, ℕ, ◌==◌, ◌&&◌, Bool, true, false, cond, List, [], ◌∷◌, ◌++◌, Option, Some}
+use Rattle.std.proofs.Common.{None, Err}
+use Rattle.std.proofs.Common.{slice_get, reverse, refl, sym, ap, ◌∙◌, subst, option_map}
 use Rattle.std.specs.List.{AllByRecursion}
 use Rattle.std.proofs.lemmas.Bool.{eqb-true, eq-eqb}
-use Rattle.std.proofs.lemmas.List.{reverse-append}
 use Rattle.std.proofs.lemmas.Option.{same_Some}
 use Rattle.bm_base.specs.declared.ids.Moment.{Moment}
 use Rattle.bm_base.specs.declared.ids.MuxId.{MuxId}
 use Rattle.bm_base.specs.declared.ids.ServerId.{ServerId}
-use Rattle.bm_base.specs.declared.flow.Segment.{Segment}
 use Rattle.bm_base.specs.declared.label.Hop.{Hop}
 use Rattle.bm_base.specs.declared.label.Label.{Label}
 use Rattle.bm_base.specs.declared.label.Tag.{Tag}
 use Rattle.bm_base.specs.Labels.{arrives_at, tag_for, tag_of}
-use Rattle.bm_tcp.specs.declared.packet.InnerFault.{InnerFault}
 use Rattle.bm_tcp.specs.Packets.{segment_in}
-use Rattle.bm_encap.specs.declared.fault.EncapFault.{EncapFault}
-use Rattle.bm_encap.specs.Faults.{unwrapped}
-use Rattle.bm_encap.specs.Spellings.{spelling}
 use Rattle.bm_encap.proofs.Spelled.{spelling_read}
 use Rattle.bm_core.specs.declared.events.Event.{Event}
 use Rattle.bm_core.specs.declared.events.Stage.{Stage}
 use Rattle.bm_core.specs.declared.events.Verdict.{Verdict}
-use Rattle.bm_core.specs.declared.events.What.TheVariants.{Lose}
-use Rattle.bm_core.specs.Past.{label_of, segment_of, shard}
+use Rattle.bm_core.specs.Past.{label_of, shard}
 use Rattle.bm_mux.specs.Muxes.{MuxState}
-use Rattle.bm_mux.specs.Steers.{at_clock}
 use Rattle.bm_shard.specs.declared.calls.ShardCall.{ShardCall}
 use Rattle.bm_shard.specs.declared.calls.ShardCall.TheVariants.{Arrive, Close, Retire}
-use Rattle.bm_shard.specs.declared.calls.ShardReply.{ShardReply}
 use Rattle.bm_shard.specs.declared.calls.ShardReply.TheVariants.{Arrived}
 use Rattle.bm_server.specs.Copies.{copy_in, of_header, of_packet}
 use Rattle.bm_server.specs.Seats.{Answered, Seated}

@@ -1,25 +1,22 @@
 -- The packets of a batch, one after the other.
-use Rattle.std.proofs.Common.{◌≡◌, ◌≢◌, ℕ, zero, suc, ◌+◌, ◌*◌, ◌<◌, ◌≤◌, Bool, true, false, cond, List, [], ◌∷◌, ◌++◌}
+use Rattle.std.proofs.Common.{◌≡◌, ℕ, zero, suc, ◌+◌, ◌*◌, ◌<◌, ◌≤◌, true, List, [], ◌∷◌, ◌++◌}
 use Rattle.std.proofs.Common.{length, map, take, get_or}
-use Rattle.std.proofs.Common.{slice_get, Option, Some, None, Result, Ok, Err, refl, sym, ap, ◌∙◌, subst, append_assoc}
+use Rattle.std.proofs.Common.{slice_get, Some, None, Result, Ok, Err, refl, sym, ap, ◌∙◌, subst, append_assoc}
 use Rattle.std.proofs.Common.{arith}
-use Rattle.std.specs.Prelude.{All, IsErrAnd, MatchResult}
+use Rattle.std.specs.Prelude.{All, IsErrAnd}
 use Rattle.std.specs.List.{AllByRecursion}
 use Rattle.std.proofs.lemmas.List.{length-append}
 use Rattle.std.proofs.lemmas.Option.{same_Some, slice_get-get_or}
 use Rattle.bm_base.specs.declared.fate.Fate.{Fate}
 use Rattle.bm_base.specs.declared.ids.Moment.{Moment}
 use Rattle.bm_base.specs.declared.ids.MuxId.{MuxId}
-use Rattle.bm_base.specs.declared.ids.ServerId.{ServerId}
-use Rattle.bm_base.specs.declared.label.Hop.{Hop}
 use Rattle.bm_base.specs.declared.label.Hop.TheVariants.{Direct}
 use Rattle.bm_base.specs.declared.label.Tag.{Tag}
-use Rattle.bm_core.specs.declared.events.Event.{Event}
 use Rattle.bm_core.specs.declared.events.Stage.{Stage}
 use Rattle.bm_core.specs.declared.events.What.{What}
 use Rattle.bm_core.specs.declared.events.What.TheVariants.{Publish, Switch, Steer, Lose, Arrive, Close, Retire, Sync}
 use Rattle.bm_core.specs.Accounts.{Rules, steers_packet}
-use Rattle.bm_merge.specs.Notes.{Note, many, total}
+use Rattle.bm_merge.specs.Notes.{Note}
 use Rattle.bm_merge.proofs.Noting.{each_append, each_so, total_append}
 use Rattle.bm_mux.specs.declared.item.Steered.{Steered}
 use Rattle.bm_mux.specs.Muxes.{MuxState}
@@ -163,7 +160,7 @@ delivered_none F stage servers sents fates w =
     λ stint deeds low kept owed first. ([], kept, omega arith, tt, pays_for_none, tt)
 
 -- the worker's count of steps is no part of the record
-kept_steps : (F : Rules) (stage : Stage) (servers : List Serving) (stint : Stint) (now next : MuxWorker) (d : List Note)
+pub kept_steps : (F : Rules) (stage : Stage) (servers : List Serving) (stint : Stint) (now next : MuxWorker) (d : List Note)
     → next.mux ≡ now.mux → next.porter ≡ now.porter → Kept F stage servers stint now d
     → Kept F stage servers stint next d
 kept_steps F stage servers stint now next d mux porter kept =

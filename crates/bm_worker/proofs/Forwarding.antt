@@ -1,10 +1,9 @@
 -- A copy that is forwarded, and the copies of a steered packet.
-use Rattle.std.proofs.Common.{◌≡◌, ◌≢◌, ℕ, zero, suc, ◌+◌, ◌*◌, ◌^◌, ◌<◌, ◌≤◌, ◌==◌, ◌&&◌, max, Bool, true, false, cond}
+use Rattle.std.proofs.Common.{◌≡◌, ◌≢◌, ℕ, ◌+◌, ◌<◌, ◌≤◌, max, true, false}
 use Rattle.std.proofs.Common.{List, [], ◌∷◌, ◌++◌, length}
 use Rattle.std.proofs.Common.{slice_get, reverse, Option, Some, None, Result, Ok, Err, refl, sym, ap, ◌∙◌, subst}
 use Rattle.std.proofs.Common.{append_assoc, arith, option_map}
-use Rattle.std.specs.Prelude.{IsErrAnd, IsOk, MatchResult, IfSome}
-use Rattle.std.specs.List.{AllByRecursion}
+use Rattle.std.specs.Prelude.{IsErrAnd, IsOk, IfSome}
 use Rattle.std.proofs.lemmas.Bool.{eq-eqb, and_from}
 use Rattle.std.proofs.lemmas.List.{length-append}
 use Rattle.std.proofs.lemmas.Option.{same_Some}
@@ -16,10 +15,10 @@ use Rattle.bm_base.specs.declared.label.Hop.{Hop}
 use Rattle.bm_base.specs.declared.label.Hop.TheVariants.{Direct, Chained}
 use Rattle.bm_base.specs.declared.label.Label.{Label}
 use Rattle.bm_base.specs.declared.label.Tag.{Tag}
-use Rattle.bm_base.specs.Labels.{arrives_at, tag_for, tag_of}
-use Rattle.bm_base.specs.Tags.{GoesRight, IsServer, IsTag}
+use Rattle.bm_base.specs.Labels.{tag_for, tag_of}
+use Rattle.bm_base.specs.Tags.{IsServer}
 use Rattle.bm_encap.specs.declared.fault.EncapFault.{EncapFault}
-use Rattle.bm_encap.specs.Faults.{chained, chained_from, next_hop, next_of, spelling_of}
+use Rattle.bm_encap.specs.Faults.{chained, chained_from, next_of, spelling_of}
 use Rattle.bm_encap.specs.Spellings.{spelling}
 use Rattle.bm_encap.proofs.Spelled.{spelling_read}
 use Rattle.bm_table.specs.Tables.{is_known}
@@ -28,10 +27,10 @@ use Rattle.bm_core.specs.declared.events.Verdict.{Verdict}
 use Rattle.bm_core.specs.declared.events.Verdict.TheVariants.{Accept, Process, Forward, Reset, Drop}
 use Rattle.bm_core.specs.declared.events.What.TheVariants.{Arrive}
 use Rattle.bm_core.specs.Accounts.{Rules, steers_packet}
-use Rattle.bm_core.specs.Past.{is_forward, sending_of, same_hop}
+use Rattle.bm_core.specs.Past.{is_forward, sending_of}
 use Rattle.bm_core.specs.Stages.{IsSound}
-use Rattle.bm_merge.specs.Notes.{Note, many, total}
-use Rattle.bm_merge.proofs.Noting.{each_append, total_append}
+use Rattle.bm_merge.specs.Notes.{Note}
+use Rattle.bm_merge.proofs.Noting.{each_append}
 use Rattle.bm_mux.specs.Muxes.{MuxState}
 use Rattle.bm_server.specs.Servings.{Serving}
 use Rattle.bm_worker.specs.declared.stop.Stop.{Stop}
@@ -39,8 +38,8 @@ use Rattle.bm_worker.specs.declared.stop.Stop.TheVariants.{Memory}
 use Rattle.bm_worker.specs.declared.worker.MuxWorker.{MuxWorker}
 use Rattle.bm_worker.specs.Arrivals.{HasCome, IsCopy}
 use Rattle.bm_worker.specs.Deeds.{HasServer, IsSamePorter, Suits, arrival, no_fate}
-use Rattle.bm_worker.specs.Debts.{Carries, CarriesOne, Debt, GoesOn, HasCarried, IsAmong, IsCopyOf, IsForwarded, IsOf}
-use Rattle.bm_worker.specs.Debts.{IsPaid, IsUpTo, Owes, Pays}
+use Rattle.bm_worker.specs.Debts.{Carries, CarriesOne, Debt, HasCarried, IsCopyOf, IsForwarded, IsOf}
+use Rattle.bm_worker.specs.Debts.{Owes, Pays}
 use Rattle.bm_worker.specs.Debts.{debt, with_copies}
 use Rattle.bm_worker.specs.Phases.{IsStopOf, Kept, Stint, mux_of}
 use Rattle.bm_worker.specs.Told.{Stays}
@@ -49,7 +48,7 @@ use Rattle.bm_worker.proofs.Copying.{copy_reads}
 use Rattle.bm_worker.proofs.Keeping.{more_many}
 use Rattle.bm_worker.proofs.Known.{table_entry}
 use Rattle.bm_worker.proofs.Labels.{label_entry}
-use Rattle.bm_worker.proofs.Paying.{hop_same, no_sending, pays_forward, pays_more, pays_one, pays_whole}
+use Rattle.bm_worker.proofs.Paying.{pays_forward, pays_more, pays_one}
 use Rattle.bm_worker.proofs.Steps.{kept_arrival, kept_stays, owes_more}
 
 -- THE OCTETS

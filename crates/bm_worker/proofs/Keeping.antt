@@ -1,12 +1,10 @@
 -- The record of a phase goes on with more deeds.
-use Rattle.std.proofs.Common.{◌≡◌, ℕ, zero, suc, ◌+◌, ◌-◌, ◌<◌, ◌≤◌, ◌==◌, ◌&&◌, max, Bool, true, false, cond, List, []}
+use Rattle.std.proofs.Common.{◌≡◌, ℕ, zero, suc, ◌≤◌, max, Bool, true, false, cond, List, []}
 use Rattle.std.proofs.Common.{◌∷◌, ◌++◌}
-use Rattle.std.proofs.Common.{length, reverse, slice_get, Option, Some, None, inl, inr, refl, sym, ap, ◌∙◌, subst}
-use Rattle.std.proofs.Common.{append_assoc, append-nil, arith}
-use Rattle.std.specs.Prelude.{IfSome, MatchBool}
+use Rattle.std.proofs.Common.{reverse, slice_get, Some, None, refl, sym, ap, ◌∙◌, subst}
+use Rattle.std.proofs.Common.{append_assoc, arith}
 use Rattle.std.specs.List.{AllByRecursion}
 use mathlib.Core.List.{IsPrefix}
-use Rattle.bm_base.specs.declared.label.Hop.{Hop}
 use Rattle.bm_core.specs.declared.events.Event.{Event}
 use Rattle.bm_core.specs.declared.events.Stage.{Stage}
 use Rattle.bm_core.specs.declared.events.What.{What}
@@ -14,18 +12,17 @@ use Rattle.bm_core.specs.declared.events.What.TheVariants.{Publish, Switch, Stee
 use Rattle.bm_core.specs.Accounts.{Rules, steers_packet}
 use Rattle.bm_core.specs.Runs.{Actor, AtEach}
 use Rattle.bm_core.specs.Runs.Actor.{MuxOf}
-use Rattle.bm_core.specs.Threads.{packet_of}
-use Rattle.bm_merge.specs.Notes.{Note, events_of, greatest, many, total}
+use Rattle.bm_merge.specs.Notes.{Note, events_of, greatest, many}
 use Rattle.bm_merge.specs.Workers.{IsOwed, home_part, is_copyless, is_due_at, is_home}
 use Rattle.bm_merge.proofs.Noting.{each_append, each_so, events_append, greatest_append, total_append}
-use Rattle.bm_publish.specs.Posts.{Continues, last_version}
+use Rattle.bm_publish.specs.Posts.{last_version}
 use Rattle.bm_mux.specs.Muxes.{IsSameMux, post_clock}
 use Rattle.bm_server.specs.Servings.{Serving}
 use Rattle.bm_worker.specs.declared.worker.MuxWorker.{MuxWorker}
 use Rattle.bm_worker.specs.Deeds.{Hears, IsSamePorter, clock_of}
-use Rattle.bm_worker.specs.Phases.{AreCopies, IsDeed, IsInOrder, IsLossOf, IsMuxGiven, IsTurn, Kept, Stint, mux_log}
+use Rattle.bm_worker.specs.Phases.{AreCopies, IsDeed, IsInOrder, IsLossOf, IsMuxGiven, Kept, Stint, mux_log}
 use Rattle.bm_worker.specs.Phases.{mux_of}
-use Rattle.bm_worker.proofs.Hearing.{hears_more, hears_none, hears_stays}
+use Rattle.bm_worker.proofs.Hearing.{hears_more}
 
 -- MORE DEEDS
 

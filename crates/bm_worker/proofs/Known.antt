@@ -1,7 +1,7 @@
 -- The servers that a sound script knows, and those of its entries.
 use Rattle.std.proofs.Common.{◌≡◌, ◌≢◌, ℕ, zero, suc, ◌+◌, ◌-◌, ◌*◌, ◌^◌, ◌%◌, ◌<◌, ◌≤◌, true, false, Bool, inl, inr}
 use Rattle.std.proofs.Common.{List, [], ◌∷◌, Option}
-use Rattle.std.proofs.Common.{Some, None, length, slice_get, get_or, refl, sym, ap, ◌∙◌, subst, arith, ◌||◌}
+use Rattle.std.proofs.Common.{Some, None, length, slice_get, get_or, refl, sym, subst, arith, ◌||◌}
 use Rattle.std.specs.Prelude.{IfSome, All}
 use Rattle.std.specs.List.{AllByRecursion}
 use Rattle.std.proofs.lemmas.Bool.{or_cases, eq-eqb}

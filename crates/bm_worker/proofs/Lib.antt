@@ -14,3 +14,7 @@ pub mod Delivering
 pub mod Steering
 pub mod Batching
 pub mod Phasing
+pub mod Going
+pub mod Beginning
+pub mod Working
+pub mod SmallRuns

@@ -12,10 +12,10 @@ use Rattle.bm_core.specs.declared.events.Verdict.{Verdict}
 use Rattle.bm_core.specs.declared.events.Verdict.TheVariants.{Accept, Process, Forward, Reset, Drop}
 use Rattle.bm_core.specs.declared.events.What.TheVariants.{Arrive}
 use Rattle.bm_core.specs.Past.{same_hop, is_forward, sending_of}
-use Rattle.bm_merge.specs.Notes.{Note, total}
+use Rattle.bm_merge.specs.Notes.{Note}
 use Rattle.bm_merge.proofs.Noting.{total_append}
 use Rattle.bm_worker.specs.Deeds.{arrival, loss}
-use Rattle.bm_worker.specs.Debts.{Debt, Pays, comes, comes_by, copyless_at, debt, debt_copyless, debt_gives}
+use Rattle.bm_worker.specs.Debts.{Debt, Pays, comes, comes_by, copyless_at, debt, debt_gives}
 use Rattle.bm_worker.specs.Debts.{debt_gives_by}
 use Rattle.bm_worker.specs.Debts.{gives, gives_by, is_of, lost_at, with_copies}
 

@@ -1,64 +1,54 @@
 -- How a phase goes on: its first look, its batches, and its end.
-use Rattle.std.proofs.Common.{◌≡◌, ◌≢◌, ℕ, zero, suc, ◌+◌, ◌-◌, ◌*◌, ◌^◌, ◌<◌, ◌≤◌, ◌==◌, ◌&&◌, ◌||◌, max, Bool, true}
+use Rattle.std.proofs.Common.{◌≡◌, ℕ, ◌+◌, ◌<◌, ◌≤◌, ◌==◌, ◌&&◌, ◌||◌, Bool, true}
 use Rattle.std.proofs.Common.{false, cond, List, [], ◌∷◌, ◌++◌}
-use Rattle.std.proofs.Common.{length, reverse, slice_get, Option, Some, None, inl, inr, refl, sym, ap, ◌∙◌, subst}
+use Rattle.std.proofs.Common.{length, reverse, Option, inl, inr, refl, sym, ap, ◌∙◌, subst}
 use Rattle.std.proofs.Common.{append_assoc, append-nil, arith, ltb, leb}
-use Rattle.std.specs.Prelude.{IfSome, MatchBool}
 use Rattle.std.specs.List.{AllByRecursion}
-use Rattle.std.proofs.lemmas.Bool.{cases_Bool, cases_lt, eq-eqb, ne_eqb, eqb-true, eqb-false, ltb-true, ltb-false}
-use Rattle.std.proofs.lemmas.Bool.{lt-ltb, le-ltb, le-leb, lt-leb, leb-true, and_from, and_parts}
+use Rattle.std.proofs.lemmas.Bool.{cases_lt}
+use Rattle.std.proofs.lemmas.Bool.{lt-ltb, le-ltb, le-leb, lt-leb}
 use Rattle.std.proofs.lemmas.List.{reverse-append, length-append}
-use Rattle.std.proofs.lemmas.Option.{same_Some}
-use mathlib.Core.List.{IsPrefix}
 use Rattle.bm_base.specs.declared.fate.Fate.{Fate}
-use Rattle.bm_base.specs.declared.flow.Segment.{Segment}
 use Rattle.bm_base.specs.declared.ids.MuxId.{MuxId}
 use Rattle.bm_base.specs.declared.label.Hop.{Hop}
-use Rattle.bm_base.specs.declared.label.Label.{Label}
 use Rattle.bm_core.specs.declared.events.Event.{Event}
 use Rattle.bm_core.specs.declared.events.Stage.{Stage}
 use Rattle.bm_core.specs.declared.events.What.{What}
 use Rattle.bm_core.specs.declared.events.What.TheVariants.{Publish, Switch, Steer, Lose, Arrive, Close, Retire, Sync}
-use Rattle.bm_core.specs.Accounts.{IsRouted, Routes, Rules, count_of, steers_packet}
-use Rattle.bm_core.specs.Past.{is_switch_of, label_of, segment_of, version_at}
-use Rattle.bm_core.specs.Runs.{AtEach, next_clock}
-use Rattle.bm_core.specs.Runs.Actor.{MuxOf}
-use Rattle.bm_core.specs.Threads.{packet_of}
-use Rattle.bm_merge.specs.Notes.{Note, events_of, greatest, many, switched_since, total}
-use Rattle.bm_merge.specs.Workers.{IsAnswer, IsCarrier, IsOwed, carries, home_part}
+use Rattle.bm_core.specs.Accounts.{Rules, count_of, steers_packet}
+use Rattle.bm_core.specs.Past.{is_switch_of, label_of, version_at}
+use Rattle.bm_core.specs.Runs.{AtEach}
+use Rattle.bm_merge.specs.Notes.{Note, events_of, greatest, many, switched_since}
 use Rattle.bm_merge.proofs.Noting.{each_append, each_so, events_append, greatest_append, total_append, total_none}
-use Rattle.bm_publish.specs.Posts.{Continues, IsPosted, Posted, last_post, last_version}
+use Rattle.bm_publish.specs.Posts.{Posted, last_post, last_version}
 use Rattle.bm_mux.specs.declared.item.MuxItem.{MuxItem}
 use Rattle.bm_mux.specs.declared.item.Steered.{Steered}
-use Rattle.bm_mux.specs.Muxes.{HasBegun, HasSteered, IsBatch, IsOwn, IsSameMux, MuxState}
+use Rattle.bm_mux.specs.Muxes.{IsBatch, IsSameMux}
 use Rattle.bm_mux.specs.Steers.{at_clock, is_lose, sent, steer_clock, steering_clock, steers, switch_to, switches}
 use Rattle.bm_server.specs.Servings.{Serving, shard_at}
 use Rattle.bm_server.specs.Seats.{Seated}
 use Rattle.bm_worker.specs.declared.worker.MuxWorker.{MuxWorker}
-use Rattle.bm_worker.specs.Batches.{AreDrawn, AreSettled, HasOnlyLooked, HasSeen, IsDelivery, IsDoneTo, IsItemOf}
-use Rattle.bm_worker.specs.Batches.{IsLogged, IsSteerTo, PaysFor, Rise}
+use Rattle.bm_worker.specs.Batches.{AreDrawn, HasSeen, IsDelivery, IsItemOf}
+use Rattle.bm_worker.specs.Batches.{IsLogged, Rise}
 use Rattle.bm_worker.specs.Batches.{last_packet, last_sent, sent_notes, steering, switch_note, switch_notes}
-use Rattle.bm_worker.specs.Deeds.{Hears, IsSamePorter, Said, clock_of, noted, saying}
+use Rattle.bm_worker.specs.Deeds.{Hears, Said, clock_of, saying}
 use Rattle.bm_worker.specs.Told.{told_there}
-use Rattle.bm_worker.specs.Debts.{GrowsByLosses, IsUpTo, comes, comes_by, copyless_at, gives, gives_by, lost_at}
-use Rattle.bm_worker.specs.Phases.{AreCopies, AreFew, IsDeed, IsInOrder, IsMuxGiven, IsOlder, IsTurn, Kept, Phase}
+use Rattle.bm_worker.specs.Debts.{GrowsByLosses}
+use Rattle.bm_worker.specs.Phases.{AreCopies, IsDeed, IsMuxGiven}
 use Rattle.bm_worker.specs.Phases.{Stint, is_steer, mux_log, mux_of}
-use Rattle.bm_worker.specs.Turns.{RoutedBy, is_mux, is_turn, mux_at}
-use Rattle.bm_worker.proofs.Batching.{batch_version, sent_deeds, switch_deeds}
+use Rattle.bm_worker.specs.Turns.{is_mux, is_turn, mux_at}
+use Rattle.bm_worker.proofs.Batching.{sent_deeds, switch_deeds}
 use Rattle.bm_worker.proofs.Copying.{copies_as}
-use Rattle.bm_worker.proofs.Delivering.{ups_to_more}
-use Rattle.bm_worker.proofs.Hearing.{hears_none}
-use Rattle.bm_worker.proofs.Keeping.{Step, at_append, at_so, kept_more, more_many}
-use Rattle.bm_worker.proofs.Steering.{AreSteerings, Given, IsAbove, IsSteeringOf, final, final_above, gives_steers}
+use Rattle.bm_worker.proofs.Keeping.{Step, at_append, at_so}
+use Rattle.bm_worker.proofs.Steering.{AreSteerings, Given, IsSteeringOf, final, final_above, gives_steers}
 use Rattle.bm_worker.proofs.Steering.{gives_switch, greatest_sent, label_high}
-use Rattle.bm_worker.proofs.Steering.{label_low, last_posted, logged_more, own_steering, sent_events, sent_kinds}
-use Rattle.bm_worker.proofs.Steering.{steered_clock, steered_logged, steering_up_to}
+use Rattle.bm_worker.proofs.Steering.{label_low, sent_events, sent_kinds}
+use Rattle.bm_worker.proofs.Steering.{steered_clock}
 use Rattle.bm_worker.proofs.Steering.{steerings_home, steerings_noted, steerings_order, steers_above, switch_events}
 use Rattle.bm_worker.proofs.Steering.{switch_kinds, switches_above}
 
 -- A BATCH'S LOG
 
-abbrev batch_notes : MuxId → Posted → List Event → List MuxItem → List Fate → List Note
+abbrev pub batch_notes : MuxId → Posted → List Event → List MuxItem → List Fate → List Note
 batch_notes m seen past items fates =
     sent_notes m (sent m seen (steering_clock (switches m seen past ++ past)) items) fates ++ switch_notes m seen past
 
@@ -82,7 +72,7 @@ batch_turned m seen items log log' out out' batch =
     ∙ ap (λ (l : List Event). reverse st ++ l)
     (reverse-append log sw ∙ ap (λ (l : List Event). l ++ reverse log) (reverse_switches m seen (reverse log))))
 
-batch_kinds : (m : MuxId) (seen : Posted) (past : List Event) (items : List MuxItem) (fates : List Fate)
+pub batch_kinds : (m : MuxId) (seen : Posted) (past : List Event) (items : List MuxItem) (fates : List Fate)
     → AreSteerings m (batch_notes m seen past items fates)
 batch_kinds m seen past items fates =
     each_append (λ (n : Note). IsSteeringOf m n.event.what)
@@ -102,7 +92,7 @@ batch_log F stage m seen past items fates drawn =
 
 -- what the Switch leaves
 
-switch_logged : (m : MuxId) (low : ℕ) (seen : Posted) (past : List Event) → AllByRecursion (IsLogged m low) past
+pub switch_logged : (m : MuxId) (low : ℕ) (seen : Posted) (past : List Event) → AllByRecursion (IsLogged m low) past
     → AllByRecursion (IsLogged m low) (switches m seen past ++ past)
 switch_logged m low seen past all = of_test (ltb (version_at past m).0 (last_version seen)) where
   of_test : (b : Bool)
@@ -121,7 +111,7 @@ switched_more since m (e ∷ more) past is =
     or_right (is_switch_of e.what m && leb since e.clock.0) (switched_since since m (more ++ past))
     (switched_more since m more past is)
 
-switch_begun : (m : MuxId) (seen : Posted) (past : List Event)
+pub switch_begun : (m : MuxId) (seen : Posted) (past : List Event)
     → steering_clock past ≤ steering_clock (switches m seen past ++ past)
 switch_begun m seen past = of_test (ltb (version_at past m).0 (last_version seen)) where
   of_test : (b : Bool)
@@ -138,7 +128,7 @@ switch_greatest m seen past = of_test (ltb (version_at past m).0 (last_version s
   of_test false = omega arith
 
 -- nothing of it is heard at a shard
-steerings_heard : (stage : Stage) (servers : List Serving) (m : MuxId) (x : List Note) (a b : List (List Seated))
+pub steerings_heard : (stage : Stage) (servers : List Serving) (m : MuxId) (x : List Note) (a b : List (List Seated))
     → b ≡ a → AreSteerings m x
     → Hears stage servers a b x
 steerings_heard stage servers m x a b same kinds p h server at =
@@ -213,7 +203,7 @@ batch_step F stage servers stint now next d low i items fates out out' id same b
 
 -- WHAT A BATCH LEAVES OF THE LOG
 
-event_plus : (P : Event → Type 0) (xs ys : List Event) → AllByRecursion P xs → AllByRecursion P ys
+pub event_plus : (P : Event → Type 0) (xs ys : List Event) → AllByRecursion P xs → AllByRecursion P ys
     → AllByRecursion P (xs ++ ys)
 event_plus P [] ys a b = b
 event_plus P (x ∷ xs) ys a b = (a.0, event_plus P xs ys a.1 b)
@@ -226,7 +216,7 @@ rise_to : (low : ℕ) (items : List MuxItem) → Rise low items → low ≤ last
 rise_to low [] rise = omega arith
 rise_to low (i ∷ items) rise = let old = rise_to i.packet items rise.1 in let lt = rise.0 in omega (arith, old, lt)
 
-steers_logged : (m : MuxId) (last low top : ℕ) (items : List MuxItem) → Rise low items → last_packet low items ≤ top
+pub steers_logged : (m : MuxId) (last low top : ℕ) (items : List MuxItem) → Rise low items → last_packet low items ≤ top
     → AllByRecursion (IsLogged m top) (reverse (steers m last items))
 steers_logged m last low top [] rise le = tt
 steers_logged m last low top (i ∷ items) rise le =
@@ -235,7 +225,7 @@ steers_logged m last low top (i ∷ items) rise le =
     (event_snoc (IsLogged m top) (reverse es) e (steers_logged m (steer_clock last i) i.packet top items rise.1 le)
     (record { own = refl; packet = (let old = rise_to i.packet items rise.1 in omega (arith, old, le)) }))
 
-lost_logged : (m : MuxId) (top : ℕ) (more : List Event) → AllByRecursion (λ (e : Event). is_lose e.what ≡ true) more
+pub lost_logged : (m : MuxId) (top : ℕ) (more : List Event) → AllByRecursion (λ (e : Event). is_lose e.what ≡ true) more
     → AllByRecursion (IsLogged m top) more
 lost_logged m top [] all = tt
 lost_logged m top (e ∷ more) all = (of_what e.what all.0, lost_logged m top more all.1) where
@@ -249,25 +239,25 @@ lost_logged m top (e ∷ more) all = (of_what e.what all.0, lost_logged m top mo
   of_what (Retire server h at result) is = absurd (cc)
   of_what Sync is = absurd (cc)
 
-each_reverse : (P : Event → Type 0) (xs : List Event) → AllByRecursion P xs → AllByRecursion P (reverse xs)
+pub each_reverse : (P : Event → Type 0) (xs : List Event) → AllByRecursion P xs → AllByRecursion P (reverse xs)
 each_reverse P [] all = tt
 each_reverse P (x ∷ xs) all =
     subst (λ (l : List Event). AllByRecursion P l) (sym (reverse-append (x ∷ []) xs))
     (event_snoc P (reverse xs) x (each_reverse P xs all.1) all.0)
 
 -- losses leave the mux's clock
-lost_clock : (more past : List Event) → AllByRecursion (λ (e : Event). is_lose e.what ≡ true) more
+pub lost_clock : (more past : List Event) → AllByRecursion (λ (e : Event). is_lose e.what ≡ true) more
     → steering_clock (more ++ past) ≡ steering_clock past
 lost_clock [] past all = refl
 lost_clock (e ∷ more) past all =
     ap (λ (b : Bool). cond b (steering_clock (more ++ past)) e.clock.0) all.0 ∙ lost_clock more past all.1
 
-lost_turned : (n : ℕ) (a b : List Event) (grows : GrowsByLosses n a b) → reverse b ≡ reverse grows.0 ++ reverse a
+pub lost_turned : (n : ℕ) (a b : List Event) (grows : GrowsByLosses n a b) → reverse b ≡ reverse grows.0 ++ reverse a
 lost_turned n a b grows = ap (λ (l : List Event). reverse l) grows.1 ∙ reverse-append a grows.0
 
 -- COUNTS
 
-sent_many : (F : Rules) (m : MuxId) (seen : Posted) (k last : ℕ) (items : List MuxItem) (fates : List Fate)
+pub sent_many : (F : Rules) (m : MuxId) (seen : Posted) (k last : ℕ) (items : List MuxItem) (fates : List Fate)
     → AreDrawn F items fates
     → many (λ n. steers_packet n.event.what k) (sent_notes m (sent m seen last items) fates)
     ≡ count_of (λ (i : MuxItem). i.packet == k) items
@@ -280,7 +270,7 @@ sent_many F m seen k last (i ∷ items) (f ∷ fates) drawn =
     let old = sent_many F m seen k next items fates drawn.3 in
     let a = total_append (λ n. cond (steers_packet n.event.what k) 1 0) s (n ∷ []) in omega (arith, old, a)
 
-sent_steers : (F : Rules) (m : MuxId) (seen : Posted) (last : ℕ) (items : List MuxItem) (fates : List Fate)
+pub sent_steers : (F : Rules) (m : MuxId) (seen : Posted) (last : ℕ) (items : List MuxItem) (fates : List Fate)
     → AreDrawn F items fates
     → (many (λ n. is_steer n.event.what) (sent_notes m (sent m seen last items) fates) ≡ length items)
     × (length (sent_notes m (sent m seen last items) fates) ≡ length items)
@@ -295,7 +285,7 @@ sent_steers F m seen last (i ∷ items) (f ∷ fates) drawn =
     (omega (arith, one, a), omega (arith, two, b))
 
 -- a delivery is no Steer
-delivery_none : (test : What → Bool)
+pub delivery_none : (test : What → Bool)
     → ((k : ℕ) (hop : Hop) (server : _) (verdict : _) → test (Arrive k hop server verdict) ≡ false)
     → ((k : ℕ) (hop : Hop) → test (Lose k hop) ≡ false) → (y : List Note)
     → AllByRecursion (λ n. IsDelivery n.event.what) y
@@ -314,22 +304,14 @@ delivery_none test arrive lose y all =
       of_what (Retire server h at result) is = absurd is
       of_what Sync is = absurd is
 
--- a Steer or a Switch pays nothing
-steering_pays : (m : MuxId) (f : Note → ℕ)
-    → ((n : Note) (what : What) → n.event.what ≡ what → IsSteeringOf m what → f n ≡ 0) → (x : List Note)
-    → AreSteerings m x → total f x ≡ 0
-steering_pays m f none x all =
-    total_none f x
-    (each_so (λ n. IsSteeringOf m n.event.what) (λ n. f n ≡ 0) x (λ n is. none n n.event.what refl is) all)
-
 -- HOW FAR
 
-last_of_sent : (m : MuxId) (seen : Posted) (last low : ℕ) (items : List MuxItem)
+pub last_of_sent : (m : MuxId) (seen : Posted) (last low : ℕ) (items : List MuxItem)
     → last_sent low (sent m seen last items) ≡ last_packet low items
 last_of_sent m seen last low [] = refl
 last_of_sent m seen last low (i ∷ items) = last_of_sent m seen (steer_clock last i) i.packet items
 
-turn_split : (routes : List (Option MuxId)) (m from low end k : ℕ) → from ≤ low → low ≤ end
+pub turn_split : (routes : List (Option MuxId)) (m from low end k : ℕ) → from ≤ low → low ≤ end
     → ◌≡◌ {A = ℕ} (cond (is_turn routes m from end k) 1 0)
     (cond (is_turn routes m low end k) 1 0 + cond (is_turn routes m from low k) 1 0)
 turn_split routes m from low end k a b = elim (cases_lt low k) [

@@ -1,47 +1,39 @@
 -- What a mux logs and sends of a batch, among the deeds of a phase.
-use Rattle.std.proofs.Common.{◌≡◌, ◌≢◌, ℕ, zero, suc, ◌+◌, ◌-◌, ◌*◌, ◌^◌, ◌<◌, ◌≤◌, ◌==◌, ◌&&◌, ◌||◌, max, Bool, true}
+use Rattle.std.proofs.Common.{◌≡◌, ℕ, ◌+◌, ◌<◌, ◌≤◌, ◌==◌, ◌&&◌, max, Bool, true}
 use Rattle.std.proofs.Common.{false, cond, List, [], ◌∷◌, ◌++◌}
 use Rattle.std.proofs.Common.{length, reverse, slice_get, Option, Some, None, inl, inr, refl, sym, ap, ◌∙◌, subst}
-use Rattle.std.proofs.Common.{append_assoc, append-nil, arith, ltb, leb}
-use Rattle.std.specs.Prelude.{IfSome, MatchBool, unwrap_or}
+use Rattle.std.proofs.Common.{append_assoc, append-nil, arith, ltb}
+use Rattle.std.specs.Prelude.{MatchBool, unwrap_or}
 use Rattle.std.specs.List.{AllByRecursion}
-use Rattle.std.proofs.lemmas.Bool.{cases_Bool, eq-eqb, ne_eqb, eqb-true, eqb-false, ltb-true, ltb-false, lt-ltb, le-ltb}
-use Rattle.std.proofs.lemmas.Bool.{le-leb, lt-leb, and_from}
-use Rattle.std.proofs.lemmas.List.{reverse-append, length-append}
-use Rattle.std.proofs.lemmas.Option.{same_Some}
-use mathlib.Core.List.{IsPrefix}
+use Rattle.std.proofs.lemmas.Bool.{cases_Bool, eq-eqb, ne_eqb, eqb-true, ltb-true}
+use Rattle.std.proofs.lemmas.Bool.{lt-leb}
+use Rattle.std.proofs.lemmas.List.{reverse-append}
 use Rattle.bm_base.specs.declared.fate.Fate.{Fate}
-use Rattle.bm_base.specs.declared.flow.Segment.{Segment}
-use Rattle.bm_base.specs.declared.ids.Moment.{Moment}
 use Rattle.bm_base.specs.declared.ids.MuxId.{MuxId}
-use Rattle.bm_base.specs.declared.ids.Version.{Version}
-use Rattle.bm_base.specs.declared.label.Hop.TheVariants.{Direct}
 use Rattle.bm_base.specs.declared.label.Label.{Label}
 use Rattle.bm_core.specs.declared.events.Event.{Event}
 use Rattle.bm_core.specs.declared.events.Stage.{Stage}
 use Rattle.bm_core.specs.declared.events.What.{What}
 use Rattle.bm_core.specs.declared.events.What.TheVariants.{Publish, Switch, Steer, Lose, Arrive, Close, Retire, Sync}
-use Rattle.bm_core.specs.Accounts.{Rules, count_of, counts, steers_packet}
-use Rattle.bm_core.specs.Past.{is_switch_of, label_after, label_of, labelled, segment_of, version_at}
+use Rattle.bm_core.specs.Accounts.{Rules, counts}
+use Rattle.bm_core.specs.Past.{label_after, label_of, version_at}
 use Rattle.bm_core.specs.Runs.{AtEach, actor_of, is_by, next_clock, own_clock}
 use Rattle.bm_core.specs.Runs.Actor.{MuxOf, ShardOf}
-use Rattle.bm_core.specs.Threads.{last_own, packet_of, record_moment, steers_later}
-use Rattle.bm_merge.specs.Notes.{Note, events_of, greatest, many, switched_since, total}
+use Rattle.bm_core.specs.Threads.{last_own, record_moment, steers_later}
+use Rattle.bm_merge.specs.Notes.{Note, events_of, greatest, switched_since}
 use Rattle.bm_merge.specs.Workers.{home_of, home_part, is_home}
-use Rattle.bm_merge.proofs.Noting.{each_append, each_so, events_append, greatest_append, total_append}
-use Rattle.bm_publish.specs.Posts.{Continues, Posted, last_or, last_post, last_version}
+use Rattle.bm_merge.proofs.Noting.{each_append, events_append, greatest_append}
+use Rattle.bm_publish.specs.Posts.{Posted, last_or, last_post, last_version}
 use Rattle.bm_mux.specs.declared.item.MuxItem.{MuxItem}
 use Rattle.bm_mux.specs.declared.item.Steered.{Steered}
 use Rattle.bm_mux.specs.Muxes.{IsOwn, post_clock}
-use Rattle.bm_mux.specs.Steers.{at_clock, is_lose, sent, sent_for, steer_clock, steering_clock, steers, switch_to}
+use Rattle.bm_mux.specs.Steers.{at_clock, is_lose, sent, steer_clock, steering_clock, steers, switch_to}
 use Rattle.bm_mux.specs.Steers.{switches}
-use Rattle.bm_server.specs.Servings.{Serving}
-use Rattle.bm_worker.specs.Batches.{AreDrawn, AreOwed, IsItemOf, IsLogged, IsOwed, IsSteerTo, Rise, last_packet}
+use Rattle.bm_worker.specs.Batches.{AreDrawn, IsItemOf, IsLogged, IsSteerTo, Rise}
 use Rattle.bm_worker.specs.Batches.{sent_notes, steering, switch_note, switch_notes}
-use Rattle.bm_worker.specs.Deeds.{Said, clock_of, noted}
-use Rattle.bm_worker.specs.Debts.{IsAmong, IsUpTo, debt}
-use Rattle.bm_worker.specs.Phases.{IsDeed, IsInOrder, IsMuxGiven, Stint, is_steer, mux_log, mux_of}
-use Rattle.bm_worker.specs.Turns.{is_mux, is_turn, mux_at}
+use Rattle.bm_worker.specs.Deeds.{clock_of, noted}
+use Rattle.bm_worker.specs.Debts.{IsUpTo}
+use Rattle.bm_worker.specs.Phases.{IsInOrder, IsMuxGiven}
 use Rattle.bm_worker.proofs.Keeping.{at_append, at_so}
 
 -- WORDS

@@ -1,48 +1,43 @@
 -- The steps of a sending: a copy arrives, or the sending is lost.
-use Rattle.std.proofs.Common.{◌≡◌, ℕ, zero, suc, ◌+◌, ◌-◌, ◌<◌, ◌≤◌, ◌==◌, ◌&&◌, max, Bool, true, false, cond, List, []}
+use Rattle.std.proofs.Common.{◌≡◌, ℕ, ◌+◌, ◌-◌, ◌<◌, ◌≤◌, max, Bool, true, false, cond, List, []}
 use Rattle.std.proofs.Common.{◌∷◌, ◌++◌}
-use Rattle.std.proofs.Common.{length, reverse, slice_get, Option, Some, None, inl, inr, refl, sym, ap, ◌∙◌, subst}
-use Rattle.std.proofs.Common.{append_assoc, append-nil, arith, ltb}
-use Rattle.std.specs.Prelude.{IfSome, Result, Ok, Err, MatchResult}
+use Rattle.std.proofs.Common.{reverse, Option, Some, refl, sym, ap, ◌∙◌, subst}
+use Rattle.std.proofs.Common.{append-nil, arith}
 use Rattle.std.specs.Option.{option_map}
 use Rattle.std.specs.List.{AllByRecursion}
-use Rattle.std.proofs.lemmas.Bool.{cases_Bool, eq-eqb, le-ltb, eqb-true, and_from}
+use Rattle.std.proofs.lemmas.Bool.{eq-eqb, le-ltb, and_from}
 use Rattle.std.proofs.lemmas.List.{reverse-append}
-use Rattle.std.proofs.lemmas.Option.{same_Some}
 use Rattle.bm_base.specs.declared.fate.Fate.{Fate}
 use Rattle.bm_base.specs.declared.flow.Segment.{Segment}
 use Rattle.bm_base.specs.declared.ids.Moment.{Moment}
 use Rattle.bm_base.specs.declared.ids.MuxId.{MuxId}
 use Rattle.bm_base.specs.declared.label.Hop.{Hop}
-use Rattle.bm_base.specs.declared.label.Hop.TheVariants.{Direct, Chained}
-use Rattle.bm_base.specs.declared.label.Label.{Label}
 use Rattle.bm_core.specs.declared.events.Event.{Event}
 use Rattle.bm_core.specs.declared.events.Stage.{Stage}
 use Rattle.bm_core.specs.declared.events.Verdict.{Verdict}
 use Rattle.bm_core.specs.declared.events.What.{What}
 use Rattle.bm_core.specs.declared.events.What.TheVariants.{Publish, Switch, Steer, Lose, Arrive, Close, Retire, Sync}
 use Rattle.bm_core.specs.Accounts.{Rules, steers_packet}
-use Rattle.bm_core.specs.Past.{label_of, same_hop, segment_of, sends, shard}
+use Rattle.bm_core.specs.Past.{label_of, shard}
 use Rattle.bm_core.specs.Runs.{AtEach, is_by}
 use Rattle.bm_core.specs.Runs.Actor.{MuxOf, ShardOf}
-use Rattle.bm_merge.specs.Notes.{Note, events_of, many, total}
+use Rattle.bm_merge.specs.Notes.{Note, events_of, many}
 use Rattle.bm_merge.specs.Workers.{IsDrawn, arrives_after, is_copyless, is_due_at, is_home}
 use Rattle.bm_merge.proofs.Noting.{each_append, each_so, total_append, total_none}
 use Rattle.bm_publish.specs.Posts.{Continues, last_version}
 use Rattle.bm_mux.specs.Muxes.{IsSameMux, MuxState}
 use Rattle.bm_mux.specs.Steers.{at_clock}
 use Rattle.bm_server.specs.Servings.{Serving}
-use Rattle.bm_server.specs.Seats.{Seated}
 use Rattle.bm_worker.specs.declared.worker.MuxWorker.{MuxWorker}
 use Rattle.bm_worker.specs.Arrivals.{HasCome}
-use Rattle.bm_worker.specs.Deeds.{Hears, IsSamePorter, Suits, arrival, loss, no_fate}
+use Rattle.bm_worker.specs.Deeds.{Hears, IsSamePorter, Suits, arrival, loss}
 use Rattle.bm_worker.specs.Debts.{Debt, IsAmong, IsCopyOf, IsOf, IsUpTo, Owes}
 use Rattle.bm_worker.specs.Lost.{with_loss}
-use Rattle.bm_worker.specs.Phases.{AreCopies, IsDeed, IsInOrder, IsMuxGiven, Kept, Stint, mux_log, mux_of}
+use Rattle.bm_worker.specs.Phases.{AreCopies, IsMuxGiven, Kept, Stint, mux_log, mux_of}
 use Rattle.bm_worker.specs.Told.{Stays}
 use Rattle.bm_worker.proofs.Copying.{copies_as, copies_come, copies_stay, tag_hop}
 use Rattle.bm_worker.proofs.Hearing.{hears_arrival, hears_none, hears_stays}
-use Rattle.bm_worker.proofs.Keeping.{Step, kept_more, more_many}
+use Rattle.bm_worker.proofs.Keeping.{kept_more, more_many}
 
 -- what the mux gives beyond its log
 abbrev GivenNow : Stage → Stint → MuxWorker → MuxWorker → List Event → Event → Type 0

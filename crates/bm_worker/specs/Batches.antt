@@ -2,7 +2,7 @@
 -- is. Only the proofs of bodies use this.
 use Rattle.std.specs.Prelude.{◌≡◌, ◌<◌, ◌≤◌, ◌*◌, ◌^◌, ◌+◌, ℕ, true, ◌==◌, if◌then◌else◌, max}
 use Rattle.std.specs.Prelude.{nat_lt}
-use Rattle.std.specs.Prelude.{List, [], ◌∷◌, ◌++◌, length, reverse, Option, Some, Result}
+use Rattle.std.specs.Prelude.{List, [], ◌∷◌, ◌++◌, length, reverse, Option, Some, None, Result}
 use Rattle.std.specs.Prelude.{MatchResult}
 use Rattle.std.specs.List.{AllByRecursion}
 use Rattle.bm_base.specs.declared.fate.Fate.{Fate}
@@ -219,3 +219,16 @@ CarriesTo F stage servers routes from until old new result =
     → IsDoneTo F stage servers stint old from deeds
     → MatchResult result (λ end. (d : List Note) × IsDoneTo F stage servers stint new end d)
     (λ stop. HasEnded F stage servers stint new (Some stop))
+
+-- how far so many places may raise the worker's counts
+pub record GrowsBy (places : ℕ) (old new : MuxWorker) : Type 0 where
+  pub tries : new.porter.tries ≤ old.porter.tries + 12 * places
+  pub steps : new.steps ≤ old.steps + places
+  pub log : length new.mux.log ≤ length old.mux.log + 5 * places
+
+-- the phase is done, or the worker gave up in it and answers why
+abbrev pub EndsAs : Rules → Stage → List Serving → Stint → MuxWorker → Result (Unit {0}) Stop
+    → Type 0
+EndsAs F stage servers stint now result =
+    MatchResult result (λ _. HasEnded F stage servers stint now None)
+    (λ stop. HasEnded F stage servers stint now (Some stop))

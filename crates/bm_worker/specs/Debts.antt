@@ -23,7 +23,6 @@ use Rattle.bm_core.specs.declared.events.What.TheVariants.{Arrive, Lose}
 use Rattle.bm_core.specs.Accounts.{Rules, arrives, loses, steers_packet}
 use Rattle.bm_core.specs.Past.{label_of, same_hop, segment_of, sends}
 use Rattle.bm_merge.specs.Notes.{Note, many, total}
-use Rattle.bm_merge.specs.Workers.{is_due_at}
 use Rattle.bm_mux.specs.Muxes.{MuxState}
 use Rattle.bm_mux.specs.Steers.{is_lose}
 use Rattle.bm_server.specs.Servings.{Serving}

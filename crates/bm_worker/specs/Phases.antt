@@ -5,7 +5,6 @@ use Rattle.std.specs.Prelude.{false, MatchBool}
 use Rattle.std.specs.Prelude.{if◌then◌else◌, List, ◌++◌, length, reverse, slice_get, Option, Some}
 use Rattle.std.specs.Prelude.{None, IfSome, is_some}
 use Rattle.std.specs.List.{AllByRecursion}
-use Rattle.bm_base.specs.declared.flow.Segment.{Segment}
 use Rattle.bm_base.specs.declared.ids.MuxId.{MuxId}
 use Rattle.bm_base.specs.declared.label.Label.{Label}
 use Rattle.bm_base.specs.Labels.{tag_of}

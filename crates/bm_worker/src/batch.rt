@@ -24,10 +24,11 @@ use std::sync::Wait;
 const BATCH: usize = 256;
 
 /// Packets that a mux takes together, with the fates of their copies, and the place behind them.
+#[derive(Drop)]
 pub(crate) struct Batch<'a> {
-    items: Vec<MuxItem<'a>>,
-    fates: Vec<Fate>,
-    end: u32,
+    pub(crate) items: Vec<MuxItem<'a>>,
+    pub(crate) fates: Vec<Fate>,
+    pub(crate) end: u32,
 }
 
 /// Whether the packet of the record at this place is the mux's.
@@ -73,7 +74,7 @@ fn item_at<'a, F, G>(shared: &Shared<'a, F, G>, at: u32, mux: MuxId) -> MuxItem<
 }
 
 /// The mux's packets among the records at the places `from..until`, but no more than a batch has.
-fn collect<'a, F: Fn(u32, Hop) -> Fate, G>(
+pub(crate) fn collect<'a, F: Fn(u32, Hop) -> Fate, G>(
     shared: &Shared<'a, F, G>,
     mux: MuxId,
     from: u32,
@@ -123,7 +124,7 @@ fn fate_at(fates: &[Fate], at: usize) -> Fate
 
 impl MuxWorker {
     /// Delivers what was steered, in order.
-    fn deliver<W: Wait, F: Fn(u32, Hop) -> Fate, G: Gate>(
+    pub(crate) fn deliver<W: Wait, F: Fn(u32, Hop) -> Fate, G: Gate>(
         &mut self,
         rt: &W,
         shared: &Shared<'_, F, G>,

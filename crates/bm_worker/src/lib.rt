@@ -2,12 +2,14 @@
 #![tactic(auto)]
 
 mod batch;
+mod phase;
 mod place;
 mod porter;
 mod sends;
 mod shared;
 mod span;
 mod stop;
+mod work;
 mod worker;
 
 pub use place::place_of;
@@ -15,4 +17,8 @@ pub use porter::Porter;
 pub use shared::Shared;
 pub use span::Span;
 pub use stop::Stop;
+pub use work::work_all;
 pub use worker::MuxWorker;
+
+#[cfg(test)]
+mod tests;

@@ -1,10 +1,10 @@
 -- What the workers handed back keeps the promises of a threaded run.
-use Rattle.std.proofs.Common.{◌≡◌, ℕ, zero, suc, ◌+◌, ◌<◌, ◌≤◌, Bool, true, false, cond, ◌&&◌, ◌||◌, List, [], ◌∷◌}
+use Rattle.std.proofs.Common.{◌≡◌, ℕ, zero, suc, ◌+◌, ◌<◌, ◌≤◌, Bool, true, false, cond, List, [], ◌∷◌}
 use Rattle.std.proofs.Common.{◌++◌, length}
-use Rattle.std.proofs.Common.{Option, Some, None, refl, sym, ap, ◌∙◌, subst, arith, eqb, leb, ltb, inl, inr}
-use Rattle.std.specs.Prelude.{reverse, IfSome, is_some, option_map, unwrap_or, max, slice_get}
+use Rattle.std.proofs.Common.{Option, Some, None, refl, sym, ap, ◌∙◌, subst, arith, eqb, leb, inl, inr}
+use Rattle.std.specs.Prelude.{option_map, max, slice_get}
 use Rattle.std.specs.List.{AllByRecursion}
-use Rattle.std.proofs.lemmas.Bool.{cases_Bool, cases_lt, eq-eqb, eqb-true, and_parts, and_from, leb-false}
+use Rattle.std.proofs.lemmas.Bool.{cases_lt, eq-eqb, leb-false}
 use Rattle.std.proofs.lemmas.Option.{same_Some, slice_get_within}
 use Rattle.bm_table.proofs.Gets.{slice_get-append_left, slice_get-push}
 use Rattle.std.proofs.Common.{length-append}
@@ -15,27 +15,26 @@ use Rattle.bm_core.specs.declared.events.Event.{Event}
 use Rattle.bm_core.specs.declared.events.Stage.{Stage}
 use Rattle.bm_core.specs.declared.events.What.{What}
 use Rattle.bm_core.specs.declared.events.What.TheVariants.{Publish, Switch, Steer, Lose, Arrive, Close, Retire, Sync}
-use Rattle.bm_core.specs.Past.{segment_of, shard, newest, is_switch_of}
-use Rattle.bm_core.specs.Accounts.{Routes, Rules, is_sync}
-use Rattle.bm_core.specs.Runs.{Actor, actor_of, is_by, next_clock, AtEach}
+use Rattle.bm_core.specs.Past.{segment_of, shard, newest}
+use Rattle.bm_core.specs.Accounts.{Routes, Rules}
+use Rattle.bm_core.specs.Runs.{actor_of, is_by, next_clock, AtEach}
 use Rattle.bm_core.specs.Runs.Actor.{Controller, MuxOf, ShardOf}
 use Rattle.bm_core.specs.Threads.{is_publish_of, publish_clock, sync_clock, last_own}
 use Rattle.bm_shard.specs.Books.{Book}
-use Rattle.bm_merge.specs.Merges.{Log, named, IsEntry, Agree, AreLogs}
-use Rattle.bm_merge.specs.Notes.{Note, NotedLog, events_of, plain, all_notes, total, many, until}
-use Rattle.bm_merge.specs.Workers.{home_of, is_home, home_part, deeds_of, all_deeds, carries, own_before, looks_since}
-use Rattle.bm_merge.specs.Workers.{is_publish, IsGiven, IsMet, IsInItsPhase, ArePromises, AtNotes}
+use Rattle.bm_merge.specs.Merges.{Log, named, IsEntry, Agree}
+use Rattle.bm_merge.specs.Notes.{Note, NotedLog, events_of, plain, all_notes, until}
+use Rattle.bm_merge.specs.Workers.{home_of, is_home, home_part, deeds_of, all_deeds, own_before, looks_since}
+use Rattle.bm_merge.specs.Workers.{IsGiven, IsMet, IsInItsPhase, ArePromises}
 use Rattle.bm_merge.proofs.Phasing.{met_shared}
 use Rattle.bm_merge.proofs.Reaching.{one_if}
 use Rattle.bm_world.specs.Shards.{notes_of}
 use Rattle.bm_mux.specs.Muxes.{post_clock}
-use Rattle.bm_worker.specs.Phases.{mux_log}
-use Rattle.bm_world.specs.Handed.{posted_clocks, control_log, IsMuxGivenBy, IsControlStep, IsControl}
-use Rattle.bm_world.specs.Handed.{IsCarriage, IsBookOfAll, AreHandedBack}
-use Rattle.bm_world.proofs.Homes.{home_is, home_each, carried_not_control}
+use Rattle.bm_world.specs.Handed.{posted_clocks, control_log, IsMuxGivenBy, IsControlStep}
+use Rattle.bm_world.specs.Handed.{IsBookOfAll, AreHandedBack}
+use Rattle.bm_world.proofs.Homes.{home_is, carried_not_control}
 use Rattle.bm_world.proofs.Logs.{mux_logs, shard_logs, logs_of, book_notes, are_seated, own_logs}
 use Rattle.bm_world.proofs.Deeds.{are_workers, have_homes, have_seats, all_shared, all_carried, steered_once}
-use Rattle.bm_world.proofs.Entries.{at_notes, at_so, control_entries, mux_entries, posted_at, posts_count}
+use Rattle.bm_world.proofs.Entries.{at_notes, at_so, control_entries, mux_entries, posts_count}
 use Rattle.bm_world.proofs.Booked.{book_entries, book_given, book_actors}
 
 -- ALL LOGS

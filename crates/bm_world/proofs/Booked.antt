@@ -1,47 +1,44 @@
 -- The entries of the shards' books: what their callers give, and their order.
-use Rattle.std.proofs.Common.{◌≡◌, ℕ, zero, suc, ◌+◌, ◌<◌, ◌≤◌, Bool, true, false, cond, ◌&&◌, ◌||◌, List, [], ◌∷◌}
-use Rattle.std.proofs.Common.{◌++◌, length}
-use Rattle.std.proofs.Common.{Option, Some, None, refl, sym, ap, ◌∙◌, subst, arith, eqb, leb, ltb, inl, inr}
-use Rattle.std.specs.Prelude.{reverse, IfSome, is_some, option_map, unwrap_or}
+use Rattle.std.proofs.Common.{◌≡◌, ℕ, zero, suc, ◌+◌, ◌≤◌, Bool, true, false, cond, ◌&&◌, List, [], ◌∷◌}
+use Rattle.std.proofs.Common.{length}
+use Rattle.std.proofs.Common.{Option, Some, None, refl, sym, ap, ◌∙◌, subst, arith, eqb, inl, inr}
 use Rattle.std.specs.List.{AllByRecursion}
-use Rattle.std.proofs.lemmas.Bool.{cases_Bool, cases_lt, eq-eqb, eqb-true, and_parts, and_from}
+use Rattle.std.proofs.lemmas.Bool.{cases_lt, eq-eqb, eqb-true, and_parts}
 use Rattle.bm_base.specs.declared.ids.ServerId.{ServerId}
 use Rattle.bm_base.specs.declared.ids.Moment.{Moment}
 use Rattle.bm_base.specs.declared.flow.Flow.{Flow}
-use Rattle.bm_base.specs.declared.flow.Segment.{Segment}
 use Rattle.bm_core.specs.declared.events.Event.{Event}
 use Rattle.bm_core.specs.declared.events.Local.{Local}
 use Rattle.bm_core.specs.declared.events.Stage.{Stage}
 use Rattle.bm_core.specs.declared.events.What.{What}
 use Rattle.bm_core.specs.declared.events.What.TheVariants.{Publish, Switch, Steer, Lose, Sync}
 use Rattle.bm_core.specs.declared.events.What.TheVariants.{Arrive as Arrives, Close as Closes, Retire as Retires}
-use Rattle.bm_core.specs.Past.{segment_of, shard, label_of}
+use Rattle.bm_core.specs.Past.{shard, label_of}
 use Rattle.bm_base.specs.declared.label.Label.{Label}
 use Rattle.bm_core.specs.Accounts.{Routes, Rules}
-use Rattle.bm_core.specs.Runs.{Actor, actor_of, is_by, own_clock, next_clock, AtEach}
-use Rattle.bm_core.specs.Runs.Actor.{Controller, MuxOf, ShardOf}
+use Rattle.bm_core.specs.Runs.{Actor, actor_of, is_by, next_clock, AtEach}
+use Rattle.bm_core.specs.Runs.Actor.{MuxOf, ShardOf}
 use Rattle.bm_core.specs.Threads.{is_command, last_own}
-use Rattle.bm_shard.specs.Books.{Book, Replays, event_after, knows_after, clock_after, clock_of}
+use Rattle.bm_shard.specs.Books.{Book, Replays, knows_after, clock_after}
 use Rattle.bm_shard.specs.Replies.{what_of}
 use Rattle.bm_shard.specs.Turns.{call_moment}
 use Rattle.bm_shard.specs.declared.book.Shard.{Shard}
 use Rattle.bm_shard.specs.declared.calls.ShardCall.{ShardCall}
 use Rattle.bm_shard.specs.declared.calls.ShardCall.TheVariants.{Arrive, Close, Retire}
 use Rattle.bm_shard.specs.declared.calls.ShardEntry.{ShardEntry}
-use Rattle.bm_merge.specs.Merges.{Log, gathered, some_event, named, IsEntry, IsSentBefore}
-use Rattle.bm_merge.specs.Notes.{Note, NotedLog, events_of, plain, total, many}
+use Rattle.bm_merge.specs.Merges.{Log, named, IsEntry, IsSentBefore}
+use Rattle.bm_merge.specs.Notes.{Note, events_of, plain, total, many}
 use Rattle.bm_merge.specs.Workers.{home_of, is_home, home_part, seat_part, deeds_of, carries, arrives_after, IsGiven}
 use Rattle.bm_merge.specs.Workers.{own_before}
 use Rattle.bm_merge.proofs.Agreeing.{same_actor-true}
 use Rattle.bm_table.specs.declared.plan.Retirement.{Retirement}
 use Rattle.bm_merge.proofs.Keeping.{no_deeds}
-use Rattle.bm_merge.proofs.Noting.{total_most, each_always}
 use Rattle.bm_merge.proofs.Reaching.{one_if}
-use Rattle.bm_world.specs.Shards.{Kept, entries_of, note_of, notes_of, IsCopy, IsAsked, AreAsked}
+use Rattle.bm_world.specs.Shards.{Kept, entries_of, note_of, notes_of, IsAsked, AreAsked}
 use Rattle.bm_worker.specs.Phases.{mux_log, IsInOrder}
 use Rattle.bm_world.specs.Handed.{control_log, IsJudgedBy, IsCopied, IsBookOfAll, AreHandedBack}
 use Rattle.bm_world.proofs.Homes.{home_is, home_each}
-use Rattle.bm_world.proofs.Logs.{logs_of, book_notes, named_mux, AreWorkers}
+use Rattle.bm_world.proofs.Logs.{logs_of, book_notes, named_mux}
 use Rattle.bm_world.proofs.Deeds.{are_workers, all_sent}
 use Rattle.bm_world.proofs.Sharded.{shard_entries, shard_clock, all_asked_here}
 

@@ -1,11 +1,10 @@
 -- What the workers handed back stands in the logs, and nothing else does.
 use Rattle.std.proofs.Common.{◌≡◌, ℕ, zero, suc, ◌+◌, ◌<◌, ◌≤◌, Bool, true, false, cond, ◌&&◌, ◌||◌, List, [], ◌∷◌}
 use Rattle.std.proofs.Common.{◌++◌, length}
-use Rattle.std.proofs.Common.{Option, Some, None, refl, sym, ap, ◌∙◌, subst, arith, eqb, leb, ltb, inl, inr}
-use Rattle.std.specs.Prelude.{reverse, IfSome, is_some, ◌-◌, option_map}
+use Rattle.std.proofs.Common.{Option, Some, None, refl, sym, subst, arith, eqb, ltb, inl, inr}
+use Rattle.std.specs.Prelude.{IfSome, is_some, ◌-◌, option_map}
 use Rattle.std.specs.List.{AllByRecursion}
-use Rattle.std.proofs.lemmas.Bool.{cases_Bool, cases_lt, eq-eqb, eqb-true, and_parts, and_from, leb-true, le-leb}
-use Rattle.std.proofs.lemmas.Bool.{ltb-true}
+use Rattle.std.proofs.lemmas.Bool.{cases_lt, eq-eqb, eqb-true, and_parts, and_from, le-leb}
 use Rattle.bm_base.specs.declared.label.Hop.{Hop}
 use Rattle.bm_base.specs.declared.label.Hop.TheVariants.{Direct, Chained}
 use Rattle.bm_base.specs.declared.flow.Segment.{Segment}
@@ -15,13 +14,12 @@ use Rattle.bm_core.specs.declared.events.What.{What}
 use Rattle.bm_core.specs.declared.events.What.TheVariants.{Publish, Switch, Steer, Lose, Arrive, Close, Retire, Sync}
 use Rattle.bm_core.specs.Past.{segment_of, shard, sends, same_hop}
 use Rattle.bm_core.specs.Accounts.{Routes, Rules, count_of, steers_packet, arrives, loses}
-use Rattle.bm_core.specs.Runs.{Actor}
 use Rattle.bm_core.specs.Runs.Actor.{Controller, MuxOf, ShardOf}
 use Rattle.bm_core.specs.Threads.{is_command}
 use Rattle.bm_shard.specs.Books.{Book}
 use Rattle.bm_merge.specs.Merges.{Log, gathered, some_event, has_actor, IsSentBefore}
-use Rattle.bm_merge.specs.Notes.{Note, NotedLog, events_of, plain, all_notes, total, many}
-use Rattle.bm_merge.specs.Workers.{home_of, has_log, deeds_of, all_deeds, carries, HaveHomes, HaveSeats, AreSeated}
+use Rattle.bm_merge.specs.Notes.{Note, events_of, plain, all_notes, total, many}
+use Rattle.bm_merge.specs.Workers.{home_of, has_log, deeds_of, all_deeds, carries, HaveHomes, HaveSeats}
 use Rattle.bm_merge.specs.Workers.{IsOwed}
 use Rattle.bm_merge.specs.Workers.{IsCarrier, is_lost, is_copyless, has_come, copies_below}
 use Rattle.bm_merge.proofs.Commanding.{all_kinds}
@@ -29,8 +27,8 @@ use Rattle.bm_merge.proofs.Keeping.{no_deeds}
 use Rattle.bm_merge.proofs.Noting.{total_append, total_none, total_most, events_gathered, counts_notes, each_append}
 use Rattle.bm_merge.proofs.Noting.{each_always}
 use Rattle.bm_merge.proofs.Reaching.{one_if}
-use Rattle.bm_merge.proofs.Sharing.{shared, seat_total, of_seat, all_by_seat}
-use Rattle.bm_world.specs.Handed.{IsCarriage, IsBookOfAll, has_book, HaveOwnBooks, IsBooked, AreHandedBack}
+use Rattle.bm_merge.proofs.Sharing.{shared, all_by_seat}
+use Rattle.bm_world.specs.Handed.{IsBookOfAll, has_book, IsBooked, AreHandedBack}
 use Rattle.bm_world.proofs.Logs.{logs_of, AreWorkers, are_seated, own_logs, has_mux, has_book_log}
 
 -- THE WORKERS

@@ -1,19 +1,18 @@
 -- At the end of a run its workers and its servers have handed back what a threaded run asks for.
-use Rattle.std.proofs.Common.{◌≡◌, ℕ, zero, suc, ◌+◌, ◌<◌, ◌≤◌, Bool, true, false, cond, ◌&&◌, List, [], ◌∷◌, ◌++◌}
+use Rattle.std.proofs.Common.{◌≡◌, ℕ, zero, suc, ◌<◌, Bool, true, false, ◌&&◌, List, [], ◌∷◌, ◌++◌}
 use Rattle.std.proofs.Common.{length, map}
-use Rattle.std.proofs.Common.{Option, Some, None, refl, sym, ap, ◌∙◌, subst, arith, eqb, leb, ltb, inl, inr, append-nil}
+use Rattle.std.proofs.Common.{Option, Some, None, refl, sym, ap, ◌∙◌, subst, arith, eqb, leb, ltb, inl, inr}
 use Rattle.std.specs.Prelude.{slice_get, IfSome, is_some}
 use Rattle.std.specs.List.{AllByRecursion}
-use Rattle.std.proofs.lemmas.Bool.{cases_Bool, cases_lt, cases_eq, eq-eqb, ne_eqb, eqb-true, lt-ltb, le-ltb, le-leb}
+use Rattle.std.proofs.lemmas.Bool.{cases_lt, cases_eq, eq-eqb, ne_eqb, lt-ltb, le-ltb, le-leb}
 use Rattle.std.proofs.lemmas.Bool.{lt-leb}
 use Rattle.std.proofs.lemmas.Nat.{mod_below}
-use Rattle.std.proofs.lemmas.Option.{same_Some, slice_get_within}
+use Rattle.std.proofs.lemmas.Option.{same_Some}
 use Rattle.std.proofs.lemmas.List.{length-map}
 use mathlib.Core.List.{IsPrefix}
 use Rattle.logbook.specs.Pages.{Book as Board}
 use Rattle.bm_rows.proofs.Places.{there}
 use Rattle.bm_base.specs.declared.flow.Segment.{Segment}
-use Rattle.bm_base.specs.declared.flow.Flow.{Flow}
 use Rattle.bm_base.specs.declared.ids.MuxId.{MuxId}
 use Rattle.bm_base.specs.declared.ids.ServerId.{ServerId}
 use Rattle.bm_core.specs.declared.events.Event.{Event}
@@ -23,7 +22,6 @@ use Rattle.bm_core.specs.declared.events.What.TheVariants.{Publish, Switch, Stee
 use Rattle.bm_core.specs.Accounts.{Routes, Rules, steers_packet}
 use Rattle.bm_core.specs.Past.{segment_of, shard, newest, steerable}
 use Rattle.std.proofs.lemmas.Option.{slice_get_past}
-use Rattle.bm_core.specs.Runs.{AtEach}
 use Rattle.bm_core.specs.Runs.Actor.{Controller}
 use Rattle.bm_core.specs.Stages.{IsSound}
 use Rattle.bm_core.specs.Threads.{is_command}
@@ -40,11 +38,14 @@ use Rattle.bm_server.specs.Seats.{Seated}
 use Rattle.bm_server.specs.Servings.{Serving}
 use Rattle.bm_worker.specs.Deeds.{HasServer, Suits}
 use Rattle.bm_worker.specs.Phases.{mux_log, IsPlaced, AreCopies}
-use Rattle.bm_worker.specs.Turns.{is_mux, is_turn, mux_at}
+use Rattle.bm_worker.specs.Turns.{is_mux, mux_at}
 use Rattle.bm_worker.specs.declared.worker.MuxWorker.{MuxWorker}
-use Rattle.bm_world.specs.Handed.{control_log, posted_clocks, IsCarriage, IsControl, IsBooked, has_book, AreHandedBack}
-use Rattle.bm_world.specs.Running.{HaveHeard, IsAtWork, AreAtWork, HaveLooked}
+use Rattle.bm_world.specs.Handed.{control_log, posted_clocks, IsControl, IsBooked, has_book, AreHandedBack}
+use Rattle.bm_world.specs.Running.{HaveHeard, AreAtWork, HaveLooked}
+use Rattle.bm_lead.specs.Leads.{IsPlaced as IsLedAt}
+use Rattle.bm_world.specs.Routed.{AreRouted}
 use Rattle.bm_world.specs.Served.{AreBooksThere}
+use Rattle.bm_world.specs.Crews.{rows_of}
 use Rattle.bm_world.proofs.Assembled.{at_change}
 use Rattle.bm_world.proofs.Deeds.{all_carried}
 use Rattle.bm_world.proofs.Finishing.{AreDone, all_books, has_shard, own_books, books_of_all}
@@ -52,13 +53,13 @@ use Rattle.bm_world.proofs.Growing.{carriage_later}
 
 -- EACH PACKET ONCE
 
-seats_same : (g h : ℕ → ℕ) (n : ℕ) → ((w : ℕ) → w < n → g w ≡ h w) → sum_seats g n ≡ sum_seats h n
+pub seats_same : (g h : ℕ → ℕ) (n : ℕ) → ((w : ℕ) → w < n → g w ≡ h w) → sum_seats g n ≡ sum_seats h n
 seats_same g h zero same = refl
 seats_same g h (suc n) same =
     let old = seats_same g h n (λ w low. same w (omega arith)) in let here = same n (omega arith) in omega arith
 
 -- the mux is one of so many
-abbrev is_under : Option ℕ → ℕ → Bool
+abbrev pub is_under : Option ℕ → ℕ → Bool
 is_under None n = false
 is_under (Some m) n = ltb m n
 
@@ -66,7 +67,7 @@ none_if : (t : Bool) → one_if (t && false) ≡ 0
 none_if true = refl
 none_if false = refl
 
-one_mux : (t : Bool) (o : Option ℕ) (n : ℕ) → sum_seats (λ w. one_if (t && is_mux o w)) n ≡ one_if (t && is_under o n)
+pub one_mux : (t : Bool) (o : Option ℕ) (n : ℕ) → sum_seats (λ w. one_if (t && is_mux o w)) n ≡ one_if (t && is_under o n)
 one_mux t None zero = sym (none_if t)
 one_mux t None (suc n) = let old = one_mux t None n in let none = none_if t in omega arith
 one_mux t (Some m) zero =
@@ -102,13 +103,6 @@ one_mux t (Some m) (suc n) = elim (cases_eq m n) [
     ]
   ]
 
--- what the routes of the packets are
-pub record AreRouted (stage : Stage) (routes : List (Option MuxId)) : Type 0 where
-  pub below : (k m : ℕ) → mux_at routes k ≡ Some m → m < stage.script.setting.muxes
-  pub steerable : (k m : ℕ) → mux_at routes k ≡ Some m → is_some (segment_of stage k) ≡ true
-  pub given : (k : ℕ) → is_some (segment_of stage k) ≡ true → is_some (mux_at routes k) ≡ true
-  pub count : length routes ≡ length stage.capture.records
-
 beyond : (stage : Stage) (k : ℕ) → length stage.capture.records < k → segment_of stage k ≡ None
 beyond stage zero high = refl
 beyond stage (suc i) high = ap steerable (slice_get_past stage.capture.records i (omega arith))
@@ -140,12 +134,6 @@ packet_once stage routes (suc i) routed = elim (cases_lt (length stage.capture.r
 
 -- WORKER 0'S PLACES
 
--- a Close is at one of the servers, a Retire at a shard of one
-abbrev pub IsLedAt : Stage → List Serving → What → Type 0
-IsLedAt stage servers (Close server flow closed) = HasServer servers server
-IsLedAt stage servers (Retire server h at result) = HasServer servers server × (h < stage.script.setting.shards)
-IsLedAt stage servers _ = Unit {0}
-
 server_booked : (stage : Stage) (servers : List Serving) (rows : List (List (List Seated))) (all : List (List Book))
     (id : ServerId)
     (h : ℕ) → Suits stage servers → length all ≡ length servers
@@ -157,7 +145,7 @@ server_booked stage servers rows all id h suits count books has low =
     in subst (λ (i : ServerId). has_book (all_books all) i.0 h ≡ true) has.3
     (has_shard servers rows all has.0 h server count books has.2 (omega arith))
 
-led_booked : (stage : Stage) (servers : List Serving) (rows : List (List (List Seated))) (all : List (List Book))
+pub led_booked : (stage : Stage) (servers : List Serving) (rows : List (List (List Seated))) (all : List (List Book))
     (what : What)
     → Suits stage servers → length all ≡ length servers → 0 < stage.script.setting.shards
     → ((s : ℕ) (books : List Book) → slice_get all s ≡ Some books → AreBooksThere servers rows s books)
@@ -174,7 +162,7 @@ led_booked stage servers rows all (Steer k m) suits count some books is at = abs
 led_booked stage servers rows all (Lose k hop) suits count some books is at = absurd (cc)
 led_booked stage servers rows all (Arrive k hop server verdict) suits count some books is at = absurd (cc)
 
-carried_booked : (stage : Stage) (servers : List Serving) (rows : List (List (List Seated))) (all : List (List Book))
+pub carried_booked : (stage : Stage) (servers : List Serving) (rows : List (List (List Seated))) (all : List (List Book))
     (what : What)
     → Suits stage servers → length all ≡ length servers → 0 < stage.script.setting.shards
     → ((s : ℕ) (books : List Book) → slice_get all s ≡ Some books → AreBooksThere servers rows s books)
@@ -215,11 +203,7 @@ pub record IsEnded (R : Routes) (F : Rules) (stage : Stage) (servers : List Serv
   pub shown : (m : ℕ) (w : MuxWorker) → slice_get workers m ≡ Some w
       → IsPrefix w.mux.seen.clocks (posted_clocks (control_log stage controller))
 
--- each worker's seats
-abbrev pub rows_of : List (List Seated) → List MuxWorker → List (List (List Seated))
-rows_of head workers = head ∷ map (λ (w : MuxWorker). w.porter.seats) workers
-
-row_of : (workers : List MuxWorker) (m : ℕ) (seats : List (List Seated))
+pub row_of : (workers : List MuxWorker) (m : ℕ) (seats : List (List Seated))
     → slice_get (map (λ (w : MuxWorker). w.porter.seats) workers) m ≡ Some seats
     → (w : MuxWorker) × (slice_get workers m ≡ Some w) × (w.porter.seats ≡ seats)
 row_of [] m seats here = absurd (cc)
@@ -301,7 +285,7 @@ each_two : (P Q S : Note → Type 0) (x : List Note) → ((n : Note) → P n →
 each_two P Q S [] f ps qs = tt
 each_two P Q S (n ∷ x) f ps qs = (f n ps.0 qs.0, each_two P Q S x f ps.1 qs.1)
 
-carried_no_command : (m : ℕ) (what : What) → carries m what ≡ true → is_command what ≡ false
+pub carried_no_command : (m : ℕ) (what : What) → carries m what ≡ true → is_command what ≡ false
 carried_no_command m (Switch x v) h = refl
 carried_no_command m (Steer k x) h = refl
 carried_no_command m (Arrive k hop server verdict) h = refl

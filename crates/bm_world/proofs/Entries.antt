@@ -1,51 +1,40 @@
 -- The logs of what the workers handed back agree.
-use Rattle.std.proofs.Common.{◌≡◌, ℕ, zero, suc, ◌+◌, ◌<◌, ◌≤◌, Bool, true, false, cond, ◌&&◌, ◌||◌, List, [], ◌∷◌}
+use Rattle.std.proofs.Common.{◌≡◌, ℕ, zero, suc, ◌+◌, ◌<◌, ◌≤◌, Bool, true, false, ◌&&◌, List, [], ◌∷◌}
 use Rattle.std.proofs.Common.{◌++◌, length}
-use Rattle.std.proofs.Common.{Option, Some, None, refl, sym, ap, ◌∙◌, subst, arith, eqb, leb, ltb, inl, inr}
+use Rattle.std.proofs.Common.{Option, Some, None, refl, sym, ap, ◌∙◌, arith, eqb, ltb, inl, inr}
 use Rattle.std.proofs.Common.{length-append}
-use Rattle.std.specs.Prelude.{reverse, IfSome, is_some, ◌-◌, ◌⊎◌, option_map, unwrap_or, slice_get, max}
+use Rattle.std.specs.Prelude.{IfSome, is_some, ◌⊎◌, option_map, unwrap_or, slice_get}
 use Rattle.std.specs.List.{AllByRecursion}
-use Rattle.std.proofs.lemmas.Bool.{cases_Bool, cases_lt, eq-eqb, eqb-true, and_parts, and_from, le-leb, lt-ltb}
+use Rattle.std.proofs.lemmas.Bool.{cases_lt, eq-eqb, eqb-true, and_parts, and_from, lt-ltb}
 use Rattle.std.proofs.lemmas.Bool.{or_right, or_left}
 use Rattle.std.proofs.lemmas.Option.{same_Some, slice_get_within}
 use Rattle.bm_table.proofs.Gets.{slice_get-append_left, slice_get-push}
-use Rattle.bm_base.specs.declared.ids.ServerId.{ServerId}
-use Rattle.bm_base.specs.declared.ids.Moment.{Moment}
 use Rattle.bm_core.specs.declared.events.Event.{Event}
 use Rattle.bm_core.specs.declared.events.Stage.{Stage}
 use Rattle.bm_core.specs.declared.events.What.{What}
 use Rattle.bm_core.specs.declared.events.What.TheVariants.{Publish, Switch, Steer, Lose, Sync}
 use Rattle.bm_core.specs.declared.events.What.TheVariants.{Arrive as Arrives, Close as Closes, Retire as Retires}
 use Rattle.bm_core.specs.Past.{segment_of, shard, newest}
-use Rattle.bm_core.specs.Accounts.{Routes, Rules, count_of, steers_packet}
-use Rattle.bm_core.specs.Runs.{Actor, actor_of, is_by, own_clock, next_clock, AtEach}
+use Rattle.bm_core.specs.Accounts.{Routes, Rules, steers_packet}
+use Rattle.bm_core.specs.Runs.{is_by, own_clock, AtEach}
 use Rattle.bm_core.specs.Runs.Actor.{Controller, MuxOf, ShardOf}
-use Rattle.bm_core.specs.Threads.{is_command, is_publish_of, last_own}
-use Rattle.bm_shard.specs.Books.{Book, Replays, event_after, knows_after, clock_after}
-use Rattle.bm_shard.specs.Replies.{what_of}
-use Rattle.bm_shard.specs.declared.book.Shard.{Shard}
-use Rattle.bm_shard.specs.declared.calls.ShardCall.{ShardCall}
-use Rattle.bm_shard.specs.declared.calls.ShardCall.TheVariants.{Arrive, Close, Retire}
-use Rattle.bm_shard.specs.declared.calls.ShardEntry.{ShardEntry}
-use Rattle.bm_merge.specs.Merges.{Log, gathered, some_event, named, stands_in, IsEntry, IsSentBefore, Agree}
+use Rattle.bm_core.specs.Threads.{is_publish_of}
+use Rattle.bm_shard.specs.Books.{Book}
+use Rattle.bm_merge.specs.Merges.{Log, gathered, some_event, named, stands_in, IsEntry, IsSentBefore}
 use Rattle.bm_merge.specs.Merges.{IsNextVersion}
-use Rattle.bm_merge.specs.Notes.{Note, NotedLog, events_of, plain, all_notes, many}
-use Rattle.bm_merge.specs.Workers.{home_of, is_home, home_part, seat_part, deeds_of, all_deeds, carries, is_publish}
-use Rattle.bm_merge.proofs.Agreeing.{same_actor-true}
+use Rattle.bm_merge.specs.Notes.{Note, NotedLog, events_of, plain, many}
+use Rattle.bm_merge.specs.Workers.{home_of, is_home, home_part, deeds_of, carries}
 use Rattle.bm_merge.proofs.Merging.{some_weaker}
 use Rattle.bm_merge.proofs.Paced.{some_append}
 use Rattle.bm_base.specs.declared.flow.Segment.{Segment}
-use Rattle.bm_merge.proofs.Standing.{MayStand, entry_of}
-use Rattle.bm_merge.proofs.Commanding.{all_kinds}
-use Rattle.bm_world.specs.Shards.{Kept, entries_of, note_of, notes_of, IsAsked, AreAsked}
+use Rattle.bm_merge.proofs.Standing.{entry_of}
 use Rattle.bm_mux.specs.Muxes.{post_clock}
 use Rattle.bm_worker.specs.Phases.{mux_log}
 use Rattle.bm_world.specs.Handed.{posted_clocks, control_log, IsMuxGivenBy, IsControlStep, IsControl}
-use Rattle.bm_world.specs.Handed.{IsCarriage, IsJudgedBy, IsCopied, IsBookOfAll, AreHandedBack}
+use Rattle.bm_world.specs.Handed.{AreHandedBack}
 use Rattle.bm_world.proofs.Homes.{home_is, home_each, carried_not_control}
-use Rattle.bm_world.proofs.Logs.{mux_logs, shard_logs, logs_of, book_notes, named_mux, own_logs, AreWorkers}
-use Rattle.bm_world.proofs.Deeds.{are_workers, all_among, IsAmong, steered_known, steered_once, all_sent}
-use Rattle.bm_world.proofs.Sharded.{shard_entries}
+use Rattle.bm_world.proofs.Logs.{mux_logs, shard_logs, logs_of}
+use Rattle.bm_world.proofs.Deeds.{all_among, IsAmong, steered_known, all_sent}
 
 -- FROM NOTES TO EVENTS
 

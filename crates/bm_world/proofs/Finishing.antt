@@ -1,14 +1,13 @@
 -- The servers' books have just what the workers did.
 use Rattle.std.proofs.Common.{◌≡◌, ℕ, zero, suc, ◌+◌, ◌<◌, ◌≤◌, Bool, true, false, cond, ◌&&◌, ◌||◌, List, [], ◌∷◌}
-use Rattle.std.proofs.Common.{◌++◌, length, map}
-use Rattle.std.proofs.Common.{Option, Some, None, refl, sym, ap, ◌∙◌, subst, arith, eqb, inl, inr}
-use Rattle.std.specs.Prelude.{reverse, slice_get, IfSome, is_some}
+use Rattle.std.proofs.Common.{◌++◌, length}
+use Rattle.std.proofs.Common.{Some, refl, sym, ap, ◌∙◌, subst, arith, eqb, inl, inr}
+use Rattle.std.specs.Prelude.{reverse, slice_get}
 use Rattle.std.specs.List.{AllByRecursion}
-use Rattle.std.proofs.lemmas.Bool.{cases_Bool, cases_lt, cases_eq, eq-eqb, ne_eqb, eqb-true, and_parts, and_from}
+use Rattle.std.proofs.lemmas.Bool.{cases_lt, eq-eqb, ne_eqb, and_from}
 use Rattle.std.proofs.lemmas.Bool.{or_left, or_right, or_parts}
 use Rattle.std.proofs.lemmas.Option.{same_Some, slice_get_within}
 use Rattle.bm_rows.proofs.Places.{there}
-use Rattle.bm_base.specs.declared.flow.Segment.{Segment}
 use Rattle.bm_base.specs.declared.ids.ServerId.{ServerId}
 use Rattle.bm_base.specs.declared.ids.Moment.{Moment}
 use Rattle.bm_base.specs.declared.ids.MuxId.{MuxId}
@@ -16,15 +15,10 @@ use Rattle.bm_base.specs.declared.flow.Flow.{Flow}
 use Rattle.bm_core.specs.declared.events.Event.{Event}
 use Rattle.bm_core.specs.declared.events.Local.{Local}
 use Rattle.bm_core.specs.declared.events.Stage.{Stage}
-use Rattle.bm_core.specs.declared.events.What.{What}
-use Rattle.bm_core.specs.declared.events.What.TheVariants.{Publish, Switch, Steer, Lose, Sync}
-use Rattle.bm_core.specs.declared.events.What.TheVariants.{Arrive as Arrives, Close as Closes, Retire as Retires}
-use Rattle.bm_core.specs.Past.{segment_of, shard, label_of}
-use Rattle.bm_core.specs.Accounts.{Routes, Rules}
-use Rattle.bm_core.specs.Runs.{Actor}
+use Rattle.bm_core.specs.Past.{label_of}
 use Rattle.bm_core.specs.Runs.Actor.{ShardOf}
 use Rattle.bm_core.specs.Threads.{is_command}
-use Rattle.bm_shard.specs.Books.{Book, Replays, event_after, knows_after, clock_after}
+use Rattle.bm_shard.specs.Books.{Book, Replays, knows_after, clock_after}
 use Rattle.bm_shard.specs.Laws.{IsOf}
 use Rattle.bm_shard.specs.Replies.{what_of}
 use Rattle.bm_shard.specs.declared.book.Shard.{Shard}
@@ -32,16 +26,16 @@ use Rattle.bm_shard.specs.declared.calls.ShardCall.{ShardCall}
 use Rattle.bm_shard.specs.declared.calls.ShardCall.TheVariants.{Arrive, Close, Retire}
 use Rattle.bm_shard.specs.declared.calls.ShardEntry.{ShardEntry}
 use Rattle.bm_merge.specs.Notes.{Note}
-use Rattle.bm_merge.specs.Workers.{home_part, is_home, deeds_of, all_deeds}
+use Rattle.bm_merge.specs.Workers.{home_part, deeds_of}
 use Rattle.bm_merge.proofs.Keeping.{no_deeds}
 use Rattle.bm_server.specs.Seats.{Answered, Seated, seat_of, telling}
 use Rattle.bm_server.specs.Servings.{Serving, shard_at}
 use Rattle.bm_turnstile.specs.Seen.{AllBelow}
-use Rattle.bm_worker.specs.Deeds.{saying, noted, HasServer, Suits}
-use Rattle.bm_worker.specs.Phases.{mux_log, IsCopyCall, IsPlaced, AreCopies}
+use Rattle.bm_worker.specs.Deeds.{saying, noted, Suits}
+use Rattle.bm_worker.specs.Phases.{mux_log, IsCopyCall, AreCopies}
 use Rattle.bm_worker.specs.Told.{told_there}
 use Rattle.bm_world.specs.Shards.{entries_by, AreNoted}
-use Rattle.bm_world.specs.Handed.{IsCopied, IsBookOfAll, has_book, HaveOwnBooks, IsBooked}
+use Rattle.bm_world.specs.Handed.{IsCopied, IsBookOfAll, has_book, HaveOwnBooks}
 use Rattle.bm_world.specs.Running.{HaveHeard}
 use Rattle.bm_world.specs.Served.{IsBookThere, AreBooksThere}
 use Rattle.bm_world.proofs.Homes.{home_each}

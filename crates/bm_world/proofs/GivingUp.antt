@@ -1,11 +1,11 @@
 -- What a mux's worker leaves of a phase in which it gave up, beside what it did before.
-use Rattle.std.proofs.Common.{◌≡◌, ℕ, zero, suc, ◌+◌, ◌*◌, ◌^◌, ◌<◌, ◌≤◌, max, Bool, true, false, cond, ◌&&◌, ◌||◌}
-use Rattle.std.proofs.Common.{List, [], ◌∷◌, ◌++◌, length}
-use Rattle.std.proofs.Common.{Option, Some, None, refl, sym, ap, ◌∙◌, subst, arith, eqb, leb, ltb, inl, inr, append-nil}
-use Rattle.std.specs.Prelude.{reverse, IfSome, is_some, ◌⊎◌, slice_get, ◌-◌}
+use Rattle.std.proofs.Common.{◌≡◌, ℕ, suc, ◌<◌, ◌≤◌, max, Bool, true, false, cond, ◌&&◌}
+use Rattle.std.proofs.Common.{List, [], ◌∷◌, ◌++◌}
+use Rattle.std.proofs.Common.{Option, Some, None, refl, sym, ◌∙◌, subst, arith, eqb, leb, ltb, inl, inr}
+use Rattle.std.specs.Prelude.{is_some, ◌⊎◌, ◌-◌}
 use Rattle.std.specs.List.{AllByRecursion}
-use Rattle.std.proofs.lemmas.Bool.{cases_Bool, cases_lt, eq-eqb, eqb-true, and_parts, and_from, or_left, or_right}
-use Rattle.std.proofs.lemmas.Bool.{leb-true, leb-false, ltb-true}
+use Rattle.std.proofs.lemmas.Bool.{cases_lt, eq-eqb, and_parts, and_from, or_left, or_right}
+use Rattle.std.proofs.lemmas.Bool.{ltb-true}
 use mathlib.Core.List.{IsPrefix}
 use Rattle.bm_base.specs.declared.ids.MuxId.{MuxId}
 use Rattle.bm_base.specs.declared.label.Hop.{Hop}
@@ -19,7 +19,6 @@ use Rattle.bm_core.specs.Past.{segment_of, same_hop}
 use Rattle.bm_core.specs.Runs.{AtEach, is_by}
 use Rattle.bm_core.specs.Runs.Actor.{Controller}
 use Rattle.bm_core.specs.Threads.{sync_clock, newest_before}
-use Rattle.bm_merge.specs.Merges.{some_event}
 use Rattle.bm_merge.specs.Notes.{Note, events_of, total, many, until, top_clock}
 use Rattle.bm_merge.specs.Workers.{home_of, home_part, is_home, carries, is_below, is_lost, is_copyless, IsAnswer}
 use Rattle.bm_merge.specs.Workers.{IsBefore, IsCarrier, IsDrawn, IsMet, IsOwed}
@@ -27,7 +26,7 @@ use Rattle.bm_merge.proofs.Noting.{total_append, each_append, each_so}
 use Rattle.bm_merge.proofs.Reaching.{one_if}
 use Rattle.bm_worker.specs.Phases.{mux_log, IsLossOf, IsMuxGiven}
 use Rattle.bm_worker.specs.Turns.{mux_at, is_mux, is_turn}
-use Rattle.bm_world.specs.Handed.{control_log, IsCarriage, IsMuxGivenBy}
+use Rattle.bm_world.specs.Handed.{IsCarriage, IsMuxGivenBy}
 use Rattle.bm_world.specs.Left.{IsSyncIn, IsMuxClocked, IsSteerable, IsLeft, IsSynced}
 use Rattle.bm_world.proofs.Deeds.{IsAmong, all_among}
 use Rattle.bm_world.proofs.Growing.{post_more, log_append, owed_more}
@@ -190,7 +189,7 @@ left_of R F stage routes control y posts posts' m until deeds known steered more
   gives = clocked_before stage control y posts posts' (mux_log stage m deeds) more c.gives;
 }
 
-turn_steerable : (stage : Stage) (routes : List (Option MuxId)) (m from until : ℕ) (what : What)
+pub turn_steerable : (stage : Stage) (routes : List (Option MuxId)) (m from until : ℕ) (what : What)
     → ((k m : ℕ) → mux_at routes k ≡ Some m → is_some (segment_of stage k) ≡ true)
     → ((k : ℕ) (x : MuxId) → what ≡ Steer k x → is_turn routes m from until k ≡ true) → IsSteerable stage what
 turn_steerable stage routes m from until (Steer k x) known turn =
@@ -289,7 +288,7 @@ synced_one stage all more rest n (Arrive k hop server verdict) is less met = tt
 synced_one stage all more rest n (Close server flow closed) is less met = tt
 synced_one stage all more rest n (Retire server h moment result) is less met = tt
 
-unsynced : (stage : Stage) (more : List Note) (n : Note) (what : What) → is_sync what ≡ false
+pub unsynced : (stage : Stage) (more : List Note) (n : Note) (what : What) → is_sync what ≡ false
     → IsSynced stage more n what
 unsynced stage more n Sync not = absurd (cc)
 unsynced stage more n (Publish v) not = tt

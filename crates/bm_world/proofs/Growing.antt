@@ -1,15 +1,13 @@
 -- What a mux's worker gives stays the same while the controller's log grows, and what it does in a phase is added.
-use Rattle.std.proofs.Common.{◌≡◌, ℕ, zero, suc, ◌+◌, ◌<◌, ◌≤◌, max, Bool, true, false, cond, ◌&&◌, List, [], ◌∷◌, ◌++◌}
-use Rattle.std.proofs.Common.{length}
-use Rattle.std.proofs.Common.{Option, Some, None, refl, sym, ap, ◌∙◌, subst, arith, eqb, leb, ltb, inl, inr}
-use Rattle.std.specs.Prelude.{reverse, IfSome, is_some, slice_get}
+use Rattle.std.proofs.Common.{◌≡◌, ℕ, zero, suc, ◌<◌, ◌≤◌, Bool, true, false, cond, List, [], ◌∷◌, ◌++◌}
+use Rattle.std.proofs.Common.{Option, Some, None, refl, sym, ap, ◌∙◌, subst, arith, leb}
+use Rattle.std.specs.Prelude.{IfSome, slice_get}
 use Rattle.std.specs.List.{AllByRecursion}
-use Rattle.std.proofs.lemmas.Bool.{cases_Bool, cases_lt, cases_eq, eq-eqb, ne_eqb, eqb-true, leb-true, leb-false}
-use Rattle.std.proofs.lemmas.Bool.{le-leb, lt-leb, lt-ltb, le-ltb}
-use Rattle.std.proofs.lemmas.Option.{same_Some, slice_get_within}
+use Rattle.std.proofs.lemmas.Bool.{leb-false}
+use Rattle.std.proofs.lemmas.Bool.{lt-leb, le-ltb}
+use Rattle.std.proofs.lemmas.Option.{slice_get_within}
 use mathlib.Core.List.{IsPrefix}
 use Rattle.bm_table.proofs.Gets.{slice_get-append_left}
-use Rattle.bm_base.specs.declared.label.Hop.{Hop}
 use Rattle.bm_base.specs.declared.flow.Segment.{Segment}
 use Rattle.bm_base.specs.declared.ids.MuxId.{MuxId}
 use Rattle.bm_core.specs.declared.events.What.{What}
@@ -18,13 +16,13 @@ use Rattle.bm_core.specs.declared.events.Event.{Event}
 use Rattle.bm_core.specs.declared.events.Stage.{Stage}
 use Rattle.bm_core.specs.Accounts.{Routes, Rules, IsRouted, counts, is_sync, steers_packet, arrives}
 use Rattle.bm_core.specs.Past.{segment_of, newest}
-use Rattle.bm_core.specs.Runs.{AtEach, next_clock}
+use Rattle.bm_core.specs.Runs.{AtEach}
 use Rattle.bm_core.specs.Threads.{sync_clock, newest_before, packet_of, phase_of}
-use Rattle.bm_merge.specs.Notes.{Note, events_of, many, total, until}
+use Rattle.bm_merge.specs.Notes.{Note, events_of, total, until}
 use Rattle.bm_merge.specs.Workers.{home_part, IsCarrier, IsOwed, is_lost, is_copyless, has_come, copies_below}
 use Rattle.bm_merge.specs.Workers.{copies_in, is_due_at, arrives_after, is_home, carries}
 use Rattle.bm_core.specs.Runs.Actor.{MuxOf}
-use Rattle.bm_merge.specs.Workers.{IsAnswer, IsDrawn}
+use Rattle.bm_merge.specs.Workers.{IsAnswer}
 use Rattle.bm_merge.proofs.Noting.{total_append, total_none, each_append, each_so, events_append}
 use Rattle.bm_merge.proofs.Owing.{now_in_phase}
 use Rattle.bm_merge.proofs.Reaching.{one_if}
@@ -209,7 +207,7 @@ carrier_append R F stage m x y a b = record {
 }
 
 -- the route gave what is kept of it
-routed_one : (R : Routes) (routes : List (Option MuxId)) (stage : Stage)
+pub routed_one : (R : Routes) (routes : List (Option MuxId)) (stage : Stage)
     → ((k m : ℕ) (s : Segment) → mux_at routes k ≡ Some m → segment_of stage k ≡ Some s → R k s.flow m)
     → (what : What) → IsRouted (RoutedBy routes) stage what → IsRouted R stage what
 routed_one R routes stage route (Steer k m) is = go (segment_of stage k) refl is where

@@ -1,19 +1,19 @@
 -- In whose log what a worker did stands.
-use Rattle.std.proofs.Common.{◌≡◌, ℕ, zero, suc, ◌<◌, ◌≤◌, Bool, true, false, cond, List, [], ◌∷◌, ◌++◌, length, Option}
-use Rattle.std.proofs.Common.{Some, None, refl, sym, ap, ◌∙◌, subst, arith, eqb, inl, inr}
+use Rattle.std.proofs.Common.{◌≡◌, ℕ, suc, Bool, true, false, cond, List, [], ◌∷◌, ◌++◌, Option}
+use Rattle.std.proofs.Common.{Some, None, refl, sym, ap, ◌∙◌, arith, eqb}
 use Rattle.std.specs.List.{AllByRecursion}
-use Rattle.std.proofs.lemmas.Bool.{cases_Bool, cases_lt, eq-eqb, ne_eqb, eqb-true}
+use Rattle.std.proofs.lemmas.Bool.{eq-eqb, ne_eqb, eqb-true}
 use Rattle.bm_base.specs.declared.flow.Segment.{Segment}
 use Rattle.bm_core.specs.declared.events.What.{What}
 use Rattle.bm_core.specs.declared.events.What.TheVariants.{Publish, Switch, Steer, Lose, Arrive, Close, Retire, Sync}
 use Rattle.bm_core.specs.declared.events.Stage.{Stage}
 use Rattle.bm_core.specs.Past.{segment_of, shard}
-use Rattle.bm_core.specs.Runs.{Actor, is_by, actor_of}
+use Rattle.bm_core.specs.Runs.{Actor, is_by}
 use Rattle.bm_core.specs.Runs.Actor.{Controller, MuxOf, ShardOf}
 use Rattle.bm_core.specs.Threads.{is_command}
 use Rattle.std.specs.Prelude.{option_map, ◌-◌}
-use Rattle.bm_merge.specs.Notes.{Note, NotedLog}
-use Rattle.bm_merge.specs.Workers.{home_of, is_home, home_part, seat_part, deeds_of, carries, IsSeated, AreSeated}
+use Rattle.bm_merge.specs.Notes.{Note}
+use Rattle.bm_merge.specs.Workers.{home_of, is_home, home_part, seat_part, carries}
 
 -- ONE SEAT
 

@@ -1,12 +1,11 @@
 -- A phase more: what all workers did in it, beside what they did before.
-use Rattle.std.proofs.Common.{◌≡◌, ℕ, zero, suc, ◌+◌, ◌*◌, ◌<◌, ◌≤◌, max, Bool, true, false, cond, ◌&&◌, List, [], ◌∷◌}
+use Rattle.std.proofs.Common.{◌≡◌, ℕ, zero, suc, ◌+◌, ◌<◌, ◌≤◌, Bool, true, false, cond, ◌&&◌, List, [], ◌∷◌}
 use Rattle.std.proofs.Common.{◌++◌, length}
-use Rattle.std.proofs.Common.{Option, Some, None, refl, sym, ap, ◌∙◌, subst, arith, eqb, leb, ltb, inl, inr}
-use Rattle.std.proofs.Common.{append_assoc}
-use Rattle.std.specs.Prelude.{reverse, IfSome, is_some, slice_get}
+use Rattle.std.proofs.Common.{Option, Some, None, refl, sym, ap, ◌∙◌, subst, arith, leb, ltb, inl, inr}
+use Rattle.std.proofs.Common.{append_assoc, length-append}
+use Rattle.std.specs.Prelude.{reverse, IfSome}
 use Rattle.std.specs.List.{AllByRecursion}
-use Rattle.std.proofs.lemmas.Bool.{cases_Bool, cases_lt, cases_eq, eq-eqb, ne_eqb, eqb-true}
-use mathlib.Core.List.{IsPrefix}
+use Rattle.std.proofs.lemmas.Bool.{cases_lt}
 use Rattle.logbook.specs.Pages.{Book}
 use Rattle.bm_base.specs.declared.flow.Segment.{Segment}
 use Rattle.bm_base.specs.declared.ids.MuxId.{MuxId}
@@ -15,35 +14,31 @@ use Rattle.bm_core.specs.declared.events.What.TheVariants.{Publish, Switch, Stee
 use Rattle.bm_core.specs.declared.events.Event.{Event}
 use Rattle.bm_core.specs.declared.events.Stage.{Stage}
 use Rattle.bm_core.specs.Accounts.{Routes, Rules, counts, is_sync, steers_packet}
-use Rattle.bm_core.specs.Past.{segment_of, newest}
+use Rattle.bm_core.specs.Past.{segment_of}
 use Rattle.bm_core.specs.Runs.{Actor, AtEach}
 use Rattle.std.proofs.Common.{append-nil as append_nil}
-use Rattle.bm_core.specs.Runs.Actor.{Controller, MuxOf, ShardOf}
+use Rattle.bm_core.specs.Runs.Actor.{Controller, ShardOf}
 use Rattle.bm_core.specs.Threads.{sync_clock, newest_before, packet_of, phase_of, is_command}
-use Rattle.bm_merge.specs.Notes.{Note, events_of, many, total, greatest}
+use Rattle.bm_merge.specs.Notes.{Note, events_of, total}
 use Rattle.bm_merge.specs.Workers.{home_part, is_home, deeds_of, all_deeds, IsCarrier}
-use Rattle.bm_merge.proofs.Keeping.{no_deeds}
 use Rattle.bm_merge.proofs.Noting.{total_append, each_append, each_so, events_append, greatest_append}
 use Rattle.bm_merge.proofs.Phasing.{IsPhased, phased_more, phased_publish}
 use Rattle.bm_merge.proofs.Reaching.{one_if}
 use Rattle.bm_server.specs.Seats.{Seated}
-use Rattle.bm_server.specs.Servings.{Serving, shard_at}
-use Rattle.bm_worker.specs.Deeds.{clock_of, noted, saying, Sits, Hears, IsSamePorter}
-use Rattle.bm_worker.specs.Phases.{mux_log, AreCopies, IsPlaced, IsDeed, IsMuxGiven, Kept, Phase, Stint, stint_of}
-use Rattle.bm_worker.specs.Phases.{HasGrown}
+use Rattle.bm_server.specs.Servings.{Serving}
+use Rattle.bm_worker.specs.Deeds.{clock_of, noted, Sits, Hears, IsSamePorter}
+use Rattle.bm_worker.specs.Phases.{mux_log, AreCopies, IsPlaced, IsDeed, IsMuxGiven, Phase, stint_of}
+use Rattle.bm_worker.specs.Phases.{HasGrown, is_steer}
 use Rattle.bm_worker.specs.Portings.{Porting}
 use Rattle.bm_worker.specs.declared.span.Span.{Span}
 use Rattle.bm_publish.specs.Posts.{Posted, last_version}
 use Rattle.bm_server.specs.Seats.{row}
-use Rattle.bm_turnstile.specs.Sittings.{who}
 use Rattle.std.proofs.Common.{map}
 use Rattle.std.proofs.lemmas.Bool.{le-leb, lt-leb, lt-ltb, le-ltb}
-use Rattle.bm_worker.specs.Told.{told_there}
 use Rattle.bm_worker.specs.Turns.{is_mux, is_turn, mux_at, RoutedBy}
-use Rattle.bm_worker.specs.declared.stop.Stop.{Stop}
 use Rattle.bm_worker.specs.declared.worker.MuxWorker.{MuxWorker}
-use Rattle.bm_world.specs.Handed.{control_log, IsCarriage}
-use Rattle.bm_world.specs.Running.{HaveHeard, IsAtWork, AreAtWork, AreApart, add_deeds}
+use Rattle.bm_world.specs.Handed.{control_log}
+use Rattle.bm_world.specs.Running.{HaveHeard, IsAtWork, add_deeds}
 use Rattle.bm_world.proofs.Homes.{home_append, home_each}
 use Rattle.bm_world.proofs.Growing.{carriage_later, carriage_more, carrier_routed, log_append}
 
@@ -178,7 +173,7 @@ if_some : (P Q : ℕ → Type 0) (o : Option ℕ) → ((k : ℕ) → P k → Q k
 if_some P Q None f h = tt
 if_some P Q (Some k) f h = f k h
 
-turn_sum : (routes : List (Option MuxId)) (m before until k : ℕ) → before ≤ until
+pub turn_sum : (routes : List (Option MuxId)) (m before until k : ℕ) → before ≤ until
     → one_if (is_turn routes m before until k) + one_if (is_turn routes m 0 before k)
     ≡ one_if (is_turn routes m 0 until k)
 turn_sum routes m before until k low =
@@ -201,7 +196,7 @@ pub sits_still : (servers : List Serving) (a b : Porting) → IsSamePorter a b �
 sits_still servers a b same sits =
     same.who_is ∙ sits ∙ ap (λ (n : ℕ). map (λ server. row server n) servers) (sym same.number)
 
-given_same : (stage : Stage) (x : List Note) (posts : List ℕ) (a a' f f' m m' : ℕ) (old old' : List Event) → a ≡ a'
+pub given_same : (stage : Stage) (x : List Note) (posts : List ℕ) (a a' f f' m m' : ℕ) (old old' : List Event) → a ≡ a'
     → f ≡ f'
     → m ≡ m' → old ≡ old'
     → AtEach (λ rest e. IsMuxGiven stage a f posts (rest ++ old) e.clock.0 e.what) (mux_log stage m x)
@@ -312,5 +307,11 @@ at_work_more R F stage servers routes control y board p phases m span told old n
       tries = let a = done.grown.tries in let b = at.tries in omega arith;
       steps = let a = done.grown.steps in let b = at.steps in omega arith;
       room = let a = done.grown.log in let b = at.room in omega arith;
+      few =
+          let a = phase.few
+          in let b = at.few
+          in let c = length-append x deeds
+          in let d = total_append (λ n. one_if (is_steer n.event.what)) x deeds
+          in omega arith;
       stop = done.stop;
     }

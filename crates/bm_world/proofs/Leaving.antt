@@ -1,61 +1,58 @@
 -- What the workers left where one has given up is underway.
-use Rattle.std.proofs.Common.{◌≡◌, ℕ, zero, suc, ◌+◌, ◌*◌, ◌^◌, ◌<◌, ◌≤◌, max, Bool, true, false, cond, ◌&&◌, ◌||◌}
+use Rattle.std.proofs.Common.{◌≡◌, ℕ, zero, suc, ◌+◌, ◌<◌, ◌≤◌, Bool, true, false, cond, ◌&&◌, ◌||◌}
 use Rattle.std.proofs.Common.{List, [], ◌∷◌, ◌++◌, length}
-use Rattle.std.proofs.Common.{Option, Some, None, refl, sym, ap, ◌∙◌, subst, arith, eqb, leb, ltb, inl, inr}
-use Rattle.std.specs.Prelude.{reverse, IfSome, is_some, ◌⊎◌, option_map, slice_get, ◌-◌}
+use Rattle.std.proofs.Common.{Option, Some, None, refl, sym, ap, ◌∙◌, subst, arith, eqb, inl, inr}
+use Rattle.std.specs.Prelude.{is_some, option_map, slice_get}
 use Rattle.std.specs.List.{AllByRecursion}
-use Rattle.std.proofs.lemmas.Bool.{cases_Bool, cases_lt, eq-eqb, eqb-true, and_parts, and_from, or_left, or_right}
-use Rattle.std.proofs.lemmas.Option.{same_Some, slice_get_within}
+use Rattle.std.proofs.lemmas.Bool.{eq-eqb, eqb-true, and_parts, or_left, or_right}
+use Rattle.std.proofs.lemmas.Option.{same_Some}
 use Rattle.bm_rows.proofs.Places.{last_cases}
 use Rattle.bm_base.specs.declared.flow.Segment.{Segment}
 use Rattle.bm_base.specs.declared.label.Hop.{Hop}
 use Rattle.bm_base.specs.declared.ids.Moment.{Moment}
-use Rattle.bm_base.specs.declared.ids.ServerId.{ServerId}
 use Rattle.bm_core.specs.declared.events.Event.{Event}
 use Rattle.bm_core.specs.declared.events.Stage.{Stage}
 use Rattle.bm_core.specs.declared.events.What.{What}
 use Rattle.bm_core.specs.declared.events.What.TheVariants.{Publish, Switch, Steer, Lose, Sync}
 use Rattle.bm_core.specs.declared.events.What.TheVariants.{Arrive as Arrives, Close as Closes, Retire as Retires}
-use Rattle.bm_core.specs.Accounts.{Routes, Rules, arrives, steers_packet, is_sync}
+use Rattle.bm_core.specs.Accounts.{Rules, steers_packet, is_sync}
 use Rattle.bm_core.specs.Past.{segment_of, shard, sends}
 use Rattle.bm_core.specs.declared.events.Local.{Local}
 use Rattle.bm_base.specs.declared.flow.Flow.{Flow}
 use Rattle.bm_core.specs.Runs.{Actor, actor_of, is_by, next_clock, AtEach}
 use Rattle.bm_core.specs.Runs.Actor.{Controller, MuxOf, ShardOf}
-use Rattle.bm_core.specs.Threads.{is_command, last_own, moment_at}
-use Rattle.bm_shard.specs.Books.{Book, Replays, event_after, knows_after, clock_after}
+use Rattle.bm_core.specs.Threads.{is_command, last_own}
+use Rattle.bm_shard.specs.Books.{Book, Replays, knows_after, clock_after}
 use Rattle.bm_shard.specs.Replies.{what_of}
 use Rattle.bm_shard.specs.declared.book.Shard.{Shard}
 use Rattle.bm_shard.specs.declared.calls.ShardCall.{ShardCall}
 use Rattle.bm_shard.specs.declared.calls.ShardCall.TheVariants.{Arrive, Close, Retire}
 use Rattle.bm_shard.specs.declared.calls.ShardEntry.{ShardEntry}
-use Rattle.bm_merge.specs.Merges.{Log, some_event}
-use Rattle.bm_merge.specs.Notes.{Note, NotedLog, events_of, plain, all_notes, total, many}
+use Rattle.bm_merge.specs.Merges.{some_event}
+use Rattle.bm_merge.specs.Notes.{Note, events_of, plain, all_notes, total, many}
 use Rattle.bm_merge.specs.Workers.{home_of, is_home, home_part, has_log, deeds_of, all_deeds, carries, own_before}
-use Rattle.bm_merge.specs.Workers.{command_of}
-use Rattle.bm_merge.specs.Workers.{AtNotes, AreUnderway, HaveHomes, HaveSeats, IsBefore, IsCarried, IsClocked, IsDrawn}
+use Rattle.bm_merge.specs.Workers.{AreUnderway, HaveHomes, IsBefore, IsCarried, IsClocked}
 use Rattle.bm_merge.specs.Workers.{IsOwed, IsUnderway, is_copyless, is_publish}
-use Rattle.bm_merge.proofs.Noting.{total_append, total_most, each_append, each_so, each_always}
+use Rattle.bm_merge.proofs.Noting.{total_append, total_most, each_append, each_always}
 use Rattle.bm_merge.proofs.Reaching.{one_if}
 use Rattle.bm_merge.proofs.Sharing.{shared}
 use Rattle.bm_mux.specs.Muxes.{post_clock}
-use Rattle.bm_worker.specs.Phases.{mux_log, IsLossOf}
+use Rattle.bm_worker.specs.Phases.{IsLossOf}
 use Rattle.bm_world.specs.Shards.{Kept, entries_of, note_of, notes_of}
 use Rattle.bm_world.specs.Handed.{control_log, posted_clocks, IsBookOfAll, IsCopied, IsBooked}
-use Rattle.bm_world.specs.Left.{IsSyncIn, IsMuxClocked, IsSteerable, IsLeft, IsSynced, AreLeft}
+use Rattle.bm_world.specs.Left.{IsSyncIn, IsMuxClocked, IsSteerable, IsSynced, AreLeft}
 use Rattle.bm_world.proofs.Homes.{home_is, home_each, carried_not_control}
-use Rattle.bm_world.proofs.Logs.{mux_logs, shard_logs, logs_of, book_notes, are_seated, own_logs, AreWorkers, has_mux}
-use Rattle.bm_world.proofs.Logs.{has_book_log}
-use Rattle.bm_world.proofs.Deeds.{IsAmong, all_among, all_carried, all_of_worker, command_home, carried_home}
+use Rattle.bm_world.proofs.Logs.{logs_of, book_notes, are_seated, own_logs, AreWorkers}
+use Rattle.bm_world.proofs.Deeds.{all_carried, all_of_worker, command_home, carried_home}
 use Rattle.bm_world.proofs.Deeds.{arrives_owed, deeds_each, total_of_worker, have_seats}
 use Rattle.bm_world.proofs.Entries.{at_notes, at_so, both}
-use Rattle.bm_world.proofs.Booked.{own_seats, its_actor, home_actor, book_actors, retire_due, all_more}
+use Rattle.bm_world.proofs.Booked.{its_actor, book_actors, retire_due}
 use Rattle.bm_world.proofs.Assembled.{each_log, at_any}
 use Rattle.bm_world.proofs.Sharded.{IsAskedHere, AreAskedHere, shard_clock}
 
 -- THE WORKERS
 
-all_kinds : (stage : Stage) (x : List Note) → AtEach (IsUnderway stage) x
+pub all_kinds : (stage : Stage) (x : List Note) → AtEach (IsUnderway stage) x
     → AllByRecursion (λ n. is_command n.event.what ≡ true) x
 all_kinds stage [] each = tt
 all_kinds stage (n ∷ x) each = (each.0.kind, all_kinds stage x each.1)
@@ -132,7 +129,7 @@ left_homes F stage controller carriers books left =
     (λ k hop h. arrives_owed (deeds_of carriers m) n n.event.what k hop owed h))
     one.kinds one.seats (all_of_worker Q carriers m (all_rest Q controller (all_deeds carriers) left.booked)) one.owed))
 
-left_shared : (F : Rules) (stage : Stage) (controller : List Note) (carriers : List (List Note)) (books : List Book)
+pub left_shared : (F : Rules) (stage : Stage) (controller : List Note) (carriers : List (List Note)) (books : List Book)
     (left : AreLeft F stage controller carriers books) (f : Note → ℕ)
     → total f (all_notes (logs_of stage controller carriers books left.kept))
     ≡ total f (controller ++ all_deeds carriers)
@@ -158,7 +155,7 @@ some_at c (n ∷ x) is = go (eqb n.event.clock.0 c) is (some_at c x) where
   go true h old = omega arith
   go false h old = let one = old h in omega arith
 
-home_fewer : (f : Note → ℕ) (stage : Stage) (a : Actor) (x : List Note) → total f (home_part stage a x) ≤ total f x
+pub home_fewer : (f : Note → ℕ) (stage : Stage) (a : Actor) (x : List Note) → total f (home_part stage a x) ≤ total f x
 home_fewer f stage a [] = omega arith
 home_fewer f stage a (n ∷ x) = go (is_home stage a n) (home_fewer f stage a x) where
   go : (b : Bool) → total f (home_part stage a x) ≤ total f x

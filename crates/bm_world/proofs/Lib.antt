@@ -6,7 +6,6 @@ pub mod Deeds
 pub mod Entries
 pub mod Booked
 pub mod Assembled
-pub mod Leading
 pub mod Growing
 pub mod Joining
 pub mod Meeting
@@ -18,3 +17,16 @@ pub mod Serving
 pub mod KnownServers
 pub mod Leaving
 pub mod GivingUp
+pub mod Told
+pub mod Phased
+pub mod Through
+pub mod Starting
+pub mod Answered
+pub mod Numbers
+pub mod Crewing
+pub mod Amounts
+pub mod Stopping
+pub mod Late
+pub mod Stops
+pub mod Making
+pub mod Backed

@@ -1,28 +1,22 @@
 -- The logs of a run: the controller's, those of the muxes, and those of the shards. They have just what the workers
 -- did.
-use Rattle.std.proofs.Common.{◌≡◌, ℕ, zero, suc, ◌+◌, ◌<◌, ◌≤◌, Bool, true, false, cond, ◌&&◌, ◌||◌, List, [], ◌∷◌}
-use Rattle.std.proofs.Common.{◌++◌, length, Option}
-use Rattle.std.proofs.Common.{Some, None, refl, sym, ap, ◌∙◌, subst, arith, eqb, inl, inr}
-use Rattle.std.specs.Prelude.{reverse, IfSome, ◌-◌}
+use Rattle.std.proofs.Common.{◌≡◌, ℕ, zero, suc, ◌+◌, ◌<◌, Bool, true, false, ◌||◌, List, [], ◌∷◌}
+use Rattle.std.proofs.Common.{◌++◌, length}
+use Rattle.std.proofs.Common.{refl, sym, ap, ◌∙◌, subst, arith, eqb, inl, inr}
+use Rattle.std.specs.Prelude.{reverse}
 use Rattle.std.specs.List.{AllByRecursion}
-use Rattle.std.proofs.lemmas.Bool.{cases_Bool, cases_lt, cases_eq, eq-eqb, ne_eqb, eqb-true, or_parts}
-use Rattle.bm_base.specs.declared.fate.Fate.{Fate}
-use Rattle.bm_core.specs.declared.events.Event.{Event}
+use Rattle.std.proofs.lemmas.Bool.{cases_eq, eq-eqb, ne_eqb, or_parts}
 use Rattle.bm_core.specs.declared.events.Stage.{Stage}
-use Rattle.bm_core.specs.declared.events.What.{What}
-use Rattle.bm_core.specs.declared.events.What.TheVariants.{Publish, Switch, Steer, Lose, Arrive, Close, Retire, Sync}
-use Rattle.bm_core.specs.Accounts.{Routes, Rules}
-use Rattle.bm_core.specs.Runs.{Actor, is_by, same_actor}
+use Rattle.bm_core.specs.declared.events.What.TheVariants.{Sync}
+use Rattle.bm_core.specs.Runs.{Actor, same_actor}
 use Rattle.bm_core.specs.Runs.Actor.{Controller, MuxOf, ShardOf}
 use Rattle.bm_core.specs.Threads.{is_command}
 use Rattle.bm_shard.specs.Books.{Book}
-use Rattle.bm_merge.specs.Merges.{Log, has_actor, HaveOwnLogs, named}
+use Rattle.bm_merge.specs.Merges.{has_actor, HaveOwnLogs, named}
 use Rattle.bm_merge.specs.Notes.{Note, NotedLog, events_of, plain}
-use Rattle.bm_merge.specs.Workers.{home_of, is_home, home_part, seat_part, deeds_of, carries, IsSeated, AreSeated}
-use Rattle.bm_merge.specs.Workers.{HaveSeats}
-use Rattle.bm_merge.proofs.Commanding.{all_kinds}
-use Rattle.bm_world.specs.Shards.{Kept, entries_of, notes_of}
-use Rattle.bm_world.specs.Handed.{IsCarriage, IsBookOfAll, has_book, HaveOwnBooks}
+use Rattle.bm_merge.specs.Workers.{is_home, home_part, seat_part, deeds_of, carries, IsSeated, AreSeated}
+use Rattle.bm_world.specs.Shards.{notes_of}
+use Rattle.bm_world.specs.Handed.{IsBookOfAll, has_book, HaveOwnBooks}
 use Rattle.bm_world.proofs.Homes.{seat_all, seat_none, home_none, home_each, command_not_mux, carried_not_control}
 use Rattle.bm_world.proofs.Homes.{carried_not_other}
 use Rattle.bm_world.proofs.Seated.{AreSeatedNotes, seated_notes}

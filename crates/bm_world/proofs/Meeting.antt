@@ -1,32 +1,29 @@
 -- All workers: a phase more, and the Sync at which they meet.
-use Rattle.std.proofs.Common.{◌≡◌, ℕ, zero, suc, ◌+◌, ◌*◌, ◌<◌, ◌≤◌, max, Bool, true, false, cond, ◌&&◌, List, [], ◌∷◌}
+use Rattle.std.proofs.Common.{◌≡◌, ℕ, zero, suc, ◌+◌, ◌<◌, ◌≤◌, Bool, true, false, cond, ◌&&◌, List, [], ◌∷◌}
 use Rattle.std.proofs.Common.{◌++◌, length}
-use Rattle.std.proofs.Common.{Option, Some, None, refl, sym, ap, ◌∙◌, subst, arith, eqb, leb, ltb, inl, inr}
-use Rattle.std.proofs.Common.{append_assoc, append-nil}
-use Rattle.std.specs.Prelude.{reverse, IfSome, is_some, slice_get}
+use Rattle.std.proofs.Common.{Option, Some, None, refl, sym, ap, ◌∙◌, subst, arith}
+use Rattle.std.proofs.Common.{append-nil}
+use Rattle.std.specs.Prelude.{IfSome, slice_get}
 use Rattle.std.specs.List.{AllByRecursion}
-use Rattle.std.proofs.lemmas.Bool.{cases_Bool, cases_lt, cases_eq, eq-eqb, ne_eqb, eqb-true, le-leb, and_from}
+use Rattle.std.proofs.lemmas.Bool.{le-leb}
 use Rattle.std.proofs.lemmas.Option.{slice_get_within}
-use mathlib.Core.List.{IsPrefix}
 use Rattle.logbook.specs.Pages.{Book}
 use Rattle.bm_rows.proofs.Places.{there}
 use Rattle.bm_base.specs.declared.flow.Segment.{Segment}
 use Rattle.bm_base.specs.declared.ids.MuxId.{MuxId}
-use Rattle.bm_core.specs.declared.events.What.{What}
-use Rattle.bm_core.specs.declared.events.What.TheVariants.{Publish, Switch, Steer, Lose, Arrive, Close, Retire, Sync}
+use Rattle.bm_core.specs.declared.events.What.TheVariants.{Sync}
 use Rattle.bm_core.specs.declared.events.Event.{Event}
 use Rattle.bm_core.specs.declared.events.Stage.{Stage}
-use Rattle.bm_core.specs.Accounts.{Routes, Rules, counts, is_sync, steers_packet}
+use Rattle.bm_core.specs.Accounts.{Routes, Rules, counts, is_sync}
 use Rattle.bm_core.specs.Past.{segment_of, newest, is_switch_of}
-use Rattle.bm_core.specs.Runs.{Actor, AtEach, next_clock}
-use Rattle.bm_core.specs.Runs.Actor.{Controller, MuxOf, ShardOf}
+use Rattle.bm_core.specs.Runs.{next_clock}
+use Rattle.bm_core.specs.Runs.Actor.{Controller}
 use Rattle.bm_core.specs.Threads.{sync_clock, newest_before, packet_of, phase_of, moment_at}
 use Rattle.bm_merge.specs.Notes.{Note, events_of, many, total, greatest}
 use Rattle.bm_merge.specs.Workers.{home_part, is_home, deeds_of, all_deeds, looks_since}
-use Rattle.bm_merge.proofs.Keeping.{no_deeds}
-use Rattle.bm_merge.proofs.Noting.{total_append, total_most, each_append, each_so, greatest_append}
+use Rattle.bm_merge.proofs.Noting.{total_append, total_most, each_so, greatest_append}
 use Rattle.bm_merge.proofs.Owing.{all_under}
-use Rattle.bm_merge.proofs.Phasing.{IsPhased, nothing_phased, phased_more, phased_sync}
+use Rattle.bm_merge.proofs.Phasing.{IsPhased, phased_more, phased_sync}
 use Rattle.bm_merge.proofs.Reaching.{one_if}
 use Rattle.bm_merge.proofs.Sharing.{greatest_shared}
 use Rattle.bm_publish.specs.Posts.{Posted, last_version}
@@ -36,9 +33,9 @@ use Rattle.bm_worker.specs.Phases.{IsDeed, stint_of}
 use Rattle.bm_worker.specs.Turns.{mux_at}
 use Rattle.bm_worker.specs.declared.span.Span.{Span}
 use Rattle.bm_worker.specs.declared.worker.MuxWorker.{MuxWorker}
-use Rattle.bm_world.specs.Handed.{control_log, IsCarriage}
+use Rattle.bm_world.specs.Handed.{control_log}
 use Rattle.bm_world.specs.Running.{IsAtWork, AreAtWork, AreApart, HaveLooked, add_deeds}
-use Rattle.bm_world.proofs.Deeds.{all_carried, all_of_worker}
+use Rattle.bm_world.proofs.Deeds.{all_carried}
 use Rattle.bm_world.proofs.Growing.{carriage_later}
 use Rattle.bm_world.proofs.Homes.{home_each}
 use Rattle.bm_world.proofs.Joining.{added_of, added_count, added_total, AreOfPhase, control_same, phased_led, HasDone}
@@ -196,6 +193,7 @@ at_work_later R F stage servers routes control e board phases until m w deeds be
   tries = at.tries;
   steps = at.steps;
   room = at.room;
+  few = at.few;
   stop = at.stop;
 }
 
@@ -203,7 +201,7 @@ all_over : (x : List Note) (clock : ℕ) → greatest clock_of x < clock → All
 all_over x clock low =
     each_so (λ y. clock_of y ≤ greatest clock_of x) (λ n. clock_of n < clock) x (λ n h. omega arith) (all_under x)
 
-worker_under : (carriers : List (List Note)) (m : ℕ)
+pub worker_under : (carriers : List (List Note)) (m : ℕ)
     → greatest clock_of (deeds_of carriers m) ≤ greatest clock_of (all_deeds carriers)
 worker_under [] m = omega arith
 worker_under (d ∷ carriers) zero = let a = greatest_append clock_of d (all_deeds carriers) in omega arith

@@ -1,10 +1,10 @@
 -- Which commands and which packets are of a phase.
-use Rattle.std.proofs.Common.{◌≡◌, ℕ, zero, suc, ◌+◌, ◌*◌, ◌^◌, ◌<◌, ◌≤◌, Bool, true, false, cond, List, [], ◌∷◌, ◌++◌}
+use Rattle.std.proofs.Common.{◌≡◌, ℕ, zero, suc, ◌+◌, ◌*◌, ◌^◌, ◌<◌, ◌≤◌, Bool, true, false, List, [], ◌∷◌, ◌++◌}
 use Rattle.std.proofs.Common.{length, map}
-use Rattle.std.proofs.Common.{take, drop, take_all, drop_of_length-le, take-append-drop, Option, Some, None, refl, sym}
-use Rattle.std.proofs.Common.{ap, ◌∙◌, subst, arith, leb, inl, inr}
-use Rattle.std.specs.Prelude.{slice_get, IfSome, ◌-◌}
-use Rattle.std.proofs.lemmas.Bool.{cases_lt, le-leb, lt-leb}
+use Rattle.std.proofs.Common.{take, drop, drop_of_length-le, take-append-drop, Some, refl, sym}
+use Rattle.std.proofs.Common.{ap, ◌∙◌, subst, arith, leb}
+use Rattle.std.specs.Prelude.{slice_get, ◌-◌}
+use Rattle.std.proofs.lemmas.Bool.{le-leb, lt-leb}
 use Rattle.std.proofs.lemmas.List.{at_drop_more, take_more}
 use Rattle.std.proofs.lemmas.Option.{slice_get_within, get_or_from_slice_get}
 use Rattle.bm_rows.proofs.Places.{there}
@@ -117,7 +117,7 @@ pub phase_before : (stage : Stage) (next end p before until : ℕ) (at : Moment)
     → AreRising 0 (4 * 10 ^ 18) (map (λ c. moment_of_command stage.script.plan c) stage.script.commands)
     → next ≤ end → slice_get stage.script.commands end ≡ Some (SyncCommand at)
     → HaveNoSync stage.script.commands next end → until ≤ length stage.capture.records
-    → ((k : ℕ) → 0 < k → k ≤ until → record_moment stage k < at.0)
+    → ((k : ℕ) → before < k → k ≤ until → record_moment stage k < at.0)
     → IsAtPhase stage next p before
     → (k : ℕ) → before < k → k ≤ until → phase_of stage k ≡ p
 phase_before stage next end p before until at rise low here none few under is k over within =
@@ -128,7 +128,7 @@ phase_before stage next end p before until at rise low here none few under is k 
     (SyncCommand at ∷ drop (end + 1) commands)) =
     subst (λ (l : List Command). AreRising rest.0 (4 * 10 ^ 18) (map (λ c. moment_of_command stage.script.plan c) l))
     (script_drop commands end (SyncCommand at) here) rest.1
-    in let moment = under k (omega arith) within
+    in let moment = under k over within
     in let later : count_of (is_sync_by (record_moment stage k)) (SyncCommand at ∷ drop (end + 1) commands) ≡ 0 =
     let not : leb at.0 (record_moment stage k) ≡ false = lt-leb _ _ moment
     in let tail =

@@ -1,45 +1,36 @@
 -- What the workers of a run hand back when all phases are done: what each did, what its mux logged,
 -- and the books of the shards. Only the proofs of bodies use this.
-use Rattle.std.specs.Prelude.{◌≡◌, ◌≢◌, ℕ, zero, suc, ◌==◌, ◌+◌, ◌<◌, ◌≤◌, max, Bool, true, false}
-use Rattle.std.specs.Prelude.{◌&&◌, ◌||◌, MatchBool}
-use Rattle.std.specs.Prelude.{if◌then◌else◌, List, [], ◌∷◌, ◌++◌, length, reverse, slice_get}
-use Rattle.std.specs.Prelude.{Option, Some, None}
+use Rattle.std.specs.Prelude.{◌≡◌, ℕ, suc, ◌==◌, ◌<◌, ◌≤◌, Bool, true, false}
+use Rattle.std.specs.Prelude.{◌&&◌, ◌||◌}
+use Rattle.std.specs.Prelude.{if◌then◌else◌, List, [], ◌∷◌, ◌++◌, length, reverse}
+use Rattle.std.specs.Prelude.{Some}
 use Rattle.std.specs.Prelude.{IfSome, is_some}
 use Rattle.std.specs.List.{AllByRecursion}
-use Rattle.bm_base.specs.declared.flow.Segment.{Segment}
 use Rattle.bm_base.specs.declared.label.Label.{Label}
-use Rattle.bm_base.specs.declared.label.Tag.{Tag}
-use Rattle.bm_base.specs.declared.ids.ServerId.{ServerId}
-use Rattle.bm_base.specs.declared.flow.Flow.{Flow}
 use Rattle.bm_base.specs.Labels.{tag_of}
-use Rattle.bm_table.specs.Tables.{IsRetirement}
 use Rattle.bm_core.specs.declared.events.What.{What}
-use Rattle.bm_core.specs.declared.events.What.TheVariants.{Publish, Switch, Steer, Lose, Sync}
 use Rattle.bm_core.specs.declared.events.What.TheVariants.{Arrive as Arrives, Close as Closes}
 use Rattle.bm_core.specs.declared.events.What.TheVariants.{Retire as Retires}
 use Rattle.bm_core.specs.declared.events.Event.{Event}
 use Rattle.bm_core.specs.declared.events.Stage.{Stage}
-use Rattle.bm_core.specs.Past.{segment_of, shard, timeout, newest, label_of, version_at}
-use Rattle.bm_core.specs.Runs.{AtEach, actor_of, own_clock, next_clock}
-use Rattle.bm_core.specs.Runs.Actor.{Controller, MuxOf, ShardOf}
+use Rattle.bm_core.specs.Past.{segment_of, shard, newest, label_of}
+use Rattle.bm_core.specs.Runs.{AtEach}
+use Rattle.bm_core.specs.Runs.Actor.{Controller, ShardOf}
 use Rattle.bm_core.specs.Accounts.{Routes, Rules, counts, is_sync, steers_packet}
 use Rattle.bm_core.specs.Stages.{IsSound}
-use Rattle.bm_core.specs.Threads.{last_own, newest_before, sync_clock, steers_later, record_moment}
+use Rattle.bm_core.specs.Threads.{newest_before, sync_clock}
 use Rattle.bm_core.specs.Threads.{packet_of}
 use Rattle.bm_core.specs.Threads.{phase_of}
 use Rattle.bm_shard.specs.declared.book.Shard.{Shard}
 use Rattle.bm_shard.specs.declared.calls.ShardCall.{ShardCall}
 use Rattle.bm_shard.specs.declared.calls.ShardCall.TheVariants.{Arrive}
-use Rattle.bm_shard.specs.declared.calls.ShardEntry.{ShardEntry}
 use Rattle.bm_shard.specs.Books.{Book, Replays}
 use Rattle.bm_shard.specs.Laws.{IsOf}
-use Rattle.bm_merge.specs.Merges.{IsNextVersion, newest_until}
-use Rattle.bm_merge.specs.Notes.{Note, NotedLog, events_of, many, until, switched_since}
-use Rattle.bm_merge.specs.Workers.{arrives_after, deeds_of, all_deeds, home_of, home_part}
-use Rattle.bm_merge.specs.Workers.{is_publish}
+use Rattle.bm_merge.specs.Notes.{Note, events_of, many, until}
+use Rattle.bm_merge.specs.Workers.{deeds_of, all_deeds, home_part}
 use Rattle.bm_merge.specs.Workers.{looks_since, IsCarrier, IsController, IsMet}
-use Rattle.bm_mux.specs.Muxes.{post_clock}
 use Rattle.bm_worker.specs.Phases.{mux_log, IsInOrder, IsMuxGiven}
+pub use Rattle.bm_lead.specs.Commands.{control_log, posted_clocks, IsControlStep, IsJudgedBy}
 use Rattle.bm_world.specs.Shards.{entries_by, AreNoted}
 
 -- WHAT A MUX GIVES
@@ -52,10 +43,6 @@ IsMuxGivenBy stage control posts rest e =
     e.clock.0 e.what
 
 -- WORKER m + 1
-
--- the log of the controller
-abbrev pub control_log : Stage → List Note → List Event
-control_log stage controller = events_of (home_part stage Controller controller)
 
 -- the event comes after as many Syncs as its packet's phase says
 abbrev pub IsPhasedBy : Stage → List Event → Note → Type 0
@@ -76,23 +63,7 @@ pub record IsCarriage (R : Routes) (F : Rules) (stage : Stage) (control : List E
 
 -- WORKER 0
 
--- the clocks of the Publishes, in their order
-abbrev pub posted_clocks : List Event → List ℕ
-posted_clocks [] = []
-posted_clocks (e ∷ past) =
-    if is_publish e.what then posted_clocks past ++ e.clock.0 ∷ [] else posted_clocks past
-
--- a retirement was judged by the versions that are published up to its clock
-abbrev pub IsJudgedBy : Stage → List Event → ℕ → What → Type 0
-IsJudgedBy stage control clock (Retires server h at result) =
-    IsRetirement stage.script.plan (timeout stage) (newest_until clock control) server at.0 result
-IsJudgedBy stage control clock _ = Unit {0}
-
--- the clocks of the controller's log rise, and it publishes the versions in their order
-pub record IsControlStep (stage : Stage) (rest : List Event) (e : Event) : Type 0 where
-  pub own : IfSome (own_clock stage rest Controller) (λ c. c < e.clock.0)
-  pub version : IsNextVersion stage rest e.what
-
+-- the controller's log is that of a controller
 pub record IsControl (stage : Stage) (controller : List Note) : Type 0 where
   pub seats : AllByRecursion (λ n. n.seat ≡ 0) controller
   pub steps : AtEach (IsControlStep stage) (control_log stage controller)

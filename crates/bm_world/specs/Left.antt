@@ -1,8 +1,8 @@
 -- What the workers leave behind where one of them has given up: less than they hand back at the
 -- end. Only the proofs of bodies use this.
-use Rattle.std.specs.Prelude.{◌≡◌, ◌⊎◌, ℕ, zero, suc, ◌+◌, ◌*◌, ◌<◌, ◌≤◌, ◌==◌, ◌&&◌, max, Bool}
-use Rattle.std.specs.Prelude.{true, List, [], ◌∷◌, ◌++◌, length}
-use Rattle.std.specs.Prelude.{Option, Some, None, is_some}
+use Rattle.std.specs.Prelude.{◌≡◌, ◌⊎◌, ℕ, suc, ◌<◌, ◌==◌, ◌&&◌, max}
+use Rattle.std.specs.Prelude.{true, List, ◌++◌, length}
+use Rattle.std.specs.Prelude.{Some, is_some}
 use Rattle.std.specs.List.{AllByRecursion}
 use Rattle.bm_core.specs.declared.events.Event.{Event}
 use Rattle.bm_core.specs.declared.events.Stage.{Stage}
@@ -16,7 +16,7 @@ use Rattle.bm_core.specs.Stages.{IsSound}
 use Rattle.bm_core.specs.Threads.{last_own, moment_at, record_moment}
 use Rattle.bm_shard.specs.Books.{Book}
 use Rattle.bm_merge.specs.Merges.{some_event}
-use Rattle.bm_merge.specs.Notes.{Note, events_of}
+use Rattle.bm_merge.specs.Notes.{Note}
 use Rattle.bm_merge.specs.Workers.{IsBefore, IsDrawn, IsOwed, IsUnderway, carries, command_of}
 use Rattle.bm_merge.specs.Workers.{deeds_of, all_deeds}
 use Rattle.bm_mux.specs.Muxes.{post_clock}

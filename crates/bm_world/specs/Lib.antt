@@ -1,7 +1,10 @@
 pub mod Shards
 pub mod Handed
-pub mod Leads
 pub mod Running
 pub mod Served
 pub mod Routed
 pub mod Left
+pub mod GivenUp
+pub mod Crews
+pub mod Seats
+pub mod Logged

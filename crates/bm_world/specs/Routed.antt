@@ -1,10 +1,12 @@
 -- What the route gives each packet. Only the proofs of bodies use this.
 use Rattle.std.specs.Prelude.{◌≡◌, ℕ, suc, ◌<◌, List, length, slice_get, Option, Some, None}
+use Rattle.std.specs.Prelude.{true, is_some}
 use Rattle.bm_base.specs.declared.flow.Segment.{Segment}
 use Rattle.bm_base.specs.declared.ids.MuxId.{MuxId}
 use Rattle.bm_core.specs.declared.events.Stage.{Stage}
 use Rattle.bm_core.specs.Accounts.{Routes}
 use Rattle.bm_core.specs.Past.{segment_of}
+use Rattle.bm_worker.specs.Turns.{mux_at}
 
 -- a steerable packet is given a mux that the route may answer, and no other is given one
 abbrev pub IsGivenTo : Routes → Stage → ℕ → ℕ → Option MuxId → Type 0
@@ -18,3 +20,10 @@ pub record AreGiven (R : Routes) (stage : Stage) (muxes : ℕ) (routes : List (O
   pub count : length routes ≡ length stage.capture.records
   pub each : (i : ℕ) (o : Option MuxId) → slice_get routes i ≡ Some o
       → IsGivenTo R stage muxes (suc i) o
+
+-- each steerable packet has a mux, and no other packet has one
+pub record AreRouted (stage : Stage) (routes : List (Option MuxId)) : Type 0 where
+  pub below : (k m : ℕ) → mux_at routes k ≡ Some m → m < stage.script.setting.muxes
+  pub steerable : (k m : ℕ) → mux_at routes k ≡ Some m → is_some (segment_of stage k) ≡ true
+  pub given : (k : ℕ) → is_some (segment_of stage k) ≡ true → is_some (mux_at routes k) ≡ true
+  pub count : length routes ≡ length stage.capture.records

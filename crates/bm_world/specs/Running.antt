@@ -1,30 +1,26 @@
 -- A run on its way: what the workers did so far, between two phases and where one was joined. Only
 -- the proofs of bodies use this.
-use Rattle.std.specs.Prelude.{◌≡◌, ℕ, zero, suc, ◌+◌, ◌*◌, ◌<◌, ◌≤◌, max, Bool, if◌then◌else◌, List}
-use Rattle.std.specs.Prelude.{[], ◌∷◌, ◌++◌, length}
-use Rattle.std.specs.Prelude.{reverse, slice_get, Option, Some, None, IfSome, take, drop, true}
+use Rattle.std.specs.Prelude.{◌≡◌, ℕ, ◌+◌, ◌*◌, ◌<◌, ◌≤◌, if◌then◌else◌, List}
+use Rattle.std.specs.Prelude.{◌∷◌, ◌++◌, length}
+use Rattle.std.specs.Prelude.{reverse, slice_get, Option, Some, None, IfSome, take}
 use Rattle.std.specs.List.{AllByRecursion}
 use Rattle.logbook.specs.Pages.{Book}
 use Rattle.bm_base.specs.declared.ids.MuxId.{MuxId}
 use Rattle.bm_core.specs.declared.events.Event.{Event}
 use Rattle.bm_core.specs.declared.events.Stage.{Stage}
-use Rattle.bm_core.specs.declared.events.What.{What}
-use Rattle.bm_core.specs.declared.events.What.TheVariants.{Close, Retire}
-use Rattle.bm_core.specs.Accounts.{Routes, Rules, counts, count_of, is_sync, steers_packet}
+use Rattle.bm_core.specs.Accounts.{Routes, Rules, count_of, steers_packet}
 use Rattle.bm_core.specs.Accounts.{wants_sync}
 use Rattle.bm_core.specs.Runs.Actor.{Controller, ShardOf}
 use Rattle.bm_core.specs.Threads.{sync_clock, newest_before, packet_of, is_sync_by, record_moment}
 use Rattle.bm_merge.specs.Notes.{Note, many, total, greatest}
 use Rattle.bm_merge.specs.Workers.{home_part, deeds_of, all_deeds, looks_since}
 use Rattle.bm_merge.proofs.Phasing.{IsPhased}
-use Rattle.bm_publish.specs.Posts.{Posted}
 use Rattle.bm_server.specs.Seats.{Seated}
 use Rattle.bm_server.specs.Servings.{Serving, shard_at}
-use Rattle.bm_worker.specs.Deeds.{clock_of, noted, saying, Sits, HasServer}
-use Rattle.bm_worker.specs.Phases.{mux_log, AreCopies, IsPlaced}
+use Rattle.bm_worker.specs.Deeds.{clock_of, noted, saying, Sits}
+use Rattle.bm_worker.specs.Phases.{mux_log, AreCopies, IsPlaced, is_steer}
 use Rattle.bm_worker.specs.Told.{told_there}
 use Rattle.bm_worker.specs.Turns.{is_turn}
-use Rattle.bm_worker.specs.declared.stop.Stop.{Stop}
 use Rattle.bm_worker.specs.declared.worker.MuxWorker.{MuxWorker}
 use Rattle.bm_world.specs.Handed.{control_log, IsCarriage}
 
@@ -56,6 +52,8 @@ pub record IsAtWork (R : Routes) (F : Rules) (stage : Stage) (servers : List Ser
   pub tries : w.porter.tries ≤ 12 * until
   pub steps : w.steps ≤ until
   pub room : length w.mux.log ≤ 5 * until + phases
+  -- besides the first Switch of each phase, at most 14 deeds for each packet
+  pub few : length deeds ≤ 14 * many (λ n. is_steer n.event.what) deeds + phases
   pub stop : w.stop ≡ None
 
 -- the deeds of a phase before those of the phases that were

@@ -55,7 +55,7 @@ fn is_added(plan: &Plan, id: ServerId) -> bool
 }
 
 /// Whether the script knows the server once all its changes are published.
-fn is_known_at_last(script: &Script, id: ServerId) -> bool
+pub(crate) fn is_known_at_last(script: &Script, id: ServerId) -> bool
     requires { script.now.plan.servers ≡ script.now.setting.servers }
     ensures { result ≡ is_known script.now.plan (length script.now.plan.changes) id }
 {

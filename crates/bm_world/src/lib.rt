@@ -1,6 +1,15 @@
 //! A run of a stage in threads: workers, phases, and the history that their logs merge to.
 #![tactic(auto)]
 
+mod counting;
+mod crew;
 mod known;
+mod phase;
+mod places;
 mod routing;
 mod servers;
+mod shard_logs;
+mod threads;
+
+pub use counting::seats;
+pub use threads::run_threads;

@@ -1,4 +1,4 @@
-use Rattle.std.proofs.Common.{◌≡◌, ◌+◌, ◌<◌, ◌≤◌, ℕ, length, sym, ap, ◌∙◌, arith}
+use Rattle.std.proofs.Common.{◌<◌, length, arith}
 use Rattle.bm_fault.specs.Faults.{Gives}
 use Rattle.bm_worker.proofs.Collecting.{collected_new, collected_push}
 use Rattle.bm_worker.proofs.batch.collect.Goals as goal

@@ -1,6 +1,6 @@
-use Rattle.std.proofs.Common.{◌≡◌, ℕ, ◌+◌, ◌<◌, true, false, length, inl, inr, sym, ap, ◌∙◌, subst, arith, rules}
+use Rattle.std.proofs.Common.{◌≡◌, ℕ, ◌<◌, true, length, inl, inr, sym, ap, ◌∙◌, arith}
 use Rattle.std.proofs.lemmas.Bool.{cases_lt}
-use Rattle.bm_table.specs.Tables.{adds, next_change, is_known}
+use Rattle.bm_table.specs.Tables.{adds, next_change}
 use Rattle.bm_world.proofs.KnownServers.{known_by, known_first}
 use Rattle.bm_world.proofs.known.is_added.Goals as goal
 

@@ -1,4 +1,4 @@
-use Rattle.std.proofs.Common.{◌≡◌, true, false, length, sym, ap, ◌∙◌, List}
+use Rattle.std.proofs.Common.{length, sym, ap, ◌∙◌, List}
 use Rattle.bm_base.specs.declared.ids.ServerId.{ServerId}
 use Rattle.bm_table.specs.Tables.{is_among}
 use Rattle.bm_world.proofs.KnownServers.{known_among}

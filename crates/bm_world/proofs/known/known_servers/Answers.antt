@@ -1,7 +1,7 @@
-use Rattle.std.proofs.Common.{◌≡◌, ℕ, ◌+◌, ◌<◌, ◌≤◌, true, false, List, length, sym, ap, ◌∙◌, arith, rules, refl}
-use Rattle.std.proofs.Common.{Vec, Global, [], subst}
+use Rattle.std.proofs.Common.{length, sym, ap, ◌∙◌}
+use Rattle.std.proofs.Common.{Vec, Global}
 use Rattle.bm_base.specs.declared.ids.ServerId.{ServerId}
-use Rattle.bm_world.proofs.KnownServers.{AreKnownBelow, known_more, known_less, nothing_below}
+use Rattle.bm_world.proofs.KnownServers.{known_more, known_less, nothing_below}
 use Rattle.bm_world.proofs.known.known_servers.Goals as goal
 use Rattle.bm_world.proofs.known.known_servers.Goals.{then-is_known_at_last+in_ok-push, else-is_known_at_last}
 

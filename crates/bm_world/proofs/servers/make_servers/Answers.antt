@@ -1,7 +1,6 @@
-use Rattle.std.proofs.Common.{◌≡◌, ℕ, ◌+◌, ◌∷◌, ◌++◌, [], List, length, map, slice_get, Some, None, sym, ap, ◌∙◌, subst}
+use Rattle.std.proofs.Common.{◌≡◌, ℕ, ◌∷◌, ◌++◌, [], List, length, map, slice_get, Some, None, sym, ap, ◌∙◌, subst}
 use Rattle.std.proofs.Common.{length-append, arith}
 use Rattle.std.proofs.lemmas.Option.{slice_get-get_or}
-use Rattle.bm_base.specs.declared.ids.ServerId.{ServerId}
 use Rattle.bm_rows.proofs.Glued.{glued_at, length_rows}
 use Rattle.bm_rows.proofs.Places.{all_empty, each_more, subst_two}
 use Rattle.bm_server.specs.Servings.{Serving}

@@ -16,7 +16,7 @@ same g c =
     let w = c.args.self.now in
     let d : List ℕ = c.deref_mut.result.now in
     let is : d ≡ w.octets.items = c.deref_mut.ensures.value in
-    let within : w.upto ≤ length d = omega (arith, w.size, w.within, ap length is) in
+    let within : w.upto ≤ length d = omega (arith, w.within, ap length is) in
     let after : List ℕ = put_mid w.upto (length d - w.upto) d c.take.new.buf in
     let back : (with_items w.octets after).items ≡ after =
     with_items_is w.octets after
@@ -36,7 +36,7 @@ more g c =
     let n = c.in_ok-count.count in
     let d : List ℕ = c.deref_mut.result.now in
     let is : d ≡ w.octets.items = c.deref_mut.ensures.value in
-    let within : w.upto ≤ length d = omega (arith, w.size, w.within, ap length is) in
+    let within : w.upto ≤ length d = omega (arith, w.within, ap length is) in
     let after : List ℕ = put_mid w.upto (length d - w.upto) d c.take.new.buf in
     let back : (with_items w.octets after).items ≡ after =
     with_items_is w.octets after

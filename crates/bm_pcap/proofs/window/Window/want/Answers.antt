@@ -1,4 +1,4 @@
-use Rattle.std.proofs.Common.{◌≡◌, ◌≤◌, length, arith, ap, sym, ◌∙◌}
+use Rattle.std.proofs.Common.{◌≡◌, ◌≤◌, length, arith, ap, sym, refl, ◌∙◌}
 use Rattle.bm_pcap.specs.Window.{held}
 use Rattle.bm_pcap.specs.declared.window.Window.{Window}
 use Rattle.bm_pcap.proofs.Windows.{ahead_whole, ahead_end, front_held, front_trans, keeps_trans}
@@ -10,7 +10,7 @@ returns-clause-ahead g c = elim c.loop-self-test.branch [
   | else-loop-self-test w ↦
       let x = c.loop-self.self in
       let long : length (held x) ≡ x.upto =
-      front_held x.octets.items x.from x.upto _ c.loop-self.invariant.front x.within x.size in
+      front_held x.octets.items x.from x.upto _ c.loop-self.invariant.front x.within refl in
       let all : c.args.most ≡ c.min.result =
       omega (arith, c.min.ensures, ap (λ (v : Window g.row.S.Denot). v.upto) w.self-is, w.loop-self-test.false) in
       rw (w.self-is, sym all)
@@ -19,8 +19,8 @@ returns-clause-ahead g c = elim c.loop-self-test.branch [
       let x = w.read.new.self in
       let e = w.in_ok-read.ensures in
       let long : length (held x) ≡ x.upto =
-      front_held x.octets.items x.from x.upto _ (e.from ∙ c.loop-self.invariant.front) x.within x.size in
-      let none = e.end w.if-branch-eq0.true (omega (arith, w.loop-self-test.true, c.requires)) in
+      front_held x.octets.items x.from x.upto _ (e.from ∙ c.loop-self.invariant.front) x.within refl in
+      let none = e.end w.if-branch-eq0.true (omega (arith, w.loop-self-test.true, c.requires, c.loop-self.invariant.wide)) in
       let less : x.upto ≤ c.args.most = omega (arith, e.count, w.if-branch-eq0.true, w.loop-self-test.true) in
       let all : c.min.result ≡ length (held x) =
       omega (arith, c.min.ensures, ap (λ (v : Window g.row.S.Denot). v.upto) w.self-is, long, less) in
@@ -34,6 +34,7 @@ loop-self-preserved g c = record {
   keeps = keeps_trans _ _ _ c.loop-self.invariant.keeps c.in_ok-read.ensures.keeps;
   grows = front_trans _ _ _ c.loop-self.invariant.grows c.in_ok-read.ensures.grows;
   front = c.in_ok-read.ensures.from ∙ c.loop-self.invariant.front;
+  wide = c.in_ok-read.ensures.wide ∙ c.loop-self.invariant.wide;
   later = omega (arith, c.in_ok-read.ensures.cause.kept, c.loop-self.invariant.later);
 }
 

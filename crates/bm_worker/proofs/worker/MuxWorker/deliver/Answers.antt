@@ -1,10 +1,9 @@
-use Rattle.std.proofs.Common.{◌≡◌, ◌+◌, ◌*◌, ◌^◌, ◌<◌, ◌≤◌, ℕ, List, length, slice_get, Some, refl, sym, ap, ◌∙◌, subst}
+use Rattle.std.proofs.Common.{◌+◌, ◌*◌, ◌^◌, ◌≤◌, ℕ, List, Some, refl, sym, ap, ◌∙◌, subst}
 use Rattle.std.proofs.Common.{arith}
 use Rattle.std.proofs.lemmas.Option.{slice_get-get_or}
 use Rattle.bm_base.specs.declared.fate.Fate.{Fate}
 use Rattle.bm_base.specs.declared.label.Hop.TheVariants.{Direct}
 use Rattle.bm_fault.specs.Faults.{Gives}
-use Rattle.bm_mux.specs.declared.item.Steered.{Steered}
 use Rattle.bm_worker.specs.Batches.{IsSent}
 use Rattle.bm_worker.specs.Debts.{IsCopyOf}
 use Rattle.bm_worker.proofs.Carrying.{losses_on, no_losses, same_porter_on}

@@ -1,4 +1,4 @@
-use Rattle.std.proofs.Common.{◌≡◌, List, ℕ, Result, Ok, sym, ap, ◌∙◌, subst}
+use Rattle.std.proofs.Common.{◌≡◌, List, ℕ, Ok, sym, subst}
 use Rattle.bm_base.specs.declared.label.Hop.TheVariants.{Chained}
 use Rattle.bm_encap.specs.Faults.{chained}
 use Rattle.bm_fault.specs.Faults.{Gives}

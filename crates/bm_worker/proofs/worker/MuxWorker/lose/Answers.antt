@@ -1,4 +1,3 @@
-use Rattle.std.proofs.Common.{◌≡◌}
 use Rattle.bm_worker.proofs.Carrying.{loss_is}
 use Rattle.bm_worker.proofs.worker.MuxWorker.lose.Goals as goal
 

@@ -1,4 +1,4 @@
-use Rattle.std.proofs.Common.{◌≡◌, ◌+◌, ◌≤◌, ℕ, refl, sym, ap, ◌∙◌, subst, arith}
+use Rattle.std.proofs.Common.{◌≡◌, ◌≤◌, ℕ, refl, arith}
 use Rattle.bm_base.specs.declared.label.Hop.TheVariants.{Chained}
 use Rattle.bm_fault.specs.Faults.{Gives}
 use Rattle.bm_worker.specs.Debts.{debt}

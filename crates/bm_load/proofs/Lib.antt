@@ -1,0 +1,5 @@
+mod Rounds
+mod Reading
+mod Records
+mod Sound
+mod Adding

@@ -1,0 +1,11 @@
+pub mod Limits
+pub mod Times
+pub mod Options
+pub mod Blocks
+pub mod Contents
+pub mod Places
+pub mod Capture
+pub mod Causes
+pub mod Parts
+pub mod Reader
+pub mod Front

@@ -1,0 +1,66 @@
+-- Where a reader stands in a capture, and its section.
+use Rattle.std.specs.Prelude.{ℕ, ◌+◌, ◌-◌, max, min, List, [], ◌∷◌, ◌++◌, Option, Some, None}
+use Rattle.std.specs.Prelude.{unwrap_or}
+use Rattle.bm_base.specs.declared.ids.Moment.{Moment}
+use Rattle.bm_pcap.specs.declared.form.Order.{Order}
+use Rattle.bm_pcap.specs.Limits.{latest, most_octets}
+use Rattle.bm_pcapng.specs.declared.content.Content.{Content}
+use Rattle.bm_pcapng.specs.declared.content.Packet.{Packet}
+use Rattle.bm_pcapng.specs.declared.content.Content.TheVariants.{Begins, Describes, Holds, Nothing}
+use Rattle.bm_pcapng.specs.declared.interface.Interface.{Interface}
+use Rattle.bm_pcapng.specs.declared.place.Place.{Place}
+
+-- the packet of a block that holds one
+abbrev pub packet_in : Content → Option Packet
+packet_in (Holds packet) = Some packet
+packet_in other = None
+
+-- the order of the numbers behind a block
+abbrev pub order_behind : Order → Content → Order
+order_behind order (Begins new) = new
+order_behind order other = order
+
+-- the interfaces behind a block: a new section forgets those before it
+abbrev pub interfaces_behind : List Interface → Content → List Interface
+interfaces_behind interfaces (Begins order) = []
+interfaces_behind interfaces (Describes interface) = interfaces ++ interface ∷ []
+interfaces_behind interfaces (Holds packet) = interfaces
+interfaces_behind interfaces Nothing = interfaces
+
+-- the front of a capture
+abbrev pub first_place : Place
+first_place = record {
+  block = 1;
+  number = 1;
+  room = most_octets;
+  first = None;
+  last = record { 0 = 0 };
+}
+
+-- The moment of a packet: its time less that of the first packet that has one, at least 0, at most
+-- the latest, and never below the moment of the packet before, which a packet without a time has.
+abbrev pub moment_at : Place → Option ℕ → Moment
+moment_at place None = place.last
+moment_at place (Some time) =
+    record { 0 = max place.last.0 (min latest (time - unwrap_or place.first time)) }
+
+abbrev pub first_behind : Option ℕ → Option ℕ → Option ℕ
+first_behind first None = first
+first_behind first (Some time) = Some (unwrap_or first time)
+
+-- the place behind a block of n octets
+abbrev pub place_behind : Place → ℕ → Content → Place
+place_behind place n (Holds packet) = record {
+  block = place.block + 1;
+  number = place.number + 1;
+  room = place.room - n;
+  first = first_behind place.first packet.time;
+  last = moment_at place packet.time;
+}
+place_behind place n other = record {
+  block = place.block + 1;
+  number = place.number;
+  room = place.room - n;
+  first = place.first;
+  last = place.last;
+}

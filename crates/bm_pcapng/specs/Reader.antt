@@ -1,0 +1,218 @@
+-- A reader of a capture, and what its calls do.
+use Rattle.std.specs.Prelude.{◌≡◌, ℕ, ◌+◌, ◌≤◌, ◌-◌, List, [], length, take, drop, Option, Some}
+use Rattle.std.specs.Prelude.{None, Result, Ok, Err}
+use Rattle.std.specs.Io.KnownBytes.{prepend_known, Keeps as Keeps_octets}
+use Rattle.bm_base.specs.declared.capture.Vip.{Vip}
+use Rattle.bm_pcap.specs.declared.form.Order.{Order}
+use Rattle.bm_pcapng.specs.declared.content.Content.{Content}
+use Rattle.bm_pcapng.specs.declared.content.Content.TheVariants.{Begins, Describes, Holds, Nothing}
+use Rattle.bm_pcapng.specs.declared.content.Packet.{Packet}
+use Rattle.bm_pcapng.specs.declared.fault.NgFault.{NgFault}
+use Rattle.bm_pcapng.specs.declared.fault.NgFault.TheVariants.{Memory, ReadFault}
+use Rattle.bm_pcapng.specs.declared.interface.Interface.{Interface}
+use Rattle.bm_pcapng.specs.declared.item.NgItem.{NgItem}
+use Rattle.bm_pcapng.specs.declared.item.NgItem.TheVariants as item
+use Rattle.bm_pcapng.specs.declared.place.Place.{Place}
+use Rattle.bm_pcapng.specs.declared.reader.Stop.{Stop}
+use Rattle.bm_pcapng.specs.declared.reader.Stop.TheVariants as stop
+use Rattle.bm_pcapng.specs.declared.section.Section.{Section}
+use Rattle.bm_pcapng.specs.declared.step.Step.{Step}
+use Rattle.bm_pcapng.specs.declared.step.Step.TheVariants.{Block, Cut, End}
+use Rattle.bm_pcapng.specs.Blocks.{next_of}
+use Rattle.bm_pcapng.specs.Capture.{Captured, capture, first_order}
+use Rattle.bm_pcapng.specs.Causes.{HasStepCause, IsBlockFault}
+use Rattle.bm_pcapng.specs.Limits.{longest_block}
+use Rattle.bm_pcapng.specs.Parts.{BlockGives, FailsOpen, StepFits, last_of}
+use Rattle.bm_pcapng.specs.Places.{first_place, interfaces_behind, order_behind, place_behind}
+
+-- What a reader is: the source behind what was read ahead, the order of its section's numbers and
+-- its interfaces, the place behind what was answered, the octets that were read ahead, those before
+-- them that the buffer still has, and the answer that it gives from now on, if it has ended.
+pub record Reader (S : Type 0) : Type 0 where
+  pub source : S
+  pub order : Order
+  pub interfaces : List Interface
+  pub place : Place
+  pub held : List ℕ
+  pub passed : List ℕ
+  pub ended : Option (Result Step NgFault)
+
+-- The octets that are not answered yet, where the source tells its octets: those that were read
+-- ahead, and then those that the source has left.
+abbrev pub to_come : {S : Type 0} → (S → Option (List ℕ)) → Reader S → Option (List ℕ)
+to_come left reader = prepend_known reader.held (left reader.source)
+
+-- what was taken from the source and is not answered yet
+abbrev pub IsBounded : {S : Type 0} → Reader S → Type 0
+IsBounded reader = length reader.held ≤ longest_block
+
+-- the octets of a packet in a block
+abbrev pub octets_in : Packet → List ℕ → List ℕ
+octets_in packet block = take packet.len (drop packet.at block)
+
+-- a packet's block is the last that was answered
+abbrev pub IsStopLast : List ℕ → Stop → Type 0
+IsStopLast passed (stop.Packet number n packet) =
+    (n ≤ length passed) × (packet.at + packet.len ≤ n)
+IsStopLast passed other = Unit {0}
+
+-- the answer that a reader gives from now on is no block, and its faults are those of blocks
+abbrev pub EndsWell : Option (Result Step NgFault) → Type 0
+EndsWell None = Unit {0}
+EndsWell (Some (Ok (Block n content))) = ⊥
+EndsWell (Some (Ok Cut)) = Unit {0}
+EndsWell (Some (Ok End)) = Unit {0}
+EndsWell (Some (Err e)) = IsBlockFault e
+
+-- nothing was answered yet
+abbrev pub IsFresh : {S : Type 0} → Reader S → Type 0
+IsFresh reader = (reader.place ≡ first_place) × (reader.ended ≡ None) × (reader.interfaces ≡ [])
+
+-- At the front of a capture that has these octets: the reader has the order that they tell, and all
+-- of them are to come.
+abbrev pub StandsIn : Option (List ℕ) → Order → List ℕ → Type 0
+StandsIn left order octets = (first_order octets ≡ Some order) × (left ≡ Some octets)
+
+-- What was answered is the capture that the octets are, for these services. Of a failed read and of
+-- want of memory nothing is said.
+abbrev pub Captures : Captured → Captured → Type 0
+Captures wanted (Ok answer) = Ok answer ≡ wanted
+Captures wanted (Err ReadFault) = Unit {0}
+Captures wanted (Err Memory) = Unit {0}
+Captures wanted (Err e) = Err e ≡ wanted
+
+-- The capture has this fault, for whichever services.
+abbrev pub Refuses : Option (List ℕ) → NgFault → Type 0
+Refuses None e = Unit {0}
+Refuses (Some octets) e = (vips : List Vip) → Captures (capture vips octets) (Err e)
+
+-- The first octets of the capture tell this order, and its first block has no fault.
+abbrev pub IsOpened : Option (List ℕ) → Order → Type 0
+IsOpened None order = Unit {0}
+IsOpened (Some octets) order =
+    (first_order octets ≡ Some order)
+    × ((found : Step) × (next_of order [] first_place octets ≡ Ok found))
+
+-- The first block of the capture is read.
+abbrev pub OpensIn : Option (List ℕ) → Result Section NgFault → Type 0
+OpensIn old (Ok section) = IsOpened old section.order
+OpensIn old (Err e) = Refuses old e
+
+-- What was answered is a reader at the front of a capture, or the fault of its first block. The
+-- source comes back with a fault.
+abbrev pub Starts : {S : Type 0} → (S → Option (List ℕ)) → S → Result (Reader S) (S × NgFault)
+    → Type 0
+Starts left old (Ok reader) =
+    IsOpened (left old) reader.order × Keeps_octets (left old) (to_come left reader)
+Starts left old (Err refused) = Refuses (left old) refused.1
+
+-- the count rises where `ReadFault` is answered, and stays elsewhere
+abbrev pub StartsWithCause : {S : Type 0} → (S → ℕ) → S → Result (Reader S) (S × NgFault) → Type 0
+StartsWithCause {S} faults old (Ok reader) = faults reader.source ≡ faults old
+StartsWithCause {S} faults old (Err refused) =
+    HasStepCause {T = Reader S} (faults old) (faults refused.0) (Err refused.1)
+
+-- Behind a block a reader stands at the next place; any other answer it keeps, and gives from then
+-- on.
+abbrev pub Keeps : {S : Type 0} → Reader S → Reader S → Result Step NgFault → Type 0
+Keeps old new (Ok (Block n content)) =
+    StepFits old.interfaces old.place (Block n content)
+    × (new.order ≡ order_behind old.order content)
+    × (new.interfaces ≡ interfaces_behind old.interfaces content)
+    × (new.place ≡ place_behind old.place n content)
+    × (new.ended ≡ None)
+Keeps old new result =
+    (new.order ≡ old.order)
+    × (new.interfaces ≡ old.interfaces)
+    × (new.place ≡ old.place)
+    × (new.ended ≡ Some result)
+
+-- A reader that has ended answers the same again and changes nothing; any other gives what stands
+-- next.
+abbrev pub AdvancesFrom : {S : Type 0} → (S → Option (List ℕ)) → (S → ℕ)
+    → Option (Result Step NgFault) → Reader S → Reader S → Result Step NgFault → Type 0
+AdvancesFrom left faults (Some ended) old new result = (result ≡ ended) × (new ≡ old)
+AdvancesFrom left faults None old new result =
+    BlockGives (to_come left old) (to_come left new) old.order old.interfaces old.place result
+    new.passed
+    × HasStepCause (faults old.source) (faults new.source) result
+    × Keeps old new result
+    × FailsOpen old.order old.interfaces old.place result new.held
+
+abbrev pub Advances : {S : Type 0} → (S → Option (List ℕ)) → (S → ℕ) → Reader S → Reader S
+    → Result Step NgFault → Type 0
+Advances left faults old new result = AdvancesFrom left faults old.ended old new result
+
+-- a block without a packet
+abbrev pub IsPassedOver : Content → Type 0
+IsPassedOver (Holds packet) = ⊥
+IsPassedOver other = Unit {0}
+
+-- One reader comes to be the other by passing over blocks without a packet.
+pub data Passes {S : Type 0} (left : S → Option (List ℕ)) (faults : S → ℕ) (from : Reader S) : Reader S → Type 0 where
+  here : Passes left faults from from
+  over : (mid new : Reader S) (n : ℕ) (content : Content) → Passes left faults from mid
+      → IsPassedOver content → Advances left faults mid new (Ok (Block n content))
+      → Passes left faults from new
+
+-- Behind blocks without a packet the reader answers this.
+abbrev pub Stops : {S : Type 0} → (S → Option (List ℕ)) → (S → ℕ) → Reader S → Reader S → ℕ
+    → Result Step NgFault → Type 0
+Stops {S} left faults old new number result =
+    (mid : Reader S)
+    × (Passes left faults old mid × Advances left faults mid new result
+    × (number ≡ mid.place.number))
+
+-- What was come to: a packet, with its number, and so many octets in its block.
+abbrev pub GivesStop : {S : Type 0} → (S → Option (List ℕ)) → (S → ℕ) → Reader S → Reader S
+    → Result Stop NgFault → Type 0
+GivesStop left faults old new (Ok (stop.Packet number n packet)) =
+    Stops left faults old new number (Ok (Block n (Holds packet)))
+GivesStop left faults old new (Ok (stop.Cut number)) = Stops left faults old new number (Ok Cut)
+GivesStop {S} left faults old new (Ok stop.End) =
+    (number : ℕ) × Stops left faults old new number (Ok End)
+GivesStop {S} left faults old new (Err e) =
+    (number : ℕ) × Stops left faults old new number (Err e)
+
+-- What `next` answers and leaves. A record has the number of its place, its moment, the link type
+-- of its interface, and its octets.
+abbrev pub GivesNext : {S : Type 0} → (S → Option (List ℕ)) → (S → ℕ) → Reader S → Reader S
+    → Result NgItem NgFault → Type 0
+GivesNext left faults old new (Ok (item.Record number moment link octets)) =
+    (n : ℕ) × ((packet : Packet)
+    × (Stops left faults old new number (Ok (Block n (Holds packet)))
+    × (moment ≡ new.place.last)
+    × (link ≡ packet.link)
+    × (octets.now ≡ octets_in packet (last_of n new.passed))))
+GivesNext left faults old new (Ok (item.Cut number)) = Stops left faults old new number (Ok Cut)
+GivesNext left faults old new (Ok item.End) =
+    (number : ℕ) × Stops left faults old new number (Ok End)
+GivesNext left faults old new (Err e) = (number : ℕ) × Stops left faults old new number (Err e)
+
+abbrev pub ReadsCapture : {S : Type 0} → (S → Option (List ℕ)) → Reader S → List Vip → Captured
+    → Type 0
+ReadsCapture left reader vips result =
+    (octets : List ℕ) → StandsIn (to_come left reader) reader.order octets
+    → Captures (capture vips octets) result
+
+-- what a reader answers from now on, where its capture was read to the record that is cut short, or
+-- to the end
+abbrev pub last_step : Option ℕ → Step
+last_step None = End
+last_step (Some number) = Cut
+
+-- A reader whose capture was read answers the cut or the end from now on, one whose capture has a
+-- fault that fault. Of want of memory nothing is said.
+abbrev pub HasEnded : Captured → Option (Result Step NgFault) → Type 0
+HasEnded (Ok read) ended = ended ≡ Some (Ok (last_step read.0.cut))
+HasEnded (Err Memory) ended = Unit {0}
+HasEnded (Err e) ended = ended ≡ Some (Err e)
+
+-- The last that was done to the reader is the call that answered the end, the cut or the fault.
+abbrev pub EndsWith : {S : Type 0} → (S → Option (List ℕ)) → (S → ℕ) → Captured → Reader S → Type 0
+EndsWith {S} left faults (Ok read) new =
+    (before : Reader S)
+    × ((before.ended ≡ None) × Advances left faults before new (Ok (last_step read.0.cut)))
+EndsWith left faults (Err Memory) new = Unit {0}
+EndsWith {S} left faults (Err e) new =
+    (before : Reader S) × ((before.ended ≡ None) × Advances left faults before new (Err e))

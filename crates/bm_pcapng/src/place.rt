@@ -1,0 +1,83 @@
+//! Where a reader stands in a capture.
+ghost use Rattle.std.specs.Prelude.{◌≡◌, ◌≤◌, ◌<◌, ◌+◌, ◌^◌};
+ghost use Rattle.bm_pcap.specs.Limits.{latest};
+ghost use Rattle.bm_pcapng.specs.Places.{first_place, first_behind, moment_at, place_behind};
+
+use crate::Content;
+use bm_base::Moment;
+use bm_pcap::MOST_OCTETS;
+pub(crate) use bm_pcap::{LONGEST, MOST_RECORDS};
+
+/// The most octets of a block.
+pub const LONGEST_BLOCK: usize = 16_777_216;
+
+/// The most interfaces of a section.
+pub const MOST_INTERFACES: usize = 1024;
+
+/// No captured moment is later, in nanoseconds.
+const LATEST: u64 = 4_400_000_000_000_000_000;
+
+/// The numbers of the next block and of the next record, how many octets the capture may have from
+/// here on, the time of the first packet that has one, and the moment of the record before.
+#[derive(Clone, Copy, Debug, PartialEq, Eq)]
+pub struct Place {
+    pub block: u32,
+    pub number: u32,
+    pub room: u32,
+    pub first: Option<u128>,
+    pub last: Moment,
+}
+
+impl Place {
+    /// The front of a capture.
+    pub(crate) fn first() -> Place
+        ensures { result ≡ first_place }
+    {
+        Place {
+            block: 1,
+            number: 1,
+            room: MOST_OCTETS,
+            first: None,
+            last: Moment(0),
+        }
+    }
+
+    /// The moment of a packet with this time.
+    fn moment(&self, time: Option<u128>) -> Moment
+        ensures { result ≡ moment_at self.now time }
+    {
+        match time {
+            Some(time) => {
+                let since = time.saturating_sub(self.first.unwrap_or(time));
+                let capped = since.min(u128::from(LATEST)) as u64;
+                Moment(self.last.0.max(capped))
+            }
+            None => self.last,
+        }
+    }
+
+    /// Behind a block of so many octets.
+    pub(crate) fn behind(&self, size: u32, content: &Content) -> Place
+        requires blocks { self.now.block < 2 ^ 31 }
+        requires few { self.now.number < 2 ^ 31 }
+        requires fits { size ≤ self.now.room }
+        ensures { result ≡ place_behind self.now size content.now }
+    {
+        let mut behind = Place {
+            block: self.block + 1,
+            number: self.number,
+            room: self.room - size,
+            first: self.first,
+            last: self.last,
+        };
+        if let Content::Holds(packet) = content {
+            behind.number = self.number + 1;
+            behind.last = self.moment(packet.time);
+            behind.first = match packet.time {
+                Some(time) => Some(self.first.unwrap_or(time)),
+                None => self.first,
+            };
+        }
+        behind
+    }
+}

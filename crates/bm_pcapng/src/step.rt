@@ -1,0 +1,223 @@
+//! What stands next in a capture.
+ghost use Rattle.std.specs.Prelude.{◌≡◌, ◌≤◌, length, nat_lt, if◌then◌else◌, IfOk, IfErr, OnOk, Ok};
+ghost use Rattle.std.specs.Prelude.{Err};
+ghost use Rattle.std.specs.Io.KnownBytes.{Keeps};
+ghost use Rattle.bm_pcap.specs.Window.{held, passed, rest, source_of, width};
+ghost use Rattle.bm_pcapng.specs.declared.fault.NgFault.TheVariants.{TooLarge};
+ghost use Rattle.bm_pcapng.specs.Blocks.{framed, head_size, least_length};
+ghost use Rattle.bm_pcapng.specs.Causes.{HasStepCause, IsBlockFault, IsContentFault, IsOrderFault};
+ghost use Rattle.bm_pcapng.specs.Causes.{IsStartFault};
+ghost use Rattle.bm_pcapng.specs.Limits.{longest_block};
+ghost use Rattle.bm_pcapng.specs.Parts.{BlockGives, FailsOpen, HeadFits, HeadGives, HeadIn};
+ghost use Rattle.bm_pcapng.specs.Parts.{IsAtSection, IsBlockOf, IsLast, OrderGives, StartsSection, StepFits, StepGives, StepIn};
+ghost use Rattle.bm_pcapng.specs.Parts.{stated};
+
+use crate::block::{is_section, magic, order_of};
+use crate::content::content_of;
+use crate::place::MOST_RECORDS;
+use crate::section::Section;
+use crate::{Content, Kind, NgFault, Place};
+use bm_io::Source;
+use bm_pcap::{Order, Window};
+
+/// What stands next: a block of so many octets, and what it says; one that is cut short; the end.
+#[derive(Clone, Copy, Debug, PartialEq, Eq)]
+pub enum Step {
+    Block(u32, Content),
+    Cut,
+    End,
+}
+
+/// What the head of a block says: its kind, the order of its numbers, and its total length.
+#[derive(Clone, Copy, Debug, PartialEq, Eq)]
+pub enum Head {
+    End,
+    Cut,
+    States(Kind, Order, u32),
+}
+
+/// Reads what stands next at this place. A block's octets are the last that the window answered.
+pub(crate) fn read_step<S: Source>(
+    window: &mut Window<S>,
+    section: &Section,
+    place: &Place,
+) -> Result<Step, NgFault>
+    requires { width window.old ≡ longest_block }
+    ensures gives { BlockGives (rest S.left window.old) (rest S.left window.new)
+        section.now.order section.now.interfaces.items place.now result (passed window.new) }
+    ensures last { IfOk result (IsLast (passed window.new)) }
+    ensures open { FailsOpen section.now.order section.now.interfaces.items place.now result
+        (held window.new) }
+    ensures fits { IfOk result (StepFits section.now.interfaces.items place.now) }
+    ensures others { IfErr result IsBlockFault }
+    ensures wide { width window.new ≡ longest_block }
+    ensures cause { HasStepCause (S.faults (source_of window.old))
+        (S.faults (source_of window.new)) result }
+{
+    let step = look(window, section, place)?;
+    if let Step::Block(size, _) = step {
+        window.skip(size as usize);
+    }
+    Ok(step)
+}
+
+/// Looks for what stands next at this place, and answers none of its octets.
+pub(crate) fn look<S: Source>(
+    window: &mut Window<S>,
+    section: &Section,
+    place: &Place,
+) -> Result<Step, NgFault>
+    requires { width window.old ≡ longest_block }
+    ensures gives { StepGives (rest S.left window.old) section.now.order
+        section.now.interfaces.items place.now result }
+    ensures keeps { Keeps (rest S.left window.old) (rest S.left window.new) }
+    ensures held { IfOk result (StepIn (held window.new)) }
+    ensures start { IsAtSection (held window.old) → longest_block ≤ place.now.room
+        → IfErr result IsStartFault }
+    ensures open { FailsOpen section.now.order section.now.interfaces.items place.now result
+        (held window.new) }
+    ensures fits { IfOk result (StepFits section.now.interfaces.items place.now) }
+    ensures others { IfErr result IsBlockFault }
+    ensures wide { width window.new ≡ longest_block }
+    ensures cause { HasStepCause (S.faults (source_of window.old))
+        (S.faults (source_of window.new)) result }
+{
+    match read_head(window, section, place)? {
+        Head::End => Ok(Step::End),
+        Head::Cut => Ok(Step::Cut),
+        Head::States(kind, order, size) => {
+            let whole = size as usize;
+            let room = place.room as usize;
+            let count = window.want(whole.min(room + 1))?;
+            if count > room {
+                return Err(NgFault::TooLarge);
+            }
+            if count < whole {
+                return Ok(Step::Cut);
+            }
+            let block = &window.held()[..whole];
+            framed(kind, order, section, place, size, block)
+        }
+    }
+}
+
+/// The octets end before what was wanted, or one too many comes before that.
+fn short(count: usize, room: usize) -> Result<Head, NgFault>
+    ensures { result ≡ (if nat_lt room count then Err TooLarge else Ok Head.Cut) }
+{
+    if count > room {
+        Err(NgFault::TooLarge)
+    } else {
+        Ok(Head::Cut)
+    }
+}
+
+/// Reads the head of a block, and answers none of its octets.
+fn read_head<S: Source>(
+    window: &mut Window<S>,
+    section: &Section,
+    place: &Place,
+) -> Result<Head, NgFault>
+    requires { width window.old ≡ longest_block }
+    ensures gives { HeadGives (rest S.left window.old) section.now.order
+        section.now.interfaces.items place.now result }
+    ensures keeps { Keeps (rest S.left window.old) (rest S.left window.new) }
+    ensures start { IsAtSection (held window.old) → longest_block ≤ place.now.room
+        → StartsSection result }
+    ensures held { IfOk result
+        (HeadIn section.now.order section.now.interfaces.items place.now (held window.new)) }
+    ensures open { FailsOpen section.now.order section.now.interfaces.items place.now result
+        (held window.new) }
+    ensures fits { IfOk result (HeadFits place.now) }
+    ensures others { IfErr result IsBlockFault }
+    ensures wide { width window.new ≡ longest_block }
+    ensures cause { HasStepCause (S.faults (source_of window.old))
+        (S.faults (source_of window.new)) result }
+{
+    let room = place.room as usize;
+    let count = window.want((room + 1).min(8))?;
+    if count == 0 {
+        return Ok(Head::End);
+    }
+    if count < 8 {
+        return short(count, room);
+    }
+    let kind = Kind::at(section.order, &window.held()[..4]);
+    let most = kind.head_size();
+    let count = window.want((room + 1).min(most))?;
+    if count < most {
+        return short(count, room);
+    }
+    states(kind, section.order, place, &window.held()[..most])
+}
+
+/// What a whole head says of a block of this kind, in a section of this order.
+fn states(kind: Kind, order: Order, place: &Place, head: &[u8]) -> Result<Head, NgFault>
+    requires { head_size kind ≤ length head.now }
+    ensures stated { result ≡ stated kind order place.now head.now }
+    ensures start { kind ≡ Kind.SectionHeader → StartsSection result }
+    ensures fits { IfOk result (HeadFits place.now) }
+    ensures others { IfErr result IsBlockFault }
+{
+    let Some(order) = order_of(kind, order, head) else {
+        return Err(NgFault::BadBlock(place.block));
+    };
+    let size = order.read_u32(head, 4);
+    if !kind.is_length(size) {
+        return Err(NgFault::BadBlock(place.block));
+    }
+    if kind.is_packet() && place.number > MOST_RECORDS {
+        return Err(NgFault::TooManyPackets);
+    }
+    Ok(Head::States(kind, order, size))
+}
+
+/// What a whole block of so many octets says.
+fn framed(
+    kind: Kind,
+    order: Order,
+    section: &Section,
+    place: &Place,
+    size: u32,
+    block: &[u8],
+) -> Result<Step, NgFault>
+    requires whole { length block.now ≡ size }
+    requires fixed { least_length kind ≤ size }
+    ensures block { result
+        ≡ framed kind order section.now.interfaces.items place.now size block.now }
+    ensures start { kind ≡ Kind.SectionHeader → IfErr result IsStartFault }
+    ensures fits { IfOk result (IsBlockOf kind section.now.interfaces.items size) }
+    ensures others { IfErr result IsContentFault }
+{
+    if order.read_u32(block, size as usize - 4) != size {
+        return Err(NgFault::BadBlock(place.block));
+    }
+    let said = content_of(kind, order, section.interfaces(), place, block)?;
+    Ok(Step::Block(size, said))
+}
+
+/// Reads the order that the first twelve octets of a capture tell, and answers none of them.
+pub(crate) fn read_order<S: Source>(window: &mut Window<S>) -> Result<Order, NgFault>
+    requires { width window.old ≡ longest_block }
+    ensures gives { OrderGives (rest S.left window.old) result }
+    ensures section { OnOk result (IsAtSection (held window.new)) }
+    ensures keeps { Keeps (rest S.left window.old) (rest S.left window.new) }
+    ensures others { IfErr result IsOrderFault }
+    ensures wide { width window.new ≡ longest_block }
+    ensures cause { HasStepCause (S.faults (source_of window.old))
+        (S.faults (source_of window.new)) result }
+{
+    if window.want(4)? < 4 {
+        return Err(NgFault::NotACapture);
+    }
+    if !is_section(&window.held()[..4]) {
+        return Err(NgFault::NotACapture);
+    }
+    if window.want(12)? < 12 {
+        return Err(NgFault::NotACapture);
+    }
+    match magic(&window.held()[..12]) {
+        Some(order) => Ok(order),
+        None => Err(NgFault::NotACapture),
+    }
+}

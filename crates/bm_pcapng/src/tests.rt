@@ -1,0 +1,284 @@
+ghost use Rattle.std.specs.Prelude.{◌≤◌};
+
+use super::*;
+use bm_base::{Body, Capture, Flow, Moment, Octets, Reason, Record, Segment, Vip};
+use bm_io::{MemSource, Source, SureSource};
+use std::alloc::{AllocError, Global};
+use std::test::Fail;
+
+// Raw IP: a first segment, and one microsecond later ten octets of data. In both orders.
+const LITTLE: [u8; 204] = [
+    0x0a, 0x0d, 0x0d, 0x0a, 0x1c, 0, 0, 0, 0x4d, 0x3c, 0x2b, 0x1a, 1, 0, 0, 0, 0xff, 0xff, 0xff,
+    0xff, 0xff, 0xff, 0xff, 0xff, 0x1c, 0, 0, 0, 1, 0, 0, 0, 0x14, 0, 0, 0, 0x65, 0, 0, 0, 0, 0, 4,
+    0, 0x14, 0, 0, 0, 6, 0, 0, 0, 0x48, 0, 0, 0, 0, 0, 0, 0, 0, 0, 0, 0, 0, 0, 0, 0, 0x28, 0, 0, 0,
+    0x28, 0, 0, 0, 0x45, 0, 0, 0x28, 0, 0, 0x40, 0, 0x40, 6, 0, 0, 0x0a, 0, 0, 1, 0xc0, 0, 2, 1, 3,
+    0xe8, 0, 0x50, 0, 0, 0, 0x64, 0, 0, 0, 0, 0x50, 2, 0xff, 0xff, 0, 0, 0, 0, 0x48, 0, 0, 0, 6, 0,
+    0, 0, 0x54, 0, 0, 0, 0, 0, 0, 0, 0, 0, 0, 0, 1, 0, 0, 0, 0x32, 0, 0, 0, 0x32, 0, 0, 0, 0x45, 0,
+    0, 0x32, 0, 0, 0x40, 0, 0x40, 6, 0, 0, 0x0a, 0, 0, 1, 0xc0, 0, 2, 1, 3, 0xe8, 0, 0x50, 0, 0, 0,
+    0x65, 0, 0, 1, 0xf5, 0x50, 0x18, 0xff, 0xff, 0, 0, 0, 0, 0x61, 0x62, 0x63, 0x64, 0x65, 0x66,
+    0x67, 0x68, 0x69, 0x6a, 0, 0, 0x54, 0, 0, 0,
+];
+
+const BIG: [u8; 204] = [
+    0x0a, 0x0d, 0x0d, 0x0a, 0, 0, 0, 0x1c, 0x1a, 0x2b, 0x3c, 0x4d, 0, 1, 0, 0, 0xff, 0xff, 0xff,
+    0xff, 0xff, 0xff, 0xff, 0xff, 0, 0, 0, 0x1c, 0, 0, 0, 1, 0, 0, 0, 0x14, 0, 0x65, 0, 0, 0, 4, 0,
+    0, 0, 0, 0, 0x14, 0, 0, 0, 6, 0, 0, 0, 0x48, 0, 0, 0, 0, 0, 0, 0, 0, 0, 0, 0, 0, 0, 0, 0, 0x28,
+    0, 0, 0, 0x28, 0x45, 0, 0, 0x28, 0, 0, 0x40, 0, 0x40, 6, 0, 0, 0x0a, 0, 0, 1, 0xc0, 0, 2, 1, 3,
+    0xe8, 0, 0x50, 0, 0, 0, 0x64, 0, 0, 0, 0, 0x50, 2, 0xff, 0xff, 0, 0, 0, 0, 0, 0, 0, 0x48, 0, 0,
+    0, 6, 0, 0, 0, 0x54, 0, 0, 0, 0, 0, 0, 0, 0, 0, 0, 0, 1, 0, 0, 0, 0x32, 0, 0, 0, 0x32, 0x45, 0,
+    0, 0x32, 0, 0, 0x40, 0, 0x40, 6, 0, 0, 0x0a, 0, 0, 1, 0xc0, 0, 2, 1, 3, 0xe8, 0, 0x50, 0, 0, 0,
+    0x65, 0, 0, 1, 0xf5, 0x50, 0x18, 0xff, 0xff, 0, 0, 0, 0, 0x61, 0x62, 0x63, 0x64, 0x65, 0x66,
+    0x67, 0x68, 0x69, 0x6a, 0, 0, 0, 0, 0, 0x54,
+];
+
+// The same with times in nanoseconds.
+const NANO: [u8; 216] = [
+    0x0a, 0x0d, 0x0d, 0x0a, 0x1c, 0, 0, 0, 0x4d, 0x3c, 0x2b, 0x1a, 1, 0, 0, 0, 0xff, 0xff, 0xff,
+    0xff, 0xff, 0xff, 0xff, 0xff, 0x1c, 0, 0, 0, 1, 0, 0, 0, 0x20, 0, 0, 0, 0x65, 0, 0, 0, 0, 0, 4,
+    0, 9, 0, 1, 0, 9, 0, 0, 0, 0, 0, 0, 0, 0x20, 0, 0, 0, 6, 0, 0, 0, 0x48, 0, 0, 0, 0, 0, 0, 0, 0,
+    0, 0, 0, 0, 0, 0, 0, 0x28, 0, 0, 0, 0x28, 0, 0, 0, 0x45, 0, 0, 0x28, 0, 0, 0x40, 0, 0x40, 6, 0,
+    0, 0x0a, 0, 0, 1, 0xc0, 0, 2, 1, 3, 0xe8, 0, 0x50, 0, 0, 0, 0x64, 0, 0, 0, 0, 0x50, 2, 0xff,
+    0xff, 0, 0, 0, 0, 0x48, 0, 0, 0, 6, 0, 0, 0, 0x54, 0, 0, 0, 0, 0, 0, 0, 0, 0, 0, 0, 0xe8, 3, 0,
+    0, 0x32, 0, 0, 0, 0x32, 0, 0, 0, 0x45, 0, 0, 0x32, 0, 0, 0x40, 0, 0x40, 6, 0, 0, 0x0a, 0, 0, 1,
+    0xc0, 0, 2, 1, 3, 0xe8, 0, 0x50, 0, 0, 0, 0x65, 0, 0, 1, 0xf5, 0x50, 0x18, 0xff, 0xff, 0, 0, 0,
+    0, 0x61, 0x62, 0x63, 0x64, 0x65, 0x66, 0x67, 0x68, 0x69, 0x6a, 0, 0, 0x54, 0, 0, 0,
+];
+
+// A section of little order with interfaces of Ethernet in units of 2^-10 s, raw IP in nanoseconds, and
+// a link type that isn't read; a comment, names, an obsolete packet and statistics between. Then one of
+// big order, with a simple packet that is cut at the snapshot length.
+const MIXED: [u8; 684] = [
+    0x0a, 0x0d, 0x0d, 0x0a, 0x30, 0, 0, 0, 0x4d, 0x3c, 0x2b, 0x1a, 1, 0, 0, 0, 0xff, 0xff, 0xff,
+    0xff, 0xff, 0xff, 0xff, 0xff, 1, 0, 0x0c, 0, 0x74, 0x77, 0x6f, 0x20, 0x73, 0x65, 0x63, 0x74,
+    0x69, 0x6f, 0x6e, 0x73, 0, 0, 0, 0, 0x30, 0, 0, 0, 1, 0, 0, 0, 0x30, 0, 0, 0, 1, 0, 0, 0, 0, 0,
+    0, 0, 2, 0, 3, 0, 0x65, 0x74, 0x68, 0, 9, 0, 1, 0, 0x8a, 0, 0, 0, 9, 0, 1, 0, 9, 0, 0, 0, 0, 0,
+    0, 0, 0x30, 0, 0, 0, 4, 0, 0, 0, 0x10, 0, 0, 0, 0, 0, 0, 0, 0x10, 0, 0, 0, 1, 0, 0, 0, 0x30, 0,
+    0, 0, 0x65, 0, 0, 0, 0x60, 0, 0, 0, 9, 0, 2, 0, 0, 9, 0, 0, 0x0e, 0, 8, 0, 0, 0, 0, 0, 0, 0, 0,
+    0, 9, 0, 1, 0, 9, 0, 0, 0, 0x30, 0, 0, 0, 1, 0, 0, 0, 0x14, 0, 0, 0, 0x93, 0, 0, 0, 0, 0, 4, 0,
+    0x14, 0, 0, 0, 6, 0, 0, 0, 0x68, 0, 0, 0, 0, 0, 0, 0, 0, 0, 0, 0, 0, 8, 0, 0, 0x36, 0, 0, 0,
+    0x36, 0, 0, 0, 0, 0, 0, 0, 0, 0, 0, 0, 0, 0, 0, 0, 8, 0, 0x45, 0, 0, 0x28, 0, 0, 0x40, 0, 0x40,
+    6, 0, 0, 0x0a, 0, 0, 1, 0xc0, 0, 2, 1, 3, 0xe8, 0, 0x50, 0, 0, 0, 0x64, 0, 0, 0, 0, 0x50, 2,
+    0xff, 0xff, 0, 0, 0, 0, 0, 0, 1, 0, 5, 0, 0x66, 0x69, 0x72, 0x73, 0x74, 0, 0, 0, 0, 0, 0, 0,
+    0x68, 0, 0, 0, 2, 0, 0, 0, 0x20, 0, 0, 0, 0, 0, 0, 0, 0, 0, 0, 0, 0, 0, 0, 0, 0, 0, 0, 0, 0, 0,
+    0, 0, 0x20, 0, 0, 0, 6, 0, 0, 0, 0x54, 0, 0, 0, 1, 0, 0, 0, 0, 0, 0, 0, 5, 0x94, 0x35, 0x77,
+    0x32, 0, 0, 0, 0x32, 0, 0, 0, 0x45, 0, 0, 0x32, 0, 0, 0x40, 0, 0x40, 6, 0, 0, 0x0a, 0, 0, 1,
+    0xc0, 0, 2, 1, 3, 0xe8, 0, 0x50, 0, 0, 0, 0x65, 0, 0, 1, 0xf5, 0x50, 0x18, 0xff, 0xff, 0, 0, 0,
+    0, 0x61, 0x62, 0x63, 0x64, 0x65, 0x66, 0x67, 0x68, 0x69, 0x6a, 0, 0, 0x54, 0, 0, 0, 6, 0, 0, 0,
+    0x48, 0, 0, 0, 2, 0, 0, 0, 0, 0, 0, 0, 0x80, 0x84, 0x1e, 0, 0x28, 0, 0, 0, 0x28, 0, 0, 0, 0x45,
+    0, 0, 0x28, 0, 0, 0x40, 0, 0x40, 6, 0, 0, 0x0a, 0, 0, 1, 0xc0, 0, 2, 1, 3, 0xe8, 0, 0x50, 0, 0,
+    0, 0x64, 0, 0, 0, 0, 0x50, 2, 0xff, 0xff, 0, 0, 0, 0, 0x48, 0, 0, 0, 5, 0, 0, 0, 0x18, 0, 0, 0,
+    0, 0, 0, 0, 0, 0, 0, 0, 0, 0, 0, 0, 0x18, 0, 0, 0, 0x0a, 0x0d, 0x0d, 0x0a, 0, 0, 0, 0x1c, 0x1a,
+    0x2b, 0x3c, 0x4d, 0, 1, 0, 0, 0xff, 0xff, 0xff, 0xff, 0xff, 0xff, 0xff, 0xff, 0, 0, 0, 0x1c, 0,
+    0, 0, 1, 0, 0, 0, 0x14, 0, 0x65, 0, 0, 0, 0, 0, 0x28, 0, 0, 0, 0x14, 0, 0, 0, 3, 0, 0, 0, 0x38,
+    0, 0, 0, 0x5a, 0x45, 0, 0, 0x32, 0, 0, 0x40, 0, 0x40, 6, 0, 0, 0x0a, 0, 0, 1, 0xc0, 0, 2, 1, 3,
+    0xe8, 0, 0x50, 0, 0, 0, 0x65, 0, 0, 1, 0xf5, 0x50, 0x18, 0xff, 0xff, 0, 0, 0, 0, 0, 0, 0, 0x38,
+    0, 0, 0, 6, 0, 0, 0, 0x54, 0, 0, 0, 0, 0, 0, 0, 0, 0, 0x1e, 0x84, 0x87, 0, 0, 0, 0x32, 0, 0, 0,
+    0x32, 0x45, 0, 0, 0x32, 0, 0, 0x40, 0, 0x40, 6, 0, 0, 0x0a, 0, 0, 1, 0xc0, 0, 2, 1, 3, 0xe8, 0,
+    0x50, 0, 0, 0, 0x65, 0, 0, 1, 0xf5, 0x50, 0x18, 0xff, 0xff, 0, 0, 0, 0, 0x61, 0x62, 0x63, 0x64,
+    0x65, 0x66, 0x67, 0x68, 0x69, 0x6a, 0, 0, 0, 0, 0, 0x54,
+];
+
+const VIPS: [Vip; 1] = [Vip {
+    addr: 0xc000_0201,
+    port: 80,
+}];
+
+const FLOW: Flow = Flow {
+    src: 0x0a00_0001,
+    dst: 0xc000_0201,
+    sport: 1000,
+    dport: 80,
+};
+
+const SYN: Segment = Segment {
+    flow: FLOW,
+    seq: 100,
+    ack: 0,
+    len: 1,
+    flags: 0x02,
+};
+
+const DATA: Segment = Segment {
+    flow: FLOW,
+    seq: 101,
+    ack: 501,
+    len: 10,
+    flags: 0x18,
+};
+
+// What reading these octets gives, where the source gives so many at a time.
+fn read(
+    alloc: Global,
+    octets: &[u8],
+    step: usize,
+) -> Result<Result<(Capture, Octets), NgFault>, AllocError>
+    requires { 1 ≤ step }
+{
+    let src = SureSource::new(octets.to_vec(alloc)?, step);
+    match NgReader::start(alloc, src) {
+        Ok(mut reader) => Ok(read_ng(alloc, &mut reader, &VIPS)),
+        Err((_, e)) => Ok(Err(e)),
+    }
+}
+
+fn record(moment: u64, body: Body) -> Record {
+    Record {
+        moment: Moment(moment),
+        body,
+    }
+}
+
+#[test]
+fn orders_and_units_give_the_same_records_however_the_source_cuts(
+    rt: HostRuntime,
+) -> Result<(), Fail> {
+    let want = [
+        record(0, Body::Steerable(SYN)),
+        record(1000, Body::Steerable(DATA)),
+    ];
+    for octets in [LITTLE.as_slice(), &BIG, &NANO] {
+        for step in [1, 30] {
+            let (capture, packets) = read(rt.alloc(), octets, step)??;
+            assert_eq!(rt; capture.records.items(), want.as_slice());
+            assert_eq!(rt; capture.cut, None);
+            assert_eq!(rt; packets.len(), 2);
+        }
+    }
+    Ok(())
+}
+
+#[test]
+fn sections_and_interfaces_are_kept_apart(rt: HostRuntime) -> Result<(), Fail> {
+    let (capture, packets) = read(rt.alloc(), &MIXED, 13)??;
+    let want = [
+        record(0, Body::Steerable(SYN)),
+        record(5, Body::Steerable(DATA)),
+        record(5, Body::Unsteered(Reason::NotIpv4)),
+        record(5, Body::Steerable(DATA)),
+        record(7000, Body::Steerable(DATA)),
+    ];
+    assert_eq!(rt; capture.records.items(), want.as_slice());
+    assert_eq!(rt; capture.cut, None);
+    assert_eq!(rt; packets.len(), 5);
+    Ok(())
+}
+
+#[test]
+fn captures_are_refused_by_their_first_fault(rt: HostRuntime) -> Result<(), Fail> {
+    // An octet of the capture that is written over, and the fault.
+    let rows = [
+        (0, 0x0b, NgFault::NotACapture),
+        (4, 0x1d, NgFault::BadBlock(1)),
+        (8, 0x4e, NgFault::NotACapture),
+        (12, 2, NgFault::BadVersion),
+        (24, 0x20, NgFault::BadBlock(1)),
+        (32, 0x10, NgFault::BadBlock(2)),
+        (44, 0x18, NgFault::BadBlock(2)),
+        (56, 1, NgFault::BadBlock(3)),
+        (68, 0x29, NgFault::BadBlock(3)),
+        (70, 4, NgFault::BadLength(1, 262_184)),
+        (200, 80, NgFault::BadBlock(4)),
+    ];
+    for (place, octet, want) in rows {
+        let mut octets = LITTLE;
+        if let Some(old) = octets.get_mut(place) {
+            *old = octet;
+        }
+        let answer = read(rt.alloc(), &octets, 100)?;
+        assert!(rt; matches!(answer, Err(e) if e == want), "at {place}");
+    }
+    Ok(())
+}
+
+#[test]
+fn a_cut_capture_keeps_the_records_before_the_cut(rt: HostRuntime) -> Result<(), Fail> {
+    // Where the capture ends, how many records it has, and which one is cut short.
+    let rows = [
+        (12, 0, Some(1)),
+        (28, 0, None),
+        (29, 0, Some(1)),
+        (48, 0, None),
+        (119, 0, Some(1)),
+        (120, 1, None),
+        (203, 1, Some(2)),
+    ];
+    for (end, count, cut) in rows {
+        let octets = LITTLE.get(..end).unwrap_or(&[]);
+        let (capture, packets) = read(rt.alloc(), octets, 100)??;
+        assert_eq!(rt; capture.records.items().len(), count, "at {end}");
+        assert_eq!(rt; capture.cut, cut, "at {end}");
+        assert_eq!(rt; packets.len() as usize, count, "at {end}");
+    }
+    let answer = read(rt.alloc(), &LITTLE[..11], 100)?;
+    assert!(rt; matches!(answer, Err(NgFault::NotACapture)));
+    Ok(())
+}
+
+#[test]
+fn a_failed_read_is_answered_again(rt: HostRuntime) -> Result<(), Fail> {
+    let alloc = rt.alloc();
+    // The first call reads the whole capture, the second finds its end.
+    let src = MemSource::new(MIXED.to_vec(alloc)?, 1000, vec![in alloc; 2]?);
+    let Ok(mut reader) = NgReader::start(alloc, src) else {
+        return Err(Fail::from("the first block is whole"));
+    };
+    for count in 1..6 {
+        assert!(rt; matches!(reader.next()?, NgItem::Record { number, .. } if number == count));
+    }
+    assert!(rt; matches!(reader.next(), Err(NgFault::ReadFault)));
+    assert!(rt; matches!(reader.next(), Err(NgFault::ReadFault)));
+    let again = NgReader::start(alloc, reader.into_source());
+    assert!(rt; matches!(again, Err((_, NgFault::NotACapture))));
+    Ok(())
+}
+
+#[test]
+fn records_have_their_link_types_and_octets(rt: HostRuntime) -> Result<(), Fail> {
+    let alloc = rt.alloc();
+    let src = SureSource::new(MIXED.to_vec(alloc)?, 50);
+    let Ok(mut reader) = NgReader::start(alloc, src) else {
+        return Err(Fail::from("the first block is whole"));
+    };
+    for (want, size) in [(1, 54), (101, 50), (147, 40), (101, 40), (101, 50)] {
+        let item = reader.next()?;
+        assert!(rt;
+            matches!(item, NgItem::Record { link, octets, .. } if link == want && octets.len() == size)
+        );
+    }
+    assert!(rt; matches!(reader.next(), Ok(NgItem::End)));
+    assert!(rt; matches!(reader.next(), Ok(NgItem::End)));
+    Ok(())
+}
+
+#[test]
+fn a_front_gives_its_octets_first(rt: HostRuntime) -> Result<(), Fail> {
+    let alloc = rt.alloc();
+    let src = SureSource::new([1, 2, 3, 4, 5, 6].to_vec(alloc)?, 2);
+    let Ok(mut front) = Front::new(src) else {
+        return Err(Fail::from("the source doesn't fail"));
+    };
+    assert_eq!(rt; front.magic(), [1, 2, 3, 4].as_slice());
+    let mut octets = [0; 3];
+    assert_eq!(rt; front.take(&mut octets)?, 3);
+    assert_eq!(rt; octets, [1, 2, 3]);
+    assert_eq!(rt; front.take(&mut octets)?, 1);
+    assert_eq!(rt; front.take(&mut octets)?, 2);
+    assert_eq!(rt; octets, [5, 6, 3]);
+    assert_eq!(rt; front.take(&mut octets)?, 0);
+    assert_eq!(rt; front.magic(), [1, 2, 3, 4].as_slice());
+    Ok(())
+}
+
+#[test]
+fn faults_print_their_numbers(rt: HostRuntime) -> Result<(), Fail> {
+    for (fault, want) in [
+        (NgFault::BadBlock(4), "block 4 is bad"),
+        (
+            NgFault::BadLength(3, 262_145),
+            "record 3 states 262145 octets",
+        ),
+    ] {
+        assert_eq!(rt; fault.to_string(rt.alloc())?.as_str(), want);
+    }
+    Ok(())
+}

@@ -1,0 +1,265 @@
+-- How a phase begins and how it ends.
+use Rattle.std.proofs.Common.{◌≡◌, ℕ, ◌+◌, ◌<◌, ◌≤◌, ◌==◌, ◌&&◌, ◌||◌, max, Bool, true, false, cond}
+use Rattle.std.proofs.Common.{List, [], ◌∷◌, ◌++◌}
+use Rattle.std.proofs.Common.{length, reverse, Option, Some, None, refl, sym, ap, ◌∙◌, subst}
+use Rattle.std.proofs.Common.{arith, ltb, leb}
+use Rattle.std.specs.Prelude.{IfSome, MatchBool}
+use Rattle.std.specs.List.{AllByRecursion}
+use Rattle.std.proofs.lemmas.Bool.{eq-eqb, le-leb, lt-leb, leb-true, ltb-true, and_from, and_parts}
+use Rattle.std.proofs.lemmas.List.{reverse-append, length-append}
+use Rattle.bm_base.specs.declared.flow.Segment.{Segment}
+use Rattle.bm_base.specs.declared.ids.MuxId.{MuxId}
+use Rattle.bm_core.specs.declared.events.Event.{Event}
+use Rattle.bm_core.specs.declared.events.Stage.{Stage}
+use Rattle.bm_core.specs.declared.events.What.{What}
+use Rattle.bm_core.specs.declared.events.What.TheVariants.{Publish, Switch, Steer, Lose, Arrive, Close, Retire, Sync}
+use Rattle.bm_core.specs.Accounts.{IsRouted, Rules, steers_packet}
+use Rattle.bm_core.specs.Past.{is_switch_of, label_of, segment_of, version_at}
+use Rattle.bm_core.specs.Runs.Actor.{MuxOf}
+use Rattle.bm_core.specs.Threads.{packet_of}
+use Rattle.bm_merge.specs.Notes.{Note, events_of, many, switched_since}
+use Rattle.bm_merge.specs.Workers.{IsAnswer, IsOwed, carries}
+use Rattle.bm_merge.proofs.Noting.{each_so}
+use Rattle.bm_publish.specs.Posts.{Continues, Posted, last_post, last_version}
+use Rattle.bm_mux.specs.Muxes.{HasBegun, MuxState}
+use Rattle.bm_mux.specs.Steers.{steering_clock, switch_to}
+use Rattle.bm_server.specs.Servings.{Serving}
+use Rattle.bm_server.specs.Seats.{Seated}
+use Rattle.bm_worker.specs.declared.stop.Stop.{Stop}
+use Rattle.bm_worker.specs.declared.stop.Stop.TheVariants.{Memory}
+use Rattle.bm_worker.specs.declared.worker.MuxWorker.{MuxWorker}
+use Rattle.bm_worker.specs.Batches.{HasOnlyLooked, HasSeen, IsDoneTo, IsLogged, IsSteerTo, switch_note}
+use Rattle.bm_worker.specs.Phases.{AreCopies, HasEnded, IsDeed, IsOlder, IsReady, IsRunnable, IsStopOf, IsTurn, Kept}
+use Rattle.bm_worker.specs.Phases.{Phase, Stint, mux_log, mux_of}
+use Rattle.bm_worker.specs.Turns.{RoutedBy, is_mux, is_turn, mux_at}
+use Rattle.bm_worker.proofs.Collecting.{turn_none, turn_of}
+use Rattle.bm_worker.proofs.Copying.{copies_as}
+use Rattle.bm_worker.proofs.Going.{kept_looked}
+use Rattle.bm_worker.proofs.Hearing.{hears_none}
+use Rattle.bm_worker.proofs.Keeping.{Step, kept_more}
+use Rattle.bm_worker.proofs.Phasing.{each_reverse, steerings_heard}
+use Rattle.bm_worker.proofs.Steering.{last_posted, own_steering, steerings_home}
+use Rattle.bm_worker.proofs.Steps.{same_posts}
+
+-- NOTHING DONE YET
+
+pub kept_none : (F : Rules) (stage : Stage) (servers : List Serving) (stint : Stint)
+    → Kept F stage servers stint stint.start []
+kept_none F stage servers stint = record {
+  each = tt;
+  ordered = tt;
+  logged = refl;
+  gives = tt;
+  hears = hears_none stage servers stint.start.porter.seats;
+  copies = λ are. are;
+  latest = omega arith;
+  mux = same_posts stint.start stint.start refl refl;
+  porter = record { number = refl; who_is = refl };
+}
+
+-- memory was refused before the first look
+pub begin_refused : (F : Rules) (stage : Stage) (servers : List Serving) (stint : Stint) (next : MuxWorker)
+    (stop : Stop) → stop ≡ Memory → HasOnlyLooked stint.start next → HasEnded F stage servers stint next (Some stop)
+begin_refused F stage servers stint next stop memory looked = (
+  [],
+  kept_looked F stage servers stint stint.start next [] looked (kept_none F stage servers stint),
+  subst (λ (s : Stop). IsStopOf [] s) (sym memory) tt,
+  omega arith,
+)
+
+-- THE LOG FROM BEFORE
+
+older_logged : (m : MuxId) (from after : ℕ) (log : List Event) → AllByRecursion (IsOlder m from after) log
+    → AllByRecursion (IsLogged m from) log
+older_logged m from after [] all = tt
+older_logged m from after (e ∷ log) all =
+    (record { own = all.0.own; packet = of_what e.what all.0.packet }, older_logged m from after log all.1) where
+      of_what : (what : What) → IfSome (packet_of what) (λ k. k ≤ from) → IsSteerTo from what
+      of_what (Steer k x) is = is
+      of_what (Switch x v) is = tt
+      of_what (Publish v) is = tt
+      of_what (Lose k hop) is = tt
+      of_what (Arrive k hop server verdict) is = tt
+      of_what (Close server flow closed) is = tt
+      of_what (Retire server h at result) is = tt
+      of_what Sync is = tt
+
+not_after : (a b : Bool) → b ≡ false → ◌≡◌ {A = Bool} (a && b) false
+not_after true b is = is
+not_after false b is = refl
+
+or_none : (a b : Bool) → a ≡ false → b ≡ false → ◌≡◌ {A = Bool} (a || b) false
+or_none a b off none = rw off none
+
+-- the mux hasn't looked since the Sync
+none_since : (m : MuxId) (from after : ℕ) (log : List Event) → AllByRecursion (IsOlder m from after) log
+    → switched_since after m.0 log ≡ false
+none_since m from after [] all = refl
+none_since m from after (e ∷ log) all =
+    or_none (is_switch_of e.what m.0 && leb after e.clock.0) (switched_since after m.0 log)
+    (not_after (is_switch_of e.what m.0) (leb after e.clock.0) (lt-leb after e.clock.0 all.0.clock))
+    (none_since m from after log all.1)
+
+prefix_version : (a b : Posted) → Continues a b → last_version a ≤ last_version b
+prefix_version a b later =
+    let e : length (a.clocks ++ later.posts.0) ≡ length b.clocks = ap (λ (l : List ℕ). length l) later.posts.1 in
+    let f = length-append a.clocks later.posts.0 in omega (arith, e, f)
+
+-- THE FIRST LOOK
+
+abbrev first_note : Stint → MuxWorker → Note
+first_note stint mid =
+    switch_note (mux_of stint) mid.mux.seen (reverse stint.start.mux.log) (max stint.after (last_post mid.mux.seen))
+
+begun_turned : (stint : Stint) (mid : MuxWorker) → HasBegun stint.start.mux stint.told stint.after mid.mux
+    → reverse mid.mux.log ≡ (first_note stint mid).event ∷ reverse stint.start.mux.log
+begun_turned stint mid begun =
+    ap (λ (l : List Event). reverse l) begun.log
+    ∙ reverse-append stint.start.mux.log ((first_note stint mid).event ∷ [])
+
+pub begun_log : (old new : MuxState) (told : Posted) (after : ℕ) → HasBegun old told after new
+    → length new.log ≡ length old.log + 1
+begun_log old new told after begun =
+    let e = switch_to old.id new.seen (reverse old.log) (max after (last_post new.seen)) in
+    let a : length new.log ≡ length (old.log ++ e ∷ []) = ap (λ (l : List Event). length l) begun.log in
+    let b = length-append old.log (e ∷ []) in omega (arith, a, b)
+
+begun_step : (F : Rules) (stage : Stage) (servers : List Serving) (stint : Stint) (mid : MuxWorker)
+    → IsReady stage servers stint → HasBegun stint.start.mux stint.told stint.after mid.mux
+    → HasSeen stint.start mid → Step F stage servers stint stint.start mid [] (first_note stint mid ∷ [])
+begun_step F stage servers stint mid ready begun seen_it =
+    let m = mux_of stint in let past = reverse stint.start.mux.log in let seen = mid.mux.seen in
+    let n = first_note stint mid in
+    let turned = begun_turned stint mid begun in
+    let older = each_reverse (IsOlder m stint.from stint.after) stint.start.mux.log ready.older in
+    let logged = older_logged m stint.from stint.after past older in
+    let own = own_steering stage m stint.from past logged in
+    let log : mux_log stage m.0 (n ∷ []) ≡ n.event ∷ [] =
+    ap (λ (l : List Note). events_of l) (steerings_home stage m (n ∷ []) (refl, tt)) in
+    let look : MatchBool (switched_since stint.after m.0 past) ((version_at past m).0 < last_version seen)
+    ((last_version stint.told ≤ last_version seen) × ((version_at past m).0 ≤ last_version seen)) =
+    subst (λ (b : Bool). MatchBool b ((version_at past m).0 < last_version seen)
+    ((last_version stint.told ≤ last_version seen) × ((version_at past m).0 ≤ last_version seen)))
+    (sym (none_since m stint.from stint.after past older))
+    (prefix_version stint.told seen begun.heard, begun.looked.newer) in
+    record {
+      each = (
+        record {
+          kind = eq-eqb m.0 m.0 refl;
+          seat = refl;
+          later = omega arith;
+          within = tt;
+          turn = tt;
+          owed = tt;
+          lost = tt;
+          drawn = tt;
+          placed = tt;
+        },
+        tt,
+      );
+      ordered = (tt, tt);
+      logged = turned ∙ ap (λ (l : List Event). l ++ past) (sym log);
+      gives = subst (λ (l : List Event). Rattle.bm_core.specs.Runs.AtEach
+          (λ rest e. Rattle.bm_worker.specs.Phases.IsMuxGiven stage stint.after (last_version stint.told) seen.clocks
+          (rest ++ past) e.clock.0 e.what) l)
+          (sym log)
+          ((look, (last_post seen, last_posted seen, (omega (arith, own)))), tt);
+      hears = steerings_heard stage servers m (n ∷ []) stint.start.porter.seats mid.porter.seats seen_it.seats (refl, tt);
+      copies = λ are. subst (λ (l : List (List Seated)). AreCopies stage m servers (reverse mid.mux.log) l)
+          (sym seen_it.seats)
+          (copies_as stage servers m past (reverse mid.mux.log) stint.start.porter.seats
+          (λ k l is. ap (λ (z : List Event). label_of stage z k) turned ∙ is) are);
+      latest =
+          let clock : steering_clock (reverse mid.mux.log) ≡ n.event.clock.0 =
+          ap (λ (l : List Event). steering_clock l) turned in
+          let l = seen_it.latest in omega (arith, clock, l);
+      mux = begun.looked.same;
+      porter = seen_it.porter;
+    }
+
+or_left : (a b : Bool) → a ≡ true → ◌≡◌ {A = Bool} (a || b) true
+or_left a b is = rw is refl
+
+pub begin_done : (F : Rules) (stage : Stage) (servers : List Serving) (stint : Stint) (mid : MuxWorker)
+    → IsReady stage servers stint → HasBegun stint.start.mux stint.told stint.after mid.mux
+    → HasSeen stint.start mid
+    → (d : List Note) × IsDoneTo F stage servers stint mid stint.from d
+begin_done F stage servers stint mid ready begun seen_it =
+    let m = mux_of stint in let past = reverse stint.start.mux.log in
+    let n = first_note stint mid in
+    let turned = begun_turned stint mid begun in
+    let older = each_reverse (IsOlder m stint.from stint.after) stint.start.mux.log ready.older in
+    let mine : (m.0 == m.0) ≡ true = eq-eqb m.0 m.0 refl in (
+      n ∷ [],
+      record {
+        from = omega arith;
+        kept = kept_more F stage servers stint stint.start mid [] (n ∷ []) (kept_none F stage servers stint)
+            (begun_step F stage servers stint mid ready begun seen_it);
+        settled = record { lost = λ k hop c. refl; sent = λ k hop c. omega arith; arrived = λ k hop. refl };
+        steered = λ k. ap (λ (b : Bool). cond b 1 0) (sym (turn_none stint.routes m.0 stint.from k));
+        looked = let one : ◌≡◌ {A = ℕ} (cond (m.0 == m.0) 1 0) 1 = rw mine refl in omega (arith, one);
+        heard = begun.heard;
+        few = omega arith;
+        first = (tt, tt);
+        logged = subst (λ (l : List Event). AllByRecursion (IsLogged m stint.from) l) (sym turned)
+            (record { own = refl; packet = tt }, older_logged m stint.from stint.after past older);
+        switched = subst (λ (l : List Event). switched_since stint.after m.0 l ≡ true) (sym turned)
+            (or_left ((m.0 == m.0) && leb stint.after n.event.clock.0) (switched_since stint.after m.0 past)
+            (and_from (m.0 == m.0) (leb stint.after n.event.clock.0) mine
+            (le-leb stint.after n.event.clock.0 (omega arith))));
+        begun =
+            let clock : steering_clock (reverse mid.mux.log) ≡ n.event.clock.0 =
+            ap (λ (l : List Event). steering_clock l) turned in
+            omega (arith, clock);
+      },
+    )
+
+-- THE END
+
+-- a steered packet has its mux by the routes
+routed : (stage : Stage) (stint : Stint) (what : What) → carries (mux_of stint).0 what ≡ true → IsTurn stint what
+    → IsRouted (RoutedBy stint.routes) stage what
+routed stage stint (Steer k x) mine turn = of_segment (segment_of stage k) where
+  here : mux_at stint.routes k ≡ Some x.0
+  here =
+      let is : is_mux (mux_at stint.routes k) (mux_of stint).0 ≡ true = (and_parts (ltb stint.from k && leb k stint.until)
+      (is_mux (mux_at stint.routes k) (mux_of stint).0) turn).1 in
+      let same : x.0 ≡ (mux_of stint).0 = Rattle.std.proofs.lemmas.Bool.eqb-true x.0 (mux_of stint).0 mine in
+      turn_of (mux_of stint).0 (mux_at stint.routes k) is ∙ ap (λ (j : ℕ). Some j) (sym same)
+
+  of_segment : (o : Option Segment) → IfSome o (λ s. RoutedBy stint.routes k s.flow x.0)
+  of_segment None = tt
+  of_segment (Some s) = here
+routed stage stint (Switch x v) mine turn = tt
+routed stage stint (Publish v) mine turn = tt
+routed stage stint (Lose k hop) mine turn = tt
+routed stage stint (Arrive k hop server verdict) mine turn = tt
+routed stage stint (Close server flow closed) mine turn = tt
+routed stage stint (Retire server h at result) mine turn = tt
+routed stage stint Sync mine turn = tt
+
+pub phase_ended : (F : Rules) (stage : Stage) (servers : List Serving) (stint : Stint) (now : MuxWorker)
+    (d : List Note) (next : ℕ) → next ≡ stint.until → IsDoneTo F stage servers stint now next d
+    → HasEnded F stage servers stint now None
+phase_ended F stage servers stint now d next is done = (
+  d,
+  record {
+    kept = done.kept;
+    carrier = record {
+      kinds = each_so (IsDeed F stage servers stint d) (λ n. carries (mux_of stint).0 n.event.what ≡ true) d
+          (λ n of. of.kind) done.kept.each;
+      owed = each_so (IsDeed F stage servers stint d) (λ n. IsOwed d n n.event.what) d (λ n of. of.owed)
+          done.kept.each;
+      answers = each_so (IsDeed F stage servers stint d) (IsAnswer (RoutedBy stint.routes) F stage) d
+          (λ n of. (routed stage stint n.event.what of.kind of.turn, of.drawn)) done.kept.each;
+      lost = done.settled.lost;
+      sent = done.settled.sent;
+      arrived = done.settled.arrived;
+    };
+    looked = done.looked;
+    heard = done.heard;
+    steered = λ k. subst (λ (e : ℕ). many (λ n. steers_packet n.event.what k) d
+        ≡ cond (is_turn stint.routes (mux_of stint).0 stint.from e k) 1 0) is (done.steered k);
+    few = done.few;
+  },
+)

@@ -1,0 +1,88 @@
+use Rattle.std.proofs.Common.{◌≡◌, Some, None, refl, sym, ◌∙◌, subst}
+use Rattle.std.proofs.Common.{arith}
+use Rattle.std.proofs.lemmas.Option.{same_Some}
+use Rattle.bm_fault.specs.Faults.{Gives}
+use Rattle.bm_publish.specs.Posts.{Posted}
+use Rattle.bm_mux.specs.Muxes.{HasBegun}
+use Rattle.bm_worker.specs.declared.stop.Stop.TheVariants.{Memory}
+use Rattle.bm_worker.specs.declared.worker.MuxWorker.{MuxWorker}
+use Rattle.bm_worker.specs.Phases.{HasEnded, stint_of}
+use Rattle.bm_worker.proofs.Beginning.{begin_done, begin_refused, begun_log, phase_ended}
+use Rattle.bm_worker.proofs.Carrying.{ended, same_porter_on}
+use Rattle.bm_worker.proofs.Going.{continues_on}
+use Rattle.bm_worker.proofs.worker.MuxWorker.carry_phase.Goals as goal
+
+pub returns-in_err-begin-clause-ended : goal.returns-in_err-begin-clause-ended
+returns-in_err-begin-clause-ended g c told is =
+    let F = Gives g.F.Fn c.args.shared.now.faults.now.rule in
+    let stint = stint_of c.args.shared.now.routes.now c.args.span told c.args.self.now in
+    let next : MuxWorker = record c.args.self.now { mux = c.begin.new.self; told = c.take.new.self } in
+    let err = c.in_err-begin.ensures.err in
+    ended (λ u. HasEnded F c.args.shared.now.stage.now c.args.shared.now.servers.now stint next None)
+    (λ stop. stop ≡ Memory)
+    (λ stop. HasEnded F c.args.shared.now.stage.now c.args.shared.now.servers.now stint next (Some stop))
+    c.from_residual.result c.from_residual.ensures.1
+    (λ stop memory. begin_refused F c.args.shared.now.stage.now c.args.shared.now.servers.now stint next stop memory
+    (record { mux = err.0; log = err.2; porter = refl; steps = refl }))
+
+pub loop-next-init : goal.loop-next-init
+loop-next-init g c =
+    let F = Gives g.F.Fn c.args.shared.now.faults.now.rule in
+    let begun = c.in_ok-begin.ensures.ok in
+    let mid : MuxWorker =
+    record c.args.self.now { mux = c.begin.new.self; porter = c.see.new.self; told = c.take.new.self } in
+    let ready = c.requires.ready c.in-Some.told (sym c.take.ensures.value ∙ c.in-Some.is) in
+    record {
+      from = omega arith;
+      until = ready.until.0;
+      mux = begun.looked.same;
+      porter = c.see.ensures.same;
+      tries = let a = c.see.ensures.tries in omega (arith, a);
+      steps = omega arith;
+      log = let a = begun_log c.args.self.now.mux c.begin.new.self c.in-Some.told c.args.span.after.0 begun in
+          omega (arith, a);
+      done = λ told is.
+          let same : c.in-Some.told ≡ told =
+          same_Some c.in-Some.told told (sym c.in-Some.is ∙ (c.take.ensures.value ∙ is)) in
+          let clock = c.clock.ensures.clock in
+          begin_done F c.args.shared.now.stage.now c.args.shared.now.servers.now
+          (stint_of c.args.shared.now.routes.now c.args.span told c.args.self.now) mid (c.requires.ready told is)
+          (subst (λ (p : Posted). HasBegun c.args.self.now.mux p c.args.span.after.0 c.begin.new.self) same begun)
+          (record {
+            seats = c.see.ensures.seats;
+            porter = c.see.ensures.same;
+            tries = c.see.ensures.tries;
+            latest = let l = c.see.ensures.latest in omega (arith, l, clock);
+            steps = refl;
+          });
+    }
+
+pub loop-next-preserved : goal.loop-next-preserved
+loop-next-preserved g c =
+    let i = c.loop-next.invariant in let ok = c.in_ok-next.ensures in
+    let from = i.from in let more = ok.more.0 in
+    record {
+      from = omega (arith, from, more);
+      until = ok.more.1;
+      mux = record {
+        id = ok.mux.id ∙ i.mux.id;
+        later = continues_on c.args.self.now.mux.seen c.loop-next.self.mux.seen c.carry_batch.new.self.mux.seen
+            i.mux.later ok.mux.later;
+      };
+      porter = same_porter_on c.args.self.now.porter c.loop-next.self.porter c.carry_batch.new.self.porter i.porter
+          ok.porter;
+      tries = let a = i.tries in let b = ok.grows.tries in omega (arith, a, b, from, more);
+      steps = let a = i.steps in let b = ok.grows.steps in omega (arith, a, b, from, more);
+      log = let a = i.log in let b = ok.grows.log in omega (arith, a, b, from, more);
+      done = λ told is.
+          let d = i.done told is in
+          ok.carries (stint_of c.args.shared.now.routes.now c.args.span told c.args.self.now) d.0 refl (omega arith) d.1;
+    }
+
+pub returns-clause-ended : goal.returns-clause-ended
+returns-clause-ended g c told is =
+    let d = c.loop-next.invariant.done told is in
+    let until = c.loop-next.invariant.until in let over = c.loop-next-test.false in
+    phase_ended (Gives g.F.Fn c.args.shared.now.faults.now.rule) c.args.shared.now.stage.now
+    c.args.shared.now.servers.now (stint_of c.args.shared.now.routes.now c.args.span told c.args.self.now)
+    c.loop-next.self d.0 c.loop-next.next (omega (arith, until, over)) d.1

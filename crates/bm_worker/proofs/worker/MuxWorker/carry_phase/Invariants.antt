@@ -1,0 +1,26 @@
+use Rattle.std.proofs.Common.{◌≡◌, ◌+◌, ◌-◌, ◌*◌, ◌≤◌, List, length, Some}
+use Rattle.bm_fault.specs.Faults.{Gives}
+use Rattle.bm_merge.specs.Notes.{Note}
+use Rattle.bm_publish.specs.Posts.{Posted}
+use Rattle.bm_mux.specs.Muxes.{IsSameMux}
+use Rattle.bm_worker.specs.Batches.{IsDoneTo}
+use Rattle.bm_worker.specs.Deeds.{IsSamePorter}
+use Rattle.bm_worker.specs.Phases.{stint_of}
+use Rattle.bm_worker.proofs.worker.MuxWorker.carry_phase.Given as goal
+
+abbrev pub invariant-loop-next : goal.invariant-loop-next
+invariant-loop-next g l = record {
+  from : l.span.from ≤ l.next;
+  until : l.next ≤ l.span.until;
+  mux : IsSameMux l.fn.self.mux l.self.mux;
+  porter : IsSamePorter l.fn.self.porter l.self.porter;
+  tries : l.self.porter.tries ≤ l.fn.self.porter.tries + 12 * (l.next - l.span.from);
+  steps : l.self.steps ≤ l.fn.self.steps + (l.next - l.span.from);
+  log : length l.self.mux.log ≤ length l.fn.self.mux.log + 5 * (l.next - l.span.from) + 1;
+  done : (told : Posted) → l.fn.self.told ≡ Some told → (d : List Note)
+      × IsDoneTo (Gives g.F.Fn l.shared.faults.now.rule) l.shared.stage.now l.shared.servers.now
+      (stint_of l.shared.routes.now l.span told l.fn.self) l.self l.next d;
+}
+
+abbrev pub decreases-loop-next : goal.decreases-loop-next
+decreases-loop-next g l = l.span.until - l.next

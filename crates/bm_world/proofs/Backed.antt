@@ -1,0 +1,145 @@
+-- What the workers hand back, after the last phase and where one has given up.
+use Rattle.std.proofs.Common.{◌≡◌, ℕ, zero, suc, ◌+◌, Bool, true, false, List, length}
+use Rattle.std.proofs.Common.{map, Option, Some, sym, ap, ◌∙◌, subst, arith}
+use Rattle.std.specs.Prelude.{slice_get, MatchBool}
+use Rattle.std.proofs.lemmas.List.{length-map}
+use Rattle.std.proofs.lemmas.Option.{same_Some}
+use mathlib.Core.List.{IsPrefix}
+use Rattle.bm_base.specs.declared.ids.MuxId.{MuxId}
+use Rattle.bm_table.specs.Planned.{Planned}
+use Rattle.bm_core.specs.declared.events.Stage.{Stage}
+use Rattle.bm_core.specs.Accounts.{Rules}
+use Rattle.bm_turnstile.specs.Sittings.{who}
+use Rattle.bm_merge.specs.Notes.{Note}
+use Rattle.bm_publish.specs.Posts.{Posted}
+use Rattle.bm_server.specs.Seats.{Seated, row}
+use Rattle.bm_server.specs.Servings.{Serving}
+use Rattle.bm_worker.specs.Deeds.{Sits}
+use Rattle.bm_worker.specs.Portings.{Porting}
+use Rattle.bm_worker.specs.declared.worker.MuxWorker.{MuxWorker}
+use Rattle.bm_lead.specs.declared.head.Head.{Head}
+use Rattle.bm_lead.specs.Rests.{Adds}
+use Rattle.bm_lead.proofs.Ending.{all_published}
+use Rattle.bm_world.specs.Crews.{rows_of, HasPostedRest, HasSeenAll, IsThrough}
+use Rattle.bm_world.specs.GivenUp.{HasGivenUp}
+use Rattle.bm_world.proofs.Crewing.{shown_all}
+use Rattle.bm_world.proofs.Ending.{row_of}
+
+-- how the phases ended
+abbrev pub Ended : Rules → Stage → List Serving → List (Option MuxId) → Bool → Posted → Head → List MuxWorker → Type 0
+Ended F stage servers routes late posted head workers =
+    MatchBool late (HasGivenUp F stage servers posted head workers)
+    (IsThrough F stage servers routes posted head workers)
+
+-- and how worker 0 went on
+abbrev pub Went : Stage → Bool → Posted → Posted → Head → Head → Type 0
+Went stage late p q a b =
+    MatchBool late (((rest : List Note) × Adds stage p q a b rest) × (length q.clocks ≡ length stage.script.plan.changes))
+    ((q ≡ p) × (b ≡ a))
+
+abbrev pub Stood : Rules → Stage → List Serving → List (Option MuxId) → Bool → Posted → Head → List MuxWorker → Type 0
+Stood F stage servers routes late posted head workers =
+    MatchBool late (HasPostedRest F stage servers posted head workers)
+    (IsThrough F stage servers routes posted head workers)
+
+pub stood : (F : Rules) (stage : Stage) (servers : List Serving) (routes : List (Option MuxId)) (late : Bool)
+    (p q : Posted) (a b : Head) (workers : List MuxWorker) → Ended F stage servers routes late p a workers
+    → Went stage late p q a b → Stood F stage servers routes late q b workers
+stood F stage servers routes true p q a b workers ended went = record {
+  before = p;
+  start = a;
+  rest = went.0.0;
+  given_up = ended;
+  added = went.0.1;
+  all = went.1;
+}
+stood F stage servers routes false p q a b workers ended went =
+    subst (λ (x : Posted). IsThrough F stage servers routes x b workers) (sym went.0)
+    (subst (λ (h : Head). IsThrough F stage servers routes p h workers) (sym went.1) ended)
+
+-- THE BOARD
+
+-- each mux is at the board of the posts
+pub boards : (F : Rules) (stage : Stage) (servers : List Serving) (routes : List (Option MuxId)) (late : Bool)
+    (posted : Posted) (head : Head) (workers : List MuxWorker) → Stood F stage servers routes late posted head workers
+    → (m : ℕ) (w : MuxWorker) → slice_get workers m ≡ Some w → w.mux.seen.board ≡ posted.board
+boards F stage servers routes true posted head workers is m w here =
+    (is.given_up.each m w here).board_is ∙ sym (ap (λ (p : Posted). p.board) is.added.posted)
+boards F stage servers routes false posted head workers is m w here = (is.standing.at_work.each m w here).board_is
+
+-- all changes are posted
+pub all_posted : (F : Rules) (stage : Stage) (servers : List Serving) (routes : List (Option MuxId)) (late : Bool)
+    (posted : Posted) (head : Head) (workers : List MuxWorker) → Stood F stage servers routes late posted head workers
+    → length posted.clocks ≡ length posted.plan.changes
+all_posted F stage servers routes true posted head workers is =
+    is.all ∙ ap (λ (p : Planned). length p.changes)
+    (sym (ap (λ (p : Posted). p.plan) is.added.posted ∙ is.given_up.ready.posted_is.plan))
+all_posted F stage servers routes false posted head workers is =
+    let ready = is.standing.ready
+    in let led = is.standing.led
+    in let all = all_published stage servers posted head is.controller ready led is.done
+    in ready.posted_is.count ∙ sym led.published ∙ all
+    ∙ ap (λ (p : Planned). length p.changes) (sym ready.posted_is.plan)
+
+pub all_shown : (F : Rules) (stage : Stage) (servers : List Serving) (routes : List (Option MuxId)) (late : Bool)
+    (posted : Posted) (head : Head) (workers : List MuxWorker) → Stood F stage servers routes late posted head workers
+    → ((m : ℕ) (w : MuxWorker) → slice_get workers m ≡ Some w → HasSeenAll posted w)
+    → (m : ℕ) (w : MuxWorker) → slice_get workers m ≡ Some w → IsPrefix w.mux.seen.clocks posted.clocks
+all_shown F stage servers routes late posted head workers is seen m w here =
+    shown_all posted w (all_posted F stage servers routes late posted head workers is) (seen m w here)
+
+-- THE SEATS
+
+-- who sits where
+pub record AreSitting (stage : Stage) (servers : List Serving) (head : Porting) (workers : List MuxWorker) : Type
+    0 where
+  pub muxes : length workers ≡ stage.script.setting.muxes
+  pub first : Sits servers head
+  pub number : head.number ≡ 0
+  pub each : (m : ℕ) (w : MuxWorker) → slice_get workers m ≡ Some w
+      → Sits servers w.porter × (w.porter.number ≡ m + 1)
+
+pub sitting : (F : Rules) (stage : Stage) (servers : List Serving) (routes : List (Option MuxId)) (late : Bool)
+    (posted : Posted) (head : Head) (workers : List MuxWorker) → Stood F stage servers routes late posted head workers
+    → AreSitting stage servers head.porter workers
+sitting F stage servers routes true posted head workers is =
+    let given = is.given_up
+    in record {
+      muxes = given.muxes;
+      first = subst (λ (p : Porting). Sits servers p) (sym is.added.porter) given.ready.sits;
+      number = ap (λ (p : Porting). p.number) is.added.porter ∙ given.ready.number;
+      each = λ m w here. let one = given.each m w here in (one.sits, one.number);
+    }
+sitting F stage servers routes false posted head workers is =
+    let standing = is.standing
+    in record {
+      muxes = standing.muxes;
+      first = standing.ready.sits;
+      number = standing.ready.number;
+      each = λ m w here. let one = standing.at_work.each m w here in (one.sits, one.number);
+    }
+
+sits_as : (servers : List Serving) (p : Porting) (n : ℕ) → Sits servers p → p.number ≡ n
+    → map (map who) p.seats ≡ map (λ server. row server n) servers
+sits_as servers p n sits is =
+    subst (λ (k : ℕ). map (map who) p.seats ≡ map (λ (server : Serving). row server k) servers) is sits
+
+pub row_sits : (stage : Stage) (servers : List Serving) (head : Porting) (workers : List MuxWorker)
+    → AreSitting stage servers head workers → (w : ℕ) (seats : List (List Seated))
+    → slice_get (rows_of head.seats workers) w ≡ Some seats
+    → map (map who) seats ≡ map (λ server. row server w) servers
+row_sits stage servers head workers are zero seats here =
+    subst (λ (x : List (List Seated)). map (map who) x ≡ map (λ (server : Serving). row server 0) servers)
+    (same_Some head.seats seats here) (sits_as servers head 0 are.first are.number)
+row_sits stage servers head workers are (suc m) seats here =
+    let w = row_of workers m seats here
+    in let one = are.each m w.0 w.1
+    in let next : m + 1 ≡ suc m = omega arith
+    in subst (λ (x : List (List Seated)). map (map who) x ≡ map (λ (server : Serving). row server (suc m)) servers) w.2
+    (sits_as servers w.0.porter (suc m) one.0 (one.1 ∙ next))
+
+pub rows_long : (stage : Stage) (servers : List Serving) (head : Porting) (workers : List MuxWorker)
+    → AreSitting stage servers head workers
+    → length (rows_of head.seats workers) ≡ stage.script.setting.muxes + 1
+rows_long stage servers head workers are =
+    let size = length-map workers (λ (w : MuxWorker). w.porter.seats) in let muxes = are.muxes in omega arith

@@ -1,0 +1,273 @@
+//! One phase of a run: worker 0 beside the muxes' workers, and the Sync behind it.
+ghost use Rattle.std.specs.Prelude.{◌≡◌, ℕ, suc, ◌+◌, ◌-◌, ◌*◌, ◌^◌, ◌<◌, ◌≤◌, max, length, map};
+ghost use Rattle.std.specs.Prelude.{slice_get, is_some, Ok as ok, All, IfErr};
+ghost use Rattle.std.specs.Prelude.{IfOk, OnOk, MatchBool};
+ghost use denote.Param.Send.{IsSync};
+ghost use Rattle.bm_core.specs.Stages.{IsSound};
+ghost use Rattle.bm_core.specs.Threads.{phase_of};
+ghost use Rattle.bm_fault.specs.Faults.{Gives, IsRule};
+ghost use Rattle.bm_worker.specs.Deeds.{Suits};
+ghost use Rattle.bm_worker.specs.Phases.{CanWork, IsRunnable};
+ghost use Rattle.bm_lead.specs.Heads.{IsPhase, IsReady, IsStopFrom, IsSyncCommand, UnlessMemory};
+ghost use Rattle.bm_lead.specs.Leads.{HasLed};
+ghost use Rattle.bm_world.specs.Crews.{HasMet, HaveNotStopped, HaveWorked, IsBetween, IsLate};
+ghost use Rattle.bm_world.specs.Crews.{IsNext, IsThrough, latest_in, left_of, one_stopped, stop_in};
+ghost use Rattle.bm_world.specs.Crews.{told_what, wants_memory};
+ghost use Rattle.bm_world.specs.GivenUp.{HasGivenUp};
+ghost use Rattle.bm_world.specs.Running.{IsAtPhase};
+
+use crate::places::{record_place, sync_at, sync_place};
+use bm_base::{Fate, Hop, Memory, Moment};
+use bm_core::Stage;
+use bm_io::Gate;
+use bm_lead::{Head, lead_phase, sync};
+use bm_publish::Poster;
+use bm_worker::{MuxWorker, Shared, Span, Stop, work_all};
+use std::sync::Wait;
+use std::thread::{Threads, join_mut};
+
+/// What comes behind a phase.
+#[derive(Clone, Copy, Debug, PartialEq, Eq)]
+pub(crate) enum Next {
+    /// A phase, with the records from this place on.
+    Phase(u32),
+    /// Nothing: that was the last one.
+    End,
+    /// A worker gave up, for a moment that was too large.
+    Late,
+}
+
+/// The place of the first record behind a phase, whose commands end at this place.
+fn records_end(stage: &Stage, place: usize, from: u32) -> u32
+    requires sound { IsSound stage.now }
+    requires sync { place < length stage.now.script.commands
+        → IsSyncCommand (slice_get stage.now.script.commands place) }
+    requires within { from ≤ length stage.now.capture.records }
+    ensures order { (from ≤ result) × (result ≤ length stage.now.capture.records) }
+    ensures last { length stage.now.script.commands ≤ place
+        → result ≡ length stage.now.capture.records }
+    ensures numbers { (next p k : ℕ) → IsPhase stage.now.script.commands next place
+        → IsAtPhase stage.now next p from → from < k → k ≤ result → phase_of stage.now k ≡ p }
+    ensures next { (next p : ℕ) → IsPhase stage.now.script.commands next place
+        → IsAtPhase stage.now next p from → place < length stage.now.script.commands
+        → IsAtPhase stage.now (place + 1) (p + 1) result }
+{
+    let records = stage.capture.records.items();
+    match sync_at(stage.script.commands.items(), place) {
+        Some(at) => record_place(records, from, at),
+        None => records.len() as u32,
+    }
+}
+
+/// Tells each worker what is posted. Takes no memory.
+fn tell_all(poster: &Poster, workers: &mut [MuxWorker])
+    ensures { workers.new ≡ map (told_what poster.now) workers.old }
+{
+    for place in 0..workers.len() {
+        workers[place].told = Some(poster.tell());
+    }
+}
+
+/// A phase of all workers, each in a thread of its own. It waits for all.
+fn work_beside<W: Threads + Wait + Sync, F: Fn(u32, Hop) -> Fate + Sync, G: Gate>(
+    rt: &W,
+    shared: &Shared<'_, F, G>,
+    poster: &mut Poster,
+    head: &mut Head,
+    workers: &mut [MuxWorker],
+    span: Span,
+    until: usize,
+) -> Result<(), Stop>
+    requires rule { IsRule F.Fn shared.now.faults.now.rule }
+    requires run { IsRunnable shared.now.stage.now shared.now.octets.now shared.now.routes.now
+        shared.now.servers.now }
+    requires ready { IsReady shared.now.stage.now shared.now.servers.now poster.old head.old }
+    requires phase { IsPhase shared.now.stage.now.script.commands head.old.next until }
+    requires can { All (CanWork shared.now.stage.now shared.now.servers.now shared.now.routes.now
+        span) workers.old }
+    ensures led { UnlessMemory result (HasLed shared.now.stage.now shared.now.servers.now
+        poster.old poster.new head.old head.new) }
+    ensures next { OnOk result (head.new.next ≡ until) }
+    ensures stop { IfErr result (IsStopFrom (9 * 10 ^ 18 - 4096) head.new.porter.latest) }
+    ensures count { length workers.new ≡ length workers.old }
+    ensures worked { HaveWorked (Gives F.Fn shared.now.faults.now.rule) shared.now.stage.now
+        shared.now.servers.now shared.now.routes.now span workers.old workers.new }
+{
+    let Shared {
+        stage,
+        servers,
+        gate,
+        ..
+    } = *shared;
+    let ((), led) = join_mut(
+        rt,
+        &mut ||
+            requires { IsSync W.row × IsSync F.row × IsSync G.row
+                × IsRule F.Fn shared.now.faults.now.rule
+                × IsRunnable shared.now.stage.now shared.now.octets.now shared.now.routes.now
+                shared.now.servers.now
+                × All (CanWork shared.now.stage.now shared.now.servers.now shared.now.routes.now
+                span) workers.now }
+            ensures { (length workers.exit.now ≡ length workers.entry.now)
+                × HaveWorked (Gives F.Fn shared.entry.now.faults.now.rule)
+                shared.entry.now.stage.now shared.entry.now.servers.now
+                shared.entry.now.routes.now span workers.entry.now workers.exit.now }
+        { work_all(rt, shared, span, workers) },
+        &mut || -> Result<(), Stop>
+            requires { IsSync G.row × IsSound stage.now × Suits stage.now servers.now
+                × IsReady stage.now servers.now poster.now head.now
+                × IsPhase stage.now.script.commands head.now.next until }
+            ensures { UnlessMemory result (HasLed stage.entry.now servers.entry.now
+                poster.entry.now poster.exit.now head.entry.now head.exit.now)
+                × OnOk result (head.exit.now.next ≡ until)
+                × IfErr result (IsStopFrom (9 * 10 ^ 18 - 4096) head.exit.now.porter.latest) }
+        { lead_phase(rt, gate, stage, servers, poster, head, until) },
+    );
+    led
+}
+
+/// Why worker 0 gave up, if it did.
+fn stop_of(led: Result<(), Stop>) -> Option<Stop>
+    ensures { result ≡ stop_in led }
+{
+    match led {
+        Ok(()) => None,
+        Err(stop) => Some(stop),
+    }
+}
+
+/// Whether a worker gave up for want of memory.
+fn is_wanting(stop: Option<Stop>) -> bool
+    ensures { result ≡ wants_memory stop }
+{
+    matches!(stop, Some(Stop::Memory))
+}
+
+/// Whether one of these did.
+fn is_one_wanting(workers: &[MuxWorker]) -> bool
+    ensures { result ≡ one_stopped wants_memory workers.now }
+{
+    for worker in workers {
+        if is_wanting(worker.stop) {
+            return true;
+        }
+    }
+    false
+}
+
+/// Whether a worker gave up.
+fn is_one_stopped(workers: &[MuxWorker]) -> bool
+    ensures { result ≡ one_stopped (λ stop. is_some stop) workers.now }
+{
+    for worker in workers {
+        if worker.stop.is_some() {
+            return true;
+        }
+    }
+    false
+}
+
+/// Whether a worker gave up, for a moment that was too large. `Memory` where one gave up for want of
+/// it.
+fn is_late(led: Result<(), Stop>, workers: &[MuxWorker]) -> Result<bool, Memory>
+    ensures { IfOk result (λ late. MatchBool late (IsLate led workers.now)
+        ((led ≡ ok tt) × HaveNotStopped workers.now)) }
+{
+    let first = stop_of(led);
+    if is_wanting(first) || is_one_wanting(workers) {
+        return Err(Memory);
+    }
+    Ok(first.is_some() || is_one_stopped(workers))
+}
+
+/// The greatest clock of what all workers did.
+fn latest_of(head: &Head, workers: &[MuxWorker]) -> Moment
+    ensures { result.0 ≡ max head.now.porter.latest (latest_in workers.now) }
+{
+    let mut latest = head.porter.latest();
+    for worker in workers {
+        latest = latest.max(worker.porter.latest());
+    }
+    latest
+}
+
+/// Logs the Sync that stands behind a phase, once all workers have done it. What comes next, if the
+/// records behind the phase begin at this place.
+fn meet(stage: &Stage, head: &mut Head, workers: &[MuxWorker], start: u32) -> Result<Next, Memory>
+    requires sound { IsSound stage.now }
+    requires sync { head.old.next < length stage.now.script.commands
+        → IsSyncCommand (slice_get stage.now.script.commands head.old.next) }
+    ensures { IfOk result (HasMet stage.now head.old head.new workers.now start) }
+{
+    if head.next >= stage.script.commands.items().len() {
+        return Ok(Next::End);
+    }
+    match sync(stage, head, latest_of(head, workers)) {
+        Ok(()) => Ok(Next::Phase(start)),
+        Err(Stop::Late { .. }) => Ok(Next::Late),
+        Err(Stop::Memory) => Err(Memory),
+    }
+}
+
+/// A phase with the records from a place on, and the Sync behind it. What comes next.
+pub(crate) fn run_phase<W: Threads + Wait + Sync, F: Fn(u32, Hop) -> Fate + Sync, G: Gate>(
+    rt: &W,
+    shared: &Shared<'_, F, G>,
+    poster: &mut Poster,
+    head: &mut Head,
+    workers: &mut [MuxWorker],
+    start: u32,
+) -> Result<Next, Memory>
+    requires rule { IsRule F.Fn shared.now.faults.now.rule }
+    requires run { IsRunnable shared.now.stage.now shared.now.octets.now shared.now.routes.now
+        shared.now.servers.now }
+    requires between { IsBetween (Gives F.Fn shared.now.faults.now.rule) shared.now.stage.now
+        shared.now.servers.now shared.now.routes.now poster.old head.old workers.old start }
+    ensures next { IfOk result (IsNext (Gives F.Fn shared.now.faults.now.rule) shared.now.stage.now
+        shared.now.servers.now shared.now.routes.now poster.new head.new workers.new) }
+    ensures fewer { IfOk result (λ next. let all = length shared.now.stage.now.script.commands in
+        left_of next head.new.next all < suc (all - head.old.next)) }
+    ensures count { length workers.new ≡ length workers.old }
+{
+    let stage = shared.stage;
+    let place = sync_place(stage.script.commands.items(), head.next);
+    let until = records_end(stage, place, start);
+    let span = Span {
+        from: start,
+        until,
+        after: head.porter.latest(),
+    };
+    tell_all(poster, workers);
+    let led = work_beside(rt, shared, poster, head, workers, span, place);
+    if is_late(led, workers)? {
+        return Ok(Next::Late);
+    }
+    meet(stage, head, workers, until)
+}
+
+/// All phases. Whether a worker gave up for a moment that was too large.
+pub(crate) fn run_phases<W: Threads + Wait + Sync, F: Fn(u32, Hop) -> Fate + Sync, G: Gate>(
+    rt: &W,
+    shared: &Shared<'_, F, G>,
+    poster: &mut Poster,
+    head: &mut Head,
+    workers: &mut [MuxWorker],
+) -> Result<bool, Memory>
+    requires rule { IsRule F.Fn shared.now.faults.now.rule }
+    requires run { IsRunnable shared.now.stage.now shared.now.octets.now shared.now.routes.now
+        shared.now.servers.now }
+    requires first { IsBetween (Gives F.Fn shared.now.faults.now.rule) shared.now.stage.now
+        shared.now.servers.now shared.now.routes.now poster.old head.old workers.old 0 }
+    ensures late { IfOk result (λ late. MatchBool late
+        (HasGivenUp (Gives F.Fn shared.now.faults.now.rule) shared.now.stage.now
+        shared.now.servers.now poster.new head.new workers.new)
+        (IsThrough (Gives F.Fn shared.now.faults.now.rule) shared.now.stage.now
+        shared.now.servers.now shared.now.routes.now poster.new head.new workers.new)) }
+    ensures count { length workers.new ≡ length workers.old }
+{
+    let mut next = Next::Phase(0);
+    while let Next::Phase(start) = next {
+        next = run_phase(rt, shared, poster, head, workers, start)?;
+    }
+    Ok(next == Next::Late)
+}

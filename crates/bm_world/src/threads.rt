@@ -1,0 +1,209 @@
+//! A run of a stage in threads.
+ghost use Rattle.std.specs.Prelude.{◌≡◌, [], ℕ, ◌+◌, ◌*◌, ◌^◌, ◌≤◌, length, slice_get, Some, All, MatchBool};
+ghost use Rattle.std.specs.Prelude.{IfOk, OnOk};
+ghost use Rattle.bm_core.specs.Stages.{IsSound};
+ghost use Rattle.bm_core.specs.Threads.{IsThreadedRun};
+ghost use Rattle.bm_fault.specs.Faults.{Gives, IsRule};
+ghost use Rattle.bm_link.specs.Fits.{ArePackets};
+ghost use Rattle.bm_lead.specs.Heads.{HasPosted};
+ghost use Rattle.bm_lead.specs.Rests.{Adds};
+ghost use Rattle.bm_merge.specs.Notes.{Note};
+ghost use Rattle.bm_route.specs.Routes.{Answers, IsRoute};
+ghost use Rattle.bm_rows.specs.Rows.{items_of};
+ghost use Rattle.bm_worker.specs.Phases.{IsRunnable};
+ghost use Rattle.bm_worker.specs.Turns.{RoutedBy};
+ghost use Rattle.bm_world.specs.Crews.{IsBack, MergeToRun};
+ghost use Rattle.bm_world.specs.Routed.{AreRouted};
+ghost use Rattle.bm_world.specs.Served.{IsNewRow};
+
+use crate::crew::{make_workers, take_apart};
+use crate::known::known_servers;
+use crate::phase::run_phases;
+use crate::routing::route_all;
+use crate::servers::{Rows, finish_all, make_servers};
+use crate::shard_logs::add_all_books;
+use bm_base::{Fate, Flow, Hop, List, Memory, MuxId, Octets};
+use bm_core::{History, Log, Stage};
+use bm_fault::Faults;
+use bm_io::Gate;
+use bm_lead::{Head, post_the_rest};
+use bm_merge::merge;
+use bm_publish::{Look, Poster, board};
+use bm_route::Route;
+use bm_rows::front;
+use bm_worker::{Porter, Shared};
+use std::alloc::Global;
+use std::sync::Wait;
+use std::thread::Threads;
+
+/// What the workers hand back.
+#[derive(Drop)]
+struct Back {
+    /// A worker gave up for a moment that was too large.
+    late: bool,
+    /// The log of the controller, and those of the muxes.
+    logs: Vec<Log>,
+    /// Each worker's seats.
+    rows: Rows,
+}
+
+/// Posts the changes that are left, where a worker has given up.
+fn post_left<W: Wait>(
+    rt: &W,
+    stage: &Stage,
+    poster: &mut Poster,
+    head: &mut Head,
+    late: bool,
+) -> Result<(), Memory>
+    requires posted { HasPosted stage.now poster.old head.old }
+    requires early { head.old.last_post.0 + 4096 ≤ 9 * 10 ^ 18 }
+    ensures { OnOk result (MatchBool late
+        (((rest : List Note) × Adds stage.now poster.old poster.new head.old head.new rest)
+        × (length poster.new.clocks ≡ length stage.now.script.plan.changes))
+        ((poster.new ≡ poster.old) × (head.new ≡ head.old))) }
+{
+    if late {
+        post_the_rest(rt, stage, poster, head)?;
+    }
+    Ok(())
+}
+
+/// The workers of a run, at a board on which nothing is posted.
+fn run_on_board<W: Threads + Wait + Sync, F: Fn(u32, Hop) -> Fate + Sync, G: Gate>(
+    rt: &W,
+    shared: &Shared<'_, F, G>,
+    poster: &mut Poster,
+    looks: Vec<Look>,
+    rows: Rows,
+) -> Result<Back, Memory>
+    requires rule { IsRule F.Fn shared.now.faults.now.rule }
+    requires run { IsRunnable shared.now.stage.now shared.now.octets.now shared.now.routes.now
+        shared.now.servers.now }
+    requires board { (poster.old.plan ≡ shared.now.stage.now.script.plan)
+        × (poster.old.clocks ≡ []) }
+    requires looks { All (λ look. look ≡ poster.old) looks.items }
+    requires muxes { length looks.items ≡ shared.now.stage.now.script.setting.muxes }
+    requires count { length rows.items ≡ length looks.items + 1 }
+    requires rows { (w : ℕ) (seats : _) → slice_get (items_of rows.items) w ≡ Some seats
+        → IsNewRow shared.now.servers.now w seats }
+    ensures { IfOk result (λ back. IsBack (Gives F.Fn shared.now.faults.now.rule)
+        shared.now.stage.now shared.now.servers.now shared.now.routes.now back.late back.logs.items
+        (items_of back.rows.items)) }
+{
+    let Shared { alloc, stage, .. } = *shared;
+    let (first, others) = front(rows);
+    let mut head = Head::new(alloc, Porter::new(0, first));
+    let mut workers = make_workers(alloc, stage.script.setting.buckets, looks, others)?;
+    let late = run_phases(rt, shared, poster, &mut head, workers.as_mut_slice())?;
+    post_left(rt, stage, poster, &mut head, late)?;
+    let (logs, rows) = take_apart(alloc, poster, head, workers)?;
+    Ok(Back { late, logs, rows })
+}
+
+/// The workers of a run, each with its row of seats.
+fn run_workers<W: Threads + Wait + Sync, F: Fn(u32, Hop) -> Fate + Sync, G: Gate>(
+    rt: &W,
+    shared: &Shared<'_, F, G>,
+    rows: Rows,
+) -> Result<Back, Memory>
+    requires rule { IsRule F.Fn shared.now.faults.now.rule }
+    requires run { IsRunnable shared.now.stage.now shared.now.octets.now shared.now.routes.now
+        shared.now.servers.now }
+    requires count { length rows.items ≡ shared.now.stage.now.script.setting.muxes + 1 }
+    requires rows { (w : ℕ) (seats : _) → slice_get (items_of rows.items) w ≡ Some seats
+        → IsNewRow shared.now.servers.now w seats }
+    ensures { IfOk result (λ back. IsBack (Gives F.Fn shared.now.faults.now.rule)
+        shared.now.stage.now shared.now.servers.now shared.now.routes.now back.late back.logs.items
+        (items_of back.rows.items)) }
+{
+    let script = &shared.stage.script;
+    let (mut poster, looks) = board(rt, shared.alloc, &script.plan, script.setting.muxes)?;
+    let back = run_on_board(rt, shared, &mut poster, looks, rows);
+    poster.end(rt);
+    back
+}
+
+/// The logs of a run, of which each packet has this mux.
+fn run_stage<W: Threads + Wait + Sync, F: Fn(u32, Hop) -> Fate + Sync, G: Gate>(
+    rt: &W,
+    alloc: Global,
+    stage: &Stage,
+    octets: &Octets,
+    routes: &[Option<MuxId>],
+    faults: &Faults<F>,
+    gate: &G,
+) -> Result<Vec<Log>, Memory>
+    requires sound { IsSound stage.now }
+    requires packets { ArePackets stage.now.capture.records octets.now }
+    requires count { length routes.now ≡ length stage.now.capture.records }
+    requires routed { AreRouted stage.now routes.now }
+    requires faults { IsRule F.Fn faults.now.rule }
+    ensures { IfOk result (λ logs. MergeToRun (RoutedBy routes.now) (Gives F.Fn faults.now.rule)
+        stage.now logs.items) }
+{
+    let setting = &stage.script.setting;
+    let ids = known_servers(alloc, &stage.script)?;
+    let (servers, rows) = make_servers(alloc, setting, ids.as_slice(), setting.muxes + 1)?;
+    let shared = Shared {
+        alloc,
+        stage,
+        octets,
+        routes,
+        servers: servers.as_slice(),
+        faults,
+        gate,
+    };
+    let back = run_workers(rt, &shared, rows);
+    let Shared {
+        alloc,
+        stage: _stage,
+        octets: _octets,
+        routes: _routes,
+        servers: _servers,
+        faults: _faults,
+        gate: _gate,
+    } = shared;
+    let Back {
+        late,
+        mut logs,
+        rows,
+    } = back?;
+    let books = finish_all(alloc, servers, rows)?;
+    if late {
+        unreachable!();
+    }
+    add_all_books(alloc, books.as_slice(), &mut logs)?;
+    Ok(logs)
+}
+
+/// Carries the packets of a stage through its muxes and servers, the packets of each mux in a thread
+/// of its own and the commands in another, and gives the history of what they did: a run that
+/// follows the script as such threads do, and in which every packet, copy and command is accounted
+/// for. `octets` has the packet of each record. `Memory` where memory was refused. It may wait.
+pub fn run_threads<
+    W: Threads + Wait + Sync,
+    R: Fn(u32, &Flow) -> u16,
+    F: Fn(u32, Hop) -> Fate + Sync,
+    G: Gate,
+>(
+    rt: &W,
+    alloc: Global,
+    stage: Stage,
+    octets: &Octets,
+    route: &Route<R>,
+    faults: &Faults<F>,
+    gate: &G,
+) -> Result<History, Memory>
+    requires sound { IsSound stage }
+    requires packets { ArePackets stage.capture.records octets.now }
+    requires route { IsRoute R.Fn route.now.rule route.now.muxes }
+    requires muxes { route.now.muxes ≡ stage.script.setting.muxes }
+    requires faults { IsRule F.Fn faults.now.rule }
+    ensures stage { IfOk result (λ h. h.stage ≡ stage) }
+    ensures run { IfOk result
+        (IsThreadedRun (Answers R.Fn route.now.rule) (Gives F.Fn faults.now.rule)) }
+{
+    let routes = route_all(alloc, &stage, route)?;
+    let logs = run_stage(rt, alloc, &stage, octets, routes.as_slice(), faults, gate)?;
+    merge(alloc, stage, logs)
+}
