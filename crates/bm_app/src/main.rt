@@ -1,9 +1,11 @@
-//! Makes the real files and standard output, and calls `beamer` with the words of the command line.
+//! Makes the real files, standard output and a gate that holds nobody, and calls `beamer` with the
+//! words of the command line.
 #![tactic(auto)]
 
 use bm_cli::beamer;
-use bm_io::{StdFiles, StdSink};
+use bm_io::{OpenGate, StdFiles, StdSink};
 use std::env;
+use std::io::ErrorKind;
 use std::process::ExitCode;
 
 /// The status of want of memory.
@@ -12,15 +14,26 @@ const MEMORY: u8 = 6;
 fn main(rt: HostRuntime) -> ExitCode {
     let alloc = rt.alloc();
     let mut words = Vec::new(alloc);
-    // Where a word isn't text `args` fails as a whole, and no words are of no form.
-    if let Ok(given) = env::args(&rt) {
-        for word in given.skip(1) {
-            if words.push(word).is_err() {
-                return ExitCode::from(MEMORY);
+    match env::args(&rt) {
+        Ok(given) => {
+            for word in given.skip(1) {
+                if words.push(word).is_err() {
+                    return ExitCode::from(MEMORY);
+                }
             }
         }
+        Err(e) if e.kind() == ErrorKind::OutOfMemory => return ExitCode::from(MEMORY),
+        // A word isn't text: no words are of no form.
+        Err(_) => {}
     }
     let mut files = StdFiles::new(rt);
     let mut out = StdSink::new(rt);
-    ExitCode::from(beamer(alloc, words.as_slice(), &mut files, &mut out))
+    ExitCode::from(beamer(
+        &rt,
+        alloc,
+        words.as_slice(),
+        &mut files,
+        &mut out,
+        &OpenGate,
+    ))
 }

@@ -3,18 +3,20 @@ use Rattle.std.proofs.Common.{◌≡◌, ◌≢◌, inl, inr, ℕ, List, [], Opt
 use Rattle.std.proofs.Common.{sym, subst, ◌∙◌, refl}
 use Rattle.bm_core.specs.declared.events.Stage.{Stage}
 use Rattle.bm_words.specs.Form.{Asked, Named}
-use Rattle.bm_pcap.specs.declared.fault.PcapFault.TheVariants.{Memory as NoMemory}
+use Rattle.bm_cli.specs.declared.fault.CaptureFault.TheVariants.{Memory as NoMemory}
 use Rattle.bm_cli.specs.declared.fault.StageFault.{StageFault}
 use Rattle.bm_cli.specs.declared.fault.StageFault.TheVariants.{Memory as WantsMemory}
 use Rattle.bm_cli.specs.declared.status.Status.{Status}
 use Rattle.bm_cli.specs.declared.status.Status.TheVariants.{ReadFault, Memory}
 use Rattle.bm_cli.specs.Dues.{Answer, Due, Misused, Refused, answer_for, due, due_of_stage, names_behind}
+use Rattle.bm_cli.specs.declared.mode.Mode.{Mode}
+use Rattle.bm_cli.specs.Headline.{IsReportOf}
 use Rattle.bm_cli.specs.Dues.{status_of}
 use Rattle.bm_cli.specs.Ends.{AsksFor, Ends, IsOf, IsSaid}
 use Rattle.bm_cli.specs.Inside.Scripts.{IsOutside, IsRead}
 use Rattle.bm_cli.specs.Inside.Stages.{ReadsStage, status_by}
 use Rattle.bm_cli.specs.Inside.Telling.{Tells}
-use Rattle.bm_cli.specs.Reading.{Holds, Octets, Reading, Reads, reading, reads_of, script_for}
+use Rattle.bm_cli.specs.Reading.{Holds, Octets, Reading, Reads, reading, reads_of, script_by}
 use Rattle.bm_cli.specs.Statuses.{FilesDid, SinkDid}
 use Rattle.bm_cli.proofs.Faults.{memory_line, read_line}
 use Rattle.bm_cli.proofs.Names.{all_of_none, asks_nothing}
@@ -72,27 +74,27 @@ asks_as names files by says asks is = record {
 }
 
 -- what was read of a stage was answered
-pub ends_stage : (is : Stage → List ℕ → Type 0) (names : Named) (reads : Reads) (files : FilesDid)
-    (sink : SinkDid) (r : Reading) (result : Status) → ReadsStage names reads files r →
-    Tells (answer_for is r) sink result → Ends (due_of_stage is names reads) files sink result
-ends_stage is names reads files sink r result read tells = record {
+pub ends_stage : (mode : Mode) (names : Named) (reads : Reads) (files : FilesDid)
+    (sink : SinkDid) (r : Reading) (result : Status) → ReadsStage mode names reads files r →
+    Tells (answer_for (IsReportOf mode) r) sink result → Ends (due_of_stage mode names reads) files sink result
+ends_stage mode names reads files sink r result read tells = record {
   says = tells.says;
   text = tells.text;
-  said = said_stage is (reading names reads) r tells.says tells.text read.read tells.is;
+  said = said_stage (IsReportOf mode) (reading mode names reads) r tells.says tells.text read.read tells.is;
   writes = tells.writes;
   asks =
-      asks_as (names_behind names (script_for reads names.script)) files (status_by r) tells.says read.asks
-      (says_read is r tells.says tells.text tells.is);
+      asks_as (names_behind names (script_by mode reads names.script)) files (status_by r) tells.says read.asks
+      (says_read (IsReportOf mode) r tells.says tells.text tells.is);
 }
 
-pub replay_ends : (is : Stage → List ℕ → Type 0) (names : Named) (told : Octets) (files : FilesDid)
+pub play_ends : (mode : Mode) (names : Named) (told : Octets) (files : FilesDid)
     (sink : SinkDid) (r : Reading) (result : Status) →
-    Holds told (λ reads. ReadsStage names reads files r) → Tells (answer_for is r) sink result →
-    Holds told (λ reads. Ends (due_of_stage is names reads) files sink result)
-replay_ends is names told files sink r result read tells =
-    holds_more told (λ reads. ReadsStage names reads files r)
-    (λ reads. Ends (due_of_stage is names reads) files sink result)
-    (λ reads stage. ends_stage is names reads files sink r result stage tells) read
+    Holds told (λ reads. ReadsStage mode names reads files r) → Tells (answer_for (IsReportOf mode) r) sink result →
+    Holds told (λ reads. Ends (due_of_stage mode names reads) files sink result)
+play_ends mode names told files sink r result read tells =
+    holds_more told (λ reads. ReadsStage mode names reads files r)
+    (λ reads. Ends (due_of_stage mode names reads) files sink result)
+    (λ reads stage. ends_stage mode names reads files sink r result stage tells) read
 
 -- NO FILE IS READ
 

@@ -1,14 +1,15 @@
 -- The clauses of `beamer`, by how the call ended.
-use Rattle.std.proofs.Common.{◌≡◌, ◌≢◌, ◌⊎◌, inl, inr, ℕ, List, [], Option, Some, None, Result, Ok, Err}
+use Rattle.std.proofs.Common.{◌≡◌, ◌≢◌, ◌⊎◌, inl, inr, ℕ, List, [], ◌∷◌, Option, Some, None, Result, Ok, Err}
 use Rattle.std.proofs.Common.{IsSome, sym, ap, subst, ◌∙◌, refl, ◌≤◌}
 use Rattle.std.specs.Io.KnownBytes.{Appends}
 use Rattle.bm_io.specs.Causes.{Rose}
-use Rattle.bm_words.specs.Form.{Asked, Named, Replay}
+use Rattle.bm_words.specs.Form.{Asked, Named, Replay, Run}
 use Rattle.bm_table.specs.declared.script.Script.{Script}
 use Rattle.bm_core.specs.declared.events.Stage.{Stage}
-use Rattle.bm_pcap.specs.Capture.{Captured}
+use Rattle.bm_cli.specs.Captures.{Captured}
 use Rattle.bm_cli.specs.declared.fault.StageFault.{StageFault}
 use Rattle.bm_cli.specs.declared.fault.StageFault.TheVariants.{Files}
+use Rattle.bm_cli.specs.declared.mode.Mode.TheVariants.{Replay as by_replay, Run as by_run}
 use Rattle.bm_cli.specs.declared.status.Status.{Status}
 use Rattle.bm_cli.specs.declared.status.Status.TheVariants.{Done, Usage, ReadFault, BadCapture}
 use Rattle.bm_cli.specs.declared.status.Status.TheVariants.{BadScript, WriteFault, Memory, Limit}
@@ -18,7 +19,7 @@ use Rattle.bm_cli.specs.Ends.{Ends, EndsWith, IsSaid}
 use Rattle.bm_cli.specs.Headline.{IsReportOf}
 use Rattle.bm_cli.specs.Lines.{fault_line, usage_line}
 use Rattle.bm_cli.specs.Names.{AsksAll, AsksPrefix, script_names}
-use Rattle.bm_cli.specs.Reading.{Holds, Octets, Reading, Reads, reading, reads_of, script_for, with_capture}
+use Rattle.bm_cli.specs.Reading.{Holds, Octets, Reading, Reads, reading, reads_of, script_by, with_capture}
 use Rattle.bm_cli.specs.Reading.{with_script}
 use Rattle.bm_cli.specs.Statuses.{code_of, FilesDid, SinkDid}
 use Rattle.bm_cli.specs.Top.{IsAccepted, IsStatusOf, RefusesAnswer, ShowsAnswer, WritesSome, scripts_in}
@@ -111,7 +112,9 @@ stage_usage is (Err fault) = λ e. (of_fault fault).usage (sym e)
 
 usage_form : (form : Option Asked) (reads : Reads) → Usage ≡ status_of (due form reads).answer → form ≡ None
 usage_form None reads e = refl
-usage_form (Some (Replay names)) reads e = absurd (stage_usage IsReportOf (reading names reads) e)
+usage_form (Some (Replay names)) reads e = absurd (stage_usage (IsReportOf by_replay) (reading by_replay names reads) e)
+usage_form (Some (Run capture script)) reads e =
+    absurd (stage_usage (IsReportOf by_run) (reading by_run (record { capture = capture; script = Some script }) reads) e)
 
 -- no file is named by the words of no form
 named_form : (form : Option Asked) (reads : Reads) → (due form reads).names ≢ [] → IsSome form
@@ -134,7 +137,11 @@ stage_names is names reads (Err fault) e = refl
 script_due : (form : Option Asked) (reads : Reads) → status_of (due form reads).answer ≡ BadScript →
     (due form reads).names ≡ scripts_in form
 script_due None reads e = absurd (cc)
-script_due (Some (Replay names)) reads e = stage_names IsReportOf names reads (script_for reads names.script) e
+script_due (Some (Replay names)) reads e =
+    stage_names (IsReportOf by_replay) names reads (script_by by_replay reads names.script) e
+script_due (Some (Run capture script)) reads e =
+    stage_names (IsReportOf by_run) (record { capture = capture; script = Some script }) reads
+    (script_by by_run reads (Some script)) e
 
 -- BY THE EXIT STATUS
 

@@ -8,3 +8,4 @@ pub mod Sound
 pub mod Stages
 pub mod Statuses
 pub mod Telling
+pub mod Wider

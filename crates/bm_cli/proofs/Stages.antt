@@ -1,29 +1,30 @@
 -- What was read of the script and of the capture is the stage that is due, or its fault.
 use Rattle.std.proofs.Common.{◌≡◌, ◌≢◌, ◌⊎◌, inl, inr, ℕ, List, [], ◌∷◌, ◌++◌, Option, Some, None, Result, Ok, Err}
-use Rattle.std.proofs.Common.{IsErrAnd, sym, ap, subst, ◌∙◌, refl}
+use Rattle.std.proofs.Common.{IsErrAnd, IsSome, sym, ap, subst, ◌∙◌, refl}
 use Rattle.std.specs.Prelude.{◌≤◌, IsErrOf}
 use Rattle.std.specs.Result.{result_map_both}
 use Rattle.bm_base.specs.declared.capture.Vip.{Vip}
 use Rattle.bm_io.specs.Causes.{Rose}
 use Rattle.bm_table.specs.declared.script.Script.{Script}
-use Rattle.bm_pcap.specs.Capture.{Captured}
-use Rattle.bm_pcap.specs.Reader.{Captures}
-use Rattle.bm_pcap.specs.declared.fault.PcapFault.{PcapFault}
-use Rattle.bm_pcap.specs.declared.fault.PcapFault.TheVariants.{NotACapture, BadVersion, BadLink, TooLarge}
-use Rattle.bm_pcap.specs.declared.fault.PcapFault.TheVariants.{ReadFault as SourceFault, Memory as NoMemory}
-use Rattle.bm_pcap.specs.declared.fault.PcapFault.TheVariants.{BadLength, TooManyPackets}
+use Rattle.bm_cli.specs.Captures.{Captured}
+use Rattle.bm_cli.specs.declared.fault.CaptureFault.{CaptureFault}
+use Rattle.bm_cli.specs.declared.fault.CaptureFault.TheVariants.{NotACapture, BadVersion, BadLink, BadBlock, TooLarge}
+use Rattle.bm_cli.specs.declared.fault.CaptureFault.TheVariants.{ReadFault as SourceFault, Memory as NoMemory}
+use Rattle.bm_cli.specs.declared.fault.CaptureFault.TheVariants.{BadLength, TooManyPackets}
 use Rattle.bm_core.specs.declared.events.Stage.{Stage}
 use Rattle.bm_words.specs.Form.{Named}
 use Rattle.bm_cli.specs.declared.fault.StageFault.{StageFault}
-use Rattle.bm_cli.specs.declared.fault.StageFault.TheVariants.{Capture as OfCapture}
+use Rattle.bm_cli.specs.declared.fault.StageFault.TheVariants.{Capture as OfCapture, Seats}
+use Rattle.bm_cli.specs.declared.mode.Mode.{Mode}
+use Rattle.bm_cli.specs.declared.mode.Mode.TheVariants.{Replay, Run}
 use Rattle.bm_cli.specs.declared.status.Status.TheVariants.{ReadFault, Memory}
 use Rattle.bm_cli.specs.Dues.{names_behind}
-use Rattle.bm_cli.specs.Inside.Captures.{ReadsFile}
+use Rattle.bm_cli.specs.Inside.Captures.{Captures, ReadsFile}
 use Rattle.bm_cli.specs.Inside.Scripts.{IsOutside, IsRead, ReadsScript}
 use Rattle.bm_cli.specs.Inside.Stages.{ReadsStage, status_by}
 use Rattle.bm_cli.specs.Lines.{capture_status, fault_status}
 use Rattle.bm_cli.specs.Names.{AsksAll, AsksPrefix, names_in, script_names}
-use Rattle.bm_cli.specs.Reading.{Holds, Octets, Reads, reading, reads_of, script_for}
+use Rattle.bm_cli.specs.Reading.{Holds, Octets, Reads, if_taken, reading, reads_of, script_by, script_for, taken}
 use Rattle.bm_cli.specs.Reading.{with_capture, with_script}
 use Rattle.bm_cli.specs.Statuses.{FilesDid}
 use Rattle.bm_cli.proofs.Names.{all_then, asks_more, asks_then}
@@ -52,11 +53,17 @@ refused_some None (Some name) fault read =
 refused_some (Some octets) None fault read = record { reads = reads_of octets; known = refl; holds = read }
 refused_some (Some octets) (Some name) fault read = record { reads = reads_of octets; known = refl; holds = read }
 
-refused_reading : (names : Named) (reads : Reads) (fault : StageFault) → Refused fault names.script reads →
-    IsRead (reading names reads) (Err fault)
-refused_reading names reads fault (inl outside) = inl outside
-refused_reading names reads fault (inr due) =
-    inr (ap (λ (s : Result Script StageFault). with_script s (reads.capture names.capture)) due)
+refused_reading : (mode : Mode) (names : Named) (reads : Reads) (fault : StageFault) →
+    Refused fault names.script reads → IsRead (reading mode names reads) (Err fault)
+refused_reading mode names reads fault (inl outside) = inl outside
+refused_reading mode names reads fault (inr due) =
+    inr (ap (λ (s : Result Script StageFault). with_script (if_taken mode s) (reads.capture names.capture)) due)
+
+-- so is the script to play
+refused_by : (mode : Mode) (reads : Reads) (name : Option (List ℕ)) (fault : StageFault) →
+    Refused fault name reads → IsRead (script_by mode reads name) (Err fault)
+refused_by mode reads name fault (inl outside) = inl outside
+refused_by mode reads name fault (inr due) = inr (ap (if_taken mode) due)
 
 behind_some : (names : Named) (files : FilesDid) (r : Result Script StageFault) →
     AsksPrefix files.before files.now (script_names names.script) →
@@ -76,37 +83,46 @@ behind_all names files r fault (inr due) (inl (inr e)) read memory = absurd (mem
 behind_all names files r fault (inr due) (inr all) read memory =
     subst (λ (s : Result Script StageFault). AsksAll files.before files.now (names_behind names s)) (sym due) all
 
-names_open : (names : Named) (reads : Reads) → names_behind names (script_for reads names.script) ≢ []
-names_open names reads = by names.script refl where
+-- a run has a script
+abbrev pub HasScript : Mode → Named → Type 0
+HasScript mode names = mode ≡ Run → IsSome names.script
+
+names_open : (mode : Mode) (names : Named) (reads : Reads) → HasScript mode names →
+    names_behind names (script_by mode reads names.script) ≢ []
+names_open mode names reads has = by names.script refl where
   named : (name : List ℕ) (r : Result Script StageFault) → names.script ≡ Some name → names_behind names r ≢ []
   named name (Ok script) is = behind_opens names.capture (script_names names.script)
   named name (Err fault) is = rw is (λ e. cc)
 
-  by : (name : Option (List ℕ)) → names.script ≡ name → names_behind names (script_for reads names.script) ≢ []
-  by None is =
-      subst (λ n. names_behind names (script_for reads n) ≢ []) (sym is)
-      (behind_opens names.capture (script_names names.script))
-  by (Some name) is = named name (script_for reads names.script) is
+  unnamed : (m : Mode) → mode ≡ m → names.script ≡ None → names_behind names (script_by m reads None) ≢ []
+  unnamed Replay same is = behind_opens names.capture (script_names names.script)
+  unnamed Run same is = let some : IsSome names.script = has same in absurd (cc)
 
-pub script_refused : (names : Named) (told : Octets) (files : FilesDid) (fault : StageFault) →
-    ReadsScript told names.script (Err fault) →
+  by : (name : Option (List ℕ)) → names.script ≡ name → names_behind names (script_by mode reads names.script) ≢ []
+  by None is =
+      subst (λ n. names_behind names (script_by mode reads n) ≢ []) (sym is) (unnamed mode refl is)
+  by (Some name) is = named name (script_by mode reads names.script) is
+
+pub script_refused : (mode : Mode) (names : Named) (told : Octets) (files : FilesDid) (fault : StageFault) →
+    HasScript mode names → ReadsScript told names.script (Err fault) →
     AsksPrefix files.before files.now (script_names names.script) →
     IsOutside fault ⊎ AsksAll files.before files.now (script_names names.script) →
     (fault_status fault ≡ ReadFault → Rose files.faults files.later) →
-    Holds told (λ reads. ReadsStage names reads files (Err fault))
-script_refused names told files fault read some all rose =
+    Holds told (λ reads. ReadsStage mode names reads files (Err fault))
+script_refused mode names told files fault has read some all rose =
     let found = refused_some told names.script fault read in
-    let script = script_for found.reads names.script in
+    let script = script_by mode found.reads names.script in
     record {
       reads = found.reads;
       known = found.known;
       holds = record {
-        read = refused_reading names found.reads fault found.holds;
+        read = refused_reading mode names found.reads fault found.holds;
         asks = record {
           some = behind_some names files script some;
-          all = behind_all names files script fault found.holds all;
+          all = behind_all names files script fault
+              (refused_by mode found.reads names.script fault found.holds) all;
           rose = rose;
-          opens = λ e. names_open names found.reads;
+          opens = λ e. names_open mode names found.reads has;
         };
       };
     }
@@ -114,11 +130,12 @@ script_refused names told files fault read some all rose =
 -- THE SCRIPT WAS READ
 
 -- what was read of a capture, as the fault of a stage
-captured_read : (wanted : Captured) (fault : PcapFault) → Captures wanted (Err fault) →
+captured_read : (wanted : Captured) (fault : CaptureFault) → Captures wanted (Err fault) →
     IsOutside (OfCapture fault) ⊎ (wanted ≡ Err fault)
 captured_read wanted NotACapture h = inr (sym h)
 captured_read wanted BadVersion h = inr (sym h)
 captured_read wanted (BadLink link) h = inr (sym h)
+captured_read wanted (BadBlock block) h = inr (sym h)
 captured_read wanted SourceFault h = inl (inl refl)
 captured_read wanted TooLarge h = inr (sym h)
 captured_read wanted (BadLength number n) h = inr (sym h)
@@ -139,6 +156,7 @@ captures_self (Ok read) = refl
 captures_self (Err NotACapture) = refl
 captures_self (Err BadVersion) = refl
 captures_self (Err (BadLink link)) = refl
+captures_self (Err (BadBlock block)) = refl
 captures_self (Err SourceFault) = tt
 captures_self (Err TooLarge) = refl
 captures_self (Err (BadLength number n)) = refl
@@ -175,41 +193,43 @@ gives_some names (Some octets) script r (Some name) is first second = record {
   holds = record { first = ap (script_for (reads_of octets)) is ∙ first; second = second };
 }
 
-gives_reading : (names : Named) (script : Script) (r : Captured) (reads : Reads) → Gives names script r reads →
-    IsRead (reading names reads) (with_capture script r)
-gives_reading names script r reads gives =
+gives_reading : (mode : Mode) (names : Named) (script : Script) (r : Captured) (reads : Reads) →
+    taken mode script ≡ Ok script → Gives names script r reads →
+    IsRead (reading mode names reads) (with_capture script r)
+gives_reading mode names script r reads takes gives =
     let wanted = reads.capture names.capture script.setting.vips in
     subst
     (λ (s : Result Script StageFault). IsRead (with_script s (reads.capture names.capture)) (with_capture script r))
-    (sym gives.first) (stage_read script wanted r gives.second)
+    (sym (ap (if_taken mode) gives.first ∙ takes)) (stage_read script wanted r gives.second)
 
 -- want of memory, as the status of what was read
 memory_by : (script : Script) (r : Captured) → IsErrOf r NoMemory → status_by (with_capture script r) ≡ Memory
 memory_by script (Ok read) h = absurd (cc)
 memory_by script (Err fault) h = let is : fault ≡ NoMemory = cc in ap capture_status is
 
-pub capture_read : (names : Named) (told : Octets) (files : FilesDid) (mid : Option (List (List ℕ)))
-    (script : Script) (r : Captured) →
+pub capture_read : (mode : Mode) (names : Named) (told : Octets) (files : FilesDid) (mid : Option (List (List ℕ)))
+    (script : Script) (r : Captured) → HasScript mode names → taken mode script ≡ Ok script →
     ReadsScript told names.script (Ok script) →
     ReadsFile told names.capture script.setting.vips r →
     AsksAll files.before mid (script_names names.script) →
     AsksPrefix mid files.now (names.capture ∷ []) →
     IsErrOf r NoMemory ⊎ AsksAll mid files.now (names.capture ∷ []) →
     (status_by (with_capture script r) ≡ ReadFault → Rose files.faults files.later) →
-    Holds told (λ reads. ReadsStage names reads files (with_capture script r))
-capture_read names told files mid script r first second before part all rose =
+    Holds told (λ reads. ReadsStage mode names reads files (with_capture script r))
+capture_read mode names told files mid script r has takes first second before part all rose =
     let found = gives_some names told script r names.script refl first second in
     record {
       reads = found.reads;
       known = found.known;
       holds = record {
-        read = gives_reading names script r found.reads found.holds;
+        read = gives_reading mode names script r found.reads takes found.holds;
         asks = record {
-          some = behind (AsksPrefix files.before files.now) found.holds.first
+          some = behind (AsksPrefix files.before files.now) (ap (if_taken mode) found.holds.first ∙ takes)
               (asks_then files.before mid files.now (script_names names.script) (names.capture ∷ []) before part);
-          all = λ read memory. behind (AsksAll files.before files.now) found.holds.first (whole all memory);
+          all = λ read memory. behind (AsksAll files.before files.now)
+              (ap (if_taken mode) found.holds.first ∙ takes) (whole all memory);
           rose = rose;
-          opens = λ e. names_open names found.reads;
+          opens = λ e. names_open mode names found.reads has;
         };
       };
     }
@@ -224,6 +244,63 @@ capture_read names told files mid script r first second before part all rose =
     whole (inr h) memory =
         all_then files.before mid files.now (script_names names.script) (names.capture ∷ []) before h
 
+-- ITS SEATS WERE REFUSED
+
+abbrev pub read_ok : Script → Result Script StageFault
+read_ok script = Ok script
+
+-- a script that was read was asked for
+asked_ok : (script : Script) (files : FilesDid) (mid : Option (List (List ℕ))) (names : List (List ℕ)) →
+    IsErrAnd (read_ok script) IsOutside ⊎ AsksAll files.before mid names → AsksAll files.before mid names
+asked_ok script files mid names (inl h) = absurd h
+asked_ok script files mid names (inr h) = h
+
+not_played : (names : Named) (r : Result Script StageFault) (fault : StageFault) → r ≡ Err fault →
+    (fact : List (List ℕ) → Type 0) → fact (script_names names.script) → fact (names_behind names r)
+not_played names r fault is fact h = subst (λ s. fact (names_behind names s)) (sym is) h
+
+-- by some reads, which are those of the files where they tell them
+read_some : (names : Named) (told : Octets) (script : Script) → ReadsScript told names.script (Ok script) →
+    Holds told (λ reads. script_for reads names.script ≡ Ok script)
+read_some names told script read = by told names.script refl read where
+  by : (told : Octets) (name : Option (List ℕ)) → names.script ≡ name → ReadsScript told name (Ok script) →
+      Holds told (λ reads. script_for reads names.script ≡ Ok script)
+  by None None is read =
+      let reads = just (Ok script) (Err NoMemory)
+      in record { reads = reads; known = tt; holds = ap (script_for reads) is ∙ read }
+  by None (Some name) is read =
+      let reads = just (Ok script) (Err NoMemory)
+      in record { reads = reads; known = tt; holds = ap (script_for reads) is }
+  by (Some octets) None is read =
+      record { reads = reads_of octets; known = refl; holds = ap (script_for (reads_of octets)) is ∙ read }
+  by (Some octets) (Some name) is read =
+      record { reads = reads_of octets; known = refl; holds = ap (script_for (reads_of octets)) is ∙ read }
+
+-- the seats of the script that was read are too many
+pub seats_refused : (mode : Mode) (names : Named) (told : Octets) (files : FilesDid) (script : Script)
+    (fault : StageFault) → HasScript mode names → ReadsScript told names.script (Ok script) →
+    (taken mode script ≡ Err fault) × (fault ≡ Seats) →
+    IsErrAnd (read_ok script) IsOutside ⊎ AsksAll files.before files.now (script_names names.script) →
+    AsksPrefix files.before files.now (script_names names.script) →
+    Holds told (λ reads. ReadsStage mode names reads files (Err fault))
+seats_refused mode names told files script fault has read refused all some =
+    let found = read_some names told script read in
+    let is = ap (if_taken mode) found.holds ∙ refused.0 in
+    record {
+      reads = found.reads;
+      known = found.known;
+      holds = record {
+        read = inr (ap (λ (s : Result Script StageFault). with_script s (found.reads.capture names.capture)) is);
+        asks = record {
+          some = not_played names _ fault is (AsksPrefix files.before files.now) some;
+          all = λ read memory. not_played names _ fault is (AsksAll files.before files.now)
+              (asked_ok script files files.now (script_names names.script) all);
+          rose = λ e. let no = sym (ap fault_status refused.1) ∙ e in absurd (cc);
+          opens = λ e. names_open mode names found.reads has;
+        };
+      };
+    }
+
 -- BY WHAT THE CALLS SAY
 
 source_failed : (script : Script) (r : Captured) → status_by (with_capture script r) ≡ ReadFault →
@@ -232,41 +309,37 @@ source_failed script (Ok read) e = absurd (cc)
 source_failed script (Err NotACapture) e = absurd (cc)
 source_failed script (Err BadVersion) e = absurd (cc)
 source_failed script (Err (BadLink link)) e = absurd (cc)
+source_failed script (Err (BadBlock block)) e = absurd (cc)
 source_failed script (Err SourceFault) e = refl
 source_failed script (Err TooLarge) e = absurd (cc)
 source_failed script (Err (BadLength number n)) e = absurd (cc)
 source_failed script (Err TooManyPackets) e = absurd (cc)
 source_failed script (Err NoMemory) e = absurd (cc)
 
-abbrev pub read_ok : Script → Result Script StageFault
-read_ok script = Ok script
-
-pub captured_stage : (names : Named) (told then : Octets) (files : FilesDid) (mid : Option (List (List ℕ)))
-    (script : Script) (vips : List Vip) (r : Captured) (faults : ℕ) →
+pub captured_stage : (mode : Mode) (names : Named) (told then : Octets) (files : FilesDid)
+    (mid : Option (List (List ℕ))) (script : Script) (vips : List Vip) (r : Captured) (faults : ℕ) →
+    HasScript mode names → taken mode script ≡ Ok script →
     then ≡ told → vips ≡ script.setting.vips →
     ReadsScript told names.script (Ok script) → ReadsFile then names.capture vips r →
     IsErrAnd (read_ok script) IsOutside ⊎ AsksAll files.before mid (script_names names.script) →
     AsksPrefix mid files.now (names.capture ∷ []) →
     IsErrOf r NoMemory ⊎ AsksAll mid files.now (names.capture ∷ []) →
     files.faults ≤ faults → (IsErrOf r SourceFault → Rose faults files.later) →
-    Holds told (λ reads. ReadsStage names reads files (with_capture script r))
-captured_stage names told then files mid script vips r faults same served first second before part all low rose =
-    capture_read names told files mid script r first
+    Holds told (λ reads. ReadsStage mode names reads files (with_capture script r))
+captured_stage mode names told then files mid script vips r faults has takes same served first second before part all
+    low rose =
+    capture_read mode names told files mid script r has takes first
     (subst (λ t. ReadsFile t names.capture script.setting.vips r) same
-    (subst (λ v. ReadsFile then names.capture v r) served second)) (asked before) part all
+    (subst (λ v. ReadsFile then names.capture v r) served second))
+    (asked_ok script files mid (script_names names.script) before) part all
     (λ e. rose_later files.faults faults files.later low (rose (source_failed script r e)))
-  where
-    asked : IsErrAnd (read_ok script) IsOutside ⊎ AsksAll files.before mid (script_names names.script) →
-        AsksAll files.before mid (script_names names.script)
-    asked (inl h) = absurd h
-    asked (inr h) = h
 
 -- a fault that came through `?`
-pub stage_through : {A : Type 0} (names : Named) (told : Octets) (files : FilesDid)
+pub stage_through : {A : Type 0} (mode : Mode) (names : Named) (told : Octets) (files : FilesDid)
     (r : Result (Stage × A) StageFault) (fault : StageFault) → IsErrAnd r (λ e. e ≡ fault) →
-    Holds told (λ reads. ReadsStage names reads files (Err fault)) →
+    Holds told (λ reads. ReadsStage mode names reads files (Err fault)) →
     Holds told (λ reads.
-    ReadsStage names reads files (result_map_both (λ read. read.0) (λ fault. fault) r))
-stage_through names told files (Ok x) fault is holds = absurd is
-stage_through names told files (Err e) fault is holds =
-    subst (λ f. Holds told (λ reads. ReadsStage names reads files (Err f))) (sym is) holds
+    ReadsStage mode names reads files (result_map_both (λ read. read.0) (λ fault. fault) r))
+stage_through mode names told files (Ok x) fault is holds = absurd is
+stage_through mode names told files (Err e) fault is holds =
+    subst (λ f. Holds told (λ reads. ReadsStage mode names reads files (Err f))) (sym is) holds

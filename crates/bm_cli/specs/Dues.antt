@@ -2,14 +2,16 @@
 use Rattle.std.specs.Prelude.{◌≡◌, [], ℕ, List, Option, Some, None, Result, Ok, Err}
 use Rattle.bm_table.specs.declared.script.Script.{Script}
 use Rattle.bm_core.specs.declared.events.Stage.{Stage}
-use Rattle.bm_words.specs.Form.{Asked, Named, Replay}
+use Rattle.bm_words.specs.Form.{Asked, Named, Replay, Run}
 use Rattle.bm_cli.specs.declared.fault.StageFault.{StageFault}
+use Rattle.bm_cli.specs.declared.mode.Mode.{Mode}
+use Rattle.bm_cli.specs.declared.mode.Mode.TheVariants.{Replay as by_replay, Run as by_run}
 use Rattle.bm_cli.specs.declared.status.Status.{Status}
 use Rattle.bm_cli.specs.declared.status.Status.TheVariants.{Done, Usage}
 use Rattle.bm_cli.specs.Headline.{IsReportOf}
 use Rattle.bm_cli.specs.Lines.{fault_line, fault_status, usage_line}
 use Rattle.bm_cli.specs.Names.{names_in, script_names}
-use Rattle.bm_cli.specs.Reading.{Reading, Reads, reading, script_for}
+use Rattle.bm_cli.specs.Reading.{Reading, Reads, reading, script_by}
 
 -- the words are of no form; there is a fault; or a text of which this is true is shown
 pub data Answer : Type 1 where
@@ -36,7 +38,7 @@ text_of (Shown is) text = is text
 
 -- A STAGE AND WHAT IS SHOWN OF IT
 
--- behind a fault of the script the capture isn't asked for
+-- behind a script that isn't played the capture isn't asked for
 abbrev pub names_behind : Named → Result Script StageFault → List (List ℕ)
 names_behind names (Ok script) = names_in names
 names_behind names (Err fault) = script_names names.script
@@ -45,15 +47,17 @@ abbrev pub answer_for : (Stage → List ℕ → Type 0) → Reading → Answer
 answer_for is (Ok stage) = Shown (is stage)
 answer_for is (Err fault) = Refused fault
 
--- of the stage that the words and the files ask for such a text is due, or the line of its fault
-abbrev pub due_of_stage : (Stage → List ℕ → Type 0) → Named → Reads → Due
-due_of_stage is names reads = record {
-  names = names_behind names (script_for reads names.script);
-  answer = answer_for is (reading names reads);
+-- the report of the stage that the words and the files ask for is due, or the line of its fault
+abbrev pub due_of_stage : Mode → Named → Reads → Due
+due_of_stage mode names reads = record {
+  names = names_behind names (script_by mode reads names.script);
+  answer = answer_for (IsReportOf mode) (reading mode names reads);
 }
 
 -- THE FORMS
 
 abbrev pub due : Option Asked → Reads → Due
 due None reads = record { names = []; answer = Misused }
-due (Some (Replay names)) reads = due_of_stage IsReportOf names reads
+due (Some (Replay names)) reads = due_of_stage by_replay names reads
+due (Some (Run capture script)) reads =
+    due_of_stage by_run (record { capture = capture; script = Some script }) reads

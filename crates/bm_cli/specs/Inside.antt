@@ -1,7 +1,6 @@
 -- Only the proofs of bodies use these.
 pub mod Captures
 pub mod Faults
-pub mod Rules
 pub mod Scripts
 pub mod Stages
 pub mod Telling

@@ -1,16 +1,20 @@
--- What the words and the named files ask for: a stage to replay, or the first fault.
+-- What the words and the named files ask for: a stage to play, or the first fault.
 use Rattle.std.specs.Prelude.{◌≡◌, ℕ, nat_lt, if◌then◌else◌, List, length, Option, Some, None}
 use Rattle.std.specs.Prelude.{Result, Ok, Err}
 use Rattle.bm_base.specs.declared.capture.Vip.{Vip}
 use Rattle.bm_table.specs.declared.script.Script.{Script}
-use Rattle.bm_pcap.specs.Capture.{Captured, capture}
 use Rattle.bm_script.specs.declared.fault.ScriptFault.{ScriptFault}
 use Rattle.bm_script.specs.Scripts.{script_of}
 use Rattle.bm_core.specs.declared.events.Stage.{Stage}
 use Rattle.bm_words.specs.Form.{Named}
+use Rattle.bm_world.specs.Seats.{seats_of}
+use Rattle.bm_cli.specs.Captures.{Captured, capture}
 use Rattle.bm_cli.specs.declared.fault.StageFault.{StageFault}
-use Rattle.bm_cli.specs.declared.fault.StageFault.TheVariants.{LongScript, Script as of_script}
+use Rattle.bm_cli.specs.declared.fault.StageFault.TheVariants.{LongScript, Seats}
+use Rattle.bm_cli.specs.declared.fault.StageFault.TheVariants.{Script as of_script}
 use Rattle.bm_cli.specs.declared.fault.StageFault.TheVariants.{Capture as of_capture}
+use Rattle.bm_cli.specs.declared.mode.Mode.{Mode}
+use Rattle.bm_cli.specs.declared.mode.Mode.TheVariants.{Replay, Run}
 use Rattle.bm_cli.specs.Plain.{plain_script}
 
 -- WHAT THE FILES HOLD
@@ -53,7 +57,7 @@ pub record Holds (told : Octets) (fact : Reads → Type 0) : Type 0 where
 
 -- THE STAGE
 
--- a stage to replay, or why there is none
+-- a stage to play, or why there is none
 abbrev pub Reading : Type 0
 Reading = Result Stage StageFault
 
@@ -61,6 +65,19 @@ Reading = Result Stage StageFault
 abbrev pub script_for : Reads → Option (List ℕ) → Result Script StageFault
 script_for reads None = Ok plain_script
 script_for reads (Some name) = reads.script name
+
+-- the script, where a stage with it may be played so: a run has at most 65,536 seats
+abbrev pub taken : Mode → Script → Result Script StageFault
+taken Replay script = Ok script
+taken Run script = if nat_lt 65536 (seats_of script) then Err Seats else Ok script
+
+abbrev pub if_taken : Mode → Result Script StageFault → Result Script StageFault
+if_taken mode (Ok script) = taken mode script
+if_taken mode (Err fault) = Err fault
+
+-- the script to play
+abbrev pub script_by : Mode → Reads → Option (List ℕ) → Result Script StageFault
+script_by mode reads name = if_taken mode (script_for reads name)
 
 abbrev pub with_capture : Script → Captured → Reading
 with_capture script (Ok read) = Ok (record { script = script; capture = read.0 })
@@ -71,6 +88,7 @@ abbrev pub with_script : Result Script StageFault → (List Vip → Captured) �
 with_script (Ok script) capture = with_capture script (capture script.setting.vips)
 with_script (Err fault) capture = Err fault
 
--- the script comes first, and then the capture
-abbrev pub reading : Named → Reads → Reading
-reading names reads = with_script (script_for reads names.script) (reads.capture names.capture)
+-- the script comes first, then the seats, and then the capture
+abbrev pub reading : Mode → Named → Reads → Reading
+reading mode names reads =
+    with_script (script_by mode reads names.script) (reads.capture names.capture)

@@ -5,10 +5,9 @@ ghost use Rattle.bm_cli.specs.Dues.{Refused};
 ghost use Rattle.bm_cli.specs.Inside.Telling.{Tells};
 ghost use Rattle.bm_cli.specs.Statuses.{did};
 
-use crate::fault::StageFault;
+use crate::fault::{CaptureFault, StageFault};
 use crate::status::{Status, say};
 use bm_io::Sink;
-use bm_pcap::PcapFault;
 use bm_quota::Refusal;
 use bm_script::ScriptFault;
 use std::alloc::{AllocError, Global};
@@ -34,7 +33,7 @@ fn status_of(fault: &StageFault) -> Status
 {
     match fault {
         StageFault::Files => Status::ReadFault,
-        StageFault::LongScript => Status::Limit,
+        StageFault::LongScript | StageFault::Seats => Status::Limit,
         StageFault::Script(fault) => script_status(fault),
         StageFault::Capture(fault) => capture_status(*fault),
         StageFault::Memory => Status::Memory,
@@ -62,18 +61,19 @@ fn refusal_status(refusal: Refusal) -> Status
     }
 }
 
-fn capture_status(fault: PcapFault) -> Status
+fn capture_status(fault: CaptureFault) -> Status
     ensures status { result ≡ lines.capture_status fault }
     ensures write { result ≢ Status.WriteFault }
 {
     match fault {
-        PcapFault::NotACapture
-        | PcapFault::BadVersion
-        | PcapFault::BadLink(_)
-        | PcapFault::BadLength(..) => Status::BadCapture,
-        PcapFault::ReadFault => Status::ReadFault,
-        PcapFault::TooLarge | PcapFault::TooManyPackets => Status::Limit,
-        PcapFault::Memory => Status::Memory,
+        CaptureFault::NotACapture
+        | CaptureFault::BadVersion
+        | CaptureFault::BadLink(_)
+        | CaptureFault::BadBlock(_)
+        | CaptureFault::BadLength(..) => Status::BadCapture,
+        CaptureFault::ReadFault => Status::ReadFault,
+        CaptureFault::TooLarge | CaptureFault::TooManyPackets => Status::Limit,
+        CaptureFault::Memory => Status::Memory,
     }
 }
 
@@ -84,6 +84,7 @@ fn line_of(alloc: Global, fault: &StageFault) -> Result<String, AllocError>
     match fault {
         StageFault::Files => String::from_str(alloc, "beamer: read fault\n"),
         StageFault::LongScript => String::from_str(alloc, "beamer: limit script-octets\n"),
+        StageFault::Seats => String::from_str(alloc, "beamer: limit seats\n"),
         StageFault::Script(fault) => script_line(alloc, fault),
         StageFault::Capture(fault) => capture_line(alloc, *fault),
         StageFault::Memory => Ok(String::new(alloc)),
@@ -102,19 +103,24 @@ fn script_line(alloc: Global, fault: &ScriptFault) -> Result<String, AllocError>
     }
 }
 
-fn capture_line(alloc: Global, fault: PcapFault) -> Result<String, AllocError>
+fn capture_line(alloc: Global, fault: CaptureFault) -> Result<String, AllocError>
     ensures { IfOk result (λ line. string_bytes line ≡ lines.capture_line fault) }
 {
     match fault {
-        PcapFault::NotACapture => String::from_str(alloc, "beamer: capture: not a capture\n"),
-        PcapFault::BadVersion => String::from_str(alloc, "beamer: capture: bad version\n"),
-        PcapFault::BadLink(link) => { format!(in alloc; "beamer: capture: bad link type {link}\n") }
-        PcapFault::BadLength(record, length) => {
+        CaptureFault::NotACapture => String::from_str(alloc, "beamer: capture: not a capture\n"),
+        CaptureFault::BadVersion => String::from_str(alloc, "beamer: capture: bad version\n"),
+        CaptureFault::BadLink(link) => {
+            format!(in alloc; "beamer: capture: bad link type {link}\n")
+        }
+        CaptureFault::BadBlock(block) => {
+            format!(in alloc; "beamer: capture block {block}: bad block\n")
+        }
+        CaptureFault::BadLength(record, length) => {
             format!(in alloc; "beamer: capture record {record}: bad length {length}\n")
         }
-        PcapFault::ReadFault => String::from_str(alloc, "beamer: read fault\n"),
-        PcapFault::TooLarge => String::from_str(alloc, "beamer: limit capture-octets\n"),
-        PcapFault::TooManyPackets => String::from_str(alloc, "beamer: limit packets\n"),
-        PcapFault::Memory => Ok(String::new(alloc)),
+        CaptureFault::ReadFault => String::from_str(alloc, "beamer: read fault\n"),
+        CaptureFault::TooLarge => String::from_str(alloc, "beamer: limit capture-octets\n"),
+        CaptureFault::TooManyPackets => String::from_str(alloc, "beamer: limit packets\n"),
+        CaptureFault::Memory => Ok(String::new(alloc)),
     }
 }

@@ -1,5 +1,5 @@
 //! The stage: the script and the capture that the words name.
-ghost use Rattle.std.specs.Prelude.{◌≡◌, IfOk};
+ghost use Rattle.std.specs.Prelude.{◌≡◌, IfOk, IsSome};
 ghost use Rattle.std.specs.Result.{result_map_both};
 ghost use Rattle.bm_core.specs.Stages.{IsSound};
 ghost use Rattle.bm_link.specs.Fits.{ArePackets};
@@ -9,8 +9,10 @@ ghost use Rattle.bm_cli.specs.Reading.{Holds};
 ghost use Rattle.bm_cli.specs.Statuses.{did};
 
 use crate::fault::StageFault;
+use crate::mode::Mode;
 use crate::reading::read_file;
 use crate::script::read_script_file;
+use crate::seats::check_seats;
 use bm_base::Octets;
 use bm_core::Stage;
 use bm_io::Files;
@@ -19,19 +21,22 @@ use std::alloc::Global;
 
 /// Reads the script, and then the capture, whose packets go to the script's services, and the
 /// packet of each record. The files are asked for the names in the words alone, and for the capture
-/// only behind a script without a fault.
+/// only behind a script without a fault, which may be played so.
 pub(crate) fn read_stage<F: Files>(
     alloc: Global,
     files: &mut F,
+    mode: Mode,
     names: Names<'_>,
 ) -> Result<(Stage, Octets), StageFault>
+    requires script { mode ≡ Mode.Run → IsSome (named names).script }
     ensures stage { Holds (F.octets files.old) (λ reads.
-        ReadsStage (named names.entry) reads (did F.asked F.faults files.old files.new)
+        ReadsStage mode (named names.entry) reads (did F.asked F.faults files.old files.new)
         (result_map_both (λ read. read.0) (λ fault. fault) result)) }
     ensures sound { IfOk result (λ read. IsSound read.0) }
     ensures packets { IfOk result (λ read. ArePackets read.0.capture.records read.1) }
 {
     let script = read_script_file(alloc, files, names.script)?;
+    check_seats(mode, &script)?;
     let (capture, packets) = read_file(alloc, files, names.capture, script.setting.vips.items())?;
     Ok((Stage { script, capture }, packets))
 }

@@ -2,9 +2,9 @@
 ghost use Rattle.std.specs.Prelude.{◌≡◌, ◌≢◌, ◌⊎◌, ◌≤◌, None, Some, IsSome};
 ghost use Rattle.std.specs.Io.KnownBytes.{Appends};
 ghost use Rattle.bm_io.specs.Causes.{Rose};
-ghost use Rattle.bm_words.specs.Form.{Replay, asked, form_in, named};
+ghost use Rattle.bm_words.specs.Form.{asked, form_in, named};
 ghost use Rattle.bm_cli.specs.declared.fault.StageFault.TheVariants.{Files as files_failed};
-ghost use Rattle.bm_cli.specs.Dues.{Misused, due};
+ghost use Rattle.bm_cli.specs.Dues.{Misused, due, due_of_stage};
 ghost use Rattle.bm_cli.specs.Ends.{Ends, EndsWith};
 ghost use Rattle.bm_cli.specs.Inside.Telling.{Tells};
 ghost use Rattle.bm_cli.specs.Lines.{fault_line, usage_line};
@@ -15,23 +15,34 @@ ghost use Rattle.bm_cli.specs.Top.{IsAccepted, IsStatusOf, RefusesAnswer, ShowsA
 ghost use Rattle.bm_cli.specs.Top.{scripts_in};
 
 use crate::lines::refuse;
+use crate::mode::Mode;
 use crate::show::show;
 use crate::stage::read_stage;
 use crate::status::{Status, say};
-use bm_io::{Files, Sink};
+use bm_io::{Files, Gate, Sink};
 use bm_words::{Form, Names, read_words};
 use std::alloc::{AllocError, Global};
+use std::sync::Wait;
+use std::thread::Threads;
 
 const USAGE: &str = "usage: beamer replay CAPTURE [SCRIPT] | run CAPTURE SCRIPT | load N\n";
 
-/// Does all that the program does, and answers the status.
+/// Does all that the program does, and answers the status. The gate may hold the workers of a run;
+/// it doesn't change what is due.
 ///
 /// 0: the report was written. 1: the words are of no form. 2: the files failed. 3: the capture has
 /// a fault. 4: the script has a fault. 5: the sink failed. 6: memory was refused. 7: a limit is
 /// passed.
-pub fn beamer<F: Files, K: Sink>(alloc: Global, words: &[String], files: &mut F, out: &mut K) -> u8
-    // On status 0 what was written is the report of a replay of the named capture through the
-    // servers of the named script.
+pub fn beamer<R: Threads + Wait + Sync, F: Files, K: Sink, G: Gate>(
+    rt: &R,
+    alloc: Global,
+    words: &[String],
+    files: &mut F,
+    out: &mut K,
+    gate: &G,
+) -> u8
+    // On status 0 what was written is the report of a replay, or of a run in threads, of the named
+    // capture through the servers of the named script.
     ensures shown { result ≡ 0 → Holds (F.octets files.old) (λ reads.
         ShowsAnswer (due (form_in words.now) reads).answer
         (K.written out.old) (K.written out.new)) }
@@ -80,52 +91,72 @@ pub fn beamer<F: Files, K: Sink>(alloc: Global, words: &[String], files: &mut F,
     ensures script { result ≡ 4 →
         AsksAll (F.asked files.old) (F.asked files.new) (scripts_in (form_in words.now)) }
 {
-    answer(alloc, words, files, out).code()
+    answer(rt, alloc, words, files, out, gate).code()
 }
 
 /// Does what the words ask for.
-fn answer<F: Files, K: Sink>(alloc: Global, words: &[String], files: &mut F, out: &mut K) -> Status
+fn answer<R: Threads + Wait + Sync, F: Files, K: Sink, G: Gate>(
+    rt: &R,
+    alloc: Global,
+    words: &[String],
+    files: &mut F,
+    out: &mut K,
+    gate: &G,
+) -> Status
     ensures { Holds (F.octets files.old) (λ reads.
         Ends (due (form_in words.now) reads) (did F.asked F.faults files.old files.new)
         (did K.written K.faults out.old out.new) result) }
 {
     match read_words(alloc, words) {
-        Ok(Some(form)) => answer_form(alloc, form, files, out),
+        Ok(Some(form)) => answer_form(rt, alloc, form, files, out, gate),
         Ok(None) => misuse(out),
         Err(AllocError) => Status::Memory,
     }
 }
 
 /// Does what the form asks for.
-fn answer_form<F: Files, K: Sink>(
+fn answer_form<R: Threads + Wait + Sync, F: Files, K: Sink, G: Gate>(
+    rt: &R,
     alloc: Global,
     form: Form<'_>,
     files: &mut F,
     out: &mut K,
+    gate: &G,
 ) -> Status
     ensures { Holds (F.octets files.old) (λ reads.
         Ends (due (Some (asked form.entry)) reads) (did F.asked F.faults files.old files.new)
         (did K.written K.faults out.old out.new) result) }
 {
     match form {
-        Form::Replay(names) => replay_files(alloc, names, files, out),
+        Form::Replay(names) => play_files(rt, alloc, Mode::Replay, names, files, out, gate),
+        Form::Run { capture, script } => {
+            let names = Names {
+                capture,
+                script: Some(script),
+            };
+            play_files(rt, alloc, Mode::Run, names, files, out, gate)
+        }
     }
 }
 
-/// Replays the capture that the words name, through the servers of the script that they name.
-fn replay_files<F: Files, K: Sink>(
+/// Plays the capture that the words name, through the servers of the script that they name.
+fn play_files<R: Threads + Wait + Sync, F: Files, K: Sink, G: Gate>(
+    rt: &R,
     alloc: Global,
+    mode: Mode,
     names: Names<'_>,
     files: &mut F,
     out: &mut K,
+    gate: &G,
 ) -> Status
+    requires { mode ≡ Mode.Run → IsSome (named names).script }
     ensures { Holds (F.octets files.old) (λ reads.
-        Ends (due (Some (Replay (named names.entry))) reads)
+        Ends (due_of_stage mode (named names.entry) reads)
         (did F.asked F.faults files.old files.new)
         (did K.written K.faults out.old out.new) result) }
 {
-    match read_stage(alloc, files, names) {
-        Ok((stage, packets)) => show(alloc, stage, &packets, out),
+    match read_stage(alloc, files, mode, names) {
+        Ok((stage, packets)) => show(rt, alloc, mode, stage, &packets, out, gate),
         Err(fault) => refuse(alloc, &fault, out),
     }
 }

@@ -86,6 +86,48 @@ pub(crate) fn ethernet(alloc: Global) -> Result<Vec<u8>, AllocError> {
     Ok(octets)
 }
 
+/// A capture of the pcapng form: one interface of raw IP with these options, and these packets, whose
+/// times are their parts of a second.
+pub(crate) fn blocks(
+    alloc: Global,
+    options: &[u8],
+    packets: &[Packet],
+) -> Result<Vec<u8>, AllocError> {
+    let mut octets = Vec::new(alloc);
+    let section = b"\x4d\x3c\x2b\x1a\x01\x00\x00\x00\xff\xff\xff\xff\xff\xff\xff\xff";
+    block(&mut octets, 0x0a0d_0d0a, section)?;
+    let mut interface = Vec::from_slice(alloc, b"\x65\x00\x00\x00\x00\x00\x04\x00")?;
+    interface.extend_from_slice(options)?;
+    block(&mut octets, 1, &interface)?;
+    for packet in packets {
+        block(&mut octets, 6, &enhanced(alloc, packet)?)?;
+    }
+    Ok(octets)
+}
+
+/// A block of this type with this body.
+fn block(octets: &mut Vec<u8>, kind: u32, body: &[u8]) -> Result<(), AllocError> {
+    let length = u32::try_from(body.len()).unwrap_or(0).saturating_add(12);
+    put(octets, Form::Micro, kind)?;
+    put(octets, Form::Micro, length)?;
+    octets.extend_from_slice(body)?;
+    put(octets, Form::Micro, length)
+}
+
+/// The body of an enhanced packet of interface 0.
+fn enhanced(alloc: Global, packet: &Packet) -> Result<Vec<u8>, AllocError> {
+    let network = network(alloc, packet, 1, 0x4000)?;
+    let length = u32::try_from(network.len()).unwrap_or(0);
+    let padding: &[u8] = if length % 4 == 0 { b"" } else { b"\x00\x00" };
+    let mut body = Vec::new(alloc);
+    for number in [0, 0, packet.1, length, length] {
+        put(&mut body, Form::Micro, number)?;
+    }
+    body.extend_from_slice(&network)?;
+    body.extend_from_slice(padding)?;
+    Ok(body)
+}
+
 /// The header of a capture of this link type.
 fn header(alloc: Global, form: Form, link: u32) -> Result<Vec<u8>, AllocError> {
     let (magic, version): (u32, &[u8]) = match form {

@@ -3,7 +3,9 @@ use crate::capture::{Form, OPENED, ethernet, raw};
 use crate::program::check;
 use std::alloc::Global;
 use std::process::Abort;
+use std::sync::Wait;
 use std::test::Fail;
+use std::thread::Threads;
 
 #[test]
 fn ethernet_frames_are_read_or_not_steered(rt: HostRuntime) -> Result<(), Fail> {
@@ -40,7 +42,13 @@ fn headers_are_refused(rt: HostRuntime) -> Result<(), Fail> {
     Ok(())
 }
 
-fn refuse(rt: &impl Abort, alloc: Global, place: usize, octet: u8, text: &str) -> Result<(), Fail> {
+fn refuse(
+    rt: &(impl Abort + Threads + Wait + Sync),
+    alloc: Global,
+    place: usize,
+    octet: u8,
+    text: &str,
+) -> Result<(), Fail> {
     let mut capture = raw(alloc, Form::Micro, &[])?;
     if let Some(at) = capture.get_mut(place) {
         *at = octet;

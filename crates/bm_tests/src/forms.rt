@@ -3,10 +3,12 @@ use crate::capture::{Form, OPENED, raw};
 use crate::program::words;
 use bm_base::{List, Text};
 use bm_cli::beamer;
-use bm_io::{MemFile, MemFiles, MemSink};
+use bm_io::{MemFile, MemFiles, MemSink, OpenGate};
 use std::alloc::Global;
 use std::process::Abort;
+use std::sync::Wait;
 use std::test::Fail;
+use std::thread::Threads;
 
 #[test]
 fn words_of_no_form_get_the_usage_line(rt: HostRuntime) -> Result<(), Fail> {
@@ -18,13 +20,14 @@ fn words_of_no_form_get_the_usage_line(rt: HostRuntime) -> Result<(), Fail> {
         &["replay", ""],
         &["load", "0"],
         &["load", "007"],
-        &["run", "c", "s"],
+        &["run", "c"],
         &["replay", "c", "s", "t"],
     ];
     for row in rows {
         let mut files = MemFiles::new(alloc, Vec::new(alloc));
         let mut out = MemSink::new(alloc, Vec::new(alloc));
-        let status = beamer(alloc, &words(alloc, row)?, &mut files, &mut out);
+        let words = words(alloc, row)?;
+        let status = beamer(&rt, alloc, &words, &mut files, &mut out, &OpenGate);
         assert_eq!(rt; status, 1);
         assert_eq!(rt;
             out.written(),
@@ -58,7 +61,7 @@ fn a_source_or_a_sink_that_fails_is_told_apart(rt: HostRuntime) -> Result<(), Fa
     Ok(())
 }
 
-fn fail(rt: &impl Abort, alloc: Global, row: Row) -> Result<(), Fail> {
+fn fail(rt: &(impl Abort + Threads + Wait + Sync), alloc: Global, row: Row) -> Result<(), Fail> {
     let (name, reads, writes, status, text) = row;
     let file = MemFile {
         name: Text::of(String::from_str(alloc, name)?),
@@ -69,7 +72,8 @@ fn fail(rt: &impl Abort, alloc: Global, row: Row) -> Result<(), Fail> {
     let mut files = MemFiles::new(alloc, vec![in alloc; file]?);
     let mut out = MemSink::new(alloc, Vec::from_slice(alloc, writes)?);
     let words = words(alloc, &["replay", "c"])?;
-    assert_eq!(rt; beamer(alloc, &words, &mut files, &mut out), status);
+    let ended = beamer(rt, alloc, &words, &mut files, &mut out, &OpenGate);
+    assert_eq!(rt; ended, status);
     assert_eq!(rt; out.written(), text.as_bytes());
     Ok(())
 }

@@ -3,11 +3,15 @@
 #![tactic(auto)]
 
 #[cfg(test)]
+mod blocks;
+#[cfg(test)]
 mod capture;
 #[cfg(test)]
 mod captures;
 #[cfg(test)]
 mod forms;
+#[cfg(test)]
+mod gates;
 #[cfg(test)]
 mod limits;
 #[cfg(test)]

@@ -2,10 +2,12 @@
 use crate::capture::{Form, Packet, raw};
 use bm_base::{List, Text};
 use bm_cli::beamer;
-use bm_io::{SureFile, SureFiles, SureSink};
+use bm_io::{OpenGate, SureFile, SureFiles, SureSink};
 use std::alloc::{AllocError, Global};
 use std::process::Abort;
+use std::sync::Wait;
 use std::test::Fail;
+use std::thread::Threads;
 
 /// A capture and perhaps a script, and what the program ends with and writes.
 pub(crate) struct Row {
@@ -34,7 +36,7 @@ pub(crate) fn file(alloc: Global, name: &str, octets: &[u8]) -> Result<SureFile,
 }
 
 /// The file of a capture, and perhaps that of a script.
-fn files(
+pub(crate) fn files(
     alloc: Global,
     capture: &[u8],
     script: Option<&[u8]>,
@@ -49,7 +51,7 @@ fn files(
 /// Tests what the program ends with and writes where its words are `replay c`, or `replay c s`
 /// where there is a script.
 pub(crate) fn check(
-    rt: &impl Abort,
+    rt: &(impl Abort + Threads + Wait + Sync),
     alloc: Global,
     (capture, script): (&[u8], Option<&[u8]>),
     name: &str,
@@ -62,13 +64,17 @@ pub(crate) fn check(
     let words = words(alloc, form)?;
     let mut files = SureFiles::new(alloc, files(alloc, capture, script)?);
     let mut out = SureSink::new(alloc);
-    let ended = beamer(alloc, &words, &mut files, &mut out);
+    let ended = beamer(rt, alloc, &words, &mut files, &mut out, &OpenGate);
     assert_eq!(rt; out.written(), text.as_bytes(), "{}", name);
     assert_eq!(rt; ended, status, "{}", name);
     Ok(())
 }
 
-pub(crate) fn check_row(rt: &impl Abort, alloc: Global, row: &Row) -> Result<(), Fail> {
+pub(crate) fn check_row(
+    rt: &(impl Abort + Threads + Wait + Sync),
+    alloc: Global,
+    row: &Row,
+) -> Result<(), Fail> {
     let capture = raw(alloc, row.form, row.packets)?;
     let script = row.script.map(|script| script.as_bytes());
     check(
@@ -80,7 +86,11 @@ pub(crate) fn check_row(rt: &impl Abort, alloc: Global, row: &Row) -> Result<(),
     )
 }
 
-pub(crate) fn check_rows(rt: &impl Abort, alloc: Global, rows: &[Row]) -> Result<(), Fail> {
+pub(crate) fn check_rows(
+    rt: &(impl Abort + Threads + Wait + Sync),
+    alloc: Global,
+    rows: &[Row],
+) -> Result<(), Fail> {
     for row in rows {
         check_row(rt, alloc, row)?;
     }

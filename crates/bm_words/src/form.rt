@@ -1,17 +1,41 @@
-//! Whether the words are of a form.
-ghost use Rattle.std.specs.Prelude.{◌≡◌, map, string_bytes, is_some};
-ghost use Rattle.bm_words.specs.Form.{is_name, replay_of};
+//! The command that the words begin with, where they are of a form.
+ghost use Rattle.std.specs.Prelude.{◌≡◌, IfSome, None, map, string_bytes};
+ghost use Rattle.bm_words.specs.Form.{IsVerbIn, form_of, is_name, verb_of};
 
-/// Whether the words ask for a replay.
-pub(crate) fn is_replay(words: &[String]) -> bool
-    ensures { result ≡ is_some (replay_of (map string_bytes words.now)) }
+/// A command.
+#[derive(Clone, Copy, Debug, PartialEq, Eq)]
+pub(crate) enum Verb {
+    /// `replay CAPTURE [SCRIPT]`
+    Replay,
+    /// `run CAPTURE SCRIPT`
+    Run,
+}
+
+/// The command of the words, where they are of a form.
+pub(crate) fn verb_in(words: &[String]) -> Option<Verb>
+    ensures none { result ≡ None → form_of (map string_bytes words.now) ≡ None }
+    ensures some { IfSome result (IsVerbIn (map string_bytes words.now)) }
 {
     match words {
-        [word, capture] => word.as_str() == "replay" && is_name(capture.as_str()),
-        [word, capture, script] => {
-            word.as_str() == "replay" && is_name(capture.as_str()) && is_name(script.as_str())
+        [word, capture] if is_name(capture.as_str()) => match command_named(word.as_str()) {
+            Some(Verb::Replay) => Some(Verb::Replay),
+            _ => None,
+        },
+        [word, capture, script] if is_name(capture.as_str()) && is_name(script.as_str()) => {
+            command_named(word.as_str())
         }
-        _ => false,
+        _ => None,
+    }
+}
+
+/// The command that the word is.
+fn command_named(word: &str) -> Option<Verb>
+    ensures { result ≡ verb_of word.now }
+{
+    match word {
+        "replay" => Some(Verb::Replay),
+        "run" => Some(Verb::Run),
+        _ => None,
     }
 }
 

@@ -1,15 +1,45 @@
 -- What was read of a capture.
-use Rattle.std.specs.Prelude.{ℕ, List, Option, Some, None}
+use Rattle.std.specs.Prelude.{◌≡◌, ◌≢◌, ◌≤◌, ℕ, List, Option, Some, None, Result, Ok, Err, IsErrOf}
 use Rattle.bm_base.specs.declared.capture.Vip.{Vip}
-use Rattle.bm_pcap.specs.Capture.{Captured, capture}
-use Rattle.bm_pcap.specs.Reader.{Captures}
+use Rattle.bm_io.specs.Causes.{Rose}
+use Rattle.bm_pcap.specs.Capture.{Captured as ClassicCaptured, capture as classic_capture}
+use Rattle.bm_pcap.specs.Reader.{Captures as ClassicCaptures}
+use Rattle.bm_pcapng.specs.Capture.{Captured as PcapngCaptured, capture as pcapng_capture}
+use Rattle.bm_pcapng.specs.Reader.{Captures as PcapngCaptures}
+use Rattle.bm_cli.specs.Captures.{Captured, capture}
+use Rattle.bm_cli.specs.declared.fault.CaptureFault.{CaptureFault}
+use Rattle.bm_cli.specs.declared.fault.CaptureFault.TheVariants.{ReadFault, Memory}
+
+-- What was answered is the capture that is due. Of a failed read and of want of memory nothing is
+-- said.
+abbrev pub Captures : Captured → Captured → Type 0
+Captures wanted (Ok answer) = Ok answer ≡ wanted
+Captures wanted (Err ReadFault) = Unit {0}
+Captures wanted (Err Memory) = Unit {0}
+Captures wanted (Err e) = Err e ≡ wanted
 
 -- what was read of a source, where it tells its octets
 abbrev pub ReadsSource : Option (List ℕ) → List Vip → Captured → Type 0
 ReadsSource None vips result = Unit {0}
 ReadsSource (Some octets) vips result = Captures (capture vips octets) result
 
+-- the same, of a capture of the classic form
+abbrev pub ReadsClassic : Option (List ℕ) → List Vip → ClassicCaptured → Type 0
+ReadsClassic None vips result = Unit {0}
+ReadsClassic (Some octets) vips result = ClassicCaptures (classic_capture vips octets) result
+
+-- the same, of a capture of the pcapng form
+abbrev pub ReadsPcapng : Option (List ℕ) → List Vip → PcapngCaptured → Type 0
+ReadsPcapng None vips result = Unit {0}
+ReadsPcapng (Some octets) vips result = PcapngCaptures (pcapng_capture vips octets) result
+
 -- what was read of a file, where the files tell their octets
 abbrev pub ReadsFile : Option (List ℕ → List ℕ) → List ℕ → List Vip → Captured → Type 0
 ReadsFile None name vips result = Unit {0}
 ReadsFile (Some octets) name vips result = Captures (capture vips (octets name)) result
+
+-- The count rises where `ReadFault` is answered, and stays elsewhere.
+pub record HasReadCause {T : Type 0} (before now : ℕ) (result : Result T CaptureFault) : Type 0 where
+  pub later : before ≤ now
+  pub failed : IsErrOf result ReadFault → Rose before now
+  pub kept : result ≢ Err ReadFault → now ≡ before

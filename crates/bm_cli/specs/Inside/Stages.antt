@@ -1,13 +1,14 @@
 -- What was read of a stage.
 use Rattle.std.specs.Prelude.{Ok, Err}
 use Rattle.bm_words.specs.Form.{Named}
+use Rattle.bm_cli.specs.declared.mode.Mode.{Mode}
 use Rattle.bm_cli.specs.declared.status.Status.{Status}
 use Rattle.bm_cli.specs.declared.status.Status.TheVariants.{Done}
 use Rattle.bm_cli.specs.Dues.{names_behind}
 use Rattle.bm_cli.specs.Ends.{AsksFor}
 use Rattle.bm_cli.specs.Inside.Scripts.{IsRead}
 use Rattle.bm_cli.specs.Lines.{fault_status}
-use Rattle.bm_cli.specs.Reading.{Reading, Reads, reading, script_for}
+use Rattle.bm_cli.specs.Reading.{Reading, Reads, reading, script_by}
 use Rattle.bm_cli.specs.Statuses.{FilesDid}
 
 -- the status of what was read
@@ -16,7 +17,7 @@ status_by (Ok stage) = Done
 status_by (Err fault) = fault_status fault
 
 -- the stage that is due was read, or its fault, and the files were asked for its names
-pub record ReadsStage (names : Named) (reads : Reads) (files : FilesDid) (result : Reading)
-    : Type 0 where
-  pub read : IsRead (reading names reads) result
-  pub asks : AsksFor (names_behind names (script_for reads names.script)) (status_by result) files
+pub record ReadsStage (mode : Mode) (names : Named) (reads : Reads) (files : FilesDid)
+    (result : Reading) : Type 0 where
+  pub read : IsRead (reading mode names reads) result
+  pub asks : AsksFor (names_behind names (script_by mode reads names.script)) (status_by result) files

@@ -1,7 +1,7 @@
 use Rattle.std.proofs.Common.{Ok, Err, subst}
 use Rattle.bm_base.specs.Captures.{IsReplayable}
 use Rattle.bm_words.specs.Form.{named}
-use Rattle.bm_cli.proofs.Stages.{captured_stage, script_refused, stage_through}
+use Rattle.bm_cli.proofs.Stages.{captured_stage, script_refused, seats_refused, stage_through}
 use Rattle.bm_cli.proofs.Sound.{stage_sound}
 use Rattle.bm_cli.specs.declared.fault.StageFault.TheVariants.{Capture as OfCapture}
 use Rattle.bm_cli.proofs.stage.read_stage.Goals as goal
@@ -14,17 +14,18 @@ returns-clause-sound g c =
 pub returns-in_err-script-clause-stage : goal.returns-in_err-script-clause-stage
 returns-in_err-script-clause-stage g c =
     let script = c.in_err-script in
-    stage_through (named c.args.names) _ _ c.from_residual.result script.field-0.0 c.from_residual.ensures.1
-    (script_refused (named c.args.names) _ _ script.field-0.0 script.ensures.script script.ensures.asked
+    stage_through c.args.mode (named c.args.names) _ _ c.from_residual.result script.field-0.0 c.from_residual.ensures.1
+    (script_refused c.args.mode (named c.args.names) _ _ script.field-0.0 c.requires.script script.ensures.script script.ensures.asked
     script.ensures.all script.ensures.cause)
 
 pub returns-in_err-capture-clause-stage : goal.returns-in_err-capture-clause-stage
 returns-in_err-capture-clause-stage g c =
     let script = c.in_ok-script in
     let capture = c.in_err-capture in
-    stage_through (named c.args.names) _ _ c.from_residual-in_err-capture.result (OfCapture capture.field-0.0)
+    stage_through c.args.mode (named c.args.names) _ _ c.from_residual-in_err-capture.result (OfCapture capture.field-0.0)
     c.from_residual-in_err-capture.ensures.1
-    (captured_stage (named c.args.names) _ _ _ _ script.script _ (Err capture.field-0.0) _ script.ensures.octets
+    (captured_stage c.args.mode (named c.args.names) _ _ _ _ script.script _ (Err capture.field-0.0) _
+    c.requires.script c.in_ok-check_seats.ensures script.ensures.octets
     c.items.ensures script.ensures.script capture.ensures.capture script.ensures.all capture.ensures.asked
     capture.ensures.all script.ensures.later capture.ensures.cause)
 
@@ -32,6 +33,16 @@ pub returns-clause-stage : goal.returns-clause-stage
 returns-clause-stage g c =
     let script = c.in_ok-script in
     let capture = c.in_ok-capture in
-    captured_stage (named c.args.names) _ _ _ _ script.script _ (Ok (capture.capture, capture.packets)) _
+    captured_stage c.args.mode (named c.args.names) _ _ _ _ script.script _ (Ok (capture.capture, capture.packets)) _
+    c.requires.script c.in_ok-check_seats.ensures
     script.ensures.octets c.items.ensures script.ensures.script capture.ensures.capture script.ensures.all
     capture.ensures.asked capture.ensures.all script.ensures.later capture.ensures.cause
+
+pub returns-in_err-check_seats-clause-stage : goal.returns-in_err-check_seats-clause-stage
+returns-in_err-check_seats-clause-stage g c =
+    let script = c.in_ok-script in
+    let seats = c.in_err-check_seats in
+    stage_through c.args.mode (named c.args.names) _ _ c.from_residual-in_err-check_seats.result seats.field-0.0
+    c.from_residual-in_err-check_seats.ensures.1
+    (seats_refused c.args.mode (named c.args.names) _ _ script.script seats.field-0.0 c.requires.script
+    script.ensures.script seats.ensures script.ensures.all script.ensures.asked)

@@ -1,11 +1,15 @@
-use Rattle.std.proofs.Common.{◌≡◌, ◌∙◌, ℕ, List, ap, sym, subst}
+use Rattle.std.proofs.Common.{◌≡◌, ◌∙◌, ℕ, List, ap, rules, sym, subst}
+use Rattle.std.proofs.lemmas.Result.{IfOk-weaker}
 use Rattle.bm_base.specs.declared.label.Hop.{Hop}
 use Rattle.bm_base.specs.declared.fate.Fate.{Fate}
 use Rattle.bm_core.specs.Rules.{fate_in, setting_fate}
 use Rattle.bm_core.specs.Weights.{IsSoon}
 use Rattle.bm_core.proofs.Existing.{fate_of_soon}
+use Rattle.bm_replay.specs.Replays.{setting_route, setting_rule}
+use Rattle.bm_replay.proofs.WiderRules.{replay_more}
 use Rattle.bm_table.specs.declared.setting.FaultRow.{FaultRow}
-use Rattle.bm_cli.proofs.rules.with_rules.Goals as goal
+use Rattle.bm_cli.proofs.Wider.{threaded_more}
+use Rattle.bm_cli.proofs.history.history_of.Goals as goal
 
 pub new-faults-requires : goal.new-faults-requires
 new-faults-requires g c =
@@ -21,3 +25,17 @@ new-faults-requires g c =
       copies = λ packet hop fate h. (soon packet hop fate h.1).0;
       delay = λ packet hop fate h. (soon packet hop fate h.1).1;
     }
+
+pub returns-in-Replay-clause-made : goal.returns-in-Replay-clause-made
+returns-in-Replay-clause-made g c =
+    let setting = c.args.stage.script.setting in
+    rw c.in-Replay.is (IfOk-weaker c.replay.result _ _
+    (λ h made. replay_more _ (setting_route setting) _ (setting_rule setting) (λ k f m is. search rules)
+    (λ k hop f is. search rules) h made) c.replay.ensures.replay)
+
+pub returns-clause-made : goal.returns-clause-made
+returns-clause-made g c =
+    let setting = c.args.stage.script.setting in
+    rw c.in-Run.is (IfOk-weaker c.run_threads.result _ _
+    (λ h made. threaded_more _ (setting_route setting) _ (setting_rule setting) (λ k f m is. search rules)
+    (λ k hop f is. search rules) h made) c.run_threads.ensures.run)

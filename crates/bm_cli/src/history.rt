@@ -1,0 +1,55 @@
+//! The history of a stage.
+ghost use Rattle.std.specs.Prelude.{◌≡◌, ◌<◌, IfOk};
+ghost use Rattle.bm_core.specs.Rules.{fate_in, mux_of_kind};
+ghost use Rattle.bm_core.specs.Stages.{IsSound};
+ghost use Rattle.bm_link.specs.Fits.{ArePackets};
+ghost use Rattle.bm_cli.specs.Headline.{IsMadeBy};
+
+use crate::mode::Mode;
+use bm_base::{Fate, Flow, Hop, Memory, Octets};
+use bm_core::{History, Stage};
+use bm_fault::{FaultRows, Faults};
+use bm_io::Gate;
+use bm_replay::replay;
+use bm_route::{Route, setting_mux};
+use bm_world::run_threads;
+use std::alloc::Global;
+use std::sync::Wait;
+use std::thread::Threads;
+
+/// The history of the stage, played by the route and the fault rule of its setting. `packets` has
+/// the packet of each record.
+pub(crate) fn history_of<R: Threads + Wait + Sync, G: Gate>(
+    rt: &R,
+    alloc: Global,
+    mode: Mode,
+    stage: Stage,
+    packets: &Octets,
+    gate: &G,
+) -> Result<History, Memory>
+    requires sound { IsSound stage }
+    requires packets { ArePackets stage.capture.records packets.now }
+    ensures about { IfOk result (λ h. h.stage ≡ stage) }
+    ensures made { IfOk result (IsMadeBy mode stage) }
+{
+    let setting = &stage.script.setting;
+    let (kind, muxes) = (setting.route, setting.muxes);
+    let rows = FaultRows::new(alloc, setting.faults.items())?;
+    let route = Route::new(
+        |packet: u32, flow: &Flow| -> u16
+            requires { 0 < muxes }
+            ensures mux { result ≡ mux_of_kind kind muxes packet flow.now }
+            ensures below { result < muxes }
+        { setting_mux(kind, muxes, packet, flow) },
+        muxes,
+    );
+    let faults = Faults::new(
+        |packet: u32, hop: Hop| -> Fate
+            ensures { result ≡ fate_in rows packet hop }
+        { rows.fate(packet, hop) },
+    );
+    match mode {
+        Mode::Replay => replay(alloc, stage, packets, &route, &faults),
+        Mode::Run => run_threads(rt, alloc, stage, packets, &route, &faults, gate),
+    }
+}
