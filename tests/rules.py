@@ -1,0 +1,319 @@
+"""The rules of docs/DEFINITIONS.md, docs/FORMATS.md and docs/CAUSES.md that the tests share, each once and said plainly: hashes,
+records, fleets with their plans, receivers, verdicts, causes and retirements. Nothing here knows which event comes when.
+"""
+import struct
+
+SYN, FIN, RST, ACK = 2, 1, 4, 16
+M32, WINDOW = 2**32, 65535
+
+
+# FLOWS
+
+
+def hash_of(flow):
+    """FNV-1a of a flow: source and destination address, source and destination port, and 6."""
+    number = 0xCBF29CE484222325
+    for octet in struct.pack("!IIHHB", *flow, 6):
+        number = (number ^ octet) * 0x100000001B3 % 2**64
+    return number
+
+
+def dotted(address):
+    return ".".join(str(address >> shift & 255) for shift in (24, 16, 8, 0))
+
+
+def endpoints(flow):
+    return f"{dotted(flow[0])}:{flow[2]}", f"{dotted(flow[1])}:{flow[3]}"
+
+
+def endpoint(text):
+    """The address and the port."""
+    address, _, port = text.rpartition(":")
+    return int.from_bytes(bytes(map(int, address.split("."))), "big"), int(port)
+
+
+def flow_between(client, service):
+    """The flow of two endpoints, as a script and a report name it."""
+    (source, sport), (destination, dport) = endpoint(client), endpoint(service)
+    return source, destination, sport, dport
+
+
+# RECORDS
+
+
+class Packet:
+    """A record: its moment, and its segment, or the reason why it isn't steered."""
+
+    def __init__(self, moment, flow, seq, ack, length, flags, reason=None):
+        self.moment, self.flow, self.seq, self.ack, self.flags = moment, flow, seq, ack, flags
+        self.data, self.reason = length, reason
+        self.len = length + (flags >> 1 & 1) + (flags & 1)
+
+    @property
+    def steerable(self):
+        return self.reason is None
+
+    def opening(self):
+        return self.flags & SYN and not self.flags & (ACK | RST | FIN)
+
+    def octets(self):
+        """A packet of IPv4 with this segment; its checksums are wrong."""
+        tcp = struct.pack("!HHIIBBHHH", self.flow[2], self.flow[3], self.seq, self.ack, 0x50, self.flags, WINDOW, 0, 0)
+        header = struct.pack("!BBHHHBBHII", 0x45, 0, 40 + self.data, 0, 0x4000, 64, 6, 0, self.flow[0], self.flow[1])
+        return header + tcp + b"a" * self.data
+
+
+def reason_of_frame(frame, services):
+    """Why a frame, as tshark read it, isn't steered to the services, or None."""
+    if "ip" not in frame["protos"].split(":") or not frame["src"]:
+        return "not-ipv4"
+    if frame["frag"] not in ("", "0"):
+        return "fragment"
+    if frame["proto"] != "6":
+        return "not-tcp"
+    if f"{frame['dst']}:{frame['dport']}" not in services:
+        return "other-destination"
+    return None
+
+
+def flow_of_frame(frame):
+    return flow_between(f"{frame['src']}:{frame['sport']}", f"{frame['dst']}:{frame['dport']}")
+
+
+# THE FLEET
+
+MOST_CHANGES, MOST_MOVES = 4096, 1_000_000
+DEFAULTS = {
+    "buckets": 8,
+    "servers": [1, 2],
+    "muxes": 1,
+    "shards": 4,
+    "capacity": 4096,
+    "timeout_s": 240,
+    "vips": ["192.0.2.1:80"],
+    "route": "port",
+}
+
+
+class Fleet:
+    """A setting, and the plan and commands that its script makes. A command is ("change", at, version), ("close", at, server,
+    flow), ("retire", at, server) or ("sync", at); a change its moment, the words that made it, and the new server of each bucket
+    that moves."""
+
+    def __init__(self, setting):
+        says = DEFAULTS | setting
+        self.buckets, self.servers, self.muxes = says["buckets"], says["servers"], says["muxes"]
+        self.shards, self.capacity, self.timeout_s = says["shards"], says["capacity"], says["timeout_s"]
+        self.vips, self.route = says["vips"], says["route"]
+        self.lags = says.get("lags_ns", [0] * self.muxes)
+        self.faults, self.commands, self.changes = [], [], []
+        self.active, self.known = list(self.servers), set(self.servers)
+
+    def timeout(self):
+        return self.timeout_s * 10**9
+
+    def bucket(self, flow):
+        return hash_of(flow) % self.buckets
+
+    def shard(self, flow):
+        return hash_of(flow) // 2**32 % self.shards
+
+    def mux(self, number, flow):
+        return (flow[2] if self.route == "port" else number) % self.muxes
+
+    def fate(self, packet, hop):
+        """How many copies a sending has, and how late."""
+        return next((row[2:] for row in self.faults if row[:2] == (packet, hop)), (1, 0))
+
+    # TABLES
+
+    def server(self, version, bucket):
+        moves = next((moves for _, _, moves in reversed(self.changes[:version]) if bucket in moves), None)
+        return moves[bucket] if moves else self.servers[bucket % len(self.servers)]
+
+    def entry(self, version, bucket):
+        """The server of a bucket at a version, the one before it, and the stamp."""
+        for number in range(version, 0, -1):
+            moment, _, moves = self.changes[number - 1]
+            if bucket in moves:
+                return moves[bucket], self.server(number - 1, bucket), moment
+        return self.servers[bucket % len(self.servers)], None, 0
+
+    def moves_between(self, bucket, low, high):
+        return sum(bucket in moves for _, _, moves in self.changes[low:high])
+
+    def retirement(self, published, server, at):
+        """The answer to the wish to retire the server at this moment, by so many published changes."""
+        changes = self.changes[:published]
+        if not any(words == ("drain", server) for _, words, _ in changes):
+            return "not-drained"
+        late = [
+            bucket
+            for number, (moment, _, moves) in enumerate(changes)
+            for bucket in moves
+            if self.server(number, bucket) == server and moment + self.timeout() >= at
+        ]
+        return f"too-early {min(late)}" if late else "done"
+
+    # THE CONTROLLER
+
+    def rebalance(self, active):
+        """The moves that bring each active server to its quota: highest buckets are given, the first servers are filled first."""
+        owners = [self.server(len(self.changes), b) for b in range(self.buckets)]
+        quotas = {s: self.buckets // len(active) + (i < self.buckets % len(active)) for i, s in enumerate(active)}
+        owned = {}
+        for bucket, server in enumerate(owners):
+            owned.setdefault(server, []).append(bucket)
+        given = [bucket for server, own in owned.items() for bucket in own[quotas.get(server, 0) :]]
+        takers = [s for s in active for _ in range(quotas[s] - min(quotas[s], len(owned.get(s, []))))]
+        return dict(zip(sorted(given), takers))
+
+    def change(self, at, words, moves):
+        """Puts a change into the plan, or answers the limit that it passes."""
+        if len(self.changes) == MOST_CHANGES:
+            return "limit changes"
+        if sum(len(of) for _, _, of in self.changes) + len(moves) > MOST_MOVES:
+            return "limit moves"
+        self.changes.append((at, words, moves))
+        self.commands.append(("change", at, len(self.changes)))
+        return None
+
+    def command(self, at, words):
+        """Carries a command out in the plan, or answers why it is refused."""
+        do = words[0]
+        if do in ("add", "drain"):
+            server = words[1]
+            if do == "add" and server in self.known:
+                return "known server"
+            if do == "drain" and server not in self.known:
+                return "unknown server"
+            if do == "drain" and server not in self.active:
+                return "not active"
+            if do == "drain" and len(self.active) == 1:
+                return "last server"
+            active = sorted(self.active + [server]) if do == "add" else [s for s in self.active if s != server]
+            moves = self.rebalance(active)
+            self.active = active
+            self.known.add(server)
+            return self.change(at, words, moves)
+        elif do == "move":
+            bucket, server = words[1:]
+            if bucket >= self.buckets:
+                return "bad bucket"
+            if server not in self.known:
+                return "unknown server"
+            if server not in self.active:
+                return "not active"
+            if self.server(len(self.changes), bucket) == server:
+                return "same server"
+            return self.change(at, words, {bucket: server})
+        elif do == "sync":
+            self.commands.append(("sync", at))
+        else:
+            if words[1] not in self.known:
+                return "unknown server"
+            self.commands.append((do, at) + tuple(words[1:]))
+        return None
+
+
+def words_of(command):
+    """The words of a command table of a script: what it does, and to what."""
+    if command["do"] == "close":
+        return "close", command["server"], flow_between(command["from"], command["to"])
+    return command["do"], *(command[key] for key in ("bucket", "server") if key in command)
+
+
+# RECEIVERS
+
+
+def ahead(a, b):
+    return (a - b) % M32
+
+
+def acceptable(receiver, packet):
+    if packet.len == 0:
+        return ahead(packet.seq, receiver["next"]) < WINDOW
+    return ahead(packet.seq, receiver["next"]) < WINDOW or ahead(packet.seq + packet.len - 1, receiver["next"]) < WINDOW
+
+
+def taken(receiver, packet):
+    if packet.opening():
+        return "duplicate" if packet.seq == receiver["start"] else "challenge"
+    if packet.flags & RST:
+        if ahead(packet.seq, receiver["next"]) >= WINDOW:
+            return "outside"
+        return "ended" if packet.seq == receiver["next"] else "challenge"
+    if packet.flags & SYN:
+        return "challenge"
+    if not acceptable(receiver, packet):
+        return "duplicate" if ahead(receiver["next"], packet.seq + packet.len) < 2**31 else "outside"
+    if ahead(receiver["next"], packet.seq) < packet.len or (packet.len == 0 and packet.seq == receiver["next"]):
+        return "advance"
+    return "ahead"
+
+
+def opened(packet):
+    """The receiver of a connection that the packet opens."""
+    return {"start": packet.seq, "next": (packet.seq + packet.len) % M32, "finished": False}
+
+
+def after(receiver, verdict, packet):
+    """The receiver of a held connection after it processed the packet, or None where that ended it."""
+    if verdict == "process ended":
+        return None
+    if verdict != "process advance":
+        return receiver
+    return receiver | {
+        "next": (packet.seq + packet.len) % M32,
+        "finished": receiver["finished"] or bool(packet.flags & FIN),
+    }
+
+
+# VERDICTS AND CAUSES
+
+
+def verdict_of(retired, receiver, full, timeout, clock, hop, entry, packet):
+    """The first row of the table of verdicts that applies, by whether the shard is retired, the receiver of the flow that it holds,
+    or None, and whether it is full."""
+    _, previous, stamp = entry
+    if retired:
+        return "drop retired"
+    if receiver:
+        if receiver["finished"] and hop == "direct" and packet.opening() and packet.seq != receiver["start"]:
+            return "accept"
+        return "process " + taken(receiver, packet)
+    if hop == "direct" and packet.opening():
+        return "drop full" if full else "accept"
+    if hop == "direct" and previous is not None and clock <= stamp + timeout:
+        return f"forward {previous}"
+    if packet.flags & RST:
+        return "drop silent"
+    return "reset " + ("chained-unknown" if hop == "chained" else "no-previous" if previous is None else "chain-expired")
+
+
+def needs_cause(verdict, server, owner, packet):
+    """The arrival is a drop, a reset or a stray, where the owner has this server, or there is none."""
+    stray = verdict.startswith("process") and server != owner and not packet.opening()
+    return stray or verdict.startswith(("drop", "reset"))
+
+
+def cause_of_opening(verdict):
+    return {"drop full": "full", "drop retired": "old-table"}[verdict]
+
+
+def first_broken(fleet, packet, version, server, clock, owner, holds, elsewhere):
+    """The first broken premise of a packet that opens no connection and arrives at a server, or None. It was steered with this
+    version; the owner is a server and the version of the packet that it accepted, or None; it holds that Accept still, or not;
+    and another server holds the flow, or not."""
+    bucket = fleet.bucket(packet.flow)
+    if owner is None:
+        return "never-accepted"
+    if not holds:
+        return "not-held"
+    if version < owner[1]:
+        return "stale-mux"
+    if fleet.moves_between(bucket, owner[1], version) >= 2:
+        return "moved-twice"
+    if server != owner[0] and clock > fleet.entry(version, bucket)[2] + fleet.timeout():
+        return "chain-late"
+    return "syn-elsewhere" if elsewhere else None

@@ -1,0 +1,123 @@
+"""Small random stages, kept captures as tshark read them, and how a stage is written to files."""
+import csv, struct
+from rules import ACK, FIN, M32, RST, SYN, Fleet, Packet, endpoints, flow_of_frame, reason_of_frame
+
+CLIENT, SERVICE, OTHER = 0x0A000001, (0xC0000201, 80), (0xC0000209, 80)
+ETHERNET, RAW_IP = 1, 101
+
+
+def packet_to_service(moment, flow, *shape):
+    """A record with a segment; its reason is that of the flow."""
+    return Packet(moment, flow, *shape, None if (flow[1], flow[3]) == SERVICE else "other-destination")
+
+
+def some_flow(rng):
+    to = SERVICE if rng.random() < 0.95 else OTHER
+    return (CLIENT, to[0], rng.choice([1000, 1000, 1000, 1001, 1002]), to[1])
+
+
+def some_packets(rng):
+    moment, packets = 0, []
+    for number in range(rng.randint(0, 14)):
+        kind = 0 if number == 0 else rng.random()
+        seq = rng.choice([100, 101, 101, 111, 121, 95, 105, 70000, M32 - 3])
+        if kind < 0.25:
+            shape = (rng.choice([100, 100, 100, 200]), 0, 0, SYN)
+        elif kind < 0.75:
+            shape = (seq, 501, rng.choice([0, 10, 10]), ACK | rng.choice([0, 8]))
+        elif kind < 0.88:
+            shape = (seq, 501, rng.choice([0, 10]), FIN | ACK)
+        else:
+            shape = (seq, 0, 0, RST | rng.choice([0, 0, ACK, SYN]))
+        packets.append(packet_to_service(moment, some_flow(rng), *shape))
+        moment += rng.choice([0, 1, 2, 500, 1000, 1000, rng.randint(0, 3000), rng.randint(0, 2 * 10**9)])
+    return packets
+
+
+def some_setting(rng):
+    setting = {
+        "buckets": rng.choice([1, 1, 2, 3, 9]),
+        "servers": sorted(rng.sample(range(1, 7), rng.randint(1, 4))),
+        "muxes": rng.randint(1, 3),
+        "shards": rng.randint(1, 3),
+        "capacity": rng.randint(1, 3),
+        "timeout_s": rng.choice([1, 1, 2, 60]),
+        "route": rng.choice(["port", "turn"]),
+    }
+    lags = [rng.choice([0, 1, rng.randint(0, 3000), rng.randint(0, 3 * 10**9)]) for _ in range(setting["muxes"])]
+    return setting | {"lags_ns": lags}
+
+
+def fault_rows(row):
+    return ["[[fault]]", f"packet = {row[0]}", f'hop = "{row[1]}"', f"copies = {row[2]}", f"delay_ns = {row[3]}"]
+
+
+def command_rows(at, words):
+    rows = ["[[command]]", f"at_ns = {at}", f'do = "{words[0]}"']
+    if words[0] == "move":
+        rows.append(f"bucket = {words[1]}")
+    if words[0] != "sync":
+        rows.append(f"server = {words[2] if words[0] == 'move' else words[1]}")
+    if words[0] == "close":
+        rows += ['from = "%s"' % endpoints(words[2])[0], 'to = "%s"' % endpoints(words[2])[1]]
+    return rows
+
+
+def some_fleet(rng):
+    """A fleet, the text of its script, and the line of its fault, or None."""
+    setting = some_setting(rng)
+    fleet, refused = Fleet(setting), None
+    rows = [f"{key} = {value!r}".replace("'", '"') for key, value in setting.items()]
+    for _ in range(rng.randint(0, 4)):
+        row = (rng.randint(1, 14), rng.choice(["direct", "chained"]), rng.randint(0, 3), rng.choice([0, 0, 1, 500, rng.randint(0, 4 * 10**9)]))
+        fleet.faults.append(row)
+        rows += fault_rows(row)
+    at, wrong = 0, rng.random() < 0.05
+    for _ in range(rng.randint(0, 10)):
+        at += rng.choice([0, 1, 500, 1000, rng.randint(0, 3000), rng.randint(0, 2 * 10**9)])
+        server = rng.randint(1, 6)
+        words = rng.choice([("add", server), ("drain", server), ("move", rng.randint(0, 2), server), ("move", 0, server), ("move", 0, server), ("close", server, some_flow(rng)), ("retire", server), ("retire", server), ("sync",)])
+        before = len(fleet.commands)
+        refusal = fleet.command(at, words)
+        if refusal and not wrong:
+            continue
+        rows += command_rows(at, words)
+        if refusal:
+            refused = f"beamer: script command {before + 1}: {refusal}\n"
+            break
+    return fleet, "\n".join(rows) + "\n", refused
+
+
+def packet_of_frame(frame, moment, vips):
+    """The record of a frame, as tshark read it."""
+    reason = reason_of_frame(frame, vips)
+    if reason:
+        return Packet(moment, None, 0, 0, 0, 0, reason)
+    numbers = int(frame["seq"]), int(frame["ack"]), int(frame["tcplen"]), int(frame["flags"], 16)
+    return Packet(moment, flow_of_frame(frame), *numbers)
+
+
+def packets_of_facts(path, vips):
+    """The records of a kept capture."""
+    packets, moment = [], 0
+    with open(path, newline="") as facts:
+        for frame in csv.DictReader(facts, delimiter="\t"):
+            moment = max(moment, int(frame["t_ns"]))
+            packets.append(packet_of_frame(frame, moment, vips))
+    return packets
+
+
+def capture(packets, link=RAW_IP, unit=1, front=b""):
+    """A capture of the packets, each behind the octets of a link layer, in units of so many nanoseconds."""
+    magic = {1: 0xA1B23C4D, 1000: 0xA1B2C3D4}[unit]
+    octets = struct.pack("<IHHiIII", magic, 2, 4, 0, 0, 262144, link)
+    for packet in packets:
+        body = front + packet.octets()
+        octets += struct.pack("<IIII", packet.moment // 10**9, packet.moment % 10**9 // unit, len(body), len(body)) + body
+    return octets
+
+
+def write(path, content):
+    with open(path, "wb") as file:
+        file.write(content if isinstance(content, bytes) else content.encode())
+    return path
