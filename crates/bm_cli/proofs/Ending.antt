@@ -2,13 +2,13 @@
 use Rattle.std.proofs.Common.{◌≡◌, ◌≢◌, inl, inr, ℕ, List, [], Option, Some, None, Ok, Err}
 use Rattle.std.proofs.Common.{sym, subst, ◌∙◌, refl}
 use Rattle.bm_core.specs.declared.events.Stage.{Stage}
-use Rattle.bm_words.specs.Form.{Asked, Named}
+use Rattle.bm_words.specs.Form.{Asked, Load, Named}
 use Rattle.bm_cli.specs.declared.fault.CaptureFault.TheVariants.{Memory as NoMemory}
 use Rattle.bm_cli.specs.declared.fault.StageFault.{StageFault}
 use Rattle.bm_cli.specs.declared.fault.StageFault.TheVariants.{Memory as WantsMemory}
 use Rattle.bm_cli.specs.declared.status.Status.{Status}
 use Rattle.bm_cli.specs.declared.status.Status.TheVariants.{ReadFault, Memory}
-use Rattle.bm_cli.specs.Dues.{Answer, Due, Misused, Refused, answer_for, due, due_of_stage, names_behind}
+use Rattle.bm_cli.specs.Dues.{Answer, Due, Misused, Refused, Shown, answer_for, due, due_of_stage, names_behind}
 use Rattle.bm_cli.specs.declared.mode.Mode.{Mode}
 use Rattle.bm_cli.specs.Headline.{IsReportOf}
 use Rattle.bm_cli.specs.Dues.{status_of}
@@ -16,6 +16,7 @@ use Rattle.bm_cli.specs.Ends.{AsksFor, Ends, IsOf, IsSaid}
 use Rattle.bm_cli.specs.Inside.Scripts.{IsOutside, IsRead}
 use Rattle.bm_cli.specs.Inside.Stages.{ReadsStage, status_by}
 use Rattle.bm_cli.specs.Inside.Telling.{Tells}
+use Rattle.bm_cli.specs.Loads.{IsSummaryOf}
 use Rattle.bm_cli.specs.Reading.{Holds, Octets, Reading, Reads, reading, reads_of, script_by}
 use Rattle.bm_cli.specs.Statuses.{FilesDid, SinkDid}
 use Rattle.bm_cli.proofs.Faults.{memory_line, read_line}
@@ -153,6 +154,14 @@ usage_ends words told asked fails sink result none tells =
     words_end None words told (untouched asked fails) sink result none
     (holds_any told (λ reads. Ends (due None reads) (untouched asked fails) sink result)
     (λ reads. ends_unread Misused asked fails sink result (λ e. cc) tells))
+
+-- the line of a load was answered
+pub load_ends : (n : ℕ) (told : Octets) (asked : Option (List (List ℕ))) (fails : ℕ) (sink : SinkDid)
+    (result : Status) → Tells (Shown (IsSummaryOf n)) sink result →
+    Holds told (λ reads. Ends (due (Some (Load n)) reads) (untouched asked fails) sink result)
+load_ends n told asked fails sink result tells =
+    holds_any told (λ reads. Ends (due (Some (Load n)) reads) (untouched asked fails) sink result)
+    (λ reads. ends_unread (Shown (IsSummaryOf n)) asked fails sink result (λ e. cc) tells)
 
 pub memory_ends : (words : Option Asked) (told : Octets) (asked : Option (List (List ℕ))) (fails : ℕ)
     (before : Option (List ℕ)) (faults : ℕ) →

@@ -1,9 +1,9 @@
 -- The clauses of `beamer`, by how the call ended.
-use Rattle.std.proofs.Common.{◌≡◌, ◌≢◌, ◌⊎◌, inl, inr, ℕ, List, [], ◌∷◌, Option, Some, None, Result, Ok, Err}
+use Rattle.std.proofs.Common.{◌≡◌, ◌≢◌, ◌⊎◌, inl, inr, ℕ, List, [], Option, Some, None, Result, Ok, Err}
 use Rattle.std.proofs.Common.{IsSome, sym, ap, subst, ◌∙◌, refl, ◌≤◌}
 use Rattle.std.specs.Io.KnownBytes.{Appends}
 use Rattle.bm_io.specs.Causes.{Rose}
-use Rattle.bm_words.specs.Form.{Asked, Named, Replay, Run}
+use Rattle.bm_words.specs.Form.{Asked, Load, Named, Replay, Run}
 use Rattle.bm_table.specs.declared.script.Script.{Script}
 use Rattle.bm_core.specs.declared.events.Stage.{Stage}
 use Rattle.bm_cli.specs.Captures.{Captured}
@@ -115,6 +115,7 @@ usage_form None reads e = refl
 usage_form (Some (Replay names)) reads e = absurd (stage_usage (IsReportOf by_replay) (reading by_replay names reads) e)
 usage_form (Some (Run capture script)) reads e =
     absurd (stage_usage (IsReportOf by_run) (reading by_run (record { capture = capture; script = Some script }) reads) e)
+usage_form (Some (Load n)) reads e = absurd (cc)
 
 -- no file is named by the words of no form
 named_form : (form : Option Asked) (reads : Reads) → (due form reads).names ≢ [] → IsSome form
@@ -142,6 +143,7 @@ script_due (Some (Replay names)) reads e =
 script_due (Some (Run capture script)) reads e =
     stage_names (IsReportOf by_run) (record { capture = capture; script = Some script }) reads
     (script_by by_run reads (Some script)) e
+script_due (Some (Load n)) reads e = absurd (cc)
 
 -- BY THE EXIT STATUS
 

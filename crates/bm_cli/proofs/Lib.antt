@@ -1,6 +1,7 @@
 pub mod Ending
 pub mod Faults
 pub mod Laws
+pub mod Loads
 pub mod Names
 pub mod Readings
 pub mod Scripts

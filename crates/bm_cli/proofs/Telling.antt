@@ -1,11 +1,18 @@
 -- An answer that was written.
-use Rattle.std.proofs.Common.{inl, inr, ℕ, List, [], Option, refl, arith}
+use Rattle.std.proofs.Common.{inl, inr, ◌≡◌, ℕ, List, [], Option, refl, arith}
+use Rattle.bm_core.specs.declared.events.History.{History}
+use Rattle.bm_core.specs.declared.events.Stage.{Stage}
+use Rattle.bm_core.proofs.Lawful.{cause_law, safety_law}
+use Rattle.bm_trace.specs.Report.{text}
+use Rattle.bm_cli.specs.declared.mode.Mode.{Mode}
 use Rattle.bm_cli.specs.declared.status.Status.{Status}
-use Rattle.bm_cli.specs.declared.status.Status.TheVariants.{Memory}
-use Rattle.bm_cli.specs.Dues.{Answer, status_of, text_of}
+use Rattle.bm_cli.specs.declared.status.Status.TheVariants.{Done, Memory}
+use Rattle.bm_cli.specs.Dues.{Answer, Shown, status_of, text_of}
+use Rattle.bm_cli.specs.Headline.{IsMadeBy, IsReportOf}
 use Rattle.bm_cli.specs.Inside.Telling.{Tells}
 use Rattle.bm_cli.specs.Statuses.{Did, Writes, SinkDid}
 use Rattle.bm_cli.proofs.Statuses.{appends_nothing}
+use Rattle.bm_cli.proofs.Wider.{is_run}
 
 -- a sink, or files, that nothing was done to
 abbrev pub untouched : {A : Type 0} → Option A → ℕ → Did A
@@ -18,6 +25,38 @@ tells_due answer text sink result is writes = record {
   text = text;
   is = inl (refl, is);
   writes = writes;
+}
+
+-- the report of a history that was made for the stage
+report_of : (mode : Mode) (stage : Stage) (h : History) → h.stage ≡ stage → IsMadeBy mode stage h
+    → IsReportOf mode stage (text h)
+report_of mode stage h about made =
+    let run = is_run mode stage h made in
+    record {
+      history = h;
+      about = about;
+      printed = refl;
+      made = made;
+      served = λ place unbroken. safety_law h place run unbroken;
+      named = λ place fault. cause_law h place run fault;
+    }
+
+pub tells_report : (mode : Mode) (stage : Stage) (h : History) (sink : SinkDid) (result : Status) →
+    h.stage ≡ stage → IsMadeBy mode stage h → Writes Done (text h) sink result →
+    Tells (Shown (IsReportOf mode stage)) sink result
+tells_report mode stage h sink result about made writes =
+    tells_due (Shown (IsReportOf mode stage)) (text h) sink result (report_of mode stage h about made) writes
+
+-- memory was refused before the text was written
+pub writes_none : (text : List ℕ) (before : Option (List ℕ)) (faults : ℕ) →
+    Writes Done text (untouched before faults) Memory
+writes_none text before faults = record {
+  count = omega arith;
+  ends = inr (inr refl);
+  whole = λ e. absurd (cc);
+  part = λ e. (0, appends_nothing before);
+  cause = λ e. absurd (cc);
+  kept = λ n. refl;
 }
 
 pub writes_nothing : (before : Option (List ℕ)) (faults : ℕ) → Writes Memory [] (untouched before faults) Memory

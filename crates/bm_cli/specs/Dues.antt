@@ -2,7 +2,7 @@
 use Rattle.std.specs.Prelude.{◌≡◌, [], ℕ, List, Option, Some, None, Result, Ok, Err}
 use Rattle.bm_table.specs.declared.script.Script.{Script}
 use Rattle.bm_core.specs.declared.events.Stage.{Stage}
-use Rattle.bm_words.specs.Form.{Asked, Named, Replay, Run}
+use Rattle.bm_words.specs.Form.{Asked, Load, Named, Replay, Run}
 use Rattle.bm_cli.specs.declared.fault.StageFault.{StageFault}
 use Rattle.bm_cli.specs.declared.mode.Mode.{Mode}
 use Rattle.bm_cli.specs.declared.mode.Mode.TheVariants.{Replay as by_replay, Run as by_run}
@@ -10,6 +10,7 @@ use Rattle.bm_cli.specs.declared.status.Status.{Status}
 use Rattle.bm_cli.specs.declared.status.Status.TheVariants.{Done, Usage}
 use Rattle.bm_cli.specs.Headline.{IsReportOf}
 use Rattle.bm_cli.specs.Lines.{fault_line, fault_status, usage_line}
+use Rattle.bm_cli.specs.Loads.{IsSummaryOf}
 use Rattle.bm_cli.specs.Names.{names_in, script_names}
 use Rattle.bm_cli.specs.Reading.{Reading, Reads, reading, script_by}
 
@@ -61,3 +62,4 @@ due None reads = record { names = []; answer = Misused }
 due (Some (Replay names)) reads = due_of_stage by_replay names reads
 due (Some (Run capture script)) reads =
     due_of_stage by_run (record { capture = capture; script = Some script }) reads
+due (Some (Load n)) reads = record { names = []; answer = Shown (IsSummaryOf n) }

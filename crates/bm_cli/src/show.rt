@@ -1,19 +1,21 @@
 //! The history of a stage, shown.
-ghost use Rattle.std.specs.Prelude.{◌≡◌, IfOk};
+ghost use Rattle.std.specs.Prelude.{◌≡◌};
+ghost use Rattle.bm_core.specs.Runs.{IsRun};
 ghost use Rattle.bm_core.specs.Stages.{IsSound};
 ghost use Rattle.bm_link.specs.Fits.{ArePackets};
+ghost use Rattle.bm_trace.specs.Report as report;
 ghost use Rattle.bm_cli.specs.Dues.{Shown};
 ghost use Rattle.bm_cli.specs.Headline.{IsReportOf};
 ghost use Rattle.bm_cli.specs.Inside.Telling.{Tells};
-ghost use Rattle.bm_cli.specs.Statuses.{did};
+ghost use Rattle.bm_cli.specs.Statuses.{Writes, did};
 
 use crate::history::history_of;
 use crate::mode::Mode;
-use crate::status::{Status, say};
+use crate::status::Status;
 use bm_base::{Memory, Octets};
-use bm_core::Stage;
-use bm_io::{Gate, Sink};
-use bm_trace::report;
+use bm_core::{History, Stage};
+use bm_io::{Gate, IoFault, Sink};
+use bm_trace::{report_to, sweep};
 use std::alloc::Global;
 use std::sync::Wait;
 use std::thread::Threads;
@@ -32,27 +34,24 @@ pub(crate) fn show<R: Threads + Wait + Sync, K: Sink, G: Gate>(
     requires packets { ArePackets stage.capture.records packets.now }
     ensures { Tells (Shown (IsReportOf mode stage)) (did K.written K.faults out.old out.new) result }
 {
-    match report_of(rt, alloc, mode, stage, packets, gate) {
-        Ok(text) => say(out, &text, Status::Done),
+    match history_of(rt, alloc, mode, stage, packets, gate) {
+        Ok(history) => show_history(alloc, &history, out),
         Err(Memory) => Status::Memory,
     }
 }
 
-/// The report of the stage's history. `packets` has the packet of each record.
-fn report_of<R: Threads + Wait + Sync, G: Gate>(
-    rt: &R,
-    alloc: Global,
-    mode: Mode,
-    stage: Stage,
-    packets: &Octets,
-    gate: &G,
-) -> Result<Vec<u8>, Memory>
-    requires sound { IsSound stage }
-    requires packets { ArePackets stage.capture.records packets.now }
-    ensures { IfOk result (λ text. IsReportOf mode stage text.items) }
+/// Writes the report of the history, in pieces.
+fn show_history<K: Sink>(alloc: Global, history: &History, out: &mut K) -> Status
+    requires { IsRun history.now }
+    ensures { Writes Status.Done (report.text history.now)
+        (did K.written K.faults out.old out.new) result }
 {
-    let history = history_of(rt, alloc, mode, stage, packets, gate)?;
-    let mut text = Vec::new(alloc);
-    report(&history, &mut text)?;
-    Ok(text)
+    let Ok(causes) = sweep(alloc, history) else {
+        return Status::Memory;
+    };
+    match report_to(history, &causes, out) {
+        Ok(()) => Status::Done,
+        Err(IoFault::Failed) => Status::WriteFault,
+        Err(IoFault::Memory) => Status::Memory,
+    }
 }

@@ -1,5 +1,5 @@
 //! The stage: the script and the capture that the words name.
-ghost use Rattle.std.specs.Prelude.{◌≡◌, IfOk, IsSome};
+ghost use Rattle.std.specs.Prelude.{◌≡◌, ◌<◌, IfOk, IsSome};
 ghost use Rattle.std.specs.Result.{result_map_both};
 ghost use Rattle.bm_core.specs.Stages.{IsSound};
 ghost use Rattle.bm_link.specs.Fits.{ArePackets};
@@ -29,11 +29,13 @@ pub(crate) fn read_stage<F: Files>(
     names: Names<'_>,
 ) -> Result<(Stage, Octets), StageFault>
     requires script { mode ≡ Mode.Run → IsSome (named names).script }
+    requires room { F.open_now files.old < 4294967295 }
     ensures stage { Holds (F.octets files.old) (λ reads.
         ReadsStage mode (named names.entry) reads (did F.asked F.faults files.old files.new)
         (result_map_both (λ read. read.0) (λ fault. fault) result)) }
     ensures sound { IfOk result (λ read. IsSound read.0) }
     ensures packets { IfOk result (λ read. ArePackets read.0.capture.records read.1) }
+    ensures open { F.open_now files.new ≡ F.open_now files.old }
 {
     let script = read_script_file(alloc, files, names.script)?;
     check_seats(mode, &script)?;

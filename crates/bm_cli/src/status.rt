@@ -7,7 +7,7 @@ use bm_io::{IoFault, Sink, put_all};
 /// How the program ends.
 #[derive(Clone, Copy, Debug, PartialEq, Eq)]
 pub(crate) enum Status {
-    /// The report was written.
+    /// The report, or the line of a load, was written.
     Done,
     /// The words are of no form.
     Usage,

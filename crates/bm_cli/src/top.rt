@@ -1,8 +1,8 @@
 //! The top call.
-ghost use Rattle.std.specs.Prelude.{◌≡◌, ◌≢◌, ◌⊎◌, ◌≤◌, None, Some, IsSome};
+ghost use Rattle.std.specs.Prelude.{◌≡◌, ◌≢◌, ◌⊎◌, ◌<◌, ◌≤◌, None, Some, IsSome};
 ghost use Rattle.std.specs.Io.KnownBytes.{Appends};
 ghost use Rattle.bm_io.specs.Causes.{Rose};
-ghost use Rattle.bm_words.specs.Form.{asked, form_in, named};
+ghost use Rattle.bm_words.specs.Form.{HasCount, asked, form_in, named};
 ghost use Rattle.bm_cli.specs.declared.fault.StageFault.TheVariants.{Files as files_failed};
 ghost use Rattle.bm_cli.specs.Dues.{Misused, due, due_of_stage};
 ghost use Rattle.bm_cli.specs.Ends.{Ends, EndsWith};
@@ -15,6 +15,7 @@ ghost use Rattle.bm_cli.specs.Top.{IsAccepted, IsStatusOf, RefusesAnswer, ShowsA
 ghost use Rattle.bm_cli.specs.Top.{scripts_in};
 
 use crate::lines::refuse;
+use crate::load::run_load;
 use crate::mode::Mode;
 use crate::show::show;
 use crate::stage::read_stage;
@@ -30,9 +31,9 @@ const USAGE: &str = "usage: beamer replay CAPTURE [SCRIPT] | run CAPTURE SCRIPT 
 /// Does all that the program does, and answers the status. The gate may hold the workers of a run;
 /// it doesn't change what is due.
 ///
-/// 0: the report was written. 1: the words are of no form. 2: the files failed. 3: the capture has
-/// a fault. 4: the script has a fault. 5: the sink failed. 6: memory was refused. 7: a limit is
-/// passed.
+/// 0: the report, or the line of a load, was written. 1: the words are of no form. 2: the files
+/// failed. 3: the capture has a fault. 4: the script has a fault. 5: the sink failed. 6: memory was
+/// refused. 7: a limit is passed.
 pub fn beamer<R: Threads + Wait + Sync, F: Files, K: Sink, G: Gate>(
     rt: &R,
     alloc: Global,
@@ -41,8 +42,10 @@ pub fn beamer<R: Threads + Wait + Sync, F: Files, K: Sink, G: Gate>(
     out: &mut K,
     gate: &G,
 ) -> u8
+    requires room { F.open_now files.old ≤ 1000 }
     // On status 0 what was written is the report of a replay, or of a run in threads, of the named
-    // capture through the servers of the named script.
+    // capture through the servers of the named script, or the line of a run in threads of the load
+    // of so many connections.
     ensures shown { result ≡ 0 → Holds (F.octets files.old) (λ reads.
         ShowsAnswer (due (form_in words.now) reads).answer
         (K.written out.old) (K.written out.new)) }
@@ -55,8 +58,8 @@ pub fn beamer<R: Threads + Wait + Sync, F: Files, K: Sink, G: Gate>(
     // refused.
     ensures status { Holds (F.octets files.old) (λ reads.
         IsStatusOf (due (form_in words.now) reads).answer result) }
-    // An accepted capture's report is written, but where the files or the sink failed, or memory
-    // was refused.
+    // An accepted capture's report is written, and so is the line of a load, but where the files or
+    // the sink failed, or memory was refused.
     ensures complete { IsAccepted (form_in words.now) (F.octets files.old) →
         (result ≡ 0) ⊎ (result ≡ 6) ⊎ Rose (F.faults files.old) (F.faults files.new)
         ⊎ Rose (K.faults out.old) (K.faults out.new) }
@@ -90,6 +93,8 @@ pub fn beamer<R: Threads + Wait + Sync, F: Files, K: Sink, G: Gate>(
     // Behind a fault of the script they were asked for its name alone, whatever they tell.
     ensures script { result ≡ 4 →
         AsksAll (F.asked files.old) (F.asked files.new) (scripts_in (form_in words.now)) }
+    // No source stays open, and none is closed that was open before.
+    ensures open { F.open_now files.new ≡ F.open_now files.old }
 {
     answer(rt, alloc, words, files, out, gate).code()
 }
@@ -103,9 +108,11 @@ fn answer<R: Threads + Wait + Sync, F: Files, K: Sink, G: Gate>(
     out: &mut K,
     gate: &G,
 ) -> Status
-    ensures { Holds (F.octets files.old) (λ reads.
+    requires room { F.open_now files.old < 4294967295 }
+    ensures ends { Holds (F.octets files.old) (λ reads.
         Ends (due (form_in words.now) reads) (did F.asked F.faults files.old files.new)
         (did K.written K.faults out.old out.new) result) }
+    ensures open { F.open_now files.new ≡ F.open_now files.old }
 {
     match read_words(alloc, words) {
         Ok(Some(form)) => answer_form(rt, alloc, form, files, out, gate),
@@ -123,9 +130,12 @@ fn answer_form<R: Threads + Wait + Sync, F: Files, K: Sink, G: Gate>(
     out: &mut K,
     gate: &G,
 ) -> Status
-    ensures { Holds (F.octets files.old) (λ reads.
+    requires range { HasCount (asked form) }
+    requires room { F.open_now files.old < 4294967295 }
+    ensures ends { Holds (F.octets files.old) (λ reads.
         Ends (due (Some (asked form.entry)) reads) (did F.asked F.faults files.old files.new)
         (did K.written K.faults out.old out.new) result) }
+    ensures open { F.open_now files.new ≡ F.open_now files.old }
 {
     match form {
         Form::Replay(names) => play_files(rt, alloc, Mode::Replay, names, files, out, gate),
@@ -136,6 +146,7 @@ fn answer_form<R: Threads + Wait + Sync, F: Files, K: Sink, G: Gate>(
             };
             play_files(rt, alloc, Mode::Run, names, files, out, gate)
         }
+        Form::Load { connections } => run_load(rt, alloc, connections, out, gate),
     }
 }
 
@@ -149,11 +160,13 @@ fn play_files<R: Threads + Wait + Sync, F: Files, K: Sink, G: Gate>(
     out: &mut K,
     gate: &G,
 ) -> Status
-    requires { mode ≡ Mode.Run → IsSome (named names).script }
-    ensures { Holds (F.octets files.old) (λ reads.
+    requires script { mode ≡ Mode.Run → IsSome (named names).script }
+    requires room { F.open_now files.old < 4294967295 }
+    ensures ends { Holds (F.octets files.old) (λ reads.
         Ends (due_of_stage mode (named names.entry) reads)
         (did F.asked F.faults files.old files.new)
         (did K.written K.faults out.old out.new) result) }
+    ensures open { F.open_now files.new ≡ F.open_now files.old }
 {
     match read_stage(alloc, files, mode, names) {
         Ok((stage, packets)) => show(rt, alloc, mode, stage, &packets, out, gate),

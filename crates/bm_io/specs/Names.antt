@@ -1,5 +1,5 @@
 -- What files tell of their names.
-use Rattle.std.specs.Prelude.{◌≡◌, ℕ, List, [], ◌∷◌, ◌++◌, Result, Ok, Err}
+use Rattle.std.specs.Prelude.{◌≡◌, ℕ, suc, List, [], ◌∷◌, ◌++◌, Result, Ok, Err}
 use Rattle.std.specs.declared.option.Option.{Option}
 use Rattle.std.specs.declared.option.Option.TheVariants.{Some, None}
 use Rattle.bm_io.specs.declared.fault.IoFault.{IoFault}
@@ -21,3 +21,8 @@ abbrev pub Asks : {T : Type 0} → Option (List (List ℕ)) → Option (List (Li
 Asks old new name (Ok x) = AddsName old new name
 Asks old new name (Err Failed) = AddsName old new name
 Asks old new name (Err Memory) = new ≡ old
+
+-- how many sources are open behind a call that was to open one more
+abbrev pub open_after : {T E : Type 0} → Result T E → ℕ → ℕ
+open_after (Ok x) before = suc before
+open_after (Err e) before = before

@@ -14,6 +14,7 @@ pub struct MemFiles {
     files: Vec<MemFile>,
     asked: Vec<Text>,
     faults: u64,
+    open_now: u32,
 }
 
 impl MemFiles {
@@ -22,6 +23,7 @@ impl MemFiles {
         ensures octets { ⟦<MemFiles as Files>⟧.octets result ≡ Some (octets_of files.items) }
         ensures asked { ⟦<MemFiles as Files>⟧.asked result ≡ Some [] }
         ensures faults { ⟦<MemFiles as Files>⟧.faults result ≡ 0 }
+        ensures open { ⟦<MemFiles as Files>⟧.open_now result ≡ 0 }
         ensures files { result.files ≡ files }
     {
         MemFiles {
@@ -29,7 +31,15 @@ impl MemFiles {
             files,
             asked: Vec::new(alloc),
             faults: 0,
+            open_now: 0,
         }
+    }
+
+    /// How many sources are open now.
+    pub fn open_now(&self) -> u32
+        ensures { result ≡ ⟦<MemFiles as Files>⟧.open_now self.now }
+    {
+        self.open_now
     }
 }
 
@@ -59,11 +69,11 @@ fn open_found(alloc: Global, found: Option<&MemFile>) -> Result<MemSource, Alloc
 }
 
 impl Files for MemFiles {
-    ghost use Rattle.std.specs.Prelude.{◌≤◌, nat_lt};
+    ghost use Rattle.std.specs.Prelude.{◌≤◌, ◌<◌, ◌+◌, nat_lt};
     ghost use Rattle.bm_io.specs.Calls.{faults_after, has_failed};
     ghost use Rattle.bm_io.specs.Causes.{HasIoCause};
     ghost use Rattle.bm_io.specs.MemNames.{Opens, file_of};
-    ghost use Rattle.bm_io.specs.Names.{HasOctetsOf, Asks};
+    ghost use Rattle.bm_io.specs.Names.{HasOctetsOf, Asks, open_after};
 
     type Src = MemSource;
 
@@ -73,7 +83,10 @@ impl Files for MemFiles {
 
     ghost faults = { λ m. m.faults };
 
+    ghost open_now = { λ m. m.open_now };
+
     fn open(&mut self, name: &str) -> Result<MemSource, IoFault>
+        requires room { self.old.open_now < 4294967295 }
         ensures left { IfOk result
             (λ src. HasOctetsOf (Some (octets_of self.old.files.items)) name.now
             (⟦<MemSource as Source>⟧.left src)) }
@@ -81,6 +94,7 @@ impl Files for MemFiles {
         ensures asked { Asks (Some self.old.asked.items) (Some self.new.asked.items) name.now
             result }
         ensures cause { HasIoCause self.old.faults self.new.faults result }
+        ensures open { self.new.open_now ≡ open_after result self.old.open_now }
         ensures opens { Opens (file_of self.old.files.items name.now) result }
         ensures faults { self.new.faults ≡ faults_after (has_failed result) self.old.faults }
         ensures same { self.new.files ≡ self.old.files }
@@ -94,17 +108,21 @@ impl Files for MemFiles {
             self.faults = self.faults.saturating_add(1);
             return Err(IoFault::Failed);
         }
+        self.open_now += 1;
         Ok(source)
     }
 
     fn close(&mut self, src: MemSource)
+        requires open { 1 ≤ self.old.open_now }
         ensures asked { Some self.new.asked.items ≡ Some self.old.asked.items }
         ensures later { self.old.faults ≤ self.new.faults }
         ensures faults { self.new.faults ≡ faults_after (nat_lt 0 src.faults) self.old.faults }
+        ensures closed { self.new.open_now + 1 ≡ self.old.open_now }
         ensures files { self.new.files ≡ self.old.files }
     {
         if src.faults() > 0 {
             self.faults = self.faults.saturating_add(1);
         }
+        self.open_now -= 1;
     }
 }

@@ -15,6 +15,7 @@ pub struct SureFiles {
     alloc: Global,
     files: Vec<SureFile>,
     asked: Vec<Text>,
+    open_now: u32,
 }
 
 impl SureFiles {
@@ -23,12 +24,14 @@ impl SureFiles {
         ensures octets { ⟦<SureFiles as Files>⟧.octets result ≡ Some (octets_of files.items) }
         ensures asked { ⟦<SureFiles as Files>⟧.asked result ≡ Some [] }
         ensures faults { ⟦<SureFiles as Files>⟧.faults result ≡ 0 }
+        ensures open { ⟦<SureFiles as Files>⟧.open_now result ≡ 0 }
         ensures files { result.files ≡ files }
     {
         SureFiles {
             alloc,
             files,
             asked: Vec::new(alloc),
+            open_now: 0,
         }
     }
 }
@@ -58,7 +61,8 @@ fn open_found(alloc: Global, found: Option<&SureFile>) -> Result<SureSource, All
 
 impl Files for SureFiles {
     ghost use Rattle.bm_io.specs.Causes.{HasIoCause};
-    ghost use Rattle.bm_io.specs.Names.{HasOctetsOf, Asks};
+    ghost use Rattle.std.specs.Prelude.{◌<◌, ◌+◌};
+    ghost use Rattle.bm_io.specs.Names.{HasOctetsOf, Asks, open_after};
     ghost use Rattle.bm_io.specs.SureNames.{file_of};
 
     type Src = SureSource;
@@ -69,26 +73,34 @@ impl Files for SureFiles {
 
     ghost faults = { λ _. 0 };
 
+    ghost open_now = { λ m. m.open_now };
+
     fn open(&mut self, name: &str) -> Result<SureSource, IoFault>
+        requires room { self.old.open_now < 4294967295 }
         ensures left { IfOk result
             (λ src. HasOctetsOf (Some (octets_of self.old.files.items)) name.now
             (⟦<SureSource as Source>⟧.left src)) }
         ensures asked { Asks (Some self.old.asked.items) (Some self.new.asked.items) name.now
             result }
         ensures cause { HasIoCause 0 0 result }
+        ensures open { self.new.open_now ≡ open_after result self.old.open_now }
         ensures source { IfOk result (IsSourceOf (file_of self.old.files.items name.now)) }
         ensures same { self.new.files ≡ self.old.files }
     {
         let source = open_found(self.alloc, find(&self.files, name))?;
         let asked = Text::of(String::from_str(self.alloc, name)?);
         self.asked.push(asked)?;
+        self.open_now += 1;
         Ok(source)
     }
 
     fn close(&mut self, src: SureSource)
+        requires open { 1 ≤ self.old.open_now }
         ensures asked { Some self.new.asked.items ≡ Some self.old.asked.items }
+        ensures closed { self.new.open_now + 1 ≡ self.old.open_now }
         ensures files { self.new.files ≡ self.old.files }
     {
+        self.open_now -= 1;
         drop(src);
     }
 }

@@ -15,7 +15,7 @@ second = record { seq = 1101; ack = 501; flags = 0x18; payload = 100 }
 abbrev pub last : Round
 last = record { seq = 1201; ack = 501; flags = 0x11; payload = 0 }
 
-pick : (P : Round → Type 0) (b : Bool) (x y : Round) → P x → P y → P (cond b x y)
+pub pick : (P : Round → Type 0) (b : Bool) (x y : Round) → P x → P y → P (cond b x y)
 pick P true x y p q = p
 pick P false x y p q = q
 

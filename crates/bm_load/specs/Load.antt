@@ -1,5 +1,6 @@
 -- The generated load of n connections (docs/FORMATS.md): each sends four segments, the first of all
--- connections before the second of any, a microsecond apart, and in the midst a server is added.
+-- connections before the second of any, a microsecond apart, and a server is added at the moment of
+-- the third round's first packet.
 use Rattle.std.specs.Prelude.{ℕ, ◌+◌, ◌*◌, ◌/◌, ◌%◌, ◌==◌, if◌then◌else◌, List, [], ◌∷◌, ◌++◌, map}
 use Rattle.std.specs.Prelude.{replicate, None}
 use Rattle.std.specs.Int.{to_be_bytes, w16, w32}
@@ -43,7 +44,7 @@ load_setting = record {
 abbrev pub opened : Planned
 opened = record { buckets = 64; servers = load_servers; changes = [] }
 
--- server 5 is added before the third round
+-- server 5 is added at the moment of the third round's first packet
 unfoldable pub load_plan : ℕ → Planned
 load_plan n = with_change opened (addition opened (record { 0 = n * 2000 }) (record { 0 = 5 }))
 

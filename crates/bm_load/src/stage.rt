@@ -39,7 +39,7 @@ fn load_setting(alloc: Global) -> Result<Setting, Memory>
     })
 }
 
-/// Server 5 is added before the third round.
+/// Server 5 is added at the moment of the third round's first packet.
 #[tactic(auto, unfolding(crate::specs::Load::load_plan))]
 fn load_plan(alloc: Global, n: u32) -> Result<Plan, Memory>
     requires { (1 ≤ n) × (n ≤ 20000) }
@@ -61,8 +61,8 @@ fn want(_refusal: Refusal) -> Memory
 }
 
 /// The load of n connections, and the packet of each of its records. Each connection opens, sends
-/// 100 octets twice, and ends, by one mux; before the third round a server is added. `Memory` where
-/// memory was refused.
+/// 100 octets twice, and ends, by one mux; at the moment of the third round's first packet a server
+/// is added. `Memory` where memory was refused.
 pub fn load_stage(alloc: Global, n: u32) -> Result<(Stage, Octets), Memory>
     requires { (1 ≤ n) × (n ≤ 20000) }
     ensures stage { IfOk result (λ made. made.0 ≡ load.load_of n) }

@@ -1,6 +1,7 @@
 use super::*;
 use bm_base::{Body, Flow, Moment, Record, Segment, ServerId, Version};
 use bm_table::{Kind, Plan};
+use bm_trace::Totals;
 use std::process::Abort;
 use std::test::Fail;
 
@@ -50,6 +51,7 @@ fn record(row: &Row) -> Record {
 }
 
 fn check_records(rt: &impl Abort, records: &[Record], rows: &[Row]) {
+    assert!(rt; records.len() >= rows.len());
     for (seen, row) in records.iter().zip(rows) {
         assert_eq!(rt; *seen, record(row));
     }
@@ -72,6 +74,28 @@ fn check_plan(rt: &impl Abort, plan: &Plan, moment: u64) {
             assert_eq!(rt; (m.bucket, m.to.0), (bucket, 5));
         }
     }
+}
+
+#[test]
+fn a_load_has_a_line(rt: HostRuntime) -> Result<(), Fail> {
+    let totals = Totals {
+        packets: 8,
+        steered: 8,
+        unsteered: 0,
+        accepted: 2,
+        processed: 5,
+        forwarded: 3,
+        reset: 1,
+        dropped: 4,
+        lost: 7,
+        stray: 0,
+    };
+    let line = summary(rt.alloc(), 2, &totals)?;
+    assert_eq!(rt;
+        line.as_str(),
+        "load 2 packets 8 accepted 2 processed 5 reset 1 dropped 4 lost 7\n"
+    );
+    Ok(())
 }
 
 #[test]

@@ -1,5 +1,5 @@
-//! Tests of `bm_script` and `bm_cli`, in a crate of their own: a run of tests proves its crate
-//! again.
+//! Tests of `bm_script`, `bm_server` and `bm_cli`, in a crate of their own: a run of tests proves its
+//! crate again.
 #![tactic(auto)]
 
 #[cfg(test)]
@@ -9,14 +9,26 @@ mod capture;
 #[cfg(test)]
 mod captures;
 #[cfg(test)]
+mod devices;
+#[cfg(test)]
+mod forged;
+#[cfg(test)]
 mod forms;
 #[cfg(test)]
 mod gates;
 #[cfg(test)]
 mod limits;
 #[cfg(test)]
+mod loads;
+#[cfg(test)]
+mod prefixes;
+#[cfg(test)]
 mod program;
+#[cfg(test)]
+mod refused;
 #[cfg(test)]
 mod rows;
 #[cfg(test)]
 mod script;
+#[cfg(test)]
+mod sizes;

@@ -14,13 +14,14 @@ use Rattle.bm_base.specs.declared.ids.Version.{Version}
 use Rattle.bm_core.specs.declared.events.Event.{Event}
 use Rattle.bm_core.specs.declared.events.Stage.{Stage}
 use Rattle.bm_core.specs.declared.events.Verdict.{Verdict}
-use Rattle.bm_core.specs.declared.events.What.TheVariants.{Publish, Switch, Steer, Arrive}
+use Rattle.bm_core.specs.declared.events.What.{What}
+use Rattle.bm_core.specs.declared.events.What.TheVariants.{Publish, Switch, Steer, Lose, Arrive, Close, Retire, Sync}
 use Rattle.bm_core.specs.Past.{Accepted, accept_after, accept_before, accept_of, is_accept, is_of, label_after}
 use Rattle.bm_core.specs.Past.{label_of, labelled, owner, owner_after, segment_of, switched, version_at, version_of}
 use Rattle.bm_trace.specs.declared.past.Owner.{Owner}
 use Rattle.bm_trace.specs.declared.past.Sent.{Sent}
 use Rattle.bm_trace.specs.Accepts.{owner_before}
-use Rattle.bm_trace.specs.Running.{IsKept}
+use Rattle.bm_trace.specs.Running.{AreVersions, IsKept, versions_after}
 use Rattle.bm_trace.specs.Seen.{as_accepted}
 use Rattle.bm_trace.specs.Sent.{label_from, owner_from}
 
@@ -65,6 +66,22 @@ kept_switch stage past newest versions new accepts packets e m v is n k = record
   label_of_each = λ i below. rw is (k.label_of_each i below);
   owner_of_each = λ i below. rw is (k.owner_of_each i below);
 }
+
+-- the versions of the muxes after one event more
+pub versions_more : (past : List Event) (versions : List Version) (e : Event) → AreVersions past versions
+    → AreVersions (e ∷ past) (versions_after e.what versions)
+versions_more past versions e k = by_what e.what where
+  by_what : (what : What) → AreVersions (record { clock = e.clock; what = what } ∷ past) (versions_after what versions)
+  by_what (Switch m v) = λ q below.
+      let few : q.0 < length versions = omega (arith, length-set versions m.0 v)
+      in set_version versions m q v (version_at past q) few (k q few)
+  by_what (Publish v) = k
+  by_what (Steer packet m) = k
+  by_what (Lose packet hop) = k
+  by_what (Arrive packet hop server verdict) = k
+  by_what (Close server flow closed) = k
+  by_what (Retire server shard at result) = k
+  by_what Sync = k
 
 accepted_before : (stage : Stage) (past : List Event) (accepts : Flow → Option Owner) (s : Option Segment)
     → ((f : Flow) → option_map as_accepted (accepts f) ≡ accept_of stage past f)

@@ -1,45 +1,50 @@
 -- Texts that are written line by line.
 use Rattle.std.proofs.Common.{◌≡◌, ℕ, suc, ◌+◌, ◌<◌, List, [], ◌∷◌, ◌++◌, length, take, drop, get_or, refl, ap, ◌∙◌}
-use Rattle.std.proofs.Common.{sym, arith, append_assoc}
-use Rattle.std.specs.Prelude.{reverse, codes, decimal, Result, Ok, Err, OnErr, OnOk, is_ok, if◌then◌else◌}
+use Rattle.std.proofs.Common.{sym, arith, append_assoc, Option, Some, subst}
+use Rattle.std.specs.Prelude.{reverse, codes, decimal, Result, Ok, Err, OnErr, OnOk}
+use Rattle.std.specs.Io.KnownBytes.{Appends}
 use Rattle.std.proofs.lemmas.List.{append-nil, reverse-append, take-append-drop}
 use Rattle.std.proofs.lemmas.Grind.{common_steps}
 use Rattle.bm_base.specs.declared.capture.Body.{Body}
 use Rattle.bm_base.specs.declared.capture.Body.TheVariants.{Steerable, Unsteered}
 use Rattle.bm_base.specs.declared.capture.Record.{Record}
 use Rattle.bm_core.specs.declared.events.Event.{Event}
+use Rattle.bm_core.specs.declared.events.History.{History}
 use Rattle.bm_core.specs.declared.events.Stage.{Stage}
 use Rattle.bm_trace.specs.declared.records.End.{End}
+use Rattle.bm_trace.specs.declared.sums.Totals.{Totals}
 use Rattle.bm_trace.specs.Ends.{words_of_ends, words_of_record}
-use Rattle.bm_trace.specs.Parts.{AppendsPart}
-use Rattle.bm_trace.specs.Report.{event_line, event_lines, ends_of, record_lines, record_words}
+use Rattle.bm_trace.specs.Parts.{AppendsPart, HandsOn, HandsPart, WritesPart}
+use Rattle.bm_trace.specs.Report.{event_line, event_lines, ends_of, note_line, record_lines, record_words, text}
+use Rattle.bm_trace.specs.Report.{totals_line}
+use Rattle.bm_trace.specs.Totals.{totals_of}
 use Rattle.bm_trace.specs.Words.{line}
+use Rattle.bm_trace.proofs.Handing.{all_written, last_refused, line_more, line_refused, lines_lost, part_written}
 use Rattle.bm_trace.proofs.Newest.{reverse_take}
 
 -- nothing was appended
 pub no_part : (base text : List ℕ) → AppendsPart base base text
 no_part base text = record { part = []; rest = text; whole = refl; appended = sym (append-nil base) }
 
-pub part_of : (base new part rest text : List ℕ) → part ++ rest ≡ text → new ≡ base ++ part → AppendsPart base new text
-part_of base new part rest text w a = record { part = part; rest = rest; whole = w; appended = a }
-
--- a first part of a first piece
-pub part_first : (base new a b : List ℕ) → AppendsPart base new a → AppendsPart base new (a ++ b)
-part_first base new a b p =
-    part_of base new p.part (p.rest ++ b) (a ++ b) (sym (append_assoc p.part p.rest b) ∙ ap (λ x. x ++ b) p.whole)
-    p.appended
-
--- a first part of a second piece
-pub part_second : (base middle new a b : List ℕ) → middle ≡ base ++ a → AppendsPart middle new b
-    → AppendsPart base new (a ++ b)
-part_second base middle new a b m p =
-    part_of base new (a ++ p.part) p.rest (a ++ b)
-    (append_assoc a p.part p.rest ∙ ap (λ x. a ++ x) p.whole)
-    (p.appended ∙ ap (λ x. x ++ p.part) m ∙ append_assoc base a p.part)
-
 pub on_err : {T E : Type 0} (r : Result T E) (P : Type 0) → P → OnErr r P
 on_err (Ok x) P p = tt
 on_err (Err e) P p = p
+
+pub err_more : {T E : Type 0} (r : Result T E) (P Q : Type 0) → (P → Q) → OnErr r P → OnErr r Q
+err_more (Ok x) P Q f p = tt
+err_more (Err e) P Q f p = f p
+
+pub ok_more : {T E : Type 0} (r : Result T E) (P Q : Type 0) → (P → Q) → OnOk r P → OnOk r Q
+ok_more (Ok x) P Q f p = f p
+ok_more (Err e) P Q f p = tt
+
+-- what was written to memory from the start
+pub in_memory : (octets text : List ℕ) (before now : Option (List ℕ)) → before ≡ Some [] → Some octets ≡ now
+    → Appends before now text → octets ≡ text
+in_memory octets text before now none is all =
+    let P : Option (List ℕ) → Type 0 = λ x. Appends x now text
+    in let Q : Option (List ℕ) → Type 0 = λ x. Appends (Some []) x text
+    in subst Q (sym is) (subst P none all)
 
 -- THE EVENTS
 
@@ -55,38 +60,58 @@ lines_append stage (e ∷ later) past =
     sym (append_assoc (event_lines stage past) (later_lines stage later past) (event_line stage (later ++ past) e))
     ∙ ap (λ x. x ++ event_line stage (later ++ past) e) (lines_append stage later past)
 
--- the lines of the first events are a first part
-pub events_part : (stage : Stage) (events : List Event) (i : ℕ) (base new : List ℕ)
-    → new ≡ base ++ event_lines stage (reverse (take i events))
-    → AppendsPart base new (event_lines stage (reverse events))
-events_part stage events i base new e =
-    part_of base new (event_lines stage (reverse (take i events)))
-    (later_lines stage (reverse (drop i events)) (reverse (take i events))) (event_lines stage (reverse events))
-    (lines_append stage (reverse (drop i events)) (reverse (take i events))
+-- the lines of the first events and of the later ones
+events_whole : (stage : Stage) (events : List Event) (i : ℕ) → event_lines stage (reverse (take i events))
+    ++ later_lines stage (reverse (drop i events)) (reverse (take i events)) ≡ event_lines stage (reverse events)
+events_whole stage events i =
+    lines_append stage (reverse (drop i events)) (reverse (take i events))
     ∙ ap (λ x. event_lines stage x)
-    (sym (reverse-append (take i events) (drop i events)) ∙ ap reverse (take-append-drop i events)))
-    e
+    (sym (reverse-append (take i events) (drop i events)) ∙ ap reverse (take-append-drop i events))
 
 -- the same, where the code has the list under another name
-pub events_left : (stage : Stage) (shown events : List Event) (i : ℕ) (base new : List ℕ) → shown ≡ events
-    → new ≡ base ++ event_lines stage (reverse (take i shown))
-    → AppendsPart base new (event_lines stage (reverse events))
-events_left stage shown events i base new same e = events_part stage events i base new (rw (same) at e)
+events_all : (stage : Stage) (shown events : List Event) (i : ℕ) → shown ≡ events
+    → event_lines stage (reverse (take i shown))
+    ++ later_lines stage (reverse (drop i shown)) (reverse (take i shown)) ≡ event_lines stage (reverse events)
+events_all stage shown events i same =
+    events_whole stage shown i ∙ ap (λ xs. event_lines stage (reverse xs)) same
+
+events_step : (stage : Stage) (events : List Event) (i : ℕ) (d : Event) → i < length events
+    → event_lines stage (reverse (take i events)) ++ event_line stage (reverse (take i events)) (get_or events i d)
+    ≡ event_lines stage (reverse (take (i + 1) events))
+events_step stage events i d below = ap (λ x. event_lines stage x) (sym (reverse_take events i d below))
 
 -- one line more
-pub events_more : (stage : Stage) (events : List Event) (i : ℕ) (d : Event) (base out new : List ℕ) → i < length events
-    → out ≡ base ++ event_lines stage (reverse (take i events))
-    → new ≡ out ++ event_line stage (reverse (take i events)) (get_or events i d)
-    → new ≡ base ++ event_lines stage (reverse (take (i + 1) events))
-events_more stage events i d base out new below before step =
-    step
-    ∙ ap (λ x. x ++ event_line stage (reverse (take i events)) (get_or events i d)) before
-    ∙ append_assoc base _ _
-    ∙ ap (λ x. base ++ event_lines stage x) (sym (reverse_take events i d below))
+pub events_more : (stage : Stage) (events : List Event) (i : ℕ) (d : Event) (a b c : Option (List ℕ))
+    (p q r w : List ℕ) → i < length events
+    → HandsOn a p b q (event_lines stage (reverse (take i events)))
+    → r ≡ q ++ event_line stage (reverse (take i events)) (get_or events i d)
+    → HandsOn b r c w []
+    → HandsOn a p c w (event_lines stage (reverse (take (i + 1) events)))
+events_more stage events i d a b c p q r w below before put full =
+    line_more a b c p q r w _ _ _ (events_step stage events i d below) before put full
+
+-- the buffer was refused
+pub events_refused : (stage : Stage) (shown events : List Event) (i : ℕ) (d : Event) (a b c : Option (List ℕ))
+    (p q r : List ℕ) → i < length shown → shown ≡ events
+    → HandsOn a p b q (event_lines stage (reverse (take i shown)))
+    → r ≡ q ++ event_line stage (reverse (take i shown)) (get_or shown i d)
+    → HandsPart b r c []
+    → HandsPart a p c (event_lines stage (reverse events))
+events_refused stage shown events i d a b c p q r below same before put full =
+    line_refused a b c p q r _ _ _ (later_lines stage (reverse (drop (i + 1) shown)) (reverse (take (i + 1) shown))) _
+    (events_step stage shown i d below) (events_all stage shown events (i + 1) same) before put full
+
+-- a line was refused
+pub events_left : (stage : Stage) (shown events : List Event) (i : ℕ) (a b : Option (List ℕ)) (p q : List ℕ)
+    → shown ≡ events → HandsOn a p b q (event_lines stage (reverse (take i shown)))
+    → HandsPart a p b (event_lines stage (reverse events))
+events_left stage shown events i a b p q same before =
+    lines_lost a b p q _ (later_lines stage (reverse (drop i shown)) (reverse (take i shown))) _
+    (events_all stage shown events i same) before
 
 -- THE RECORDS
 
-pub records_append : (past : List Event) (k : ℕ) (a b : List Record)
+records_append : (past : List Event) (k : ℕ) (a b : List Record)
     → record_lines past k (a ++ b) ≡ record_lines past k a ++ record_lines past (k + length a) b
 records_append past k [] b = let e : k ≡ k + 0 = omega arith in ap (λ x. record_lines past x b) e
 records_append past k (r ∷ a) b =
@@ -96,97 +121,108 @@ records_append past k (r ∷ a) b =
     ∙ sym (append_assoc (line (codes "packet") (decimal k ∷ record_words past k r.body)) (record_lines past (suc k) a)
     _)
 
-pub records_part : (past : List Event) (records : List Record) (i : ℕ) (base new : List ℕ)
-    → new ≡ base ++ record_lines past 1 (take i records) → AppendsPart base new (record_lines past 1 records)
-records_part past records i base new e =
-    part_of base new (record_lines past 1 (take i records))
-    (record_lines past (1 + length (take i records)) (drop i records)) (record_lines past 1 records)
-    (sym (records_append past 1 (take i records) (drop i records))
-    ∙ ap (λ x. record_lines past 1 x) (take-append-drop i records))
-    e
-
-pub records_left : (past : List Event) (shown records : List Record) (i : ℕ) (base new : List ℕ) → shown ≡ records
-    → new ≡ base ++ record_lines past 1 (take i shown) → AppendsPart base new (record_lines past 1 records)
-records_left past shown records i base new same e = records_part past records i base new (rw (same) at e)
+records_all : (past : List Event) (shown records : List Record) (i : ℕ) → shown ≡ records
+    → record_lines past 1 (take i shown) ++ record_lines past (1 + length (take i shown)) (drop i shown)
+    ≡ record_lines past 1 records
+records_all past shown records i same =
+    sym (records_append past 1 (take i shown) (drop i shown))
+    ∙ ap (λ x. record_lines past 1 x) (take-append-drop i shown ∙ same)
 
 same_words : (past : List Event) (k : ℕ) (body : Body) (ends : List End) → words_of_ends ends ≡ ends_of past k
     → words_of_record body ends ≡ record_words past k body
 same_words past k (Unsteered reason) ends e = refl
 same_words past k (Steerable s) ends e = e
 
-records_more : (past : List Event) (records : List Record) (i : ℕ) (d : Record) (ends : List End)
-    (base out new : List ℕ) → i < length records
+records_step : (past : List Event) (records : List Record) (i : ℕ) (d : Record) (ends : List End) → i < length records
     → words_of_ends ends ≡ ends_of past (i + 1)
-    → out ≡ base ++ record_lines past 1 (take i records)
-    → new ≡ out ++ line (codes "packet") (decimal (i + 1) ∷ words_of_record (get_or records i d).body ends)
-    → new ≡ base ++ record_lines past 1 (take (i + 1) records)
-records_more past records i d ends base out new below same before step =
+    → record_lines past 1 (take i records)
+    ++ line (codes "packet") (decimal (i + 1) ∷ words_of_record (get_or records i d).body ends)
+    ≡ record_lines past 1 (take (i + 1) records)
+records_step past records i d ends below same =
     let r = get_or records i d
     in let e : take (i + 1) records ≡ take i records ++ r ∷ [] = grind (arith, common_steps)
     in let n : 1 + length (take i records) ≡ i + 1 = grind (arith, common_steps)
-    in step
-    ∙ ap (λ x. x ++ line (codes "packet") (decimal (i + 1) ∷ words_of_record r.body ends)) before
-    ∙ append_assoc base (record_lines past 1 (take i records)) _
-    ∙ ap (λ x. base ++ (record_lines past 1 (take i records) ++ line (codes "packet") (decimal (i + 1) ∷ x)))
+    in ap (λ x. record_lines past 1 (take i records) ++ line (codes "packet") (decimal (i + 1) ∷ x))
     (same_words past (i + 1) r.body ends same)
-    ∙ ap (λ x. base ++ (record_lines past 1 (take i records) ++ x)) (sym (append-nil _))
-    ∙ ap (λ x. base ++ (record_lines past 1 (take i records) ++ record_lines past x (r ∷ []))) (sym n)
-    ∙ ap (λ x. base ++ x) (sym (records_append past 1 (take i records) (r ∷ [])))
-    ∙ ap (λ x. base ++ record_lines past 1 x) (sym e)
+    ∙ ap (λ x. record_lines past 1 (take i records) ++ x) (sym (append-nil _))
+    ∙ ap (λ x. record_lines past 1 (take i records) ++ record_lines past x (r ∷ [])) (sym n)
+    ∙ sym (records_append past 1 (take i records) (r ∷ []))
+    ∙ ap (λ x. record_lines past 1 x) (sym e)
 
--- a line that was put together in an empty buffer
-joined : (new out written cleared text : List ℕ) → new ≡ out ++ written → written ≡ cleared ++ text → cleared ≡ []
-    → new ≡ out ++ text
-joined new out written cleared text n w e = n ∙ ap (λ x. out ++ x) (w ∙ ap (λ x. x ++ text) e)
-
--- one line more, from the list of ends at its place
-pub record_written : (events shown : List Event) (records : List Record) (i : ℕ) (d : Record) (table : List (List End))
-    (found ends : List End) (base out new written cleared : List ℕ)
-    → i < length records
+-- the ends of the record at a place, from the list at its place
+pub ends_there : (events shown : List Event) (i : ℕ) (table : List (List End)) (found ends : List End)
     → i < length table
     → words_of_ends (get_or table i []) ≡ ends_of (reverse shown) (i + 1)
     → shown ≡ events
     → found ≡ get_or table i found
     → ends ≡ found
-    → out ≡ base ++ record_lines (reverse events) 1 (take i records)
-    → new ≡ out ++ written
-    → written ≡ cleared ++ line (codes "packet") (decimal (i + 1) ∷ words_of_record (get_or records i d).body ends)
-    → cleared ≡ []
-    → new ≡ base ++ record_lines (reverse events) 1 (take (i + 1) records)
-record_written events shown records i d table found ends base out new written cleared below there listed same at is
-    before n w e =
+    → words_of_ends ends ≡ ends_of (reverse events) (i + 1)
+ends_there events shown i table found ends there listed same at is =
     let here : get_or table i [] ≡ found = grind (arith, common_steps)
-    in let ended : words_of_ends ends ≡ ends_of (reverse events) (i + 1) =
-    ap words_of_ends (is ∙ sym here) ∙ listed ∙ ap (λ x. ends_of (reverse x) (i + 1)) same
-    in records_more (reverse events) records i d ends base out new below ended before
-    (joined new out written cleared _ n w e)
+    in ap words_of_ends (is ∙ sym here) ∙ listed ∙ ap (λ x. ends_of (reverse x) (i + 1)) same
+
+pub records_more : (past : List Event) (records : List Record) (i : ℕ) (d : Record) (ends : List End)
+    (a b c : Option (List ℕ)) (p q r w : List ℕ) → i < length records
+    → words_of_ends ends ≡ ends_of past (i + 1)
+    → HandsOn a p b q (record_lines past 1 (take i records))
+    → r ≡ q ++ line (codes "packet") (decimal (i + 1) ∷ words_of_record (get_or records i d).body ends)
+    → HandsOn b r c w []
+    → HandsOn a p c w (record_lines past 1 (take (i + 1) records))
+records_more past records i d ends a b c p q r w below same before put full =
+    line_more a b c p q r w _ _ _ (records_step past records i d ends below same) before put full
+
+pub records_refused : (past : List Event) (shown records : List Record) (i : ℕ) (d : Record) (ends : List End)
+    (a b c : Option (List ℕ)) (p q r : List ℕ) → i < length shown → shown ≡ records
+    → words_of_ends ends ≡ ends_of past (i + 1)
+    → HandsOn a p b q (record_lines past 1 (take i shown))
+    → r ≡ q ++ line (codes "packet") (decimal (i + 1) ∷ words_of_record (get_or shown i d).body ends)
+    → HandsPart b r c []
+    → HandsPart a p c (record_lines past 1 records)
+records_refused past shown records i d ends a b c p q r below is same before put full =
+    line_refused a b c p q r _ _ _ (record_lines past (1 + length (take (i + 1) shown)) (drop (i + 1) shown)) _
+    (records_step past shown i d ends below same) (records_all past shown records (i + 1) is) before put full
+
+pub records_left : (past : List Event) (shown records : List Record) (i : ℕ) (a b : Option (List ℕ)) (p q : List ℕ)
+    → shown ≡ records → HandsOn a p b q (record_lines past 1 (take i shown))
+    → HandsPart a p b (record_lines past 1 records)
+records_left past shown records i a b p q is before =
+    lines_lost a b p q _ (record_lines past (1 + length (take i shown)) (drop i shown)) _
+    (records_all past shown records i is) before
 
 -- THE WHOLE
 
-pub first_piece : (base new e r n t : List ℕ) → AppendsPart base new e → AppendsPart base new (e ++ r ++ n ++ t)
-first_piece base new e r n t p =
-    part_first base new (e ++ r ++ n) t (part_first base new (e ++ r) n (part_first base new e r p))
+-- the lines of the events and of the records
+abbrev pub body_lines : History → List ℕ
+body_lines h =
+    event_lines h.stage (reverse h.events) ++ record_lines (reverse h.events) 1 h.stage.capture.records
 
-pub second_piece : (base middle new e r n t : List ℕ) → middle ≡ base ++ e → AppendsPart middle new r
-    → AppendsPart base new (e ++ r ++ n ++ t)
-second_piece base middle new e r n t m p =
-    part_first base new (e ++ r ++ n) t (part_first base new (e ++ r) n (part_second base middle new e r m p))
+-- the note and the totals
+abbrev pub last_lines : History → List ℕ
+last_lines h = note_line h.stage.capture.cut ++ totals_line (totals_of h)
 
-two_pieces : (base middle new e r : List ℕ) → middle ≡ base ++ e → new ≡ middle ++ r → new ≡ base ++ (e ++ r)
-two_pieces base middle new e r m s = s ∙ ap (λ x. x ++ r) m ∙ append_assoc base e r
+text_is : (h : History) → body_lines h ++ last_lines h ≡ text h
+unfolding text
+text_is h = sym (append_assoc (body_lines h) (note_line h.stage.capture.cut) (totals_line (totals_of h)))
 
-pub last_piece_missing : {T E : Type 0} (result : Result T E) (base middle late new e r n t : List ℕ) → middle ≡ base
-    ++ e → late ≡ middle ++ r
-    → new ≡ (if is_ok result then late ++ (n ++ t) else late) → OnErr result (AppendsPart base new (e ++ r ++ n ++ t))
-last_piece_missing (Ok x) base middle late new e r n t m l s = tt
-last_piece_missing (Err x) base middle late new e r n t m l s =
-    part_of base new (e ++ r) (n ++ t) (e ++ r ++ n ++ t) (sym (append_assoc (e ++ r) n t))
-    (s ∙ two_pieces base middle late e r m l)
+-- the buffer behind the note and the totals
+pub last_put : (piece old noted new note : List ℕ) (s t : Totals) → piece ≡ new → noted ≡ old ++ note
+    → new ≡ noted ++ totals_line s → s ≡ t → piece ≡ old ++ (note ++ totals_line t)
+last_put piece old noted new note s t is first second same =
+    is ∙ second ∙ ap (λ x. x ++ totals_line s) first ∙ append_assoc old note (totals_line s)
+    ∙ ap (λ x. old ++ (note ++ totals_line x)) same
 
-pub all_pieces : {T E : Type 0} (result : Result T E) (base middle late new e r n t : List ℕ) → middle ≡ base ++ e
-    → late ≡ middle ++ r
-    → new ≡ (if is_ok result then late ++ (n ++ t) else late) → OnOk result (new ≡ base ++ (e ++ r ++ n ++ t))
-all_pieces (Ok x) base middle late new e r n t m l s =
-    two_pieces base late new (e ++ r) (n ++ t) (two_pieces base middle late e r m l) s
-    ∙ ap (λ x. base ++ x) (sym (append_assoc (e ++ r) n t))
-all_pieces (Err x) base middle late new e r n t m l s = tt
+pub report_written : (h : History) (a b c : Option (List ℕ)) (p q r : List ℕ) → p ≡ []
+    → HandsOn a p b q (body_lines h) → r ≡ q ++ last_lines h → Appends b c r → Appends a c (text h)
+report_written h a b c p q r empty on more last =
+    subst (λ x. Appends a c x) (text_is h) (all_written a b c p q r (body_lines h) (last_lines h) empty on more last)
+
+pub report_refused : (h : History) (a b c : Option (List ℕ)) (p q r : List ℕ) → p ≡ []
+    → HandsOn a p b q (body_lines h) → r ≡ q ++ last_lines h → WritesPart b c r → WritesPart a c (text h)
+report_refused h a b c p q r empty on more part =
+    subst (λ x. WritesPart a c x) (text_is h)
+    (last_refused a b c p q r (body_lines h) (last_lines h) empty on more part)
+
+pub report_part : (h : History) (a b : Option (List ℕ)) (p : List ℕ) → p ≡ [] → HandsPart a p b (body_lines h)
+    → WritesPart a b (text h)
+report_part h a b p empty part =
+    subst (λ x. WritesPart a b x) (text_is h) (part_written a b p (body_lines h) (last_lines h) empty part)

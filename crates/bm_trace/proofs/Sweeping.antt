@@ -17,7 +17,10 @@ use Rattle.bm_trace.specs.declared.known.Known.{Known}
 use Rattle.bm_trace.specs.Known.{Knows}
 use Rattle.bm_trace.specs.Swept.{AreCauses, AreFirst, cause_in}
 use Rattle.bm_trace.specs.Totals.{arrives, is_stray, strays}
+use Rattle.bm_base.specs.declared.ids.Version.{Version}
+use Rattle.bm_trace.specs.Running.{AreVersions, versions_after}
 use Rattle.bm_trace.proofs.Caused.{cause_there}
+use Rattle.bm_trace.proofs.Keeping.{versions_more}
 use Rattle.bm_trace.proofs.Moved.{get_past}
 use Rattle.bm_trace.proofs.Newest.{reverse_take}
 
@@ -32,6 +35,23 @@ here : (h : History) (place : ℕ) (d : Event) → place < length h.events
 here h place d below =
     let e : slice_get h.events place ≡ Some (get_or h.events place d) = get_within h.events place d below
     in ap (λ o. cause_after h.stage (past_at h place) o) e
+
+-- the cause of an event, from the list of them
+pub cause_here : (h : History) (shown : List Event) (place : ℕ) (d : Event) (causes : List (Option Cause))
+    (found : Option Cause) → shown ≡ h.events → place < length shown → AreCauses h causes
+    → found ≡ cause_in causes place
+    → found ≡ cause h.stage (reverse (take place shown)) (get_or shown place d).clock.0 (get_or shown place d).what
+cause_here h shown place d causes found same below all is =
+    let below' : place < length h.events = rw same at below
+    in rw same (is ∙ all place ∙ here h place d below')
+
+-- one event more of the versions of the muxes
+pub versions_next : (shown : List Event) (n : ℕ) (d : Event) (versions new : List Version) → n < length shown
+    → new ≡ versions_after (get_or shown n d).what versions → AreVersions (reverse (take n shown)) versions
+    → AreVersions (reverse (take (n + 1) shown)) new
+versions_next shown n d versions new below is k =
+    rw (reverse_take shown n d below, is)
+    (versions_more (reverse (take n shown)) versions (get_or shown n d) k)
 
 -- one event more
 pub one_more : (h : History) (n : ℕ) (d : Event) (shown : List Event) (causes new : List (Option Cause))

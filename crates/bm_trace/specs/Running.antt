@@ -1,7 +1,7 @@
--- What the code keeps of the events while it writes their lines, so that a line needs a look back
--- only where it asks what servers hold.
+-- What the code keeps of the events before an event, so that a cause needs a look back only where it
+-- asks what servers hold.
 use Rattle.std.specs.Prelude.{◌≡◌, ℕ, suc, ◌<◌, List, length, Option, None, option_map}
-use Rattle.std.specs.Prelude.{slice_index_or}
+use Rattle.std.specs.Prelude.{slice_index_or, slice_set}
 use Rattle.std.specs.BTreeMap as tree
 use Rattle.bm_base.specs.contracts.flow.FlowOrd.TheImpl as flow_order
 use Rattle.bm_base.specs.declared.flow.Flow.{Flow}
@@ -9,6 +9,8 @@ use Rattle.bm_base.specs.declared.ids.MuxId.{MuxId}
 use Rattle.bm_base.specs.declared.ids.Version.{Version}
 use Rattle.bm_core.specs.declared.events.Event.{Event}
 use Rattle.bm_core.specs.declared.events.Stage.{Stage}
+use Rattle.bm_core.specs.declared.events.What.{What}
+use Rattle.bm_core.specs.declared.events.What.TheVariants.{Switch}
 use Rattle.bm_core.specs.Past.{accept_of, label_of, newest, owner, segment_of, version_at}
 use Rattle.bm_trace.specs.declared.past.Owner.{Owner}
 use Rattle.bm_trace.specs.declared.past.Sent.{Sent}
@@ -21,6 +23,11 @@ abbrev pub AreVersions : List Event → List Version → Type 0
 AreVersions past versions =
     (m : MuxId) → m.0 < length versions
     → slice_index_or versions m.0 (record { 0 = 0 }) ≡ version_at past m
+
+-- the versions after this
+abbrev pub versions_after : What → List Version → List Version
+versions_after (Switch m v) versions = slice_set versions m.0 v
+versions_after _ versions = versions
 
 -- the newest version, the versions of the muxes, the flows' last Accepts, and what is known of the
 -- packets, after these events

@@ -1,114 +1,147 @@
-//! The whole report.
+//! The whole report. Its lines are put together in one buffer, which is handed on whenever it is full.
 ghost use Rattle.std.specs.Prelude.{◌≡◌, ◌+◌, ◌<◌, ◌≤◌, ◌++◌, List, length, reverse, OnOk, OnErr};
-ghost use Rattle.std.specs.Prelude.{IfOk, string_bytes, is_ok, if◌then◌else◌};
+ghost use Rattle.std.specs.Prelude.{string_bytes, []};
+ghost use Rattle.std.specs.Io.KnownBytes.{Appends};
 ghost use Rattle.bm_core.specs.Runs.{IsRun};
-ghost use Rattle.bm_trace.specs.Parts.{AppendsPart};
+ghost use Rattle.bm_io.specs.Causes.{HasIoCause};
+ghost use Rattle.bm_trace.specs.Parts.{AppendsPart, HandsOn, HandsPart, WritesPart};
 ghost use Rattle.bm_trace.specs.Ranges.{HasRanges};
 ghost use Rattle.bm_trace.specs.Report as report;
+ghost use Rattle.bm_trace.specs.Swept.{AreCauses};
 ghost use Rattle.bm_trace.specs.Totals as totals;
 
-use crate::counts::totals_with;
 use crate::endings::ends_of_packets;
-use crate::known::Known;
-use crate::lines::{write_event, write_note, write_totals};
+use crate::lines::{write_cut, write_event, write_totals};
 use crate::records::write_record;
+use crate::sums::Totals;
+use crate::swept::{CauseList, sweep, totals_of};
+use crate::versions::{no_versions, note_version};
 use bm_base::Memory;
 use bm_core::History;
+use bm_io::{IoFault, Sink, SureSink, put_all};
 
-fn put_line(out: &mut Vec<u8>, line: &String) -> Result<(), Memory>
-    ensures { out.new.items
-        ≡ (if is_ok result then out.old.items ++ string_bytes line.now else out.old.items) }
+/// The buffer is handed on when it has so many octets.
+const FULL: usize = 65_536;
+
+/// Hands the lines on, where they fill the buffer.
+fn put_full<K: Sink>(lines: &mut String, out: &mut K) -> Result<(), IoFault>
+    ensures ok { OnOk result (HandsOn (K.written out.old) (string_bytes lines.old)
+        (K.written out.new) (string_bytes lines.new) []) }
+    ensures err { OnErr result
+        (HandsPart (K.written out.old) (string_bytes lines.old) (K.written out.new) []) }
+    ensures cause { HasIoCause (K.faults out.old) (K.faults out.new) result }
 {
-    out.extend_from_slice(line.as_bytes())?;
+    if lines.len() < FULL {
+        return Ok(());
+    }
+    put_all(out, lines.as_bytes())?;
+    lines.clear();
     Ok(())
 }
 
-/// Appends the lines of the events, and counts the strays.
-fn put_events(h: &History, out: &mut Vec<u8>) -> Result<u64, Memory>
-    requires { HasRanges h.now.stage }
-    ensures ok { OnOk result
-        (out.new.items ≡ out.old.items ++ report.event_lines h.now.stage (reverse h.now.events)) }
-    ensures strays { IfOk result (λ n. n ≡ totals.strays h.now.stage (reverse h.now.events)) }
-    ensures err { OnErr result
-        (AppendsPart out.old.items out.new.items
+/// Writes the lines of the events.
+fn put_events<K: Sink>(
+    h: &History,
+    causes: &CauseList,
+    lines: &mut String,
+    out: &mut K,
+) -> Result<(), IoFault>
+    requires ranges { HasRanges h.now.stage }
+    requires causes { AreCauses h.now causes.now }
+    ensures ok { OnOk result (HandsOn (K.written out.old) (string_bytes lines.old)
+        (K.written out.new) (string_bytes lines.new)
         (report.event_lines h.now.stage (reverse h.now.events))) }
+    ensures err { OnErr result
+        (HandsPart (K.written out.old) (string_bytes lines.old) (K.written out.new)
+        (report.event_lines h.now.stage (reverse h.now.events))) }
+    ensures cause { HasIoCause (K.faults out.old) (K.faults out.new) result }
 {
-    let alloc = *out.allocator();
     let events = h.events.items();
-    let mut known = Known::new(alloc, &h.stage)?;
-    let mut line = String::new(alloc);
-    let mut strays = 0;
+    let muxes = usize::from(h.stage.script.setting.muxes);
+    let mut versions = no_versions(*lines.allocator(), muxes)?;
     for (place, event) in events.iter().enumerate() {
-        let before = &events[..place];
-        line.clear();
-        write_event(&mut line, &known, &h.stage, before, event)?;
-        if known.is_stray(&h.stage, before, &event.what) {
-            strays += 1;
-        }
-        known.note(alloc, &h.stage, before, event)?;
-        put_line(out, &line)?;
+        let cause = causes.at(place);
+        write_event(lines, &versions, &h.stage, &events[..place], event, cause)?;
+        note_version(&mut versions, &event.what);
+        put_full(lines, out)?;
     }
-    Ok(strays)
+    Ok(())
 }
 
-/// Appends the lines of the records.
-fn put_records(h: &History, out: &mut Vec<u8>) -> Result<(), Memory>
+/// Writes the lines of the records.
+fn put_records<K: Sink>(h: &History, lines: &mut String, out: &mut K) -> Result<(), IoFault>
     requires { HasRanges h.now.stage }
-    ensures ok { OnOk result
-        (out.new.items ≡ out.old.items
-        ++ report.record_lines (reverse h.now.events) 1 h.now.stage.capture.records) }
-    ensures err { OnErr result
-        (AppendsPart out.old.items out.new.items
+    ensures ok { OnOk result (HandsOn (K.written out.old) (string_bytes lines.old)
+        (K.written out.new) (string_bytes lines.new)
         (report.record_lines (reverse h.now.events) 1 h.now.stage.capture.records)) }
+    ensures err { OnErr result
+        (HandsPart (K.written out.old) (string_bytes lines.old) (K.written out.new)
+        (report.record_lines (reverse h.now.events) 1 h.now.stage.capture.records)) }
+    ensures cause { HasIoCause (K.faults out.old) (K.faults out.new) result }
 {
-    let mut line = String::new(*out.allocator());
     let records = h.stage.capture.records.items();
-    let ends = ends_of_packets(*out.allocator(), records.len(), h.events.items())?;
+    let ends = ends_of_packets(*lines.allocator(), records.len(), h.events.items())?;
     for (place, record) in records.iter().enumerate() {
-        line.clear();
         write_record(
-            &mut line,
+            lines,
             place as u32 + 1,
             &record.body,
             ends[place].as_slice(),
         )?;
-        put_line(out, &line)?;
+        put_full(lines, out)?;
     }
     Ok(())
 }
 
-/// Appends the note on a record that is cut short, and the totals.
-fn put_rest(h: &History, strays: u64, out: &mut Vec<u8>) -> Result<(), Memory>
-    requires { strays ≡ totals.strays h.now.stage (reverse h.now.events) }
-    ensures { out.new.items ≡ (if is_ok result
-        then out.old.items ++ (report.note_line h.now.stage.capture.cut ++ report.totals_line (totals.totals_of h.now))
-        else out.old.items) }
+/// Writes the report of the history, whose causes and totals are these.
+pub(crate) fn put_report<K: Sink>(
+    h: &History,
+    causes: &CauseList,
+    sums: &Totals,
+    out: &mut K,
+) -> Result<(), IoFault>
+    requires ranges { HasRanges h.now.stage }
+    requires causes { AreCauses h.now causes.now }
+    requires sums { sums.now ≡ totals.totals_of h.now }
+    ensures ok { OnOk result (Appends (K.written out.old) (K.written out.new) (report.text h.now)) }
+    ensures err { OnErr result (WritesPart (K.written out.old) (K.written out.new)
+        (report.text h.now)) }
+    ensures cause { HasIoCause (K.faults out.old) (K.faults out.new) result }
 {
-    let mut line = String::new(*out.allocator());
-    if let Some(number) = h.stage.capture.cut {
-        write_note(&mut line, number)?;
-    }
-    write_totals(&mut line, &totals_with(h, strays))?;
-    put_line(out, &line)
+    let mut lines = String::new(causes.allocator());
+    put_events(h, causes, &mut lines, out)?;
+    put_records(h, &mut lines, out)?;
+    write_cut(&mut lines, h.stage.capture.cut)?;
+    write_totals(&mut lines, sums)?;
+    put_all(out, lines.as_bytes())
 }
 
-/// Appends the report of the history. Where memory is refused, a first part of it was appended.
-pub(crate) fn put_report(h: &History, out: &mut Vec<u8>) -> Result<(), Memory>
-    requires { HasRanges h.now.stage }
-    ensures ok { OnOk result (out.new.items ≡ out.old.items ++ report.text h.now) }
-    ensures err { OnErr result (AppendsPart out.old.items out.new.items (report.text h.now)) }
-{
-    let strays = put_events(h, out)?;
-    put_records(h, out)?;
-    put_rest(h, strays, out)
-}
-
-/// Appends the report of the history. Where memory is refused, a first part of it was appended.
+/// Writes the report of the history, with these causes of its events. The report is never held whole.
+/// Where it is refused, a first part of it was written.
 #[tactic(auto, using(crate::proofs::Ranged::ranges_of))]
+pub fn report_to<K: Sink>(h: &History, causes: &CauseList, out: &mut K) -> Result<(), IoFault>
+    requires run { IsRun h.now }
+    requires causes { AreCauses h.now causes.now }
+    ensures ok { OnOk result (Appends (K.written out.old) (K.written out.new) (report.text h.now)) }
+    ensures err { OnErr result (WritesPart (K.written out.old) (K.written out.new)
+        (report.text h.now)) }
+    ensures cause { HasIoCause (K.faults out.old) (K.faults out.new) result }
+{
+    put_report(h, causes, &totals_of(h, causes), out)
+}
+
+/// Appends the report of the history. Where memory is refused, a first part of it was appended.
 pub fn report(h: &History, out: &mut Vec<u8>) -> Result<(), Memory>
     requires { IsRun h.now }
     ensures ok { OnOk result (out.new.items ≡ out.old.items ++ report.text h.now) }
     ensures err { OnErr result (AppendsPart out.old.items out.new.items (report.text h.now)) }
 {
-    put_report(h, out)
+    let alloc = *out.allocator();
+    let causes = sweep(alloc, h)?;
+    let mut text = SureSink::new(alloc);
+    let Ok(()) = report_to(h, &causes, &mut text) else {
+        return Err(Memory);
+    };
+    out.extend_from_slice(text.written())?;
+    Ok(())
 }

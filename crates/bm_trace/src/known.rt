@@ -8,14 +8,13 @@ ghost use Rattle.bm_trace.specs.PlanMovers.{AreMovers};
 ghost use Rattle.bm_trace.specs.Ranges.{HasRanges};
 ghost use Rattle.bm_trace.specs.Seen.{as_accepted};
 ghost use Rattle.bm_trace.specs.Sent.{label_from, label_sent, owner_from};
-ghost use Rattle.bm_trace.specs.Totals as totals;
 
 use crate::causes::{Arrival, opening_cause};
 use crate::holders::Holders;
 use crate::movers::Movers;
 use crate::past::Sent;
 use crate::running::Running;
-use bm_base::{Flow, Moment, MuxId, ServerId, Version, is_opening};
+use bm_base::{Flow, Moment, ServerId, is_opening};
 use bm_core::{Cause, Event, Stage, What};
 use bm_hash::bucket_of;
 use std::alloc::{AllocError, Global};
@@ -179,21 +178,5 @@ impl Known {
             }
             _ => None,
         }
-    }
-
-    /// The version of the mux after these events.
-    pub(crate) fn version(&self, stage: &Stage, events: &[Event], mux: MuxId) -> Version
-        requires { Knows stage.now (reverse events.now) self.now }
-        ensures { result ≡ past.version_at (reverse events.now) mux }
-    {
-        self.running.version(events, mux)
-    }
-
-    /// Whether the event after these is a stray.
-    pub(crate) fn is_stray(&self, stage: &Stage, events: &[Event], what: &What) -> bool
-        requires { Knows stage.now (reverse events.now) self.now }
-        ensures { result ≡ totals.is_stray stage.now (reverse events.now) what.now }
-    {
-        self.running.is_stray(stage, events, what)
     }
 }

@@ -1,16 +1,17 @@
 //! The lines of a report.
 ghost use Rattle.std.specs.Prelude.{◌≡◌, ◌+◌, ◌<◌, ◌≤◌, ◌∷◌, ◌++◌, [], List, length, reverse, OnOk};
 ghost use Rattle.std.specs.Prelude.{OnErr, codes, decimal, string_bytes, if◌then◌else◌};
+ghost use Rattle.bm_core.specs.Causes as causes;
 ghost use Rattle.bm_core.specs.Past as past;
 ghost use Rattle.bm_trace.specs.Ranges.{HasRanges};
 ghost use Rattle.bm_trace.specs.Words as words;
 ghost use Rattle.bm_trace.specs.Report as report;
-ghost use Rattle.bm_trace.specs.Known.{Knows};
+ghost use Rattle.bm_trace.specs.Running.{AreVersions};
 
-use crate::known::Known;
 use crate::sums::Totals;
+use crate::versions::version_in;
 use crate::words::{BecauseWords, Counted, Endpoint, RetirementWords, VerdictWords, hop_word};
-use bm_base::{Flow, Hop, MuxId, ServerId};
+use bm_base::{Flow, Hop, MuxId, ServerId, Version};
 use bm_core::{Cause, Event, Stage, Verdict, What};
 use bm_hash::bucket_of;
 use bm_table::Retirement;
@@ -94,7 +95,7 @@ fn bucket_of_packet(stage: &Stage, packet: u32) -> u32
 
 fn write_steer(
     line: &mut String,
-    known: &Known,
+    versions: &[Version],
     stage: &Stage,
     events: &[Event],
     clock: u64,
@@ -102,37 +103,41 @@ fn write_steer(
     mux: MuxId,
 ) -> Result<(), AllocError>
     requires ranges { HasRanges stage.now }
-    requires kept { Knows stage.now (reverse events.now) known.now }
+    requires kept { AreVersions (reverse events.now) versions.now }
     ensures { OnOk result
         (string_bytes line.new ≡ string_bytes line.old ++ words.line (decimal clock)
         (codes "steer" ∷ decimal packet ∷ decimal mux.0 ∷ decimal (past.version_at (reverse events.now) mux).0
         ∷ decimal (report.bucket_of_packet stage.now (past.segment_of stage.now packet)) ∷ [])) }
 {
-    let version = known.version(stage, events, mux).0;
+    let version = version_in(versions, events, mux).0;
     let bucket = bucket_of_packet(stage, packet);
     writeln!(line, "{clock} steer {packet} {} {version} {bucket}", mux.0)
 }
 
-/// The line of an event that has these before it.
+/// The line of an event that has these before it, and this cause.
 pub(crate) fn write_event(
     line: &mut String,
-    known: &Known,
+    versions: &[Version],
     stage: &Stage,
     events: &[Event],
     event: &Event,
+    cause: Option<Cause>,
 ) -> Result<(), AllocError>
     requires ranges { HasRanges stage.now }
-    requires kept { Knows stage.now (reverse events.now) known.now }
+    requires kept { AreVersions (reverse events.now) versions.now }
+    requires cause { cause ≡ causes.cause stage.now (reverse events.now) event.now.clock.0
+        event.now.what }
     ensures { OnOk result
         (string_bytes line.new ≡ string_bytes line.old
         ++ report.event_line stage.now (reverse events.now) event.now) }
 {
     let clock = event.clock.0;
-    let cause = known.cause(stage, events, event);
     match event.what {
         What::Publish(version) => writeln!(line, "{clock} publish {}", version.0),
         What::Switch { mux, version } => writeln!(line, "{clock} switch {} {}", mux.0, version.0),
-        What::Steer { packet, mux } => write_steer(line, known, stage, events, clock, packet, mux),
+        What::Steer { packet, mux } => write_steer(
+            line, versions, stage, events, clock, packet, mux,
+        ),
         What::Lose { packet, hop } => writeln!(line, "{clock} lost {packet} {}", hop_word(hop)),
         What::Arrive {
             packet,
@@ -155,14 +160,25 @@ pub(crate) fn write_event(
     }
 }
 
-/// The note on the record that is cut short.
-pub(crate) fn write_note(line: &mut String, number: u32) -> Result<(), AllocError>
+/// The note on the record of this number, which is cut short.
+fn write_note(line: &mut String, number: u32) -> Result<(), AllocError>
     ensures { OnOk result
         (string_bytes line.new ≡ string_bytes line.old
         ++ words.line (codes "note")
         (codes "record" ∷ decimal number ∷ codes "cut" ∷ codes "short" ∷ [])) }
 {
     writeln!(line, "note record {number} cut short")
+}
+
+/// The note on the record that is cut short, where there is one.
+pub(crate) fn write_cut(line: &mut String, cut: Option<u32>) -> Result<(), AllocError>
+    ensures { OnOk result
+        (string_bytes line.new ≡ string_bytes line.old ++ report.note_line cut) }
+{
+    match cut {
+        None => Ok(()),
+        Some(number) => write_note(line, number),
+    }
 }
 
 pub(crate) fn write_totals(line: &mut String, t: &Totals) -> Result<(), AllocError>

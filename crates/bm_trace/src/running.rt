@@ -1,4 +1,4 @@
-//! What is kept of the events while their lines are written.
+//! What is kept of the events while their causes are found.
 ghost use Rattle.std.specs.Prelude.{◌≡◌, ℕ, ◌+◌, ◌-◌, ◌<◌, ◌≤◌, ◌==◌, List, length, reverse, OnOk};
 ghost use Rattle.std.specs.Prelude.{IfOk, Some, None, if◌then◌else◌, slice_set, slice_index_or, []};
 ghost use Rattle.std.specs.Prelude.{◌∷◌, ◌&&◌};
@@ -6,15 +6,13 @@ ghost use Rattle.std.specs.BTreeMap as tree;
 ghost use Rattle.bm_base.specs.declared.flow.Flow.{Flow};
 ghost use Rattle.bm_base.specs.Segments.{same_flow};
 ghost use Rattle.bm_core.specs.declared.events.Event.{Event};
-ghost use Rattle.bm_core.specs.Causes as causes;
 ghost use Rattle.bm_core.specs.Past as past;
 ghost use Rattle.bm_trace.specs.Ranges.{HasRanges};
-ghost use Rattle.bm_trace.specs.Totals as totals;
 ghost use Rattle.bm_core.specs.Past.{is_accept};
 ghost use Rattle.bm_trace.specs.Accepts.{owner_before};
 
-use crate::causes::Arrival;
-use crate::past::{Owner, Sent, sent_of, version_at};
+use crate::past::{Owner, Sent, sent_of};
+use crate::versions::{no_versions, set_version, version_in};
 use bm_base::{Flow, Hop, MuxId, Segment, ServerId, Version};
 use bm_core::{Event, Stage, Verdict, What};
 use std::alloc::{AllocError, Global};
@@ -75,15 +73,6 @@ impl Accepts {
     }
 }
 
-fn set_version(versions: &mut Vec<Version>, mux: MuxId, version: Version)
-    ensures { versions.new.items ≡ slice_set versions.old.items mux.0 version }
-{
-    let place = mux.0 as usize;
-    if place < versions.len() {
-        versions[place] = version;
-    }
-}
-
 fn set_sent(packets: &mut Vec<Option<Sent>>, packet: u32, sent: Sent)
     ensures { packets.new.items
         ≡ (if packet == 0 then packets.old.items
@@ -106,7 +95,7 @@ pub(crate) struct Running {
 }
 
 impl Running {
-    ghost use Rattle.bm_trace.specs.Running.{AreVersions, Keeps};
+    ghost use Rattle.bm_trace.specs.Running.{Keeps};
     ghost use Rattle.bm_trace.specs.Sent.{IsSent};
 
     /// Before the first event, with so many muxes and packets.
@@ -115,23 +104,10 @@ impl Running {
     {
         Ok(Running {
             newest: Version(0),
-            versions: vec![in alloc; Version(0); muxes]?,
+            versions: no_versions(alloc, muxes)?,
             accepts: Accepts::new(alloc),
             packets: vec![in alloc; None; packets]?,
         })
-    }
-
-    /// The version of the mux after these events.
-    pub(crate) fn version(&self, events: &[Event], mux: MuxId) -> Version
-        requires { AreVersions (reverse events.now) self.now.versions.items }
-        ensures { result ≡ past.version_at (reverse events.now) mux }
-    {
-        let place = mux.0 as usize;
-        if place < self.versions.len() {
-            self.versions[place]
-        } else {
-            version_at(events, mux)
-        }
     }
 
     /// The newest version after these events.
@@ -189,7 +165,7 @@ impl Running {
     {
         let sent = Sent {
             mux,
-            version: self.version(events, mux),
+            version: version_in(&self.versions, events, mux),
             owner: self.accepts.get_for(stage.segment(packet)),
         };
         set_sent(&mut self.packets, packet, sent)
@@ -240,24 +216,5 @@ impl Running {
             What::Lose { .. } | What::Close { .. } | What::Retire { .. } | What::Sync => {}
         }
         Ok(())
-    }
-
-    /// Whether the event after these is a stray.
-    pub(crate) fn is_stray(&self, stage: &Stage, events: &[Event], what: &What) -> bool
-        requires { Keeps stage.now (reverse events.now) self.now }
-        ensures { result ≡ totals.is_stray stage.now (reverse events.now) what.now }
-    {
-        match what {
-            What::Arrive {
-                packet,
-                server,
-                verdict,
-                ..
-            } => {
-                let sent = self.sent(stage, events, *packet);
-                Arrival::new(stage, *packet, *server, *verdict, sent).is_stray()
-            }
-            _ => false,
-        }
     }
 }

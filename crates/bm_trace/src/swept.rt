@@ -47,6 +47,11 @@ impl CauseList {
         CauseList { causes }
     }
 
+    /// What its memory is taken from.
+    pub(crate) fn allocator(&self) -> Global {
+        *self.causes.allocator()
+    }
+
     /// The cause of the event at this place, where it has one. Takes no memory.
     pub fn at(&self, place: usize) -> Option<Cause>
         ensures { result ≡ cause_in self.now place }
@@ -70,13 +75,22 @@ fn sweep_events(alloc: Global, h: &History) -> Result<Vec<Option<Cause>>, AllocE
     Ok(causes)
 }
 
+/// The cause of each event of a history whose numbers are in their ranges.
+#[tactic(auto, using(crate::proofs::Sweeping::all_causes))]
+pub(crate) fn causes_of(alloc: Global, h: &History) -> Result<CauseList, Memory>
+    requires { HasRanges h.now.stage }
+    ensures { IfOk result (λ causes. AreCauses h.now causes) }
+{
+    Ok(CauseList::of(sweep_events(alloc, h)?))
+}
+
 /// The cause of each event, in one sweep over the history.
-#[tactic(auto, using(crate::proofs::Ranged::ranges_of, crate::proofs::Sweeping::all_causes))]
+#[tactic(auto, using(crate::proofs::Ranged::ranges_of))]
 pub fn sweep(alloc: Global, h: &History) -> Result<CauseList, Memory>
     requires { IsRun h.now }
     ensures { IfOk result (λ causes. AreCauses h.now causes) }
 {
-    Ok(CauseList::of(sweep_events(alloc, h)?))
+    causes_of(alloc, h)
 }
 
 /// Whether an event with this cause is a stray.

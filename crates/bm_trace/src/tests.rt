@@ -1,9 +1,11 @@
 use crate::document::put_report;
+use crate::swept::causes_of;
 use crate::totals;
 use Happening::*;
 use Seen::*;
 use bm_base::*;
 use bm_core::{Event, History, Stage, Verdict, What, Why};
+use bm_io::MemSink;
 use bm_table::{Change, Kind, Move, Plan, Retirement, Script, Setting};
 use std::alloc::Global;
 use std::process::Abort;
@@ -159,14 +161,15 @@ fn history(alloc: Global) -> Result<History, Fail> {
 }
 
 /// The report of a history whose numbers are in their ranges.
-fn report(rt: &impl Abort, alloc: Global, h: &History) -> Result<Vec<u8>, Fail> {
+fn report(rt: &impl Abort, alloc: Global, h: &History) -> Result<MemSink, Fail> {
     let script = &h.stage.script;
     assert!(rt; script.setting.buckets == 8);
     assert!(rt; script.plan.buckets() == 8);
     assert!(rt; 1 <= script.setting.shards && script.setting.shards <= 64);
     assert!(rt; h.stage.capture.records.items().len() <= 100);
-    let mut out = Vec::new(alloc);
-    put_report(h, &mut out)?;
+    let mut out = MemSink::new(alloc, Vec::new(alloc));
+    let causes = causes_of(alloc, h)?;
+    put_report(h, &causes, &totals(h), &mut out).map_err(|_| "the sink failed")?;
     Ok(out)
 }
 
@@ -195,7 +198,7 @@ fn each_event_and_each_record_has_its_line(rt: HostRuntime) -> Result<(), Fail> 
     let want = lines(alloc)?;
     let h = history(alloc)?;
     let out = report(&rt, alloc, &h)?;
-    assert_eq!(rt; out.as_slice(), want.as_slice());
+    assert_eq!(rt; out.written(), want.as_slice());
     assert!(rt; totals(&h).processed == 6 && totals(&h).stray == 1);
     Ok(())
 }

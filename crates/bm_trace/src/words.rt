@@ -42,7 +42,8 @@ fn why_word(why: Why) -> &'static str
     }
 }
 
-fn cause_word(cause: Cause) -> &'static str
+/// The word of a cause.
+pub fn cause_word(cause: Cause) -> &'static str
     ensures { result.now ≡ words.cause_word cause }
 {
     match cause {
@@ -79,7 +80,7 @@ pub(crate) fn reason_word(reason: Reason) -> &'static str
 
 /// The words of a verdict, each behind a space.
 #[derive(Clone, Copy)]
-pub(crate) struct VerdictWords(pub(crate) Verdict);
+pub struct VerdictWords(pub Verdict);
 
 impl fmt::Display for VerdictWords {
     ghost output = { λ v. Some (words.spaced (words.verdict_words v.0)) };
@@ -97,7 +98,7 @@ impl fmt::Display for VerdictWords {
 
 /// The words of a cause, each behind a space, or nothing.
 #[derive(Clone, Copy)]
-pub(crate) struct BecauseWords(pub(crate) Option<Cause>);
+pub struct BecauseWords(pub Option<Cause>);
 
 impl fmt::Display for BecauseWords {
     ghost output = { λ c. Some (words.spaced (words.because_words c.0)) };
@@ -128,9 +129,9 @@ impl fmt::Display for RetirementWords {
 
 /// An address and a port.
 #[derive(Clone, Copy)]
-pub(crate) struct Endpoint {
-    pub(crate) addr: u32,
-    pub(crate) port: u16,
+pub struct Endpoint {
+    pub addr: u32,
+    pub port: u16,
 }
 
 impl fmt::Display for Endpoint {

@@ -1,5 +1,5 @@
--- What clap makes of a form's words.
-use Rattle.std.proofs.Common.{◌≡◌, ◌==◌, ◌&&◌, not, ℕ, List, [], ◌∷◌, Bool, true, false, cond, Option, Some, None}
+-- What clap makes of the words that play a capture.
+use Rattle.std.proofs.Common.{◌≡◌, ◌==◌, not, ℕ, List, [], ◌∷◌, Bool, true, false, cond, Option, Some, None}
 use Rattle.std.proofs.Common.{is_some, codes, refl, option_map, option_and_then, unwrap_or, drop, subst, sym, ap, ap₂}
 use Rattle.std.proofs.Common.{◌∙◌}
 use Rattle.std.proofs.lemmas.Bool.{and_parts}
@@ -8,7 +8,7 @@ use Rattle.std.specs.Str.{bytes_eq}
 use Rattle.clap.specs.Words.{Row, Text, first_of, is_simple, subcommand_of, takes}
 use Rattle.clap.proofs.OnLiterals.{clap_on_literals}
 use Rattle.bm_words.specs.Command.{beamer}
-use Rattle.bm_words.specs.Form.{Asked, IsVerbIn, Named, asked_by, form_of, is_name, names_of, verb_of}
+use Rattle.bm_words.specs.Form.{Named, asked_by, names_of, play_of, verb_of}
 use Rattle.bm_words.specs.declared.form.Verb.{Verb}
 use Rattle.bm_words.specs.declared.form.Verb.TheVariants.{Replay, Run}
 
@@ -132,7 +132,7 @@ behind v ((x ∷ xs) ∷ (y ∷ ys) ∷ []) h =
     in two_read v x y xs ys (not_true _ k.0) (not_true _ k.1)
 behind v (c ∷ s ∷ t ∷ ts) h = absurd (cc)
 
-pub reads : (words : List Text) → is_some (form_of words) ≡ true → Reads words
+pub reads : (words : List Text) → is_some (play_of words) ≡ true → Reads words
 reads [] h = absurd (cc)
 reads (w ∷ names) h = go (verb_of w) refl h where
   go : (v : Option Verb) → verb_of w ≡ v
@@ -142,7 +142,7 @@ reads (w ∷ names) h = go (verb_of w) refl h where
   go (Some v) is e = subst (λ u. Reads (u ∷ names)) (sym (word_is w v is)) (behind v names e)
 
 -- there are names
-pub names_there : (words : List Text) → is_some (form_of words) ≡ true → is_some (names_of (drop 1 words)) ≡ true
+pub names_there : (words : List Text) → is_some (play_of words) ≡ true → is_some (names_of (drop 1 words)) ≡ true
 names_there [] h = absurd (cc)
 names_there (w ∷ names) h = go (verb_of w) h where
   go : (v : Option Verb)
@@ -178,7 +178,7 @@ pub record Found (rows : Option (List Row)) (words : List Text) : Type 0 where
   pub words_are : names_of (drop 1 words) ≡ Some form
   pub has : HasForm there form
 
-pub is_found : (o : Option (Text × List Row)) (words : List Text) → is_some (form_of words) ≡ true →
+pub is_found : (o : Option (Text × List Row)) (words : List Text) → is_some (play_of words) ≡ true →
     o ≡ subcommand_of beamer words → Found (option_map (λ p. p.1) o) words
 is_found o words h e = go (names_of (drop 1 words)) refl (names_there words h)
   where

@@ -1,15 +1,23 @@
--- What the words ask for: `replay CAPTURE`, `replay CAPTURE SCRIPT` or `run CAPTURE SCRIPT`. A word
--- that is empty or begins with `-` makes them no form.
+-- What the words ask for: `replay CAPTURE`, `replay CAPTURE SCRIPT`, `run CAPTURE SCRIPT` or
+-- `load N`. A word that is empty or begins with `-` makes them no form.
 use Rattle.std.specs.Prelude.{ℕ, List, [], ◌∷◌, Bool, false, not, ◌&&◌, ◌==◌, if◌then◌else◌}
 use Rattle.std.specs.Prelude.{Option, Some, None, is_some, codes, drop, map, option_and_then, option_map}
-use Rattle.std.specs.Prelude.{◌≡◌, string_bytes, true}
+use Rattle.std.specs.Prelude.{◌≡◌, ◌≤◌, string_bytes, true}
+use Rattle.std.specs.Char.{is_ascii_digit}
+use Rattle.std.specs.Int.{is_in_range}
+use Rattle.std.specs.List.{list_all}
+use Rattle.std.specs.Option.{option_or}
 use Rattle.std.specs.Str.{bytes_eq}
+use Rattle.std.specs.Str.Parse.{digits_value}
 use Rattle.std.specs.Prelude.{String}
 use Rattle.bm_words.specs.declared.form.Verb.{Verb}
 use Rattle.bm_words.specs.declared.form.Verb.TheVariants.{Replay as to_replay, Run as to_run}
 use Rattle.bm_words.specs.declared.words.Form.{Form}
 use Rattle.bm_words.specs.declared.words.Form.TheVariants.{Replay as in_replay, Run as in_run}
+use Rattle.bm_words.specs.declared.words.Form.TheVariants.{Load as in_load}
 use Rattle.bm_words.specs.declared.words.Names.{Names}
+
+-- NAMES AND NUMBERS
 
 -- the names of a capture and perhaps of a script
 pub record Named : Type 0 where
@@ -30,10 +38,31 @@ names_of (capture ∷ script ∷ []) =
     else None
 names_of _ = None
 
+-- decimal digits, of which the first isn't 0
+abbrev pub is_numeral : List ℕ → Bool
+is_numeral [] = false
+is_numeral (x ∷ xs) = not (x == 48) && list_all is_ascii_digit (x ∷ xs)
+
+-- the number, where it is 1 to 20,000
+abbrev pub if_count : ℕ → Option ℕ
+if_count n = if is_in_range 1 20000 n then Some n else None
+
+-- the number of connections that the word writes in decimal, without a sign or a leading zero
+unfoldable pub count_of : List ℕ → Option ℕ
+count_of word = if is_numeral word then if_count (digits_value 10 word) else None
+
+-- THE FORMS
+
 -- what the words ask for: one case for each form, with what it names
 pub data Asked : Type 0 where
   Replay : Named → Asked
   Run : List ℕ → List ℕ → Asked
+  Load : ℕ → Asked
+
+-- a load has 1 to 20,000 connections
+abbrev pub HasCount : Asked → Type 0
+HasCount (Load n) = (1 ≤ n) × (n ≤ 20000)
+HasCount _ = Unit {0}
 
 -- a run has a script
 abbrev pub run_of : Named → Option Asked
@@ -51,11 +80,20 @@ verb_of word =
     else if bytes_eq word (codes "run") then Some to_run
     else None
 
--- the word is a command, and the others name what it asks for; None where they are of no form
-abbrev pub form_of : List (List ℕ) → Option Asked
-form_of [] = None
-form_of (word ∷ names) =
+-- the word is a command that plays a capture, and the others name what it asks for
+abbrev pub play_of : List (List ℕ) → Option Asked
+play_of [] = None
+play_of (word ∷ names) =
     option_and_then (λ verb. option_and_then (asked_by verb) (names_of names)) (verb_of word)
+
+-- the connections of a load, where the words ask for one
+abbrev pub connections_of : List (List ℕ) → Option ℕ
+connections_of (word ∷ number ∷ []) = if bytes_eq word (codes "load") then count_of number else None
+connections_of _ = None
+
+-- what the words ask for; None where they are of no form
+abbrev pub form_of : List (List ℕ) → Option Asked
+form_of words = option_or (option_map Load (connections_of words)) (play_of words)
 
 -- the same, of the words as they are given
 abbrev pub form_in : {A : Type 0} → List (String A) → Option Asked
@@ -70,11 +108,12 @@ named names = record {
       option_map (λ s. s.now) names.script;
 }
 
--- the words are of a form with this command
+-- the words play a capture by this command
 pub record IsVerbIn (words : List (List ℕ)) (verb : Verb) : Type 0 where
-  pub form : form_of words ≡ option_and_then (asked_by verb) (names_of (drop 1 words))
-  pub some : is_some (form_of words) ≡ true
+  pub form : play_of words ≡ option_and_then (asked_by verb) (names_of (drop 1 words))
+  pub some : is_some (play_of words) ≡ true
 
 abbrev pub asked : Form → Asked
 asked (in_replay names) = Replay (named names)
 asked (in_run capture script) = Run capture.now script.now
+asked (in_load connections) = Load connections

@@ -1,8 +1,10 @@
 //! The command that the words begin with, where they are of a form.
-ghost use Rattle.std.specs.Prelude.{◌≡◌, IfSome, None, map, string_bytes};
-ghost use Rattle.bm_words.specs.Form.{IsVerbIn, form_of, is_name, verb_of};
+ghost use Rattle.std.specs.Prelude.{◌≡◌, IfSome, None, is_some, map, string_bytes};
+ghost use Rattle.bm_words.specs.Form.{IsVerbIn, connections_of, is_name, play_of, verb_of};
 
-/// A command.
+use crate::count::count_in;
+
+/// A command that plays a capture.
 #[derive(Clone, Copy, Debug, PartialEq, Eq)]
 pub(crate) enum Verb {
     /// `replay CAPTURE [SCRIPT]`
@@ -11,9 +13,19 @@ pub(crate) enum Verb {
     Run,
 }
 
-/// The command of the words, where they are of a form.
+/// Whether the words are `load N`.
+pub(crate) fn is_load(words: &[String]) -> bool
+    ensures { result ≡ is_some (connections_of (map string_bytes words.now)) }
+{
+    match words {
+        [word, number] => word.as_str() == "load" && count_in(number.as_str()).is_some(),
+        _ => false,
+    }
+}
+
+/// The command of the words, where they play a capture.
 pub(crate) fn verb_in(words: &[String]) -> Option<Verb>
-    ensures none { result ≡ None → form_of (map string_bytes words.now) ≡ None }
+    ensures none { result ≡ None → play_of (map string_bytes words.now) ≡ None }
     ensures some { IfSome result (IsVerbIn (map string_bytes words.now)) }
 {
     match words {

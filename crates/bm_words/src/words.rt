@@ -1,13 +1,15 @@
 //! Reads the words.
-ghost use Rattle.std.specs.Prelude.{◌≡◌, IfErr, IfOk, IsSome, Some, drop, is_some, map, option_map};
-ghost use Rattle.std.specs.Prelude.{string_bytes, true};
-ghost use Rattle.clap.specs.Words.{app_of};
+ghost use Rattle.std.specs.Prelude.{◌≡◌, ◌≤◌, IfErr, IfOk, IfSome, IsSome, Some, drop, is_some};
+ghost use Rattle.std.specs.Prelude.{map, option_map, string_bytes, true};
+ghost use Rattle.clap.specs.Words.{app_of, subcommand_of, subcommand_rows_of, takes};
 ghost use Rattle.bm_words.specs.Command.{beamer};
-ghost use Rattle.bm_words.specs.Form.{asked, asked_by, form_in, named, names_of};
+ghost use Rattle.bm_words.specs.Form.{HasCount, asked, asked_by, connections_of, form_in, named};
+ghost use Rattle.bm_words.specs.Form.{names_of, play_of};
 
-use crate::form::{Verb, verb_in};
+use crate::count::count_in;
+use crate::form::{Verb, is_load, verb_in};
 use clap::error::ErrorKind;
-use clap::{Arg, Command};
+use clap::{Arg, ArgMatches, Command};
 use std::alloc::{AllocError, Global};
 
 /// What the words ask for.
@@ -17,6 +19,8 @@ pub enum Form<'a> {
     Replay(Names<'a>),
     /// The run of a capture in threads, with a script.
     Run { capture: &'a str, script: &'a str },
+    /// The run of a generated load of so many connections, 1 to 20,000.
+    Load { connections: u32 },
 }
 
 /// The names of a capture, and perhaps of a script. Both are names of files.
@@ -26,14 +30,20 @@ pub struct Names<'a> {
     pub script: Option<&'a str>,
 }
 
-/// What the words ask for: `replay CAPTURE`, `replay CAPTURE SCRIPT` or `run CAPTURE SCRIPT`, or
-/// nothing where they are of no form. A name isn't empty and doesn't begin with `-`. The words are
-/// without the program's own name. `AllocError` where memory was refused.
+/// What the words ask for: `replay CAPTURE`, `replay CAPTURE SCRIPT`, `run CAPTURE SCRIPT` or
+/// `load N`, or nothing where they are of no form. A name isn't empty and doesn't begin with `-`. N
+/// is 1 to 20,000, in decimal without a sign or a leading zero. The words are without the program's
+/// own name. `AllocError` where memory was refused.
 pub fn read_words<'a>(alloc: Global, words: &'a [String]) -> Result<Option<Form<'a>>, AllocError>
     ensures form { IfOk result (λ form. option_map asked form ≡ form_in words.entry.now) }
+    ensures range { IfOk result (λ form. IfSome form (λ f. HasCount (asked f))) }
     // Words of no form take no memory.
     ensures memory { IfErr result (λ _. IsSome (form_in words.entry.now)) }
 {
+    if is_load(words) {
+        let connections = read_connections(alloc, words)?;
+        return Ok(Some(Form::Load { connections }));
+    }
     let Some(verb) = verb_in(words) else {
         return Ok(None);
     };
@@ -44,7 +54,8 @@ pub fn read_words<'a>(alloc: Global, words: &'a [String]) -> Result<Option<Form<
 /// What a command asks for, with these names.
 fn with_names<'a>(verb: Verb, names: Names<'a>) -> Form<'a>
     requires { is_some (asked_by verb (named names)) ≡ true }
-    ensures { Some (asked result) ≡ asked_by verb (named names.entry) }
+    ensures asked { Some (asked result) ≡ asked_by verb (named names.entry) }
+    ensures range { HasCount (asked result) }
 {
     let Names { capture, script } = names;
     match (verb, script) {
@@ -54,19 +65,13 @@ fn with_names<'a>(verb: Verb, names: Names<'a>) -> Form<'a>
     }
 }
 
-/// The names behind the command, where the words are of a form.
+/// The names behind the command, where the words play a capture.
 fn read_names<'a>(alloc: Global, words: &'a [String]) -> Result<Names<'a>, AllocError>
-    requires { is_some (form_in words.now) ≡ true }
+    requires { is_some (play_of (map string_bytes words.now)) ≡ true }
     ensures { IfOk result
         (λ names. Some (named names) ≡ names_of (drop 1 (map string_bytes words.entry.now))) }
 {
-    let command = command(alloc)?;
-    let matches = match command.try_get_matches_from(words) {
-        Ok(matches) => matches,
-        Err(e) if e.kind() == ErrorKind::OutOfMemory => return Err(AllocError),
-        // The words are of a form, which clap takes.
-        Err(_) => unreachable!(),
-    };
+    let matches = matches_in(alloc, words)?;
     let Some((_, found)) = matches.subcommand() else {
         unreachable!()
     };
@@ -79,6 +84,40 @@ fn read_names<'a>(alloc: Global, words: &'a [String]) -> Result<Names<'a>, Alloc
     })
 }
 
+/// The connections of a load, where the words ask for one.
+fn read_connections(alloc: Global, words: &[String]) -> Result<u32, AllocError>
+    requires { is_some (connections_of (map string_bytes words.now)) ≡ true }
+    ensures connections { IfOk result (λ n. Some n ≡ connections_of (map string_bytes words.now)) }
+    ensures range { IfOk result (λ n. (1 ≤ n) × (n ≤ 20000)) }
+{
+    let matches = matches_in(alloc, words)?;
+    let Some((_, found)) = matches.subcommand() else {
+        unreachable!()
+    };
+    let Some(number) = found.get_str("connections") else {
+        unreachable!()
+    };
+    let Some(count) = count_in(number) else {
+        unreachable!()
+    };
+    Ok(count)
+}
+
+/// What the command that reads the words makes of those that it takes.
+fn matches_in<'a>(alloc: Global, words: &'a [String]) -> Result<ArgMatches<'a>, AllocError>
+    requires { takes beamer (map string_bytes words.now) ≡ true }
+    ensures { IfOk result (λ matches.
+        subcommand_rows_of matches ≡ subcommand_of beamer (map string_bytes words.entry.now)) }
+{
+    let command = command(alloc)?;
+    match command.try_get_matches_from(words) {
+        Ok(matches) => Ok(matches),
+        Err(e) if e.kind() == ErrorKind::OutOfMemory => Err(AllocError),
+        // They are taken.
+        Err(_) => unreachable!(),
+    }
+}
+
 /// The command that reads the words.
 fn command<'a>(alloc: Global) -> Result<Command<'a>, AllocError>
     ensures { IfOk result (λ command. app_of command ≡ beamer) }
@@ -89,10 +128,12 @@ fn command<'a>(alloc: Global) -> Result<Command<'a>, AllocError>
     let run = Command::new(alloc, "run")
         .arg(Arg::new(alloc, "capture"))?
         .arg(Arg::new(alloc, "script"))?;
+    let load = Command::new(alloc, "load").arg(Arg::new(alloc, "connections"))?;
     let top = Command::new(alloc, "beamer")
         .no_binary_name(true)
         .disable_help_subcommand(true)
         .subcommand(replay)?
-        .subcommand(run)?;
+        .subcommand(run)?
+        .subcommand(load)?;
     Ok(top)
 }

@@ -1,13 +1,16 @@
-use Rattle.std.proofs.Common.{subst, sym}
+use Rattle.bm_cli.proofs.Telling.{tells_nothing, tells_report}
+use Rattle.bm_cli.proofs.Wider.{is_run}
 use Rattle.bm_cli.specs.Dues.{Shown}
 use Rattle.bm_cli.specs.Headline.{IsReportOf}
-use Rattle.bm_cli.proofs.Telling.{tells_due, tells_nothing}
 use Rattle.bm_cli.proofs.show.show.Goals as goal
+
+pub show_history-requires : goal.show_history-requires
+show_history-requires g c = is_run c.args.mode c.args.stage c.in-Ok.history c.in-Ok.ensures.made
 
 pub returns-in-Ok : goal.returns-in-Ok
 returns-in-Ok g c =
-    tells_due (Shown (IsReportOf c.args.mode c.args.stage)) c.deref.result.now _ _
-    (subst (IsReportOf c.args.mode c.args.stage) (sym c.deref.ensures.value) c.in-Ok.ensures) c.say.ensures
+    tells_report c.args.mode c.args.stage c.in-Ok.history _ _ c.in-Ok.ensures.about c.in-Ok.ensures.made
+    c.show_history.ensures
 
 pub returns-in-Err : goal.returns-in-Err
 returns-in-Err g c = tells_nothing (Shown (IsReportOf c.args.mode c.args.stage)) _ _

@@ -1,29 +1,49 @@
-use Rattle.bm_trace.proofs.Parted.{all_pieces, first_piece, last_piece_missing, on_err, second_piece}
-use Rattle.bm_trace.specs.Report.{text}
+use Rattle.std.proofs.Common.{rules}
+use Rattle.bm_trace.proofs.Handing.{both_on, part_after, part_rest}
+use Rattle.bm_trace.proofs.Parted.{err_more, last_put, ok_more, on_err, report_part, report_refused, report_written}
 use Rattle.bm_trace.proofs.document.put_report.Goals as goal
 
-pub returns-in_err-strays-clause-err : goal.returns-in_err-strays-clause-err
-unfolding text
-returns-in_err-strays-clause-err c =
-    on_err _ _ (first_piece c.args.out.now.items c.put_events.new.out.items _ _ _ _ c.in_err-strays.ensures.err)
+pub returns-in_err-put_events-clause-err : goal.returns-in_err-put_events-clause-err
+returns-in_err-put_events-clause-err g c =
+    on_err _ _
+    (report_part c.args.h.now _ _ _ (search rules) (part_rest _ _ _ _ _ c.in_err-put_events.ensures.err))
 
 pub returns-in_err-put_records-clause-err : goal.returns-in_err-put_records-clause-err
-unfolding text
-returns-in_err-put_records-clause-err c =
+returns-in_err-put_records-clause-err g c =
     on_err _ _
-    (second_piece c.args.out.now.items c.put_events.new.out.items c.put_records.new.out.items _ _ _ _
-    c.in_ok-strays.ensures.ok c.in_err-put_records.ensures.err)
+    (report_part c.args.h.now _ _ _ (search rules)
+    (part_after _ _ _ _ _ _ _ c.in_ok-put_events.ensures.ok c.in_err-put_records.ensures.err))
+
+pub returns-in_err-write_cut-clause-err : goal.returns-in_err-write_cut-clause-err
+returns-in_err-write_cut-clause-err g c =
+    on_err _ _
+    (report_part c.args.h.now _ _ _ (search rules)
+    (record {
+      lost = _;
+      on = both_on _ _ _ _ _ _ _ _ c.in_ok-put_events.ensures.ok c.in_ok-put_records.ensures.ok;
+    }))
+
+pub returns-in_err-write_totals-clause-err : goal.returns-in_err-write_totals-clause-err
+returns-in_err-write_totals-clause-err g c =
+    on_err _ _
+    (report_part c.args.h.now _ _ _ (search rules)
+    (record {
+      lost = _;
+      on = both_on _ _ _ _ _ _ _ _ c.in_ok-put_events.ensures.ok c.in_ok-put_records.ensures.ok;
+    }))
 
 pub returns-clause-ok : goal.returns-clause-ok
-unfolding text
-returns-clause-ok c =
-    all_pieces c.put_rest.result c.args.out.now.items c.put_events.new.out.items c.put_records.new.out.items
-    c.put_rest.new.out.items _ _ _ _
-    c.in_ok-strays.ensures.ok c.in_ok-put_records.ensures.ok c.put_rest.ensures
+returns-clause-ok g c =
+    ok_more c.put_all.result _ _
+    (report_written c.args.h.now _ _ _ _ _ _ (search rules)
+    (both_on _ _ _ _ _ _ _ _ c.in_ok-put_events.ensures.ok c.in_ok-put_records.ensures.ok)
+    (last_put _ _ _ _ _ _ _ c.as_bytes.ensures.value c.in_ok-write_cut.ensures c.in_ok-write_totals.ensures
+    c.requires.sums)) c.put_all.ensures.ok
 
 pub returns-clause-err : goal.returns-clause-err
-unfolding text
-returns-clause-err c =
-    last_piece_missing c.put_rest.result c.args.out.now.items c.put_events.new.out.items c.put_records.new.out.items
-    c.put_rest.new.out.items _ _ _ _
-    c.in_ok-strays.ensures.ok c.in_ok-put_records.ensures.ok c.put_rest.ensures
+returns-clause-err g c =
+    err_more c.put_all.result _ _
+    (report_refused c.args.h.now _ _ _ _ _ _ (search rules)
+    (both_on _ _ _ _ _ _ _ _ c.in_ok-put_events.ensures.ok c.in_ok-put_records.ensures.ok)
+    (last_put _ _ _ _ _ _ _ c.as_bytes.ensures.value c.in_ok-write_cut.ensures c.in_ok-write_totals.ensures
+    c.requires.sums)) c.put_all.ensures.err

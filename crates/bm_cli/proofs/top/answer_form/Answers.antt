@@ -1,0 +1,12 @@
+use Rattle.std.proofs.Common.{Some, ap, sym}
+use Rattle.bm_words.specs.declared.words.Form.{Form}
+use Rattle.bm_words.specs.Form.{asked}
+use Rattle.bm_cli.proofs.Ending.{load_ends, words_end}
+use Rattle.bm_cli.proofs.top.answer_form.Goals as goal
+
+pub returns-in-Load-clause-ends : goal.returns-in-Load-clause-ends
+returns-in-Load-clause-ends g c =
+    let told = g.F.Files.octets c.args.files.now in
+    words_end _ _ told _ _ _ (sym (ap (λ (f : Form). Some (asked f)) c.in-Load.is))
+    (load_ends c.in-Load.connections told (g.F.Files.asked c.args.files.now) (g.F.Files.faults c.args.files.now) _ _
+    c.run_load.ensures)

@@ -1,0 +1,160 @@
+//! Files and an output that fail at each of their calls in turn, for a replay and for a run.
+ghost use Rattle.std.specs.Prelude.{◌≡◌, IfOk};
+
+use crate::capture::{Form, OPENED, raw};
+use crate::program::words;
+use bm_base::{List, Text};
+use bm_cli::beamer;
+use bm_io::{Files, MemFile, MemFiles, MemSink, OpenGate};
+use std::alloc::{AllocError, Global};
+use std::process::Abort;
+use std::sync::Wait;
+use std::test::Fail;
+use std::thread::Threads;
+
+/// Bucket 4 moves from server 1 to server 2 between the packets.
+const SCRIPT: &str = "[[command]]\nat_ns = 500\ndo = \"move\"\nbucket = 4\nserver = 2\n";
+
+const READ_FAULT: &str = "beamer: read fault\n";
+
+/// Stands in every report of the two packets, in whatever order the threads of a run come.
+const ENDS: &str = "total packets 2 steered 2 unsteered 0 accepted 1 processed 1 ";
+
+/// The device that fails.
+#[derive(Clone, Copy, PartialEq, Eq)]
+enum Device {
+    Script,
+    Capture,
+    Output,
+}
+
+/// The numbers of the calls that fail: one, for the device that is to fail.
+fn fails(alloc: Global, is_it: bool, call: u32) -> Result<Vec<u32>, AllocError> {
+    let mut calls = Vec::new(alloc);
+    if is_it {
+        calls.push(call)?;
+    }
+    Ok(calls)
+}
+
+/// A file that gives at most 40 octets at a time.
+fn file(
+    alloc: Global,
+    name: &str,
+    octets: Vec<u8>,
+    fails: Vec<u32>,
+) -> Result<MemFile, AllocError> {
+    Ok(MemFile {
+        name: Text::of(String::from_str(alloc, name)?),
+        octets: List::of(octets),
+        step: 40,
+        fails: List::of(fails),
+    })
+}
+
+/// The script and the capture, one of which may fail at a call.
+fn both(alloc: Global, device: Device, call: u32) -> Result<MemFiles, AllocError>
+    ensures { IfOk result (λ files. ⟦<MemFiles as Files>⟧.open_now files ≡ 0) }
+{
+    let script = Vec::from_slice(alloc, SCRIPT.as_bytes())?;
+    let capture = raw(alloc, Form::Micro, OPENED)?;
+    let files = vec![in alloc;
+        file(
+            alloc,
+            "s",
+            script,
+            fails(alloc, device == Device::Script, call)?
+        )?,
+        file(
+            alloc,
+            "c",
+            capture,
+            fails(alloc, device == Device::Capture, call)?
+        )?,
+    ]?;
+    Ok(MemFiles::new(alloc, files))
+}
+
+/// Whether the call of this number was made, and so failed. What is written then is due, and no
+/// source stays open.
+fn fail(
+    rt: &(impl Abort + Threads + Wait + Sync),
+    alloc: Global,
+    form: &str,
+    device: Device,
+    call: u32,
+) -> Result<bool, Fail> {
+    let words = words(alloc, &[form, "c", "s"])?;
+    let mut files = both(alloc, device, call)?;
+    let mut out = MemSink::new(alloc, fails(alloc, device == Device::Output, call)?);
+    let status = beamer(rt, alloc, &words, &mut files, &mut out, &OpenGate);
+    assert_eq!(rt; files.open_now(), 0);
+    if status == 0 {
+        assert!(rt; String::from_utf8_lossy(alloc, out.written())?.contains(ENDS));
+        return Ok(false);
+    }
+    let (due, text) = match device {
+        Device::Output => (5, ""),
+        Device::Script | Device::Capture => (2, READ_FAULT),
+    };
+    assert_eq!(rt; status, due);
+    assert_eq!(rt; out.written(), text.as_bytes());
+    Ok(true)
+}
+
+/// How many calls the device gets, each of which fails in turn.
+fn calls(
+    rt: &(impl Abort + Threads + Wait + Sync),
+    alloc: Global,
+    form: &str,
+    device: Device,
+) -> Result<u32, Fail> {
+    for call in 1..100 {
+        if !fail(rt, alloc, form, device, call)? {
+            return Ok(call - 1);
+        }
+    }
+    Ok(100)
+}
+
+/// 64 octets of the script and 146 of the capture come in two and in four reads at least.
+fn check(rt: &(impl Abort + Threads + Wait + Sync), alloc: Global, form: &str) -> Result<(), Fail> {
+    let script = calls(rt, alloc, form, Device::Script)?;
+    let capture = calls(rt, alloc, form, Device::Capture)?;
+    let output = calls(rt, alloc, form, Device::Output)?;
+    assert!(rt; 2 <= script && script < 100);
+    assert!(rt; 4 <= capture && capture < 100);
+    assert!(rt; 1 <= output && output < 100);
+    Ok(())
+}
+
+#[test]
+fn each_call_of_a_device_may_fail(rt: HostRuntime) -> Result<(), Fail> {
+    let alloc = rt.alloc();
+    check(&rt, alloc, "replay")?;
+    check(&rt, alloc, "run")
+}
+
+/// Opens fail where there is no such file.
+fn miss(
+    rt: &(impl Abort + Threads + Wait + Sync),
+    alloc: Global,
+    row: &[&str],
+) -> Result<(), Fail> {
+    let words = words(alloc, row)?;
+    let mut files = both(alloc, Device::Output, 1)?;
+    let mut out = MemSink::new(alloc, Vec::new(alloc));
+    let status = beamer(rt, alloc, &words, &mut files, &mut out, &OpenGate);
+    assert_eq!(rt; (status, files.open_now()), (2, 0));
+    assert_eq!(rt; out.written(), READ_FAULT.as_bytes());
+    Ok(())
+}
+
+#[test]
+fn each_open_may_fail(rt: HostRuntime) -> Result<(), Fail> {
+    let alloc = rt.alloc();
+    miss(&rt, alloc, &["replay", "c", "x"])?;
+    miss(&rt, alloc, &["replay", "x", "s"])?;
+    miss(&rt, alloc, &["run", "c", "x"])?;
+    miss(&rt, alloc, &["run", "x", "s"])
+}

@@ -1,0 +1,172 @@
+//! Copies that were damaged or sent to another server, at servers that are new.
+ghost use Rattle.std.specs.Prelude.{◌≡◌, ◌<◌, ◌∷◌, [], length, map, IfOk};
+ghost use Rattle.bm_turnstile.specs.Sittings.{who};
+ghost use Rattle.bm_server.specs.Seats.{most_turns, row};
+
+use bm_base::{Hop, Memory, Moment, MuxId, ServerId, Tag, Version};
+use bm_core::{Verdict, Why};
+use bm_encap::{set_chained, wrap};
+use bm_ipv4::Ipv4Fault;
+use bm_rows::front;
+use bm_server::{HandleFault, Server, ServerSeat};
+use bm_shard::ShardReply;
+use bm_tcp::{InnerFault, TcpFault};
+use std::alloc::Global;
+use std::process::Abort;
+use std::sync::Wait;
+use std::test::Fail;
+
+/// Ten octets of data from port 1000 of 10.0.0.1 to port 80 of 192.0.2.1.
+const DATA: [u8; 50] = [
+    0x45, 0, 0, 50, 0, 0, 0x40, 0, 64, 6, 0, 0, 10, 0, 0, 1, 192, 0, 2, 1, 3, 0xe8, 0, 80, 0, 0, 0,
+    101, 0, 0, 1, 0xf5, 0x50, 0x18, 255, 255, 0, 0, 0, 0, b'a', b'b', b'c', b'd', b'e', b'f', b'g',
+    b'h', b'i', b'j',
+];
+
+/// Direct to server 2, where server 1 had the bucket until the moment 500.
+const TAG: Tag = Tag {
+    hop: Hop::Direct,
+    dest: ServerId(2),
+    prev: Some(ServerId(1)),
+    stamp: Moment(500),
+    version: Version(1),
+    mux: MuxId(0),
+};
+
+/// The reset of the data: from 192.0.2.1 port 80, with the number that the data acknowledges.
+const RESET: [u8; 40] = [
+    0x45, 0, 0, 0x28, 0, 0, 0x40, 0, 0x40, 6, 0x6e, 0xce, 0xc0, 0, 2, 1, 0x0a, 0, 0, 1, 0, 0x50, 3,
+    0xe8, 0, 0, 1, 0xf5, 0, 0, 0, 0, 0x50, 4, 0, 0, 0xdd, 0xb1, 0, 0,
+];
+
+/// What is done to the copy before a server gets it.
+#[derive(Clone, Copy)]
+pub(crate) enum Damage {
+    /// It is turned to the previous server.
+    Chained,
+    /// Nothing.
+    Nothing,
+    /// An octet of the packet within, counted from 0, is put in place of its own.
+    Octet(usize, u8),
+}
+
+/// The damage, and the server that gets the copy.
+pub(crate) type Case = (Damage, u16);
+
+const CHAINED: Result<ShardReply, HandleFault> = Ok(ShardReply::Arrived {
+    clock: Moment(6),
+    verdict: Verdict::Reset(Why::ChainedUnknown),
+    answer: Some(RESET),
+});
+
+const FORWARDED: Result<ShardReply, HandleFault> = Ok(ShardReply::Arrived {
+    clock: Moment(6),
+    verdict: Verdict::Forward(ServerId(1)),
+    answer: None,
+});
+
+const fn bad(fault: InnerFault) -> Result<ShardReply, HandleFault> {
+    Err(HandleFault::BadInner(fault))
+}
+
+fn alone<S: Drop>(alloc: Global, item: S) -> Result<Vec<S>, Memory>
+    ensures { IfOk result (λ all. all.items ≡ item ∷ []) }
+{
+    let mut all = Vec::new(alloc);
+    all.push(item)?;
+    Ok(all)
+}
+
+/// The octets of the copy; the carrier header is the first 44 of them.
+fn copy_of(alloc: Global, damage: Damage) -> Result<Vec<u8>, Memory> {
+    let mut inner = DATA;
+    if let Damage::Octet(place, octet) = damage {
+        if let Some(at) = inner.get_mut(place) {
+            *at = octet;
+        }
+    }
+    let mut octets = Vec::new(alloc);
+    wrap(&TAG, &inner, &mut octets)?;
+    if let Damage::Chained = damage {
+        let _turned = set_chained(&mut octets);
+    }
+    Ok(octets)
+}
+
+fn hand<R: Wait>(
+    rt: &R,
+    server: &Server,
+    seat: &mut ServerSeat,
+    octets: &[u8],
+) -> Result<ShardReply, HandleFault>
+    requires shard { 0 < length server.now.tables }
+    requires who { map who seat.old ≡ row server.now 0 }
+    requires new { most_turns seat.old ≡ 0 }
+    ensures who { map who seat.new ≡ row server.now 0 }
+{
+    server.handle(rt, seat, 2, octets, Moment(5))
+}
+
+/// What a new server answers, and how many entries its book then has.
+pub(crate) fn ask<R: Wait>(
+    rt: &R,
+    alloc: Global,
+    (damage, id): Case,
+) -> Result<(Result<ShardReply, HandleFault>, usize), Memory> {
+    let octets = copy_of(alloc, damage)?;
+    let (server, seats) = Server::new(alloc, ServerId(id), 1, 8, 1_000_000_000, 1)?;
+    let (mut seat, _) = front(seats);
+    let answer = hand(rt, &server, &mut seat, &octets);
+    let back = alone(alloc, seat)?;
+    let books = server.finish(alloc, back)?;
+    let entries = match books.items() {
+        [book] => book.history().len(),
+        _ => 9,
+    };
+    Ok((answer, entries))
+}
+
+fn check(
+    rt: &(impl Abort + Wait),
+    alloc: Global,
+    case: Case,
+    due: (Result<ShardReply, HandleFault>, usize),
+) -> Result<(), Fail> {
+    let answered = ask(rt, alloc, case).map_err(|_| "memory")?;
+    assert!(rt; answered == due);
+    Ok(())
+}
+
+#[test]
+fn a_server_judges_what_it_is_addressed(rt: HostRuntime) -> Result<(), Fail> {
+    let alloc = rt.alloc();
+    check(&rt, alloc, (Damage::Chained, 1), (CHAINED, 1))?;
+    check(&rt, alloc, (Damage::Nothing, 2), (FORWARDED, 1))
+}
+
+#[test]
+fn a_damaged_copy_touches_no_shard(rt: HostRuntime) -> Result<(), Fail> {
+    let alloc = rt.alloc();
+    let version = bad(InnerFault::Ipv4(Ipv4Fault::NotVersion4));
+    let offset = bad(InnerFault::Tcp(TcpFault::BadOffset));
+    check(&rt, alloc, (Damage::Octet(0, 0x65), 2), (version, 0))?;
+    check(
+        &rt,
+        alloc,
+        (Damage::Octet(6, 0x20), 2),
+        (bad(InnerFault::Fragment), 0),
+    )?;
+    check(
+        &rt,
+        alloc,
+        (Damage::Octet(9, 0x11), 2),
+        (bad(InnerFault::NotTcp), 0),
+    )?;
+    check(&rt, alloc, (Damage::Octet(32, 0x40), 2), (offset, 0))?;
+    check(
+        &rt,
+        alloc,
+        (Damage::Octet(0, 0x65), 3),
+        (Err(HandleFault::NotMine), 0),
+    )
+}
