@@ -1,0 +1,5 @@
+pub mod Steps
+pub mod Passes
+pub mod Sums
+pub mod Counting
+pub mod Lines

@@ -1,0 +1,13 @@
+use Rattle.std.proofs.Common.{◌≡◌, ◌*◌, length, map}
+use Rattle.std.specs.List.{AllByRecursion}
+use Rattle.bm_base.specs.Captures.{AreRising, IsFit}
+use Rattle.bm_link.specs.Fits.{ArePackets}
+use Rattle.bm_table.specs.Settings.{plain_setting}
+use Rattle.bm_connections.proofs.tests.capture.Given as goal
+
+abbrev pub invariant-loop-i : goal.invariant-loop-i
+invariant-loop-i l =
+    (length l.records.items ≡ l.i)
+    × AreRising 0 (1000 * l.i) (map (λ r. r.moment.0) l.records.items)
+    × AllByRecursion (λ r. IsFit plain_setting.vips r) l.records.items
+    × ArePackets l.records.items l.packets

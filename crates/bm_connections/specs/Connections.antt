@@ -1,0 +1,114 @@
+-- What became of the packets of each flow, by looking back through events (docs/DEFINITIONS.md). A
+-- past has its newest event first.
+use Rattle.std.specs.Prelude.{ℕ, suc, Bool, false, ◌&&◌, if◌then◌else◌, List, [], ◌∷◌, map}
+use Rattle.std.specs.Prelude.{Option, Some, None, is_some, option_map, reverse}
+use Rattle.bm_base.specs.declared.capture.Record.{Record}
+use Rattle.bm_base.specs.declared.flow.Flow.{Flow}
+use Rattle.bm_base.specs.declared.ids.Moment.{Moment}
+use Rattle.bm_base.specs.declared.ids.ServerId.{ServerId}
+use Rattle.bm_core.specs.declared.events.Cause.{Cause}
+use Rattle.bm_core.specs.declared.events.Event.{Event}
+use Rattle.bm_core.specs.declared.events.History.{History}
+use Rattle.bm_core.specs.declared.events.Stage.{Stage}
+use Rattle.bm_core.specs.declared.events.Verdict.{Verdict}
+use Rattle.bm_core.specs.declared.events.What.{What}
+use Rattle.bm_core.specs.declared.events.What.TheVariants.{Arrive}
+use Rattle.bm_core.specs.Causes.{cause, is_process}
+use Rattle.bm_core.specs.Past.{accept_of, is_accept, is_forward, is_of, segment_of}
+use Rattle.bm_trace.specs.CauseOf.{is_fault}
+use Rattle.bm_trace.specs.Totals.{arrives, is_drop, is_reset, is_stray}
+use Rattle.bm_connections.specs.declared.connection.Break.{Break}
+use Rattle.bm_connections.specs.declared.connection.Connection.{Connection}
+use Rattle.bm_connections.specs.declared.connection.Tally.{Tally}
+use Rattle.bm_connections.specs.Seen.{first_seen, flows_of, last_seen, records_of}
+
+-- HOW MANY
+
+-- the event is an arrival of a packet of the flow
+abbrev pub is_arrival_for : Stage → Flow → What → Bool
+is_arrival_for stage f (Arrive k hop server verdict) = is_of (segment_of stage k) f
+is_arrival_for stage f _ = false
+
+-- one more, where this is so
+abbrev pub one_more : Bool → ℕ → ℕ
+one_more so n = if so then suc n else n
+
+-- how many arrivals of the flow's packets have a verdict of this kind
+abbrev pub arrivals : Stage → Flow → (Verdict → Bool) → List Event → ℕ
+arrivals stage f kind [] = 0
+arrivals stage f kind (e ∷ past) =
+    one_more (is_arrival_for stage f e.what && arrives kind e.what) (arrivals stage f kind past)
+
+-- how many arrivals of the flow's packets are strays
+abbrev pub strays_for : Stage → Flow → List Event → ℕ
+strays_for stage f [] = 0
+strays_for stage f (e ∷ past) =
+    one_more (is_arrival_for stage f e.what && is_stray stage past e.what) (strays_for stage f past)
+
+-- how many arrivals had each verdict, and how many were strays
+abbrev pub tally : Stage → Flow → List Event → Tally
+tally stage f past = record {
+  accepted = arrivals stage f is_accept past;
+  processed = arrivals stage f is_process past;
+  forwarded = arrivals stage f is_forward past;
+  reset = arrivals stage f is_reset past;
+  dropped = arrivals stage f is_drop past;
+  stray = strays_for stage f past;
+}
+
+-- WHAT BROKE
+
+-- the server that accepted the flow last
+abbrev pub acceptor : Stage → Flow → List Event → Option ServerId
+acceptor stage f past = option_map (λ a. a.server) (accept_of stage past f)
+
+-- a packet of the flow is dropped, reset or a stray after the flow was accepted
+abbrev pub breaks : Stage → Flow → List Event → What → Bool
+breaks stage f past what =
+    is_arrival_for stage f what && is_fault stage past what && is_some (acceptor stage f past)
+
+-- an arrival as a break: its packet, clock, server and verdict, with this cause
+abbrev pub as_break : Moment → What → Option Cause → Option Break
+as_break clock (Arrive k hop server verdict) why = Some (record {
+  packet = k;
+  clock = clock;
+  server = server;
+  verdict = verdict;
+  cause = why;
+})
+as_break clock _ why = None
+
+-- the first, where there is one, and else the second
+abbrev pub first_of_two : Option Break → Option Break → Option Break
+first_of_two None later = later
+first_of_two (Some b) later = Some b
+
+-- the first packet that broke the flow
+abbrev pub first_break : Stage → Flow → List Event → Option Break
+first_break stage f [] = None
+first_break stage f (e ∷ past) =
+    first_of_two (first_break stage f past)
+    (if breaks stage f past e.what
+    then as_break e.clock e.what (cause stage past e.clock.0 e.what)
+    else None)
+
+-- THE TABLE
+
+-- the connection of a flow, after these records and these events
+abbrev pub connection : Stage → List Record → List Event → Flow → Connection
+connection stage records past f = record {
+  flow = f;
+  first = first_seen records f;
+  last = last_seen records f;
+  server = acceptor stage f past;
+  tally = tally stage f past;
+  broken = first_break stage f past;
+}
+
+-- the connection of a flow in a history
+abbrev pub connection_in : History → Flow → Connection
+connection_in h f = connection h.stage (records_of h.stage) (reverse h.events) f
+
+-- a connection for each flow of the capture, in the order of their first packets
+abbrev pub connections : History → List Connection
+connections h = map (connection_in h) (flows_of (records_of h.stage))

@@ -1,0 +1,84 @@
+-- What became of packets by server and by cause, by looking back through events
+-- (docs/DEFINITIONS.md). A past has its newest event first.
+use Rattle.std.specs.Prelude.{ℕ, Bool, false, ◌&&◌, ◌==◌, List, [], ◌∷◌, Option, Some, None, map}
+use Rattle.std.specs.Prelude.{reverse, count_by}
+use Rattle.bm_base.specs.declared.ids.ServerId.{ServerId}
+use Rattle.bm_core.specs.declared.events.Cause.{Cause}
+use Rattle.bm_core.specs.declared.events.Cause.TheVariants.{NeverAccepted, NotHeld, StaleMux}
+use Rattle.bm_core.specs.declared.events.Cause.TheVariants.{MovedTwice, ChainLate, SynElsewhere}
+use Rattle.bm_core.specs.declared.events.Cause.TheVariants.{Full, OldTable}
+use Rattle.bm_core.specs.declared.events.Event.{Event}
+use Rattle.bm_core.specs.declared.events.History.{History}
+use Rattle.bm_core.specs.declared.events.Stage.{Stage}
+use Rattle.bm_core.specs.declared.events.Verdict.{Verdict}
+use Rattle.bm_core.specs.declared.events.What.{What}
+use Rattle.bm_core.specs.declared.events.What.TheVariants.{Arrive}
+use Rattle.bm_core.specs.Causes.{cause, is_process}
+use Rattle.bm_core.specs.Past.{is_accept}
+use Rattle.bm_table.specs.Tables.{same_server}
+use Rattle.bm_trace.specs.Totals.{arrives}
+use Rattle.bm_connections.specs.declared.connection.Break.{Break}
+use Rattle.bm_connections.specs.declared.counts.CauseCount.{CauseCount}
+use Rattle.bm_connections.specs.declared.servers.ServerCount.{ServerCount}
+use Rattle.bm_connections.specs.Connections.{connections, one_more}
+
+-- SERVERS
+
+-- the event is an arrival at the server
+abbrev pub is_arrival_at : ServerId → What → Bool
+is_arrival_at s (Arrive k hop server verdict) = same_server server s
+is_arrival_at s _ = false
+
+-- how many arrivals at the server have a verdict of this kind
+abbrev pub arrivals_at : ServerId → (Verdict → Bool) → List Event → ℕ
+arrivals_at s kind [] = 0
+arrivals_at s kind (e ∷ past) =
+    one_more (is_arrival_at s e.what && arrives kind e.what) (arrivals_at s kind past)
+
+-- how many arrivals a server accepted, and how many it processed
+abbrev pub server_count : List Event → ServerId → ServerCount
+server_count past s = record {
+  server = s;
+  accepted = arrivals_at s is_accept past;
+  processed = arrivals_at s is_process past;
+}
+
+-- the counts of these servers
+abbrev pub server_counts : History → List ServerId → List ServerCount
+server_counts h servers = map (server_count (reverse h.events)) servers
+
+-- CAUSES
+
+abbrev pub number : Cause → ℕ
+number NeverAccepted = 0
+number NotHeld = 1
+number StaleMux = 2
+number MovedTwice = 3
+number ChainLate = 4
+number SynElsewhere = 5
+number Full = 6
+number OldTable = 7
+
+-- there is a cause, and it is this one
+abbrev pub is_cause : Cause → Option Cause → Bool
+is_cause c None = false
+is_cause c (Some found) = number found == number c
+
+-- how many packets have the cause, each counted as often as it arrives with it
+abbrev pub packets_by : Stage → Cause → List Event → ℕ
+packets_by stage c [] = 0
+packets_by stage c (e ∷ past) =
+    one_more (is_cause c (cause stage past e.clock.0 e.what)) (packets_by stage c past)
+
+-- the first packet that broke the connection has the cause
+abbrev pub is_broken_by : Cause → Option Break → Bool
+is_broken_by c None = false
+is_broken_by c (Some b) = is_cause c b.cause
+
+-- how many packets have the cause, and how many connections it broke first
+abbrev pub cause_count : History → Cause → CauseCount
+cause_count h c = record {
+  cause = c;
+  packets = packets_by h.stage c (reverse h.events);
+  connections = count_by (λ x. is_broken_by c x.broken) (connections h);
+}

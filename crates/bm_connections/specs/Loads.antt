@@ -1,0 +1,39 @@
+-- What the code keeps of servers while it goes through events.
+use Rattle.std.specs.Prelude.{◌≡◌, suc, ◌<◌, ◌^◌, List, Option, Some, None}
+use Rattle.std.specs.BTreeMap as tree
+use Rattle.bm_base.specs.contracts.ids.ServerIdOrd.TheImpl as server_order
+use Rattle.bm_base.specs.declared.ids.ServerId.{ServerId}
+use Rattle.bm_core.specs.declared.events.Event.{Event}
+use Rattle.bm_core.specs.declared.events.Verdict.{Verdict}
+use Rattle.bm_core.specs.Causes.{is_process}
+use Rattle.bm_core.specs.Past.{is_accept}
+use Rattle.bm_connections.specs.declared.servers.Loads.{Loads}
+use Rattle.bm_connections.specs.declared.servers.ServerCount.{ServerCount}
+use Rattle.bm_connections.specs.Connections.{one_more}
+use Rattle.bm_connections.specs.Counts.{server_count}
+
+-- the counts of a server, where there are some, and else none
+abbrev pub count_or_none : Option ServerCount → ServerId → ServerCount
+count_or_none None s = record { server = s; accepted = 0; processed = 0 }
+count_or_none (Some c) s = c
+
+-- the counts after an arrival with this verdict
+abbrev pub counted : Verdict → ServerCount → ServerCount
+counted verdict c = record {
+  server = c.server;
+  accepted = one_more (is_accept verdict) c.accepted;
+  processed = one_more (is_process verdict) c.processed;
+}
+
+-- each count can take one more
+pub record CanCount (c : ServerCount) : Type 0 where
+  pub accepted : suc c.accepted < 2 ^ 64
+  pub processed : suc c.processed < 2 ^ 64
+
+-- the counts of each server, where there are some
+abbrev pub load : Loads → ServerId → Option ServerCount
+load loads s = tree.get (server_order.ghosts).cmp loads.counts s
+
+-- these are the counts of all servers after these events
+pub record AreLoads (past : List Event) (loads : ServerId → Option ServerCount) : Type 0 where
+  pub each : (s : ServerId) → count_or_none (loads s) s ≡ server_count past s

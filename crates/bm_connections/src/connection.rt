@@ -1,0 +1,44 @@
+//! A connection, and what became of its packets.
+use bm_base::{Flow, Moment, ServerId};
+use bm_core::{Cause, Verdict};
+
+/// A record of the capture: its number, counted from 1, and its moment.
+#[derive(Clone, Copy, Debug, PartialEq, Eq)]
+pub struct Sight {
+    pub number: u32,
+    pub moment: Moment,
+}
+
+/// How many arrivals of a connection's packets had each verdict. Strays are among the processed.
+#[derive(Clone, Copy, Debug, PartialEq, Eq)]
+pub struct Tally {
+    pub accepted: u64,
+    pub processed: u64,
+    pub forwarded: u64,
+    pub reset: u64,
+    pub dropped: u64,
+    pub stray: u64,
+}
+
+/// A packet that was dropped, reset or a stray after its connection was accepted.
+#[derive(Clone, Copy, Debug, PartialEq, Eq)]
+pub struct Break {
+    pub packet: u32,
+    pub clock: Moment,
+    pub server: ServerId,
+    pub verdict: Verdict,
+    pub cause: Option<Cause>,
+}
+
+/// A connection: its flow, the records that are its first and last packets, the server that
+/// accepted it last, what became of its packets, and the first packet that broke it. A port that is
+/// used again is the same flow.
+#[derive(Clone, Copy, Debug, PartialEq, Eq)]
+pub struct Connection {
+    pub flow: Flow,
+    pub first: Sight,
+    pub last: Sight,
+    pub server: Option<ServerId>,
+    pub tally: Tally,
+    pub broken: Option<Break>,
+}

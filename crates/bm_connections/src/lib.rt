@@ -1,0 +1,25 @@
+//! Connections of a history: a table of what became of each, and its text.
+#![tactic(auto)]
+
+mod connection;
+mod counts;
+mod fields;
+pub mod laws;
+mod noted;
+mod rows;
+mod seen;
+mod servers;
+mod summary;
+mod table;
+mod text;
+
+pub use connection::{Break, Connection, Sight, Tally};
+pub use counts::{CauseCount, cause_count};
+pub use fields::table_csv;
+pub use servers::{ServerCount, server_counts};
+pub use summary::{causes_text, servers_text};
+pub use table::connections;
+pub use text::table_text;
+
+#[cfg(test)]
+mod tests;

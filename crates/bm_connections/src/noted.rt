@@ -1,0 +1,186 @@
+//! The pass over the events: what became of each connection's packets.
+ghost use Rattle.std.specs.Prelude.{◌≡◌, ◌<◌, ◌^◌, ◌&&◌, suc, ℕ, Some, OnOk, is_some, reverse};
+ghost use Rattle.std.specs.Prelude.{if◌then◌else◌, length, None, [], ◌∷◌};
+ghost use Rattle.bm_base.specs.declared.flow.Flow.{Flow};
+ghost use Rattle.bm_base.specs.Segments.{same_flow};
+ghost use Rattle.bm_core.specs.Causes as causes;
+ghost use Rattle.bm_core.specs.Past as past;
+ghost use Rattle.bm_core.specs.Runs.{IsRun};
+ghost use Rattle.bm_trace.specs.CauseOf.{is_fault};
+ghost use Rattle.bm_trace.specs.Swept.{AreCauses};
+ghost use Rattle.bm_trace.specs.Totals as totals;
+ghost use Rattle.bm_connections.specs.Connections as spec;
+ghost use Rattle.bm_connections.specs.Rows as kept;
+ghost use Rattle.bm_connections.specs.Seen.{records_of};
+
+use crate::connection::{Break, Connection, Tally};
+use crate::rows::Rows;
+use bm_base::Flow;
+use bm_core::{Cause, Event, History, Stage, Verdict, What};
+use bm_trace::CauseList;
+use std::alloc::AllocError;
+
+/// One more, where this is so.
+pub(crate) fn one_more(so: bool, count: u64) -> u64
+    requires { suc count < 2 ^ 64 }
+    ensures { result ≡ spec.one_more so count }
+{
+    if so { count + 1 } else { count }
+}
+
+pub(crate) fn is_accept(verdict: Verdict) -> bool
+    ensures { result ≡ past.is_accept verdict }
+{
+    matches!(verdict, Verdict::Accept)
+}
+
+pub(crate) fn is_process(verdict: Verdict) -> bool
+    ensures { result ≡ causes.is_process verdict }
+{
+    matches!(verdict, Verdict::Process(_))
+}
+
+fn is_forward(verdict: Verdict) -> bool
+    ensures { result ≡ past.is_forward verdict }
+{
+    matches!(verdict, Verdict::Forward(_))
+}
+
+fn is_reset(verdict: Verdict) -> bool
+    ensures { result ≡ totals.is_reset verdict }
+{
+    matches!(verdict, Verdict::Reset(_))
+}
+
+fn is_drop(verdict: Verdict) -> bool
+    ensures { result ≡ totals.is_drop verdict }
+{
+    matches!(verdict, Verdict::Drop(_))
+}
+
+/// The counts after an arrival with this verdict, which is a fault or isn't.
+fn tallied(verdict: Verdict, fault: bool, t: &Tally) -> Tally
+    requires { kept.HasRoom t.now }
+    ensures { result ≡ kept.tallied verdict fault t.now }
+{
+    Tally {
+        accepted: one_more(is_accept(verdict), t.accepted),
+        processed: one_more(is_process(verdict), t.processed),
+        forwarded: one_more(is_forward(verdict), t.forwarded),
+        reset: one_more(is_reset(verdict), t.reset),
+        dropped: one_more(is_drop(verdict), t.dropped),
+        stray: one_more(is_process(verdict) && fault, t.stray),
+    }
+}
+
+/// What broke a connection first, after an arrival of one of its packets.
+fn first_break(before: &Connection, arrival: Break) -> Option<Break>
+    ensures { result ≡ spec.first_of_two before.now.broken
+        (if is_some arrival.cause && is_some before.now.server then Some arrival else None) }
+{
+    match before.broken {
+        Some(first) => Some(first),
+        None if arrival.cause.is_some() && before.server.is_some() => Some(arrival),
+        None => None,
+    }
+}
+
+/// A connection after an arrival of one of its packets.
+fn noted(arrival: Break, before: &Connection) -> Connection
+    requires { kept.HasRoom before.now.tally }
+    ensures { result ≡ kept.noted arrival before.now }
+{
+    let server = if is_accept(arrival.verdict) {
+        Some(arrival.server)
+    } else {
+        before.server
+    };
+    Connection {
+        server,
+        tally: tallied(arrival.verdict, arrival.cause.is_some(), &before.tally),
+        broken: first_break(before, arrival),
+        ..*before
+    }
+}
+
+/// An arrival as a break, with this cause.
+pub(crate) fn as_break(event: &Event, cause: Option<Cause>) -> Option<Break>
+    ensures { result ≡ spec.as_break event.now.clock event.now.what cause }
+{
+    match event.what {
+        What::Arrive {
+            packet,
+            server,
+            verdict,
+            ..
+        } => Some(Break {
+            packet,
+            clock: event.clock,
+            server,
+            verdict,
+            cause,
+        }),
+        _ => None,
+    }
+}
+
+impl Rows {
+    /// Takes note of an arrival of one of the flow's packets.
+    fn note_arrival(&mut self, flow: Flow, arrival: Break) -> Result<(), AllocError>
+        requires { kept.HasRoom (kept.row_or_blank (kept.row self.old flow) flow).tally }
+        ensures { OnOk result ((q : Flow) → kept.row self.new q ≡ (if same_flow flow q
+            then Some (kept.noted arrival (kept.row_or_blank (kept.row self.old flow) flow))
+            else kept.row self.old q)) }
+    {
+        let before = self.get_or_blank(flow);
+        self.put(flow, noted(arrival, &before))
+    }
+
+    /// Takes note of the event that has these before it.
+    fn note(
+        &mut self,
+        stage: &Stage,
+        before: &[Event],
+        event: &Event,
+        cause: Option<Cause>,
+    ) -> Result<(), AllocError>
+        requires rows { kept.AreRows stage.now (records_of stage.now) (reverse before.now)
+            (kept.row self.old) }
+        requires room { suc (length before.now) < 2 ^ 64 }
+        requires cause { cause
+            ≡ causes.cause stage.now (reverse before.now) event.now.clock.0 event.now.what }
+        requires fault { is_some cause ≡ is_fault stage.now (reverse before.now) event.now.what }
+        ensures { OnOk result (kept.AreRows stage.now (records_of stage.now)
+            (event.now ∷ reverse before.now) (kept.row self.new)) }
+    {
+        match as_break(event, cause) {
+            None => Ok(()),
+            Some(arrival) => match stage.segment(arrival.packet) {
+                None => Ok(()),
+                Some(segment) => {
+                    self.note_arrival(segment.flow, arrival)?;
+                    Ok(())
+                }
+            },
+        }
+    }
+}
+
+/// Takes note of all events.
+pub(crate) fn note_events(
+    rows: &mut Rows,
+    h: &History,
+    causes: &CauseList,
+) -> Result<(), AllocError>
+    requires run { IsRun h.now }
+    requires causes { AreCauses h.now causes.now }
+    requires rows { kept.AreRows h.now.stage (records_of h.now.stage) [] (kept.row rows.old) }
+    ensures { OnOk result (kept.AreRows h.now.stage (records_of h.now.stage)
+        (reverse h.now.events) (kept.row rows.new)) }
+{
+    let events = h.events.items();
+    for (place, event) in events.iter().enumerate() {
+        rows.note(&h.stage, &events[..place], event, causes.at(place))?;
+    }
+    Ok(())
+}

@@ -1,0 +1,73 @@
+//! The lines of servers and of causes.
+ghost use Rattle.std.specs.Prelude.{◌≡◌, ◌++◌, ◌∷◌, [], OnOk, IfOk, flat_map, string_bytes};
+ghost use Rattle.bm_connections.specs.Text as spec;
+
+use crate::counts::CauseCount;
+use crate::servers::ServerCount;
+use bm_base::{Memory, Text};
+use bm_trace::cause_word;
+use std::alloc::{AllocError, Global};
+
+fn write_server(text: &mut String, c: &ServerCount) -> Result<(), AllocError>
+    ensures { OnOk result
+        (string_bytes text.new ≡ string_bytes text.old ++ spec.server_line c.now) }
+{
+    let server = c.server.0;
+    let accepted = c.accepted;
+    let processed = c.processed;
+    writeln!(
+        text,
+        "server {server} accepted {accepted} processed {processed}"
+    )
+}
+
+fn write_servers(text: &mut String, servers: &[ServerCount]) -> Result<(), AllocError>
+    ensures { OnOk result (string_bytes text.new
+        ≡ string_bytes text.old ++ flat_map spec.server_line servers.now) }
+{
+    for server in servers {
+        write_server(text, server)?;
+    }
+    Ok(())
+}
+
+/// A line for each server.
+pub fn servers_text(alloc: Global, servers: &[ServerCount]) -> Result<Text, Memory>
+    ensures { IfOk result (λ text. text ≡ flat_map spec.server_line servers.now) }
+{
+    let mut text = String::new(alloc);
+    write_servers(&mut text, servers)?;
+    Ok(Text::of(text))
+}
+
+fn write_cause(text: &mut String, c: &CauseCount) -> Result<(), AllocError>
+    ensures { OnOk result
+        (string_bytes text.new ≡ string_bytes text.old ++ spec.cause_line c.now) }
+{
+    let word = cause_word(c.cause);
+    let packets = c.packets;
+    let connections = c.connections;
+    writeln!(
+        text,
+        "cause {word} packets {packets} connections {connections}"
+    )
+}
+
+fn write_causes(text: &mut String, causes: &[CauseCount]) -> Result<(), AllocError>
+    ensures { OnOk result (string_bytes text.new
+        ≡ string_bytes text.old ++ flat_map spec.cause_line causes.now) }
+{
+    for cause in causes {
+        write_cause(text, cause)?;
+    }
+    Ok(())
+}
+
+/// A line for each cause.
+pub fn causes_text(alloc: Global, causes: &[CauseCount]) -> Result<Text, Memory>
+    ensures { IfOk result (λ text. text ≡ flat_map spec.cause_line causes.now) }
+{
+    let mut text = String::new(alloc);
+    write_causes(&mut text, causes)?;
+    Ok(Text::of(text))
+}

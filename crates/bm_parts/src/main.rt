@@ -1,0 +1,78 @@
+//! Replays a capture through the servers of a script, parts the events of the history into the logs of
+//! the controller, the muxes and the shards, and merges these logs. Where they merge to the same events,
+//! it prints their report, which is that of `beamer replay` (tests/parted compares the two). Status 3
+//! says that they don't.
+//!
+//! usage: bm_parts CAPTURE SCRIPT
+#![tactic(auto)]
+
+ghost use Rattle.bm_core.specs.Runs.{IsRun};
+
+mod history;
+mod parting;
+mod reading;
+
+use crate::history::replay_stage;
+use crate::parting::part;
+use crate::reading::read_stage;
+use bm_base::Memory;
+use bm_core::History;
+use bm_io::{StdSink, put_all};
+use bm_merge::merge;
+use bm_trace::report;
+use std::alloc::Global;
+use std::env;
+use std::process::ExitCode;
+
+/// The names of a capture and a script, where the words are just these.
+fn read_words(rt: &HostRuntime) -> Option<(String, String)> {
+    let mut words = env::args(rt).ok()?.skip(1);
+    let names = (words.next()?, words.next()?);
+    match words.next() {
+        Some(_) => None,
+        None => Some(names),
+    }
+}
+
+/// The report of the history, where its parted logs merge to its events again.
+fn merged_report(alloc: Global, history: History) -> Result<Option<Vec<u8>>, Memory>
+    requires { IsRun history }
+{
+    let History { stage, events } = history;
+    let logs = part(alloc, &stage, events.items())?;
+    let merged = merge(alloc, stage, logs)?;
+    if merged.events.items() != events.items() {
+        return Ok(None);
+    }
+    let History {
+        stage,
+        events: _merged,
+    } = merged;
+    let mut text = Vec::new(alloc);
+    report(&History { stage, events }, &mut text)?;
+    Ok(Some(text))
+}
+
+fn main(rt: HostRuntime) -> ExitCode {
+    let alloc = rt.alloc();
+    let Some((capture, script)) = read_words(&rt) else {
+        return ExitCode::from(1);
+    };
+    let Some((stage, packets)) = read_stage(rt, &capture, &script) else {
+        return ExitCode::from(2);
+    };
+    let text = match replay_stage(alloc, stage, &packets) {
+        Ok(history) => merged_report(alloc, history),
+        Err(Memory) => Err(Memory),
+    };
+    let text = match text {
+        Ok(Some(text)) => text,
+        Ok(None) => return ExitCode::from(3),
+        Err(Memory) => return ExitCode::from(6),
+    };
+    let mut out = StdSink::new(rt);
+    match put_all(&mut out, &text) {
+        Ok(()) => ExitCode::SUCCESS,
+        Err(_) => ExitCode::from(5),
+    }
+}
