@@ -256,7 +256,11 @@ def fits(value):
 def toml(octets):
     try:
         text = octets.removeprefix(b"\xef\xbb\xbf").decode()
-        says = tomllib.loads(plainer(text.replace("\r\n", "\n")), parse_float=finite)
+        # a carriage return that no line feed follows stands nowhere in TOML; tomllib would take one more of these pairs
+        text = text.replace("\r\n", "\n")
+        if "\r" in text:
+            raise NotToml
+        says = tomllib.loads(plainer(text), parse_float=finite)
     except (NotToml, ValueError, RecursionError):
         raise Fault(4, "script: not toml")
     if not fits(says):
