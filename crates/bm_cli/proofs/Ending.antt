@@ -46,7 +46,7 @@ said_outside answer fault says text (inl is) (inl said) = inr (said.0 ∙ is, sa
 said_outside answer fault says text (inr is) (inl said) = inl (inr (said.0 ∙ is, said.1 ∙ memory_line fault is))
 
 -- what was read is answered as what is due
-said_stage : (is : Stage → List ℕ → Type 0) (due r : Reading) (says : Status) (text : List ℕ) → IsRead due r →
+pub said_stage : (is : Stage → List ℕ → Type 0) (due r : Reading) (says : Status) (text : List ℕ) → IsRead due r →
     IsOf (answer_for is r) says text → IsSaid (answer_for is due) says text
 said_stage is due (Ok stage) says text read said =
     subst (λ (d : Reading). IsSaid (answer_for is d) says text) (sym read) (inl said)
@@ -56,7 +56,7 @@ said_stage is due (Err fault) says text (inr read) said =
     subst (λ (d : Reading). IsSaid (answer_for is d) says text) (sym read) (inl said)
 
 -- the status that was answered is that of what was read, or want of memory
-says_read : (is : Stage → List ℕ → Type 0) (r : Reading) (says : Status) (text : List ℕ) →
+pub says_read : (is : Stage → List ℕ → Type 0) (r : Reading) (says : Status) (text : List ℕ) →
     IsOf (answer_for is r) says text → says ≢ Memory → says ≡ status_by r
 says_read is r says text (inr none) memory = absurd (memory none.0)
 says_read is (Ok stage) says text (inl said) memory = said.0
@@ -65,7 +65,7 @@ says_read is (Err fault) says text (inl said) memory = said.0
 not_memory : (says : Status) → says ≡ ReadFault → says ≢ Memory
 not_memory says e = λ is. let no : ReadFault ≡ Memory = sym e ∙ is in cc
 
-asks_as : (names : List (List ℕ)) (files : FilesDid) (by says : Status) →
+pub asks_as : (names : List (List ℕ)) (files : FilesDid) (by says : Status) →
     AsksFor names by files → (says ≢ Memory → says ≡ by) → AsksFor names says files
 asks_as names files by says asks is = record {
   some = asks.some;

@@ -38,36 +38,36 @@ due_said answer says t text read memory is (inr line) = absurd (read (sym is ∙
 
 module _ (wanted : Due) (files : FilesDid) (sink : SinkDid) (s : Status) (ends : Ends wanted files sink s) where
   -- the status is what was said, where neither the sink failed nor memory was refused
-  own : (t : Status) → t ≢ WriteFault → t ≢ Memory → s ≡ t → s ≡ ends.says
+  pub own : (t : Status) → t ≢ WriteFault → t ≢ Memory → s ≡ t → s ≡ ends.says
   own t write memory is = says_is ends.says ends.text sink s t ends.writes write memory is
 
   -- the status and the text are those that are due, where no read failed either
-  dues : (t : Status) → t ≢ ReadFault → t ≢ WriteFault → t ≢ Memory → s ≡ t →
+  pub dues : (t : Status) → t ≢ ReadFault → t ≢ WriteFault → t ≢ Memory → s ≡ t →
       (s ≡ status_of wanted.answer) × text_of wanted.answer ends.text × Appends sink.before sink.now ends.text
   dues t read write memory is =
       let said = own t write memory is in
       let is_due = due_said wanted.answer ends.says t ends.text read memory (sym said ∙ is) ends.said in
       (said ∙ is_due.0, is_due.1, ends.writes.whole said)
 
-  all_asked : (t : Status) → t ≢ ReadFault → t ≢ WriteFault → t ≢ Memory → s ≡ t →
+  pub all_asked : (t : Status) → t ≢ ReadFault → t ≢ WriteFault → t ≢ Memory → s ≡ t →
       AsksAll files.before files.now wanted.names
   all_asked t read write memory is =
       let said = own t write memory is in
       ends.asks.all (λ e. read (sym is ∙ said ∙ e)) (λ e. memory (sym is ∙ said ∙ e))
 
-  read_said : s ≡ ReadFault → ends.says ≡ ReadFault
+  pub read_said : s ≡ ReadFault → ends.says ≡ ReadFault
   read_said is = sym (own ReadFault (λ e. cc) (λ e. cc) is) ∙ is
 
 -- SHOWN
 
-shown_answer : (answer : Answer) (before now : Option (List ℕ)) (text : List ℕ) → Done ≡ status_of answer →
+pub shown_answer : (answer : Answer) (before now : Option (List ℕ)) (text : List ℕ) → Done ≡ status_of answer →
     text_of answer text → Appends before now text → ShowsAnswer answer before now
 shown_answer Misused before now text e is written = absurd (cc)
 shown_answer (Refused fault) before now text e is written = absurd ((of_fault fault).done (sym e))
 shown_answer (Shown is) before now text e shown written =
     record { octets = text; report = shown; written = written }
 
-refused_answer : (answer : Answer) (s : Status) (before now : Option (List ℕ)) (text : List ℕ) → s ≢ Usage →
+pub refused_answer : (answer : Answer) (s : Status) (before now : Option (List ℕ)) (text : List ℕ) → s ≢ Usage →
     s ≢ Done →
     s ≡ status_of answer → text_of answer text → Appends before now text →
     RefusesAnswer answer (code_of s) before now
@@ -77,7 +77,7 @@ refused_answer (Refused fault) s before now text usage done e is written =
 refused_answer (Shown of) s before now text usage done e is written = absurd (done e)
 
 -- the line of a read that failed
-line_said : (answer : Answer) (says : Status) (text : List ℕ) → says ≡ ReadFault → IsSaid answer says text →
+pub line_said : (answer : Answer) (says : Status) (text : List ℕ) → says ≡ ReadFault → IsSaid answer says text →
     text ≡ fault_line Files
 line_said Misused says text e (inl (inl due)) = let no : ReadFault ≡ Usage = sym e ∙ due.0 in absurd (cc)
 line_said (Refused fault) says text e (inl (inl due)) = due.1 ∙ read_line fault (sym due.0 ∙ e)
@@ -86,7 +86,7 @@ line_said answer says text e (inl (inr none)) = let no : ReadFault ≡ Memory = 
 line_said answer says text e (inr line) = line.1
 
 -- the text that it set out to answer
-some_said : (wanted : Due) (files : FilesDid) (sink : SinkDid) (s : Status)
+pub some_said : (wanted : Due) (files : FilesDid) (sink : SinkDid) (s : Status)
     (ends : Ends wanted files sink s) → IsSaid wanted.answer ends.says ends.text →
     (ends.text ≡ []) ⊎ ((ends.text ≡ fault_line Files) × Rose files.faults files.later × (wanted.names ≢ []))
     ⊎ text_of wanted.answer ends.text
@@ -97,7 +97,7 @@ some_said wanted files sink s ends (inr line) =
 
 -- THE STATUS
 
-status_said : (s says : Status) (answer : Answer) (text : List ℕ) →
+pub status_said : (s says : Status) (answer : Answer) (text : List ℕ) →
     (s ≡ says) ⊎ (s ≡ WriteFault) ⊎ (s ≡ Memory) → IsSaid answer says text → IsStatusOf answer (code_of s)
 status_said s says answer text (inl e) (inl (inl due)) = inl (ap code_of (e ∙ due.0))
 status_said s says answer text (inl e) (inl (inr none)) = inr (inr (inr (ap code_of (e ∙ none.0))))
@@ -106,7 +106,7 @@ status_said s says answer text (inr (inl e)) is = inr (inr (inl (ap code_of e)))
 status_said s says answer text (inr (inr e)) is = inr (inr (inr (ap code_of e)))
 
 -- the usage line is due for the words of no form alone
-stage_usage : (is : Stage → List ℕ → Type 0) (r : Reading) → Usage ≢ status_of (answer_for is r)
+pub stage_usage : (is : Stage → List ℕ → Type 0) (r : Reading) → Usage ≢ status_of (answer_for is r)
 stage_usage is (Ok stage) = λ e. cc
 stage_usage is (Err fault) = λ e. (of_fault fault).usage (sym e)
 
@@ -128,7 +128,7 @@ capture_names : (is : Stage → List ℕ → Type 0) (names : Named) (script : S
 capture_names is names script (Ok read) = λ e. cc
 capture_names is names script (Err fault) = capture_no_script fault
 
-stage_names : (is : Stage → List ℕ → Type 0) (names : Named) (reads : Reads) (r : Result Script StageFault) →
+pub stage_names : (is : Stage → List ℕ → Type 0) (names : Named) (reads : Reads) (r : Result Script StageFault) →
     status_of (answer_for is (with_script r (reads.capture names.capture))) ≡ BadScript →
     names_behind names r ≡ script_names names.script
 stage_names is names reads (Ok script) e =

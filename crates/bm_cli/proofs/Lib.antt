@@ -3,6 +3,7 @@ pub mod Faults
 pub mod Laws
 pub mod Loads
 pub mod Names
+pub mod Playing
 pub mod Readings
 pub mod Scripts
 pub mod Sound

@@ -13,7 +13,7 @@ use bm_script::ScriptFault;
 use std::alloc::{AllocError, Global};
 
 /// Writes the line of a fault, or of a limit that is passed. Nothing where memory was refused.
-pub(crate) fn refuse<K: Sink>(alloc: Global, fault: &StageFault, out: &mut K) -> Status
+pub fn refuse<K: Sink>(alloc: Global, fault: &StageFault, out: &mut K) -> Status
     ensures { Tells (Refused fault.now) (did K.written K.faults out.old out.new) result }
 {
     let status = status_of(fault);

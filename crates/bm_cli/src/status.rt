@@ -6,7 +6,7 @@ use bm_io::{IoFault, Sink, put_all};
 
 /// How the program ends.
 #[derive(Clone, Copy, Debug, PartialEq, Eq)]
-pub(crate) enum Status {
+pub enum Status {
     /// The report, or the line of a load, was written.
     Done,
     /// The words are of no form.
@@ -27,7 +27,7 @@ pub(crate) enum Status {
 
 impl Status {
     /// The exit status.
-    pub(crate) fn code(self) -> u8
+    pub fn code(self) -> u8
         ensures { result ≡ code_of self }
     {
         match self {
@@ -44,7 +44,7 @@ impl Status {
 }
 
 /// Writes a text, and ends with this status, or with that of the write where it is refused.
-pub(crate) fn say<K: Sink>(out: &mut K, text: &[u8], status: Status) -> Status
+pub fn say<K: Sink>(out: &mut K, text: &[u8], status: Status) -> Status
     requires write { status ≢ Status.WriteFault }
     requires memory { status ≢ Status.Memory }
     ensures { Writes status text.now (did K.written K.faults out.old out.new) result }

@@ -1,0 +1,33 @@
+use Rattle.std.proofs.Common.{◌≡◌, ◌∙◌, ℕ, List, ap, rules, sym, subst}
+use Rattle.std.proofs.lemmas.Result.{IfOk-weaker}
+use Rattle.bm_base.specs.declared.label.Hop.{Hop}
+use Rattle.bm_base.specs.declared.fate.Fate.{Fate}
+use Rattle.bm_core.specs.Rules.{fate_in, setting_fate}
+use Rattle.bm_core.specs.Weights.{IsSoon}
+use Rattle.bm_core.proofs.Existing.{fate_of_soon}
+use Rattle.bm_replay.specs.Replays.{setting_route, setting_rule}
+use Rattle.bm_replay.proofs.WiderRules.{replay_more}
+use Rattle.bm_table.specs.declared.setting.FaultRow.{FaultRow}
+use Rattle.bm_cli.proofs.replayed.replay_stage.Goals as goal
+
+pub new-faults-requires : goal.new-faults-requires
+new-faults-requires c =
+    let setting = c.args.stage.script.setting in
+    let same : (packet : ℕ) (hop : Hop) → setting_fate setting packet hop ≡ fate_in c.in_ok-rows.rows packet hop =
+    λ packet hop. ap (λ (rows : List FaultRow). fate_in rows packet hop) (sym c.items.ensures)
+    ∙ sym (c.in_ok-rows.ensures packet hop) in
+    let soon : (packet : ℕ) (hop : Hop) (fate : Fate) → fate ≡ fate_in c.in_ok-rows.rows packet hop → IsSoon fate =
+    λ packet hop fate is. subst IsSoon (same packet hop ∙ sym is)
+    (fate_of_soon setting c.requires.sound.script.setting packet hop) in
+    record {
+      takes = λ packet hop. tt;
+      copies = λ packet hop fate h. (soon packet hop fate h.1).0;
+      delay = λ packet hop fate h. (soon packet hop fate h.1).1;
+    }
+
+pub returns-clause-made : goal.returns-clause-made
+returns-clause-made c =
+    let setting = c.args.stage.script.setting in
+    IfOk-weaker c.replay.result _ _
+    (λ h made. replay_more _ (setting_route setting) _ (setting_rule setting) (λ k f m is. search rules)
+    (λ k hop f is. search rules) h made) c.replay.ensures.replay
