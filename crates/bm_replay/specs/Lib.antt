@@ -6,4 +6,5 @@ pub mod Playing
 pub mod Queues
 pub mod Replays
 pub mod Shards
+pub mod Slots
 pub mod Comings

@@ -9,6 +9,7 @@ mod player;
 mod queue;
 mod replaying;
 mod shards;
+mod slot;
 
 pub use replaying::replay;
 

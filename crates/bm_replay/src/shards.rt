@@ -5,9 +5,10 @@ ghost use Rattle.bm_table.specs.Settings.{IsWithin};
 ghost use Rattle.bm_replay.specs.Shards.{all_books, before, book_at, books_after, server_books};
 ghost use Rattle.bm_replay.specs.Shards.{what_in};
 
+use crate::slot::Slot;
 use bm_base::{Memory, Moment, ServerId};
 use bm_core::What;
-use bm_shard::{ShardBook, ShardCall};
+use bm_shard::{Shard, ShardCall};
 use bm_table::Setting;
 use std::alloc::Global;
 use std::marker::Model;
@@ -15,7 +16,7 @@ use std::marker::Model;
 /// The books of the shards of all servers, which contracts see as a list. One seat makes all calls.
 #[derive(Debug, Drop)]
 pub(crate) struct Shards {
-    books: Vec<ShardBook>,
+    books: Vec<Slot>,
 }
 
 impl Model for Shards {
@@ -36,7 +37,7 @@ impl Shards {
     {
         let mut books = Vec::new(alloc);
         for server in 0..servers {
-            add_server(alloc, &mut books, setting, ServerId(server))?;
+            add_server(&mut books, setting, ServerId(server))?;
         }
         Ok(Shards { books })
     }
@@ -50,27 +51,24 @@ impl Shards {
         ensures what { IfOk result (λ what. what ≡ what_in (book_at self.old place) call) }
         ensures books { OnOk result (self.new ≡ books_after self.old place call) }
     {
-        let book = &mut self.books[place];
-        book.apply(0, call)?;
-        let entries = book.history();
-        Ok(entries[entries.len() - 1].event.what)
+        let alloc = *self.books.allocator();
+        self.books[place].call(alloc, call)
     }
 }
 
 /// Adds the shards of one server, which hold nothing.
-fn add_server(
-    alloc: Global,
-    books: &mut Vec<ShardBook>,
-    setting: &Setting,
-    server: ServerId,
-) -> Result<(), Memory>
+fn add_server(books: &mut Vec<Slot>, setting: &Setting, server: ServerId) -> Result<(), Memory>
     requires { IsWithin 1 65536 setting.now.capacity }
     ensures { OnOk result
         (books.new.items ≡ books.old.items ++ server_books setting.now server setting.now.shards) }
 {
     for number in 0..setting.shards {
-        let (capacity, timeout) = (setting.capacity, setting.timeout);
-        books.push(ShardBook::new(alloc, server, number, capacity, timeout)?)?;
+        books.push(Slot::new(Shard {
+            server,
+            number,
+            capacity: setting.capacity,
+            timeout: setting.timeout,
+        }))?;
     }
     Ok(())
 }
