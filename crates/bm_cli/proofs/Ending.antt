@@ -71,6 +71,7 @@ asks_as names files by says asks is = record {
   some = asks.some;
   all = λ read memory. asks.all (λ e. read (is memory ∙ e)) (λ e. memory (is memory ∙ e));
   rose = λ e. asks.rose (sym (is (not_memory says e)) ∙ e);
+  kept = λ read memory. asks.kept (λ e. read (is memory ∙ e)) (λ e. memory (is memory ∙ e));
   opens = λ e. asks.opens (sym (is (not_memory says e)) ∙ e);
 }
 
@@ -112,6 +113,7 @@ ends_nothing due asked fails before faults = record {
     some = asks_nothing asked due.names;
     all = λ read memory. absurd (memory refl);
     rose = λ e. absurd (cc);
+    kept = λ read memory. refl;
     opens = λ e. absurd (cc);
   };
 }
@@ -129,6 +131,7 @@ ends_unread answer asked fails sink result not tells = record {
     some = asks_nothing asked [];
     all = λ read memory. all_of_none asked;
     rose = λ e. absurd (unread tells.is e);
+    kept = λ read memory. refl;
     opens = λ e. absurd (unread tells.is e);
   };
 }

@@ -206,6 +206,14 @@ module _ (form : Option Asked) (told : Octets) (files : FilesDid) (sink : SinkDi
   pub read : Ended → code ≡ 2 → Rose files.faults files.later
   read all e = all.holds.ends.asks.rose (read_by all e)
 
+  pub files_kept : Ended → code ≢ 2 → code ≢ 5 → code ≢ 6 → files.later ≡ files.faults
+  files_kept all read write memory =
+      let is = all.holds.is in
+      let ends = all.holds.ends in
+      let said = own (due form all.reads) files sink all.holds.status ends all.holds.status
+      (λ e. write (is ∙ ap code_of e)) (λ e. memory (is ∙ ap code_of e)) refl in
+      ends.asks.kept (λ e. read (is ∙ ap code_of (said ∙ e))) (λ e. memory (is ∙ ap code_of (said ∙ e)))
+
   pub write : Ended → code ≡ 5 → Rose sink.faults sink.later
   write all e = all.holds.ends.writes.cause (the all.holds.status WriteFault all.holds.is e)
 

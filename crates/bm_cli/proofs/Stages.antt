@@ -19,7 +19,7 @@ use Rattle.bm_cli.specs.declared.mode.Mode.{Mode}
 use Rattle.bm_cli.specs.declared.mode.Mode.TheVariants.{Replay, Run}
 use Rattle.bm_cli.specs.declared.status.Status.TheVariants.{ReadFault, Memory}
 use Rattle.bm_cli.specs.Dues.{names_behind}
-use Rattle.bm_cli.specs.Inside.Captures.{Captures, ReadsFile}
+use Rattle.bm_cli.specs.Inside.Captures.{Captures, HasReadCause, ReadsFile}
 use Rattle.bm_cli.specs.Inside.Scripts.{IsOutside, IsRead, ReadsScript}
 use Rattle.bm_cli.specs.Inside.Stages.{ReadsStage, status_by}
 use Rattle.bm_cli.specs.Lines.{capture_status, fault_status}
@@ -103,13 +103,20 @@ names_open mode names reads has = by names.script refl where
       subst (λ n. names_behind names (script_by mode reads n) ≢ []) (sym is) (unnamed mode refl is)
   by (Some name) is = named name (script_by mode reads names.script) is
 
+-- no read failed, where that is not what was answered
+kept_by : (files : FilesDid) (fault : StageFault) → fault_status fault ≢ ReadFault →
+    (fault_status fault ≡ ReadFault) ⊎ (files.later ≡ files.faults) → files.later ≡ files.faults
+kept_by files fault read (inl e) = absurd (read e)
+kept_by files fault read (inr same) = same
+
 pub script_refused : (mode : Mode) (names : Named) (told : Octets) (files : FilesDid) (fault : StageFault) →
     HasScript mode names → ReadsScript told names.script (Err fault) →
     AsksPrefix files.before files.now (script_names names.script) →
     IsOutside fault ⊎ AsksAll files.before files.now (script_names names.script) →
     (fault_status fault ≡ ReadFault → Rose files.faults files.later) →
+    (fault_status fault ≡ ReadFault) ⊎ (files.later ≡ files.faults) →
     Holds told (λ reads. ReadsStage mode names reads files (Err fault))
-script_refused mode names told files fault has read some all rose =
+script_refused mode names told files fault has read some all rose same =
     let found = refused_some told names.script fault read in
     let script = script_by mode found.reads names.script in
     record {
@@ -122,6 +129,7 @@ script_refused mode names told files fault has read some all rose =
           all = behind_all names files script fault
               (refused_by mode found.reads names.script fault found.holds) all;
           rose = rose;
+          kept = λ read memory. kept_by files fault read same;
           opens = λ e. names_open mode names found.reads has;
         };
       };
@@ -215,8 +223,9 @@ pub capture_read : (mode : Mode) (names : Named) (told : Octets) (files : FilesD
     AsksPrefix mid files.now (names.capture ∷ []) →
     IsErrOf r NoMemory ⊎ AsksAll mid files.now (names.capture ∷ []) →
     (status_by (with_capture script r) ≡ ReadFault → Rose files.faults files.later) →
+    (status_by (with_capture script r) ≢ ReadFault → files.later ≡ files.faults) →
     Holds told (λ reads. ReadsStage mode names reads files (with_capture script r))
-capture_read mode names told files mid script r has takes first second before part all rose =
+capture_read mode names told files mid script r has takes first second before part all rose kept =
     let found = gives_some names told script r names.script refl first second in
     record {
       reads = found.reads;
@@ -229,6 +238,7 @@ capture_read mode names told files mid script r has takes first second before pa
           all = λ read memory. behind (AsksAll files.before files.now)
               (ap (if_taken mode) found.holds.first ∙ takes) (whole all memory);
           rose = rose;
+          kept = λ read memory. kept read;
           opens = λ e. names_open mode names found.reads has;
         };
       };
@@ -254,6 +264,12 @@ asked_ok : (script : Script) (files : FilesDid) (mid : Option (List (List ℕ)))
     IsErrAnd (read_ok script) IsOutside ⊎ AsksAll files.before mid names → AsksAll files.before mid names
 asked_ok script files mid names (inl h) = absurd h
 asked_ok script files mid names (inr h) = h
+
+-- no read of it failed
+kept_ok : (script : Script) (before now : ℕ) →
+    IsErrAnd (read_ok script) (λ fault. fault_status fault ≡ ReadFault) ⊎ (now ≡ before) → now ≡ before
+kept_ok script before now (inl h) = absurd h
+kept_ok script before now (inr same) = same
 
 not_played : (names : Named) (r : Result Script StageFault) (fault : StageFault) → r ≡ Err fault →
     (fact : List (List ℕ) → Type 0) → fact (script_names names.script) → fact (names_behind names r)
@@ -282,8 +298,9 @@ pub seats_refused : (mode : Mode) (names : Named) (told : Octets) (files : Files
     (taken mode script ≡ Err fault) × (fault ≡ Seats) →
     IsErrAnd (read_ok script) IsOutside ⊎ AsksAll files.before files.now (script_names names.script) →
     AsksPrefix files.before files.now (script_names names.script) →
+    IsErrAnd (read_ok script) (λ fault. fault_status fault ≡ ReadFault) ⊎ (files.later ≡ files.faults) →
     Holds told (λ reads. ReadsStage mode names reads files (Err fault))
-seats_refused mode names told files script fault has read refused all some =
+seats_refused mode names told files script fault has read refused all some same =
     let found = read_some names told script read in
     let is = ap (if_taken mode) found.holds ∙ refused.0 in
     record {
@@ -296,6 +313,7 @@ seats_refused mode names told files script fault has read refused all some =
           all = λ read memory. not_played names _ fault is (AsksAll files.before files.now)
               (asked_ok script files files.now (script_names names.script) all);
           rose = λ e. let no = sym (ap fault_status refused.1) ∙ e in absurd (cc);
+          kept = λ read memory. kept_ok script files.faults files.later same;
           opens = λ e. names_open mode names found.reads has;
         };
       };
@@ -324,15 +342,19 @@ pub captured_stage : (mode : Mode) (names : Named) (told then : Octets) (files :
     IsErrAnd (read_ok script) IsOutside ⊎ AsksAll files.before mid (script_names names.script) →
     AsksPrefix mid files.now (names.capture ∷ []) →
     IsErrOf r NoMemory ⊎ AsksAll mid files.now (names.capture ∷ []) →
-    files.faults ≤ faults → (IsErrOf r SourceFault → Rose faults files.later) →
+    files.faults ≤ faults →
+    IsErrAnd (read_ok script) (λ fault. fault_status fault ≡ ReadFault) ⊎ (faults ≡ files.faults) →
+    HasReadCause faults files.later r →
     Holds told (λ reads. ReadsStage mode names reads files (with_capture script r))
 captured_stage mode names told then files mid script vips r faults has takes same served first second before part all
-    low rose =
+    low kept cause =
     capture_read mode names told files mid script r has takes first
     (subst (λ t. ReadsFile t names.capture script.setting.vips r) same
     (subst (λ v. ReadsFile then names.capture v r) served second))
     (asked_ok script files mid (script_names names.script) before) part all
-    (λ e. rose_later files.faults faults files.later low (rose (source_failed script r e)))
+    (λ e. rose_later files.faults faults files.later low (cause.failed (source_failed script r e)))
+    (λ read. cause.kept (λ e. read (ap (λ (c : Captured). status_by (with_capture script c)) e))
+    ∙ kept_ok script files.faults faults kept)
 
 -- a fault that came through `?`
 pub stage_through : {A : Type 0} (mode : Mode) (names : Named) (told : Octets) (files : FilesDid)

@@ -26,6 +26,8 @@ pub record AsksFor (names : List (List ℕ)) (says : Status) (files : FilesDid) 
   pub all : says ≢ ReadFault → says ≢ Memory → AsksAll files.before files.now names
   -- a read has failed where it says so, and there was a file to read
   pub rose : says ≡ ReadFault → Rose files.faults files.later
+  -- and none has failed elsewhere, but where memory was refused
+  pub kept : says ≢ ReadFault → says ≢ Memory → files.later ≡ files.faults
   pub opens : says ≡ ReadFault → names ≢ []
 
 -- How a call ended.

@@ -67,6 +67,9 @@ pub fn beamer<R: Threads + Wait + Sync, F: Files, K: Sink, G: Gate>(
     ensures usage { result ≡ 1 → form_in words.now ≡ None }
     ensures named { result ≡ 2 → IsSome (form_in words.now) }
     ensures read { result ≡ 2 → Rose (F.faults files.old) (F.faults files.new) }
+    // Where the files failed 2 comes, but where the sink failed too, or memory was refused.
+    ensures files { result ≢ 2 → result ≢ 5 → result ≢ 6 →
+        F.faults files.new ≡ F.faults files.old }
     // 5 comes where the sink failed, and nowhere else.
     ensures write { result ≡ 5 → Rose (K.faults out.old) (K.faults out.new) }
     ensures kept { result ≢ 5 → K.faults out.new ≡ K.faults out.old }

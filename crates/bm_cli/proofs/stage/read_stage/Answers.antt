@@ -16,7 +16,7 @@ returns-in_err-script-clause-stage g c =
     let script = c.in_err-script in
     stage_through c.args.mode (named c.args.names) _ _ c.from_residual.result script.field-0.0 c.from_residual.ensures.1
     (script_refused c.args.mode (named c.args.names) _ _ script.field-0.0 c.requires.script script.ensures.script script.ensures.asked
-    script.ensures.all script.ensures.cause)
+    script.ensures.all script.ensures.cause script.ensures.kept)
 
 pub returns-in_err-capture-clause-stage : goal.returns-in_err-capture-clause-stage
 returns-in_err-capture-clause-stage g c =
@@ -27,7 +27,7 @@ returns-in_err-capture-clause-stage g c =
     (captured_stage c.args.mode (named c.args.names) _ _ _ _ script.script _ (Err capture.field-0.0) _
     c.requires.script c.in_ok-check_seats.ensures script.ensures.octets
     c.items.ensures script.ensures.script capture.ensures.capture script.ensures.all capture.ensures.asked
-    capture.ensures.all script.ensures.later capture.ensures.cause)
+    capture.ensures.all script.ensures.later script.ensures.kept capture.ensures.cause)
 
 pub returns-clause-stage : goal.returns-clause-stage
 returns-clause-stage g c =
@@ -36,7 +36,7 @@ returns-clause-stage g c =
     captured_stage c.args.mode (named c.args.names) _ _ _ _ script.script _ (Ok (capture.capture, capture.packets)) _
     c.requires.script c.in_ok-check_seats.ensures
     script.ensures.octets c.items.ensures script.ensures.script capture.ensures.capture script.ensures.all
-    capture.ensures.asked capture.ensures.all script.ensures.later capture.ensures.cause
+    capture.ensures.asked capture.ensures.all script.ensures.later script.ensures.kept capture.ensures.cause
 
 pub returns-in_err-check_seats-clause-stage : goal.returns-in_err-check_seats-clause-stage
 returns-in_err-check_seats-clause-stage g c =
@@ -45,4 +45,4 @@ returns-in_err-check_seats-clause-stage g c =
     stage_through c.args.mode (named c.args.names) _ _ c.from_residual-in_err-check_seats.result seats.field-0.0
     c.from_residual-in_err-check_seats.ensures.1
     (seats_refused c.args.mode (named c.args.names) _ _ script.script seats.field-0.0 c.requires.script
-    script.ensures.script seats.ensures script.ensures.all script.ensures.asked)
+    script.ensures.script seats.ensures script.ensures.all script.ensures.asked script.ensures.kept)
