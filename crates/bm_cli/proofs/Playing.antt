@@ -27,6 +27,7 @@ stage_lost mode names told files stage read =
         all = λ failed memory. absurd (memory refl);
         rose = λ e. absurd (cc);
         opens = λ e. absurd (cc);
+        kept = λ read memory. absurd (memory refl);
       };
     })
     read
