@@ -1,6 +1,18 @@
-# Completes the words of beamer in bash: the form, then the capture, then the script.
+# Completes the words of beamer in bash: the form, then the capture, then the script; and those of beamer-connections: the capture,
+# the script and an option.
 #
 # usage: source tools/completion.bash
+
+# Completes a word by folders, and by files of these endings.
+_beamer_files() {
+  compopt -o filenames 2>/dev/null
+  local restore
+  restore=$(shopt -p extglob)
+  shopt -s extglob
+  mapfile -t COMPREPLY < <(compgen -d -- "$1"; compgen -f -X "!*.$2" -- "$1")
+  eval "$restore"
+}
+
 _beamer() {
   local word=${COMP_WORDS[COMP_CWORD]} form=${COMP_WORDS[1]-} ending
   COMPREPLY=()
@@ -11,14 +23,18 @@ _beamer() {
     *) return ;;
   esac
   case $form in
-    replay | run) ;;
-    *) return ;;
+    replay | run) _beamer_files "$word" "$ending" ;;
   esac
-  compopt -o filenames 2>/dev/null
-  local restore
-  restore=$(shopt -p extglob)
-  shopt -s extglob
-  mapfile -t COMPREPLY < <(compgen -d -- "$word"; compgen -f -X "!*.$ending" -- "$word")
-  eval "$restore"
 }
 complete -F _beamer beamer ./beamer
+
+_beamer_connections() {
+  local word=${COMP_WORDS[COMP_CWORD]}
+  COMPREPLY=()
+  case $COMP_CWORD in
+    1) _beamer_files "$word" '@(pcap|pcapng|cap)' ;;
+    2) _beamer_files "$word" toml ;;
+    3) mapfile -t COMPREPLY < <(compgen -W "--csv" -- "$word") ;;
+  esac
+}
+complete -F _beamer_connections beamer-connections ./beamer-connections

@@ -2,7 +2,7 @@
 
 /// How a stage is played.
 #[derive(Clone, Copy, Debug, PartialEq, Eq)]
-pub(crate) enum Mode {
+pub enum Mode {
     /// In one thread, in the order of the clocks.
     Replay,
     /// In a thread for each mux, and one for the commands.

@@ -1,0 +1,37 @@
+//! Makes the real files and standard output, and calls `beamer_connections` with the words of the
+//! command line.
+#![tactic(auto)]
+
+use bm_connections_cli::beamer_connections;
+use bm_io::{StdFiles, StdSink};
+use std::env;
+use std::io::ErrorKind;
+use std::process::ExitCode;
+
+/// The status of want of memory.
+const MEMORY: u8 = 6;
+
+fn main(rt: HostRuntime) -> ExitCode {
+    let alloc = rt.alloc();
+    let mut words = Vec::new(alloc);
+    match env::args(&rt) {
+        Ok(given) => {
+            for word in given.skip(1) {
+                if words.push(word).is_err() {
+                    return ExitCode::from(MEMORY);
+                }
+            }
+        }
+        Err(e) if e.kind() == ErrorKind::OutOfMemory => return ExitCode::from(MEMORY),
+        // A word isn't text: no words are of no form.
+        Err(_) => {}
+    }
+    let mut files = StdFiles::new(rt);
+    let mut out = StdSink::new(rt);
+    ExitCode::from(beamer_connections(
+        alloc,
+        words.as_slice(),
+        &mut files,
+        &mut out,
+    ))
+}

@@ -1,0 +1,100 @@
+-- How a call ends, by what was read and what was written.
+use Rattle.std.proofs.Common.{◌≡◌, ℕ, List, Option, Some, None, Ok, refl, sym, subst, ap, ap₂, ◌∙◌}
+use Rattle.bm_core.specs.declared.events.Event.{Event}
+use Rattle.bm_core.specs.declared.events.History.{History}
+use Rattle.bm_core.specs.declared.events.Stage.{Stage}
+use Rattle.bm_core.specs.Histories.{IsReplay}
+use Rattle.bm_core.specs.Rules.{setting_fate, setting_mux}
+use Rattle.bm_core.proofs.Determined.{replay_law}
+use Rattle.bm_cli.specs.declared.mode.Mode.TheVariants.{Replay}
+use Rattle.bm_cli.specs.declared.status.Status.{Status}
+use Rattle.bm_cli.specs.declared.status.Status.TheVariants.{Done, Usage}
+use Rattle.bm_cli.specs.Dues.{Shown, answer_for, names_behind}
+use Rattle.bm_cli.specs.Ends.{Ends}
+use Rattle.bm_cli.specs.Headline.{IsMadeBy}
+use Rattle.bm_cli.specs.Inside.Stages.{ReadsStage, status_by}
+use Rattle.bm_cli.specs.Inside.Telling.{Tells}
+use Rattle.bm_cli.specs.Reading.{Holds, Octets, Reading, Reads, reading, script_by}
+use Rattle.bm_cli.specs.Statuses.{FilesDid, SinkDid, Writes}
+use Rattle.bm_cli.proofs.Ending.{asks_as, holds_any, holds_more, said_stage, says_read}
+use Rattle.bm_cli.proofs.Names.{all_of_none}
+use Rattle.bm_cli.proofs.Telling.{tells_due, untouched}
+use Rattle.bm_connections_cli.specs.declared.words.Format.{Format}
+use Rattle.bm_connections_cli.specs.Dues.{EndsAs, due_of, usage_line}
+use Rattle.bm_connections_cli.specs.Headline.{IsReplayOf, IsTableOf}
+use Rattle.bm_connections_cli.specs.Text.{text}
+use Rattle.bm_connections_cli.specs.Words.{Asked}
+
+-- THE REPLAY
+
+history_is : (a b : History) → a.stage ≡ b.stage → a.events ≡ b.events → a ≡ b
+history_is a b stages events =
+    let made : Stage → List Event → History = λ s e. record { stage = s; events = e } in ap₂ made stages events
+
+-- a stage has one replay
+same_replay : (stage : Stage) (a b : History) → IsReplayOf stage a → IsReplayOf stage b → a ≡ b
+same_replay stage a b p q =
+    let setting = stage.script.setting in
+    let stages = p.about ∙ sym q.about in
+    history_is a b stages (replay_law a b stages (setting_mux setting) (setting_fate setting) p.made q.made)
+
+table_of : (format : Format) (stage : Stage) (h : History) → IsReplayOf stage h →
+    IsTableOf format stage (text format h)
+table_of format stage h replay = record {
+  history = h;
+  replay = replay;
+  printed = λ other is. ap (text format) (same_replay stage h other replay is);
+}
+
+-- the history's text was written
+pub tells_table : (format : Format) (h : History) (sink : SinkDid) (result : Status) → IsMadeBy Replay h.stage h →
+    Writes Done (text format h) sink result →
+    Tells (answer_for (IsTableOf format) (Ok h.stage)) sink result
+tells_table format h sink result made writes =
+    tells_due (Shown (IsTableOf format h.stage)) (text format h) sink result
+    (table_of format h.stage h (record { about = refl; made = made })) writes
+
+-- THE FORM
+
+-- what was read of a stage was answered
+ends_played : (asked : Asked) (reads : Reads) (files : FilesDid) (sink : SinkDid) (r : Reading)
+    (result : Status) → ReadsStage Replay asked.names reads files r →
+    Tells (answer_for (IsTableOf asked.format) r) sink result → Ends (due_of asked reads) files sink result
+ends_played asked reads files sink r result read tells = record {
+  says = tells.says;
+  text = tells.text;
+  said =
+      said_stage (IsTableOf asked.format) (reading Replay asked.names reads) r tells.says tells.text read.read
+      tells.is;
+  writes = tells.writes;
+  asks =
+      asks_as (names_behind asked.names (script_by Replay reads asked.names.script)) files (status_by r) tells.says
+      read.asks (says_read (IsTableOf asked.format) r tells.says tells.text tells.is);
+}
+
+pub played_ends : (asked : Asked) (told : Octets) (files : FilesDid) (sink : SinkDid) (r : Reading)
+    (result : Status) → Holds told (λ reads. ReadsStage Replay asked.names reads files r) →
+    Tells (answer_for (IsTableOf asked.format) r) sink result →
+    Holds told (λ reads. Ends (due_of asked reads) files sink result)
+played_ends asked told files sink r result read tells =
+    holds_more told (λ reads. ReadsStage Replay asked.names reads files r)
+    (λ reads. Ends (due_of asked reads) files sink result)
+    (λ reads stage. ends_played asked reads files sink r result stage tells) read
+
+-- THE WORDS
+
+-- what the words ask for was answered
+pub words_end : (form words : Option Asked) (told : Octets) (files : FilesDid) (sink : SinkDid)
+    (result : Status) → form ≡ words → Holds told (λ reads. EndsAs form reads files sink result) →
+    Holds told (λ reads. EndsAs words reads files sink result)
+words_end form words told files sink result same ends =
+    subst (λ f. Holds told (λ reads. EndsAs f reads files sink result)) same ends
+
+-- the usage line was written
+pub unasked_ends : (words : Option Asked) (told : Octets) (asked : Option (List (List ℕ))) (fails : ℕ)
+    (sink : SinkDid) (result : Status) → None ≡ words → Writes Usage usage_line sink result →
+    Holds told (λ reads. EndsAs words reads (untouched asked fails) sink result)
+unasked_ends words told asked fails sink result none writes =
+    words_end None words told (untouched asked fails) sink result none
+    (holds_any told (λ reads. EndsAs None reads (untouched asked fails) sink result)
+    (λ reads. record { writes = writes; asks = all_of_none asked; faults = refl }))

@@ -1,0 +1,4 @@
+pub mod Ending
+pub mod Laws
+pub mod Lists
+pub mod Pieces

@@ -1,0 +1,21 @@
+-- What an operator may do about a cause (docs/CAUSES.md).
+use Rattle.std.specs.Prelude.{ℕ, List, codes, ◌++◌}
+use Rattle.bm_core.specs.declared.events.Cause.{Cause}
+use Rattle.bm_core.specs.declared.events.Cause.TheVariants.{NeverAccepted, NotHeld, StaleMux}
+use Rattle.bm_core.specs.declared.events.Cause.TheVariants.{MovedTwice, ChainLate, SynElsewhere}
+use Rattle.bm_core.specs.declared.events.Cause.TheVariants.{Full, OldTable}
+use Rattle.bm_trace.specs.Words.{cause_word}
+
+abbrev pub remedy : Cause → List ℕ
+remedy NeverAccepted = codes "begin the capture earlier, or open its connections by tools/open_midstream"
+remedy NotHeld = codes "close or retire later"
+remedy StaleMux = codes "let every mux switch before connections open, or route by port"
+remedy MovedTwice = codes "wait longer between the changes"
+remedy ChainLate = codes "raise timeout_s, or drain earlier"
+remedy SynElsewhere = codes "a client used its port again while the bucket moved"
+remedy Full = codes "raise capacity or shards, or add servers"
+remedy OldTable = codes "retire later, or let every mux switch before"
+
+-- the line of advice on a cause
+abbrev pub advice_line : Cause → List ℕ
+advice_line cause = codes "advice " ++ cause_word cause ++ codes ": " ++ remedy cause ++ codes "\n"

@@ -1,0 +1,54 @@
+//! What an operator may do about the causes that occur.
+ghost use Rattle.std.specs.Prelude.{◌≡◌, ◌++◌, IfOk, OnOk, flat_map, string_bytes};
+ghost use Rattle.bm_connections_cli.specs.Advice as spec;
+
+use bm_base::{Memory, Text};
+use bm_connections::CauseCount;
+use bm_core::Cause;
+use bm_trace::cause_word;
+use std::alloc::{AllocError, Global};
+
+fn remedy(cause: Cause) -> &'static str
+    ensures { result.now ≡ spec.remedy cause }
+{
+    match cause {
+        Cause::NeverAccepted => {
+            "begin the capture earlier, or open its connections by tools/open_midstream"
+        }
+        Cause::NotHeld => "close or retire later",
+        Cause::StaleMux => "let every mux switch before connections open, or route by port",
+        Cause::MovedTwice => "wait longer between the changes",
+        Cause::ChainLate => "raise timeout_s, or drain earlier",
+        Cause::SynElsewhere => "a client used its port again while the bucket moved",
+        Cause::Full => "raise capacity or shards, or add servers",
+        Cause::OldTable => "retire later, or let every mux switch before",
+    }
+}
+
+fn write_advice(text: &mut String, cause: Cause) -> Result<(), AllocError>
+    ensures { OnOk result
+        (string_bytes text.new ≡ string_bytes text.old ++ spec.advice_line cause) }
+{
+    let word = cause_word(cause);
+    let remedy = remedy(cause);
+    writeln!(text, "advice {word}: {remedy}")
+}
+
+fn write_all_advice(text: &mut String, counts: &[CauseCount]) -> Result<(), AllocError>
+    ensures { OnOk result (string_bytes text.new
+        ≡ string_bytes text.old ++ flat_map (λ c. spec.advice_line c.cause) counts.now) }
+{
+    for count in counts {
+        write_advice(text, count.cause)?;
+    }
+    Ok(())
+}
+
+/// A line of advice for each of these causes.
+pub(crate) fn advice_text(alloc: Global, counts: &[CauseCount]) -> Result<Text, Memory>
+    ensures { IfOk result (λ text. text ≡ flat_map (λ c. spec.advice_line c.cause) counts.now) }
+{
+    let mut text = String::new(alloc);
+    write_all_advice(&mut text, counts)?;
+    Ok(Text::of(text))
+}

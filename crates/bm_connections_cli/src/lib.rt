@@ -1,0 +1,14 @@
+//! What `beamer-connections` does: it replays a capture as `beamer replay` does, and tells what became
+//! of each connection.
+#![tactic(auto)]
+
+mod advice;
+mod causes;
+mod parts;
+mod put;
+mod servers;
+mod tell;
+mod top;
+mod words;
+
+pub use top::beamer_connections;

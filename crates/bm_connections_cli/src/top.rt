@@ -1,0 +1,132 @@
+//! The top call.
+ghost use Rattle.std.specs.Prelude.{◌≡◌, ◌≢◌, ◌⊎◌, ◌<◌, ◌≤◌, None, Some, IsSome};
+ghost use Rattle.std.specs.Io.KnownBytes.{Appends};
+ghost use Rattle.bm_io.specs.Causes.{Rose};
+ghost use Rattle.bm_cli.specs.declared.fault.StageFault.TheVariants.{Files as files_failed};
+ghost use Rattle.bm_cli.specs.Ends.{Ends};
+ghost use Rattle.bm_cli.specs.Lines.{fault_line};
+ghost use Rattle.bm_cli.specs.Names.{AsksAll, AsksPrefix};
+ghost use Rattle.bm_cli.specs.Reading.{Holds};
+ghost use Rattle.bm_cli.specs.Statuses.{Writes, did};
+ghost use Rattle.bm_connections_cli.specs.Dues.{EndsAs, EndsWith, due_of, usage_line};
+ghost use Rattle.bm_connections_cli.specs.Top.{IsAccepted, IsStatusFor, Refuses, Tells};
+ghost use Rattle.bm_connections_cli.specs.Top.{WritesSomeFor, names_due, scripts_in};
+ghost use Rattle.bm_connections_cli.specs.Words.{asked, form_in};
+
+use crate::tell::tell;
+use crate::words::{Asked, read_words};
+use bm_cli::{Status, refuse, replay_files, say};
+use bm_io::{Files, Sink};
+use std::alloc::Global;
+
+const USAGE: &str = "usage: beamer-connections CAPTURE SCRIPT [--csv]\n";
+
+/// Does all that the program does, and answers the status.
+///
+/// 0: the connections were written. 1: the words are of no form. 2: the files failed. 3: the capture
+/// has a fault. 4: the script has a fault. 5: the sink failed. 6: memory was refused. 7: a limit is
+/// passed.
+pub fn beamer_connections<F: Files, K: Sink>(
+    alloc: Global,
+    words: &[String],
+    files: &mut F,
+    out: &mut K,
+) -> u8
+    requires room { F.open_now files.old ≤ 1000 }
+    // On status 0 what was written tells the connections of the replay of the named capture through
+    // the servers of the named script.
+    ensures shown { result ≡ 0 → Holds (F.octets files.old) (λ reads.
+        Tells (form_in words.now) reads (K.written out.old) (K.written out.new)) }
+    // How the call ended, by what was due. All other clauses follow from this one.
+    ensures ends { Holds (F.octets files.old) (λ reads.
+        EndsWith (form_in words.now) reads (did F.asked F.faults files.old files.new)
+        (did K.written K.faults out.old out.new) result) }
+
+    // The status is the one that is due, but where the files or the sink failed, or memory was
+    // refused.
+    ensures status { Holds (F.octets files.old) (λ reads.
+        IsStatusFor (form_in words.now) reads result) }
+    // The connections of an accepted capture are written, but where the files or the sink failed, or
+    // memory was refused.
+    ensures complete { IsAccepted (form_in words.now) (F.octets files.old) →
+        (result ≡ 0) ⊎ (result ≡ 6) ⊎ Rose (F.faults files.old) (F.faults files.new)
+        ⊎ Rose (K.faults out.old) (K.faults out.new) }
+    ensures known { result ≤ 7 }
+    ensures usage { result ≡ 1 → form_in words.now ≡ None }
+    ensures named { result ≡ 2 → IsSome (form_in words.now) }
+    ensures read { result ≡ 2 → Rose (F.faults files.old) (F.faults files.new) }
+    // 5 comes where the sink failed, and nowhere else.
+    ensures write { result ≡ 5 → Rose (K.faults out.old) (K.faults out.new) }
+    ensures kept { result ≢ 5 → K.faults out.new ≡ K.faults out.old }
+
+    // What was written otherwise is the line of the status, whatever the files tell, or a first
+    // part of the text that was due.
+    ensures usage_line { result ≡ 1 → Appends (K.written out.old) (K.written out.new) usage_line }
+    ensures read_line { result ≡ 2 →
+        Appends (K.written out.old) (K.written out.new) (fault_line files_failed) }
+    ensures line { (result ≡ 3) ⊎ (result ≡ 4) ⊎ (result ≡ 7) → Holds (F.octets files.old) (λ reads.
+        Refuses (form_in words.now) reads result (K.written out.old) (K.written out.new)) }
+    ensures part { (result ≡ 5) ⊎ (result ≡ 6) → Holds (F.octets files.old) (λ reads.
+        WritesSomeFor (form_in words.now) reads (did F.asked F.faults files.old files.new)
+        (did K.written K.faults out.old out.new)) }
+
+    // The files are asked for the names that are due, in their order, each at most once.
+    ensures asked { Holds (F.octets files.old) (λ reads.
+        AsksPrefix (F.asked files.old) (F.asked files.new) (names_due (form_in words.now) reads)) }
+    // They were asked for all of them, but where the files or the sink failed, or memory was
+    // refused.
+    ensures all { result ≢ 2 → result ≢ 5 → result ≢ 6 → Holds (F.octets files.old) (λ reads.
+        AsksAll (F.asked files.old) (F.asked files.new) (names_due (form_in words.now) reads)) }
+    // Behind a fault of the script they were asked for its name alone, whatever they tell.
+    ensures script { result ≡ 4 →
+        AsksAll (F.asked files.old) (F.asked files.new) (scripts_in (form_in words.now)) }
+    // No source stays open, and none is closed that was open before.
+    ensures open { F.open_now files.new ≡ F.open_now files.old }
+{
+    answer(alloc, words, files, out).code()
+}
+
+/// Does what the words ask for.
+fn answer<F: Files, K: Sink>(
+    alloc: Global,
+    words: &[String],
+    files: &mut F,
+    out: &mut K,
+) -> Status
+    requires room { F.open_now files.old < 4294967295 }
+    ensures ends { Holds (F.octets files.old) (λ reads.
+        EndsAs (form_in words.now) reads (did F.asked F.faults files.old files.new)
+        (did K.written K.faults out.old out.new) result) }
+    ensures open { F.open_now files.new ≡ F.open_now files.old }
+{
+    match read_words(words) {
+        Some(asked) => answer_form(alloc, asked, files, out),
+        None => misuse(out),
+    }
+}
+
+/// Replays the named capture and script, and tells its connections.
+fn answer_form<F: Files, K: Sink>(
+    alloc: Global,
+    form: Asked<'_>,
+    files: &mut F,
+    out: &mut K,
+) -> Status
+    requires room { F.open_now files.old < 4294967295 }
+    ensures ends { Holds (F.octets files.old) (λ reads.
+        Ends (due_of (asked form.entry) reads) (did F.asked F.faults files.old files.new)
+        (did K.written K.faults out.old out.new) result) }
+    ensures open { F.open_now files.new ≡ F.open_now files.old }
+{
+    match replay_files(alloc, files, form.names) {
+        Ok(history) => tell(alloc, form.format, &history, out),
+        Err(fault) => refuse(alloc, &fault, out),
+    }
+}
+
+/// Writes how the program is used.
+fn misuse<K: Sink>(out: &mut K) -> Status
+    ensures { Writes Status.Usage usage_line (did K.written K.faults out.old out.new) result }
+{
+    say(out, USAGE.as_bytes(), Status::Usage)
+}
