@@ -28,10 +28,5 @@ fn main(rt: HostRuntime) -> ExitCode {
     }
     let mut files = StdFiles::new(rt);
     let mut out = StdSink::new(rt);
-    ExitCode::from(beamer_connections(
-        alloc,
-        words.as_slice(),
-        &mut files,
-        &mut out,
-    ))
+    ExitCode::from(beamer_connections(&rt, alloc, words.as_slice(), &mut files, &mut out))
 }

@@ -77,6 +77,13 @@ module _ (reads : Reads) (files : FilesDid) (sink : SinkDid) (s : Status) where
   kept_by None ends not = ends.writes.kept not
   kept_by (Some asked) ends not = ends.writes.kept not
 
+  files_by : (form : Option Asked) → EndsAs form reads files sink s → s ≢ ReadFault → s ≢ WriteFault → s ≢ Memory →
+      files.later ≡ files.faults
+  files_by None ends read write memory = ends.faults
+  files_by (Some asked) ends read write memory =
+      let said = own (due_of asked reads) files sink s ends s write memory refl in
+      ends.asks.kept (λ e. read (said ∙ e)) (λ e. memory (said ∙ e))
+
   usage_line_by : (form : Option Asked) → EndsAs form reads files sink s → s ≡ Usage →
       Appends sink.before sink.now usage_line
   usage_line_by None ends e = ends.writes.whole e
@@ -180,6 +187,12 @@ module _ (form : Option Asked) (told : Octets) (files : FilesDid) (sink : SinkDi
 
   pub read : Ended → code ≡ 2 → Rose files.faults files.later
   read all e = read_by all.reads files sink all.holds.status form all.holds.ends (at all ReadFault e)
+
+  pub files_kept : Ended → code ≢ 2 → code ≢ 5 → code ≢ 6 → files.later ≡ files.faults
+  files_kept all read write memory =
+      let is = all.holds.is in
+      files_by all.reads files sink all.holds.status form all.holds.ends (λ e. read (is ∙ ap code_of e))
+      (λ e. write (is ∙ ap code_of e)) (λ e. memory (is ∙ ap code_of e))
 
   pub write : Ended → code ≡ 5 → Rose sink.faults sink.later
   write all e = write_by all.reads files sink all.holds.status form all.holds.ends (at all WriteFault e)

@@ -10,8 +10,9 @@ use crate::causes::causes_in;
 use crate::servers::servers_of;
 use crate::words::Format;
 use bm_base::{Memory, Text};
-use bm_connections::{Connection, connections, server_counts};
-use bm_connections::{causes_text, servers_text, table_csv, table_text};
+use bm_connections::{
+    Connection, causes_text, connections, server_counts, servers_text, table_csv, table_text,
+};
 use bm_core::History;
 use bm_trace::{CauseList, sweep};
 use std::alloc::Global;

@@ -13,12 +13,7 @@ use std::alloc::Global;
 
 /// Writes the connections of the history in this format. Where memory is refused before all of it is
 /// put together, nothing is written.
-pub(crate) fn tell<K: Sink>(
-    alloc: Global,
-    format: Format,
-    history: &History,
-    out: &mut K,
-) -> Status
+pub(crate) fn tell<K: Sink>(alloc: Global, format: Format, history: &History, out: &mut K) -> Status
     requires { IsRun history.now }
     ensures { Writes Status.Done (text format history.now)
         (did K.written K.faults out.old out.new) result }

@@ -18,6 +18,8 @@ use crate::words::{Asked, read_words};
 use bm_cli::{Status, refuse, replay_files, say};
 use bm_io::{Files, Sink};
 use std::alloc::Global;
+use std::sync::Wait;
+use std::thread::Threads;
 
 const USAGE: &str = "usage: beamer-connections CAPTURE SCRIPT [--csv]\n";
 
@@ -26,7 +28,8 @@ const USAGE: &str = "usage: beamer-connections CAPTURE SCRIPT [--csv]\n";
 /// 0: the connections were written. 1: the words are of no form. 2: the files failed. 3: the capture
 /// has a fault. 4: the script has a fault. 5: the sink failed. 6: memory was refused. 7: a limit is
 /// passed.
-pub fn beamer_connections<F: Files, K: Sink>(
+pub fn beamer_connections<R: Threads + Wait + Sync, F: Files, K: Sink>(
+    rt: &R,
     alloc: Global,
     words: &[String],
     files: &mut F,
@@ -55,6 +58,9 @@ pub fn beamer_connections<F: Files, K: Sink>(
     ensures usage { result ≡ 1 → form_in words.now ≡ None }
     ensures named { result ≡ 2 → IsSome (form_in words.now) }
     ensures read { result ≡ 2 → Rose (F.faults files.old) (F.faults files.new) }
+    // Where the files failed 2 comes, but where the sink failed too, or memory was refused.
+    ensures files { result ≢ 2 → result ≢ 5 → result ≢ 6 →
+        F.faults files.new ≡ F.faults files.old }
     // 5 comes where the sink failed, and nowhere else.
     ensures write { result ≡ 5 → Rose (K.faults out.old) (K.faults out.new) }
     ensures kept { result ≢ 5 → K.faults out.new ≡ K.faults out.old }
@@ -83,11 +89,12 @@ pub fn beamer_connections<F: Files, K: Sink>(
     // No source stays open, and none is closed that was open before.
     ensures open { F.open_now files.new ≡ F.open_now files.old }
 {
-    answer(alloc, words, files, out).code()
+    answer(rt, alloc, words, files, out).code()
 }
 
 /// Does what the words ask for.
-fn answer<F: Files, K: Sink>(
+fn answer<R: Threads + Wait + Sync, F: Files, K: Sink>(
+    rt: &R,
     alloc: Global,
     words: &[String],
     files: &mut F,
@@ -100,13 +107,14 @@ fn answer<F: Files, K: Sink>(
     ensures open { F.open_now files.new ≡ F.open_now files.old }
 {
     match read_words(words) {
-        Some(asked) => answer_form(alloc, asked, files, out),
+        Some(asked) => answer_form(rt, alloc, asked, files, out),
         None => misuse(out),
     }
 }
 
 /// Replays the named capture and script, and tells its connections.
-fn answer_form<F: Files, K: Sink>(
+fn answer_form<R: Threads + Wait + Sync, F: Files, K: Sink>(
+    rt: &R,
     alloc: Global,
     form: Asked<'_>,
     files: &mut F,
@@ -118,7 +126,7 @@ fn answer_form<F: Files, K: Sink>(
         (did K.written K.faults out.old out.new) result) }
     ensures open { F.open_now files.new ≡ F.open_now files.old }
 {
-    match replay_files(alloc, files, form.names) {
+    match replay_files(rt, alloc, files, form.names) {
         Ok(history) => tell(alloc, form.format, &history, out),
         Err(fault) => refuse(alloc, &fault, out),
     }

@@ -32,6 +32,10 @@ pub returns-clause-read : goal.returns-clause-read
 returns-clause-read g c =
     laws.read _ _ _ _ _ (laws.ended _ _ _ _ _ c.answer.result c.code.ensures c.answer.ensures.ends)
 
+pub returns-clause-files : goal.returns-clause-files
+returns-clause-files g c =
+    laws.files_kept _ _ _ _ _ (laws.ended _ _ _ _ _ c.answer.result c.code.ensures c.answer.ensures.ends)
+
 pub returns-clause-write : goal.returns-clause-write
 returns-clause-write g c =
     laws.write _ _ _ _ _ (laws.ended _ _ _ _ _ c.answer.result c.code.ensures c.answer.ensures.ends)
