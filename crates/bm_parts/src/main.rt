@@ -8,18 +8,16 @@
 
 ghost use Rattle.bm_core.specs.Runs.{IsRun};
 
-mod history;
 mod parting;
-mod reading;
 
-use crate::history::replay_stage;
 use crate::parting::part;
-use crate::reading::read_stage;
 use bm_base::Memory;
+use bm_cli::replay_files;
 use bm_core::History;
-use bm_io::{StdSink, put_all};
+use bm_io::{StdFiles, StdSink, put_all};
 use bm_merge::merge;
 use bm_trace::report;
+use bm_words::Names;
 use std::alloc::Global;
 use std::env;
 use std::process::ExitCode;
@@ -58,17 +56,19 @@ fn main(rt: HostRuntime) -> ExitCode {
     let Some((capture, script)) = read_words(&rt) else {
         return ExitCode::from(1);
     };
-    let Some((stage, packets)) = read_stage(rt, &capture, &script) else {
+    let names = Names {
+        capture: capture.as_str(),
+        script: Some(script.as_str()),
+    };
+    let Ok(history) = replay_files(&rt, alloc, &mut StdFiles::new(rt), names) else {
         return ExitCode::from(2);
     };
-    let text = match replay_stage(alloc, stage, &packets) {
-        Ok(history) => merged_report(alloc, history),
-        Err(Memory) => Err(Memory),
-    };
-    let text = match text {
-        Ok(Some(text)) => text,
-        Ok(None) => return ExitCode::from(3),
+    let text = match merged_report(alloc, history) {
+        Ok(text) => text,
         Err(Memory) => return ExitCode::from(6),
+    };
+    let Some(text) = text else {
+        return ExitCode::from(3);
     };
     let mut out = StdSink::new(rt);
     match put_all(&mut out, &text) {
