@@ -1,9 +1,8 @@
 -- How a call ends, by what was read and what was written.
-use Rattle.std.proofs.Common.{◌≡◌, ℕ, List, Option, Some, None, Ok, refl, sym, subst, ap, ap₂, ◌∙◌}
+use Rattle.std.proofs.Common.{◌≡◌, ℕ, List, Option, None, Ok, refl, sym, subst, ap, ap₂, ◌∙◌}
 use Rattle.bm_core.specs.declared.events.Event.{Event}
 use Rattle.bm_core.specs.declared.events.History.{History}
 use Rattle.bm_core.specs.declared.events.Stage.{Stage}
-use Rattle.bm_core.specs.Histories.{IsReplay}
 use Rattle.bm_core.specs.Rules.{setting_fate, setting_mux}
 use Rattle.bm_core.proofs.Determined.{replay_law}
 use Rattle.bm_cli.specs.declared.mode.Mode.TheVariants.{Replay}

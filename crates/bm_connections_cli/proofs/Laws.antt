@@ -1,5 +1,5 @@
 -- The clauses of `beamer_connections`, by how the call ended.
-use Rattle.std.proofs.Common.{◌≡◌, ◌≢◌, ◌⊎◌, inl, inr, ℕ, List, [], Option, Some, None}
+use Rattle.std.proofs.Common.{◌≡◌, ◌≢◌, ◌⊎◌, inl, inr, ℕ, [], Option, Some, None}
 use Rattle.std.proofs.Common.{IsSome, sym, ap, subst, ◌∙◌, refl, ◌≤◌}
 use Rattle.std.specs.Io.KnownBytes.{Appends}
 use Rattle.bm_io.specs.Causes.{Rose}
