@@ -121,7 +121,7 @@ can_count events loads s few k =
 
 -- CAUSES
 
-some_at : {X : Type 0} (xs : List X) (i : ℕ) → i < length xs → X
+pub some_at : {X : Type 0} (xs : List X) (i : ℕ) → i < length xs → X
 some_at [] i h = absurd (omega arith)
 some_at (x ∷ xs) zero h = x
 some_at (x ∷ xs) (suc i) h = some_at xs i (omega arith)

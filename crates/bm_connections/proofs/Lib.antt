@@ -1,4 +1,6 @@
 pub mod Steps
+pub mod Stamped
+pub mod Lateness
 pub mod Passes
 pub mod Sums
 pub mod Counting

@@ -27,13 +27,16 @@ use Rattle.bm_trace.specs.CauseOf.{is_fault}
 use Rattle.bm_trace.specs.Totals.{is_drop, is_reset}
 use Rattle.bm_connections.specs.declared.connection.Break.{Break}
 use Rattle.bm_connections.specs.declared.connection.Connection.{Connection}
+use Rattle.bm_connections.specs.declared.connection.Forwarding.{Forwarding}
 use Rattle.bm_connections.specs.declared.connection.Sight.{Sight}
 use Rattle.bm_connections.specs.declared.connection.Tally.{Tally}
 use Rattle.bm_connections.specs.Connections.{acceptor, arrivals, as_break, connection}
-use Rattle.bm_connections.specs.Connections.{first_break, is_arrival_for, one_more}
-use Rattle.bm_connections.specs.Connections.{strays_for, tally, first_of_two}
-use Rattle.bm_connections.specs.Rows.{AreRows, AreSeen, HasRoom, noted, row_or_blank, seen_again, tallied}
+use Rattle.bm_connections.specs.Connections.{first_break, first_fault, is_arrival_for, last_forwarding, one_more}
+use Rattle.bm_connections.specs.Connections.{strays_for, tally, first_of_two, refusal}
+use Rattle.bm_connections.specs.Rows.{AreRows, AreSeen, HasRoom, forwarded_after, noted, refused_after}
+use Rattle.bm_connections.specs.Rows.{row_or_blank, seen_again, tallied}
 use Rattle.bm_connections.specs.Seen.{is_packet_of, is_seen, sight}
+use Rattle.bm_connections.specs.Waits.{wait, wait_of}
 
 pub same_flow-true : (a b : Flow) → same_flow a b ≡ true → a ≡ b
 same_flow-true a b h = grind (arith, nat_tests, and_parts)
@@ -110,21 +113,51 @@ with_none (Some b) = refl
 still : (stage : Stage) (records : List Record) (past : List Event) (clock : Moment) (what : What) (f : Flow)
     → is_arrival_for stage f what ≡ false
     → connection stage records (record { clock = clock; what = what } ∷ past) f ≡ connection stage records past f
-still stage records past clock (Publish v) f h = rw (with_none (first_break stage f past)) refl
-still stage records past clock (Switch m v) f h = rw (with_none (first_break stage f past)) refl
-still stage records past clock (Steer k m) f h = rw (with_none (first_break stage f past)) refl
-still stage records past clock (Lose k hop) f h = rw (with_none (first_break stage f past)) refl
-still stage records past clock (Close server flow closed) f h = rw (with_none (first_break stage f past)) refl
-still stage records past clock (Retire server shard at result) f h = rw (with_none (first_break stage f past)) refl
-still stage records past clock Sync f h = rw (with_none (first_break stage f past)) refl
+still stage records past clock (Publish v) f h =
+    rw (with_none (first_break stage f past), with_none (first_fault stage f past)) refl
+still stage records past clock (Switch m v) f h =
+    rw (with_none (first_break stage f past), with_none (first_fault stage f past)) refl
+still stage records past clock (Steer k m) f h =
+    rw (with_none (first_break stage f past), with_none (first_fault stage f past)) refl
+still stage records past clock (Lose k hop) f h =
+    rw (with_none (first_break stage f past), with_none (first_fault stage f past)) refl
+still stage records past clock (Close server flow closed) f h =
+    rw (with_none (first_break stage f past), with_none (first_fault stage f past)) refl
+still stage records past clock (Retire server shard at result) f h =
+    rw (with_none (first_break stage f past), with_none (first_fault stage f past)) refl
+still stage records past clock Sync f h =
+    rw (with_none (first_break stage f past), with_none (first_fault stage f past)) refl
 still stage records past clock (Arrive k hop server verdict) f h =
-    rw (h, and_false (is_accept verdict), with_none (first_break stage f past)) refl
+    rw (h, and_false (is_accept verdict), with_none (first_break stage f past), with_none (first_fault stage f past))
+    refl
 
-same_connection : (f : Flow) (first last : Sight) (s s' : Option ServerId) (t t' : Tally) (b b' : Option Break)
-    → s ≡ s' → t ≡ t' → b ≡ b'
-    → (let x : Connection = record { flow = f; first = first; last = last; server = s; tally = t; broken = b } in x)
-    ≡ record { flow = f; first = first; last = last; server = s'; tally = t'; broken = b' }
-same_connection f first last s s' t t' b b' es et eb = rw (es, et, eb) refl
+abbrev connection_with : Flow → Sight → Sight → Option ServerId → Tally → Option Forwarding → Option Break → Option Break
+    → Connection
+connection_with f first last s t x b r = record {
+  flow = f;
+  first = first;
+  last = last;
+  server = s;
+  tally = t;
+  forwarded = x;
+  broken = b;
+  refused = r;
+}
+
+same_connection : (f : Flow) (first last : Sight) (s s' : Option ServerId) (t t' : Tally) (x x' : Option Forwarding)
+    (b b' r r' : Option Break) → s ≡ s' → t ≡ t' → x ≡ x' → b ≡ b' → r ≡ r'
+    → connection_with f first last s t x b r ≡ connection_with f first last s' t' x' b' r'
+same_connection f first last s s' t t' x x' b b' r r' es et ex eb er =
+    λ i. connection_with f first last (es i) (et i) (ex i) (eb i) (er i)
+
+-- a flow that has no server after an arrival had none before it
+refused_changed : (accepts : Bool) (s : ServerId) (o : Option ServerId) (fault new : Option Break)
+    → (if is_some (if accepts then Some s else o) then None
+    else first_of_two (if is_some o then None else fault) new)
+    ≡ (if is_some (if accepts then Some s else o) then None else first_of_two fault new)
+refused_changed true s o fault new = refl
+refused_changed false s None fault new = refl
+refused_changed false s (Some t) fault new = refl
 
 server_changed : (b : Bool) (o : Option Accepted) (a : Accepted)
     → (if b then Some a.server else option_map (λ x. x.server) o)
@@ -133,14 +166,15 @@ server_changed true o a = refl
 server_changed false o a = refl
 
 changed : (stage : Stage) (records : List Record) (past : List Event) (clock : Moment) (k : ℕ) (hop : Hop)
-    (server : ServerId) (verdict : Verdict) (f : Flow) (found : Option Cause)
+    (server : ServerId) (verdict : Verdict) (f : Flow) (found : Option Cause) (waited : ℕ)
     → is_of (segment_of stage k) f ≡ true
+    → waited ≡ wait stage past clock.0 k
     → found ≡ cause stage past clock.0 (Arrive k hop server verdict)
     → is_some found ≡ is_fault stage past (Arrive k hop server verdict)
-    → noted (record { packet = k; clock = clock; server = server; verdict = verdict; cause = found })
+    → noted (record { packet = k; clock = clock; server = server; verdict = verdict; cause = found }) waited
     (connection stage records past f)
     ≡ connection stage records (record { clock = clock; what = Arrive k hop server verdict } ∷ past) f
-changed stage records past clock k hop server verdict f found here by fault =
+changed stage records past clock k hop server verdict f found waited here after by fault =
     let e : Event = record { clock = clock; what = Arrive k hop server verdict }
     in let es : (if is_accept verdict then Some server else acceptor stage f past) ≡ acceptor stage f (e ∷ past) =
     rw here (server_changed (is_accept verdict) (accept_of stage past f) _)
@@ -155,27 +189,56 @@ changed stage records past clock k hop server verdict f found here by fault =
     (if is_some found && is_some (acceptor stage f past)
     then Some (record { packet = k; clock = clock; server = server; verdict = verdict; cause = o })
     else None)) by)
-    in same_connection _ _ _ _ _ _ _ _ _ es et eb
+    in let ex : forwarded_after
+    (record { packet = k; clock = clock; server = server; verdict = verdict; cause = found }) waited
+    (last_forwarding stage f past) ≡ last_forwarding stage f (e ∷ past) =
+    rw here (ap (λ (n : ℕ). if is_forward verdict
+    then Some (record { packet = k; clock = clock; server = server; wait = n })
+    else last_forwarding stage f past) after)
+    in let en : (if is_some found
+    then Some (record { packet = k; clock = clock; server = server; verdict = verdict; cause = found })
+    else None)
+    ≡ (if is_of (segment_of stage k) f && is_fault stage past (Arrive k hop server verdict)
+    then Some (record {
+      packet = k;
+      clock = clock;
+      server = server;
+      verdict = verdict;
+      cause = cause stage past clock.0 (Arrive k hop server verdict);
+    })
+    else None) =
+    rw (here, ← fault)
+    (ap (λ (o : Option Cause). if is_some found
+    then Some (record { packet = k; clock = clock; server = server; verdict = verdict; cause = o })
+    else None) by)
+    in let er : refused_after
+    (record { packet = k; clock = clock; server = server; verdict = verdict; cause = found })
+    (if is_accept verdict then Some server else acceptor stage f past) (refusal stage f past)
+    ≡ refusal stage f (e ∷ past) =
+    refused_changed (is_accept verdict) server (acceptor stage f past) (first_fault stage f past) _
+    ∙ (λ i. if is_some (es i) then None else first_of_two (first_fault stage f past) (en i))
+    in same_connection f _ _ _ _ _ _ _ _ _ _ _ _ es et ex eb er
 
 -- an arrival of the flow changes its connection so
 changed_by : (stage : Stage) (records : List Record) (past : List Event) (clock : Moment) (what : What) (f : Flow)
-    (found : Option Cause) (b : Break)
+    (found : Option Cause) (waited : ℕ) (b : Break)
     → as_break clock what found ≡ Some b → is_arrival_for stage f what ≡ true
+    → waited ≡ wait_of stage past clock.0 what
     → found ≡ cause stage past clock.0 what → is_some found ≡ is_fault stage past what
-    → noted b (connection stage records past f)
+    → noted b waited (connection stage records past f)
     ≡ connection stage records (record { clock = clock; what = what } ∷ past) f
-changed_by stage records past clock (Arrive k hop server verdict) f found b is here by fault =
+changed_by stage records past clock (Arrive k hop server verdict) f found waited b is here after by fault =
     let same : record { packet = k; clock = clock; server = server; verdict = verdict; cause = found } ≡ b = cc
-    in subst (λ (x : Break). noted x (connection stage records past f)
+    in subst (λ (x : Break). noted x waited (connection stage records past f)
     ≡ connection stage records (record { clock = clock; what = Arrive k hop server verdict } ∷ past) f) same
-    (changed stage records past clock k hop server verdict f found here by fault)
-changed_by stage records past clock (Publish v) f found b is here by fault = absurd (cc)
-changed_by stage records past clock (Switch m v) f found b is here by fault = absurd (cc)
-changed_by stage records past clock (Steer k m) f found b is here by fault = absurd (cc)
-changed_by stage records past clock (Lose k hop) f found b is here by fault = absurd (cc)
-changed_by stage records past clock (Close server flow closed) f found b is here by fault = absurd (cc)
-changed_by stage records past clock (Retire server shard at result) f found b is here by fault = absurd (cc)
-changed_by stage records past clock Sync f found b is here by fault = absurd (cc)
+    (changed stage records past clock k hop server verdict f found waited here after by fault)
+changed_by stage records past clock (Publish v) f found waited b is here after by fault = absurd (cc)
+changed_by stage records past clock (Switch m v) f found waited b is here after by fault = absurd (cc)
+changed_by stage records past clock (Steer k m) f found waited b is here after by fault = absurd (cc)
+changed_by stage records past clock (Lose k hop) f found waited b is here after by fault = absurd (cc)
+changed_by stage records past clock (Close server flow closed) f found waited b is here after by fault = absurd (cc)
+changed_by stage records past clock (Retire server shard at result) f found waited b is here after by fault = absurd (cc)
+changed_by stage records past clock Sync f found waited b is here after by fault = absurd (cc)
 
 no_arrival : (stage : Stage) (f : Flow) (clock : Moment) (what : What) (found : Option Cause)
     → as_break clock what found ≡ None → is_arrival_for stage f what ≡ false
@@ -202,21 +265,22 @@ arrival_is stage f clock (Retire server shard at result) found b is = absurd (cc
 arrival_is stage f clock Sync found b is = absurd (cc)
 
 pub rows_noted : (stage : Stage) (records : List Record) (past : List Event) (e : Event) (found : Option Cause)
-    (b : Break) (s : Segment) (rows new : Flow → Option Connection)
+    (waited : ℕ) (b : Break) (s : Segment) (rows new : Flow → Option Connection)
     → as_break e.clock e.what found ≡ Some b → segment_of stage b.packet ≡ Some s
+    → waited ≡ wait_of stage past e.clock.0 e.what
     → found ≡ cause stage past e.clock.0 e.what → is_some found ≡ is_fault stage past e.what
     → ((q : Flow) → new q
-    ≡ (if same_flow s.flow q then Some (noted b (row_or_blank (rows s.flow) s.flow)) else rows q))
+    ≡ (if same_flow s.flow q then Some (noted b waited (row_or_blank (rows s.flow) s.flow)) else rows q))
     → AreRows stage records past rows → AreRows stage records (e ∷ past) new
-rows_noted stage records past e found b s rows new is seg by fault n k = record {
+rows_noted stage records past e found waited b s rows new is seg after by fault n k = record {
   each = λ q. ap (λ o. row_or_blank o q) (n q) ∙ elim (cases_Bool (same_flow s.flow q)) [
     | inl here ↦
         let same : s.flow ≡ q = same_flow-true s.flow q here
         in let packet : is_arrival_for stage q e.what ≡ true =
         arrival_is stage q e.clock e.what found b is ∙ ap (λ o. is_of o q) seg ∙ here
         in rw (here, same)
-        (ap (λ (c : Connection). noted b c) (k.each q)
-        ∙ changed_by stage records past e.clock e.what q found b is packet by fault)
+        (ap (λ (c : Connection). noted b waited c) (k.each q)
+        ∙ changed_by stage records past e.clock e.what q found waited b is packet after by fault)
     | inr other ↦
         let packet : is_arrival_for stage q e.what ≡ false =
         arrival_is stage q e.clock e.what found b is ∙ ap (λ o. is_of o q) seg ∙ other

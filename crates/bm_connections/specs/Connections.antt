@@ -19,8 +19,10 @@ use Rattle.bm_trace.specs.CauseOf.{is_fault}
 use Rattle.bm_trace.specs.Totals.{arrives, is_drop, is_reset, is_stray}
 use Rattle.bm_connections.specs.declared.connection.Break.{Break}
 use Rattle.bm_connections.specs.declared.connection.Connection.{Connection}
+use Rattle.bm_connections.specs.declared.connection.Forwarding.{Forwarding}
 use Rattle.bm_connections.specs.declared.connection.Tally.{Tally}
 use Rattle.bm_connections.specs.Seen.{first_seen, flows_of, last_seen, records_of}
+use Rattle.bm_connections.specs.Waits.{wait}
 
 -- HOW MANY
 
@@ -92,6 +94,44 @@ first_break stage f (e ∷ past) =
     then as_break e.clock e.what (cause stage past e.clock.0 e.what)
     else None)
 
+-- WHAT REFUSED
+
+-- the first packet of the flow that was dropped, reset or a stray
+abbrev pub first_fault : Stage → Flow → List Event → Option Break
+first_fault stage f [] = None
+first_fault stage f (e ∷ past) =
+    first_of_two (first_fault stage f past)
+    (if is_arrival_for stage f e.what && is_fault stage past e.what
+    then as_break e.clock e.what (cause stage past e.clock.0 e.what)
+    else None)
+
+-- the same, where no server accepted the flow
+abbrev pub refusal : Stage → Flow → List Event → Option Break
+refusal stage f past =
+    if is_some (acceptor stage f past) then None else first_fault stage f past
+
+-- WHAT WAS FORWARDED
+
+-- an arrival as a forwarding: its packet, clock and server, and how long after its bucket's move it
+-- came
+abbrev pub as_forwarding : Stage → List Event → Moment → What → Option Forwarding
+as_forwarding stage past clock (Arrive k hop server verdict) =
+    Some (record {
+      packet = k;
+      clock = clock;
+      server = server;
+      wait = wait stage past clock.0 k;
+    })
+as_forwarding stage past clock _ = None
+
+-- the last packet of the flow that was forwarded
+abbrev pub last_forwarding : Stage → Flow → List Event → Option Forwarding
+last_forwarding stage f [] = None
+last_forwarding stage f (e ∷ past) =
+    if is_arrival_for stage f e.what && arrives is_forward e.what
+    then as_forwarding stage past e.clock e.what
+    else last_forwarding stage f past
+
 -- THE TABLE
 
 -- the connection of a flow, after these records and these events
@@ -102,7 +142,9 @@ connection stage records past f = record {
   last = last_seen records f;
   server = acceptor stage f past;
   tally = tally stage f past;
+  forwarded = last_forwarding stage f past;
   broken = first_break stage f past;
+  refused = refusal stage f past;
 }
 
 -- the connection of a flow in a history

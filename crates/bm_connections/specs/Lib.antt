@@ -1,7 +1,10 @@
 pub mod Seen
+pub mod Waits
 pub mod Connections
 pub mod Rows
+pub mod Stamps
 pub mod Counts
+pub mod Late
 pub mod Loads
 pub mod Laws
 pub mod Text

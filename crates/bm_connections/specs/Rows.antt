@@ -1,10 +1,11 @@
 -- What the code keeps of connections while it goes through records and events.
-use Rattle.std.specs.Prelude.{◌≡◌, suc, ◌<◌, ◌^◌, Bool, ◌&&◌, if◌then◌else◌, List, Option, Some}
+use Rattle.std.specs.Prelude.{◌≡◌, ℕ, suc, ◌<◌, ◌^◌, Bool, ◌&&◌, if◌then◌else◌, List, Option, Some}
 use Rattle.std.specs.Prelude.{None, is_some, []}
 use Rattle.std.specs.BTreeMap as tree
 use Rattle.bm_base.specs.contracts.flow.FlowOrd.TheImpl as flow_order
 use Rattle.bm_base.specs.declared.capture.Record.{Record}
 use Rattle.bm_base.specs.declared.flow.Flow.{Flow}
+use Rattle.bm_base.specs.declared.ids.ServerId.{ServerId}
 use Rattle.bm_core.specs.declared.events.Event.{Event}
 use Rattle.bm_core.specs.declared.events.Stage.{Stage}
 use Rattle.bm_core.specs.declared.events.Verdict.{Verdict}
@@ -13,6 +14,7 @@ use Rattle.bm_core.specs.Past.{is_accept, is_forward}
 use Rattle.bm_trace.specs.Totals.{is_drop, is_reset}
 use Rattle.bm_connections.specs.declared.connection.Break.{Break}
 use Rattle.bm_connections.specs.declared.connection.Connection.{Connection}
+use Rattle.bm_connections.specs.declared.connection.Forwarding.{Forwarding}
 use Rattle.bm_connections.specs.declared.connection.Sight.{Sight}
 use Rattle.bm_connections.specs.declared.connection.Tally.{Tally}
 use Rattle.bm_connections.specs.declared.rows.Rows.{Rows}
@@ -32,7 +34,9 @@ seen_from f first last = record {
   last = last;
   server = None;
   tally = none;
+  forwarded = None;
   broken = None;
+  refused = None;
 }
 
 -- the row of a flow, where there is one, and else that of a flow without packets
@@ -56,17 +60,37 @@ tallied verdict fault t = record {
   stray = one_more (is_process verdict && fault) t.stray;
 }
 
--- the row of a flow after an arrival of one of its packets
-abbrev pub noted : Break → Connection → Connection
-noted b c = record {
+-- the server that accepted a flow last, after an arrival of one of its packets
+abbrev pub server_after : Break → Option ServerId → Option ServerId
+server_after b before = if is_accept b.verdict then Some b.server else before
+
+-- the last forwarding after an arrival that came so long after its bucket's move
+abbrev pub forwarded_after : Break → ℕ → Option Forwarding → Option Forwarding
+forwarded_after b wait before =
+    if is_forward b.verdict
+    then Some
+    (record { packet = b.packet; clock = b.clock; server = b.server; wait = wait })
+    else before
+
+-- the refusal after an arrival, where the flow then has this server
+abbrev pub refused_after : Break → Option ServerId → Option Break → Option Break
+refused_after b server before =
+    if is_some server then None
+    else first_of_two before (if is_some b.cause then Some b else None)
+
+-- the row of a flow after an arrival of one of its packets, so long after its bucket's move
+abbrev pub noted : Break → ℕ → Connection → Connection
+noted b wait c = record {
   flow = c.flow;
   first = c.first;
   last = c.last;
-  server = if is_accept b.verdict then Some b.server else c.server;
+  server = server_after b c.server;
   tally = tallied b.verdict (is_some b.cause) c.tally;
+  forwarded = forwarded_after b wait c.forwarded;
   broken =
       first_of_two c.broken
       (if is_some b.cause && is_some c.server then Some b else None);
+  refused = refused_after b (server_after b c.server) c.refused;
 }
 
 -- each count can take one more

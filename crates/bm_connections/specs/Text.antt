@@ -9,9 +9,11 @@ use Rattle.bm_trace.specs.Words.{because_words, cause_word, endpoint, line, spac
 use Rattle.bm_trace.specs.Words.{verdict_words}
 use Rattle.bm_connections.specs.declared.connection.Break.{Break}
 use Rattle.bm_connections.specs.declared.connection.Connection.{Connection}
+use Rattle.bm_connections.specs.declared.connection.Forwarding.{Forwarding}
 use Rattle.bm_connections.specs.declared.connection.Sight.{Sight}
 use Rattle.bm_connections.specs.declared.connection.Tally.{Tally}
 use Rattle.bm_connections.specs.declared.counts.CauseCount.{CauseCount}
+use Rattle.bm_connections.specs.declared.late.LongestLate.{LongestLate}
 use Rattle.bm_connections.specs.declared.servers.ServerCount.{ServerCount}
 
 -- WORDS
@@ -32,14 +34,31 @@ tally_words t =
     ∷ codes "dropped" ∷ decimal t.dropped ∷ codes "reset" ∷ decimal t.reset
     ∷ codes "stray" ∷ decimal t.stray ∷ []
 
--- the first packet that broke the connection, its verdict, its cause and its clock
-abbrev pub broken_text : Option Break → List ℕ
-broken_text None = spaced (codes "whole" ∷ [])
-broken_text (Some b) =
-    spaced (codes "broken" ∷ decimal b.packet ∷ [])
+-- a packet that was forwarded, by which server, at which clock, and how long after its bucket's move
+abbrev pub forwarding_words : Forwarding → List (List ℕ)
+forwarding_words x =
+    decimal x.packet ∷ codes "by" ∷ decimal x.server.0 ∷ codes "at" ∷ decimal x.clock.0
+    ∷ codes "after" ∷ decimal x.wait ∷ []
+
+-- the last such packet
+abbrev pub forwarded_text : Option Forwarding → List ℕ
+forwarded_text None = []
+forwarded_text (Some x) = spaced (codes "last-forward" ∷ []) ++ spaced (forwarding_words x)
+
+-- a packet that was dropped, reset or a stray, its verdict, its cause and its clock
+abbrev pub fault_text : Break → List ℕ
+fault_text b =
+    spaced (decimal b.packet ∷ [])
     ++ spaced (verdict_words b.verdict)
     ++ spaced (because_words b.cause)
     ++ spaced (codes "at" ∷ decimal b.clock.0 ∷ [])
+
+-- what broke the connection; else what refused it; else whether a server accepted it
+abbrev pub end_text : Option Break → Option Break → Option ServerId → List ℕ
+end_text (Some b) refused server = spaced (codes "broken" ∷ []) ++ fault_text b
+end_text None (Some b) server = spaced (codes "refused" ∷ []) ++ fault_text b
+end_text None None None = spaced (codes "unaccepted" ∷ [])
+end_text None None (Some server) = spaced (codes "whole" ∷ [])
 
 -- the flow, and where it was first and last seen
 abbrev pub seen_text : Connection → List ℕ
@@ -49,14 +68,15 @@ seen_text c =
     ++ spaced (codes "opened" ∷ sight_words c.first)
     ++ spaced (codes "last" ∷ sight_words c.last)
 
--- the server that accepted it last and how often it was accepted, what became of its packets, and
--- what broke it first
+-- the server that accepted it last and how often it was accepted, what became of its packets, which
+-- was forwarded last, and what broke or refused it first
 abbrev pub fate_text : Connection → List ℕ
 fate_text c =
     spaced (codes "accepted" ∷ server_word c.server ∷ [])
     ++ spaced (codes "times" ∷ decimal c.tally.accepted ∷ [])
     ++ spaced (tally_words c.tally)
-    ++ broken_text c.broken
+    ++ forwarded_text c.forwarded
+    ++ end_text c.broken c.refused c.server
     ++ 10 ∷ []
 
 -- the line of a connection
@@ -80,6 +100,17 @@ cause_line c =
     line (codes "cause")
     (cause_word c.cause ∷ codes "packets" ∷ decimal c.packets
     ∷ codes "connections" ∷ decimal c.connections ∷ [])
+
+-- the line of the longest wait of packets that came too late
+abbrev pub late_line : LongestLate → List ℕ
+late_line late =
+    line (codes "chain-late")
+    (codes "longest" ∷ decimal late.wait ∷ codes "timeout_s" ∷ decimal late.timeout_s ∷ [])
+
+-- the same, where there is one
+abbrev pub late_text : Option LongestLate → List ℕ
+late_text None = []
+late_text (Some late) = late_line late
 
 -- FIELDS
 
@@ -106,10 +137,18 @@ abbrev pub cause_field : Option Cause → List ℕ
 cause_field None = []
 cause_field (Some cause) = cause_word cause
 
--- the first packet that broke the connection, its clock, its server, its verdict and its cause
-abbrev pub broken_fields : Option Break → List (List ℕ)
-broken_fields None = [] ∷ [] ∷ [] ∷ [] ∷ [] ∷ []
-broken_fields (Some b) =
+-- the last packet that was forwarded, its clock, the server that forwarded it, and how long after
+-- its bucket's move it came
+abbrev pub forwarded_fields : Option Forwarding → List (List ℕ)
+forwarded_fields None = [] ∷ [] ∷ [] ∷ [] ∷ []
+forwarded_fields (Some x) =
+    decimal x.packet ∷ decimal x.clock.0 ∷ decimal x.server.0 ∷ decimal x.wait ∷ []
+
+-- the first packet that broke or refused the connection, its clock, its server, its verdict and its
+-- cause
+abbrev pub fault_fields : Option Break → List (List ℕ)
+fault_fields None = [] ∷ [] ∷ [] ∷ [] ∷ [] ∷ []
+fault_fields (Some b) =
     decimal b.packet ∷ decimal b.clock.0 ∷ decimal b.server.0 ∷ verdict_field b.verdict
     ∷ cause_field b.cause ∷ []
 
@@ -122,7 +161,9 @@ tally_fields t =
 abbrev pub header : List ℕ
 header =
     codes "client,service,opened,opened_at,last,last_at,server,accepted,processed,forwarded,"
-    ++ codes "dropped,reset,stray,broken,broken_at,broken_by,verdict,cause"
+    ++ codes "dropped,reset,stray,broken,broken_at,broken_by,verdict,cause,"
+    ++ codes "forward,forward_at,forward_by,forward_wait,"
+    ++ codes "refused,refused_at,refused_by,refused_verdict,refused_cause"
     ++ 10 ∷ []
 
 -- the fields of a connection
@@ -134,7 +175,9 @@ connection_fields c =
     ++ fields (decimal c.last.number ∷ decimal c.last.moment.0 ∷ [])
     ++ fields (server_field c.server ∷ [])
     ++ fields (tally_fields c.tally)
-    ++ fields (broken_fields c.broken)
+    ++ fields (fault_fields c.broken)
+    ++ fields (forwarded_fields c.forwarded)
+    ++ fields (fault_fields c.refused)
     ++ 10 ∷ []
 
 -- the names, and a line for each

@@ -20,7 +20,7 @@ pub struct Tally {
     pub stray: u64,
 }
 
-/// A packet that was dropped, reset or a stray after its connection was accepted.
+/// A packet that was dropped, reset or a stray.
 #[derive(Clone, Copy, Debug, PartialEq, Eq)]
 pub struct Break {
     pub packet: u32,
@@ -30,9 +30,21 @@ pub struct Break {
     pub cause: Option<Cause>,
 }
 
+/// A packet that was forwarded: at which clock, by which server, and how many nanoseconds after the
+/// move of its bucket it came.
+#[derive(Clone, Copy, Debug, PartialEq, Eq)]
+pub struct Forwarding {
+    pub packet: u32,
+    pub clock: Moment,
+    pub server: ServerId,
+    pub wait: u64,
+}
+
 /// A connection: its flow, the records that are its first and last packets, the server that
-/// accepted it last, what became of its packets, and the first packet that broke it. A port that is
-/// used again is the same flow.
+/// accepted it last, what became of its packets, and which of them was forwarded last. The first
+/// packet that was dropped, reset or a stray after a server had accepted the connection broke it;
+/// where no server accepted it, the first such packet was refused. A port that is used again is the
+/// same flow.
 #[derive(Clone, Copy, Debug, PartialEq, Eq)]
 pub struct Connection {
     pub flow: Flow,
@@ -40,5 +52,7 @@ pub struct Connection {
     pub last: Sight,
     pub server: Option<ServerId>,
     pub tally: Tally,
+    pub forwarded: Option<Forwarding>,
     pub broken: Option<Break>,
+    pub refused: Option<Break>,
 }

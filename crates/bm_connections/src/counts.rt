@@ -34,7 +34,7 @@ fn number(cause: Cause) -> u8
     }
 }
 
-fn is_cause(cause: Cause, found: Option<Cause>) -> bool
+pub(crate) fn is_cause(cause: Cause, found: Option<Cause>) -> bool
     ensures { result ≡ spec.is_cause cause found }
 {
     match found {

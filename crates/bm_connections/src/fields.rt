@@ -2,7 +2,7 @@
 ghost use Rattle.std.specs.Prelude.{◌≡◌, ◌++◌, ◌∷◌, [], Some, OnOk, IfOk, string_bytes, flat_map};
 ghost use Rattle.bm_connections.specs.Text as spec;
 
-use crate::connection::{Break, Connection, Tally};
+use crate::connection::{Break, Connection, Forwarding, Tally};
 use bm_base::{Memory, ServerId, Text};
 use bm_core::{Cause, Verdict};
 use bm_trace::{Endpoint, cause_word};
@@ -68,12 +68,33 @@ impl fmt::Display for TallyFields {
     }
 }
 
-/// The first packet that broke a connection, each field behind a comma.
+/// The last packet that was forwarded, each field behind a comma.
 #[derive(Clone, Copy)]
-struct BrokenFields(Option<Break>);
+struct ForwardedFields(Option<Forwarding>);
 
-impl fmt::Display for BrokenFields {
-    ghost output = { λ b. Some (spec.fields (spec.broken_fields b.0)) };
+impl fmt::Display for ForwardedFields {
+    ghost output = { λ x. Some (spec.fields (spec.forwarded_fields x.0)) };
+
+    fn fmt<W: fmt::Write>(&self, f: &mut fmt::Formatter<W>) -> fmt::Result {
+        match self.0 {
+            None => write!(f, ",,,,"),
+            Some(last) => {
+                let packet = last.packet;
+                let clock = last.clock.0;
+                let server = last.server.0;
+                let wait = last.wait;
+                write!(f, ",{packet},{clock},{server},{wait}")
+            }
+        }
+    }
+}
+
+/// The first packet that broke or refused a connection, each field behind a comma.
+#[derive(Clone, Copy)]
+struct FaultFields(Option<Break>);
+
+impl fmt::Display for FaultFields {
+    ghost output = { λ b. Some (spec.fields (spec.fault_fields b.0)) };
 
     fn fmt<W: fmt::Write>(&self, f: &mut fmt::Formatter<W>) -> fmt::Result {
         match self.0 {
@@ -105,11 +126,14 @@ fn write_fields(text: &mut String, c: &Connection) -> Result<(), AllocError>
     };
     let server = ServerField(c.server);
     let tally = TallyFields(c.tally);
-    let broken = BrokenFields(c.broken);
+    let broken = FaultFields(c.broken);
+    let forwarded = ForwardedFields(c.forwarded);
+    let refused = FaultFields(c.refused);
     write!(text, "{client},{service}")?;
     write!(text, ",{},{}", c.first.number, c.first.moment.0)?;
     write!(text, ",{},{}", c.last.number, c.last.moment.0)?;
-    writeln!(text, ",{server}{tally}{broken}")
+    write!(text, ",{server}{tally}{broken}")?;
+    writeln!(text, "{forwarded}{refused}")
 }
 
 fn write_all_fields(text: &mut String, connections: &[Connection]) -> Result<(), AllocError>
@@ -127,9 +151,11 @@ fn write_header(text: &mut String) -> Result<(), AllocError>
     ensures { OnOk result (string_bytes text.new ≡ string_bytes text.old ++ spec.header) }
 {
     text.push_str(
-        "client,service,opened,opened_at,last,last_at,server,accepted,processed,forwarded,",
+        "client,service,opened,opened_at,last,last_at,server,accepted,processed,forwarded,\
+        dropped,reset,stray,broken,broken_at,broken_by,verdict,cause,\
+        forward,forward_at,forward_by,forward_wait,\
+        refused,refused_at,refused_by,refused_verdict,refused_cause\n",
     )?;
-    text.push_str("dropped,reset,stray,broken,broken_at,broken_by,verdict,cause\n")?;
     Ok(())
 }
 

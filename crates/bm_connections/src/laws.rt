@@ -1,11 +1,13 @@
 //! What holds of the table of every run. Each is a function that does nothing: its contract is the
 //! law.
-ghost use Rattle.std.specs.Prelude.{◌≡◌, count_by, if◌then◌else◌, is_some, reverse, sum_by};
+ghost use Rattle.std.specs.Prelude.{◌≡◌, ◌*◌, ◌^◌, ◌<◌, ℕ, count_by, if◌then◌else◌, is_some, true};
+ghost use Rattle.std.specs.Prelude.{false, IfSome, reverse, sum_by};
 ghost use Rattle.bm_base.specs.declared.flow.Flow.{Flow};
 ghost use Rattle.bm_base.specs.Segments.{same_flow};
 ghost use Rattle.bm_core.specs.Runs.{IsRun};
 ghost use Rattle.bm_trace.specs.Totals.{totals_of};
 ghost use Rattle.bm_connections.specs.Connections.{connection_in, connections};
+ghost use Rattle.bm_connections.specs.Late.{is_one_late, longest_late};
 ghost use Rattle.bm_connections.specs.Laws.{is_broken};
 ghost use Rattle.bm_connections.specs.Seen.{flows_of, is_seen, records_of};
 
@@ -36,4 +38,13 @@ pub fn sums(h: &History)
 pub fn broken(h: &History)
     ensures { (f : Flow) → is_some (connection_in h.now f).broken
         ≡ is_broken h.now.stage f (reverse h.now.events) }
+{}
+
+/// Under a timeout of the seconds that the longest wait names, none of the history's packets that
+/// came too late would have come too late at its clock. Under fewer seconds one would.
+pub fn timeout(h: &History)
+    ensures enough { IfSome (longest_late h.now) (λ late.
+        is_one_late (late.timeout_s * 10 ^ 9) h.now.stage (reverse h.now.events) ≡ false) }
+    ensures least { IfSome (longest_late h.now) (λ late. (s : ℕ) → s < late.timeout_s
+        → is_one_late (s * 10 ^ 9) h.now.stage (reverse h.now.events) ≡ true) }
 {}

@@ -4,20 +4,24 @@
 mod connection;
 mod counts;
 mod fields;
+mod late;
 pub mod laws;
 mod noted;
 mod rows;
 mod seen;
 mod servers;
+mod stamps;
 mod summary;
 mod table;
 mod text;
+mod waits;
 
-pub use connection::{Break, Connection, Sight, Tally};
+pub use connection::{Break, Connection, Forwarding, Sight, Tally};
 pub use counts::{CauseCount, cause_count};
 pub use fields::table_csv;
+pub use late::{LongestLate, longest_late};
 pub use servers::{ServerCount, server_counts};
-pub use summary::{causes_text, servers_text};
+pub use summary::{causes_text, late_text, servers_text};
 pub use table::connections;
 pub use text::table_text;
 

@@ -12,10 +12,13 @@ ghost use Rattle.bm_trace.specs.Totals as totals;
 ghost use Rattle.bm_connections.specs.Connections as spec;
 ghost use Rattle.bm_connections.specs.Rows as kept;
 ghost use Rattle.bm_connections.specs.Seen.{records_of};
+ghost use Rattle.bm_connections.specs.Stamps.{AreWaits};
+ghost use Rattle.bm_connections.specs.Waits.{wait_of};
 
-use crate::connection::{Break, Connection, Tally};
+use crate::connection::{Break, Connection, Forwarding, Tally};
 use crate::rows::Rows;
-use bm_base::Flow;
+use crate::waits::wait_in;
+use bm_base::{Flow, ServerId};
 use bm_core::{Cause, Event, History, Stage, Verdict, What};
 use bm_trace::CauseList;
 use std::alloc::AllocError;
@@ -85,20 +88,61 @@ fn first_break(before: &Connection, arrival: Break) -> Option<Break>
     }
 }
 
-/// A connection after an arrival of one of its packets.
-fn noted(arrival: Break, before: &Connection) -> Connection
-    requires { kept.HasRoom before.now.tally }
-    ensures { result ≡ kept.noted arrival before.now }
+/// The server that accepted a connection last, after an arrival of one of its packets.
+fn server_after(arrival: &Break, before: Option<ServerId>) -> Option<ServerId>
+    ensures { result ≡ kept.server_after arrival.now before }
 {
-    let server = if is_accept(arrival.verdict) {
+    if is_accept(arrival.verdict) {
         Some(arrival.server)
     } else {
-        before.server
-    };
+        before
+    }
+}
+
+/// What was forwarded last, after an arrival that came so long after its bucket's move.
+fn forwarded_after(arrival: &Break, wait: u64, before: Option<Forwarding>) -> Option<Forwarding>
+    ensures { result ≡ kept.forwarded_after arrival.now wait before }
+{
+    if is_forward(arrival.verdict) {
+        Some(Forwarding {
+            packet: arrival.packet,
+            clock: arrival.clock,
+            server: arrival.server,
+            wait,
+        })
+    } else {
+        before
+    }
+}
+
+/// What refused a connection, after an arrival, where it then has this server.
+fn refused_after(
+    arrival: Break,
+    server: Option<ServerId>,
+    before: Option<Break>,
+) -> Option<Break>
+    ensures { result ≡ kept.refused_after arrival server before }
+{
+    match (server, before) {
+        (Some(_), _) => None,
+        (None, Some(first)) => Some(first),
+        (None, None) if arrival.cause.is_some() => Some(arrival),
+        (None, None) => None,
+    }
+}
+
+/// A connection after an arrival of one of its packets, so long after its bucket's move.
+fn noted(arrival: Break, wait: u64, before: &Connection) -> Connection
+    requires { kept.HasRoom before.now.tally }
+    ensures { result ≡ kept.noted arrival wait before.now }
+{
+    let server = server_after(&arrival, before.server);
     Connection {
         server,
         tally: tallied(arrival.verdict, arrival.cause.is_some(), &before.tally),
+        forwarded: forwarded_after(&arrival, wait, before.forwarded),
         broken: first_break(before, arrival),
+        refused: refused_after(arrival, server, before.refused),
         ..*before
     }
 }
@@ -126,29 +170,33 @@ pub(crate) fn as_break(event: &Event, cause: Option<Cause>) -> Option<Break>
 
 impl Rows {
     /// Takes note of an arrival of one of the flow's packets.
-    fn note_arrival(&mut self, flow: Flow, arrival: Break) -> Result<(), AllocError>
+    fn note_arrival(&mut self, flow: Flow, arrival: Break, wait: u64) -> Result<(), AllocError>
         requires { kept.HasRoom (kept.row_or_blank (kept.row self.old flow) flow).tally }
         ensures { OnOk result ((q : Flow) → kept.row self.new q ≡ (if same_flow flow q
-            then Some (kept.noted arrival (kept.row_or_blank (kept.row self.old flow) flow))
+            then Some (kept.noted arrival wait (kept.row_or_blank (kept.row self.old flow) flow))
             else kept.row self.old q)) }
     {
         let before = self.get_or_blank(flow);
-        self.put(flow, noted(arrival, &before))
+        self.put(flow, noted(arrival, wait, &before))
     }
 
-    /// Takes note of the event that has these before it.
+    /// Takes note of the event that has these before it, this cause, and this wait since its
+    /// bucket's move.
     fn note(
         &mut self,
         stage: &Stage,
         before: &[Event],
         event: &Event,
         cause: Option<Cause>,
+        wait: u64,
     ) -> Result<(), AllocError>
         requires rows { kept.AreRows stage.now (records_of stage.now) (reverse before.now)
             (kept.row self.old) }
         requires room { suc (length before.now) < 2 ^ 64 }
         requires cause { cause
             ≡ causes.cause stage.now (reverse before.now) event.now.clock.0 event.now.what }
+        requires wait { wait
+            ≡ wait_of stage.now (reverse before.now) event.now.clock.0 event.now.what }
         requires fault { is_some cause ≡ is_fault stage.now (reverse before.now) event.now.what }
         ensures { OnOk result (kept.AreRows stage.now (records_of stage.now)
             (event.now ∷ reverse before.now) (kept.row self.new)) }
@@ -158,7 +206,7 @@ impl Rows {
             Some(arrival) => match stage.segment(arrival.packet) {
                 None => Ok(()),
                 Some(segment) => {
-                    self.note_arrival(segment.flow, arrival)?;
+                    self.note_arrival(segment.flow, arrival, wait)?;
                     Ok(())
                 }
             },
@@ -171,16 +219,20 @@ pub(crate) fn note_events(
     rows: &mut Rows,
     h: &History,
     causes: &CauseList,
+    waits: &[u64],
 ) -> Result<(), AllocError>
     requires run { IsRun h.now }
     requires causes { AreCauses h.now causes.now }
+    requires waits { AreWaits h.now waits.now }
     requires rows { kept.AreRows h.now.stage (records_of h.now.stage) [] (kept.row rows.old) }
     ensures { OnOk result (kept.AreRows h.now.stage (records_of h.now.stage)
         (reverse h.now.events) (kept.row rows.new)) }
 {
     let events = h.events.items();
     for (place, event) in events.iter().enumerate() {
-        rows.note(&h.stage, &events[..place], event, causes.at(place))?;
+        let cause = causes.at(place);
+        let wait = wait_in(waits, place);
+        rows.note(&h.stage, &events[..place], event, cause, wait)?;
     }
     Ok(())
 }

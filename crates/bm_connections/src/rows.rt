@@ -36,7 +36,9 @@ pub(crate) fn seen_from(flow: Flow, first: Sight, last: Sight) -> Connection
         last,
         server: None,
         tally: NONE,
+        forwarded: None,
         broken: None,
+        refused: None,
     }
 }
 

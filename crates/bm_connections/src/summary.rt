@@ -3,6 +3,7 @@ ghost use Rattle.std.specs.Prelude.{◌≡◌, ◌++◌, ◌∷◌, [], OnOk, If
 ghost use Rattle.bm_connections.specs.Text as spec;
 
 use crate::counts::CauseCount;
+use crate::late::LongestLate;
 use crate::servers::ServerCount;
 use bm_base::{Memory, Text};
 use bm_trace::cause_word;
@@ -69,5 +70,32 @@ pub fn causes_text(alloc: Global, causes: &[CauseCount]) -> Result<Text, Memory>
 {
     let mut text = String::new(alloc);
     write_causes(&mut text, causes)?;
+    Ok(Text::of(text))
+}
+
+fn write_longest(text: &mut String, late: &LongestLate) -> Result<(), AllocError>
+    ensures { OnOk result
+        (string_bytes text.new ≡ string_bytes text.old ++ spec.late_line late.now) }
+{
+    let wait = late.wait;
+    let seconds = late.timeout_s;
+    writeln!(text, "chain-late longest {wait} timeout_s {seconds}")
+}
+
+fn write_late(text: &mut String, late: Option<LongestLate>) -> Result<(), AllocError>
+    ensures { OnOk result (string_bytes text.new ≡ string_bytes text.old ++ spec.late_text late) }
+{
+    match late {
+        None => Ok(()),
+        Some(longest) => write_longest(text, &longest),
+    }
+}
+
+/// The line of the longest wait of packets that came too late, or nothing.
+pub fn late_text(alloc: Global, late: Option<LongestLate>) -> Result<Text, Memory>
+    ensures { IfOk result (λ text. text ≡ spec.late_text late) }
+{
+    let mut text = String::new(alloc);
+    write_late(&mut text, late)?;
     Ok(Text::of(text))
 }

@@ -9,6 +9,7 @@ use crate::connection::Connection;
 use crate::noted::note_events;
 use crate::rows::Rows;
 use crate::seen::see_records;
+use crate::waits::waits_of;
 use bm_base::{Flow, List, Memory};
 use bm_core::History;
 use bm_trace::CauseList;
@@ -38,6 +39,7 @@ pub fn connections(
     ensures { IfOk result (λ list. list ≡ spec.connections h.now) }
 {
     let mut seen = see_records(alloc, h.stage.capture.records.items())?;
-    note_events(&mut seen.rows, h, causes)?;
+    let waits = waits_of(alloc, h)?;
+    note_events(&mut seen.rows, h, causes, waits.as_slice())?;
     Ok(List::of(in_order(alloc, &seen.rows, seen.order.as_slice())?))
 }

@@ -31,6 +31,8 @@ const OPENING: Row = (1000, SYN, 100, 1);
 
 const DATA: Row = (1000, PSH_ACK, 101, 10);
 
+const OTHER: Row = (1002, SYN, 100, 1);
+
 fn flow(sport: u16) -> Flow
     ensures { result ≡ record { src = 0x0a00_0001; dst = 0xc000_0201; sport = sport; dport = 80 } }
 {
@@ -72,7 +74,7 @@ fn packet(alloc: Global, row: Row) -> Result<Vec<u8>, Memory>
     Ok(octets)
 }
 
-/// These segments, a microsecond apart, and their packets.
+/// These segments, 100 seconds apart, and their packets.
 fn capture(alloc: Global, rows: &[Row]) -> Result<(Capture, Octets), Memory>
     requires { length rows.now ≤ 100 }
     ensures fit { IfOk result (λ read. IsReplayable plain_setting.vips read.0) }
@@ -88,7 +90,7 @@ fn capture(alloc: Global, rows: &[Row]) -> Result<(Capture, Octets), Memory>
         let octets = packet(alloc, rows[i])?;
         let (body, packet) = classify(101, &octets, &[vip]);
         packets.push(packet)?;
-        let moment = Moment(i as u64 * 1_000);
+        let moment = Moment(i as u64 * 100_000_000_000);
         records.push(Record { moment, body })?;
     }
     let records = List::of(records);
@@ -220,19 +222,78 @@ fn check(rt: &impl Abort, alloc: Global, h: &History, text: &str, fields: &str) 
     Ok(())
 }
 
-#[test]
-fn a_break_is_told(rt: HostRuntime) -> Result<(), Fail> {
-    let alloc = rt.alloc();
-    let (capture, packets) = capture(alloc, &[OPENING, DATA, DATA])?;
-    let stage = bare_stage(alloc, 4_096, true, capture)?;
+/// Segments that come to one shard of this capacity, whether server 1 is asked to close the first
+/// connection behind the first of them, and the texts that are wanted.
+#[derive(Clone, Copy)]
+struct Case {
+    rows: &'static [Row],
+    capacity: u16,
+    closing: bool,
+    text: &'static str,
+    fields: &'static str,
+}
+
+static CASES: [Case; 4] = [
+    Case {
+        rows: &[OPENING, DATA, DATA],
+        capacity: 4_096,
+        closing: true,
+        text: "connection 10.0.0.1:1000 192.0.2.1:80 opened 1 at 0 last 3 at 200000000000 accepted 1 \
+               times 1 processed 0 forwarded 0 dropped 0 reset 2 stray 0 \
+               broken 2 reset no-previous because not-held at 100000000002\n",
+        fields: "cause\n10.0.0.1:1000,192.0.2.1:80,1,0,3,200000000000,1,1,0,0,0,2,0,\
+                 2,100000000002,1,reset,not-held,,,,,,,,,\n",
+    },
+    Case {
+        rows: &[OPENING, OTHER, (1002, PSH_ACK, 101, 10), DATA, DATA],
+        capacity: 4_096,
+        closing: false,
+        text: "connection 10.0.0.1:1000 192.0.2.1:80 opened 1 at 0 last 5 at 400000000000 accepted 1 \
+               times 1 processed 2 forwarded 0 dropped 0 reset 0 stray 0 whole\n\
+               connection 10.0.0.1:1002 192.0.2.1:80 opened 2 at 100000000000 last 3 at 200000000000 \
+               accepted 1 times 1 processed 1 forwarded 0 dropped 0 reset 0 stray 0 whole\n",
+        fields: "10.0.0.1:1002,192.0.2.1:80,2,100000000000,3,200000000000,1,1,1,0,0,0,0,,,,,,,,,,,,,,\n",
+    },
+    Case {
+        rows: &[OPENING, OTHER],
+        capacity: 1,
+        closing: false,
+        text: "connection 10.0.0.1:1000 192.0.2.1:80 opened 1 at 0 last 1 at 0 accepted 1 times 1 \
+               processed 0 forwarded 0 dropped 0 reset 0 stray 0 whole\n\
+               connection 10.0.0.1:1002 192.0.2.1:80 opened 2 at 100000000000 last 2 at 100000000000 \
+               accepted none times 0 processed 0 forwarded 0 dropped 1 reset 0 stray 0 \
+               refused 2 drop full because full at 100000000002\n",
+        fields: "10.0.0.1:1002,192.0.2.1:80,2,100000000000,2,100000000000,,0,0,0,1,0,0,,,,,,,,,,\
+                 2,100000000002,1,drop,full\n",
+    },
+    Case {
+        rows: &[DATA, OPENING, DATA],
+        capacity: 4_096,
+        closing: false,
+        text: "connection 10.0.0.1:1000 192.0.2.1:80 opened 1 at 0 last 3 at 200000000000 accepted 1 \
+               times 1 processed 1 forwarded 0 dropped 0 reset 1 stray 0 whole\n",
+        fields: "10.0.0.1:1000,192.0.2.1:80,1,0,3,200000000000,1,1,1,0,0,1,0,,,,,,,,,,,,,,\n",
+    },
+];
+
+fn check_case(rt: &impl Abort, alloc: Global, case: &Case) -> Result<(), Fail> {
+    assert!(rt; case.rows.len() <= 100 && 0 < case.capacity);
+    let (capture, packets) = capture(alloc, case.rows)?;
+    let stage = bare_stage(alloc, u32::from(case.capacity), case.closing, capture)?;
     let h = history(alloc, stage, &packets)?;
-    let text =
-        "connection 10.0.0.1:1000 192.0.2.1:80 opened 1 at 0 last 3 at 2000 accepted 1 times 1 \
-                processed 0 forwarded 0 dropped 0 reset 2 stray 0 broken 2 reset no-previous \
-                because not-held at 1002\n";
-    let fields =
-        "cause\n10.0.0.1:1000,192.0.2.1:80,1,0,3,2000,1,1,0,0,0,2,0,2,1002,1,reset,not-held\n";
-    check(&rt, alloc, &h, text, fields)
+    check(rt, alloc, &h, case.text, case.fields)
+}
+
+fn check_cases(rt: &impl Abort, alloc: Global, cases: &[Case]) -> Result<(), Fail> {
+    for case in cases {
+        check_case(rt, alloc, case)?;
+    }
+    Ok(())
+}
+
+#[test]
+fn what_became_of_connections_is_told(rt: HostRuntime) -> Result<(), Fail> {
+    check_cases(&rt, rt.alloc(), &CASES)
 }
 
 /// Tests the lines of servers 2 and 1, and of two causes.
@@ -266,47 +327,30 @@ fn servers_and_causes_are_counted(rt: HostRuntime) -> Result<(), Fail> {
     check_counts(&rt, alloc, &h)
 }
 
-#[test]
-fn connections_come_in_the_order_of_their_first_packets(rt: HostRuntime) -> Result<(), Fail> {
-    let alloc = rt.alloc();
-    let other = (1002, SYN, 100, 1);
-    let more = (1002, PSH_ACK, 101, 10);
-    let (capture, packets) = capture(alloc, &[OPENING, other, more, DATA, DATA])?;
-    let stage = bare_stage(alloc, 4_096, false, capture)?;
-    let h = history(alloc, stage, &packets)?;
-    let text =
-        "connection 10.0.0.1:1000 192.0.2.1:80 opened 1 at 0 last 5 at 4000 accepted 1 times 1 \
-                processed 2 forwarded 0 dropped 0 reset 0 stray 0 whole\n\
-                connection 10.0.0.1:1002 192.0.2.1:80 opened 2 at 1000 last 3 at 2000 accepted 1 \
-                times 1 processed 1 forwarded 0 dropped 0 reset 0 stray 0 whole\n";
-    let fields = "10.0.0.1:1002,192.0.2.1:80,2,1000,3,2000,1,1,1,0,0,0,0,,,,,\n";
-    check(&rt, alloc, &h, text, fields)
+/// Tests the line of the longest wait.
+fn check_late(rt: &impl Abort, alloc: Global, h: &History) -> Result<(), Fail>
+    requires { IsRun h.now }
+{
+    let causes = sweep(alloc, h)?;
+    let late = late_text(alloc, longest_late(alloc, h, &causes)?)?;
+    assert_eq!(rt; late.as_str(), "chain-late longest 299999999502 timeout_s 300\n");
+    Ok(())
 }
 
+/// The bucket moves at 500 nanoseconds, and the timeout is 240 seconds.
 #[test]
-fn what_was_never_accepted_has_no_server(rt: HostRuntime) -> Result<(), Fail> {
+fn a_moved_connection_breaks_behind_the_timeout(rt: HostRuntime) -> Result<(), Fail> {
     let alloc = rt.alloc();
-    let other = (1002, SYN, 100, 1);
-    let (capture, packets) = capture(alloc, &[OPENING, other])?;
-    let stage = bare_stage(alloc, 1, false, capture)?;
-    let h = history(alloc, stage, &packets)?;
-    let text = "connection 10.0.0.1:1000 192.0.2.1:80 opened 1 at 0 last 1 at 0 accepted 1 times 1 \
-                processed 0 forwarded 0 dropped 0 reset 0 stray 0 whole\n\
-                connection 10.0.0.1:1002 192.0.2.1:80 opened 2 at 1000 last 2 at 1000 accepted none \
-                times 0 processed 0 forwarded 0 dropped 1 reset 0 stray 0 whole\n";
-    let fields = "10.0.0.1:1002,192.0.2.1:80,2,1000,2,1000,,0,0,0,1,0,0,,,,,\n";
-    check(&rt, alloc, &h, text, fields)
-}
-
-#[test]
-fn a_moved_connection_is_whole(rt: HostRuntime) -> Result<(), Fail> {
-    let alloc = rt.alloc();
-    let (capture, packets) = capture(alloc, &[OPENING, DATA])?;
+    let (capture, packets) = capture(alloc, &[OPENING, DATA, DATA, DATA])?;
     let stage = moved_stage(alloc, capture)?;
     let h = history(alloc, stage, &packets)?;
     let text =
-        "connection 10.0.0.1:1000 192.0.2.1:80 opened 1 at 0 last 2 at 1000 accepted 1 times 1 \
-                processed 1 forwarded 1 dropped 0 reset 0 stray 0 whole\n";
-    let fields = "10.0.0.1:1000,192.0.2.1:80,1,0,2,1000,1,1,1,1,0,0,0,,,,,\n";
+        "connection 10.0.0.1:1000 192.0.2.1:80 opened 1 at 0 last 4 at 300000000000 accepted 1 \
+                times 1 processed 2 forwarded 2 dropped 0 reset 1 stray 0 \
+                last-forward 3 by 2 at 200000000002 after 199999999502 \
+                broken 4 reset chain-expired because chain-late at 300000000002\n";
+    let fields = "10.0.0.1:1000,192.0.2.1:80,1,0,4,300000000000,1,1,2,2,0,1,0,\
+                4,300000000002,2,reset,chain-late,3,200000000002,2,199999999502,,,,,\n";
+    check_late(&rt, alloc, &h)?;
     check(&rt, alloc, &h, text, fields)
 }

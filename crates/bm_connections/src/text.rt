@@ -3,7 +3,7 @@ ghost use Rattle.std.specs.Prelude.{◌≡◌, ◌++◌, ◌∷◌, [], Some, On
 ghost use Rattle.bm_trace.specs.Words.{spaced};
 ghost use Rattle.bm_connections.specs.Text as spec;
 
-use crate::connection::{Break, Connection, Sight, Tally};
+use crate::connection::{Break, Connection, Forwarding, Sight, Tally};
 use bm_base::{Memory, ServerId, Text};
 use bm_trace::{BecauseWords, Endpoint, VerdictWords};
 use std::alloc::{AllocError, Global};
@@ -48,23 +48,70 @@ impl fmt::Display for TallyWords {
     }
 }
 
-/// The first packet that broke a connection, each word behind a space, or that it is whole.
+/// A packet that was forwarded, each word behind a space.
 #[derive(Clone, Copy)]
-struct BrokenWords(Option<Break>);
+struct ForwardingWords(Forwarding);
 
-impl fmt::Display for BrokenWords {
-    ghost output = { λ b. Some (spec.broken_text b.0) };
+impl fmt::Display for ForwardingWords {
+    ghost output = { λ x. Some (spaced (spec.forwarding_words x.0)) };
+
+    fn fmt<W: fmt::Write>(&self, f: &mut fmt::Formatter<W>) -> fmt::Result {
+        let packet = self.0.packet;
+        let server = self.0.server.0;
+        let clock = self.0.clock.0;
+        let wait = self.0.wait;
+        write!(f, " {packet} by {server} at {clock} after {wait}")
+    }
+}
+
+/// The last packet that was forwarded, each word behind a space, or nothing.
+#[derive(Clone, Copy)]
+struct ForwardedWords(Option<Forwarding>);
+
+impl fmt::Display for ForwardedWords {
+    ghost output = { λ x. Some (spec.forwarded_text x.0) };
 
     fn fmt<W: fmt::Write>(&self, f: &mut fmt::Formatter<W>) -> fmt::Result {
         match self.0 {
-            None => write!(f, " whole"),
-            Some(first) => {
-                let packet = first.packet;
-                let verdict = VerdictWords(first.verdict);
-                let because = BecauseWords(first.cause);
-                let clock = first.clock.0;
-                write!(f, " broken {packet}{verdict}{because} at {clock}")
-            }
+            None => Ok(()),
+            Some(last) => write!(f, " last-forward{}", ForwardingWords(last)),
+        }
+    }
+}
+
+/// A packet that was dropped, reset or a stray, each word behind a space.
+#[derive(Clone, Copy)]
+struct FaultWords(Break);
+
+impl fmt::Display for FaultWords {
+    ghost output = { λ b. Some (spec.fault_text b.0) };
+
+    fn fmt<W: fmt::Write>(&self, f: &mut fmt::Formatter<W>) -> fmt::Result {
+        let packet = self.0.packet;
+        let verdict = VerdictWords(self.0.verdict);
+        let because = BecauseWords(self.0.cause);
+        let clock = self.0.clock.0;
+        write!(f, " {packet}{verdict}{because} at {clock}")
+    }
+}
+
+/// What broke or refused a connection, each word behind a space, or whether a server accepted it.
+#[derive(Clone, Copy)]
+struct EndWords {
+    broken: Option<Break>,
+    refused: Option<Break>,
+    server: Option<ServerId>,
+}
+
+impl fmt::Display for EndWords {
+    ghost output = { λ c. Some (spec.end_text c.broken c.refused c.server) };
+
+    fn fmt<W: fmt::Write>(&self, f: &mut fmt::Formatter<W>) -> fmt::Result {
+        match (self.broken, self.refused, self.server) {
+            (Some(first), _, _) => write!(f, " broken{}", FaultWords(first)),
+            (None, Some(first), _) => write!(f, " refused{}", FaultWords(first)),
+            (None, None, None) => write!(f, " unaccepted"),
+            (None, None, Some(_)) => write!(f, " whole"),
         }
     }
 }
@@ -100,8 +147,13 @@ fn write_fate(text: &mut String, c: &Connection) -> Result<(), AllocError>
     let server = ServerWord(c.server);
     let times = c.tally.accepted;
     let tally = TallyWords(c.tally);
-    let broken = BrokenWords(c.broken);
-    writeln!(text, " accepted {server} times {times}{tally}{broken}")
+    let forwarded = ForwardedWords(c.forwarded);
+    let end = EndWords {
+        broken: c.broken,
+        refused: c.refused,
+        server: c.server,
+    };
+    writeln!(text, " accepted {server} times {times}{tally}{forwarded}{end}")
 }
 
 /// The line of a connection.

@@ -10,7 +10,7 @@ pub returns : goal.returns
 returns c =
     table_is c.args.h.now (row c.note_events.new.rows) c.in_ok-seen.seen.order.items c.of.result
     (c.of.ensures ∙ c.in_ok-in_order.ensures
-    ∙ ap (map (λ (f : Flow). row_or_blank (row c.note_events.new.rows f) f)) c.as_slice.ensures.value)
+    ∙ ap (map (λ (f : Flow). row_or_blank (row c.note_events.new.rows f) f)) c.as_slice-2.ensures.value)
     (subst (λ (xs : List Record). c.in_ok-seen.seen.order.items ≡ flows_of (reverse xs)) c.items.ensures
     (c.in_ok-seen.ensures c.args.h.now.stage).order.in_order)
     c.in_ok-note_events.ensures

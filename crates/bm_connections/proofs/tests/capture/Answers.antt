@@ -10,22 +10,22 @@ use Rattle.bm_table.specs.Settings.{plain_setting}
 use Rattle.bm_replay.proofs.SmallStages.{fit_push, rising_higher, rising_push}
 use Rattle.bm_connections.proofs.tests.capture.Goals as goal
 
-one_more : (records new : List Record) (i : ℕ) (r : Record) → new ≡ records ++ r ∷ [] → r.moment.0 ≡ i * 1000
+one_more : (records new : List Record) (i : ℕ) (r : Record) → new ≡ records ++ r ∷ [] → r.moment.0 ≡ i * 100_000_000_000
     → IsFit plain_setting.vips r
-    → length records ≡ i → AreRising 0 (1000 * i) (map (λ x. x.moment.0) records)
+    → length records ≡ i → AreRising 0 (100_000_000_000 * i) (map (λ x. x.moment.0) records)
     → AllByRecursion (λ x. IsFit plain_setting.vips x) records
-    → (length new ≡ i + 1) × AreRising 0 (1000 * (i + 1)) (map (λ x. x.moment.0) new)
+    → (length new ≡ i + 1) × AreRising 0 (100_000_000_000 * (i + 1)) (map (λ x. x.moment.0) new)
     × AllByRecursion (λ x. IsFit plain_setting.vips x) new
 one_more records new i r is moment fit count rises fits =
-    let same : 1000 * i ≡ r.moment.0 = (let m = moment in omega arith)
+    let same : 100_000_000_000 * i ≡ r.moment.0 = (let m = moment in omega arith)
     in let rise : AreRising 0 r.moment.0 (map (λ x. x.moment.0) records) =
     subst (λ (n : ℕ). AreRising 0 n (map (λ x. x.moment.0) records)) same rises
-    in let all : AreRising 0 (1000 * (i + 1)) (map (λ x. x.moment.0) records ++ r.moment.0 ∷ []) =
-    rising_push 0 r.moment.0 (1000 * (i + 1)) (map (λ x. x.moment.0) records) rise (omega arith)
+    in let all : AreRising 0 (100_000_000_000 * (i + 1)) (map (λ x. x.moment.0) records ++ r.moment.0 ∷ []) =
+    rising_push 0 r.moment.0 (100_000_000_000 * (i + 1)) (map (λ x. x.moment.0) records) rise (omega arith)
     (let m = moment in omega arith)
     in (
       ap (λ (l : List Record). length l) is ∙ (length-append records (r ∷ []) ∙ omega arith),
-      subst (λ (l : List ℕ). AreRising 0 (1000 * (i + 1)) l)
+      subst (λ (l : List ℕ). AreRising 0 (100_000_000_000 * (i + 1)) l)
           (sym (map-append (λ (x : Record). x.moment.0) records (r ∷ []))
           ∙ ap (λ (l : List Record). map (λ x. x.moment.0) l) (sym is)) all,
       subst (λ (l : List Record). AllByRecursion (λ x. IsFit plain_setting.vips x) l) (sym is)
@@ -60,7 +60,7 @@ loop-i-preserved c =
     let inv = c.loop-i.invariant
     in let more =
     one_more c.loop-i.records.items c.push-in-loop-i.new.self.items c.loop-i.i _ c.in_ok-push-2.ensures.items refl
-    (c.classify-body.ensures.fit (c.loop-i.i * 1000)) inv.0 inv.1 inv.2
+    (c.classify-body.ensures.fit (c.loop-i.i * 100_000_000_000)) inv.0 inv.1 inv.2
     in (
       more.0,
       more.1,
@@ -75,7 +75,7 @@ returns-clause-fit c =
     in let records : c.of-records.result ≡ c.loop-i.records.items = c.of-records.ensures
     in rw records (record {
       few = let h = c.requires in let n = inv.0 in let e = c.loop-i.auto.i-end in omega arith;
-      rise = rising_higher 0 (1000 * c.loop-i.i) (44 * 10 ^ 17) (map (λ r. r.moment.0) c.loop-i.records.items) inv.1
+      rise = rising_higher 0 (100_000_000_000 * c.loop-i.i) (44 * 10 ^ 17) (map (λ r. r.moment.0) c.loop-i.records.items) inv.1
           (let h = c.requires in let e = c.loop-i.auto.i-end in omega arith);
       fit = inv.2;
     })

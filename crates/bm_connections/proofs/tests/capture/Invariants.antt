@@ -8,6 +8,6 @@ use Rattle.bm_connections.proofs.tests.capture.Given as goal
 abbrev pub invariant-loop-i : goal.invariant-loop-i
 invariant-loop-i l =
     (length l.records.items ≡ l.i)
-    × AreRising 0 (1000 * l.i) (map (λ r. r.moment.0) l.records.items)
+    × AreRising 0 (100_000_000_000 * l.i) (map (λ r. r.moment.0) l.records.items)
     × AllByRecursion (λ r. IsFit plain_setting.vips r) l.records.items
     × ArePackets l.records.items l.packets

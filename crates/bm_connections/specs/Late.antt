@@ -1,0 +1,73 @@
+-- Which packets came too late, and which timeout would have kept them, by looking back through
+-- events (docs/DEFINITIONS.md). A past has its newest event first.
+use Rattle.std.specs.Prelude.{ℕ, suc, max, ◌/◌, ◌%◌, ◌^◌, ◌==◌, Bool, false, ◌&&◌, ◌||◌}
+use Rattle.std.specs.Prelude.{if◌then◌else◌, List, [], ◌∷◌, Option, Some, None, option_map, reverse}
+use Rattle.bm_base.specs.declared.label.Label.{Label}
+use Rattle.bm_core.specs.declared.events.Cause.TheVariants.{ChainLate}
+use Rattle.bm_core.specs.declared.events.Event.{Event}
+use Rattle.bm_core.specs.declared.events.History.{History}
+use Rattle.bm_core.specs.declared.events.Stage.{Stage}
+use Rattle.bm_core.specs.declared.events.What.{What}
+use Rattle.bm_core.specs.declared.events.What.TheVariants.{Arrive}
+use Rattle.bm_core.specs.Causes.{cause, is_late}
+use Rattle.bm_core.specs.Past.{label_of}
+use Rattle.bm_connections.specs.declared.late.LongestLate.{LongestLate}
+use Rattle.bm_connections.specs.Counts.{is_cause}
+use Rattle.bm_connections.specs.Waits.{wait_of}
+
+-- the event is the arrival of a packet whose cause is that it came too late
+abbrev pub came_late : Stage → List Event → Event → Bool
+came_late stage past e = is_cause ChainLate (cause stage past e.clock.0 e.what)
+
+-- THE TIMEOUT
+
+-- the stage with a timeout of so many nanoseconds
+abbrev pub with_timeout : ℕ → Stage → Stage
+with_timeout t stage =
+    record stage {
+      script = record stage.script { setting = record stage.script.setting { timeout = t } };
+    }
+
+-- there is a label, and under this timeout the clock is past its stamp by more
+abbrev pub has_late_label : ℕ → Stage → Option Label → ℕ → Bool
+has_late_label t stage None clock = false
+has_late_label t stage (Some label) clock = is_late (with_timeout t stage) label clock
+
+-- under this timeout the packet of an arrival comes too late
+abbrev pub comes_late : ℕ → Stage → List Event → ℕ → What → Bool
+comes_late t stage past clock (Arrive k hop server verdict) =
+    has_late_label t stage (label_of stage past k) clock
+comes_late t stage past clock _ = false
+
+-- one of the packets that came too late does so under this timeout too, at its clock
+abbrev pub is_one_late : ℕ → Stage → List Event → Bool
+is_one_late t stage [] = false
+is_one_late t stage (e ∷ past) =
+    came_late stage past e && comes_late t stage past e.clock.0 e.what || is_one_late t stage past
+
+-- THE LONGEST WAIT
+
+-- the longer one, where there is one
+abbrev pub longer : Option ℕ → ℕ → ℕ
+longer None wait = wait
+longer (Some longest) wait = max longest wait
+
+-- the longest wait of the packets that came too late
+abbrev pub longest_wait : Stage → List Event → Option ℕ
+longest_wait stage [] = None
+longest_wait stage (e ∷ past) =
+    if came_late stage past e
+    then Some (longer (longest_wait stage past) (wait_of stage past e.clock.0 e.what))
+    else longest_wait stage past
+
+-- the least number of seconds that are no fewer than so many nanoseconds
+abbrev pub whole_seconds : ℕ → ℕ
+whole_seconds n = if n % 10 ^ 9 == 0 then n / 10 ^ 9 else suc (n / 10 ^ 9)
+
+-- a longest wait, where there is one, and its seconds
+abbrev pub as_late : Option ℕ → Option LongestLate
+as_late wait = option_map (λ w. record { wait = w; timeout_s = whole_seconds w }) wait
+
+-- that of a history's packets that came too late
+abbrev pub longest_late : History → Option LongestLate
+longest_late h = as_late (longest_wait h.stage (reverse h.events))

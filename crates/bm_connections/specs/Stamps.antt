@@ -1,0 +1,48 @@
+-- What the code keeps of muxes and packets, for the stamps of labels, and the waits that it finds.
+use Rattle.std.specs.Prelude.{◌≡◌, ℕ, ◌<◌, List, length, Option, Some, None, slice_index_or}
+use Rattle.std.specs.BTreeMap as tree
+use Rattle.std.specs.Ordering.{nat_cmp}
+use Rattle.bm_core.specs.declared.events.Event.{Event}
+use Rattle.bm_core.specs.declared.events.History.{History}
+use Rattle.bm_core.specs.declared.events.Stage.{Stage}
+use Rattle.bm_core.specs.Past.{label_of, version_at}
+use Rattle.bm_table.specs.Entries.{IsTable}
+use Rattle.bm_table.specs.Planned.{Planned}
+use Rattle.bm_connections.specs.declared.stamps.Stamps.{Stamps}
+use Rattle.bm_connections.specs.declared.stamps.View.{View}
+use Rattle.bm_connections.specs.Waits.{stamp_of, wait_at}
+
+-- the number, where there is one, and else 0
+abbrev pub or_zero : Option ℕ → ℕ
+or_zero None = 0
+or_zero (Some n) = n
+
+-- the mux has the table of this version; where nothing is kept of it, that is version 0
+abbrev pub IsView : Planned → ℕ → Option View → Type 0
+IsView plan v None = v ≡ 0
+IsView plan v (Some x) = (x.version ≡ v) × IsTable plan v x.table
+
+-- these are the tables of the muxes and the stamps of the packets after these events
+pub record AreStamps (stage : Stage) (past : List Event) (views : ℕ → Option View)
+    (stamps : ℕ → Option ℕ) : Type 0 where
+  pub view_of_each : (m : ℕ)
+      → IsView stage.script.plan (version_at past (record { 0 = m })).0 (views m)
+  pub stamp_of_each : (k : ℕ) → or_zero (stamps k) ≡ stamp_of (label_of stage past k)
+
+-- they are what is kept here
+abbrev pub KnowsStamps : Stage → List Event → Stamps → Type 0
+KnowsStamps stage past s =
+    AreStamps stage past (tree.get nat_cmp s.views.views) (tree.get nat_cmp s.stamps)
+
+-- the wait at a place, or 0
+abbrev pub wait_in : List ℕ → ℕ → ℕ
+wait_in waits place = slice_index_or waits place 0
+
+-- the waits of the first n events are these
+pub record AreFirstWaits (h : History) (n : ℕ) (waits : List ℕ) : Type 0 where
+  pub count : length waits ≡ n
+  pub each : (place : ℕ) → place < n → wait_in waits place ≡ wait_at h place
+
+-- these are the waits of all events
+abbrev pub AreWaits : History → List ℕ → Type 0
+AreWaits h waits = AreFirstWaits h (length h.events) waits
