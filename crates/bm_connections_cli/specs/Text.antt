@@ -8,10 +8,11 @@ use Rattle.bm_core.specs.declared.events.History.{History}
 use Rattle.bm_connections.specs.declared.counts.CauseCount.{CauseCount}
 use Rattle.bm_connections.specs.Connections.{connections}
 use Rattle.bm_connections.specs.Counts.{cause_count, server_counts}
-use Rattle.bm_connections.specs.Text.{cause_line, server_line, table_csv, table_text}
+use Rattle.bm_connections.specs.Late.{longest_late}
+use Rattle.bm_connections.specs.Text.{cause_line, late_text, server_line, table_csv, table_text}
 use Rattle.bm_connections_cli.specs.declared.words.Format.{Format}
 use Rattle.bm_connections_cli.specs.declared.words.Format.TheVariants.{Lines, Csv}
-use Rattle.bm_connections_cli.specs.Advice.{advice_line}
+use Rattle.bm_connections_cli.specs.Advice.{advice_line, unsteered_line}
 use Rattle.bm_connections_cli.specs.Servers.{servers_of}
 
 abbrev pub all_causes : List Cause
@@ -34,6 +35,10 @@ server_lines h = flat_map server_line (server_counts h (servers_of h.stage.scrip
 abbrev pub cause_lines : History → List ℕ
 cause_lines h = flat_map cause_line (causes_in h)
 
+-- the timeout that would have kept what came too late, where something did
+abbrev pub late_lines : History → List ℕ
+late_lines h = late_text (longest_late h)
+
 -- a line of advice for each cause that occurs
 abbrev pub advice_lines : History → List ℕ
 advice_lines h = flat_map (λ c. advice_line c.cause) (causes_in h)
@@ -41,7 +46,8 @@ advice_lines h = flat_map (λ c. advice_line c.cause) (causes_in h)
 -- what is told in each format, part by part
 abbrev pub parts : Format → History → List (List ℕ)
 parts Lines h =
-    table_text (connections h) ∷ server_lines h ∷ cause_lines h ∷ advice_lines h ∷ []
+    table_text (connections h) ∷ server_lines h ∷ cause_lines h ∷ late_lines h ∷ advice_lines h
+    ∷ unsteered_line (connections h) ∷ []
 parts Csv h = table_csv (connections h) ∷ []
 
 abbrev pub text : Format → History → List ℕ

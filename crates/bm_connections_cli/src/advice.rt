@@ -3,7 +3,7 @@ ghost use Rattle.std.specs.Prelude.{◌≡◌, ◌++◌, IfOk, OnOk, flat_map, s
 ghost use Rattle.bm_connections_cli.specs.Advice as spec;
 
 use bm_base::{Memory, Text};
-use bm_connections::CauseCount;
+use bm_connections::{CauseCount, Connection};
 use bm_core::Cause;
 use bm_trace::cause_word;
 use std::alloc::{AllocError, Global};
@@ -50,5 +50,16 @@ pub(crate) fn advice_text(alloc: Global, counts: &[CauseCount]) -> Result<Text, 
 {
     let mut text = String::new(alloc);
     write_all_advice(&mut text, counts)?;
+    Ok(Text::of(text))
+}
+
+/// A line of advice where there is no connection, since no packet goes to a service.
+pub(crate) fn unsteered_text(alloc: Global, table: &[Connection]) -> Result<Text, Memory>
+    ensures { IfOk result (λ text. text ≡ spec.unsteered_line table.now) }
+{
+    let mut text = String::new(alloc);
+    if table.is_empty() {
+        writeln!(text, "advice nothing-steered: name your services in vips")?;
+    }
     Ok(Text::of(text))
 }

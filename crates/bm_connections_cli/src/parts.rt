@@ -5,7 +5,7 @@ ghost use Rattle.bm_trace.specs.Swept.{AreCauses};
 ghost use Rattle.bm_connections.specs.Connections as tables;
 ghost use Rattle.bm_connections_cli.specs.Text as spec;
 
-use crate::advice::advice_text;
+use crate::advice::{advice_text, unsteered_text};
 use crate::causes::causes_in;
 use crate::servers::servers_of;
 use crate::words::Format;
@@ -30,13 +30,14 @@ pub(crate) fn parts_of(alloc: Global, format: Format, h: &History) -> Result<Vec
     }
 }
 
-/// The lines of connections, servers, causes and advice.
+/// The lines of connections, servers and causes, of what came too late, and of advice.
 fn lines_of(
     alloc: Global,
     h: &History,
     causes: &CauseList,
     table: &[Connection],
 ) -> Result<Vec<Text>, Memory>
+    requires run { IsRun h.now }
     requires causes { AreCauses h.now causes.now }
     requires table { table.now ≡ tables.connections h.now }
     ensures { IfOk result (λ parts. parts.items ≡ spec.parts Format.Lines h.now) }
@@ -44,11 +45,13 @@ fn lines_of(
     let servers = servers_of(alloc, &h.stage.script)?;
     let loads = server_counts(alloc, h, servers.as_slice())?;
     let counts = causes_in(alloc, h, causes, table)?;
-    let mut parts = Vec::with_capacity(alloc, 4)?;
+    let mut parts = Vec::with_capacity(alloc, 6)?;
     parts.push(table_text(alloc, table)?)?;
     parts.push(servers_text(alloc, loads.items())?)?;
     parts.push(causes_text(alloc, counts.as_slice())?)?;
+    parts.push(late_text(alloc, longest_late(alloc, h, causes)?)?)?;
     parts.push(advice_text(alloc, counts.as_slice())?)?;
+    parts.push(unsteered_text(alloc, table)?)?;
     Ok(parts)
 }
 
