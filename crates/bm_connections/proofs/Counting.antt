@@ -19,16 +19,16 @@ use Rattle.bm_table.proofs.Tables.{same_server-true}
 use Rattle.bm_trace.specs.CauseOf.{cause_of}
 use Rattle.bm_trace.proofs.Newest.{reverse_take}
 use Rattle.bm_connections.specs.declared.connection.Break.{Break}
-use Rattle.bm_connections.specs.declared.servers.ServerCount.{ServerCount}
+use Rattle.bm_connections.specs.declared.servers.Served.{Served}
 use Rattle.bm_connections.specs.Connections.{as_break, one_more}
-use Rattle.bm_connections.specs.Counts.{arrivals_at, is_arrival_at, is_cause, packets_by, server_count}
-use Rattle.bm_connections.specs.Loads.{AreLoads, CanCount, count_or_none, counted}
+use Rattle.bm_connections.specs.Counts.{arrivals_at, is_arrival_at, is_cause, packets_by}
+use Rattle.bm_connections.specs.Loads.{AreLoads, CanCount, count_or_none, counted, served}
 use Rattle.bm_connections.proofs.Passes.{cause_here}
 
 -- SERVERS
 
 unchanged : (past : List Event) (clock : Moment) (what : What) (s : ServerId) → is_arrival_at s what ≡ false
-    → server_count (record { clock = clock; what = what } ∷ past) s ≡ server_count past s
+    → served (record { clock = clock; what = what } ∷ past) s ≡ served past s
 unchanged past clock (Publish v) s h = refl
 unchanged past clock (Switch m v) s h = refl
 unchanged past clock (Steer k m) s h = refl
@@ -40,11 +40,11 @@ unchanged past clock (Arrive k hop server verdict) s h = rw h refl
 
 changed : (past : List Event) (clock : Moment) (what : What) (s : ServerId) (found : Option Cause) (b : Break)
     → as_break clock what found ≡ Some b → is_arrival_at s what ≡ true
-    → counted b.verdict (server_count past s) ≡ server_count (record { clock = clock; what = what } ∷ past) s
+    → counted b.verdict (served past s) ≡ served (record { clock = clock; what = what } ∷ past) s
 changed past clock (Arrive k hop server verdict) s found b is here =
     let same : record { packet = k; clock = clock; server = server; verdict = verdict; cause = found } ≡ b = cc
-    in subst (λ (x : Break). counted x.verdict (server_count past s)
-    ≡ server_count (record { clock = clock; what = Arrive k hop server verdict } ∷ past) s) same (rw here refl)
+    in subst (λ (x : Break). counted x.verdict (served past s)
+    ≡ served (record { clock = clock; what = Arrive k hop server verdict } ∷ past) s) same (rw here refl)
 changed past clock (Publish v) s found b is here = absurd (cc)
 changed past clock (Switch m v) s found b is here = absurd (cc)
 changed past clock (Steer k m) s found b is here = absurd (cc)
@@ -78,7 +78,7 @@ arrival_is s clock (Retire server shard at result) found b is = absurd (cc)
 arrival_is s clock Sync found b is = absurd (cc)
 
 pub loads_noted : (past : List Event) (e : Event) (found : Option Cause) (b : Break)
-    (loads new : ServerId → Option ServerCount)
+    (loads new : ServerId → Option Served)
     → as_break e.clock e.what found ≡ Some b
     → ((q : ServerId) → new q
     ≡ (if same_server b.server q then Some (counted b.verdict (count_or_none (loads b.server) b.server)) else loads q))
@@ -89,14 +89,14 @@ loads_noted past e found b loads new is n k = record {
         let same : b.server ≡ q = same_server-true b.server q here
         in let at : is_arrival_at q e.what ≡ true = arrival_is q e.clock e.what found b is ∙ here
         in rw (here, same)
-        (ap (λ (c : ServerCount). counted b.verdict c) (k.each q) ∙ changed past e.clock e.what q found b is at)
+        (ap (λ (c : Served). counted b.verdict c) (k.each q) ∙ changed past e.clock e.what q found b is at)
     | inr other ↦
         let at : is_arrival_at q e.what ≡ false = arrival_is q e.clock e.what found b is ∙ other
         in rw other (k.each q ∙ sym (unchanged past e.clock e.what q at))
   ];
 }
 
-pub loads_still : (past : List Event) (e : Event) (found : Option Cause) (loads : ServerId → Option ServerCount)
+pub loads_still : (past : List Event) (e : Event) (found : Option Cause) (loads : ServerId → Option Served)
     → as_break e.clock e.what found ≡ None → AreLoads past loads → AreLoads (e ∷ past) loads
 loads_still past e found loads is k = record {
   each = λ q. k.each q ∙ sym (unchanged past e.clock e.what q (no_arrival q e.clock e.what found is));
@@ -110,11 +110,11 @@ arrivals_few : (s : ServerId) (kind : Verdict → Bool) (past : List Event) → 
 arrivals_few s kind [] = omega arith
 arrivals_few s kind (e ∷ past) = more_few _ _ (length past) (arrivals_few s kind past)
 
-pub can_count : (events : List Event) (loads : ServerId → Option ServerCount) (s : ServerId)
+pub can_count : (events : List Event) (loads : ServerId → Option Served) (s : ServerId)
     → suc (length events) < 2 ^ 64 → AreLoads (reverse events) loads → CanCount (count_or_none (loads s) s)
 can_count events loads s few k =
     let few' : suc (length (reverse events)) < 2 ^ 64 = omega (arith, length-reverse events)
-    in subst (λ (c : ServerCount). CanCount c) (sym (k.each s)) (record {
+    in subst (λ (c : Served). CanCount c) (sym (k.each s)) (record {
       accepted = let n = arrivals_few s is_accept (reverse events) in omega arith;
       processed = let n = arrivals_few s is_process (reverse events) in omega arith;
     })

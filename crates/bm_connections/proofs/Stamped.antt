@@ -1,28 +1,17 @@
 -- What one event more changes in the tables of muxes and the stamps of labels.
-use Rattle.std.proofs.Common.{◌≡◌, ℕ, zero, suc, ◌+◌, ◌<◌, ◌≤◌, ◌==◌, Bool, true, false, inl, inr, List, [], ◌∷◌, ◌++◌}
-use Rattle.std.proofs.Common.{length, take, get_or, reverse, Option, Some, None, refl, sym, ap, ◌∙◌, arith, subst}
-use Rattle.std.specs.Prelude.{slice_get, if◌then◌else◌}
-use Rattle.std.proofs.lemmas.Bool.{cases_Bool, cases_lt, eqb-true}
+use Rattle.std.proofs.Common.{◌≡◌, ℕ, zero, suc, ◌+◌, ◌<◌, inl, inr, List, [], ◌∷◌, ◌++◌}
+use Rattle.std.proofs.Common.{length, take, get_or, reverse, Some, refl, sym, ap, ◌∙◌, arith, subst}
+use Rattle.std.specs.Prelude.{slice_get}
+use Rattle.std.proofs.lemmas.Bool.{cases_lt}
 use Rattle.std.proofs.lemmas.Grind.{common_steps}
-use Rattle.std.proofs.lemmas.Option.{same_Some}
-use Rattle.bm_base.specs.declared.flow.Segment.{Segment}
-use Rattle.bm_base.specs.declared.ids.MuxId.{MuxId}
-use Rattle.bm_base.specs.declared.ids.Version.{Version}
-use Rattle.bm_base.specs.declared.label.Entry.{Entry}
 use Rattle.bm_core.specs.declared.events.Event.{Event}
 use Rattle.bm_core.specs.declared.events.History.{History}
 use Rattle.bm_core.specs.declared.events.Stage.{Stage}
-use Rattle.bm_core.specs.declared.events.What.TheVariants.{Steer, Switch}
-use Rattle.bm_core.specs.Past.{bucket, label_of, labelled, segment_of, version_at}
 use Rattle.bm_core.specs.Runs.{past_at}
-use Rattle.bm_table.specs.Entries.{IsTable}
-use Rattle.bm_table.specs.Planned.{Planned}
-use Rattle.bm_table.specs.Tables.{brings, change_moment, moved, next_change, table}
 use Rattle.bm_trace.proofs.Newest.{reverse_take}
 use Rattle.bm_connections.specs.declared.stamps.Stamps.{Stamps}
-use Rattle.bm_connections.specs.declared.stamps.View.{View}
-use Rattle.bm_connections.specs.Stamps.{AreFirstWaits, AreStamps, AreWaits, IsView, KnowsStamps, or_zero, wait_in}
-use Rattle.bm_connections.specs.Waits.{stamp_of, wait_after, wait_at, wait_of}
+use Rattle.bm_connections.specs.Stamps.{AreFirstWaits, AreWaits, KnowsStamps, wait_in}
+use Rattle.bm_connections.specs.Waits.{wait_after, wait_at, wait_of}
 
 -- THE PASS
 

@@ -1,7 +1,7 @@
 -- What became of packets by server and by cause, by looking back through events
 -- (docs/DEFINITIONS.md). A past has its newest event first.
-use Rattle.std.specs.Prelude.{ℕ, Bool, false, ◌&&◌, ◌==◌, List, [], ◌∷◌, Option, Some, None, map}
-use Rattle.std.specs.Prelude.{reverse, count_by}
+use Rattle.std.specs.Prelude.{ℕ, zero, suc, max, Bool, false, ◌&&◌, ◌==◌, List, [], ◌∷◌, length}
+use Rattle.std.specs.Prelude.{Option, Some, None, map, reverse, count_by}
 use Rattle.bm_base.specs.declared.ids.ServerId.{ServerId}
 use Rattle.bm_core.specs.declared.events.Cause.{Cause}
 use Rattle.bm_core.specs.declared.events.Cause.TheVariants.{NeverAccepted, NotHeld, StaleMux}
@@ -14,7 +14,7 @@ use Rattle.bm_core.specs.declared.events.Verdict.{Verdict}
 use Rattle.bm_core.specs.declared.events.What.{What}
 use Rattle.bm_core.specs.declared.events.What.TheVariants.{Arrive}
 use Rattle.bm_core.specs.Causes.{cause, is_process}
-use Rattle.bm_core.specs.Past.{is_accept}
+use Rattle.bm_core.specs.Past.{flows_held, is_accept}
 use Rattle.bm_table.specs.Tables.{same_server}
 use Rattle.bm_trace.specs.Totals.{arrives}
 use Rattle.bm_connections.specs.declared.connection.Break.{Break}
@@ -35,17 +35,31 @@ arrivals_at s kind [] = 0
 arrivals_at s kind (e ∷ past) =
     one_more (is_arrival_at s e.what && arrives kind e.what) (arrivals_at s kind past)
 
--- how many arrivals a server accepted, and how many it processed
-abbrev pub server_count : List Event → ServerId → ServerCount
-server_count past s = record {
+-- the most connections that a shard of the server held at once
+abbrev pub most_in_shard : Stage → List Event → ServerId → ℕ → ℕ
+most_in_shard stage [] s h = 0
+most_in_shard stage (e ∷ past) s h =
+    max (length (flows_held stage (e ∷ past) s h)) (most_in_shard stage past s h)
+
+-- the most that one of the server's first n shards held at once
+abbrev pub most_among : Stage → List Event → ServerId → ℕ → ℕ
+most_among stage past s zero = 0
+most_among stage past s (suc h) = max (most_in_shard stage past s h) (most_among stage past s h)
+
+-- how many arrivals a server accepted, how many it processed, the most connections that one of its
+-- shards held at once, and how many a shard can hold
+abbrev pub server_count : Stage → List Event → ServerId → ServerCount
+server_count stage past s = record {
   server = s;
   accepted = arrivals_at s is_accept past;
   processed = arrivals_at s is_process past;
+  most_held = most_among stage past s stage.script.setting.shards;
+  capacity = stage.script.setting.capacity;
 }
 
 -- the counts of these servers
 abbrev pub server_counts : History → List ServerId → List ServerCount
-server_counts h servers = map (server_count (reverse h.events)) servers
+server_counts h servers = map (server_count h.stage (reverse h.events)) servers
 
 -- CAUSES
 

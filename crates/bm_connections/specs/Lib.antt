@@ -6,5 +6,6 @@ pub mod Stamps
 pub mod Counts
 pub mod Late
 pub mod Loads
+pub mod Held
 pub mod Laws
 pub mod Text

@@ -87,12 +87,22 @@ connection_line c = seen_text c ++ fate_text c
 abbrev pub table_text : List Connection → List ℕ
 table_text cs = flat_map connection_line cs
 
+-- how many arrivals a server accepted, and how many it processed
+abbrev pub served_text : ServerCount → List ℕ
+served_text c =
+    codes "server"
+    ++ spaced (decimal c.server.0 ∷ codes "accepted" ∷ decimal c.accepted ∷ [])
+    ++ spaced (codes "processed" ∷ decimal c.processed ∷ [])
+
+-- the most that one of a server's shards held at once, of how many it can hold
+abbrev pub most_text : ServerCount → List ℕ
+most_text c =
+    spaced (codes "most-held" ∷ decimal c.most_held ∷ codes "of" ∷ decimal c.capacity ∷ [])
+    ++ 10 ∷ []
+
 -- the line of a server
 abbrev pub server_line : ServerCount → List ℕ
-server_line c =
-    line (codes "server")
-    (decimal c.server.0 ∷ codes "accepted" ∷ decimal c.accepted
-    ∷ codes "processed" ∷ decimal c.processed ∷ [])
+server_line c = served_text c ++ most_text c
 
 -- the line of a cause
 abbrev pub cause_line : CauseCount → List ℕ

@@ -4,6 +4,7 @@
 mod connection;
 mod counts;
 mod fields;
+mod held;
 mod late;
 pub mod laws;
 mod noted;

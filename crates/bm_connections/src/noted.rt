@@ -116,11 +116,7 @@ fn forwarded_after(arrival: &Break, wait: u64, before: Option<Forwarding>) -> Op
 }
 
 /// What refused a connection, after an arrival, where it then has this server.
-fn refused_after(
-    arrival: Break,
-    server: Option<ServerId>,
-    before: Option<Break>,
-) -> Option<Break>
+fn refused_after(arrival: Break, server: Option<ServerId>, before: Option<Break>) -> Option<Break>
     ensures { result ≡ kept.refused_after arrival server before }
 {
     match (server, before) {

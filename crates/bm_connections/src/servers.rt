@@ -3,27 +3,41 @@ ghost use Rattle.std.specs.Prelude.{◌≡◌, ◌<◌, ◌^◌, ◌∷◌, [], 
 ghost use Rattle.std.specs.Prelude.{if◌then◌else◌, length, map, reverse};
 ghost use Rattle.bm_base.specs.declared.ids.ServerId.{ServerId};
 ghost use Rattle.bm_table.specs.Tables.{same_server};
+ghost use Rattle.bm_core.specs.Runs.{IsRun};
 ghost use Rattle.bm_connections.specs.Counts as spec;
+ghost use Rattle.bm_connections.specs.Held.{AreFillings, filling};
 ghost use Rattle.bm_connections.specs.Loads as kept;
 
+use crate::held::{Fillings, fillings_of};
 use crate::noted::{as_break, is_accept, is_process, one_more};
 use bm_base::{List, Memory, ServerId};
-use bm_core::{Event, History, Verdict};
+use bm_core::{Event, History, Stage, Verdict};
 use std::alloc::{AllocError, Global};
 use std::collections::BTreeMap;
 
-/// How many arrivals a server accepted, and how many it processed.
+/// How many arrivals a server accepted, how many it processed, the most connections that one of its
+/// shards held at once, and how many connections a shard can hold.
 #[derive(Clone, Copy, Debug, PartialEq, Eq)]
 pub struct ServerCount {
     pub server: ServerId,
     pub accepted: u64,
     pub processed: u64,
+    pub most_held: u64,
+    pub capacity: u32,
+}
+
+/// How many arrivals a server accepted, and how many it processed.
+#[derive(Clone, Copy)]
+pub(crate) struct Served {
+    pub(crate) server: ServerId,
+    pub(crate) accepted: u64,
+    pub(crate) processed: u64,
 }
 
 /// The counts of each server, as far as events were read.
 #[derive(Drop)]
 pub(crate) struct Loads {
-    counts: BTreeMap<ServerId, ServerCount>,
+    counts: BTreeMap<ServerId, Served>,
 }
 
 impl Loads {
@@ -36,11 +50,11 @@ impl Loads {
     }
 
     /// The server's counts, or none.
-    fn get(&self, server: ServerId) -> ServerCount
+    fn get(&self, server: ServerId) -> Served
         ensures { result ≡ kept.count_or_none (kept.load self.now server) server }
     {
         match self.counts.get(&server) {
-            None => ServerCount {
+            None => Served {
                 server,
                 accepted: 0,
                 processed: 0,
@@ -49,7 +63,7 @@ impl Loads {
         }
     }
 
-    fn put(&mut self, server: ServerId, count: ServerCount) -> Result<(), AllocError>
+    fn put(&mut self, server: ServerId, count: Served) -> Result<(), AllocError>
         ensures { OnOk result ((q : ServerId) → kept.load self.new q
             ≡ (if same_server server q then Some count else kept.load self.old q)) }
     {
@@ -65,7 +79,7 @@ impl Loads {
             else kept.load self.old q)) }
     {
         let before = self.get(server);
-        let count = ServerCount {
+        let count = Served {
             accepted: one_more(is_accept(verdict), before.accepted),
             processed: one_more(is_process(verdict), before.processed),
             ..before
@@ -99,29 +113,44 @@ fn loads_of(alloc: Global, events: &[Event]) -> Result<Loads, AllocError>
     Ok(loads)
 }
 
-fn counts_in_order(
-    alloc: Global,
+/// The counts of a server, from those of its arrivals and of its shards.
+fn server_count(
+    stage: &Stage,
+    events: &[Event],
     loads: &Loads,
-    servers: &[ServerId],
-) -> Result<Vec<ServerCount>, AllocError>
-    ensures { IfOk result (λ list. list.items
-        ≡ map (λ s. kept.count_or_none (kept.load loads.now s) s) servers.now) }
+    fillings: &Fillings,
+    server: ServerId,
+) -> ServerCount
+    requires loads { kept.AreLoads (reverse events.now) (kept.load loads.now) }
+    requires fillings { AreFillings stage.now (reverse events.now) (filling fillings.now) }
+    ensures { result ≡ spec.server_count stage.now (reverse events.now) server }
 {
-    let mut list = Vec::with_capacity(alloc, servers.len())?;
-    for server in servers {
-        list.push(loads.get(*server))?;
+    let setting = &stage.script.setting;
+    let served = loads.get(server);
+    ServerCount {
+        server,
+        accepted: served.accepted,
+        processed: served.processed,
+        most_held: fillings.most_among(stage, events, server, setting.shards),
+        capacity: setting.capacity,
     }
-    Ok(list)
 }
 
-/// The counts of these servers, in their order.
+/// The counts of these servers, in their order. `Memory` where memory was refused.
 pub fn server_counts(
     alloc: Global,
     h: &History,
     servers: &[ServerId],
 ) -> Result<List<ServerCount>, Memory>
+    requires { IsRun h.now }
     ensures { IfOk result (λ list. list ≡ spec.server_counts h.now servers.now) }
 {
-    let loads = loads_of(alloc, h.events.items())?;
-    Ok(List::of(counts_in_order(alloc, &loads, servers)?))
+    let events = h.events.items();
+    let loads = loads_of(alloc, events)?;
+    let fillings = fillings_of(alloc, &h.stage, events)?;
+    let mut list = Vec::with_capacity(alloc, servers.len())?;
+    for server in servers {
+        list.push(server_count(&h.stage, events, &loads, &fillings, *server))?;
+    }
+    Ok(List::of(list))
 }

@@ -51,12 +51,7 @@ fn advance(table: &mut Table, plan: &Plan, from: u32, to: u32)
 
 impl View {
     /// This one, where its version isn't above the other, or else version 0.
-    fn start(
-        alloc: Global,
-        plan: &Plan,
-        before: Option<View>,
-        version: u32,
-    ) -> Result<View, Memory>
+    fn start(alloc: Global, plan: &Plan, before: Option<View>, version: u32) -> Result<View, Memory>
         requires { IfSome before (λ x. IsTable plan.now x.version x.table) }
         ensures order { IfOk result (λ x. x.version ≤ version) }
         ensures table { IfOk result (λ x. IsTable plan.now x.version x.table) }
@@ -71,12 +66,7 @@ impl View {
     }
 
     /// The mux's table of this version, made from the one that it had.
-    fn shown(
-        alloc: Global,
-        plan: &Plan,
-        before: Option<View>,
-        version: u32,
-    ) -> Result<View, Memory>
+    fn shown(alloc: Global, plan: &Plan, before: Option<View>, version: u32) -> Result<View, Memory>
         requires { IfSome before (λ x. IsTable plan.now x.version x.table) }
         ensures { IfOk result (λ x. IsView plan.now version (Some x)) }
     {

@@ -9,17 +9,37 @@ use bm_base::{Memory, Text};
 use bm_trace::cause_word;
 use std::alloc::{AllocError, Global};
 
-fn write_server(text: &mut String, c: &ServerCount) -> Result<(), AllocError>
+/// How many arrivals a server accepted, and how many it processed.
+fn write_served(text: &mut String, c: &ServerCount) -> Result<(), AllocError>
     ensures { OnOk result
-        (string_bytes text.new ≡ string_bytes text.old ++ spec.server_line c.now) }
+        (string_bytes text.new ≡ string_bytes text.old ++ spec.served_text c.now) }
 {
     let server = c.server.0;
     let accepted = c.accepted;
     let processed = c.processed;
-    writeln!(
+    write!(
         text,
         "server {server} accepted {accepted} processed {processed}"
     )
+}
+
+/// The most that one of a server's shards held at once, of how many it can hold.
+fn write_most(text: &mut String, c: &ServerCount) -> Result<(), AllocError>
+    ensures { OnOk result
+        (string_bytes text.new ≡ string_bytes text.old ++ spec.most_text c.now) }
+{
+    let most = c.most_held;
+    let capacity = c.capacity;
+    writeln!(text, " most-held {most} of {capacity}")
+}
+
+fn write_server(text: &mut String, c: &ServerCount) -> Result<(), AllocError>
+    ensures { OnOk result
+        (string_bytes text.new ≡ string_bytes text.old ++ spec.server_line c.now) }
+{
+    write_served(text, c)?;
+    write_most(text, c)?;
+    Ok(())
 }
 
 fn write_servers(text: &mut String, servers: &[ServerCount]) -> Result<(), AllocError>

@@ -306,7 +306,8 @@ fn check_counts(rt: &impl Abort, alloc: Global, h: &History) -> Result<(), Fail>
     let text = servers_text(alloc, servers.items())?;
     assert_eq!(rt;
         text.as_str(),
-        "server 2 accepted 0 processed 0\nserver 1 accepted 1 processed 0\n"
+        "server 2 accepted 0 processed 0 most-held 0 of 4096\n\
+        server 1 accepted 1 processed 0 most-held 1 of 4096\n"
     );
     let counts = [
         cause_count(h, &causes, table.items(), Cause::NotHeld),
@@ -333,7 +334,10 @@ fn check_late(rt: &impl Abort, alloc: Global, h: &History) -> Result<(), Fail>
 {
     let causes = sweep(alloc, h)?;
     let late = late_text(alloc, longest_late(alloc, h, &causes)?)?;
-    assert_eq!(rt; late.as_str(), "chain-late longest 299999999502 timeout_s 300\n");
+    assert_eq!(rt;
+        late.as_str(),
+        "chain-late longest 299999999502 timeout_s 300\n"
+    );
     Ok(())
 }
 

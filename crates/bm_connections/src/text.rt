@@ -153,7 +153,10 @@ fn write_fate(text: &mut String, c: &Connection) -> Result<(), AllocError>
         refused: c.refused,
         server: c.server,
     };
-    writeln!(text, " accepted {server} times {times}{tally}{forwarded}{end}")
+    writeln!(
+        text,
+        " accepted {server} times {times}{tally}{forwarded}{end}"
+    )
 }
 
 /// The line of a connection.
