@@ -34,7 +34,7 @@ _beamer_connections() {
   case $COMP_CWORD in
     1) _beamer_files "$word" '@(pcap|pcapng|cap)' ;;
     2) _beamer_files "$word" toml ;;
-    3) mapfile -t COMPREPLY < <(compgen -W "--csv" -- "$word") ;;
+    3) mapfile -t COMPREPLY < <(compgen -W "--csv --json" -- "$word") ;;
   esac
 }
 complete -F _beamer_connections beamer-connections ./beamer-connections

@@ -12,7 +12,7 @@ use Rattle.bm_connections_cli.specs.Headline.{IsTableOf}
 use Rattle.bm_connections_cli.specs.Words.{Asked}
 
 abbrev pub usage_line : List ℕ
-usage_line = codes "usage: beamer-connections CAPTURE SCRIPT [--csv]\n"
+usage_line = codes "usage: beamer-connections CAPTURE SCRIPT [--csv | --json]\n"
 
 -- the connections of the replay that `beamer replay` makes are due, or the line of its fault
 abbrev pub due_of : Asked → Reads → Due

@@ -11,8 +11,9 @@ use Rattle.bm_connections.specs.Counts.{cause_count, server_counts}
 use Rattle.bm_connections.specs.Late.{longest_late}
 use Rattle.bm_connections.specs.Text.{cause_line, late_text, server_line, table_csv, table_text}
 use Rattle.bm_connections_cli.specs.declared.words.Format.{Format}
-use Rattle.bm_connections_cli.specs.declared.words.Format.TheVariants.{Lines, Csv}
+use Rattle.bm_connections_cli.specs.declared.words.Format.TheVariants.{Lines, Csv, Json}
 use Rattle.bm_connections_cli.specs.Advice.{advice_line, unsteered_line}
+use Rattle.bm_connections_cli.specs.Json.{json_lines}
 use Rattle.bm_connections_cli.specs.Servers.{servers_of}
 
 abbrev pub all_causes : List Cause
@@ -49,6 +50,7 @@ parts Lines h =
     table_text (connections h) ∷ server_lines h ∷ cause_lines h ∷ late_lines h ∷ advice_lines h
     ∷ unsteered_line (connections h) ∷ []
 parts Csv h = table_csv (connections h) ∷ []
+parts Json h = json_lines (connections h) ∷ []
 
 abbrev pub text : Format → History → List ℕ
 text format h = flat_map (λ part. part) (parts format h)

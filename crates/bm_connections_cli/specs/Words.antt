@@ -1,12 +1,12 @@
--- What the words ask for: `CAPTURE SCRIPT`, or `CAPTURE SCRIPT --csv`. A name that is empty or begins
--- with `-` makes them no form.
+-- What the words ask for: `CAPTURE SCRIPT`, and perhaps `--csv` or `--json` behind them. A name that
+-- is empty or begins with `-` makes them no form.
 use Rattle.std.specs.Prelude.{ℕ, List, [], ◌∷◌, ◌&&◌, if◌then◌else◌, Option, Some, None, codes, map}
 use Rattle.std.specs.Prelude.{String, option_and_then, string_bytes}
 use Rattle.std.specs.Str.{bytes_eq}
 use Rattle.bm_words.specs.Form.{Named, is_name, named}
 use Rattle.bm_connections_cli.specs.declared.words.Asked.{Asked as Answered}
 use Rattle.bm_connections_cli.specs.declared.words.Format.{Format}
-use Rattle.bm_connections_cli.specs.declared.words.Format.TheVariants.{Lines, Csv}
+use Rattle.bm_connections_cli.specs.declared.words.Format.TheVariants.{Lines, Csv, Json}
 
 -- how the connections are told, and what is replayed
 pub record Asked : Type 0 where
@@ -15,7 +15,10 @@ pub record Asked : Type 0 where
 
 -- the format that the word asks for
 abbrev pub format_of : List ℕ → Option Format
-format_of word = if bytes_eq word (codes "--csv") then Some Csv else None
+format_of word =
+    if bytes_eq word (codes "--csv") then Some Csv
+    else if bytes_eq word (codes "--json") then Some Json
+    else None
 
 -- these words name a capture and a script
 abbrev pub with_names : Format → List ℕ → List ℕ → Option Asked

@@ -7,11 +7,13 @@ ghost use Rattle.bm_connections_cli.specs.Text as spec;
 
 use crate::advice::{advice_text, unsteered_text};
 use crate::causes::causes_in;
+use crate::json::json_text;
 use crate::servers::servers_of;
 use crate::words::Format;
 use bm_base::{Memory, Text};
 use bm_connections::{
-    Connection, causes_text, connections, server_counts, servers_text, table_csv, table_text,
+    Connection, causes_text, connections, late_text, longest_late, server_counts, servers_text,
+    table_csv, table_text,
 };
 use bm_core::History;
 use bm_trace::{CauseList, sweep};
@@ -27,6 +29,7 @@ pub(crate) fn parts_of(alloc: Global, format: Format, h: &History) -> Result<Vec
     match format {
         Format::Lines => lines_of(alloc, h, &causes, table.items()),
         Format::Csv => fields_of(alloc, table.items()),
+        Format::Json => values_of(alloc, table.items()),
     }
 }
 
@@ -62,5 +65,15 @@ fn fields_of(alloc: Global, table: &[Connection]) -> Result<Vec<Text>, Memory>
 {
     let mut parts = Vec::with_capacity(alloc, 1)?;
     parts.push(table_csv(alloc, table)?)?;
+    Ok(parts)
+}
+
+/// Connections as JSON.
+fn values_of(alloc: Global, table: &[Connection]) -> Result<Vec<Text>, Memory>
+    ensures { (h : History) → table.now ≡ tables.connections h
+        → IfOk result (λ parts. parts.items ≡ spec.parts Format.Json h) }
+{
+    let mut parts = Vec::with_capacity(alloc, 1)?;
+    parts.push(json_text(alloc, table)?)?;
     Ok(parts)
 }

@@ -21,7 +21,7 @@ use std::alloc::Global;
 use std::sync::Wait;
 use std::thread::Threads;
 
-const USAGE: &str = "usage: beamer-connections CAPTURE SCRIPT [--csv]\n";
+const USAGE: &str = "usage: beamer-connections CAPTURE SCRIPT [--csv | --json]\n";
 
 /// Does all that the program does, and answers the status.
 ///

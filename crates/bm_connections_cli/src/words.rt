@@ -12,6 +12,8 @@ pub(crate) enum Format {
     Lines,
     /// `--csv`: in fields with commas between them, a line for each connection.
     Csv,
+    /// `--json`: a line for each connection, a JSON object.
+    Json,
 }
 
 /// What the words ask for: how the connections are told, and which capture and script are replayed.
@@ -42,6 +44,7 @@ fn format_named(word: &str) -> Option<Format>
 {
     match word {
         "--csv" => Some(Format::Csv),
+        "--json" => Some(Format::Json),
         _ => None,
     }
 }

@@ -1,0 +1,9 @@
+use Rattle.std.proofs.Common.{◌≡◌, ◌++◌, flat_map, string_bytes, take}
+use Rattle.bm_connections_cli.specs.Json.{json_line}
+use Rattle.bm_connections_cli.proofs.json.write_values.Given as goal
+
+abbrev pub invariant-loop-connection : goal.invariant-loop-connection
+invariant-loop-connection l = record {
+  written : string_bytes l.text ≡ string_bytes l.initial.text
+      ++ flat_map json_line (take l.connection-index l.connections);
+}

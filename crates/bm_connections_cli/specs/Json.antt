@@ -1,0 +1,90 @@
+-- A connection as JSON. The members of an object are in the order of their names (docs/FORMATS.md).
+use Rattle.std.specs.Prelude.{ℕ, List, ◌++◌, Option, Some, None, codes, flat_map}
+use Rattle.serde_json.specs.Data.{Data, member, no_members, null, number, object, string, unsigned}
+use Rattle.serde_json.specs.Written.{compact_text}
+use Rattle.bm_base.specs.declared.ids.ServerId.{ServerId}
+use Rattle.bm_core.specs.declared.events.Cause.{Cause}
+use Rattle.bm_trace.specs.Words.{cause_word, endpoint}
+use Rattle.bm_connections.specs.declared.connection.Break.{Break}
+use Rattle.bm_connections.specs.declared.connection.Connection.{Connection}
+use Rattle.bm_connections.specs.declared.connection.Forwarding.{Forwarding}
+use Rattle.bm_connections.specs.declared.connection.Sight.{Sight}
+use Rattle.bm_connections.specs.declared.connection.Tally.{Tally}
+use Rattle.bm_connections.specs.Text.{verdict_field}
+
+abbrev pub count : ℕ → Data
+count n = number (unsigned n)
+
+-- a record of the capture
+abbrev pub sight_value : Sight → Data
+sight_value s =
+    object
+    (member (codes "at_ns") (count s.moment.0)
+    (member (codes "packet") (count s.number)
+    no_members))
+
+-- a server's number, or null
+abbrev pub server_value : Option ServerId → Data
+server_value None = null
+server_value (Some server) = count server.0
+
+-- a cause's word, or null
+abbrev pub cause_value : Option Cause → Data
+cause_value None = null
+cause_value (Some cause) = string (cause_word cause)
+
+-- the first packet that broke or refused the connection, or null
+abbrev pub fault_value : Option Break → Data
+fault_value None = null
+fault_value (Some b) =
+    object
+    (member (codes "at_ns") (count b.clock.0)
+    (member (codes "cause") (cause_value b.cause)
+    (member (codes "packet") (count b.packet)
+    (member (codes "server") (count b.server.0)
+    (member (codes "verdict") (string (verdict_field b.verdict))
+    no_members)))))
+
+-- the last packet that was forwarded, or null
+abbrev pub forward_value : Option Forwarding → Data
+forward_value None = null
+forward_value (Some x) =
+    object
+    (member (codes "at_ns") (count x.clock.0)
+    (member (codes "packet") (count x.packet)
+    (member (codes "server") (count x.server.0)
+    (member (codes "wait_ns") (count x.wait)
+    no_members))))
+
+abbrev pub tally_value : Tally → Data
+tally_value t =
+    object
+    (member (codes "accepted") (count t.accepted)
+    (member (codes "dropped") (count t.dropped)
+    (member (codes "forwarded") (count t.forwarded)
+    (member (codes "processed") (count t.processed)
+    (member (codes "reset") (count t.reset)
+    (member (codes "stray") (count t.stray)
+    no_members))))))
+
+abbrev pub connection_value : Connection → Data
+connection_value c =
+    object
+    (member (codes "arrivals") (tally_value c.tally)
+    (member (codes "broken") (fault_value c.broken)
+    (member (codes "client") (string (endpoint c.flow.src c.flow.sport))
+    (member (codes "forward") (forward_value c.forwarded)
+    (member (codes "last") (sight_value c.last)
+    (member (codes "opened") (sight_value c.first)
+    (member (codes "refused") (fault_value c.refused)
+    (member (codes "server") (server_value c.server)
+    (member (codes "service") (string (endpoint c.flow.dst c.flow.dport))
+    no_members)))))))))
+
+-- the value on a line of its own
+abbrev pub json_line : Connection → List ℕ
+json_line c = compact_text (connection_value c) ++ codes "\n"
+
+-- a line for each connection
+abbrev pub json_lines : List Connection → List ℕ
+json_lines cs = flat_map json_line cs
