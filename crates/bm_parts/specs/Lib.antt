@@ -1,1 +1,3 @@
 pub mod Actors
+pub mod Inside
+pub mod Parts

@@ -1,8 +1,10 @@
 //! The logs of a history.
-ghost use Rattle.std.specs.Prelude.{◌≡◌, option_map};
+ghost use Rattle.std.specs.Prelude.{◌≡◌, IfOk, OnOk, None, option_map};
 ghost use Rattle.bm_core.specs.Runs.{actor_of};
 ghost use Rattle.bm_core.specs.Stages.{IsSound};
 ghost use Rattle.bm_parts.specs.Actors.{actor};
+ghost use Rattle.bm_parts.specs.Parts.{ArePartsOf};
+ghost use Rattle.bm_parts.specs.declared.parting.Author.{Author};
 ghost use Rattle.bm_table.specs.Settings.{IsWithin};
 
 use bm_base::{List, Memory};
@@ -38,22 +40,58 @@ fn author_of(stage: &Stage, what: What) -> Option<Author>
     }
 }
 
+/// The log of each author who wrote something down.
+#[derive(Drop)]
+struct Logs {
+    logs: BTreeMap<Author, Vec<Event>>,
+}
+
+impl Logs {
+    ghost use Rattle.bm_parts.specs.Inside.{AreListed, log, noted};
+
+    fn new(alloc: Global) -> Logs
+        ensures { (q : Author) → log result q ≡ None }
+    {
+        Logs {
+            logs: BTreeMap::new(alloc),
+        }
+    }
+
+    /// Adds the event to the log of its author, which is begun where there is none.
+    fn note(&mut self, alloc: Global, author: Author, event: Event) -> Result<(), Memory>
+        ensures { OnOk result ((q : Author) → log self.new q ≡ noted author event q (log self.old q)) }
+    {
+        self.logs
+            .entry(author)?
+            .or_insert_with(|| Vec::new(alloc))
+            .push(event)?;
+        Ok(())
+    }
+
+    /// The logs in the order of their authors.
+    fn in_order(self, alloc: Global) -> Result<Vec<Log>, Memory>
+        ensures { IfOk result (λ parted. AreListed self parted.items) }
+    {
+        let mut parted = Vec::with_capacity(alloc, self.logs.len())?;
+        for log in self.logs.into_values() {
+            parted.push(List::of(log))?;
+        }
+        Ok(parted)
+    }
+}
+
 /// The events, parted by who writes them down. A loss stands in the log of its sending, which is the
 /// event before it.
+#[tactic(auto, using(crate::proofs::Noting::writes, crate::proofs::Noting::noted_more))]
 pub fn part(alloc: Global, stage: &Stage, events: &[Event]) -> Result<Vec<Log>, Memory>
     requires { IsSound stage.now }
+    ensures { IfOk result (λ logs. ArePartsOf stage.now events.now logs.items) }
 {
-    let mut logs: BTreeMap<Author, Vec<Event>> = BTreeMap::new(alloc);
+    let mut logs = Logs::new(alloc);
     let mut author = Author::Controller;
     for event in events {
         author = author_of(stage, event.what).unwrap_or(author);
-        logs.entry(author)?
-            .or_insert_with(|| Vec::new(alloc))
-            .push(*event)?;
+        logs.note(alloc, author, *event)?;
     }
-    let mut parted = Vec::with_capacity(alloc, logs.len())?;
-    for log in logs.into_values() {
-        parted.push(List::of(log))?;
-    }
-    Ok(parted)
+    logs.in_order(alloc)
 }

@@ -5,7 +5,7 @@ use crate::capture::{Form, OPENED, raw};
 use crate::program::words;
 use bm_base::{List, Text};
 use bm_cli::beamer;
-use bm_io::{Files, MemFile, MemFiles, MemSink, OpenGate};
+use bm_io::{Files, IoFault, MemFile, MemFiles, MemSink, OpenGate, Sink};
 use std::alloc::{AllocError, Global};
 use std::process::Abort;
 use std::sync::Wait;
@@ -17,6 +17,12 @@ const SCRIPT: &str = "[[command]]\nat_ns = 500\ndo = \"move\"\nbucket = 4\nserve
 
 const READ_FAULT: &str = "beamer: read fault\n";
 
+/// The report of a replay of the two packets.
+const REPORT: &str = "1 steer 1 0 0 4\n2 arrive 1 direct 1 accept\n501 publish 1\n502 switch 0 1\n\
+    1001 steer 2 0 1 4\n1002 arrive 2 direct 2 forward 1\n1003 arrive 2 chained 1 process advance\n\
+    packet 1 accepted 1\npacket 2 processed 1\ntotal packets 2 steered 2 unsteered 0 accepted 1 \
+    processed 1 forwarded 1 reset 0 dropped 0 lost 0 stray 0\n";
+
 /// Stands in every report of the two packets, in whatever order the threads of a run come.
 const ENDS: &str = "total packets 2 steered 2 unsteered 0 accepted 1 processed 1 ";
 
@@ -26,6 +32,25 @@ enum Device {
     Script,
     Capture,
     Output,
+}
+
+/// How many octets a file gives, and an output takes, at a time.
+const STEP: usize = 40;
+
+/// An output that takes 40 octets at a time.
+#[derive(Drop)]
+struct ShortSink {
+    sink: MemSink,
+}
+
+impl Sink for ShortSink {
+    ghost written = { λ s. ⟦<MemSink as Sink>⟧.written s.sink };
+
+    ghost faults = { λ s. ⟦<MemSink as Sink>⟧.faults s.sink };
+
+    fn put(&mut self, piece: &[u8]) -> Result<usize, IoFault> {
+        self.sink.put(&piece[..piece.len().min(STEP)])
+    }
 }
 
 /// The numbers of the calls that fail: one, for the device that is to fail.
@@ -47,7 +72,7 @@ fn file(
     Ok(MemFile {
         name: Text::of(String::from_str(alloc, name)?),
         octets: List::of(octets),
-        step: 40,
+        step: STEP,
         fails: List::of(fails),
     })
 }
@@ -86,20 +111,34 @@ fn fail(
 ) -> Result<bool, Fail> {
     let words = words(alloc, &[form, "c", "s"])?;
     let mut files = both(alloc, device, call)?;
-    let mut out = MemSink::new(alloc, fails(alloc, device == Device::Output, call)?);
+    let mut out = ShortSink {
+        sink: MemSink::new(alloc, fails(alloc, device == Device::Output, call)?),
+    };
     let status = beamer(rt, alloc, &words, &mut files, &mut out, &OpenGate);
     assert_eq!(rt; files.open_now(), 0);
+    let written = out.sink.written();
     if status == 0 {
-        assert!(rt; String::from_utf8_lossy(alloc, out.written())?.contains(ENDS));
+        assert!(rt; String::from_utf8_lossy(alloc, written)?.contains(ENDS));
         return Ok(false);
     }
-    let (due, text) = match device {
-        Device::Output => (5, ""),
-        Device::Script | Device::Capture => (2, READ_FAULT),
-    };
-    assert_eq!(rt; status, due);
-    assert_eq!(rt; out.written(), text.as_bytes());
+    if device == Device::Output {
+        check_part(rt, form, call, status, written);
+    } else {
+        assert_eq!(rt; (status, written), (2, READ_FAULT.as_bytes()));
+    }
     Ok(true)
+}
+
+/// What was written before a write that failed: all pieces before that one.
+fn check_part(rt: &impl Abort, form: &str, call: u32, status: u8, written: &[u8]) {
+    assert_eq!(rt; status, 5);
+    assert_eq!(rt;
+        (written.len() + STEP) as u64,
+        STEP as u64 * u64::from(call)
+    );
+    if form == "replay" {
+        assert!(rt; REPORT.as_bytes().starts_with(written));
+    }
 }
 
 /// How many calls the device gets, each of which fails in turn.
@@ -117,14 +156,15 @@ fn calls(
     Ok(100)
 }
 
-/// 64 octets of the script and 146 of the capture come in two and in four reads at least.
+/// 64 octets of the script and 146 of the capture come in two and in four reads at least, and a
+/// report of more than 200 octets goes in six writes.
 fn check(rt: &(impl Abort + Threads + Wait + Sync), alloc: Global, form: &str) -> Result<(), Fail> {
     let script = calls(rt, alloc, form, Device::Script)?;
     let capture = calls(rt, alloc, form, Device::Capture)?;
     let output = calls(rt, alloc, form, Device::Output)?;
     assert!(rt; 2 <= script && script < 100);
     assert!(rt; 4 <= capture && capture < 100);
-    assert!(rt; 1 <= output && output < 100);
+    assert!(rt; 6 <= output && output < 100);
     Ok(())
 }
 

@@ -1,0 +1,51 @@
+-- The parts of a history: what each actor wrote down. A past has its newest event first.
+use Rattle.std.specs.Prelude.{◌≡◌, ◌<◌, ◌⊎◌, Bool, false, ◌||◌, if◌then◌else◌, List, [], ◌∷◌, map}
+use Rattle.std.specs.Prelude.{reverse, unwrap_or}
+use Rattle.std.specs.List.{AllByRecursion}
+use Rattle.bm_core.specs.declared.events.Event.{Event}
+use Rattle.bm_core.specs.declared.events.Stage.{Stage}
+use Rattle.bm_core.specs.Runs.{Actor, actor_of, same_actor}
+use Rattle.bm_core.specs.Runs.Actor.{Controller, MuxOf, ShardOf}
+
+-- Who wrote the newest of these events down: its actor, and of a loss, which has none, who wrote the
+-- event before it down, since that is its sending.
+abbrev pub writer : Stage → List Event → Actor
+writer stage [] = Controller
+writer stage (e ∷ past) = unwrap_or (actor_of stage e.what) (writer stage past)
+
+-- the events that this actor wrote down
+abbrev pub written_by : Stage → Actor → List Event → List Event
+written_by stage a [] = []
+written_by stage a (e ∷ past) =
+    if same_actor (writer stage (e ∷ past)) a then e ∷ written_by stage a past
+    else written_by stage a past
+
+-- one actor comes before the other: the controller, the muxes, and the shards by server and shard
+abbrev pub Precedes : Actor → Actor → Type 0
+Precedes Controller Controller = ⊥
+Precedes Controller b = Unit {0}
+Precedes (MuxOf m) Controller = ⊥
+Precedes (MuxOf m) (MuxOf n) = m < n
+Precedes (MuxOf m) (ShardOf t i) = Unit {0}
+Precedes (ShardOf s h) (ShardOf t i) = (s < t) ⊎ ((s ≡ t) × (h < i))
+Precedes (ShardOf s h) b = ⊥
+
+-- each actor comes before all later ones
+abbrev pub AreInOrder : List Actor → Type 0
+AreInOrder [] = Unit {0}
+AreInOrder (a ∷ actors) = AllByRecursion (Precedes a) actors × AreInOrder actors
+
+-- the actor is among these
+abbrev pub is_among : List Actor → Actor → Bool
+is_among [] a = false
+is_among (b ∷ actors) a = same_actor b a || is_among actors a
+
+-- the events, with the oldest first, were parted into these logs
+pub record ArePartsOf (stage : Stage) (events : List Event) (logs : List (List Event)) : Type 0 where
+  -- whose they are
+  pub actors : List Actor
+  pub order : AreInOrder actors
+  -- each has just what its actor wrote down, the oldest event first
+  pub each : logs ≡ map (λ a. reverse (written_by stage a (reverse events))) actors
+  -- who isn't among them wrote nothing down
+  pub all : (a : Actor) → is_among actors a ≡ false → written_by stage a (reverse events) ≡ []
