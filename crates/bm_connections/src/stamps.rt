@@ -175,12 +175,15 @@ impl Stamps {
         }
     }
 
+    /// Keeps the packet's stamp, where it isn't known already; 0 stands for those that aren't kept.
     fn put(&mut self, packet: u32, stamp: u64) -> Result<(), AllocError>
-        ensures stamps { OnOk result ((q : ℕ) → tree.get nat_cmp self.new.stamps q
-            ≡ (if packet == q then Some stamp else tree.get nat_cmp self.old.stamps q)) }
+        ensures stamps { OnOk result ((q : ℕ) → or_zero (tree.get nat_cmp self.new.stamps q)
+            ≡ (if packet == q then stamp else or_zero (tree.get nat_cmp self.old.stamps q))) }
         ensures views { self.new.views ≡ self.old.views }
     {
-        self.stamps.insert(packet, stamp)?;
+        if self.get(packet) != stamp {
+            self.stamps.insert(packet, stamp)?;
+        }
         Ok(())
     }
 
