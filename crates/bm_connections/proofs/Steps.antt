@@ -131,8 +131,8 @@ still stage records past clock (Arrive k hop server verdict) f h =
     rw (h, and_false (is_accept verdict), with_none (first_break stage f past), with_none (first_fault stage f past))
     refl
 
-abbrev connection_with : Flow → Sight → Sight → Option ServerId → Tally → Option Forwarding → Option Break → Option Break
-    → Connection
+abbrev connection_with : Flow → Sight → Sight → Option ServerId → Tally → Option Forwarding → Option Break
+    → Option Break → Connection
 connection_with f first last s t x b r = record {
   flow = f;
   first = first;
@@ -151,13 +151,17 @@ same_connection f first last s s' t t' x x' b b' r r' es et ex eb er =
     λ i. connection_with f first last (es i) (et i) (ex i) (eb i) (er i)
 
 -- a flow that has no server after an arrival had none before it
-refused_changed : (accepts : Bool) (s : ServerId) (o : Option ServerId) (fault new : Option Break)
+refused_changed : (accepts : Bool) (s : ServerId) (o after : Option ServerId) (fault new found : Option Break)
+    → (if accepts then Some s else o) ≡ after → new ≡ found
     → (if is_some (if accepts then Some s else o) then None
     else first_of_two (if is_some o then None else fault) new)
-    ≡ (if is_some (if accepts then Some s else o) then None else first_of_two fault new)
-refused_changed true s o fault new = refl
-refused_changed false s None fault new = refl
-refused_changed false s (Some t) fault new = refl
+    ≡ (if is_some after then None else first_of_two fault found)
+refused_changed true s o after fault new found server same =
+    λ i. if is_some (server i) then None else first_of_two fault (same i)
+refused_changed false s None after fault new found server same =
+    λ i. if is_some (server i) then None else first_of_two fault (same i)
+refused_changed false s (Some t) after fault new found server same =
+    λ i. if is_some (server i) then None else first_of_two fault (same i)
 
 server_changed : (b : Bool) (o : Option Accepted) (a : Accepted)
     → (if b then Some a.server else option_map (λ x. x.server) o)
@@ -215,8 +219,8 @@ changed stage records past clock k hop server verdict f found waited here after 
     (record { packet = k; clock = clock; server = server; verdict = verdict; cause = found })
     (if is_accept verdict then Some server else acceptor stage f past) (refusal stage f past)
     ≡ refusal stage f (e ∷ past) =
-    refused_changed (is_accept verdict) server (acceptor stage f past) (first_fault stage f past) _
-    ∙ (λ i. if is_some (es i) then None else first_of_two (first_fault stage f past) (en i))
+    refused_changed (is_accept verdict) server (acceptor stage f past) (acceptor stage f (e ∷ past))
+    (first_fault stage f past) _ _ es en
     in same_connection f _ _ _ _ _ _ _ _ _ _ _ _ es et ex eb er
 
 -- an arrival of the flow changes its connection so
@@ -237,7 +241,8 @@ changed_by stage records past clock (Switch m v) f found waited b is here after 
 changed_by stage records past clock (Steer k m) f found waited b is here after by fault = absurd (cc)
 changed_by stage records past clock (Lose k hop) f found waited b is here after by fault = absurd (cc)
 changed_by stage records past clock (Close server flow closed) f found waited b is here after by fault = absurd (cc)
-changed_by stage records past clock (Retire server shard at result) f found waited b is here after by fault = absurd (cc)
+changed_by stage records past clock (Retire server shard at result) f found waited b is here after by fault =
+    absurd (cc)
 changed_by stage records past clock Sync f found waited b is here after by fault = absurd (cc)
 
 no_arrival : (stage : Stage) (f : Flow) (clock : Moment) (what : What) (found : Option Cause)

@@ -34,7 +34,8 @@ tally_words t =
     ∷ codes "dropped" ∷ decimal t.dropped ∷ codes "reset" ∷ decimal t.reset
     ∷ codes "stray" ∷ decimal t.stray ∷ []
 
--- a packet that was forwarded, by which server, at which clock, and how long after its bucket's move
+-- a packet that was forwarded, by which server, at which clock, and how long after its bucket's
+-- move
 abbrev pub forwarding_words : Forwarding → List (List ℕ)
 forwarding_words x =
     decimal x.packet ∷ codes "by" ∷ decimal x.server.0 ∷ codes "at" ∷ decimal x.clock.0

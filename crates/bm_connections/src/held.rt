@@ -1,6 +1,6 @@
 //! How many connections each shard of a server holds, and the most that it held at once.
-ghost use Rattle.std.specs.Prelude.{◌≡◌, ℕ, max, ◌&&◌, ◌||◌, ◌+◌, not, false, List, length, reverse};
-ghost use Rattle.std.specs.Prelude.{Some, None, OnOk, IfOk, if◌then◌else◌, [], ◌∷◌};
+ghost use Rattle.std.specs.Prelude.{◌≡◌, ℕ, max, ◌&&◌, ◌||◌, ◌+◌, not, false, List, length};
+ghost use Rattle.std.specs.Prelude.{reverse, Some, None, OnOk, IfOk, if◌then◌else◌, [], ◌∷◌};
 ghost use Rattle.std.specs.BTreeMap as tree;
 ghost use Rattle.std.specs.BTreeSet as set;
 ghost use Rattle.bm_base.specs.declared.flow.Flow.{Flow};
@@ -261,7 +261,8 @@ impl Fillings {
         event: &Event,
     ) -> Result<(), AllocError>
         requires ranges { HasRanges stage.now }
-        requires fillings { kept.AreFillings stage.now (reverse events.now) (kept.filling self.old) }
+        requires fillings { kept.AreFillings stage.now (reverse events.now)
+            (kept.filling self.old) }
         ensures { OnOk result (kept.AreFillings stage.now (event.now ∷ reverse events.now)
             (kept.filling self.new)) }
     {
@@ -273,8 +274,8 @@ impl Fillings {
 
     /// The most that the shard held at once.
     fn most_in(&self, key: ShardKey) -> u64
-        ensures { (flows : List Flow) (most : ℕ) → kept.IsFilling flows most (kept.filling self.now key)
-            → result ≡ most }
+        ensures { (flows : List Flow) (most : ℕ)
+            → kept.IsFilling flows most (kept.filling self.now key) → result ≡ most }
     {
         match self.fillings.get(&key) {
             None => 0,

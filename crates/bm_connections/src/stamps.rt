@@ -1,6 +1,6 @@
 //! The stamp of each packet's label, kept along the events.
-ghost use Rattle.std.specs.Prelude.{◌≡◌, ◌+◌, ◌<◌, ◌≤◌, ◌==◌, ℕ, List, reverse, Some, None, OnOk, IfOk};
-ghost use Rattle.std.specs.Prelude.{IfSome, false, if◌then◌else◌, [], ◌∷◌};
+ghost use Rattle.std.specs.Prelude.{◌≡◌, ◌+◌, ◌<◌, ◌≤◌, ◌==◌, ℕ, List, reverse, Some, None};
+ghost use Rattle.std.specs.Prelude.{OnOk, IfOk, IfSome, false, if◌then◌else◌, [], ◌∷◌};
 ghost use Rattle.std.specs.BTreeMap as tree;
 ghost use Rattle.std.specs.Ordering.{nat_cmp};
 ghost use Rattle.bm_core.specs.declared.events.Event.{Event};

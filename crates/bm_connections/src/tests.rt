@@ -238,8 +238,8 @@ static CASES: [Case; 4] = [
         rows: &[OPENING, DATA, DATA],
         capacity: 4_096,
         closing: true,
-        text: "connection 10.0.0.1:1000 192.0.2.1:80 opened 1 at 0 last 3 at 200000000000 accepted 1 \
-               times 1 processed 0 forwarded 0 dropped 0 reset 2 stray 0 \
+        text: "connection 10.0.0.1:1000 192.0.2.1:80 opened 1 at 0 last 3 at 200000000000 \
+               accepted 1 times 1 processed 0 forwarded 0 dropped 0 reset 2 stray 0 \
                broken 2 reset no-previous because not-held at 100000000002\n",
         fields: "cause\n10.0.0.1:1000,192.0.2.1:80,1,0,3,200000000000,1,1,0,0,0,2,0,\
                  2,100000000002,1,reset,not-held,,,,,,,,,\n",
@@ -248,11 +248,12 @@ static CASES: [Case; 4] = [
         rows: &[OPENING, OTHER, (1002, PSH_ACK, 101, 10), DATA, DATA],
         capacity: 4_096,
         closing: false,
-        text: "connection 10.0.0.1:1000 192.0.2.1:80 opened 1 at 0 last 5 at 400000000000 accepted 1 \
-               times 1 processed 2 forwarded 0 dropped 0 reset 0 stray 0 whole\n\
-               connection 10.0.0.1:1002 192.0.2.1:80 opened 2 at 100000000000 last 3 at 200000000000 \
-               accepted 1 times 1 processed 1 forwarded 0 dropped 0 reset 0 stray 0 whole\n",
-        fields: "10.0.0.1:1002,192.0.2.1:80,2,100000000000,3,200000000000,1,1,1,0,0,0,0,,,,,,,,,,,,,,\n",
+        text: "connection 10.0.0.1:1000 192.0.2.1:80 opened 1 at 0 last 5 at 400000000000 \
+               accepted 1 times 1 processed 2 forwarded 0 dropped 0 reset 0 stray 0 whole\n\
+               connection 10.0.0.1:1002 192.0.2.1:80 opened 2 at 100000000000 \
+               last 3 at 200000000000 accepted 1 times 1 processed 1 forwarded 0 dropped 0 reset 0 stray 0 whole\n",
+        fields: "10.0.0.1:1002,192.0.2.1:80,2,100000000000,3,200000000000,1,1,1,0,0,0,0,\
+                 ,,,,,,,,,,,,,\n",
     },
     Case {
         rows: &[OPENING, OTHER],
@@ -260,8 +261,8 @@ static CASES: [Case; 4] = [
         closing: false,
         text: "connection 10.0.0.1:1000 192.0.2.1:80 opened 1 at 0 last 1 at 0 accepted 1 times 1 \
                processed 0 forwarded 0 dropped 0 reset 0 stray 0 whole\n\
-               connection 10.0.0.1:1002 192.0.2.1:80 opened 2 at 100000000000 last 2 at 100000000000 \
-               accepted none times 0 processed 0 forwarded 0 dropped 1 reset 0 stray 0 \
+               connection 10.0.0.1:1002 192.0.2.1:80 opened 2 at 100000000000 \
+               last 2 at 100000000000 accepted none times 0 processed 0 forwarded 0 dropped 1 reset 0 stray 0 \
                refused 2 drop full because full at 100000000002\n",
         fields: "10.0.0.1:1002,192.0.2.1:80,2,100000000000,2,100000000000,,0,0,0,1,0,0,,,,,,,,,,\
                  2,100000000002,1,drop,full\n",
@@ -270,8 +271,8 @@ static CASES: [Case; 4] = [
         rows: &[DATA, OPENING, DATA],
         capacity: 4_096,
         closing: false,
-        text: "connection 10.0.0.1:1000 192.0.2.1:80 opened 1 at 0 last 3 at 200000000000 accepted 1 \
-               times 1 processed 1 forwarded 0 dropped 0 reset 1 stray 0 whole\n",
+        text: "connection 10.0.0.1:1000 192.0.2.1:80 opened 1 at 0 last 3 at 200000000000 \
+               accepted 1 times 1 processed 1 forwarded 0 dropped 0 reset 1 stray 0 whole\n",
         fields: "10.0.0.1:1000,192.0.2.1:80,1,0,3,200000000000,1,1,1,0,0,1,0,,,,,,,,,,,,,,\n",
     },
 ];

@@ -12,5 +12,5 @@ note_arrival-requires c =
 pub returns-in_ok-note_arrival-in-Some-segment : goal.returns-in_ok-note_arrival-in-Some-segment
 returns-in_ok-note_arrival-in-Some-segment c =
     rows_noted c.args.stage.now (records_of c.args.stage.now) (reverse c.args.before.now) c.args.event.now
-    c.args.cause c.args.wait c.in-Some.arrival c.in-Some-segment.segment (row c.args.self.now) (row c.note_arrival.new.self) (cc)
-    (cc) c.requires.wait c.requires.cause c.requires.fault c.in_ok-note_arrival-in-Some-segment.ensures c.requires.rows
+    c.args.cause c.args.wait c.in-Some.arrival c.in-Some-segment.segment (row c.args.self.now)
+    (row c.note_arrival.new.self) (cc) (cc) c.requires.wait c.requires.cause c.requires.fault c.in_ok-note_arrival-in-Some-segment.ensures c.requires.rows
