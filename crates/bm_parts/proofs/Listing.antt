@@ -1,6 +1,6 @@
 -- The logs of authors, listed in the authors' order.
-use Rattle.std.proofs.Common.{◌≡◌, ℕ, zero, suc, ◌<◌, Bool, true, false, ◌||◌, cond, List, [], ◌∷◌, map, Option, Some, None}
-use Rattle.std.proofs.Common.{option_map, unwrap_or, sym, ap, subst, ◌∙◌, refl, ◌++◌, arith, rules, Ordering, Less, Equal, is_eq}
+use Rattle.std.proofs.Common.{◌≡◌, ℕ, suc, Bool, true, false, ◌||◌, List, [], ◌∷◌, ◌++◌, map, Option, Some, None}
+use Rattle.std.proofs.Common.{option_map, unwrap_or, sym, ap, ◌∙◌, refl, rules, Ordering, Less, is_eq}
 use Rattle.std.specs.Prelude.{slice_get}
 use Rattle.std.specs.BTreeMap as tree
 use Rattle.std.specs.Global.{Vec}
@@ -9,7 +9,7 @@ use Rattle.std.specs.List.Sorted.{IsStrictlySortedBy}
 use Rattle.std.specs.Map.{keys_of, lookup, values_of}
 use Rattle.std.proofs.lemmas.Map.Entries.{btree_map_get_place}
 use Rattle.bm_core.specs.declared.events.Event.{Event}
-use Rattle.bm_core.specs.Runs.{Actor, same_actor}
+use Rattle.bm_core.specs.Runs.{same_actor}
 use Rattle.bm_parts.specs.contracts.parting.AuthorOrd.TheImpl as author_order
 use Rattle.bm_parts.specs.contracts.parting.AuthorOrd.TheImpl.Laws as author_laws
 use Rattle.bm_parts.specs.declared.parting.Author.{Author}
@@ -17,7 +17,7 @@ use Rattle.bm_parts.specs.declared.parting.Author.TheVariants.{Controller as by_
 use Rattle.bm_parts.specs.declared.parting.Author.TheVariants.{Mux as by_mux, Shard as by_shard}
 use Rattle.bm_parts.specs.declared.parting.Logs.{Logs}
 use Rattle.bm_parts.specs.Actors.{actor}
-use Rattle.bm_parts.specs.Inside.{AreListed, log}
+use Rattle.bm_parts.specs.Inside.{AreListed}
 use Rattle.bm_parts.specs.Parts.{AreInOrder, Precedes, is_among}
 
 abbrev by_order : Author → Author → Ordering

@@ -1,5 +1,5 @@
 -- The logs of authors, while the events are parted and behind the last one.
-use Rattle.std.proofs.Common.{◌≡◌, Bool, true, false, cond, List, [], ◌∷◌, ◌++◌, map, reverse, Option, Some, None}
+use Rattle.std.proofs.Common.{◌≡◌, Bool, true, false, List, [], ◌∷◌, ◌++◌, map, reverse, Option, Some, None}
 use Rattle.std.proofs.Common.{if◌then◌else◌, option_map, unwrap_or, sym, ap, subst, ◌∙◌, refl}
 use Rattle.std.proofs.lemmas.List.{reverse-append}
 use Rattle.bm_core.specs.declared.events.Event.{Event}

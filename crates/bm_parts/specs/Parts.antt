@@ -7,8 +7,8 @@ use Rattle.bm_core.specs.declared.events.Stage.{Stage}
 use Rattle.bm_core.specs.Runs.{Actor, actor_of, same_actor}
 use Rattle.bm_core.specs.Runs.Actor.{Controller, MuxOf, ShardOf}
 
--- Who wrote the newest of these events down: its actor, and of a loss, which has none, who wrote the
--- event before it down, since that is its sending.
+-- Who wrote the newest of these events down: its actor, and of a loss, which has none, who wrote
+-- the event before it down, since that is its sending.
 abbrev pub writer : Stage → List Event → Actor
 writer stage [] = Controller
 writer stage (e ∷ past) = unwrap_or (actor_of stage e.what) (writer stage past)
@@ -41,7 +41,8 @@ is_among [] a = false
 is_among (b ∷ actors) a = same_actor b a || is_among actors a
 
 -- the events, with the oldest first, were parted into these logs
-pub record ArePartsOf (stage : Stage) (events : List Event) (logs : List (List Event)) : Type 0 where
+pub record ArePartsOf (stage : Stage) (events : List Event) (logs : List (List Event))
+    : Type 0 where
   -- whose they are
   pub actors : List Actor
   pub order : AreInOrder actors

@@ -59,7 +59,8 @@ impl Logs {
 
     /// Adds the event to the log of its author, which is begun where there is none.
     fn note(&mut self, alloc: Global, author: Author, event: Event) -> Result<(), Memory>
-        ensures { OnOk result ((q : Author) → log self.new q ≡ noted author event q (log self.old q)) }
+        ensures { OnOk result ((q : Author) → log self.new q
+            ≡ noted author event q (log self.old q)) }
     {
         self.logs
             .entry(author)?
@@ -80,8 +81,8 @@ impl Logs {
     }
 }
 
-/// The events, parted by who writes them down. A loss stands in the log of its sending, which is the
-/// event before it.
+/// The events, parted by who writes them down. A loss stands in the log of its sending, which is
+/// the event before it.
 #[tactic(auto, using(crate::proofs::Noting::writes, crate::proofs::Noting::noted_more))]
 pub fn part(alloc: Global, stage: &Stage, events: &[Event]) -> Result<Vec<Log>, Memory>
     requires { IsSound stage.now }
