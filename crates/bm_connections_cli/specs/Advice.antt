@@ -8,12 +8,14 @@ use Rattle.bm_trace.specs.Words.{cause_word}
 use Rattle.bm_connections.specs.declared.connection.Connection.{Connection}
 
 abbrev pub remedy : Cause → List ℕ
-remedy NeverAccepted = codes "begin the capture earlier, or open its connections by tools/open_midstream"
-remedy NotHeld = codes "close or retire later"
+remedy NeverAccepted =
+    codes "begin the capture earlier, or use tools/open_midstream; or its SYN was dropped"
+remedy NotHeld = codes "close or retire later; without either, a client sent after its own reset"
 remedy StaleMux = codes "let every mux switch before connections open, or route by port"
 remedy MovedTwice = codes "wait longer between the changes"
 remedy ChainLate = codes "raise timeout_s, or drain earlier"
-remedy SynElsewhere = codes "a client used its port again while the bucket moved"
+remedy SynElsewhere =
+    codes "nothing to change: a client sent another SYN after the bucket had moved"
 remedy Full = codes "raise capacity or shards, or add servers"
 remedy OldTable = codes "retire later, or let every mux switch before"
 

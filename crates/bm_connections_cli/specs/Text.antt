@@ -36,7 +36,7 @@ server_lines h = flat_map server_line (server_counts h (servers_of h.stage.scrip
 abbrev pub cause_lines : History → List ℕ
 cause_lines h = flat_map cause_line (causes_in h)
 
--- the timeout that would have kept what came too late, where something did
+-- the longest late wait and its timeout, where a packet came too late
 abbrev pub late_lines : History → List ℕ
 late_lines h = late_text (longest_late h)
 

@@ -1,5 +1,5 @@
--- What the words ask for: `CAPTURE SCRIPT`, and perhaps `--csv` or `--json` behind them. A name that
--- is empty or begins with `-` makes them no form.
+-- What the words ask for: `CAPTURE SCRIPT`, and perhaps `--csv` or `--json` behind them. A name
+-- that is empty or begins with `-` makes them no form.
 use Rattle.std.specs.Prelude.{ℕ, List, [], ◌∷◌, ◌&&◌, if◌then◌else◌, Option, Some, None, codes, map}
 use Rattle.std.specs.Prelude.{String, option_and_then, string_bytes}
 use Rattle.std.specs.Str.{bytes_eq}

@@ -13,13 +13,15 @@ fn remedy(cause: Cause) -> &'static str
 {
     match cause {
         Cause::NeverAccepted => {
-            "begin the capture earlier, or open its connections by tools/open_midstream"
+            "begin the capture earlier, or use tools/open_midstream; or its SYN was dropped"
         }
-        Cause::NotHeld => "close or retire later",
+        Cause::NotHeld =>
+            "close or retire later; without either, a client sent after its own reset",
         Cause::StaleMux => "let every mux switch before connections open, or route by port",
         Cause::MovedTwice => "wait longer between the changes",
         Cause::ChainLate => "raise timeout_s, or drain earlier",
-        Cause::SynElsewhere => "a client used its port again while the bucket moved",
+        Cause::SynElsewhere =>
+            "nothing to change: a client sent another SYN after the bucket had moved",
         Cause::Full => "raise capacity or shards, or add servers",
         Cause::OldTable => "retire later, or let every mux switch before",
     }

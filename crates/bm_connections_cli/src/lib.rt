@@ -1,5 +1,5 @@
-//! What `beamer-connections` does: it replays a capture as `beamer replay` does, and tells what became
-//! of each connection.
+//! What `beamer-connections` does: it replays a capture as `beamer replay` does, and tells what
+//! became of each connection.
 #![tactic(auto)]
 
 mod advice;

@@ -11,8 +11,8 @@ use bm_core::History;
 use bm_io::{IoFault, Sink};
 use std::alloc::Global;
 
-/// Writes the connections of the history in this format. Where memory is refused before all of it is
-/// put together, nothing is written.
+/// Writes the connections of the history in this format. Where memory is refused before all of it
+/// is put together, nothing is written.
 pub(crate) fn tell<K: Sink>(alloc: Global, format: Format, history: &History, out: &mut K) -> Status
     requires { IsRun history.now }
     ensures { Writes Status.Done (text format history.now)

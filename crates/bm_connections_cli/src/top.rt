@@ -25,9 +25,9 @@ const USAGE: &str = "usage: beamer-connections CAPTURE SCRIPT [--csv | --json]\n
 
 /// Does all that the program does, and answers the status.
 ///
-/// 0: the connections were written. 1: the words are of no form. 2: the files failed. 3: the capture
-/// has a fault. 4: the script has a fault. 5: the sink failed. 6: memory was refused. 7: a limit is
-/// passed.
+/// 0: the connections were written. 1: the words are of no form. 2: the files failed. 3: the
+/// capture has a fault. 4: the script has a fault. 5: the sink failed. 6: memory was refused. 7: a
+/// limit is passed.
 pub fn beamer_connections<R: Threads + Wait + Sync, F: Files, K: Sink>(
     rt: &R,
     alloc: Global,
@@ -49,8 +49,8 @@ pub fn beamer_connections<R: Threads + Wait + Sync, F: Files, K: Sink>(
     // refused.
     ensures status { Holds (F.octets files.old) (λ reads.
         IsStatusFor (form_in words.now) reads result) }
-    // The connections of an accepted capture are written, but where the files or the sink failed, or
-    // memory was refused.
+    // The connections of an accepted capture are written, but where the files or the sink failed,
+    // or memory was refused.
     ensures complete { IsAccepted (form_in words.now) (F.octets files.old) →
         (result ≡ 0) ⊎ (result ≡ 6) ⊎ Rose (F.faults files.old) (F.faults files.new)
         ⊎ Rose (K.faults out.old) (K.faults out.new) }

@@ -8,7 +8,7 @@ use Rattle.bm_core.specs.Runs.{Actor, actor_of, same_actor}
 use Rattle.bm_core.specs.Runs.Actor.{Controller, MuxOf, ShardOf}
 
 -- Who wrote the newest of these events down: its actor, and of a loss, which has none, who wrote
--- the event before it down, since that is its sending.
+-- the event before it down, which in a replay is its sending.
 abbrev pub writer : Stage → List Event → Actor
 writer stage [] = Controller
 writer stage (e ∷ past) = unwrap_or (actor_of stage e.what) (writer stage past)

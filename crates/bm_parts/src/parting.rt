@@ -81,8 +81,8 @@ impl Logs {
     }
 }
 
-/// The events, parted by who writes them down. A loss stands in the log of its sending, which is
-/// the event before it.
+/// The events, parted by who writes them down. A loss stands in the log of the event before it,
+/// which in a replay is its sending.
 #[tactic(auto, using(crate::proofs::Noting::writes, crate::proofs::Noting::noted_more))]
 pub fn part(alloc: Global, stage: &Stage, events: &[Event]) -> Result<Vec<Log>, Memory>
     requires { IsSound stage.now }
