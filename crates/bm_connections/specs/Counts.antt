@@ -63,6 +63,7 @@ server_counts h servers = map (server_count h.stage (reverse h.events)) servers
 
 -- CAUSES
 
+-- a number for each cause, by which causes are told apart
 abbrev pub number : Cause → ℕ
 number NeverAccepted = 0
 number NotHeld = 1

@@ -1,5 +1,5 @@
--- Which packets came too late, and which timeout would have kept them, by looking back through
--- events (docs/DEFINITIONS.md). A past has its newest event first.
+-- Which packets came too late, and under which timeout none of them would have, by looking back
+-- through events (docs/DEFINITIONS.md). A past has its newest event first.
 use Rattle.std.specs.Prelude.{ℕ, suc, max, ◌/◌, ◌%◌, ◌^◌, ◌==◌, Bool, false, ◌&&◌, ◌||◌}
 use Rattle.std.specs.Prelude.{if◌then◌else◌, List, [], ◌∷◌, Option, Some, None, option_map, reverse}
 use Rattle.bm_base.specs.declared.label.Label.{Label}

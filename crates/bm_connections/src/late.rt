@@ -1,4 +1,4 @@
-//! The packets that came too late, and the timeout that would have kept them.
+//! The packets that came too late, and the least timeout under which none of them would have.
 ghost use Rattle.std.specs.Prelude.{◌≡◌, Some, None, IfOk, if◌then◌else◌, option_map, reverse};
 ghost use Rattle.bm_core.specs.declared.events.Cause.TheVariants.{ChainLate as chain_late};
 ghost use Rattle.bm_core.specs.Runs.{IsRun};

@@ -1,4 +1,5 @@
-//! How many connections each server accepted, and how many packets it processed.
+//! By server: how many arrivals it accepted and processed, and the most connections that one of its
+//! shards held at once.
 ghost use Rattle.std.specs.Prelude.{◌≡◌, ◌<◌, ◌^◌, ◌∷◌, [], suc, Option, Some, None, OnOk, IfOk};
 ghost use Rattle.std.specs.Prelude.{if◌then◌else◌, length, map, reverse};
 ghost use Rattle.bm_base.specs.declared.ids.ServerId.{ServerId};
