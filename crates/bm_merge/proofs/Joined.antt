@@ -9,13 +9,17 @@ use Rattle.bm_core.specs.Runs.{IsRun}
 use Rattle.bm_merge.specs.Merges.{Log, gathered, by_clock, Agree, joined, AreLogs}
 use Rattle.bm_merge.proofs.Merging.{merge_law}
 
-none_more : (x : List Event) → x ++ [] ≡ x
+pub none_more : (x : List Event) → x ++ [] ≡ x
 none_more [] = refl
 none_more (e ∷ x) = ap (λ (l : List Event). e ∷ l) (none_more x)
 
 over : (x y z : List Event) → x ++ (y ++ z) ≡ (x ++ y) ++ z
 over [] y z = refl
 over (e ∷ x) y z = ap (λ (l : List Event). e ∷ l) (over x y z)
+
+pub joined_append : (x y : List (List Event)) → joined (x ++ y) ≡ joined x ++ joined y
+joined_append [] y = refl
+joined_append (l ∷ x) y = ap (λ (r : List Event). l ++ r) (joined_append x y) ∙ over l (joined x) (joined y)
 
 pub joined_next : (logs : List (List Event)) (i : ℕ) (d : List Event) → i < length logs
     → joined (take (suc i) logs) ≡ joined (take i logs) ++ get_or logs i d

@@ -5,6 +5,7 @@ pub mod Agreeing
 pub mod Merging
 pub mod Sorting
 pub mod Joined
+pub mod Heading
 pub mod Bounded
 pub mod Noting
 pub mod Telling

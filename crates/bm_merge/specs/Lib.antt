@@ -1,3 +1,4 @@
 pub mod Merges
 pub mod Notes
+pub mod Rising
 pub mod Workers

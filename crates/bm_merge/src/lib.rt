@@ -3,8 +3,10 @@
 
 pub mod laws;
 mod logs;
+mod rising;
 
-pub use logs::merge;
+pub use logs::{join_in_order, merge};
+pub use rising::{EventLog, merge_rising};
 
 #[cfg(test)]
 mod tests;

@@ -1,6 +1,7 @@
 //! The logs of a threaded run, put together.
 ghost use Rattle.std.specs.Prelude.{◌≡◌, ◌^◌, ◌-◌, IfOk, List, length, min, reverse};
 ghost use Rattle.bm_core.specs.Runs.{IsRun};
+ghost use Rattle.bm_merge.specs.Rising.{IsRising, in_order as by_order};
 ghost use Rattle.bm_merge.specs.Merges.{Agree, AreLogs, Log as ActorLog, by_clock, joined};
 
 use bm_base::{List, Memory};
@@ -38,6 +39,14 @@ fn in_order(events: Vec<Event>) -> Result<Vec<Event>, Memory>
     Ok(events)
 }
 
+/// All events of the logs, by clock. Those of one clock stand in the order of the logs.
+pub fn join_in_order(alloc: Global, logs: &[Log]) -> Result<Vec<Event>, Memory>
+    ensures order { IfOk result (λ events. events.items ≡ by_order (joined logs.now)) }
+    ensures rising { IfOk result (λ events. IsRising events.items) }
+{
+    in_order(join(alloc, logs)?)
+}
+
 /// All events of the logs, by clock. Those of one clock stand in the order of the logs, which is
 /// the controller, the muxes, and the shards by server and shard. Where the logs agree, that is a
 /// run of the stage.
@@ -47,8 +56,7 @@ pub fn merge(alloc: Global, stage: Stage, logs: Vec<Log>) -> Result<History, Mem
     ensures run { IfOk result (λ h. (named : List ActorLog)
         → AreLogs named logs.items → Agree stage named → IsRun h) }
 {
-    let events = join(alloc, logs.as_slice())?;
-    let events = in_order(events)?;
+    let events = join_in_order(alloc, logs.as_slice())?;
     Ok(History {
         stage,
         events: List::of(events),

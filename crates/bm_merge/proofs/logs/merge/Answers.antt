@@ -8,6 +8,5 @@ use Rattle.bm_merge.proofs.logs.merge.Goals as goal
 pub returns-clause-run : goal.returns-clause-run
 returns-clause-run c = λ named are agree.
     joined_law (record { stage = c.args.stage; events = c.of.result }) named c.args.logs.items
-    (c.of.ensures ∙ c.in_ok-events-2.ensures
-    ∙ ap (λ (l : List Event). reverse (by_clock (reverse l))) c.in_ok-events.ensures
+    (c.of.ensures ∙ c.in_ok-events.ensures.order
     ∙ ap (λ (l : List (List Event)). reverse (by_clock (reverse (joined l)))) c.as_slice.ensures.value) are agree

@@ -1,0 +1,114 @@
+//! Logs whose clocks don't fall, merged event by event.
+ghost use Rattle.std.specs.Prelude.{◌≡◌, ◌<◌, ◌++◌, List, length, map, slice_get, Some, IfOk};
+ghost use Rattle.std.specs.List.{AllByRecursion};
+ghost use Rattle.bm_core.specs.declared.events.Event.{Event};
+ghost use Rattle.bm_merge.specs.Merges.{joined};
+ghost use Rattle.bm_merge.specs.Rising.{AreStanding, IsEarliest, IsRising, IsNextOf, in_order, lefts};
+
+use bm_base::Memory;
+use bm_core::Event;
+use std::alloc::{AllocError, Global};
+
+/// A log that is read event by event.
+pub trait EventLog {
+    /// The events, the oldest first.
+    ghost events: { Self → List Event };
+
+    /// How many events there are.
+    fn count(&self) -> usize
+        ensures { result ≡ length (events self.now) };
+
+    /// The event at this place.
+    fn event(&self, place: usize) -> Event
+        requires { place < length (events self.now) }
+        ensures { slice_get (events self.now) place ≡ Some result };
+}
+
+/// The next event of a log: which log it is, the event, and the place behind it.
+#[derive(Clone, Copy, Debug, PartialEq, Eq)]
+struct Head {
+    log: usize,
+    event: Event,
+    behind: usize,
+}
+
+/// The event of the log at this place, where there is one.
+fn head_at<L: EventLog>(logs: &[L], log: usize, place: usize) -> Option<Head>
+    requires { log < length logs.now }
+    ensures { IsNextOf (map L.events logs.now) log place result }
+{
+    if place < logs[log].count() {
+        let event = logs[log].event(place);
+        Some(Head {
+            log,
+            event,
+            behind: place + 1,
+        })
+    } else {
+        None
+    }
+}
+
+/// The first event of each log that has one.
+fn first_heads<L: EventLog>(alloc: Global, logs: &[L]) -> Result<Vec<Head>, AllocError>
+    requires { AllByRecursion IsRising (map L.events logs.now) }
+    ensures standing { IfOk result
+        (λ heads. AreStanding (map L.events logs.now) heads.items) }
+    ensures all { IfOk result
+        (λ heads. joined (lefts (map L.events logs.now) heads.items)
+        ≡ joined (map L.events logs.now)) }
+{
+    let mut heads = Vec::with_capacity(alloc, logs.len())?;
+    for log in 0..logs.len() {
+        if let Some(head) = head_at(logs, log, 0) {
+            heads.push(head)?;
+        }
+    }
+    Ok(heads)
+}
+
+/// The place of the head with the least clock, the first of these.
+fn earliest(heads: &[Head]) -> usize
+    requires { 0 < length heads.now }
+    ensures { IsEarliest heads.now result }
+{
+    let mut least = 0;
+    for place in 1..heads.len() {
+        if heads[place].event.clock < heads[least].event.clock {
+            least = place;
+        }
+    }
+    least
+}
+
+/// How many events the logs have.
+fn room_of<L: EventLog>(logs: &[L]) -> usize {
+    let mut room: usize = 0;
+    for log in logs {
+        room = room.saturating_add(log.count());
+    }
+    room
+}
+
+/// All events of the logs, whose clocks don't fall, by clock. Those of one clock stand in the order
+/// of the logs.
+pub fn merge_rising<L: EventLog>(alloc: Global, logs: &[L]) -> Result<Vec<Event>, Memory>
+    requires { AllByRecursion IsRising (map L.events logs.now) }
+    ensures { IfOk result
+        (λ events. events.items ≡ in_order (joined (map L.events logs.now))) }
+{
+    let mut heads = first_heads(alloc, logs)?;
+    let mut events = Vec::with_capacity(alloc, room_of(logs))?;
+    while !heads.is_empty() {
+        let at = earliest(&heads);
+        let Head { log, event, behind } = heads[at];
+        events.push(event)?;
+        match head_at(logs, log, behind) {
+            Some(head) => heads[at] = head,
+            None => {
+                heads.remove(at);
+            }
+        }
+    }
+    Ok(events)
+}
