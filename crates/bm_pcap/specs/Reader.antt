@@ -1,6 +1,6 @@
 -- A reader of a capture, and what its calls do.
 use Rattle.std.specs.Prelude.{◌≡◌, ℕ, ◌+◌, ◌≤◌, ◌-◌, List, [], length, drop, Option, Some, None}
-use Rattle.std.specs.Prelude.{Result, Ok, Err, IsErrOf}
+use Rattle.std.specs.Prelude.{Result, Ok, Err, IsErrOf, unwrap_or}
 use Rattle.std.specs.Io.KnownBytes.{prepend_known}
 use Rattle.bm_pcap.specs.declared.fault.PcapFault.{PcapFault}
 use Rattle.bm_pcap.specs.declared.fault.PcapFault.TheVariants.{Memory, ReadFault}
@@ -12,6 +12,7 @@ use Rattle.bm_pcap.specs.Limits.{widest}
 use Rattle.bm_pcap.specs.declared.step.Step.{Step}
 use Rattle.bm_pcap.specs.declared.step.Step.TheVariants as step
 use Rattle.bm_base.specs.declared.capture.Vip.{Vip}
+use Rattle.bm_pcap.specs.Began.{began}
 use Rattle.bm_pcap.specs.Capture.{Captured, capture}
 use Rattle.bm_pcap.specs.Causes.{HasStepCause, IsRecordFault}
 use Rattle.bm_pcap.specs.Header.{form_of}
@@ -165,6 +166,15 @@ abbrev pub ReadsCapture : {S : Type 0} → (S → Option (List ℕ)) → Reader 
 ReadsCapture left reader vips result =
     (octets : List ℕ) → StandsIn (left reader.source) reader.form octets
     → Captures (capture vips octets) result
+
+-- the captured time of record 1, or 0 before a record was answered
+abbrev pub time_began : {S : Type 0} → Reader S → ℕ
+time_began reader = unwrap_or reader.place.first 0
+
+-- A reader whose capture was read knows when it began.
+abbrev pub KnowsBegan : {S : Type 0} → (S → Option (List ℕ)) → Reader S → Reader S → Type 0
+KnowsBegan left old new =
+    (octets : List ℕ) → StandsIn (left old.source) old.form octets → time_began new ≡ began octets
 
 -- what a reader answers from now on, where its capture was read to the record that is cut short, or
 -- to the end

@@ -6,7 +6,9 @@ ghost use Rattle.bm_link.specs.Fits.{ArePackets};
 ghost use Rattle.bm_link.specs.Links.{is_link};
 ghost use Rattle.bm_pcap.specs.Causes.{HasStepCause, IsCaptureFault, IsHeaderFault, IsRecordFault};
 ghost use Rattle.bm_pcap.specs.Reader.{Advances, GivesNext, EndsWith, HasEnded, IsBounded, IsFresh};
-ghost use Rattle.bm_pcap.specs.Reader.{IsLast, ReadsCapture, StartLeaves, Starts, StartsWithCause};
+ghost use Rattle.bm_pcap.specs.Limits.{latest};
+ghost use Rattle.bm_pcap.specs.Reader.{IsLast, KnowsBegan, ReadsCapture, StartLeaves, Starts};
+ghost use Rattle.bm_pcap.specs.Reader.{StartsWithCause, time_began};
 
 use crate::PcapFault;
 use crate::form::{Form, read_form};
@@ -98,6 +100,13 @@ impl<S: Source> PcapReader<S> {
         self.form.link
     }
 
+    /// The captured time of record 1, in nanoseconds since 1970, or 0 before a record was answered.
+    pub fn began(&self) -> u64
+        ensures { result ≡ time_began self.now }
+    {
+        self.place.first.unwrap_or(0)
+    }
+
     /// The source, behind what was read ahead.
     pub fn into_source(self) -> S
         ensures { result ≡ self.source }
@@ -153,8 +162,9 @@ impl<S: Source> PcapReader<S> {
 
 /// Reads the records of a capture, classified for these services, and the packet of each. The
 /// reader is one that was not asked for a record yet. Afterwards it answers the end, the cut or the
-/// fault again, unless memory was refused. A fault is the first in order of place; `ReadFault`
-/// where the source failed, and `Memory` where memory was refused, may come at any place.
+/// fault again, unless memory was refused, and knows when the capture began. A fault is the first in
+/// order of place; `ReadFault` where the source failed, and `Memory` where memory was refused, may
+/// come at any place.
 pub fn read_capture<S: Source>(
     alloc: Global,
     r: &mut PcapReader<S>,
@@ -170,6 +180,8 @@ pub fn read_capture<S: Source>(
     ensures last { EndsWith S.left S.faults result r.new }
     ensures number { IfOk result (λ read. IfSome read.0.cut (λ n. r.new.place.number ≡ n)) }
     ensures open { IsErrOf result PcapFault.Memory → r.new.ended ≡ None }
+    ensures began { IfOk result (λ read. KnowsBegan S.left r.old r.new) }
+    ensures early { IfOk result (λ read. time_began r.new ≤ latest) }
     ensures cause { HasStepCause (S.faults r.old.source) (S.faults r.new.source) result }
 {
     let link = r.link();

@@ -1,4 +1,4 @@
-use Rattle.std.proofs.Common.{◌≡◌, ◌∷◌, [], None, ◌∙◌, ap, sym, arith, refl, Ok, length, Some, length-append}
+use Rattle.std.proofs.Common.{◌≡◌, ◌∷◌, [], None, ◌∙◌, ap, sym, arith, refl, Ok, length, Some, length-append, unwrap_or}
 use Rattle.std.proofs.lemmas.Result.{err_from_is_err_and}
 use Rattle.bm_base.specs.declared.capture.Capture.{Capture}
 use Rattle.bm_base.specs.declared.ids.Moment.{Moment}
@@ -11,6 +11,7 @@ use Rattle.bm_pcap.specs.declared.step.Step.TheVariants as step
 use Rattle.bm_pcap.specs.Records.{moment_at}
 use Rattle.bm_pcap.specs.Limits.{latest}
 use Rattle.bm_pcap.proofs.Rising.{rising_more, fit_more, moment_early, moment_late, replayable_so_far}
+use Rattle.bm_pcap.proofs.Began.{began_starts, began_more, began_ends, first_early}
 use Rattle.bm_pcap.proofs.Packets.{none_yet, packets_more}
 use Rattle.bm_pcap.proofs.Loop.{starts, stands_ahead, first_number, gave, last_of, stepped, failed, answered}
 use Rattle.bm_pcap.proofs.Loop.{cause_from, cause_still, wants_memory, at_cut, at_end, at_fault, goes_on}
@@ -23,6 +24,9 @@ loop-packets-init g c =
       so_far = λ octets stands. rw (c.new-records.ensures.items, c.new-packets.ensures)
           (starts _ c.args.r.now.form c.args.vips.now c.args.r.now.place octets
           (stands_ahead _ c.args.r.now.held c.args.r.now.form octets c.requires.2 stands) c.requires.0);
+      began = λ octets stands. began_starts _ c.args.r.now.form c.args.r.now.place octets
+          (stands_ahead _ c.args.r.now.held c.args.r.now.form octets c.requires.2 stands) c.requires.0;
+      soon = rw c.requires.0 (omega arith);
       count = rw c.new-packets.ensures (sym one);
       few = omega (arith, one);
       form = refl;
@@ -71,6 +75,10 @@ loop-packets-preserved g c =
           c.loop-packets.packets given.0 c.in-Record.octets.now _ c.in-Record.moment c.classify-body.result.0
           c.classify-body.result.1.now (c.loop-packets.invariant.so_far octets stands) f.0 f.2.0.0 given.1.3 moment
           class);
+      began = λ octets stands. rw (f.2.1, place)
+          (began_more _ _ c.loop-packets.r.form c.loop-packets.r.place given.0 _ _ _
+          (c.loop-packets.invariant.began octets stands) f.0);
+      soon = rw place (first_early c.loop-packets.r.place.first given.0 c.loop-packets.invariant.soon f.2.0.3);
       count = omega (
         arith,
         ap length c.in_ok-push-in-Record-2.ensures.ok,
@@ -198,3 +206,45 @@ returns-in-End-clause-cause g c =
     let f = answered g.S.Source.left g.S.Source.faults c.loop-packets.r c.next.follows.lender-at-none c.next.result _
     c.loop-packets.invariant.fresh c.next.follows.holds-at-none.0 c.in_ok-moment.was in
     cause_still _ _ _ (f ∙ c.loop-packets.invariant.kept) (λ is. cc)
+
+pub returns-in-Cut-clause-began : goal.returns-in-Cut-clause-began
+returns-in-Cut-clause-began g c octets stands =
+    let given =
+    gave g.S.Source.left g.S.Source.faults c.loop-packets.r c.next.follows.lender-at-none c.next.result
+    (item.Cut c.in-Cut.number) c.next.follows.holds-at-none.0
+    (c.in_ok-moment.was ∙ ap (λ (a : Item). Ok a) c.in-Cut.is) in
+    let f = stepped g.S.Source.left g.S.Source.faults c.loop-packets.r c.next.follows.lender-at-none step.Cut
+    c.loop-packets.invariant.fresh given.0 in
+    ap (λ (p : Place). unwrap_or p.first 0) f.2.1
+    ∙ began_ends _ _ c.loop-packets.r.form c.loop-packets.r.place step.Cut _ _ tt
+    (c.loop-packets.invariant.began octets stands) f.0
+
+pub returns-in-End-clause-began : goal.returns-in-End-clause-began
+returns-in-End-clause-began g c octets stands =
+    let given =
+    gave g.S.Source.left g.S.Source.faults c.loop-packets.r c.next.follows.lender-at-none c.next.result item.End
+    c.next.follows.holds-at-none.0 (c.in_ok-moment.was ∙ ap (λ (a : Item). Ok a) c.in-End.is) in
+    let f = stepped g.S.Source.left g.S.Source.faults c.loop-packets.r c.next.follows.lender-at-none step.End
+    c.loop-packets.invariant.fresh given in
+    ap (λ (p : Place). unwrap_or p.first 0) f.2.1
+    ∙ began_ends _ _ c.loop-packets.r.form c.loop-packets.r.place step.End _ _ tt
+    (c.loop-packets.invariant.began octets stands) f.0
+
+pub returns-in-Cut-clause-early : goal.returns-in-Cut-clause-early
+returns-in-Cut-clause-early g c =
+    let given =
+    gave g.S.Source.left g.S.Source.faults c.loop-packets.r c.next.follows.lender-at-none c.next.result
+    (item.Cut c.in-Cut.number) c.next.follows.holds-at-none.0
+    (c.in_ok-moment.was ∙ ap (λ (a : Item). Ok a) c.in-Cut.is) in
+    let f = stepped g.S.Source.left g.S.Source.faults c.loop-packets.r c.next.follows.lender-at-none step.Cut
+    c.loop-packets.invariant.fresh given.0 in
+    rw f.2.1 c.loop-packets.invariant.soon
+
+pub returns-in-End-clause-early : goal.returns-in-End-clause-early
+returns-in-End-clause-early g c =
+    let given =
+    gave g.S.Source.left g.S.Source.faults c.loop-packets.r c.next.follows.lender-at-none c.next.result item.End
+    c.next.follows.holds-at-none.0 (c.in_ok-moment.was ∙ ap (λ (a : Item). Ok a) c.in-End.is) in
+    let f = stepped g.S.Source.left g.S.Source.faults c.loop-packets.r c.next.follows.lender-at-none step.End
+    c.loop-packets.invariant.fresh given in
+    rw f.2.1 c.loop-packets.invariant.soon
