@@ -5,4 +5,5 @@ pub mod Orders
 pub mod Heads
 pub mod Steps
 pub mod Loop
+pub mod Began
 pub mod Starts

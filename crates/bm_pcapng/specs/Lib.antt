@@ -5,6 +5,7 @@ pub mod Blocks
 pub mod Contents
 pub mod Places
 pub mod Capture
+pub mod Began
 pub mod Causes
 pub mod Parts
 pub mod Reader

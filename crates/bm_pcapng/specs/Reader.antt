@@ -18,6 +18,7 @@ use Rattle.bm_pcapng.specs.declared.reader.Stop.TheVariants as stop
 use Rattle.bm_pcapng.specs.declared.section.Section.{Section}
 use Rattle.bm_pcapng.specs.declared.step.Step.{Step}
 use Rattle.bm_pcapng.specs.declared.step.Step.TheVariants.{Block, Cut, End}
+use Rattle.bm_pcapng.specs.Began.{began, time_or_zero}
 use Rattle.bm_pcapng.specs.Blocks.{next_of}
 use Rattle.bm_pcapng.specs.Capture.{Captured, capture, first_order}
 use Rattle.bm_pcapng.specs.Causes.{HasStepCause, IsBlockFault}
@@ -194,6 +195,15 @@ abbrev pub ReadsCapture : {S : Type 0} → (S → Option (List ℕ)) → Reader 
 ReadsCapture left reader vips result =
     (octets : List ℕ) → StandsIn (to_come left reader) reader.order octets
     → Captures (capture vips octets) result
+
+-- the time of the first packet that has one, or 0 before a packet was answered
+abbrev pub time_began : {S : Type 0} → Reader S → ℕ
+time_began reader = time_or_zero reader.place.first
+
+-- A reader whose capture was read knows when it began.
+abbrev pub KnowsBegan : {S : Type 0} → (S → Option (List ℕ)) → Reader S → Reader S → Type 0
+KnowsBegan left old new =
+    (octets : List ℕ) → StandsIn (to_come left old) old.order octets → time_began new ≡ began octets
 
 -- what a reader answers from now on, where its capture was read to the record that is cut short, or
 -- to the end

@@ -15,7 +15,7 @@ pub const LONGEST_BLOCK: usize = 16_777_216;
 pub const MOST_INTERFACES: usize = 1024;
 
 /// No captured moment is later, in nanoseconds.
-const LATEST: u64 = 4_400_000_000_000_000_000;
+pub(crate) const LATEST: u64 = 4_400_000_000_000_000_000;
 
 /// The numbers of the next block and of the next record, how many octets the capture may have from
 /// here on, the time of the first packet that has one, and the moment of the record before.

@@ -9,12 +9,12 @@ ghost use Rattle.bm_pcapng.specs.Limits.{longest_block};
 ghost use Rattle.bm_pcapng.specs.Capture.{classified_by};
 ghost use Rattle.bm_pcapng.specs.Causes.{HasStepCause, IsBlockFault, IsCaptureFault, IsStartFault};
 ghost use Rattle.bm_pcapng.specs.Reader.{Advances, EndsWith, GivesNext, GivesStop, HasEnded};
-ghost use Rattle.bm_pcapng.specs.Reader.{IsBounded, IsFresh, IsStopLast, OpensIn};
-ghost use Rattle.bm_pcapng.specs.Reader.{ReadsCapture, Starts, StartsWithCause, octets_in};
+ghost use Rattle.bm_pcapng.specs.Reader.{IsBounded, IsFresh, IsStopLast, KnowsBegan, OpensIn};
+ghost use Rattle.bm_pcapng.specs.Reader.{ReadsCapture, Starts, StartsWithCause, octets_in, time_began};
 ghost use Rattle.bm_pcapng.specs.Parts.{IsLast, last_of};
 
 use crate::item::NgItem;
-use crate::place::LONGEST_BLOCK;
+use crate::place::{LATEST, LONGEST_BLOCK};
 use crate::section::Section;
 use crate::step::{Step, look, read_order, read_step};
 use crate::{NgFault, Packet, Place};
@@ -92,6 +92,14 @@ impl<S: Source> NgReader<S> {
             }),
             Err(e) => Err((window.into_source(), e)),
         }
+    }
+
+    /// The time of the first packet that has one, in nanoseconds since 1970 and at most
+    /// 4,400,000,000,000,000,000, or 0 before such a packet was answered.
+    pub fn began(&self) -> u64
+        ensures { result ≡ time_began self.now }
+    {
+        self.place.first.unwrap_or(0).min(u128::from(LATEST)) as u64
     }
 
     /// The source, behind what was read ahead.
@@ -201,8 +209,9 @@ fn open<S: Source>(alloc: Global, window: &mut Window<S>) -> Result<Section, NgF
 
 /// Reads the records of a capture, classified for these services, and the packet of each. The
 /// reader is one whose `next` was not called yet. Afterwards it answers the end, the cut or the
-/// fault again, unless memory was refused. A fault is the first in order of place; `ReadFault`
-/// where the source failed, and `Memory` where memory was refused, may come at any place.
+/// fault again, unless memory was refused, and knows when the capture began. A fault is the first in
+/// order of place; `ReadFault` where the source failed, and `Memory` where memory was refused, may
+/// come at any place.
 pub fn read_ng<S: Source>(
     alloc: Global,
     r: &mut NgReader<S>,
@@ -217,6 +226,7 @@ pub fn read_ng<S: Source>(
     ensures last { EndsWith S.left S.faults result r.new }
     ensures number { IfOk result (λ read. IfSome read.0.cut (λ n. r.new.place.number ≡ n)) }
     ensures open { IsErrOf result NgFault.Memory → r.new.ended ≡ None }
+    ensures began { IfOk result (λ read. KnowsBegan S.left r.old r.new) }
     ensures cause { HasStepCause (S.faults r.old.source) (S.faults r.new.source) result }
 {
     let mut records = Vec::new(alloc);

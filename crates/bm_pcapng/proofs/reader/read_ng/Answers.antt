@@ -13,6 +13,8 @@ use Rattle.bm_pcapng.specs.declared.step.Step.{Step}
 use Rattle.bm_pcapng.specs.declared.step.Step.TheVariants.{Block, Cut, End}
 use Rattle.bm_pcapng.specs.Places.{moment_at}
 use Rattle.bm_pcapng.specs.Reader.{Reader}
+use Rattle.bm_pcapng.specs.Began.{time_or_zero}
+use Rattle.bm_pcapng.proofs.Began.{began_starts, began_more, began_ends, knows_began}
 use Rattle.bm_pcapng.proofs.Loop.{advanced, at_cut, at_end, at_fault, cause_from, cause_still, gave, goes_on, holds_packet}
 use Rattle.bm_pcapng.proofs.Loop.{last_fault, moment_early, moment_late, passes_over, place_of, place_passed, starts}
 use Rattle.bm_pcapng.proofs.Loop.{without_packet}
@@ -27,6 +29,8 @@ loop-packets-init g c =
       so_far = λ octets stands. rw (c.new-records.ensures.items, c.new-packets.ensures)
           (starts _ c.args.r.now.order c.args.r.now.interfaces c.args.vips.now c.args.r.now.place octets stands
           c.requires.0 c.requires.2);
+      began = λ octets stands. began_starts _ c.args.r.now.order c.args.r.now.interfaces c.args.r.now.place octets
+          stands c.requires.0 c.requires.2;
       count = rw c.new-packets.ensures (sym one);
       few = omega (arith, one);
       room = omega (arith, room);
@@ -78,6 +82,9 @@ loop-packets-preserved-in_default g c =
           (passes_over _ _ c.loop-packets.r.order c.loop-packets.r.interfaces c.args.vips.now _ c.loop-packets.r.place
           c.loop-packets.records.items c.loop-packets.packets c.in-Block.size content _
           (c.loop-packets.invariant.so_far octets stands) f.0 over few);
+      began = λ octets stands. rw (f.2.1, f.2.2, f.2.3)
+          (began_more _ _ c.loop-packets.r.order c.loop-packets.r.interfaces c.loop-packets.r.place c.in-Block.size
+          content _ _ (c.loop-packets.invariant.began octets stands) f.0 few);
       count = c.loop-packets.invariant.count ∙ sym number;
       few = omega (arith, number, c.loop-packets.invariant.few);
       room = omega (arith, block, room, c.loop-packets.invariant.room, f.2.0.0, f.2.0.2);
@@ -179,6 +186,9 @@ loop-packets-preserved g c =
           c.loop-packets.records.items c.loop-packets.packets n packet c.octets.result.now _ c.r.inside.place.last
           c.classify_by-body.result.0 c.classify_by-body.result.1.now (c.loop-packets.invariant.so_far octets stands) f.0
           few f.2.0.4.1 c.octets.ensures.octets moment c.classify_by-body.ensures.class);
+      began = λ octets stands. rw (f.2.1, f.2.2, place)
+          (began_more _ _ c.loop-packets.r.order c.loop-packets.r.interfaces c.loop-packets.r.place n (Holds packet) _ _
+          (c.loop-packets.invariant.began octets stands) f.0 few);
       count = omega (
         arith,
         ap length c.in_ok-push-2.ensures.ok,
@@ -202,3 +212,25 @@ loop-packets-preserved g c =
       fresh = f.2.4;
       kept = f.1.kept (λ is. cc) ∙ c.loop-packets.invariant.kept;
     }
+
+pub returns-in-Cut-clause-began : goal.returns-in-Cut-clause-began
+returns-in-Cut-clause-began g c octets stands =
+    let a = gave g.S.Source.left g.S.Source.faults c.loop-packets.r c.advance.new.self c.advance.result (Ok Cut)
+    c.advance.ensures.advances (c.in_ok-size.was ∙ ap (λ (s : Step). Ok s) c.in-Cut.is) in
+    let f = advanced g.S.Source.left g.S.Source.faults c.loop-packets.r c.advance.new.self (Ok Cut)
+    c.loop-packets.invariant.fresh a in
+    ap (λ (p : Place). time_or_zero p.first) f.2.2
+    ∙ knows_began c.loop-packets.r.place.first octets
+    (began_ends _ _ c.loop-packets.r.order c.loop-packets.r.interfaces c.loop-packets.r.place Cut _ _ tt
+    (c.loop-packets.invariant.began octets stands) f.0)
+
+pub returns-in-End-clause-began : goal.returns-in-End-clause-began
+returns-in-End-clause-began g c octets stands =
+    let a = gave g.S.Source.left g.S.Source.faults c.loop-packets.r c.advance.new.self c.advance.result (Ok End)
+    c.advance.ensures.advances (c.in_ok-size.was ∙ ap (λ (s : Step). Ok s) c.in-End.is) in
+    let f = advanced g.S.Source.left g.S.Source.faults c.loop-packets.r c.advance.new.self (Ok End)
+    c.loop-packets.invariant.fresh a in
+    ap (λ (p : Place). time_or_zero p.first) f.2.2
+    ∙ knows_began c.loop-packets.r.place.first octets
+    (began_ends _ _ c.loop-packets.r.order c.loop-packets.r.interfaces c.loop-packets.r.place End _ _ tt
+    (c.loop-packets.invariant.began octets stands) f.0)

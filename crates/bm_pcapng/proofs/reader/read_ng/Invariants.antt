@@ -4,8 +4,10 @@ use Rattle.bm_base.specs.Captures.{AreRising, IsFit}
 use Rattle.bm_link.specs.Fits.{ArePackets}
 use Rattle.bm_pcap.specs.Limits.{latest, most_octets, most_records}
 use Rattle.bm_pcap.proofs.Rising.{moments}
-use Rattle.bm_pcapng.specs.Capture.{capture}
+use Rattle.bm_pcapng.specs.Began.{first_time}
+use Rattle.bm_pcapng.specs.Capture.{capture, first_order}
 use Rattle.bm_pcapng.specs.Reader.{StandsIn, to_come}
+use Rattle.bm_pcapng.proofs.Began.{BeganAt}
 use Rattle.bm_pcapng.proofs.Loop.{SoFar}
 use Rattle.bm_pcapng.proofs.reader.read_ng.Given as goal
 
@@ -14,6 +16,8 @@ invariant-loop-packets g l = record {
   so_far : (octets : List ℕ) → StandsIn (to_come g.S.Source.left l.fn.r) l.fn.r.order octets
       → SoFar (to_come g.S.Source.left l.r) l.r.order l.r.interfaces l.vips (capture l.vips octets) l.r.place
       l.records.items l.packets;
+  began : (octets : List ℕ) → StandsIn (to_come g.S.Source.left l.fn.r) l.fn.r.order octets
+      → BeganAt (to_come g.S.Source.left l.r) l.r.order l.r.interfaces l.r.place (first_time octets (first_order octets));
   count : length l.packets + 1 ≡ l.r.place.number;
   few : l.r.place.number ≤ most_records + 1;
   room : l.r.place.block + l.r.place.room ≤ most_octets + 1;
