@@ -30,7 +30,11 @@ pub holds_more : (told : Octets) (fact more : Reads → Type 0) → ((reads : Re
 holds_more told fact more by h = record { reads = h.reads; known = h.known; holds = by h.reads h.holds }
 
 abbrev nothing : Reads
-nothing = record { script = λ name. Err WantsMemory; capture = λ name vips. Err NoMemory }
+nothing = record {
+  script = λ name. Err WantsMemory;
+  capture = λ name vips. Err NoMemory;
+  began = λ name. 0;
+}
 
 pub holds_any : (told : Octets) (fact : Reads → Type 0) → ((reads : Reads) → fact reads) → Holds told fact
 holds_any None fact any = record { reads = nothing; known = tt; holds = any nothing }

@@ -1,3 +1,4 @@
+pub mod Began
 pub mod Ending
 pub mod Faults
 pub mod Laws

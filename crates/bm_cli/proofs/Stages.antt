@@ -1,6 +1,6 @@
 -- What was read of the script and of the capture is the stage that is due, or its fault.
 use Rattle.std.proofs.Common.{◌≡◌, ◌≢◌, ◌⊎◌, inl, inr, ℕ, List, [], ◌∷◌, ◌++◌, Option, Some, None, Result, Ok, Err}
-use Rattle.std.proofs.Common.{IsErrAnd, IsSome, sym, ap, subst, ◌∙◌, refl}
+use Rattle.std.proofs.Common.{IfOk, IsErrAnd, IsSome, sym, ap, subst, ◌∙◌, refl}
 use Rattle.std.specs.Prelude.{◌≤◌, IsErrOf}
 use Rattle.std.specs.Result.{result_map_both}
 use Rattle.bm_base.specs.declared.capture.Vip.{Vip}
@@ -19,14 +19,16 @@ use Rattle.bm_cli.specs.declared.mode.Mode.{Mode}
 use Rattle.bm_cli.specs.declared.mode.Mode.TheVariants.{Replay, Run}
 use Rattle.bm_cli.specs.declared.status.Status.TheVariants.{ReadFault, Memory}
 use Rattle.bm_cli.specs.Dues.{names_behind}
-use Rattle.bm_cli.specs.Inside.Captures.{Captures, HasReadCause, ReadsFile}
+use Rattle.bm_cli.specs.Ends.{AsksFor}
+use Rattle.bm_cli.specs.Inside.Captures.{Captures, FileBegan, HasReadCause, ReadsFile}
 use Rattle.bm_cli.specs.Inside.Scripts.{IsOutside, IsRead, ReadsScript}
 use Rattle.bm_cli.specs.Inside.Stages.{ReadsStage, status_by}
 use Rattle.bm_cli.specs.Lines.{capture_status, fault_status}
 use Rattle.bm_cli.specs.Names.{AsksAll, AsksPrefix, names_in, script_names}
-use Rattle.bm_cli.specs.Reading.{Holds, Octets, Reads, if_taken, reading, reads_of, script_by, script_for, taken}
+use Rattle.bm_cli.specs.Reading.{Holds, Octets, Reading, Reads, if_taken, reading, reads_of, script_by, script_for, taken}
 use Rattle.bm_cli.specs.Reading.{with_capture, with_script}
 use Rattle.bm_cli.specs.Statuses.{FilesDid}
+use Rattle.bm_cli.proofs.Ending.{holds_more}
 use Rattle.bm_cli.proofs.Names.{all_then, asks_more, asks_then}
 use Rattle.bm_cli.proofs.Readings.{rose_later}
 
@@ -36,8 +38,24 @@ behind_opens name [] = λ e. cc
 behind_opens name (x ∷ xs) = λ e. cc
 
 -- the reads where the files tell nothing: whatever was read
-abbrev just : Result Script StageFault → Captured → Reads
-just script captured = record { script = λ name. script; capture = λ name vips. captured }
+abbrev just : Result Script StageFault → Captured → ℕ → Reads
+just script captured time = record {
+  script = λ name. script;
+  capture = λ name vips. captured;
+  began = λ name. time;
+}
+
+-- of a stage that was read this is when its capture began
+abbrev pub BeganWith : {A : Type 0} → Result A CaptureFault → ℕ → List ℕ → Reads → Type 0
+BeganWith r time name reads = IfOk r (λ read. time ≡ reads.began name)
+
+-- what was read, without when the capture began
+pub stage_alone : (mode : Mode) (names : Named) (told : Octets) (files : FilesDid) (r : Reading) (more : Reads → Type 0) →
+    Holds told (λ reads. ReadsStage mode names reads files r × more reads) →
+    Holds told (λ reads. ReadsStage mode names reads files r)
+stage_alone mode names told files r more both =
+    holds_more told (λ reads. ReadsStage mode names reads files r × more reads)
+    (λ reads. ReadsStage mode names reads files r) (λ reads h. h.0) both
 
 -- THE SCRIPT WAS REFUSED
 
@@ -47,9 +65,9 @@ Refused fault name reads = IsRead (script_for reads name) (Err fault)
 -- by some reads, which are those of the files where they tell them
 refused_some : (told : Octets) (name : Option (List ℕ)) (fault : StageFault) → ReadsScript told name (Err fault) →
     Holds told (Refused fault name)
-refused_some None None fault read = record { reads = just (Err fault) (Err NoMemory); known = tt; holds = read }
+refused_some None None fault read = record { reads = just (Err fault) (Err NoMemory) 0; known = tt; holds = read }
 refused_some None (Some name) fault read =
-    record { reads = just (Err fault) (Err NoMemory); known = tt; holds = inr refl }
+    record { reads = just (Err fault) (Err NoMemory) 0; known = tt; holds = inr refl }
 refused_some (Some octets) None fault read = record { reads = reads_of octets; known = refl; holds = read }
 refused_some (Some octets) (Some name) fault read = record { reads = reads_of octets; known = refl; holds = read }
 
@@ -171,40 +189,54 @@ captures_self (Err (BadLength number n)) = refl
 captures_self (Err TooManyPackets) = refl
 captures_self (Err NoMemory) = tt
 
--- this script is read, and this capture
-record Gives (names : Named) (script : Script) (r : Captured) (reads : Reads) : Type 0 where
+any_time : (r : Captured) (time : ℕ) → IfOk r (λ read. time ≡ time)
+any_time (Ok read) time = refl
+any_time (Err fault) time = tt
+
+-- this script is read, and this capture, which began at this time
+record Gives (names : Named) (script : Script) (r : Captured) (time : ℕ) (reads : Reads) : Type 0 where
   pub first : script_for reads names.script ≡ Ok script
   pub second : Captures (reads.capture names.capture script.setting.vips) r
+  pub third : BeganWith r time names.capture reads
 
 -- by some reads, which are those of the files where they tell them
-gives_some : (names : Named) (told : Octets) (script : Script) (r : Captured) (name : Option (List ℕ)) →
+gives_some : (names : Named) (told : Octets) (script : Script) (r : Captured) (time : ℕ) (name : Option (List ℕ)) →
     names.script ≡ name → ReadsScript told name (Ok script) →
-    ReadsFile told names.capture script.setting.vips r → Holds told (Gives names script r)
-gives_some names None script r None is first second = record {
-  reads = just (Ok script) r;
+    ReadsFile told names.capture script.setting.vips r → IfOk r (λ read. FileBegan told names.capture time) →
+    Holds told (Gives names script r time)
+gives_some names None script r time None is first second third = record {
+  reads = just (Ok script) r time;
   known = tt;
-  holds = record { first = ap (script_for (just (Ok script) r)) is ∙ first; second = captures_self r };
+  holds = record {
+    first = ap (script_for (just (Ok script) r time)) is ∙ first;
+    second = captures_self r;
+    third = any_time r time;
+  };
 }
-gives_some names None script r (Some name) is first second = record {
-  reads = just (Ok script) r;
+gives_some names None script r time (Some name) is first second third = record {
+  reads = just (Ok script) r time;
   known = tt;
-  holds = record { first = ap (script_for (just (Ok script) r)) is; second = captures_self r };
+  holds = record {
+    first = ap (script_for (just (Ok script) r time)) is;
+    second = captures_self r;
+    third = any_time r time;
+  };
 }
-gives_some names (Some octets) script r None is first second = record {
+gives_some names (Some octets) script r time None is first second third = record {
   reads = reads_of octets;
   known = refl;
-  holds = record { first = ap (script_for (reads_of octets)) is ∙ first; second = second };
+  holds = record { first = ap (script_for (reads_of octets)) is ∙ first; second = second; third = third };
 }
-gives_some names (Some octets) script r (Some name) is first second = record {
+gives_some names (Some octets) script r time (Some name) is first second third = record {
   reads = reads_of octets;
   known = refl;
-  holds = record { first = ap (script_for (reads_of octets)) is ∙ first; second = second };
+  holds = record { first = ap (script_for (reads_of octets)) is ∙ first; second = second; third = third };
 }
 
-gives_reading : (mode : Mode) (names : Named) (script : Script) (r : Captured) (reads : Reads) →
-    taken mode script ≡ Ok script → Gives names script r reads →
+gives_reading : (mode : Mode) (names : Named) (script : Script) (r : Captured) (time : ℕ) (reads : Reads) →
+    taken mode script ≡ Ok script → Gives names script r time reads →
     IsRead (reading mode names reads) (with_capture script r)
-gives_reading mode names script r reads takes gives =
+gives_reading mode names script r time reads takes gives =
     let wanted = reads.capture names.capture script.setting.vips in
     subst
     (λ (s : Result Script StageFault). IsRead (with_script s (reads.capture names.capture)) (with_capture script r))
@@ -216,32 +248,35 @@ memory_by script (Ok read) h = absurd (cc)
 memory_by script (Err fault) h = let is : fault ≡ NoMemory = cc in ap capture_status is
 
 pub capture_read : (mode : Mode) (names : Named) (told : Octets) (files : FilesDid) (mid : Option (List (List ℕ)))
-    (script : Script) (r : Captured) → HasScript mode names → taken mode script ≡ Ok script →
+    (script : Script) (r : Captured) (time : ℕ) → HasScript mode names → taken mode script ≡ Ok script →
     ReadsScript told names.script (Ok script) →
-    ReadsFile told names.capture script.setting.vips r →
+    ReadsFile told names.capture script.setting.vips r → IfOk r (λ read. FileBegan told names.capture time) →
     AsksAll files.before mid (script_names names.script) →
     AsksPrefix mid files.now (names.capture ∷ []) →
     IsErrOf r NoMemory ⊎ AsksAll mid files.now (names.capture ∷ []) →
     (status_by (with_capture script r) ≡ ReadFault → Rose files.faults files.later) →
     (status_by (with_capture script r) ≢ ReadFault → files.later ≡ files.faults) →
-    Holds told (λ reads. ReadsStage mode names reads files (with_capture script r))
-capture_read mode names told files mid script r has takes first second before part all rose kept =
-    let found = gives_some names told script r names.script refl first second in
+    Holds told
+    (λ reads. ReadsStage mode names reads files (with_capture script r) × BeganWith r time names.capture reads)
+capture_read mode names told files mid script r time has takes first second third before part all rose kept =
+    let found = gives_some names told script r time names.script refl first second third in
+    let asks : AsksFor (names_behind names (script_by mode found.reads names.script))
+    (status_by (with_capture script r)) files = record {
+      some = behind (AsksPrefix files.before files.now) (ap (if_taken mode) found.holds.first ∙ takes)
+          (asks_then files.before mid files.now (script_names names.script) (names.capture ∷ []) before part);
+      all = λ read memory. behind (AsksAll files.before files.now)
+          (ap (if_taken mode) found.holds.first ∙ takes) (whole all memory);
+      rose = rose;
+      kept = λ read memory. kept read;
+      opens = λ e. names_open mode names found.reads has;
+    } in
     record {
       reads = found.reads;
       known = found.known;
-      holds = record {
-        read = gives_reading mode names script r found.reads takes found.holds;
-        asks = record {
-          some = behind (AsksPrefix files.before files.now) (ap (if_taken mode) found.holds.first ∙ takes)
-              (asks_then files.before mid files.now (script_names names.script) (names.capture ∷ []) before part);
-          all = λ read memory. behind (AsksAll files.before files.now)
-              (ap (if_taken mode) found.holds.first ∙ takes) (whole all memory);
-          rose = rose;
-          kept = λ read memory. kept read;
-          opens = λ e. names_open mode names found.reads has;
-        };
-      };
+      holds = (
+        record { read = gives_reading mode names script r time found.reads takes found.holds; asks = asks },
+        found.holds.third,
+      );
     }
   where
     behind : (fact : List (List ℕ) → Type 0) {s : Result Script StageFault} → s ≡ Ok script →
@@ -282,10 +317,10 @@ read_some names told script read = by told names.script refl read where
   by : (told : Octets) (name : Option (List ℕ)) → names.script ≡ name → ReadsScript told name (Ok script) →
       Holds told (λ reads. script_for reads names.script ≡ Ok script)
   by None None is read =
-      let reads = just (Ok script) (Err NoMemory)
+      let reads = just (Ok script) (Err NoMemory) 0
       in record { reads = reads; known = tt; holds = ap (script_for reads) is ∙ read }
   by None (Some name) is read =
-      let reads = just (Ok script) (Err NoMemory)
+      let reads = just (Ok script) (Err NoMemory) 0
       in record { reads = reads; known = tt; holds = ap (script_for reads) is }
   by (Some octets) None is read =
       record { reads = reads_of octets; known = refl; holds = ap (script_for (reads_of octets)) is ∙ read }
@@ -335,22 +370,25 @@ source_failed script (Err TooManyPackets) e = absurd (cc)
 source_failed script (Err NoMemory) e = absurd (cc)
 
 pub captured_stage : (mode : Mode) (names : Named) (told then : Octets) (files : FilesDid)
-    (mid : Option (List (List ℕ))) (script : Script) (vips : List Vip) (r : Captured) (faults : ℕ) →
+    (mid : Option (List (List ℕ))) (script : Script) (vips : List Vip) (r : Captured) (time faults : ℕ) →
     HasScript mode names → taken mode script ≡ Ok script →
     then ≡ told → vips ≡ script.setting.vips →
     ReadsScript told names.script (Ok script) → ReadsFile then names.capture vips r →
+    IfOk r (λ read. FileBegan then names.capture time) →
     IsErrAnd (read_ok script) IsOutside ⊎ AsksAll files.before mid (script_names names.script) →
     AsksPrefix mid files.now (names.capture ∷ []) →
     IsErrOf r NoMemory ⊎ AsksAll mid files.now (names.capture ∷ []) →
     files.faults ≤ faults →
     IsErrAnd (read_ok script) (λ fault. fault_status fault ≡ ReadFault) ⊎ (faults ≡ files.faults) →
     HasReadCause faults files.later r →
-    Holds told (λ reads. ReadsStage mode names reads files (with_capture script r))
-captured_stage mode names told then files mid script vips r faults has takes same served first second before part all
-    low kept cause =
-    capture_read mode names told files mid script r has takes first
+    Holds told
+    (λ reads. ReadsStage mode names reads files (with_capture script r) × BeganWith r time names.capture reads)
+captured_stage mode names told then files mid script vips r time faults has takes same served first second third before
+    part all low kept cause =
+    capture_read mode names told files mid script r time has takes first
     (subst (λ t. ReadsFile t names.capture script.setting.vips r) same
     (subst (λ v. ReadsFile then names.capture v r) served second))
+    (subst (λ t. IfOk r (λ read. FileBegan t names.capture time)) same third)
     (asked_ok script files mid (script_names names.script) before) part all
     (λ e. rose_later files.faults faults files.later low (cause.failed (source_failed script r e)))
     (λ read. cause.kept (λ e. read (ap (λ (c : Captured). status_by (with_capture script c)) e))
@@ -358,10 +396,13 @@ captured_stage mode names told then files mid script vips r faults has takes sam
 
 -- a fault that came through `?`
 pub stage_through : {A : Type 0} (mode : Mode) (names : Named) (told : Octets) (files : FilesDid)
-    (r : Result (Stage × A) StageFault) (fault : StageFault) → IsErrAnd r (λ e. e ≡ fault) →
+    (r : Result (Stage × A × ℕ) StageFault) (fault : StageFault) → IsErrAnd r (λ e. e ≡ fault) →
     Holds told (λ reads. ReadsStage mode names reads files (Err fault)) →
     Holds told (λ reads.
-    ReadsStage mode names reads files (result_map_both (λ read. read.0) (λ fault. fault) r))
+    ReadsStage mode names reads files (result_map_both (λ read. read.0) (λ fault. fault) r)
+    × IfOk r (λ read. read.2 ≡ reads.began names.capture))
 stage_through mode names told files (Ok x) fault is holds = absurd is
 stage_through mode names told files (Err e) fault is holds =
-    subst (λ f. Holds told (λ reads. ReadsStage mode names reads files (Err f))) (sym is) holds
+    holds_more told (λ reads. ReadsStage mode names reads files (Err fault))
+    (λ reads. ReadsStage mode names reads files (Err e) × Unit {0})
+    (λ reads h. (subst (λ f. ReadsStage mode names reads files (Err f)) (sym is) h, tt)) holds

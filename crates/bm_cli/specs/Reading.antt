@@ -8,7 +8,7 @@ use Rattle.bm_script.specs.Scripts.{script_of}
 use Rattle.bm_core.specs.declared.events.Stage.{Stage}
 use Rattle.bm_words.specs.Form.{Named}
 use Rattle.bm_world.specs.Seats.{seats_of}
-use Rattle.bm_cli.specs.Captures.{Captured, capture}
+use Rattle.bm_cli.specs.Captures.{Captured, began, capture}
 use Rattle.bm_cli.specs.declared.fault.StageFault.{StageFault}
 use Rattle.bm_cli.specs.declared.fault.StageFault.TheVariants.{LongScript, Seats}
 use Rattle.bm_cli.specs.declared.fault.StageFault.TheVariants.{Script as of_script}
@@ -23,10 +23,11 @@ use Rattle.bm_cli.specs.Plain.{plain_script}
 abbrev pub Octets : Type 0
 Octets = Option (List ℕ → List ℕ)
 
--- what is read under each name: a script, and the capture of these services
+-- what is read under each name: a script, the capture of these services, and when it began
 pub record Reads : Type 0 where
   pub script : List ℕ → Result Script StageFault
   pub capture : List ℕ → List Vip → Captured
+  pub began : List ℕ → ℕ
 
 abbrev pub with_script_fault : Result Script ScriptFault → Result Script StageFault
 with_script_fault (Ok script) = Ok script
@@ -42,6 +43,7 @@ abbrev pub reads_of : (List ℕ → List ℕ) → Reads
 reads_of octets = record {
   script = λ name. script_in (octets name);
   capture = λ name vips. capture vips (octets name);
+  began = λ name. began (octets name);
 }
 
 -- these are read, where the files tell their octets; else they may be any

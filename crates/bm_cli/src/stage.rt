@@ -1,8 +1,9 @@
 //! The stage: the script and the capture that the words name.
-ghost use Rattle.std.specs.Prelude.{◌≡◌, ◌<◌, IfOk, IsSome};
+ghost use Rattle.std.specs.Prelude.{◌≡◌, ◌<◌, ◌≤◌, IfOk, IsSome};
 ghost use Rattle.std.specs.Result.{result_map_both};
 ghost use Rattle.bm_core.specs.Stages.{IsSound};
 ghost use Rattle.bm_link.specs.Fits.{ArePackets};
+ghost use Rattle.bm_pcap.specs.Limits.{latest};
 ghost use Rattle.bm_words.specs.Form.{named};
 ghost use Rattle.bm_cli.specs.Inside.Stages.{ReadsStage};
 ghost use Rattle.bm_cli.specs.Reading.{Holds};
@@ -19,26 +20,33 @@ use bm_io::Files;
 use bm_words::Names;
 use std::alloc::Global;
 
-/// Reads the script, and then the capture, whose packets go to the script's services, and the
-/// packet of each record. The files are asked for the names in the words alone, and for the capture
+/// Reads the script, and then the capture, whose packets go to the script's services, the packet of
+/// each record, and when the capture began, in nanoseconds since 1970. The files are asked for the names in the words alone, and for the capture
 /// only behind a script without a fault, which may be played so.
 pub(crate) fn read_stage<F: Files>(
     alloc: Global,
     files: &mut F,
     mode: Mode,
     names: Names<'_>,
-) -> Result<(Stage, Octets), StageFault>
+) -> Result<(Stage, Octets, u64), StageFault>
     requires script { mode ≡ Mode.Run → IsSome (named names).script }
     requires room { F.open_now files.old < 4294967295 }
     ensures stage { Holds (F.octets files.old) (λ reads.
         ReadsStage mode (named names.entry) reads (did F.asked F.faults files.old files.new)
-        (result_map_both (λ read. read.0) (λ fault. fault) result)) }
+        (result_map_both (λ read. read.0) (λ fault. fault) result)
+        × IfOk result (λ read. read.2 ≡ reads.began (named names.entry).capture)) }
+    ensures early { IfOk result (λ read. read.2 ≤ latest) }
     ensures sound { IfOk result (λ read. IsSound read.0) }
     ensures packets { IfOk result (λ read. ArePackets read.0.capture.records read.1) }
     ensures open { F.open_now files.new ≡ F.open_now files.old }
 {
     let script = read_script_file(alloc, files, names.script)?;
     check_seats(mode, &script)?;
-    let (capture, packets) = read_file(alloc, files, names.capture, script.setting.vips.items())?;
-    Ok((Stage { script, capture }, packets))
+    let (capture, packets, began) = read_file(
+        alloc,
+        files,
+        names.capture,
+        script.setting.vips.items(),
+    )?;
+    Ok((Stage { script, capture }, packets, began))
 }

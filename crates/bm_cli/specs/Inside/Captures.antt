@@ -1,12 +1,14 @@
 -- What was read of a capture.
 use Rattle.std.specs.Prelude.{◌≡◌, ◌≢◌, ◌≤◌, ℕ, List, Option, Some, None, Result, Ok, Err, IsErrOf}
+use Rattle.bm_base.specs.declared.capture.Capture.{Capture}
 use Rattle.bm_base.specs.declared.capture.Vip.{Vip}
 use Rattle.bm_io.specs.Causes.{Rose}
-use Rattle.bm_pcap.specs.Capture.{Captured as ClassicCaptured, capture as classic_capture}
+use Rattle.bm_pcap.specs.Capture.{Captured as ClassicCaptured, CapturedOr}
+use Rattle.bm_pcap.specs.Capture.{capture as classic_capture}
 use Rattle.bm_pcap.specs.Reader.{Captures as ClassicCaptures}
 use Rattle.bm_pcapng.specs.Capture.{Captured as PcapngCaptured, capture as pcapng_capture}
 use Rattle.bm_pcapng.specs.Reader.{Captures as PcapngCaptures}
-use Rattle.bm_cli.specs.Captures.{Captured, capture}
+use Rattle.bm_cli.specs.Captures.{Captured, began, capture}
 use Rattle.bm_cli.specs.declared.fault.CaptureFault.{CaptureFault}
 use Rattle.bm_cli.specs.declared.fault.CaptureFault.TheVariants.{ReadFault, Memory}
 
@@ -37,6 +39,21 @@ ReadsPcapng (Some octets) vips result = PcapngCaptures (pcapng_capture vips octe
 abbrev pub ReadsFile : Option (List ℕ → List ℕ) → List ℕ → List Vip → Captured → Type 0
 ReadsFile None name vips result = Unit {0}
 ReadsFile (Some octets) name vips result = Captures (capture vips (octets name)) result
+
+-- a capture that was read, and the packet of each of its records, without when it began
+abbrev pub records_in : {E : Type 0} → Result (Capture × List (List ℕ) × ℕ) E → CapturedOr E
+records_in (Ok read) = Ok (read.0, read.1)
+records_in (Err e) = Err e
+
+-- the time is when the capture of a source began, where that tells its octets
+abbrev pub BeganIn : (List ℕ → ℕ) → Option (List ℕ) → ℕ → Type 0
+BeganIn when None time = Unit {0}
+BeganIn when (Some octets) time = time ≡ when octets
+
+-- the same of a file, where the files tell their octets
+abbrev pub FileBegan : Option (List ℕ → List ℕ) → List ℕ → ℕ → Type 0
+FileBegan None name time = Unit {0}
+FileBegan (Some octets) name time = time ≡ began (octets name)
 
 -- The count rises where `ReadFault` is answered, and stays elsewhere.
 pub record HasReadCause {T : Type 0} (before now : ℕ) (result : Result T CaptureFault) : Type 0 where

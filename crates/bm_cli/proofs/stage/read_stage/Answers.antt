@@ -1,7 +1,7 @@
 use Rattle.std.proofs.Common.{Ok, Err, subst}
 use Rattle.bm_base.specs.Captures.{IsReplayable}
 use Rattle.bm_words.specs.Form.{named}
-use Rattle.bm_cli.proofs.Stages.{captured_stage, script_refused, seats_refused, stage_through}
+use Rattle.bm_cli.proofs.Stages.{captured_stage, script_refused, seats_refused, stage_alone, stage_through}
 use Rattle.bm_cli.proofs.Sound.{stage_sound}
 use Rattle.bm_cli.specs.declared.fault.StageFault.TheVariants.{Capture as OfCapture}
 use Rattle.bm_cli.proofs.stage.read_stage.Goals as goal
@@ -24,19 +24,21 @@ returns-in_err-capture-clause-stage g c =
     let capture = c.in_err-capture in
     stage_through c.args.mode (named c.args.names) _ _ c.from_residual-in_err-capture.result (OfCapture capture.field-0.0)
     c.from_residual-in_err-capture.ensures.1
-    (captured_stage c.args.mode (named c.args.names) _ _ _ _ script.script _ (Err capture.field-0.0) _
+    (stage_alone c.args.mode (named c.args.names) _ _ (Err (OfCapture capture.field-0.0)) (λ reads. Unit {0})
+    (captured_stage c.args.mode (named c.args.names) _ _ _ _ script.script _ (Err capture.field-0.0) 0 _
     c.requires.script c.in_ok-check_seats.ensures script.ensures.octets
-    c.items.ensures script.ensures.script capture.ensures.capture script.ensures.all capture.ensures.asked
-    capture.ensures.all script.ensures.later script.ensures.kept capture.ensures.cause)
+    c.items.ensures script.ensures.script capture.ensures.capture tt script.ensures.all capture.ensures.asked
+    capture.ensures.all script.ensures.later script.ensures.kept capture.ensures.cause))
 
 pub returns-clause-stage : goal.returns-clause-stage
 returns-clause-stage g c =
     let script = c.in_ok-script in
     let capture = c.in_ok-capture in
-    captured_stage c.args.mode (named c.args.names) _ _ _ _ script.script _ (Ok (capture.capture, capture.packets)) _
-    c.requires.script c.in_ok-check_seats.ensures
-    script.ensures.octets c.items.ensures script.ensures.script capture.ensures.capture script.ensures.all
-    capture.ensures.asked capture.ensures.all script.ensures.later script.ensures.kept capture.ensures.cause
+    captured_stage c.args.mode (named c.args.names) _ _ _ _ script.script _ (Ok (capture.capture, capture.packets))
+    capture.began _ c.requires.script c.in_ok-check_seats.ensures
+    script.ensures.octets c.items.ensures script.ensures.script capture.ensures.capture capture.ensures.began
+    script.ensures.all capture.ensures.asked capture.ensures.all script.ensures.later script.ensures.kept
+    capture.ensures.cause
 
 pub returns-in_err-check_seats-clause-stage : goal.returns-in_err-check_seats-clause-stage
 returns-in_err-check_seats-clause-stage g c =

@@ -1,6 +1,7 @@
 //! The replay of the files that the words name, for programs that tell it in their own way.
-ghost use Rattle.std.specs.Prelude.{◌≡◌, ◌<◌, IfOk};
+ghost use Rattle.std.specs.Prelude.{◌≡◌, ◌<◌, ◌≤◌, IfOk};
 ghost use Rattle.std.specs.Result.{result_map_both};
+ghost use Rattle.bm_pcap.specs.Limits.{latest};
 ghost use Rattle.bm_words.specs.Form.{named};
 ghost use Rattle.bm_cli.specs.Headline.{IsMadeBy};
 ghost use Rattle.bm_cli.specs.Inside.Stages.{ReadsStage};
@@ -18,6 +19,14 @@ use std::alloc::Global;
 use std::sync::Wait;
 use std::thread::Threads;
 
+/// A history, and when its capture began: the captured time of record 1 in nanoseconds since
+/// 1970-01-01T00:00:00Z, or 0 where there is no record.
+#[derive(Debug, Drop)]
+pub struct Replayed {
+    pub history: History,
+    pub began: u64,
+}
+
 /// Reads the script and the capture that are named, and replays them, as `beamer replay` does. The
 /// files are asked for the names alone, and for the capture only behind a script without a fault.
 ///
@@ -28,17 +37,20 @@ pub fn replay_files<R: Threads + Wait + Sync, F: Files>(
     alloc: Global,
     files: &mut F,
     names: Names<'_>,
-) -> Result<History, StageFault>
+) -> Result<Replayed, StageFault>
     requires room { F.open_now files.old < 4294967295 }
-    // The history is about the stage that is due.
+    // The history is about the stage that is due, and its capture began then.
     ensures stage { Holds (F.octets files.old) (λ reads.
         ReadsStage Mode.Replay (named names.entry) reads (did F.asked F.faults files.old files.new)
-        (result_map_both (λ history. history.stage) (λ fault. fault) result)) }
-    ensures made { IfOk result (λ history. IsMadeBy Mode.Replay history.stage history) }
+        (result_map_both (λ replayed. replayed.history.stage) (λ fault. fault) result)
+        × IfOk result (λ replayed. replayed.began ≡ reads.began (named names.entry).capture)) }
+    ensures made { IfOk result (λ replayed.
+        IsMadeBy Mode.Replay replayed.history.stage replayed.history) }
+    ensures early { IfOk result (λ replayed. replayed.began ≤ latest) }
     // No source stays open, and none is closed that was open before.
     ensures open { F.open_now files.new ≡ F.open_now files.old }
 {
-    let (stage, packets) = read_stage(alloc, files, Mode::Replay, names)?;
+    let (stage, packets, began) = read_stage(alloc, files, Mode::Replay, names)?;
     let history = history_of(rt, alloc, Mode::Replay, stage, &packets, &OpenGate)?;
-    Ok(history)
+    Ok(Replayed { history, began })
 }
