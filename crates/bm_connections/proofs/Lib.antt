@@ -1,4 +1,6 @@
 pub mod Steps
+pub mod Placed
+pub mod Tabled
 pub mod Stamped
 pub mod Lateness
 pub mod Holding

@@ -1,11 +1,8 @@
 -- The passes over all records and over all events.
-use Rattle.std.proofs.Common.{◌≡◌, ℕ, zero, suc, ◌+◌, ◌<◌, List, [], ◌∷◌, ◌++◌, length, take, get_or, reverse, map}
+use Rattle.std.proofs.Common.{◌≡◌, ℕ, zero, suc, ◌+◌, ◌<◌, List, [], ◌∷◌, length, take, get_or, reverse}
 use Rattle.std.proofs.Common.{Option, Some, is_some, refl, sym, ap, ◌∙◌, arith, subst}
 use Rattle.std.specs.Prelude.{slice_get}
-use Rattle.std.proofs.lemmas.Grind.{common_steps}
-use Rattle.std.proofs.lemmas.List.{map-append}
 use Rattle.bm_base.specs.declared.capture.Record.{Record}
-use Rattle.bm_base.specs.declared.flow.Flow.{Flow}
 use Rattle.bm_core.specs.declared.events.Cause.{Cause}
 use Rattle.bm_core.specs.declared.events.Event.{Event}
 use Rattle.bm_core.specs.declared.events.History.{History}
@@ -15,11 +12,9 @@ use Rattle.bm_core.specs.Runs.{IsRun, past_at}
 use Rattle.bm_trace.specs.CauseOf.{cause_after, cause_of, is_fault, is_fault_after}
 use Rattle.bm_trace.proofs.Caused.{cause_there}
 use Rattle.bm_trace.proofs.Newest.{reverse_take}
-use Rattle.bm_connections.specs.declared.connection.Connection.{Connection}
+use Rattle.bm_connections.specs.declared.rows.Rows.{Rows}
 use Rattle.bm_connections.specs.declared.seen.Seen.{Seen}
-use Rattle.bm_connections.specs.Connections.{connection_in, connections}
-use Rattle.bm_connections.specs.Rows.{AreRows, IsSeen, row_or_blank}
-use Rattle.bm_connections.specs.Seen.{flows_of, records_of}
+use Rattle.bm_connections.specs.Rows.{AreRows, IsSeen}
 
 get_within : {X : Type 0} (xs : List X) (i : ℕ) (d : X) → i < length xs → slice_get xs i ≡ Some (get_or xs i d)
 get_within [] i d h = absurd (omega arith)
@@ -45,41 +40,15 @@ fault_here h shown place d found run same below by =
     in rw same (ap is_some by ∙ cause_there h place run ∙ ap (λ o. is_fault_after h.stage (past_at h place) o) e)
 
 -- one event more
-pub rows_more : (stage : Stage) (records : List Record) (shown : List Event) (n : ℕ) (d : Event)
-    (rows : Flow → Option Connection) → n < length shown
-    → AreRows stage records (get_or shown n d ∷ reverse (take n shown)) rows
+pub rows_more : (stage : Stage) (records : List Record) (shown : List Event) (n : ℕ) (d : Event) (rows : Rows)
+    → n < length shown → AreRows stage records (get_or shown n d ∷ reverse (take n shown)) rows
     → AreRows stage records (reverse (take (n + 1) shown)) rows
 rows_more stage records shown n d rows below k =
     subst (λ past. AreRows stage records past rows) (sym (reverse_take shown n d below)) k
 
 -- one record more
-pub seen_more : (stage : Stage) (shown : List Record) (n : ℕ) (d : Record) (seen : Seen) → n < length shown
-    → IsSeen stage (get_or shown n d ∷ reverse (take n shown)) seen
-    → IsSeen stage (reverse (take (n + 1) shown)) seen
-seen_more stage shown n d seen below k =
-    subst (λ records. IsSeen stage records seen) (sym (reverse_take shown n d below)) k
-
-pub past_length : (shown : List Record) (n : ℕ) → n < length shown → length (reverse (take n shown)) ≡ n
-past_length shown n below = grind (arith, common_steps)
-
--- one element more under a map
-pub mapped_more : {X Y : Type 0} (g : X → Y) (xs : List X) (i : ℕ) (d : X) (y : Y) (old new : List Y)
-    → i < length xs → y ≡ g (get_or xs i d) → new ≡ old ++ y ∷ [] → old ≡ map g (take i xs)
-    → new ≡ map g (take (i + 1) xs)
-mapped_more g xs i d y old new below is n o =
-    let e : take (i + 1) xs ≡ take i xs ++ get_or xs i d ∷ [] = grind (arith, common_steps)
-    in n ∙ ap (λ l. l ++ y ∷ []) o ∙ ap (λ z. map g (take i xs) ++ z ∷ []) is
-    ∙ sym (ap (map g) e ∙ map-append g (take i xs) (get_or xs i d ∷ []))
-
-pub map_same : {X Y : Type 0} (f g : X → Y) (xs : List X) → ((x : X) → f x ≡ g x) → map f xs ≡ map g xs
-map_same f g [] same = refl
-map_same f g (x ∷ xs) same = rw (same x, map_same f g xs same) refl
-
--- the rows in the order of the flows are the table
-pub table_is : (h : History) (rows : Flow → Option Connection) (order : List Flow) (list : List Connection)
-    → list ≡ map (λ f. row_or_blank (rows f) f) order
-    → order ≡ flows_of (records_of h.stage)
-    → AreRows h.stage (records_of h.stage) (reverse h.events) rows
-    → list ≡ connections h
-table_is h rows order list e o k =
-    e ∙ map_same (λ f. row_or_blank (rows f) f) (connection_in h) order k.each ∙ ap (map (connection_in h)) o
+pub seen_more : (shown : List Record) (n : ℕ) (d : Record) (seen : Seen) → n < length shown
+    → IsSeen (get_or shown n d ∷ reverse (take n shown)) seen
+    → IsSeen (reverse (take (n + 1) shown)) seen
+seen_more shown n d seen below k =
+    subst (λ records. IsSeen records seen) (sym (reverse_take shown n d below)) k

@@ -1,13 +1,10 @@
 -- What one record more and one event more change in a connection.
-use Rattle.std.proofs.Common.{◌≡◌, ℕ, suc, ◌<◌, ◌≤◌, ◌^◌, Bool, true, false, ◌&&◌, inl, inr}
-use Rattle.std.proofs.Common.{List, [], ◌∷◌, ◌++◌, length, reverse, Option, Some, None, option_map, is_some}
+use Rattle.std.proofs.Common.{◌≡◌, ℕ, suc, ◌<◌, ◌≤◌, ◌^◌, Bool, true, false, ◌&&◌}
+use Rattle.std.proofs.Common.{List, [], ◌∷◌, length, Option, Some, None, option_map, is_some}
 use Rattle.std.proofs.Common.{refl, sym, ap, ◌∙◌, arith, subst}
 use Rattle.std.specs.Prelude.{if◌then◌else◌}
-use Rattle.std.proofs.lemmas.Bool.{cases_Bool, and_parts}
-use Rattle.std.proofs.lemmas.List.{length-reverse}
+use Rattle.std.proofs.lemmas.Bool.{and_parts}
 use Rattle.std.proofs.lemmas.Bool.Decides.{nat_tests}
-use Rattle.bm_base.specs.declared.capture.Body.TheVariants.{Steerable, Unsteered}
-use Rattle.bm_base.specs.declared.capture.Reason.{Reason}
 use Rattle.bm_base.specs.declared.capture.Record.{Record}
 use Rattle.bm_base.specs.declared.flow.Flow.{Flow}
 use Rattle.bm_base.specs.declared.flow.Segment.{Segment}
@@ -33,9 +30,8 @@ use Rattle.bm_connections.specs.declared.connection.Tally.{Tally}
 use Rattle.bm_connections.specs.Connections.{acceptor, arrivals, as_break, connection}
 use Rattle.bm_connections.specs.Connections.{first_break, first_fault, is_arrival_for, last_forwarding, one_more}
 use Rattle.bm_connections.specs.Connections.{strays_for, tally, first_of_two, refusal}
-use Rattle.bm_connections.specs.Rows.{AreRows, AreSeen, HasRoom, forwarded_after, noted, refused_after}
-use Rattle.bm_connections.specs.Rows.{row_or_blank, seen_again, tallied}
-use Rattle.bm_connections.specs.Seen.{is_packet_of, is_seen, sight}
+use Rattle.bm_connections.specs.Rows.{HasRoom, forwarded_after, noted, refused_after}
+use Rattle.bm_connections.specs.Rows.{tallied}
 use Rattle.bm_connections.specs.Waits.{wait, wait_of}
 
 pub same_flow-true : (a b : Flow) → same_flow a b ≡ true → a ≡ b
@@ -43,61 +39,6 @@ same_flow-true a b h = grind (arith, nat_tests, and_parts)
 
 pub same_flow_refl : (a : Flow) → same_flow a a ≡ true
 same_flow_refl a = grind (arith, nat_tests)
-
--- RECORDS
-
--- the row of a flow after one more packet of it
-seen_here : (stage : Stage) (records : List Record) (r : Record) (f : Flow) (t : Sight) (o : Option Connection)
-    → is_packet_of r f ≡ true → t ≡ sight records r → is_some o ≡ is_seen records f
-    → row_or_blank o f ≡ connection stage records [] f
-    → seen_again o f t ≡ connection stage (r ∷ records) [] f
-seen_here stage records r f t None packet at seen k = rw (packet, at, ← seen) refl
-seen_here stage records r f t (Some c) packet at seen k = rw (k, packet, at, ← seen) refl
-
-pub rows_seen : (stage : Stage) (records : List Record) (r : Record) (s : Segment) (t : Sight)
-    (rows new : Flow → Option Connection)
-    → r.body ≡ Steerable s → t ≡ sight records r
-    → ((q : Flow) → new q ≡ (if same_flow s.flow q then Some (seen_again (rows s.flow) s.flow t) else rows q))
-    → ((f : Flow) → is_some (rows f) ≡ is_seen records f)
-    → AreRows stage records [] rows → AreRows stage (r ∷ records) [] new
-rows_seen stage records r s t rows new body at n seen k = record {
-  each = λ q. ap (λ o. row_or_blank o q) (n q) ∙ elim (cases_Bool (same_flow s.flow q)) [
-    | inl here ↦
-        let same : s.flow ≡ q = same_flow-true s.flow q here
-        in let packet : is_packet_of r q ≡ true = rw body here
-        in rw (here, same) (seen_here stage records r q t (rows q) packet at (seen q) (k.each q))
-    | inr other ↦
-        let packet : is_packet_of r q ≡ false = rw body other
-        in rw (other, packet) (k.each q)
-  ];
-}
-
-pub order_seen : (records : List Record) (r : Record) (s : Segment) (rows new : Flow → Option Connection)
-    (order later : List Flow) (c : Connection)
-    → r.body ≡ Steerable s
-    → ((q : Flow) → new q ≡ (if same_flow s.flow q then Some c else rows q))
-    → later ≡ (if is_some (rows s.flow) then order else order ++ s.flow ∷ [])
-    → AreSeen records rows order → AreSeen (r ∷ records) new later
-order_seen records r s rows new order later c body n o k = record {
-  seen = λ q. ap is_some (n q) ∙ elim (cases_Bool (same_flow s.flow q)) [
-    | inl here ↦ rw (body, here) refl
-    | inr other ↦ rw (body, other) (k.seen q)
-  ];
-  in_order = o ∙ rw (body, k.seen s.flow, k.in_order) refl;
-}
-
-pub rows_unseen : (stage : Stage) (records : List Record) (r : Record) (why : Reason)
-    (rows : Flow → Option Connection)
-    → r.body ≡ Unsteered why → AreRows stage records [] rows → AreRows stage (r ∷ records) [] rows
-rows_unseen stage records r why rows body k = record { each = λ q. rw body (k.each q) }
-
-pub order_unseen : (records : List Record) (r : Record) (why : Reason) (rows : Flow → Option Connection)
-    (order : List Flow)
-    → r.body ≡ Unsteered why → AreSeen records rows order → AreSeen (r ∷ records) rows order
-order_unseen records r why rows order body k = record {
-  seen = λ q. rw body (k.seen q);
-  in_order = rw body k.in_order;
-}
 
 -- EVENTS
 
@@ -269,49 +210,42 @@ arrival_is stage f clock (Close server flow closed) found b is = absurd (cc)
 arrival_is stage f clock (Retire server shard at result) found b is = absurd (cc)
 arrival_is stage f clock Sync found b is = absurd (cc)
 
-pub rows_noted : (stage : Stage) (records : List Record) (past : List Event) (e : Event) (found : Option Cause)
-    (waited : ℕ) (b : Break) (s : Segment) (rows new : Flow → Option Connection)
+-- an arrival of another flow changes nothing
+pub other_noted : (stage : Stage) (records : List Record) (past : List Event) (e : Event) (found : Option Cause)
+    (b : Break) (s : Segment) (q : Flow)
+    → as_break e.clock e.what found ≡ Some b → segment_of stage b.packet ≡ Some s → same_flow s.flow q ≡ false
+    → connection stage records (e ∷ past) q ≡ connection stage records past q
+other_noted stage records past e found b s q is seg other =
+    let packet : is_arrival_for stage q e.what ≡ false =
+    arrival_is stage q e.clock e.what found b is ∙ ap (λ o. is_of o q) seg ∙ other
+    in still stage records past e.clock e.what q packet
+
+-- one of the flow itself
+pub here_noted : (stage : Stage) (records : List Record) (past : List Event) (e : Event) (found : Option Cause)
+    (waited : ℕ) (b : Break) (s : Segment)
     → as_break e.clock e.what found ≡ Some b → segment_of stage b.packet ≡ Some s
     → waited ≡ wait_of stage past e.clock.0 e.what
     → found ≡ cause stage past e.clock.0 e.what → is_some found ≡ is_fault stage past e.what
-    → ((q : Flow) → new q
-    ≡ (if same_flow s.flow q then Some (noted b waited (row_or_blank (rows s.flow) s.flow)) else rows q))
-    → AreRows stage records past rows → AreRows stage records (e ∷ past) new
-rows_noted stage records past e found waited b s rows new is seg after by fault n k = record {
-  each = λ q. ap (λ o. row_or_blank o q) (n q) ∙ elim (cases_Bool (same_flow s.flow q)) [
-    | inl here ↦
-        let same : s.flow ≡ q = same_flow-true s.flow q here
-        in let packet : is_arrival_for stage q e.what ≡ true =
-        arrival_is stage q e.clock e.what found b is ∙ ap (λ o. is_of o q) seg ∙ here
-        in rw (here, same)
-        (ap (λ (c : Connection). noted b waited c) (k.each q)
-        ∙ changed_by stage records past e.clock e.what q found waited b is packet after by fault)
-    | inr other ↦
-        let packet : is_arrival_for stage q e.what ≡ false =
-        arrival_is stage q e.clock e.what found b is ∙ ap (λ o. is_of o q) seg ∙ other
-        in rw other (k.each q ∙ sym (still stage records past e.clock e.what q packet))
-  ];
-}
+    → connection stage records (e ∷ past) s.flow ≡ noted b waited (connection stage records past s.flow)
+here_noted stage records past e found waited b s is seg after by fault =
+    let packet : is_arrival_for stage s.flow e.what ≡ true =
+    arrival_is stage s.flow e.clock e.what found b is ∙ ap (λ o. is_of o s.flow) seg ∙ same_flow_refl s.flow
+    in sym (changed_by stage records past e.clock e.what s.flow found waited b is packet after by fault)
 
 -- no arrival
-pub rows_still : (stage : Stage) (records : List Record) (past : List Event) (e : Event) (found : Option Cause)
-    (rows : Flow → Option Connection)
-    → as_break e.clock e.what found ≡ None → AreRows stage records past rows → AreRows stage records (e ∷ past) rows
-rows_still stage records past e found rows is k = record {
-  each = λ q. k.each q
-      ∙ sym (still stage records past e.clock e.what q (no_arrival stage q e.clock e.what found is));
-}
+pub none_noted : (stage : Stage) (records : List Record) (past : List Event) (e : Event) (found : Option Cause)
+    (q : Flow) → as_break e.clock e.what found ≡ None
+    → connection stage records (e ∷ past) q ≡ connection stage records past q
+none_noted stage records past e found q is =
+    still stage records past e.clock e.what q (no_arrival stage q e.clock e.what found is)
 
 -- an arrival of no flow
-pub rows_lost : (stage : Stage) (records : List Record) (past : List Event) (e : Event) (found : Option Cause)
-    (b : Break) (rows : Flow → Option Connection)
-    → as_break e.clock e.what found ≡ Some b → segment_of stage b.packet ≡ None
-    → AreRows stage records past rows → AreRows stage records (e ∷ past) rows
-rows_lost stage records past e found b rows is seg k = record {
-  each = λ q. k.each q
-      ∙ sym (still stage records past e.clock e.what q
-      (arrival_is stage q e.clock e.what found b is ∙ ap (λ o. is_of o q) seg));
-}
+pub lost_noted : (stage : Stage) (records : List Record) (past : List Event) (e : Event) (found : Option Cause)
+    (b : Break) (q : Flow) → as_break e.clock e.what found ≡ Some b → segment_of stage b.packet ≡ None
+    → connection stage records (e ∷ past) q ≡ connection stage records past q
+lost_noted stage records past e found b q is seg =
+    still stage records past e.clock e.what q
+    (arrival_is stage q e.clock e.what found b is ∙ ap (λ o. is_of o q) seg)
 
 -- ROOM
 
@@ -328,7 +262,7 @@ strays_few : (stage : Stage) (f : Flow) (past : List Event) → strays_for stage
 strays_few stage f [] = omega arith
 strays_few stage f (e ∷ past) = more_few _ _ (length past) (strays_few stage f past)
 
-room_in : (stage : Stage) (f : Flow) (past : List Event) → suc (length past) < 2 ^ 64 → HasRoom (tally stage f past)
+pub room_in : (stage : Stage) (f : Flow) (past : List Event) → suc (length past) < 2 ^ 64 → HasRoom (tally stage f past)
 room_in stage f past few = record {
   accepted = let n = arrivals_few stage f is_accept past in omega arith;
   processed = let n = arrivals_few stage f is_process past in omega arith;
@@ -337,10 +271,3 @@ room_in stage f past few = record {
   dropped = let n = arrivals_few stage f is_drop past in omega arith;
   stray = let n = strays_few stage f past in omega arith;
 }
-
-pub room : (stage : Stage) (records : List Record) (events : List Event) (rows : Flow → Option Connection) (f : Flow)
-    → suc (length events) < 2 ^ 64 → AreRows stage records (reverse events) rows
-    → HasRoom (row_or_blank (rows f) f).tally
-room stage records events rows f few k =
-    let few' : suc (length (reverse events)) < 2 ^ 64 = omega (arith, length-reverse events)
-    in subst (λ (c : Connection). HasRoom c.tally) (sym (k.each f)) (room_in stage f (reverse events) few')

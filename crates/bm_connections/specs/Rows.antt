@@ -1,16 +1,18 @@
 -- What the code keeps of connections while it goes through records and events.
-use Rattle.std.specs.Prelude.{◌≡◌, ℕ, suc, ◌<◌, ◌^◌, Bool, ◌&&◌, if◌then◌else◌, List, Option, Some}
-use Rattle.std.specs.Prelude.{None, is_some, []}
+use Rattle.std.specs.Prelude.{◌≡◌, ℕ, zero, suc, ◌<◌, ◌^◌, Bool, ◌&&◌, if◌then◌else◌, List, [], ◌∷◌}
+use Rattle.std.specs.Prelude.{◌++◌, Option, Some, None, is_some, map, option_map, slice_get}
 use Rattle.std.specs.BTreeMap as tree
 use Rattle.bm_base.specs.contracts.flow.FlowOrd.TheImpl as flow_order
+use Rattle.bm_base.specs.Segments.{same_flow}
 use Rattle.bm_base.specs.declared.capture.Record.{Record}
 use Rattle.bm_base.specs.declared.flow.Flow.{Flow}
+use Rattle.bm_base.specs.declared.flow.Segment.{Segment}
 use Rattle.bm_base.specs.declared.ids.ServerId.{ServerId}
 use Rattle.bm_core.specs.declared.events.Event.{Event}
 use Rattle.bm_core.specs.declared.events.Stage.{Stage}
 use Rattle.bm_core.specs.declared.events.Verdict.{Verdict}
 use Rattle.bm_core.specs.Causes.{is_process}
-use Rattle.bm_core.specs.Past.{is_accept, is_forward}
+use Rattle.bm_core.specs.Past.{is_accept, is_forward, steerable}
 use Rattle.bm_trace.specs.Totals.{is_drop, is_reset}
 use Rattle.bm_connections.specs.declared.connection.Break.{Break}
 use Rattle.bm_connections.specs.declared.connection.Connection.{Connection}
@@ -20,7 +22,7 @@ use Rattle.bm_connections.specs.declared.connection.Tally.{Tally}
 use Rattle.bm_connections.specs.declared.rows.Rows.{Rows}
 use Rattle.bm_connections.specs.declared.seen.Seen.{Seen}
 use Rattle.bm_connections.specs.Connections.{connection, first_of_two, one_more}
-use Rattle.bm_connections.specs.Seen.{flows_of, is_seen, nowhere}
+use Rattle.bm_connections.specs.Seen.{first_seen, flows_of, last_seen}
 
 -- no arrivals
 abbrev pub none : Tally
@@ -39,15 +41,9 @@ seen_from f first last = record {
   refused = None;
 }
 
--- the row of a flow, where there is one, and else that of a flow without packets
-abbrev pub row_or_blank : Option Connection → Flow → Connection
-row_or_blank None f = seen_from f nowhere nowhere
-row_or_blank (Some c) f = c
-
--- the row of a flow after one more packet of it was seen
-abbrev pub seen_again : Option Connection → Flow → Sight → Connection
-seen_again None f s = seen_from f s s
-seen_again (Some c) f s = record c { last = s }
+-- a connection after one more packet of it was seen
+abbrev pub seen_again : Sight → Connection → Connection
+seen_again s c = record c { last = s }
 
 -- the counts after an arrival with this verdict, which is a fault or isn't
 abbrev pub tallied : Verdict → Bool → Tally → Tally
@@ -102,22 +98,65 @@ pub record HasRoom (t : Tally) : Type 0 where
   pub dropped : suc t.dropped < 2 ^ 64
   pub stray : suc t.stray < 2 ^ 64
 
--- the row of each flow, where there is one
-abbrev pub row : Rows → Flow → Option Connection
-row rows f = tree.get (flow_order.ghosts).cmp rows.rows f
+-- PLACES
 
--- these are the connections of all flows after these records and events
-pub record AreRows (stage : Stage) (records : List Record) (past : List Event)
-    (rows : Flow → Option Connection) : Type 0 where
-  pub each : (f : Flow) → row_or_blank (rows f) f ≡ connection stage records past f
+-- the place of a flow among these, where it is one of them
+abbrev pub place_in : List Flow → Flow → Option ℕ
+place_in [] f = None
+place_in (g ∷ flows) f =
+    if same_flow g f then Some 0 else option_map (λ n. suc n) (place_in flows f)
 
--- just the flows of these records have rows, and this is their order
-pub record AreSeen (records : List Record) (rows : Flow → Option Connection) (order : List Flow) :
+-- the place of a segment's flow
+abbrev pub place_of : List Flow → Option Segment → Option ℕ
+place_of flows None = None
+place_of flows (Some s) = place_in flows s.flow
+
+-- of each record, in order, the place of its flow
+abbrev pub places_of : List Record → List (Option ℕ)
+places_of [] = []
+places_of (r ∷ records) =
+    places_of records ++ place_of (flows_of (r ∷ records)) (steerable (Some r)) ∷ []
+
+abbrev pub known : Option (Option ℕ) → Option ℕ
+known None = None
+known (Some place) = place
+
+-- the place of the packet of this number, counted from 1
+abbrev pub packet_place : List (Option ℕ) → ℕ → Option ℕ
+packet_place places zero = None
+packet_place places (suc i) = known (slice_get places i)
+
+-- these connections, with the one at a place changed
+abbrev pub changed_at : (Connection → Connection) → List Connection → ℕ → List Connection
+changed_at change [] n = []
+changed_at change (c ∷ list) zero = change c ∷ list
+changed_at change (c ∷ list) (suc n) = c ∷ changed_at change list n
+
+-- each count of the connection at a place can take one more
+abbrev pub HasRoomAt : List Connection → ℕ → Type 0
+HasRoomAt [] n = Unit {0}
+HasRoomAt (c ∷ list) zero = HasRoom c.tally
+HasRoomAt (c ∷ list) (suc n) = HasRoomAt list n
+
+-- WHAT IS KEPT
+
+-- a connection for each flow of these records, after these events
+abbrev pub table : Stage → List Record → List Event → List Connection
+table stage records past = map (connection stage records past) (flows_of records)
+
+-- these are the places of the records and the connections after these events
+pub record AreRows (stage : Stage) (records : List Record) (past : List Event) (rows : Rows) :
     Type 0 where
-  pub seen : (f : Flow) → is_some (rows f) ≡ is_seen records f
-  pub in_order : order ≡ flows_of records
+  pub places : rows.places.items ≡ places_of records
+  pub connections : rows.connections.items ≡ table stage records past
 
--- the rows and the order are those of these records, before any event
-pub record IsSeen (stage : Stage) (records : List Record) (seen : Seen) : Type 0 where
-  pub rows : AreRows stage records [] (row seen.rows)
-  pub order : AreSeen records (row seen.rows) seen.order.items
+-- the connection of a flow that these records have, before any event
+abbrev pub seen : List Record → Flow → Connection
+seen records f = seen_from f (first_seen records f) (last_seen records f)
+
+-- the same before any event, and the place of each flow
+pub record IsSeen (records : List Record) (s : Seen) : Type 0 where
+  pub places : s.rows.places.items ≡ places_of records
+  pub connections : s.rows.connections.items ≡ map (seen records) (flows_of records)
+  pub flows : (f : Flow)
+      → tree.get (flow_order.ghosts).cmp s.flows f ≡ place_in (flows_of records) f

@@ -1,8 +1,6 @@
 //! The pass over the events: what became of each connection's packets.
-ghost use Rattle.std.specs.Prelude.{◌≡◌, ◌<◌, ◌^◌, ◌&&◌, suc, ℕ, Some, OnOk, is_some, reverse};
+ghost use Rattle.std.specs.Prelude.{◌≡◌, ◌<◌, ◌^◌, ◌&&◌, suc, ℕ, Some, is_some, reverse};
 ghost use Rattle.std.specs.Prelude.{if◌then◌else◌, length, None, [], ◌∷◌};
-ghost use Rattle.bm_base.specs.declared.flow.Flow.{Flow};
-ghost use Rattle.bm_base.specs.Segments.{same_flow};
 ghost use Rattle.bm_core.specs.Causes as causes;
 ghost use Rattle.bm_core.specs.Past as past;
 ghost use Rattle.bm_core.specs.Runs.{IsRun};
@@ -18,10 +16,9 @@ ghost use Rattle.bm_connections.specs.Waits.{wait_of};
 use crate::connection::{Break, Connection, Forwarding, Tally};
 use crate::rows::Rows;
 use crate::waits::wait_in;
-use bm_base::{Flow, ServerId};
+use bm_base::ServerId;
 use bm_core::{Cause, Event, History, Stage, Verdict, What};
 use bm_trace::CauseList;
-use std::alloc::AllocError;
 
 /// One more, where this is so.
 pub(crate) fn one_more(so: bool, count: u64) -> u64
@@ -127,22 +124,6 @@ fn refused_after(arrival: Break, server: Option<ServerId>, before: Option<Break>
     }
 }
 
-/// A connection after an arrival of one of its packets, so long after its bucket's move.
-fn noted(arrival: Break, wait: u64, before: &Connection) -> Connection
-    requires { kept.HasRoom before.now.tally }
-    ensures { result ≡ kept.noted arrival wait before.now }
-{
-    let server = server_after(&arrival, before.server);
-    Connection {
-        server,
-        tally: tallied(arrival.verdict, arrival.cause.is_some(), &before.tally),
-        forwarded: forwarded_after(&arrival, wait, before.forwarded),
-        broken: first_break(before, arrival),
-        refused: refused_after(arrival, server, before.refused),
-        ..*before
-    }
-}
-
 /// An arrival as a break, with this cause.
 pub(crate) fn as_break(event: &Event, cause: Option<Cause>) -> Option<Break>
     ensures { result ≡ spec.as_break event.now.clock event.now.what cause }
@@ -164,16 +145,30 @@ pub(crate) fn as_break(event: &Event, cause: Option<Cause>) -> Option<Break>
     }
 }
 
-impl Rows {
-    /// Takes note of an arrival of one of the flow's packets.
-    fn note_arrival(&mut self, flow: Flow, arrival: Break, wait: u64) -> Result<(), AllocError>
-        requires { kept.HasRoom (kept.row_or_blank (kept.row self.old flow) flow).tally }
-        ensures { OnOk result ((q : Flow) → kept.row self.new q ≡ (if same_flow flow q
-            then Some (kept.noted arrival wait (kept.row_or_blank (kept.row self.old flow) flow))
-            else kept.row self.old q)) }
+impl Connection {
+    /// Takes note of an arrival of one of its packets, so long after its bucket's move.
+    fn note(&mut self, arrival: Break, wait: u64)
+        requires { kept.HasRoom self.old.tally }
+        ensures { self.new ≡ kept.noted arrival wait self.old }
     {
-        let before = self.get_or_blank(flow);
-        self.put(flow, noted(arrival, wait, &before))
+        self.broken = first_break(self, arrival);
+        self.server = server_after(&arrival, self.server);
+        self.tally = tallied(arrival.verdict, arrival.cause.is_some(), &self.tally);
+        self.forwarded = forwarded_after(&arrival, wait, self.forwarded);
+        self.refused = refused_after(arrival, self.server, self.refused);
+    }
+}
+
+impl Rows {
+    /// Takes note of an arrival of a packet of the connection at this place.
+    fn note_arrival(&mut self, place: usize, arrival: Break, wait: u64)
+        requires place { place < length self.old.connections.items }
+        requires room { kept.HasRoomAt self.old.connections.items place }
+        ensures places { self.new.places ≡ self.old.places }
+        ensures connections { self.new.connections.items
+            ≡ kept.changed_at (kept.noted arrival wait) self.old.connections.items place }
+    {
+        self.connections[place].note(arrival, wait);
     }
 
     /// Takes note of the event that has these before it, this cause, and this wait since its
@@ -185,50 +180,40 @@ impl Rows {
         event: &Event,
         cause: Option<Cause>,
         wait: u64,
-    ) -> Result<(), AllocError>
+    )
         requires rows { kept.AreRows stage.now (records_of stage.now) (reverse before.now)
-            (kept.row self.old) }
+            self.old }
         requires room { suc (length before.now) < 2 ^ 64 }
         requires cause { cause
             ≡ causes.cause stage.now (reverse before.now) event.now.clock.0 event.now.what }
         requires wait { wait
             ≡ wait_of stage.now (reverse before.now) event.now.clock.0 event.now.what }
         requires fault { is_some cause ≡ is_fault stage.now (reverse before.now) event.now.what }
-        ensures { OnOk result (kept.AreRows stage.now (records_of stage.now)
-            (event.now ∷ reverse before.now) (kept.row self.new)) }
+        ensures { kept.AreRows stage.now (records_of stage.now) (event.now ∷ reverse before.now)
+            self.new }
     {
         match as_break(event, cause) {
-            None => Ok(()),
-            Some(arrival) => match stage.segment(arrival.packet) {
-                None => Ok(()),
-                Some(segment) => {
-                    self.note_arrival(segment.flow, arrival, wait)?;
-                    Ok(())
-                }
+            None => {}
+            Some(arrival) => match self.place_of(arrival.packet) {
+                None => {}
+                Some(place) => self.note_arrival(place, arrival, wait),
             },
         }
     }
 }
 
 /// Takes note of all events.
-pub(crate) fn note_events(
-    rows: &mut Rows,
-    h: &History,
-    causes: &CauseList,
-    waits: &[u64],
-) -> Result<(), AllocError>
+pub(crate) fn note_events(rows: &mut Rows, h: &History, causes: &CauseList, waits: &[u64])
     requires run { IsRun h.now }
     requires causes { AreCauses h.now causes.now }
     requires waits { AreWaits h.now waits.now }
-    requires rows { kept.AreRows h.now.stage (records_of h.now.stage) [] (kept.row rows.old) }
-    ensures { OnOk result (kept.AreRows h.now.stage (records_of h.now.stage)
-        (reverse h.now.events) (kept.row rows.new)) }
+    requires rows { kept.AreRows h.now.stage (records_of h.now.stage) [] rows.old }
+    ensures { kept.AreRows h.now.stage (records_of h.now.stage) (reverse h.now.events) rows.new }
 {
     let events = h.events.items();
     for (place, event) in events.iter().enumerate() {
         let cause = causes.at(place);
         let wait = wait_in(waits, place);
-        rows.note(&h.stage, &events[..place], event, cause, wait)?;
+        rows.note(&h.stage, &events[..place], event, cause, wait);
     }
-    Ok(())
 }

@@ -1,14 +1,10 @@
-//! The connections of flows, kept along the records and the events.
-ghost use Rattle.std.specs.Prelude.{◌≡◌, List, Option, Some, None, OnOk, if◌then◌else◌};
-ghost use Rattle.std.specs.BTreeMap as tree;
-ghost use Rattle.bm_base.specs.declared.flow.Flow.{Flow};
-ghost use Rattle.bm_base.specs.Segments.{same_flow};
-ghost use Rattle.bm_connections.specs.Rows.{seen_from};
+//! The connections of a capture, in the order of their first packets.
+ghost use Rattle.std.specs.Prelude.{◌≡◌, ◌∷◌, ◌++◌, ◌<◌, [], length, Some, None, OnOk};
+ghost use Rattle.bm_connections.specs.Rows as kept;
 
 use crate::connection::{Connection, Sight, Tally};
-use bm_base::{Flow, Moment};
+use bm_base::Flow;
 use std::alloc::{AllocError, Global};
-use std::collections::BTreeMap;
 
 /// No arrivals.
 const NONE: Tally = Tally {
@@ -20,20 +16,14 @@ const NONE: Tally = Tally {
     stray: 0,
 };
 
-/// Where nothing was seen.
-pub(crate) const NOWHERE: Sight = Sight {
-    number: 0,
-    moment: Moment(0),
-};
-
-/// A flow of which these records were seen first and last, and no arrivals.
-pub(crate) fn seen_from(flow: Flow, first: Sight, last: Sight) -> Connection
-    ensures { result ≡ seen_from flow first last }
+/// A flow whose first packet is this record, and no arrivals.
+fn seen_from(flow: Flow, sight: Sight) -> Connection
+    ensures { result ≡ kept.seen_from flow sight sight }
 {
     Connection {
         flow,
-        first,
-        last,
+        first: sight,
+        last: sight,
         server: None,
         tally: NONE,
         forwarded: None,
@@ -42,44 +32,82 @@ pub(crate) fn seen_from(flow: Flow, first: Sight, last: Sight) -> Connection
     }
 }
 
-/// The connection of each flow, as far as records and events were read.
+/// The connections, as far as records and events were read.
 #[derive(Drop)]
 pub(crate) struct Rows {
-    rows: BTreeMap<Flow, Connection>,
+    /// Of each record the place of its connection, where it is a packet of one.
+    pub(crate) places: Vec<Option<usize>>,
+    pub(crate) connections: Vec<Connection>,
 }
 
 impl Rows {
-    ghost use Rattle.bm_connections.specs.Rows.{row, row_or_blank};
-
     pub(crate) fn new(alloc: Global) -> Rows
-        ensures { (q : Flow) → row result q ≡ None }
+        ensures places { result.places.items ≡ [] }
+        ensures connections { result.connections.items ≡ [] }
     {
         Rows {
-            rows: BTreeMap::new(alloc),
+            places: Vec::new(alloc),
+            connections: Vec::new(alloc),
         }
     }
 
-    pub(crate) fn get(&self, flow: &Flow) -> Option<Connection>
-        ensures { result ≡ row self.now flow.now }
+    /// How many connections there are.
+    pub(crate) fn count(&self) -> usize
+        ensures { result ≡ length self.now.connections.items }
     {
-        self.rows.get(flow).copied()
+        self.connections.len()
     }
 
-    /// The flow's connection, or one without packets.
-    pub(crate) fn get_or_blank(&self, flow: Flow) -> Connection
-        ensures { result ≡ row_or_blank (row self.now flow) flow }
+    /// The next record is no packet of a connection.
+    pub(crate) fn see_none(&mut self) -> Result<(), AllocError>
+        ensures places { OnOk result (self.new.places.items ≡ self.old.places.items ++ None ∷ []) }
+        ensures connections { self.new.connections ≡ self.old.connections }
     {
-        match self.get(&flow) {
-            None => seen_from(flow, NOWHERE, NOWHERE),
-            Some(connection) => connection,
-        }
-    }
-
-    pub(crate) fn put(&mut self, flow: Flow, connection: Connection) -> Result<(), AllocError>
-        ensures { OnOk result ((q : Flow) → row self.new q
-            ≡ (if same_flow flow q then Some connection else row self.old q)) }
-    {
-        self.rows.insert(flow, connection)?;
+        self.places.push(None)?;
         Ok(())
+    }
+
+    /// The next record is the first packet of a connection.
+    pub(crate) fn see_first(&mut self, flow: Flow, sight: Sight) -> Result<(), AllocError>
+        ensures places { OnOk result (self.new.places.items
+            ≡ self.old.places.items ++ Some (length self.old.connections.items) ∷ []) }
+        ensures connections { OnOk result (self.new.connections.items
+            ≡ self.old.connections.items ++ kept.seen_from flow sight sight ∷ []) }
+    {
+        self.places.push(Some(self.connections.len()))?;
+        self.connections.push(seen_from(flow, sight))?;
+        Ok(())
+    }
+
+    /// The next record is one more packet of the connection at this place.
+    pub(crate) fn see_again(&mut self, place: usize, sight: Sight) -> Result<(), AllocError>
+        requires { place < length self.old.connections.items }
+        ensures places { OnOk result (self.new.places.items
+            ≡ self.old.places.items ++ Some place ∷ []) }
+        ensures connections { OnOk result (self.new.connections.items
+            ≡ kept.changed_at (kept.seen_again sight) self.old.connections.items place) }
+    {
+        self.places.push(Some(place))?;
+        self.connections[place].last = sight;
+        Ok(())
+    }
+
+    /// The place of the packet's connection, where it is a packet of one.
+    pub(crate) fn place_of(&self, packet: u32) -> Option<usize>
+        ensures { result ≡ kept.packet_place self.now.places.items packet }
+    {
+        let record = packet.checked_sub(1)? as usize;
+        *self.places.get(record)?
+    }
+
+    /// The connections, in the order of their first packets.
+    pub(crate) fn into_connections(self) -> Vec<Connection>
+        ensures { result ≡ self.connections }
+    {
+        let Rows {
+            places: _places,
+            connections,
+        } = self;
+        connections
     }
 }

@@ -1,85 +1,110 @@
 //! The pass over the records: which flows there are, and where each was seen.
-ghost use Rattle.std.specs.Prelude.{◌≡◌, ◌≤◌, ◌++◌, ◌∷◌, [], suc, List, length, Some, OnOk, IfOk};
-ghost use Rattle.std.specs.Prelude.{is_some, if◌then◌else◌, reverse};
-ghost use Rattle.bm_base.specs.declared.capture.Record.{Record};
+ghost use Rattle.std.specs.Prelude.{◌≡◌, ◌<◌, ◌≤◌, ◌∷◌, [], length, OnOk, IfOk, reverse, Some};
+ghost use Rattle.std.specs.Prelude.{if◌then◌else◌};
+ghost use Rattle.std.specs.BTreeMap as tree;
+ghost use Rattle.bm_base.specs.declared.capture.Body.TheVariants.{Steerable as steerable};
 ghost use Rattle.bm_base.specs.declared.flow.Flow.{Flow};
 ghost use Rattle.bm_base.specs.Segments.{same_flow};
 ghost use Rattle.bm_core.specs.declared.events.Stage.{Stage};
-ghost use Rattle.bm_connections.specs.Rows.{IsSeen, row, seen_again};
+ghost use Rattle.bm_connections.specs.Rows.{AreRows, IsSeen};
 
-use crate::connection::{Connection, Sight};
-use crate::rows::{Rows, seen_from};
-use bm_base::{Body, Flow, Record};
+use crate::connection::Sight;
+use crate::rows::Rows;
+use bm_base::{Body, Flow, Record, Segment};
 use std::alloc::{AllocError, Global};
+use std::collections::BTreeMap;
 
-/// The row of a flow after one more packet of it was seen.
-fn seen_again(before: Option<Connection>, flow: Flow, sight: Sight) -> Connection
-    ensures { result ≡ seen_again before flow sight }
+fn place_of(flows: &BTreeMap<Flow, usize>, flow: &Flow) -> Option<usize>
+    ensures { result ≡ tree.get ⟦<Flow as Ord>⟧.cmp flows.now flow.now }
 {
-    match before {
-        None => seen_from(flow, sight, sight),
-        Some(connection) => Connection {
-            last: sight,
-            ..connection
-        },
-    }
+    flows.get(flow).copied()
 }
 
-/// The connections as they were seen first and last, and the order of their first packets.
+fn put_place(flows: &mut BTreeMap<Flow, usize>, flow: Flow, place: usize) -> Result<(), AllocError>
+    ensures { OnOk result ((q : Flow) → tree.get ⟦<Flow as Ord>⟧.cmp flows.new q
+        ≡ (if same_flow flow q then Some place
+        else tree.get ⟦<Flow as Ord>⟧.cmp flows.old q)) }
+{
+    flows.insert(flow, place)?;
+    Ok(())
+}
+
+/// The connections as they were seen first and last, and the place of each flow's.
 #[derive(Drop)]
 pub(crate) struct Seen {
+    pub(crate) flows: BTreeMap<Flow, usize>,
     pub(crate) rows: Rows,
-    pub(crate) order: Vec<Flow>,
 }
 
 impl Seen {
     fn new(alloc: Global) -> Seen
-        ensures { (stage : Stage) → IsSeen stage [] result }
+        ensures { IsSeen [] result }
     {
-        let rows = Rows::new(alloc);
-        let order = Vec::new(alloc);
-        Seen { rows, order }
-    }
-
-    fn see_flow(&mut self, flow: Flow, sight: Sight) -> Result<(), AllocError>
-        ensures rows { OnOk result ((q : Flow) → row self.new.rows q
-            ≡ (if same_flow flow q then Some (seen_again (row self.old.rows flow) flow sight)
-            else row self.old.rows q)) }
-        ensures order { OnOk result (self.new.order.items
-            ≡ (if is_some (row self.old.rows flow) then self.old.order.items
-            else self.old.order.items ++ flow ∷ [])) }
-    {
-        let before = self.rows.get(&flow);
-        if before.is_none() {
-            self.order.push(flow)?;
+        Seen {
+            flows: BTreeMap::new(alloc),
+            rows: Rows::new(alloc),
         }
-        self.rows.put(flow, seen_again(before, flow, sight))
     }
 
-    /// Takes note of the record of this number.
-    fn see(&mut self, number: u32, next: &Record) -> Result<(), AllocError>
-        ensures { (stage : Stage) (records : List Record) → number ≡ suc (length records)
-            → IsSeen stage records self.old
-            → OnOk result (IsSeen stage (next.now ∷ records) self.new) }
+    /// Takes note of the packet that comes after these records.
+    fn see_packet(
+        &mut self,
+        before: &[Record],
+        next: &Record,
+        segment: Segment,
+    ) -> Result<(), AllocError>
+        requires few { length before.now < 200000 }
+        requires seen { IsSeen (reverse before.now) self.old }
+        requires body { next.now.body ≡ steerable segment }
+        ensures { OnOk result (IsSeen (next.now ∷ reverse before.now) self.new) }
+    {
+        let flow = segment.flow;
+        let sight = Sight {
+            number: before.len() as u32 + 1,
+            moment: next.moment,
+        };
+        match place_of(&self.flows, &flow) {
+            Some(place) => {
+                self.rows.see_again(place, sight)?;
+                Ok(())
+            }
+            None => {
+                let place = self.rows.count();
+                put_place(&mut self.flows, flow, place)?;
+                self.rows.see_first(flow, sight)?;
+                Ok(())
+            }
+        }
+    }
+
+    /// Takes note of the record that comes after these.
+    fn see(&mut self, before: &[Record], next: &Record) -> Result<(), AllocError>
+        requires few { length before.now < 200000 }
+        requires seen { IsSeen (reverse before.now) self.old }
+        ensures { OnOk result (IsSeen (next.now ∷ reverse before.now) self.new) }
     {
         match next.body {
-            Body::Unsteered(_) => Ok(()),
-            Body::Steerable(segment) => {
-                let moment = next.moment;
-                self.see_flow(segment.flow, Sight { number, moment })
+            Body::Unsteered(_) => {
+                self.rows.see_none()?;
+                Ok(())
             }
+            Body::Steerable(segment) => self.see_packet(before, next, segment),
         }
     }
 }
 
 /// The connections as these records have them, before any event.
-pub(crate) fn see_records(alloc: Global, records: &[Record]) -> Result<Seen, AllocError>
+pub(crate) fn see_records(alloc: Global, records: &[Record]) -> Result<Rows, AllocError>
     requires { length records.now ≤ 200000 }
-    ensures { (stage : Stage) → IfOk result (λ seen. IsSeen stage (reverse records.now) seen) }
+    ensures { (stage : Stage) → IfOk result (λ rows. AreRows stage (reverse records.now) [] rows) }
 {
     let mut seen = Seen::new(alloc);
     for (place, record) in records.iter().enumerate() {
-        seen.see(place as u32 + 1, record)?;
+        seen.see(&records[..place], record)?;
     }
-    Ok(seen)
+    let Seen {
+        flows: _flows,
+        rows,
+    } = seen;
+    Ok(rows)
 }

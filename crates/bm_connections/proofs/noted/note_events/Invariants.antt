@@ -1,9 +1,9 @@
 use Rattle.std.proofs.Common.{reverse, take}
-use Rattle.bm_connections.specs.Rows.{AreRows, row}
+use Rattle.bm_connections.specs.Rows.{AreRows}
 use Rattle.bm_connections.specs.Seen.{records_of}
 use Rattle.bm_connections.proofs.noted.note_events.Given as goal
 
 abbrev pub invariant-loop-place : goal.invariant-loop-place
 invariant-loop-place l = record {
-  rows : AreRows l.h.stage (records_of l.h.stage) (reverse (take l.place l.events)) (row l.rows);
+  rows : AreRows l.h.stage (records_of l.h.stage) (reverse (take l.place l.events)) l.rows;
 }

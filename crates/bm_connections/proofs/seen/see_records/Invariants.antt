@@ -1,9 +1,6 @@
 use Rattle.std.proofs.Common.{reverse, take}
-use Rattle.bm_core.specs.declared.events.Stage.{Stage}
 use Rattle.bm_connections.specs.Rows.{IsSeen}
 use Rattle.bm_connections.proofs.seen.see_records.Given as goal
 
 abbrev pub invariant-loop-place : goal.invariant-loop-place
-invariant-loop-place l = record {
-  seen : (stage : Stage) → IsSeen stage (reverse (take l.place l.records)) l.seen;
-}
+invariant-loop-place l = record { seen : IsSeen (reverse (take l.place l.records)) l.seen }
