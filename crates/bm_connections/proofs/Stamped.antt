@@ -1,7 +1,7 @@
 -- What one event more changes in the tables of muxes and the stamps of labels.
 use Rattle.std.proofs.Common.{◌≡◌, ℕ, zero, suc, ◌+◌, ◌<◌, inl, inr, List, [], ◌∷◌, ◌++◌}
 use Rattle.std.proofs.Common.{length, take, get_or, reverse, Some, refl, sym, ap, ◌∙◌, arith, subst}
-use Rattle.std.specs.Prelude.{slice_get}
+use Rattle.std.specs.Prelude.{slice_get, slice_index_or}
 use Rattle.std.proofs.lemmas.Bool.{cases_lt}
 use Rattle.std.proofs.lemmas.Grind.{common_steps}
 use Rattle.bm_core.specs.declared.events.Event.{Event}
@@ -66,3 +66,12 @@ pub wait_here : (h : History) (shown : List Event) (place : ℕ) (d : Event) (wa
 wait_here h shown place d waits found same below all is =
     let below' : place < length h.events = rw same at below
     in rw same (is ∙ all.each place below' ∙ here h place d below')
+
+-- STAMPS
+
+-- 0 stands where nothing is kept
+pub zero_push : (xs : List ℕ) (q : ℕ) → slice_index_or (xs ++ 0 ∷ []) q 0 ≡ slice_index_or xs q 0
+zero_push [] zero = refl
+zero_push [] (suc q) = refl
+zero_push (x ∷ xs) zero = refl
+zero_push (x ∷ xs) (suc q) = zero_push xs q

@@ -12,11 +12,6 @@ use Rattle.bm_connections.specs.declared.stamps.Stamps.{Stamps}
 use Rattle.bm_connections.specs.declared.stamps.View.{View}
 use Rattle.bm_connections.specs.Waits.{stamp_of, wait_at}
 
--- the number, where there is one, and else 0
-abbrev pub or_zero : Option ℕ → ℕ
-or_zero None = 0
-or_zero (Some n) = n
-
 -- the mux has the table of this version; where nothing is kept of it, that is version 0
 abbrev pub IsView : Planned → ℕ → Option View → Type 0
 IsView plan v None = v ≡ 0
@@ -24,15 +19,15 @@ IsView plan v (Some x) = (x.version ≡ v) × IsTable plan v x.table
 
 -- these are the tables of the muxes and the stamps of the packets after these events
 pub record AreStamps (stage : Stage) (past : List Event) (views : ℕ → Option View)
-    (stamps : ℕ → Option ℕ) : Type 0 where
+    (stamps : List ℕ) : Type 0 where
   pub view_of_each : (m : ℕ)
       → IsView stage.script.plan (version_at past (record { 0 = m })).0 (views m)
-  pub stamp_of_each : (k : ℕ) → or_zero (stamps k) ≡ stamp_of (label_of stage past k)
+  pub stamp_of_each : (k : ℕ) → slice_index_or stamps k 0 ≡ stamp_of (label_of stage past k)
 
 -- they are what is kept here
 abbrev pub KnowsStamps : Stage → List Event → Stamps → Type 0
 KnowsStamps stage past s =
-    AreStamps stage past (tree.get nat_cmp s.views.views) (tree.get nat_cmp s.stamps)
+    AreStamps stage past (tree.get nat_cmp s.views.views) s.stamps.items
 
 -- the wait at a place, or 0
 abbrev pub wait_in : List ℕ → ℕ → ℕ

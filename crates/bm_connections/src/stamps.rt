@@ -1,6 +1,7 @@
 //! The stamp of each packet's label, kept along the events.
 ghost use Rattle.std.specs.Prelude.{◌≡◌, ◌+◌, ◌<◌, ◌≤◌, ◌==◌, ℕ, List, reverse, Some, None};
-ghost use Rattle.std.specs.Prelude.{OnOk, IfOk, IfSome, false, if◌then◌else◌, [], ◌∷◌};
+ghost use Rattle.std.specs.Prelude.{OnOk, IfOk, IfSome, false, if◌then◌else◌, [], ◌∷◌, length};
+ghost use Rattle.std.specs.Prelude.{slice_index_or};
 ghost use Rattle.std.specs.BTreeMap as tree;
 ghost use Rattle.std.specs.Ordering.{nat_cmp};
 ghost use Rattle.bm_core.specs.declared.events.Event.{Event};
@@ -8,7 +9,7 @@ ghost use Rattle.bm_core.specs.Past as past;
 ghost use Rattle.bm_table.specs.Entries.{IsTable};
 ghost use Rattle.bm_table.specs.Tables.{table};
 ghost use Rattle.bm_trace.specs.Ranges.{HasRanges};
-ghost use Rattle.bm_connections.specs.Stamps.{IsView, or_zero};
+ghost use Rattle.bm_connections.specs.Stamps.{IsView};
 ghost use Rattle.bm_connections.specs.Waits.{stamp_of, wait_of};
 
 use bm_base::{Memory, MuxId, Version};
@@ -149,7 +150,8 @@ impl Views {
 #[derive(Drop)]
 pub(crate) struct Stamps {
     views: Views,
-    stamps: BTreeMap<u32, u64>,
+    /// By packet, counted from 0; 0 stands for those that aren't kept.
+    stamps: Vec<u64>,
 }
 
 impl Stamps {
@@ -161,28 +163,44 @@ impl Stamps {
     {
         Stamps {
             views: Views::new(alloc),
-            stamps: BTreeMap::new(alloc),
+            stamps: Vec::new(alloc),
         }
     }
 
     /// The stamp of the packet's label, or 0.
     fn get(&self, packet: u32) -> u64
-        ensures { result ≡ or_zero (tree.get nat_cmp self.now.stamps packet) }
+        ensures { result ≡ slice_index_or self.now.stamps.items packet 0 }
     {
-        match self.stamps.get(&packet) {
-            None => 0,
-            Some(stamp) => *stamp,
+        let place = packet as usize;
+        if place < self.stamps.len() {
+            self.stamps[place]
+        } else {
+            0
         }
     }
 
-    /// Keeps the packet's stamp, where it isn't known already; 0 stands for those that aren't kept.
+    /// Makes room for the packet.
+    fn reach(&mut self, packet: u32) -> Result<(), AllocError>
+        ensures stamps { OnOk result ((q : ℕ) → slice_index_or self.new.stamps.items q 0
+            ≡ slice_index_or self.old.stamps.items q 0) }
+        ensures within { OnOk result (packet < length self.new.stamps.items) }
+        ensures views { self.new.views ≡ self.old.views }
+    {
+        for _place in self.stamps.len()..packet as usize + 1 {
+            self.stamps.push(0)?;
+        }
+        Ok(())
+    }
+
+    /// Keeps the packet's stamp, where it isn't known already.
     fn put(&mut self, packet: u32, stamp: u64) -> Result<(), AllocError>
-        ensures stamps { OnOk result ((q : ℕ) → or_zero (tree.get nat_cmp self.new.stamps q)
-            ≡ (if packet == q then stamp else or_zero (tree.get nat_cmp self.old.stamps q))) }
+        ensures stamps { OnOk result ((q : ℕ) → slice_index_or self.new.stamps.items q 0
+            ≡ (if packet == q then stamp else slice_index_or self.old.stamps.items q 0)) }
         ensures views { self.new.views ≡ self.old.views }
     {
         if self.get(packet) != stamp {
-            self.stamps.insert(packet, stamp)?;
+            self.reach(packet)?;
+            self.stamps[packet as usize] = stamp;
         }
         Ok(())
     }
