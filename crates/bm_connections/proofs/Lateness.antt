@@ -1,8 +1,9 @@
 -- The longest wait of the packets that came too late, and the timeouts under which none does.
-use Rattle.std.proofs.Common.{◌≡◌, ℕ, ◌+◌, ◌-◌, ◌*◌, ◌^◌, ◌<◌, max, Bool, true, false}
+use Rattle.std.proofs.Common.{◌≡◌, ℕ, suc, ◌+◌, ◌-◌, ◌*◌, ◌^◌, ◌<◌, max, Bool, true, false, inl, inr}
 use Rattle.std.proofs.Common.{◌&&◌, ◌||◌, List, [], ◌∷◌, length, take, reverse, Option, Some, None}
 use Rattle.std.proofs.Common.{refl, sym, ap, ◌∙◌, arith, nat_lt}
 use Rattle.std.specs.Prelude.{IfSome, if◌then◌else◌}
+use Rattle.std.proofs.lemmas.Bool.{cases_Bool}
 use Rattle.std.proofs.lemmas.Bool.Decides.{nat_tests}
 use Rattle.bm_base.specs.declared.ids.ServerId.{ServerId}
 use Rattle.bm_base.specs.declared.flow.Segment.{Segment}
@@ -19,7 +20,8 @@ use Rattle.bm_core.specs.Causes.{cause, cause_at}
 use Rattle.bm_core.specs.Past.{Accepted, label_of, owner, segment_of}
 use Rattle.bm_trace.specs.CauseOf.{cause_of}
 use Rattle.bm_trace.proofs.Newest.{reverse_take}
-use Rattle.bm_connections.specs.Counts.{is_cause}
+use Rattle.bm_connections.specs.Connections.{one_more}
+use Rattle.bm_connections.specs.Counts.{is_cause, packets_by}
 use Rattle.bm_connections.specs.Late.{came_late, comes_late, has_late_label, is_one_late, longer, longest_wait}
 use Rattle.bm_connections.specs.Late.{as_late, whole_seconds}
 use Rattle.bm_connections.specs.Stamps.{AreWaits, wait_in}
@@ -52,6 +54,19 @@ pub longest_more : (h : History) (shown : List Event) (n : ℕ) (found : Option 
     → new ≡ longest_wait h.stage (reverse (take (n + 1) shown))
 longest_more h shown n found waited waits longest new same below by all waits_are was is =
     longest_here h shown n (some_at shown n below) found waited waits longest new same below by all waits_are was is
+
+-- where no packet has that cause, none came too late
+pub none_late : (stage : Stage) (past : List Event) → packets_by stage ChainLate past ≡ 0
+    → longest_wait stage past ≡ None
+none_late stage [] none = refl
+none_late stage (e ∷ past) none = elim (cases_Bool (came_late stage past e)) [
+  | inl late ↦ absurd (let n : one_more (came_late stage past e) (packets_by stage ChainLate past) ≡ 0 = none
+      in let m : suc (packets_by stage ChainLate past) ≡ 0 = rw late at n in omega arith)
+  | inr other ↦
+      let n : one_more (came_late stage past e) (packets_by stage ChainLate past) ≡ 0 = none
+      in let m : packets_by stage ChainLate past ≡ 0 = rw other at n
+      in rw other (none_late stage past m)
+]
 
 -- THE TIMEOUT
 

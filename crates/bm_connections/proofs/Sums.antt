@@ -10,6 +10,8 @@ use Rattle.bm_base.specs.declared.capture.Record.{Record}
 use Rattle.bm_base.specs.declared.flow.Flow.{Flow}
 use Rattle.bm_base.specs.declared.flow.Segment.{Segment}
 use Rattle.bm_base.specs.Segments.{same_flow}
+use Rattle.bm_base.specs.declared.ids.Moment.{Moment}
+use Rattle.bm_core.specs.declared.events.Cause.{Cause}
 use Rattle.bm_core.specs.declared.events.Event.{Event}
 use Rattle.bm_core.specs.declared.events.History.{History}
 use Rattle.bm_core.specs.declared.events.Stage.{Stage}
@@ -24,6 +26,7 @@ use Rattle.bm_connections.specs.declared.connection.Break.{Break}
 use Rattle.bm_connections.specs.declared.connection.Connection.{Connection}
 use Rattle.bm_connections.specs.Connections.{arrivals, as_break, breaks, connection_in, connections, first_break}
 use Rattle.bm_connections.specs.Connections.{first_of_two, is_arrival_for, one_more, strays_for}
+use Rattle.bm_connections.specs.Counts.{is_broken_by, is_cause, packets_by}
 use Rattle.bm_connections.specs.Laws.{is_broken}
 use Rattle.bm_connections.specs.Seen.{flows_of, is_packet_of, is_seen, records_of, with_flow}
 use Rattle.bm_connections.proofs.Steps.{same_flow-true, same_flow_refl}
@@ -328,3 +331,51 @@ broken_is stage f (e ∷ past) =
     some_first (first_break stage f past) _
     ∙ ap (λ b. b || is_some (first_break stage f past)) (break_is stage f past e e.what refl)
     ∙ ap (λ b. breaks stage f past e.what || b) (broken_is stage f past)
+
+-- A CAUSE THAT NO PACKET HAS
+
+first_unbroken : (c : Cause) (a b : Option Break) → is_broken_by c a ≡ false → is_broken_by c b ≡ false
+    → is_broken_by c (first_of_two a b) ≡ false
+first_unbroken c None b ea eb = eb
+first_unbroken c (Some x) b ea eb = ea
+
+later_unbroken : (c : Cause) (breaks : Bool) (clock : Moment) (what : What) (why : Option Cause)
+    → is_cause c why ≡ false → is_broken_by c (if breaks then as_break clock what why else None) ≡ false
+later_unbroken c false clock what why other = refl
+later_unbroken c true clock (Arrive k hop server verdict) why other = other
+later_unbroken c true clock (Publish v) why other = refl
+later_unbroken c true clock (Switch m v) why other = refl
+later_unbroken c true clock (Steer k m) why other = refl
+later_unbroken c true clock (Lose k hop) why other = refl
+later_unbroken c true clock (Close server flow closed) why other = refl
+later_unbroken c true clock (Retire server shard at result) why other = refl
+later_unbroken c true clock Sync why other = refl
+
+unbroken : (stage : Stage) (c : Cause) (f : Flow) (past : List Event) → packets_by stage c past ≡ 0
+    → is_broken_by c (first_break stage f past) ≡ false
+unbroken stage c f [] none = refl
+unbroken stage c f (e ∷ past) none = elim (cases_Bool (is_cause c (cause stage past e.clock.0 e.what))) [
+  | inl bad ↦ absurd (let n : one_more (is_cause c (cause stage past e.clock.0 e.what)) (packets_by stage c past) ≡ 0 =
+      none in let m : suc (packets_by stage c past) ≡ 0 = rw bad at n in omega arith)
+  | inr other ↦
+      let n : one_more (is_cause c (cause stage past e.clock.0 e.what)) (packets_by stage c past) ≡ 0 = none
+      in let m : packets_by stage c past ≡ 0 = rw other at n
+      in first_unbroken c (first_break stage f past) _ (unbroken stage c f past m)
+      (later_unbroken c (breaks stage f past e.what) e.clock e.what _ other)
+]
+
+count_none : (p : Connection → Bool) (g : Flow → Connection) (flows : List Flow) → ((f : Flow) → p (g f) ≡ false)
+    → count_by p (map g flows) ≡ 0
+count_none p g [] none = refl
+count_none p g (f ∷ flows) none =
+    let e : count_by p (map g flows) ≡ 0 = count_none p g flows none
+    in let s : cond false 1 0 + count_by p (map g flows) ≡ 0 = omega (arith, e)
+    in sum_by-cons (λ x. cond (p x) 1 0) (g f) (map g flows)
+    ∙ ap (λ b. cond b 1 0 + count_by p (map g flows)) (none f) ∙ s
+
+-- it broke no connection
+pub none_broken : (h : History) (c : Cause) → packets_by h.stage c (reverse h.events) ≡ 0
+    → count_by (λ x. is_broken_by c x.broken) (connections h) ≡ 0
+none_broken h c none =
+    count_none (λ x. is_broken_by c x.broken) (connection_in h) (flows_of (records_of h.stage))
+    (λ f. unbroken h.stage c f (reverse h.events) none)

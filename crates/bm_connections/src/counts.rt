@@ -52,7 +52,7 @@ fn is_broken_by(cause: Cause, broken: Option<Break>) -> bool
     }
 }
 
-fn packets_by(h: &History, causes: &CauseList, cause: Cause) -> u64
+pub(crate) fn packets_by(h: &History, causes: &CauseList, cause: Cause) -> u64
     requires { AreCauses h.now causes.now }
     ensures { result ≡ spec.packets_by h.now.stage cause (reverse h.now.events) }
 {
@@ -75,6 +75,7 @@ fn connections_by(table: &[Connection], cause: Cause) -> u64
 
 /// How many packets have the cause, and how many of the history's connections it broke first. Takes
 /// no memory.
+#[tactic(auto, using(crate::proofs::Sums::none_broken))]
 pub fn cause_count(
     h: &History,
     causes: &CauseList,
@@ -85,9 +86,15 @@ pub fn cause_count(
     requires table { table.now ≡ connections h.now }
     ensures { result ≡ spec.cause_count h.now cause }
 {
+    let packets = packets_by(h, causes, cause);
+    let connections = if packets == 0 {
+        0
+    } else {
+        connections_by(table, cause)
+    };
     CauseCount {
         cause,
-        packets: packets_by(h, causes, cause),
-        connections: connections_by(table, cause),
+        packets,
+        connections,
     }
 }

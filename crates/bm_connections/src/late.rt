@@ -7,7 +7,7 @@ ghost use Rattle.bm_connections.specs.Counts.{is_cause};
 ghost use Rattle.bm_connections.specs.Late as spec;
 ghost use Rattle.bm_connections.specs.Stamps.{AreWaits};
 
-use crate::counts::is_cause;
+use crate::counts::{is_cause, packets_by};
 use crate::waits::{wait_in, waits_of};
 use bm_base::Memory;
 use bm_core::{Cause, History};
@@ -71,6 +71,7 @@ fn longest_wait(h: &History, causes: &CauseList, waits: &[u64]) -> Option<u64>
 
 /// The longest wait of the history's packets that came too late, by the causes of its events;
 /// `None` where no packet came too late. `Memory` where memory was refused.
+#[tactic(auto, using(crate::proofs::Lateness::none_late))]
 pub fn longest_late(
     alloc: Global,
     h: &History,
@@ -80,6 +81,9 @@ pub fn longest_late(
     requires causes { AreCauses h.now causes.now }
     ensures { IfOk result (λ late. late ≡ spec.longest_late h.now) }
 {
+    if packets_by(h, causes, Cause::ChainLate) == 0 {
+        return Ok(None);
+    }
     let waits = waits_of(alloc, h)?;
     match longest_wait(h, causes, waits.as_slice()) {
         None => Ok(None),
