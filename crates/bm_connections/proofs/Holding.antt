@@ -23,12 +23,13 @@ use Rattle.bm_core.specs.Past.{flows_after, flows_arrived, flows_held, is_done, 
 use Rattle.bm_core.proofs.Listed.{flows_are_distinct}
 use Rattle.bm_table.specs.Tables.{same_server}
 use Rattle.bm_trace.proofs.Newest.{reverse_take}
-use Rattle.bm_connections.specs.declared.held.Filling.{Filling}
+use Rattle.bm_connections.specs.declared.held.HeldFlows.{HeldFlows}
 use Rattle.bm_connections.specs.declared.held.ShardKey.{ShardKey}
-use Rattle.bm_connections.specs.declared.held.Turn.{Turn}
-use Rattle.bm_connections.specs.declared.held.Turned.{Turned}
+use Rattle.bm_connections.specs.declared.held.FlowChange.{FlowChange}
+use Rattle.bm_connections.specs.declared.held.ShardChange.{ShardChange}
 use Rattle.bm_connections.specs.Counts.{most_in_shard}
-use Rattle.bm_connections.specs.Held.{AreFillings, AreFlows, IsFilling, arrival_turn, flows_by, same_key, turn_of}
+use Rattle.bm_connections.specs.Held.{AreFlows, AreHeldByShards, AreHeldFlows, arrival_change, change_of, flows_by}
+use Rattle.bm_connections.specs.Held.{same_key}
 use Rattle.bm_connections.proofs.Steps.{same_flow-true, same_flow_refl}
 
 -- SETS AND LISTS
@@ -106,7 +107,7 @@ pub opened : (f : Flow) (flows : List Flow) (old new : set.BTreeSet Flow) → Ar
     ≡ (same_flow f q || set.contains (flow_order.ghosts).cmp old q))
     → set.btree_set_len new
     ≡ set.btree_set_len old + (if set.contains (flow_order.ghosts).cmp old f then 0 else 1)
-    → AreFlows flows old → AreFlows (flows_by (Turn.Opens f) flows) new
+    → AreFlows flows old → AreFlows (flows_by (FlowChange.Opens f) flows) new
 opened f flows old new distinct listed count k = record {
   listed = λ q. listed q ∙ ap (λ b. same_flow f q || b) (k.listed q)
       ∙ either (same_flow f q) (is_listed flows q)
@@ -130,7 +131,7 @@ pub ended : (f : Flow) (flows : List Flow) (old new : set.BTreeSet Flow) → Are
     ≡ (not (same_flow f q) && set.contains (flow_order.ghosts).cmp old q))
     → set.btree_set_len new + (if set.contains (flow_order.ghosts).cmp old f then 1 else 0)
     ≡ set.btree_set_len old
-    → AreFlows flows old → AreFlows (flows_by (Turn.Ends f) flows) new
+    → AreFlows flows old → AreFlows (flows_by (FlowChange.Ends f) flows) new
 ended f flows old new distinct listed count k = record {
   listed = λ q. listed q ∙ ap (λ b. not (same_flow f q) && b) (k.listed q) ∙ sym (listed_without f q flows);
   count =
@@ -147,10 +148,10 @@ ended f flows old new distinct listed count k = record {
 -- EVENTS
 
 -- the flows of a shard after what is done to a shard
-abbrev turned_flows : Option Turned → ServerId → ℕ → List Flow → List Flow
-turned_flows None s h flows = flows
-turned_flows (Some t) s h flows =
-    if same_key t.key (record { server = s.0; shard = h }) then flows_by t.turn flows else flows
+abbrev changed_flows : Option ShardChange → ServerId → ℕ → List Flow → List Flow
+changed_flows None s h flows = flows
+changed_flows (Some t) s h flows =
+    if same_key t.key (record { server = s.0; shard = h }) then flows_by t.flow_change flows else flows
 
 either_way : (b : Bool) (flows : List Flow) → (if b then flows else flows) ≡ flows
 either_way true flows = refl
@@ -169,7 +170,7 @@ and_never false b x y = refl
 arrived : (stage : Stage) (server : ServerId) (verdict : Verdict) (o : Option Segment) (s : ServerId) (h : ℕ)
     (flows : List Flow)
     → flows_arrived stage h (server.0 == s.0) verdict o flows
-    ≡ turned_flows (arrival_turn stage server verdict o) s h flows
+    ≡ changed_flows (arrival_change stage server verdict o) s h flows
 arrived stage server verdict None s h flows = refl
 arrived stage server Accept (Some seg) s h flows = refl
 arrived stage server (Process Ended) (Some seg) s h flows = refl
@@ -182,23 +183,23 @@ arrived stage server (Forward to) (Some seg) s h flows = either_way _ flows
 arrived stage server (Reset why) (Some seg) s h flows = either_way _ flows
 arrived stage server (Drop why) (Some seg) s h flows = either_way _ flows
 
-after_turn : (stage : Stage) (what : What) (s : ServerId) (h : ℕ) (flows : List Flow)
-    → flows_after stage what s h flows ≡ turned_flows (turn_of stage what) s h flows
-after_turn stage (Arrive k hop server verdict) s h flows =
+after_change : (stage : Stage) (what : What) (s : ServerId) (h : ℕ) (flows : List Flow)
+    → flows_after stage what s h flows ≡ changed_flows (change_of stage what) s h flows
+after_change stage (Arrive k hop server verdict) s h flows =
     arrived stage server verdict (segment_of stage k) s h flows
-after_turn stage (Close server flow true) s h flows =
+after_change stage (Close server flow true) s h flows =
     and_true (same_server server s) (shard stage flow == h) (without flow flows) flows
-after_turn stage (Close server flow false) s h flows =
+after_change stage (Close server flow false) s h flows =
     and_never (same_server server s) (shard stage flow == h) (without flow flows) flows
-after_turn stage (Retire server x at result) s h flows = elim (cases_Bool (is_done result)) [
+after_change stage (Retire server x at result) s h flows = elim (cases_Bool (is_done result)) [
   | inl done ↦ rw done (and_true (same_server server s) (x == h) [] flows)
   | inr stays ↦ rw stays (and_never (same_server server s) (x == h) [] flows)
 ]
-after_turn stage (Publish v) s h flows = refl
-after_turn stage (Switch m v) s h flows = refl
-after_turn stage (Steer k m) s h flows = refl
-after_turn stage (Lose k hop) s h flows = refl
-after_turn stage Sync s h flows = refl
+after_change stage (Publish v) s h flows = refl
+after_change stage (Switch m v) s h flows = refl
+after_change stage (Steer k m) s h flows = refl
+after_change stage (Lose k hop) s h flows = refl
+after_change stage Sync s h flows = refl
 
 held_below : (stage : Stage) (past : List Event) (s : ServerId) (h : ℕ)
     → length (flows_held stage past s h) ≤ most_in_shard stage past s h
@@ -206,11 +207,11 @@ held_below stage [] s h = omega arith
 held_below stage (e ∷ past) s h = omega arith
 
 -- what is kept where the flows stay
-stays : (flows new : List Flow) (most : ℕ) (o : Option Filling) → new ≡ flows → length flows ≤ most
-    → IsFilling flows most o → IsFilling new (max (length new) most) o
+stays : (flows new : List Flow) (most : ℕ) (o : Option HeldFlows) → new ≡ flows → length flows ≤ most
+    → AreHeldFlows flows most o → AreHeldFlows new (max (length new) most) o
 stays flows new most o same below k =
     let m : most ≡ max (length new) most = rw same (omega (arith, below))
-    in subst (λ (n : ℕ). IsFilling new n o) m (subst (λ (l : List Flow). IsFilling l most o) (sym same) k)
+    in subst (λ (n : ℕ). AreHeldFlows new n o) m (subst (λ (l : List Flow). AreHeldFlows l most o) (sym same) k)
 
 same_key-true : (a b : ShardKey) → same_key a b ≡ true → a ≡ b
 same_key-true a b h = grind (arith, nat_tests, and_parts)
@@ -219,81 +220,85 @@ pub same_key_refl : (a : ShardKey) → same_key a a ≡ true
 same_key_refl a = grind (arith, nat_tests)
 
 -- what is kept of a shard after this was done to it
-pub filled : (t : Turned) (flows : List Flow) (most : ℕ) (start changed counted : Filling) (new : Option Filling)
-    (before : Option Filling)
+pub filled : (t : ShardChange) (flows : List Flow) (most : ℕ) (start changed counted : HeldFlows)
+    (new : Option HeldFlows)
+    (before : Option HeldFlows)
     → new ≡ (if same_key t.key t.key then Some counted else before)
-    → (AreFlows flows start.flows → AreFlows (flows_by t.turn flows) changed.flows)
+    → (AreFlows flows start.flows → AreFlows (flows_by t.flow_change flows) changed.flows)
     → changed.most ≡ start.most
     → counted.flows ≡ changed.flows → counted.most ≡ max (set.btree_set_len changed.flows) changed.most
-    → IsFilling flows most (Some start)
-    → IsFilling (flows_by t.turn flows) (max (length (flows_by t.turn flows)) most) new
+    → AreHeldFlows flows most (Some start)
+    → AreHeldFlows (flows_by t.flow_change flows) (max (length (flows_by t.flow_change flows)) most) new
 filled t flows most start changed counted new before put flows_are kept_most same_flows counted_most k =
-    let after : AreFlows (flows_by t.turn flows) changed.flows = flows_are k.0
+    let after : AreFlows (flows_by t.flow_change flows) changed.flows = flows_are k.0
     in let there : new ≡ Some counted = put ∙ rw (same_key_refl t.key) refl
-    in let most_is : counted.most ≡ max (length (flows_by t.turn flows)) most =
+    in let most_is : counted.most ≡ max (length (flows_by t.flow_change flows)) most =
     counted_most ∙ (λ i. max (after.count i) ((kept_most ∙ k.1) i))
-    in subst (λ (o : Option Filling). IsFilling (flows_by t.turn flows)
-    (max (length (flows_by t.turn flows)) most) o) (sym there)
-    (subst (λ (x : set.BTreeSet Flow). AreFlows (flows_by t.turn flows) x) (sym same_flows) after, most_is)
+    in subst (λ (o : Option HeldFlows). AreHeldFlows (flows_by t.flow_change flows)
+    (max (length (flows_by t.flow_change flows)) most) o) (sym there)
+    (subst (λ (x : set.BTreeSet Flow). AreFlows (flows_by t.flow_change flows) x) (sym same_flows) after, most_is)
 
 -- one event more, which does nothing to a shard
-pub fillings_still : (stage : Stage) (past : List Event) (e : Event) (fillings : ShardKey → Option Filling)
-    → turn_of stage e.what ≡ None
-    → AreFillings stage past fillings → AreFillings stage (e ∷ past) fillings
-fillings_still stage past e fillings is k = record {
+pub held_still : (stage : Stage) (past : List Event) (e : Event) (held : ShardKey → Option HeldFlows)
+    → change_of stage e.what ≡ None
+    → AreHeldByShards stage past held → AreHeldByShards stage (e ∷ past) held
+held_still stage past e held is k = record {
   each = λ q.
       let s : ServerId = record { 0 = q.server }
-      in stays (flows_held stage past s q.shard) _ _ (fillings q)
-      (after_turn stage e.what s q.shard (flows_held stage past s q.shard)
-      ∙ ap (λ o. turned_flows o s q.shard (flows_held stage past s q.shard)) is)
+      in stays (flows_held stage past s q.shard) _ _ (held q)
+      (after_change stage e.what s q.shard (flows_held stage past s q.shard)
+      ∙ ap (λ o. changed_flows o s q.shard (flows_held stage past s q.shard)) is)
       (held_below stage past s q.shard) (k.each q);
 }
 
 -- one that does this to a shard
-pub fillings_turned : (stage : Stage) (past : List Event) (e : Event) (t : Turned)
-    (fillings new : ShardKey → Option Filling)
-    → turn_of stage e.what ≡ Some t
-    → ((flows : List Flow) (most : ℕ) → AreDistinct flows → IsFilling flows most (fillings t.key)
-    → IsFilling (flows_by t.turn flows) (max (length (flows_by t.turn flows)) most) (new t.key))
-    → ((q : ShardKey) → same_key t.key q ≡ false → new q ≡ fillings q)
-    → AreFillings stage past fillings → AreFillings stage (e ∷ past) new
-fillings_turned stage past e t fillings new is here others k = record {
+pub held_changed : (stage : Stage) (past : List Event) (e : Event) (t : ShardChange)
+    (held new : ShardKey → Option HeldFlows)
+    → change_of stage e.what ≡ Some t
+    → ((flows : List Flow) (most : ℕ) → AreDistinct flows → AreHeldFlows flows most (held t.key)
+    → AreHeldFlows (flows_by t.flow_change flows) (max (length (flows_by t.flow_change flows)) most) (new t.key))
+    → ((q : ShardKey) → same_key t.key q ≡ false → new q ≡ held q)
+    → AreHeldByShards stage past held → AreHeldByShards stage (e ∷ past) new
+held_changed stage past e t held new is here others k = record {
   each = λ q.
       let s : ServerId = record { 0 = q.server }
       in let after : flows_held stage (e ∷ past) s q.shard
-      ≡ turned_flows (Some t) s q.shard (flows_held stage past s q.shard) =
-      after_turn stage e.what s q.shard (flows_held stage past s q.shard)
-      ∙ ap (λ o. turned_flows o s q.shard (flows_held stage past s q.shard)) is
+      ≡ changed_flows (Some t) s q.shard (flows_held stage past s q.shard) =
+      after_change stage e.what s q.shard (flows_held stage past s q.shard)
+      ∙ ap (λ o. changed_flows o s q.shard (flows_held stage past s q.shard)) is
       in elim (cases_Bool (same_key t.key q)) [
         | inl same ↦
             let at : t.key ≡ q = same_key-true t.key q same
-            in let there : IsFilling (flows_by t.turn (flows_held stage past s q.shard))
-            (max (length (flows_by t.turn (flows_held stage past s q.shard))) (most_in_shard stage past s q.shard))
+            in let there : AreHeldFlows (flows_by t.flow_change (flows_held stage past s q.shard))
+            (max (length (flows_by t.flow_change (flows_held stage past s q.shard)))
+            (most_in_shard stage past s q.shard))
             (new q) =
-            subst (λ (x : ShardKey). IsFilling (flows_by t.turn (flows_held stage past s q.shard))
-            (max (length (flows_by t.turn (flows_held stage past s q.shard))) (most_in_shard stage past s q.shard))
+            subst (λ (x : ShardKey). AreHeldFlows (flows_by t.flow_change (flows_held stage past s q.shard))
+            (max (length (flows_by t.flow_change (flows_held stage past s q.shard)))
+            (most_in_shard stage past s q.shard))
             (new x)) at
             (here (flows_held stage past s q.shard) (most_in_shard stage past s q.shard)
             (flows_are_distinct stage past s q.shard)
-            (subst (λ (x : ShardKey). IsFilling (flows_held stage past s q.shard)
-            (most_in_shard stage past s q.shard) (fillings x)) (sym at) (k.each q)))
-            in let flows : flows_held stage (e ∷ past) s q.shard ≡ flows_by t.turn (flows_held stage past s q.shard) =
+            (subst (λ (x : ShardKey). AreHeldFlows (flows_held stage past s q.shard)
+            (most_in_shard stage past s q.shard) (held x)) (sym at) (k.each q)))
+            in let flows : flows_held stage (e ∷ past) s q.shard
+            ≡ flows_by t.flow_change (flows_held stage past s q.shard) =
             after ∙ rw same refl
-            in subst (λ (l : List Flow). IsFilling l (max (length l) (most_in_shard stage past s q.shard)) (new q))
+            in subst (λ (l : List Flow). AreHeldFlows l (max (length l) (most_in_shard stage past s q.shard)) (new q))
             (sym flows) there
         | inr other ↦
             let flows : flows_held stage (e ∷ past) s q.shard ≡ flows_held stage past s q.shard =
             after ∙ rw other refl
             in stays (flows_held stage past s q.shard) _ _ (new q) flows (held_below stage past s q.shard)
-            (subst (λ (o : Option Filling). IsFilling (flows_held stage past s q.shard)
+            (subst (λ (o : Option HeldFlows). AreHeldFlows (flows_held stage past s q.shard)
             (most_in_shard stage past s q.shard) o) (sym (others q other)) (k.each q))
       ];
 }
 
 -- the same, behind the events so far
-pub fillings_more : (stage : Stage) (shown : List Event) (n : ℕ) (d : Event) (fillings : ShardKey → Option Filling)
+pub held_more : (stage : Stage) (shown : List Event) (n : ℕ) (d : Event) (held : ShardKey → Option HeldFlows)
     → n < length shown
-    → AreFillings stage (get_or shown n d ∷ reverse (take n shown)) fillings
-    → AreFillings stage (reverse (take (n + 1) shown)) fillings
-fillings_more stage shown n d fillings below k =
-    subst (λ past. AreFillings stage past fillings) (sym (reverse_take shown n d below)) k
+    → AreHeldByShards stage (get_or shown n d ∷ reverse (take n shown)) held
+    → AreHeldByShards stage (reverse (take (n + 1) shown)) held
+held_more stage shown n d held below k =
+    subst (λ past. AreHeldByShards stage past held) (sym (reverse_take shown n d below)) k

@@ -17,12 +17,12 @@ use Rattle.bm_core.specs.declared.events.What.{What}
 use Rattle.bm_core.specs.declared.events.What.TheVariants.{Arrive, Close, Retire}
 use Rattle.bm_core.specs.Books.{is_listed}
 use Rattle.bm_core.specs.Past.{flows_held, is_done, segment_of, shard, without}
-use Rattle.bm_connections.specs.declared.held.Filling.{Filling}
-use Rattle.bm_connections.specs.declared.held.Fillings.{Fillings}
+use Rattle.bm_connections.specs.declared.held.HeldFlows.{HeldFlows}
+use Rattle.bm_connections.specs.declared.held.HeldByShards.{HeldByShards}
 use Rattle.bm_connections.specs.declared.held.ShardKey.{ShardKey}
-use Rattle.bm_connections.specs.declared.held.Turn.{Turn}
-use Rattle.bm_connections.specs.declared.held.Turn.TheVariants.{Opens, Ends, Empties}
-use Rattle.bm_connections.specs.declared.held.Turned.{Turned}
+use Rattle.bm_connections.specs.declared.held.FlowChange.{FlowChange}
+use Rattle.bm_connections.specs.declared.held.FlowChange.TheVariants.{Opens, Ends, Empties}
+use Rattle.bm_connections.specs.declared.held.ShardChange.{ShardChange}
 use Rattle.bm_connections.specs.Counts.{most_in_shard}
 
 abbrev pub same_key : ShardKey → ShardKey → Bool
@@ -31,38 +31,38 @@ same_key a b = a.server == b.server && a.shard == b.shard
 -- WHAT AN EVENT DOES
 
 -- the flows of a shard after this was done to it
-abbrev pub flows_by : Turn → List Flow → List Flow
+abbrev pub flows_by : FlowChange → List Flow → List Flow
 flows_by (Opens f) flows = f ∷ without f flows
 flows_by (Ends f) flows = without f flows
 flows_by Empties flows = []
 
 -- what a verdict on a segment of the flow does to the flow's shard
-abbrev pub verdict_turn : Verdict → Flow → Option Turn
-verdict_turn Accept f = Some (Opens f)
-verdict_turn (Process Ended) f = Some (Ends f)
-verdict_turn _ f = None
+abbrev pub verdict_change : Verdict → Flow → Option FlowChange
+verdict_change Accept f = Some (Opens f)
+verdict_change (Process Ended) f = Some (Ends f)
+verdict_change _ f = None
 
 -- this is done to this shard of the server
-abbrev pub turned_at : ServerId → ℕ → Option Turn → Option Turned
-turned_at s h None = None
-turned_at s h (Some turn) =
-    Some (record { key = record { server = s.0; shard = h }; turn = turn })
+abbrev pub change_at : ServerId → ℕ → Option FlowChange → Option ShardChange
+change_at s h None = None
+change_at s h (Some flow_change) =
+    Some (record { key = record { server = s.0; shard = h }; flow_change = flow_change })
 
 -- what the arrival of a segment does to a shard of the server
-abbrev pub arrival_turn : Stage → ServerId → Verdict → Option Segment → Option Turned
-arrival_turn stage s verdict None = None
-arrival_turn stage s verdict (Some seg) =
-    turned_at s (shard stage seg.flow) (verdict_turn verdict seg.flow)
+abbrev pub arrival_change : Stage → ServerId → Verdict → Option Segment → Option ShardChange
+arrival_change stage s verdict None = None
+arrival_change stage s verdict (Some seg) =
+    change_at s (shard stage seg.flow) (verdict_change verdict seg.flow)
 
 -- what the event does to a shard, where it does anything
-abbrev pub turn_of : Stage → What → Option Turned
-turn_of stage (Arrive k hop server verdict) =
-    arrival_turn stage server verdict (segment_of stage k)
-turn_of stage (Close server flow closed) =
-    turned_at server (shard stage flow) (if closed then Some (Ends flow) else None)
-turn_of stage (Retire server h at result) =
-    turned_at server h (if is_done result then Some Empties else None)
-turn_of stage _ = None
+abbrev pub change_of : Stage → What → Option ShardChange
+change_of stage (Arrive k hop server verdict) =
+    arrival_change stage server verdict (segment_of stage k)
+change_of stage (Close server flow closed) =
+    change_at server (shard stage flow) (if closed then Some (Ends flow) else None)
+change_of stage (Retire server h at result) =
+    change_at server h (if is_done result then Some Empties else None)
+change_of stage _ = None
 
 -- WHAT IS KEPT
 
@@ -73,16 +73,16 @@ pub record AreFlows (flows : List Flow) (held : set.BTreeSet Flow) : Type 0 wher
 
 -- this is kept of a shard that holds these flows, and held so many at most; where nothing is kept,
 -- there were none
-abbrev pub IsFilling : List Flow → ℕ → Option Filling → Type 0
-IsFilling flows most None = (flows ≡ []) × (most ≡ 0)
-IsFilling flows most (Some x) = AreFlows flows x.flows × (x.most ≡ most)
+abbrev pub AreHeldFlows : List Flow → ℕ → Option HeldFlows → Type 0
+AreHeldFlows flows most None = (flows ≡ []) × (most ≡ 0)
+AreHeldFlows flows most (Some x) = AreFlows flows x.flows × (x.most ≡ most)
 
-abbrev pub filling : Fillings → ShardKey → Option Filling
-filling fillings key = tree.get (key_order.ghosts).cmp fillings.fillings key
+abbrev pub held_flows : HeldByShards → ShardKey → Option HeldFlows
+held_flows held key = tree.get (key_order.ghosts).cmp held.held key
 
 -- this is kept of each shard after these events
-pub record AreFillings (stage : Stage) (past : List Event) (fillings : ShardKey → Option Filling) :
-    Type 0 where
+pub record AreHeldByShards (stage : Stage) (past : List Event)
+    (held : ShardKey → Option HeldFlows) : Type 0 where
   pub each : (key : ShardKey)
-      → IsFilling (flows_held stage past (record { 0 = key.server }) key.shard)
-      (most_in_shard stage past (record { 0 = key.server }) key.shard) (fillings key)
+      → AreHeldFlows (flows_held stage past (record { 0 = key.server }) key.shard)
+      (most_in_shard stage past (record { 0 = key.server }) key.shard) (held key)

@@ -28,7 +28,7 @@ pub(crate) struct ShardKey {
 
 /// What an event does to a shard: it opens or ends a connection there, or empties the shard.
 #[derive(Clone, Copy)]
-pub(crate) enum Turn {
+pub(crate) enum FlowChange {
     Opens(Flow),
     Ends(Flow),
     Empties,
@@ -36,69 +36,77 @@ pub(crate) enum Turn {
 
 /// A shard, and what is done to it.
 #[derive(Clone, Copy)]
-pub(crate) struct Turned {
+pub(crate) struct ShardChange {
     pub(crate) key: ShardKey,
-    pub(crate) turn: Turn,
+    pub(crate) flow_change: FlowChange,
 }
 
-fn verdict_turn(verdict: Verdict, flow: Flow) -> Option<Turn>
-    ensures { result ≡ kept.verdict_turn verdict flow }
+fn verdict_change(verdict: Verdict, flow: Flow) -> Option<FlowChange>
+    ensures { result ≡ kept.verdict_change verdict flow }
 {
     match verdict {
-        Verdict::Accept => Some(Turn::Opens(flow)),
-        Verdict::Process(Taken::Ended) => Some(Turn::Ends(flow)),
+        Verdict::Accept => Some(FlowChange::Opens(flow)),
+        Verdict::Process(Taken::Ended) => Some(FlowChange::Ends(flow)),
         _ => None,
     }
 }
 
-fn turned_at(server: ServerId, shard: u16, turn: Option<Turn>) -> Option<Turned>
-    ensures { result ≡ kept.turned_at server shard turn }
+fn change_at(server: ServerId, shard: u16, flow_change: Option<FlowChange>) -> Option<ShardChange>
+    ensures { result ≡ kept.change_at server shard flow_change }
 {
     let key = ShardKey {
         server: server.0,
         shard,
     };
-    Some(Turned { key, turn: turn? })
+    Some(ShardChange {
+        key,
+        flow_change: flow_change?,
+    })
 }
 
-fn arrival_turn(
+fn arrival_change(
     stage: &Stage,
     server: ServerId,
     verdict: Verdict,
     segment: Option<Segment>,
-) -> Option<Turned>
+) -> Option<ShardChange>
     requires { HasRanges stage.now }
-    ensures { result ≡ kept.arrival_turn stage.now server verdict segment }
+    ensures { result ≡ kept.arrival_change stage.now server verdict segment }
 {
     let flow = segment?.flow;
     let shard = shard_of(&flow, stage.script.setting.shards);
-    turned_at(server, shard, verdict_turn(verdict, flow))
+    change_at(server, shard, verdict_change(verdict, flow))
 }
 
-fn close_turn(stage: &Stage, server: ServerId, flow: Flow, closed: bool) -> Option<Turned>
+fn close_change(stage: &Stage, server: ServerId, flow: Flow, closed: bool) -> Option<ShardChange>
     requires { HasRanges stage.now }
-    ensures { result ≡ kept.turn_of stage.now (What.Close server flow closed) }
+    ensures { result ≡ kept.change_of stage.now (What.Close server flow closed) }
 {
-    let turn = if closed { Some(Turn::Ends(flow)) } else { None };
+    let flow_change = if closed {
+        Some(FlowChange::Ends(flow))
+    } else {
+        None
+    };
     let shard = shard_of(&flow, stage.script.setting.shards);
-    turned_at(server, shard, turn)
+    change_at(server, shard, flow_change)
 }
 
-fn retire_turn(server: ServerId, shard: u16, answer: Retirement) -> Option<Turned>
+fn retire_change(server: ServerId, shard: u16, answer: Retirement) -> Option<ShardChange>
     ensures { result
-        ≡ kept.turned_at server shard (if past.is_done answer then Some Turn.Empties else None) }
+        ≡ kept.change_at server shard
+        (if past.is_done answer then Some FlowChange.Empties else None) }
 {
-    let turn = match answer {
-        Retirement::Done => Some(Turn::Empties),
+    let flow_change = match answer {
+        Retirement::Done => Some(FlowChange::Empties),
         Retirement::NotDrained | Retirement::TooEarly(_) => None,
     };
-    turned_at(server, shard, turn)
+    change_at(server, shard, flow_change)
 }
 
 /// What the event does to a shard, where it does anything.
-fn turn_of(stage: &Stage, what: What) -> Option<Turned>
+fn change_of(stage: &Stage, what: What) -> Option<ShardChange>
     requires { HasRanges stage.now }
-    ensures { result ≡ kept.turn_of stage.now what }
+    ensures { result ≡ kept.change_of stage.now what }
 {
     match what {
         What::Arrive {
@@ -106,18 +114,18 @@ fn turn_of(stage: &Stage, what: What) -> Option<Turned>
             server,
             verdict,
             ..
-        } => arrival_turn(stage, server, verdict, stage.segment(packet)),
+        } => arrival_change(stage, server, verdict, stage.segment(packet)),
         What::Close {
             server,
             flow,
             closed,
-        } => close_turn(stage, server, flow, closed),
+        } => close_change(stage, server, flow, closed),
         What::Retire {
             server,
             shard,
             result,
             ..
-        } => retire_turn(server, shard, result),
+        } => retire_change(server, shard, result),
         What::Publish(_)
         | What::Switch { .. }
         | What::Steer { .. }
@@ -149,42 +157,42 @@ fn end(flows: &mut BTreeSet<Flow>, flow: &Flow)
 
 /// The flows that a shard holds, and the most that it held at once.
 #[derive(Drop)]
-pub(crate) struct Filling {
+pub(crate) struct HeldFlows {
     pub(crate) flows: BTreeSet<Flow>,
     pub(crate) most: u64,
 }
 
-impl Filling {
+impl HeldFlows {
     /// What is kept of the shard, or of one that held nothing.
-    fn start(alloc: Global, before: Option<Filling>) -> Filling
-        ensures { (flows : List Flow) (most : ℕ) → kept.IsFilling flows most before
-            → kept.IsFilling flows most (Some result) }
+    fn start(alloc: Global, before: Option<HeldFlows>) -> HeldFlows
+        ensures { (flows : List Flow) (most : ℕ) → kept.AreHeldFlows flows most before
+            → kept.AreHeldFlows flows most (Some result) }
     {
         match before {
-            Some(filling) => filling,
-            None => Filling {
+            Some(held_flows) => held_flows,
+            None => HeldFlows {
                 flows: BTreeSet::new(alloc),
                 most: 0,
             },
         }
     }
 
-    fn change(&mut self, turn: Turn) -> Result<(), AllocError>
+    fn change(&mut self, flow_change: FlowChange) -> Result<(), AllocError>
         ensures flows { OnOk result ((flows : List Flow) → AreDistinct flows
             → kept.AreFlows flows self.old.flows
-            → kept.AreFlows (kept.flows_by turn flows) self.new.flows) }
+            → kept.AreFlows (kept.flows_by flow_change flows) self.new.flows) }
         ensures most { self.new.most ≡ self.old.most }
     {
-        match turn {
-            Turn::Opens(flow) => {
+        match flow_change {
+            FlowChange::Opens(flow) => {
                 open(&mut self.flows, flow)?;
                 Ok(())
             }
-            Turn::Ends(flow) => {
+            FlowChange::Ends(flow) => {
                 end(&mut self.flows, &flow);
                 Ok(())
             }
-            Turn::Empties => {
+            FlowChange::Empties => {
                 self.flows.clear();
                 Ok(())
             }
@@ -201,58 +209,58 @@ impl Filling {
 
 /// What is kept of each shard of each server, after some events.
 #[derive(Drop)]
-pub(crate) struct Fillings {
-    fillings: BTreeMap<ShardKey, Filling>,
+pub(crate) struct HeldByShards {
+    held: BTreeMap<ShardKey, HeldFlows>,
 }
 
-impl Fillings {
+impl HeldByShards {
     ghost use Rattle.bm_connections.specs.declared.held.ShardKey.{ShardKey};
 
-    fn new(alloc: Global) -> Fillings
-        ensures { (stage : Stage) → kept.AreFillings stage [] (kept.filling result) }
+    fn new(alloc: Global) -> HeldByShards
+        ensures { (stage : Stage) → kept.AreHeldByShards stage [] (kept.held_flows result) }
     {
-        Fillings {
-            fillings: BTreeMap::new(alloc),
+        HeldByShards {
+            held: BTreeMap::new(alloc),
         }
     }
 
     /// Takes away what is kept of the shard.
-    fn take(&mut self, key: ShardKey) -> Option<Filling>
-        ensures filling { result ≡ kept.filling self.old key }
+    fn take(&mut self, key: ShardKey) -> Option<HeldFlows>
+        ensures held_flows { result ≡ kept.held_flows self.old key }
         ensures others { (q : ShardKey) → kept.same_key key q ≡ false
-            → kept.filling self.new q ≡ kept.filling self.old q }
+            → kept.held_flows self.new q ≡ kept.held_flows self.old q }
     {
-        self.fillings.remove(&key)
+        self.held.remove(&key)
     }
 
-    fn put(&mut self, key: ShardKey, filling: Filling) -> Result<(), AllocError>
-        ensures { OnOk result ((q : ShardKey) → kept.filling self.new q
-            ≡ (if kept.same_key key q then Some filling else kept.filling self.old q)) }
+    fn put(&mut self, key: ShardKey, held_flows: HeldFlows) -> Result<(), AllocError>
+        ensures { OnOk result ((q : ShardKey) → kept.held_flows self.new q
+            ≡ (if kept.same_key key q then Some held_flows else kept.held_flows self.old q)) }
     {
-        self.fillings.insert(key, filling)?;
+        self.held.insert(key, held_flows)?;
         Ok(())
     }
 
     /// Does this to the shard.
-    fn turn(&mut self, alloc: Global, turned: Turned) -> Result<(), AllocError>
+    fn apply(&mut self, alloc: Global, change: ShardChange) -> Result<(), AllocError>
         ensures here { OnOk result ((flows : List Flow) (most : ℕ) → AreDistinct flows
-            → kept.IsFilling flows most (kept.filling self.old turned.key)
-            → kept.IsFilling (kept.flows_by turned.turn flows)
-            (max (length (kept.flows_by turned.turn flows)) most)
-            (kept.filling self.new turned.key)) }
-        ensures others { OnOk result ((q : ShardKey) → kept.same_key turned.key q ≡ false
-            → kept.filling self.new q ≡ kept.filling self.old q) }
+            → kept.AreHeldFlows flows most (kept.held_flows self.old change.key)
+            → kept.AreHeldFlows (kept.flows_by change.flow_change flows)
+            (max (length (kept.flows_by change.flow_change flows)) most)
+            (kept.held_flows self.new change.key)) }
+        ensures others { OnOk result ((q : ShardKey) → kept.same_key change.key q ≡ false
+            → kept.held_flows self.new q ≡ kept.held_flows self.old q) }
     {
-        let before = self.take(turned.key);
-        let mut filling = Filling::start(alloc, before);
-        filling.change(turned.turn)?;
-        filling.count();
-        self.put(turned.key, filling)?;
+        let before = self.take(change.key);
+        let mut held_flows = HeldFlows::start(alloc, before);
+        held_flows.change(change.flow_change)?;
+        held_flows.count();
+        self.put(change.key, held_flows)?;
         Ok(())
     }
 
     /// Takes note of the event that comes after these.
-    #[tactic(auto, using(crate::proofs::Holding::fillings_still, crate::proofs::Holding::fillings_turned))]
+    #[tactic(auto, using(crate::proofs::Holding::held_still, crate::proofs::Holding::held_changed))]
     fn note(
         &mut self,
         alloc: Global,
@@ -261,13 +269,13 @@ impl Fillings {
         event: &Event,
     ) -> Result<(), AllocError>
         requires ranges { HasRanges stage.now }
-        requires fillings { kept.AreFillings stage.now (reverse events.now)
-            (kept.filling self.old) }
-        ensures { OnOk result (kept.AreFillings stage.now (event.now ∷ reverse events.now)
-            (kept.filling self.new)) }
+        requires held { kept.AreHeldByShards stage.now (reverse events.now)
+            (kept.held_flows self.old) }
+        ensures { OnOk result (kept.AreHeldByShards stage.now (event.now ∷ reverse events.now)
+            (kept.held_flows self.new)) }
     {
-        if let Some(turned) = turn_of(stage, event.what) {
-            self.turn(alloc, turned)?;
+        if let Some(change) = change_of(stage, event.what) {
+            self.apply(alloc, change)?;
         }
         Ok(())
     }
@@ -275,11 +283,11 @@ impl Fillings {
     /// The most that the shard held at once.
     fn most_in(&self, key: ShardKey) -> u64
         ensures { (flows : List Flow) (most : ℕ)
-            → kept.IsFilling flows most (kept.filling self.now key) → result ≡ most }
+            → kept.AreHeldFlows flows most (kept.held_flows self.now key) → result ≡ most }
     {
-        match self.fillings.get(&key) {
+        match self.held.get(&key) {
             None => 0,
-            Some(filling) => filling.most,
+            Some(held_flows) => held_flows.most,
         }
     }
 
@@ -291,7 +299,7 @@ impl Fillings {
         server: ServerId,
         shards: u16,
     ) -> u64
-        requires { kept.AreFillings stage.now (reverse events.now) (kept.filling self.now) }
+        requires { kept.AreHeldByShards stage.now (reverse events.now) (kept.held_flows self.now) }
         ensures { result ≡ most_among stage.now (reverse events.now) server shards }
     {
         let mut most = 0;
@@ -307,19 +315,19 @@ impl Fillings {
 }
 
 /// What is kept of each shard after these events.
-#[tactic(auto, using(crate::proofs::Holding::fillings_more))]
-pub(crate) fn fillings_of(
+#[tactic(auto, using(crate::proofs::Holding::held_more))]
+pub(crate) fn held_by_shards(
     alloc: Global,
     stage: &Stage,
     events: &[Event],
-) -> Result<Fillings, AllocError>
+) -> Result<HeldByShards, AllocError>
     requires { HasRanges stage.now }
     ensures { IfOk result
-        (λ fillings. kept.AreFillings stage.now (reverse events.now) (kept.filling fillings)) }
+        (λ held. kept.AreHeldByShards stage.now (reverse events.now) (kept.held_flows held)) }
 {
-    let mut fillings = Fillings::new(alloc);
+    let mut held = HeldByShards::new(alloc);
     for (place, event) in events.iter().enumerate() {
-        fillings.note(alloc, stage, &events[..place], event)?;
+        held.note(alloc, stage, &events[..place], event)?;
     }
-    Ok(fillings)
+    Ok(held)
 }

@@ -6,10 +6,10 @@ ghost use Rattle.bm_base.specs.declared.ids.ServerId.{ServerId};
 ghost use Rattle.bm_table.specs.Tables.{same_server};
 ghost use Rattle.bm_core.specs.Runs.{IsRun};
 ghost use Rattle.bm_connections.specs.Counts as spec;
-ghost use Rattle.bm_connections.specs.Held.{AreFillings, filling};
+ghost use Rattle.bm_connections.specs.Held.{AreHeldByShards, held_flows};
 ghost use Rattle.bm_connections.specs.Loads as kept;
 
-use crate::held::{Fillings, fillings_of};
+use crate::held::{HeldByShards, held_by_shards};
 use crate::noted::{as_break, is_accept, is_process, one_more};
 use bm_base::{List, Memory, ServerId};
 use bm_core::{Event, History, Stage, Verdict};
@@ -119,11 +119,11 @@ fn server_count(
     stage: &Stage,
     events: &[Event],
     loads: &Loads,
-    fillings: &Fillings,
+    held: &HeldByShards,
     server: ServerId,
 ) -> ServerCount
     requires loads { kept.AreLoads (reverse events.now) (kept.load loads.now) }
-    requires fillings { AreFillings stage.now (reverse events.now) (filling fillings.now) }
+    requires held { AreHeldByShards stage.now (reverse events.now) (held_flows held.now) }
     ensures { result ≡ spec.server_count stage.now (reverse events.now) server }
 {
     let setting = &stage.script.setting;
@@ -132,7 +132,7 @@ fn server_count(
         server,
         accepted: served.accepted,
         processed: served.processed,
-        most_held: fillings.most_among(stage, events, server, setting.shards),
+        most_held: held.most_among(stage, events, server, setting.shards),
         capacity: setting.capacity,
     }
 }
@@ -148,10 +148,10 @@ pub fn server_counts(
 {
     let events = h.events.items();
     let loads = loads_of(alloc, events)?;
-    let fillings = fillings_of(alloc, &h.stage, events)?;
+    let held = held_by_shards(alloc, &h.stage, events)?;
     let mut list = Vec::with_capacity(alloc, servers.len())?;
     for server in servers {
-        list.push(server_count(&h.stage, events, &loads, &fillings, *server))?;
+        list.push(server_count(&h.stage, events, &loads, &held, *server))?;
     }
     Ok(List::of(list))
 }

@@ -1,6 +1,6 @@
 use Rattle.std.proofs.Common.{◌≡◌, ◌+◌, max, suc, ◌∙◌, arith, reverse, subst}
 use Rattle.bm_connections.specs.Counts.{most_among, most_in_shard}
-use Rattle.bm_connections.proofs.held.Fillings.most_among.Goals as goal
+use Rattle.bm_connections.proofs.held.HeldByShards.most_among.Goals as goal
 
 pub loop-shard-preserved : goal.loop-shard-preserved
 loop-shard-preserved c =
