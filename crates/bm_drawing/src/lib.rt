@@ -1,0 +1,16 @@
+//! A drawing of a history's connections over time, in SVG 1.1.
+#![tactic(auto)]
+
+mod axis;
+mod changes;
+mod legend;
+mod plot;
+mod rows;
+mod scale;
+mod shapes;
+mod svg;
+
+pub use svg::drawing;
+
+#[cfg(test)]
+mod tests;

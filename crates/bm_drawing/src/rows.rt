@@ -1,0 +1,157 @@
+//! The connections, one under the other.
+ghost use Rattle.std.specs.Prelude.{◌≡◌, ◌++◌, Some, OnOk, string_bytes};
+ghost use Rattle.bm_connections.specs.Text.{server_word};
+ghost use Rattle.bm_drawing.specs.Drawing as spec;
+
+use crate::legend::colour_of;
+use crate::plot::Plot;
+use crate::scale::x_of;
+use crate::shapes::{Group, Line, Mark};
+use bm_base::ServerId;
+use bm_connections::{Break, Connection};
+use bm_trace::{BecauseWords, Endpoint, VerdictWords};
+use std::alloc::AllocError;
+use std::fmt;
+
+/// A server's number, or `none`.
+#[derive(Clone, Copy)]
+struct ServerWord(Option<ServerId>);
+
+impl fmt::Display for ServerWord {
+    ghost output = { λ s. Some (server_word s.0) };
+
+    fn fmt<W: fmt::Write>(&self, f: &mut fmt::Formatter<W>) -> fmt::Result {
+        match self.0 {
+            None => write!(f, "none"),
+            Some(server) => write!(f, "{}", server.0),
+        }
+    }
+}
+
+/// A packet that was dropped, reset or a stray, each word behind a space.
+#[derive(Clone, Copy)]
+struct FaultWords(Break);
+
+impl fmt::Display for FaultWords {
+    ghost output = { λ b. Some (spec.fault_words b.0) };
+
+    fn fmt<W: fmt::Write>(&self, f: &mut fmt::Formatter<W>) -> fmt::Result {
+        let packet = self.0.packet;
+        let verdict = VerdictWords(self.0.verdict);
+        let because = BecauseWords(self.0.cause);
+        write!(f, " {packet}{verdict}{because}")
+    }
+}
+
+/// What broke or refused a connection, each word behind a space, or whether a server accepted it.
+#[derive(Clone, Copy)]
+struct EndWords {
+    broken: Option<Break>,
+    refused: Option<Break>,
+    server: Option<ServerId>,
+}
+
+impl fmt::Display for EndWords {
+    ghost output = { λ c. Some (spec.end_words c.broken c.refused c.server) };
+
+    fn fmt<W: fmt::Write>(&self, f: &mut fmt::Formatter<W>) -> fmt::Result {
+        match (self.broken, self.refused, self.server) {
+            (Some(first), _, _) => write!(f, " broken{}", FaultWords(first)),
+            (None, Some(first), _) => write!(f, " refused{}", FaultWords(first)),
+            (None, None, None) => write!(f, " unaccepted"),
+            (None, None, Some(_)) => write!(f, " whole"),
+        }
+    }
+}
+
+/// The mark of what broke or refused a connection, or nothing.
+#[derive(Clone, Copy)]
+struct FaultMark {
+    plot: Plot,
+    y: u128,
+    broken: Option<Break>,
+    refused: Option<Break>,
+}
+
+#[tactic(auto, unfolding(crate::specs::Drawing::fault_mark))]
+impl fmt::Display for FaultMark {
+    ghost output = { λ m. Some (spec.fault_mark m.plot m.y m.broken m.refused) };
+
+    fn fmt<W: fmt::Write>(&self, f: &mut fmt::Formatter<W>) -> fmt::Result {
+        let y = self.y;
+        let (broken, fault) = match (self.broken, self.refused) {
+            (Some(fault), _) => (true, fault),
+            (None, Some(fault)) => (false, fault),
+            (None, None) => return Ok(()),
+        };
+        let x = x_of(self.plot.span, fault.clock.0);
+        write!(f, "{}", Mark { broken, x, y })
+    }
+}
+
+/// The client, the service, the server that accepted the connection last, and its end.
+#[tactic(auto, unfolding(crate::specs::Drawing::title))]
+fn write_title(text: &mut String, c: &Connection) -> Result<(), AllocError>
+    ensures { OnOk result (string_bytes text.new ≡ string_bytes text.old ++ spec.title c.now) }
+{
+    let client = Endpoint {
+        addr: c.flow.src,
+        port: c.flow.sport,
+    };
+    let service = Endpoint {
+        addr: c.flow.dst,
+        port: c.flow.dport,
+    };
+    let server = ServerWord(c.server);
+    let end = EndWords {
+        broken: c.broken,
+        refused: c.refused,
+        server: c.server,
+    };
+    write!(text, "<title>client {client} service {service}")?;
+    write!(text, " server {server}{end}</title>")
+}
+
+/// A line from the first to the last packet of a connection, with its title and its mark.
+fn write_connection(
+    text: &mut String,
+    plot: Plot,
+    place: usize,
+    c: &Connection,
+) -> Result<(), AllocError>
+    ensures { OnOk result (string_bytes text.new
+        ≡ string_bytes text.old ++ spec.connection plot place c.now) }
+{
+    let y = plot.row(place);
+    let group = Group(colour_of(c.server));
+    let line = Line {
+        x1: x_of(plot.span, c.first.moment.0),
+        y1: y,
+        x2: x_of(plot.span, c.last.moment.0),
+        y2: y,
+    };
+    let mark = FaultMark {
+        plot,
+        y,
+        broken: c.broken,
+        refused: c.refused,
+    };
+    write!(text, "{group}")?;
+    write_title(text, c)?;
+    writeln!(text, "{line}{mark}</g>")
+}
+
+/// The connections, one under the other.
+pub(crate) fn write_connections(
+    text: &mut String,
+    plot: Plot,
+    table: &[Connection],
+) -> Result<(), AllocError>
+    ensures { OnOk result (string_bytes text.new
+        ≡ string_bytes text.old ++ spec.connections plot 0 table.now) }
+{
+    for (place, connection) in table.iter().enumerate() {
+        write_connection(text, plot, place, connection)?;
+    }
+    Ok(())
+}

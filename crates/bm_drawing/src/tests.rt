@@ -1,0 +1,250 @@
+use super::*;
+use bm_base::{Capture, Flow, List, Moment, ServerId, Version};
+use bm_connections::{Break, Connection, Sight, Tally};
+use bm_core::{Cause, Event, History, Stage, Verdict, What, Why};
+use bm_table::{Plan, Script, Setting};
+use std::alloc::Global;
+use std::process::Abort;
+use std::test::Fail;
+
+/// Three changes, and a sync, which isn't drawn.
+static EVENTS: [Event; 4] = [
+    Event {
+        clock: Moment(500_000_001),
+        what: What::Publish(Version(1)),
+    },
+    Event {
+        clock: Moment(500_000_003),
+        what: What::Publish(Version(2)),
+    },
+    Event {
+        clock: Moment(700_000_000),
+        what: What::Publish(Version(3)),
+    },
+    Event {
+        clock: Moment(9_000_000_000),
+        what: What::Sync,
+    },
+];
+
+/// A connection that breaks, one that is refused, and one that is whole.
+static TABLE: [Connection; 3] = [
+    Connection {
+        flow: Flow {
+            src: 0x0a00_0001,
+            dst: 0xc000_0201,
+            sport: 1000,
+            dport: 80,
+        },
+        first: Sight {
+            number: 1,
+            moment: Moment(0),
+        },
+        last: Sight {
+            number: 4,
+            moment: Moment(1_999_999_998),
+        },
+        server: Some(ServerId(1)),
+        tally: Tally {
+            accepted: 1,
+            processed: 0,
+            forwarded: 0,
+            reset: 1,
+            dropped: 0,
+            stray: 0,
+        },
+        forwarded: None,
+        broken: Some(Break {
+            packet: 4,
+            clock: Moment(2_000_000_000),
+            server: ServerId(2),
+            verdict: Verdict::Reset(Why::ChainExpired),
+            cause: Some(Cause::ChainLate),
+        }),
+        refused: None,
+    },
+    Connection {
+        flow: Flow {
+            src: 0x0a00_0001,
+            dst: 0xc000_0201,
+            sport: 1002,
+            dport: 80,
+        },
+        first: Sight {
+            number: 2,
+            moment: Moment(250_000_000),
+        },
+        last: Sight {
+            number: 2,
+            moment: Moment(250_000_000),
+        },
+        server: None,
+        tally: Tally {
+            accepted: 0,
+            processed: 0,
+            forwarded: 0,
+            reset: 0,
+            dropped: 1,
+            stray: 0,
+        },
+        forwarded: None,
+        broken: None,
+        refused: Some(Break {
+            packet: 2,
+            clock: Moment(250_000_002),
+            server: ServerId(1),
+            verdict: Verdict::Drop(Why::Full),
+            cause: Some(Cause::Full),
+        }),
+    },
+    Connection {
+        flow: Flow {
+            src: 0x0a00_0001,
+            dst: 0xc000_0201,
+            sport: 1004,
+            dport: 80,
+        },
+        first: Sight {
+            number: 3,
+            moment: Moment(300_000_000),
+        },
+        last: Sight {
+            number: 5,
+            moment: Moment(600_000_000),
+        },
+        server: Some(ServerId(9)),
+        tally: Tally {
+            accepted: 1,
+            processed: 1,
+            forwarded: 0,
+            reset: 0,
+            dropped: 0,
+            stray: 0,
+        },
+        forwarded: None,
+        broken: None,
+        refused: None,
+    },
+];
+
+static TEXT: &str =
+    "<svg xmlns='http://www.w3.org/2000/svg' version='1.1' width='1080' height='146' \
+     viewBox='0 0 1080 146' font-family='sans-serif' font-size='11'>\n\
+     <title>connections</title>\n\
+     <rect width='1080' height='146' fill='#ffffff'/>\n\
+     <g stroke-width='4' stroke-linecap='round'>\n\
+     <g stroke='#999999'><line x1='40' y1='20' x2='60' y2='20'/>\
+     <text x='68' y='24' stroke='none'>accepted by no server</text></g>\n\
+     <circle cx='300' cy='20' r='3' fill='#000000' stroke='#ffffff' stroke-width='1'/>\
+     <text x='308' y='24' stroke='none'>broken</text>\n\
+     <circle cx='425' cy='20' r='2' fill='#ffffff' stroke='#000000' stroke-width='1'/>\
+     <text x='433' y='24' stroke='none'>refused</text>\n\
+     <g stroke='#000000' stroke-width='1' stroke-dasharray='4 2'>\
+     <line x1='550' y1='12' x2='550' y2='28'/>\
+     <text x='558' y='24' stroke='none'>change of the table, with its version</text></g>\n\
+     <g stroke='#0072b2'><line x1='40' y1='38' x2='60' y2='38'/>\
+     <text x='68' y='42' stroke='none'>server 1</text></g>\n\
+     <g stroke='#0072b2'><line x1='165' y1='38' x2='185' y2='38'/>\
+     <text x='193' y='42' stroke='none'>server 9</text></g>\n\
+     </g>\n\
+     <g text-anchor='middle'>\n\
+     <g stroke='#dddddd'><line x1='40' y1='92' x2='40' y2='122'/>\
+     <text x='40' y='72' stroke='none'>0.000 s</text>\
+     <text x='40' y='134' stroke='none'>0.000 s</text></g>\n\
+     <g stroke='#dddddd'><line x1='290' y1='92' x2='290' y2='122'/>\
+     <text x='290' y='72' stroke='none'>0.500 s</text>\
+     <text x='290' y='134' stroke='none'>0.500 s</text></g>\n\
+     <g stroke='#dddddd'><line x1='540' y1='92' x2='540' y2='122'/>\
+     <text x='540' y='72' stroke='none'>1.000 s</text>\
+     <text x='540' y='134' stroke='none'>1.000 s</text></g>\n\
+     <g stroke='#dddddd'><line x1='790' y1='92' x2='790' y2='122'/>\
+     <text x='790' y='72' stroke='none'>1.500 s</text>\
+     <text x='790' y='134' stroke='none'>1.500 s</text></g>\n\
+     <g stroke='#dddddd'><line x1='1040' y1='92' x2='1040' y2='122'/>\
+     <text x='1040' y='72' stroke='none'>2.000 s</text>\
+     <text x='1040' y='134' stroke='none'>2.000 s</text></g>\n\
+     <g stroke='#000000' stroke-width='1' stroke-dasharray='4 2'><title>version 1</title>\
+     <line x1='290' y1='92' x2='290' y2='116'/></g>\
+     <text x='290' y='88' stroke='none'>1</text>\n\
+     <g stroke='#000000' stroke-width='1' stroke-dasharray='4 2'><title>version 2</title>\
+     <line x1='290' y1='92' x2='290' y2='116'/></g>\n\
+     <g stroke='#000000' stroke-width='1' stroke-dasharray='4 2'><title>version 3</title>\
+     <line x1='390' y1='92' x2='390' y2='116'/></g>\
+     <text x='390' y='88' stroke='none'>3</text>\n\
+     </g>\n\
+     <g stroke-width='4' stroke-linecap='round'>\n\
+     <g stroke='#0072b2'><title>client 10.0.0.1:1000 service 192.0.2.1:80 \
+     server 1 broken 4 reset chain-expired because chain-late</title>\
+     <line x1='40' y1='101' x2='1039' y2='101'/>\
+     <circle cx='1040' cy='101' r='3' fill='#000000' stroke='#ffffff' stroke-width='1'/></g>\n\
+     <g stroke='#999999'><title>client 10.0.0.1:1002 service 192.0.2.1:80 \
+     server none refused 2 drop full because full</title>\
+     <line x1='165' y1='107' x2='165' y2='107'/>\
+     <circle cx='165' cy='107' r='2' fill='#ffffff' stroke='#000000' stroke-width='1'/></g>\n\
+     <g stroke='#0072b2'><title>client 10.0.0.1:1004 service 192.0.2.1:80 server 9 whole</title>\
+     <line x1='190' y1='113' x2='340' y2='113'/></g>\n\
+     </g>\n\
+     </svg>\n";
+
+static EMPTY: &str =
+    "<svg xmlns='http://www.w3.org/2000/svg' version='1.1' width='1080' height='110' \
+     viewBox='0 0 1080 110' font-family='sans-serif' font-size='11'>\n\
+     <title>connections</title>\n\
+     <rect width='1080' height='110' fill='#ffffff'/>\n\
+     <g stroke-width='4' stroke-linecap='round'>\n\
+     <g stroke='#999999'><line x1='40' y1='20' x2='60' y2='20'/>\
+     <text x='68' y='24' stroke='none'>accepted by no server</text></g>\n\
+     <circle cx='300' cy='20' r='3' fill='#000000' stroke='#ffffff' stroke-width='1'/>\
+     <text x='308' y='24' stroke='none'>broken</text>\n\
+     <circle cx='425' cy='20' r='2' fill='#ffffff' stroke='#000000' stroke-width='1'/>\
+     <text x='433' y='24' stroke='none'>refused</text>\n\
+     <g stroke='#000000' stroke-width='1' stroke-dasharray='4 2'>\
+     <line x1='550' y1='12' x2='550' y2='28'/>\
+     <text x='558' y='24' stroke='none'>change of the table, with its version</text></g>\n\
+     </g>\n\
+     <g text-anchor='middle'>\n\
+     <g stroke='#dddddd'><line x1='40' y1='74' x2='40' y2='86'/>\
+     <text x='40' y='54' stroke='none'>0.000000000 s</text>\
+     <text x='40' y='98' stroke='none'>0.000000000 s</text></g>\n\
+     </g>\n\
+     <g stroke-width='4' stroke-linecap='round'>\n\
+     </g>\n\
+     </svg>\n";
+
+/// A history of these events.
+fn history(alloc: Global, events: &[Event]) -> Result<History, Fail> {
+    let script = Script {
+        setting: Setting::plain(alloc)?,
+        plan: Plan::new(alloc, 8, &[ServerId(1), ServerId(2)])?,
+        commands: List::of(Vec::new(alloc)),
+    };
+    let records = List::of(Vec::new(alloc));
+    let capture = Capture { records, cut: None };
+    let stage = Stage { script, capture };
+    let events = List::of(Vec::from_slice(alloc, events)?);
+    Ok(History { stage, events })
+}
+
+/// Tests the drawing of these connections in a history of these events.
+fn check(
+    rt: &impl Abort,
+    alloc: Global,
+    events: &[Event],
+    table: &[Connection],
+    text: &str,
+) -> Result<(), Fail> {
+    let h = history(alloc, events)?;
+    let drawn = drawing(alloc, &h, table)?;
+    assert_eq!(rt; drawn.as_str(), text);
+    Ok(())
+}
+
+#[test]
+fn connections_and_changes_are_drawn(rt: HostRuntime) -> Result<(), Fail> {
+    check(&rt, rt.alloc(), &EVENTS, &TABLE, TEXT)
+}
+
+#[test]
+fn nothing_is_drawn_where_there_is_nothing(rt: HostRuntime) -> Result<(), Fail> {
+    check(&rt, rt.alloc(), &[], &[], EMPTY)
+}
