@@ -262,9 +262,11 @@ none_under : (xs : List Event) → AllByRecursion (λ x. AllByRecursion (λ (a :
 none_under [] = tt
 none_under (x ∷ xs) = (tt, none_under xs)
 
+pub falling_rises : (xs : List Event) → IsFalling (λ x. x.clock.0) xs → IsRising (reverse xs)
+falling_rises xs falls = turned_onto xs [] falls tt (none_under xs)
+
 pub in_order_rises : (events : List Event) → IsRising (in_order events)
-in_order_rises events =
-    turned_onto (by_clock (reverse events)) [] (clock_falls (reverse events)) tt (none_under (by_clock (reverse events)))
+in_order_rises events = falling_rises (by_clock (reverse events)) (clock_falls (reverse events))
 
 place_top : (e : Event) (s : List Event) → AllByRecursion (λ x. x.clock.0 ≤ e.clock.0) s → place_in e s ≡ e ∷ s
 place_top e [] h = refl
@@ -350,3 +352,37 @@ fewer_on logs heads at h x s next =
     let left : length (left_of logs h) ≡ suc (length (behind_of logs h)) = refl in
     let same = ap (λ (l : List Event). length l) next in
     omega arith
+
+-- LOG BY LOG
+
+taken_one : (l : List Event) (i : ℕ) (e : Event) → slice_get l i ≡ Some e → take (suc i) l ≡ take i l ++ e ∷ []
+taken_one [] i e h = absurd (cc)
+taken_one (x ∷ l) zero e h = ap (λ (o : Option Event). unwrap_or o x ∷ []) h
+taken_one (x ∷ l) (suc i) e h = ap (λ (r : List Event). x ∷ r) (taken_one l i e h)
+
+pub event_more : (l : List Event) (i : ℕ) (first old new : List Event) (e : Event) → old ≡ first ++ take i l
+    → new ≡ old ++ e ∷ [] → slice_get l i ≡ Some e → new ≡ first ++ take (i + 1) l
+event_more l i first old new e was is at =
+    let one : i + 1 ≡ suc i = omega arith in
+    rw one
+    (is ∙ ap (λ (r : List Event). r ++ e ∷ []) was ∙ sym (associated first (take i l) (e ∷ []))
+    ∙ ap (λ (r : List Event). first ++ r) (sym (taken_one l i e at)))
+
+pub log_more : {L : Type 0} (events : L → List Event) (logs : List L) (i : ℕ) (old new : List Event) (item : L)
+    → old ≡ joined (map events (take i logs)) → i < length logs → new ≡ old ++ events item
+    → item ≡ slice_index_or logs i item → new ≡ joined (map events (take (i + 1) logs))
+log_more events logs i old new item was lt is at =
+    let one : i + 1 ≡ suc i = omega arith in
+    rw one
+    (is ∙ ap (λ (r : List Event). r ++ events item) was
+    ∙ ap (λ (r : List Event). joined (map events (take i logs)) ++ r) (ap events at)
+    ∙ sym (taken_log events logs i item lt))
+  where
+    taken_log : {L : Type 0} (events : L → List Event) (logs : List L) (i : ℕ) (d : L) → i < length logs
+        → joined (map events (take (suc i) logs))
+        ≡ joined (map events (take i logs)) ++ events (slice_index_or logs i d)
+    taken_log events [] i d lt = absurd (omega arith)
+    taken_log events (x ∷ logs) zero d lt = none_more (events x)
+    taken_log events (x ∷ logs) (suc i) d lt =
+        ap (λ (r : List Event). events x ++ r) (taken_log events logs i d (omega arith))
+        ∙ associated (events x) (joined (map events (take i logs))) (events (slice_index_or logs i d))

@@ -31,7 +31,7 @@ fn join(alloc: Global, logs: &[Log]) -> Result<Vec<Event>, Memory>
 }
 
 /// The events by clock, those of one clock in the order that they have.
-fn in_order(events: Vec<Event>) -> Result<Vec<Event>, Memory>
+pub(crate) fn in_order(events: Vec<Event>) -> Result<Vec<Event>, Memory>
     ensures { IfOk result (λ v. v.items ≡ reverse (by_clock (reverse events.items))) }
 {
     let mut events = events;

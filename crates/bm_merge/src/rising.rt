@@ -1,13 +1,17 @@
 //! Logs whose clocks don't fall, merged event by event.
-ghost use Rattle.std.specs.Prelude.{◌≡◌, ◌<◌, ◌++◌, List, length, map, slice_get, Some, IfOk};
+ghost use Rattle.std.specs.Prelude.{◌≡◌, ◌<◌, ◌++◌, List, length, map, slice_get, Some, IfOk, OnOk};
 ghost use Rattle.std.specs.List.{AllByRecursion};
 ghost use Rattle.bm_core.specs.declared.events.Event.{Event};
 ghost use Rattle.bm_merge.specs.Merges.{joined};
-ghost use Rattle.bm_merge.specs.Rising.{AreStanding, IsEarliest, IsRising, IsNextOf, in_order, lefts};
+ghost use Rattle.bm_merge.specs.Rising.{AreStanding, IsEarliest, IsRising, IsNextOf, in_order as by_order, lefts};
 
+use crate::logs::in_order;
 use bm_base::Memory;
 use bm_core::Event;
 use std::alloc::{AllocError, Global};
+
+/// Of more logs than these the events are sorted: to look at the next event of each takes longer.
+const MOST_HEADS: usize = 64;
 
 /// A log that is read event by event.
 pub trait EventLog {
@@ -90,14 +94,38 @@ fn room_of<L: EventLog>(logs: &[L]) -> usize {
     room
 }
 
-/// All events of the logs, whose clocks don't fall, by clock. Those of one clock stand in the order
-/// of the logs.
-pub fn merge_rising<L: EventLog>(alloc: Global, logs: &[L]) -> Result<Vec<Event>, Memory>
-    requires { AllByRecursion IsRising (map L.events logs.now) }
-    ensures { IfOk result
-        (λ events. events.items ≡ in_order (joined (map L.events logs.now))) }
+/// Adds the events of the log.
+fn add_log<L: EventLog>(log: &L, events: &mut Vec<Event>) -> Result<(), AllocError>
+    ensures { OnOk result (events.new.items ≡ events.old.items ++ L.events log.now) }
 {
-    let mut heads = first_heads(alloc, logs)?;
+    for place in 0..log.count() {
+        events.push(log.event(place))?;
+    }
+    Ok(())
+}
+
+/// All events of the logs, log by log.
+fn join_all<L: EventLog>(alloc: Global, logs: &[L]) -> Result<Vec<Event>, AllocError>
+    ensures { IfOk result (λ events. events.items ≡ joined (map L.events logs.now)) }
+{
+    let mut events = Vec::with_capacity(alloc, room_of(logs))?;
+    for log in logs {
+        add_log(log, &mut events)?;
+    }
+    Ok(events)
+}
+
+/// Takes the event of the least clock, again and again, until no log has one.
+fn take_all<L: EventLog>(
+    alloc: Global,
+    logs: &[L],
+    heads: Vec<Head>,
+) -> Result<Vec<Event>, AllocError>
+    requires { AreStanding (map L.events logs.now) heads.items }
+    ensures { IfOk result
+        (λ events. events.items ≡ by_order (joined (lefts (map L.events logs.now) heads.items))) }
+{
+    let mut heads = heads;
     let mut events = Vec::with_capacity(alloc, room_of(logs))?;
     while !heads.is_empty() {
         let at = earliest(&heads);
@@ -111,4 +139,18 @@ pub fn merge_rising<L: EventLog>(alloc: Global, logs: &[L]) -> Result<Vec<Event>
         }
     }
     Ok(events)
+}
+
+/// All events of the logs, whose clocks don't fall, by clock. Those of one clock stand in the order
+/// of the logs.
+pub fn merge_rising<L: EventLog>(alloc: Global, logs: &[L]) -> Result<Vec<Event>, Memory>
+    requires { AllByRecursion IsRising (map L.events logs.now) }
+    ensures { IfOk result
+        (λ events. events.items ≡ by_order (joined (map L.events logs.now))) }
+{
+    let heads = first_heads(alloc, logs)?;
+    if heads.len() > MOST_HEADS {
+        return in_order(join_all(alloc, logs)?);
+    }
+    Ok(take_all(alloc, logs, heads)?)
 }

@@ -1,13 +1,13 @@
 use Rattle.std.proofs.Common.{◌≡◌, ◌++◌, length, map}
 use Rattle.bm_merge.specs.Merges.{joined}
 use Rattle.bm_merge.specs.Rising.{AreStanding, in_order, lefts}
-use Rattle.bm_merge.proofs.rising.merge_rising.Given as goal
+use Rattle.bm_merge.proofs.rising.take_all.Given as goal
 
 abbrev pub invariant-loop-heads : goal.invariant-loop-heads
 invariant-loop-heads g l = record {
   standing : AreStanding (map g.L.EventLog.events l.logs) l.heads.items;
   all : l.events.items ++ in_order (joined (lefts (map g.L.EventLog.events l.logs) l.heads.items))
-      ≡ in_order (joined (map g.L.EventLog.events l.logs));
+      ≡ in_order (joined (lefts (map g.L.EventLog.events l.logs) l.fn.heads.items));
 }
 
 abbrev pub decreases-loop-heads : goal.decreases-loop-heads

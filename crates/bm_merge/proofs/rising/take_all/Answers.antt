@@ -3,7 +3,7 @@ use Rattle.bm_merge.specs.declared.rising.Head.{Head}
 use Rattle.bm_merge.specs.Merges.{joined}
 use Rattle.bm_merge.specs.Rising.{AreStanding, in_order, lefts}
 use Rattle.bm_merge.proofs.Heading.{ended, fewer_ended, fewer_on, next_stands, split_earliest, went_on}
-use Rattle.bm_merge.proofs.rising.merge_rising.Goals as goal
+use Rattle.bm_merge.proofs.rising.take_all.Goals as goal
 
 pub loop-heads-smaller-in-Some : goal.loop-heads-smaller-in-Some
 loop-heads-smaller-in-Some g c =
@@ -23,7 +23,7 @@ loop-heads-preserved-in-Some g c =
       standing = split.also c.in-Some.head
           (next_stands logs c.index.result.now c.in-Some.head split.stands c.in-Some.ensures.0 c.in-Some.ensures.1);
       all = went_on logs heads c.earliest-at.result c.index.result.now c.in-Some.head c.loop-heads.events.items
-          c.push.new.self.items (in_order (joined logs)) split c.loop-heads.invariant.all c.in_ok-push.ensures.items
+          c.push.new.self.items (in_order (joined (lefts logs c.args.heads.items))) split c.loop-heads.invariant.all c.in_ok-push.ensures.items
           c.in-Some.ensures.1;
     }
 
@@ -47,5 +47,5 @@ loop-heads-preserved g c =
       standing = subst (λ (l : List Head). AreStanding logs l) (sym c.remove.ensures.items) split.others;
       all = ap (λ (l : List Head). c.push.new.self.items ++ in_order (joined (lefts logs l))) c.remove.ensures.items
           ∙ ended logs heads c.earliest-at.result c.index.result.now c.loop-heads.events.items c.push.new.self.items
-          (in_order (joined logs)) split c.loop-heads.invariant.all c.in_ok-push.ensures.items c.in-None.ensures;
+          (in_order (joined (lefts logs c.args.heads.items))) split c.loop-heads.invariant.all c.in_ok-push.ensures.items c.in-None.ensures;
     }
