@@ -2,7 +2,7 @@
 use Rattle.std.proofs.Common.{◌≡◌, ℕ, zero, suc, ◌<◌, true, List, [], ◌∷◌, length, Option, Some, None, refl}
 use Rattle.std.proofs.Common.{sym, ap, ◌∙◌, subst, arith, inl, inr}
 use Rattle.std.proofs.lemmas.Bool.{cases_lt}
-use Rattle.std.specs.Prelude.{is_some, slice_get, Result, Ok, Err, IfOk}
+use Rattle.std.specs.Prelude.{is_some, slice_get}
 use Rattle.std.proofs.lemmas.Option.{same_Some, slice_get_past}
 use Rattle.bm_rows.proofs.Places.{there}
 use Rattle.bm_base.specs.declared.fate.Fate.{Fate}
@@ -112,7 +112,3 @@ run_routed R F routes h route run =
     }
 
 -- what two clauses of a call's answer give together
-pub if_ok_both : {A E : Type 0} (P Q S : A → Type 0) (r : Result A E) → ((x : A) → P x → Q x → S x) → IfOk r P
-    → IfOk r Q → IfOk r S
-if_ok_both P Q S (Ok x) f p q = f x p q
-if_ok_both P Q S (Err e) f p q = tt

@@ -20,6 +20,7 @@ pub mod GivingUp
 pub mod Told
 pub mod Phased
 pub mod Through
+pub mod Rising
 pub mod Starting
 pub mod Answered
 pub mod Numbers

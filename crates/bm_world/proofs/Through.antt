@@ -1,9 +1,9 @@
 -- What the workers and the books hand back after the last phase merges to a threaded run.
-use Rattle.std.proofs.Common.{◌≡◌, ℕ, suc, ◌+◌, ◌<◌, List, [], ◌∷◌, ◌++◌, length, map, Option, Some, refl}
-use Rattle.std.proofs.Common.{sym, ap, ◌∙◌, subst, arith, append-nil, append_assoc, take, get_or}
+use Rattle.std.proofs.Common.{◌≡◌, ℕ, suc, ◌+◌, List, [], ◌∷◌, ◌++◌, length, map, Option, Some, refl}
+use Rattle.std.proofs.Common.{sym, ap, ◌∙◌, subst, arith, append_assoc}
 use Rattle.std.specs.Prelude.{reverse, slice_get}
 use Rattle.std.specs.List.{AllByRecursion}
-use Rattle.std.proofs.lemmas.List.{map-append, reverse-append, take_more}
+use Rattle.std.proofs.lemmas.List.{map-append, reverse-append}
 use mathlib.Core.List.{IsPrefix}
 use Rattle.bm_base.specs.declared.ids.MuxId.{MuxId}
 use Rattle.bm_core.specs.declared.events.Event.{Event}
@@ -91,23 +91,11 @@ books_logged (books ∷ all) =
     ap (λ (l : List (List Event)). map book_log books ++ l) (books_logged all)
     ∙ sym (map-append book_log books (all_books all))
 
-books_append : (x y : List (List Book)) → books_logs (x ++ y) ≡ books_logs x ++ books_logs y
+pub books_append : (x y : List (List Book)) → books_logs (x ++ y) ≡ books_logs x ++ books_logs y
 books_append [] y = refl
 books_append (books ∷ x) y =
     ap (λ (l : List (List Event)). map book_log books ++ l) (books_append x y)
     ∙ sym (append_assoc (map book_log books) (books_logs x) (books_logs y))
-
--- the logs of one server's books more
-pub books_more : (all : List (List Book)) (i : ℕ) (first old new : List (List Event)) (item : List Book)
-    → old ≡ first ++ books_logs (take i all) → i < length all → new ≡ old ++ map book_log item
-    → item ≡ get_or all i item → new ≡ first ++ books_logs (take (i + 1) all)
-books_more all i first old new item was low is at =
-    is ∙ ap (λ (l : List (List Event)). l ++ map book_log item) was
-    ∙ append_assoc first (books_logs (take i all)) (map book_log item)
-    ∙ ap (λ (l : List (List Event)). first ++ l)
-    (ap (λ (l : List (List Event)). books_logs (take i all) ++ l) (sym (append-nil (map book_log item)))
-    ∙ sym (books_append (take i all) (item ∷ []))
-    ∙ ap (λ (x : List Book). books_logs (take i all ++ x ∷ [])) at ∙ ap books_logs (sym (take_more all i item low)))
 
 -- THE RUN
 

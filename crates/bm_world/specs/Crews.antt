@@ -1,7 +1,7 @@
 -- A run between two phases, after the last one, and where a worker has given up, as the code has it.
 -- Only the proofs of bodies use this.
 use Rattle.std.specs.Prelude.{◌≡◌, ◌⊎◌, ℕ, suc, ◌+◌, ◌-◌, ◌*◌, ◌^◌, ◌≤◌, max, List, [], ◌∷◌}
-use Rattle.std.specs.Prelude.{length, map, reverse, slice_get, Option, Some, None}
+use Rattle.std.specs.Prelude.{length, map, slice_get, Option, Some, None}
 use Rattle.std.specs.Prelude.{Result, Ok, Err, Bool, true, false, ◌||◌, MatchBool}
 use Rattle.std.specs.List.{AllByRecursion}
 use mathlib.Core.List.{IsPrefix}
@@ -12,7 +12,8 @@ use Rattle.bm_core.specs.declared.events.Stage.{Stage}
 use Rattle.bm_core.specs.declared.events.History.{History}
 use Rattle.bm_core.specs.Accounts.{Routes, Rules}
 use Rattle.bm_core.specs.Threads.{IsThreadedRun}
-use Rattle.bm_merge.specs.Merges.{by_clock, joined}
+use Rattle.bm_merge.specs.Merges.{joined}
+use Rattle.bm_merge.specs.Rising.{in_order}
 use Rattle.bm_merge.specs.Notes.{Note}
 use Rattle.bm_server.specs.Seats.{Seated, most_turns}
 use Rattle.bm_server.specs.Servings.{Serving}
@@ -204,7 +205,11 @@ pub record IsBack (F : Rules) (stage : Stage) (servers : List Serving) (routes :
   pub shown : (m : ℕ) (w : MuxWorker) → slice_get workers m ≡ Some w
       → IsPrefix w.mux.seen.clocks posted.clocks
 
+-- these are the events of a threaded run of the stage
+abbrev pub MakeRun : Routes → Rules → Stage → List Event → Type 0
+MakeRun R F stage events = (h : History) → h.stage ≡ stage → h.events ≡ events
+    → IsThreadedRun R F h
+
 -- the logs merge to a threaded run of the stage
 abbrev pub MergeToRun : Routes → Rules → Stage → List (List Event) → Type 0
-MergeToRun R F stage logs = (h : History) → h.stage ≡ stage
-    → h.events ≡ reverse (by_clock (reverse (joined logs))) → IsThreadedRun R F h
+MergeToRun R F stage logs = MakeRun R F stage (in_order (joined logs))

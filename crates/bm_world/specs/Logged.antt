@@ -1,7 +1,9 @@
--- The logs of the books. Only the proofs of bodies use this.
+-- The logs of the books, and those that are merged. Only the proofs of bodies use this.
 use Rattle.std.specs.Prelude.{List, [], ◌∷◌, ◌++◌, map}
 use Rattle.bm_core.specs.declared.events.Event.{Event}
 use Rattle.bm_shard.specs.Books.{Book}
+use Rattle.bm_world.specs.declared.run_logs.RunLog.{RunLog}
+use Rattle.bm_world.specs.declared.run_logs.RunLog.TheVariants.{Workers, Shard}
 
 -- the events of a book, the oldest first
 abbrev pub book_log : Book → List Event
@@ -11,3 +13,8 @@ book_log book = map (λ e. e.event) book.entries
 abbrev pub books_logs : List (List Book) → List (List Event)
 books_logs [] = []
 books_logs (books ∷ all) = map book_log books ++ books_logs all
+
+-- the events of a log that is merged
+abbrev pub log_events : RunLog → List Event
+log_events (Workers events) = events.now
+log_events (Shard entries) = map (λ e. e.event) entries.now

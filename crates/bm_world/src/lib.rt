@@ -7,8 +7,8 @@ mod known;
 mod phase;
 mod places;
 mod routing;
+mod run_logs;
 mod servers;
-mod shard_logs;
 mod threads;
 
 pub use counting::seats;

@@ -12,7 +12,7 @@ ghost use Rattle.bm_route.specs.Routes.{Answers, IsRoute};
 ghost use Rattle.bm_rows.specs.Rows.{items_of};
 ghost use Rattle.bm_worker.specs.Phases.{IsRunnable};
 ghost use Rattle.bm_worker.specs.Turns.{RoutedBy};
-ghost use Rattle.bm_world.specs.Crews.{IsBack, MergeToRun};
+ghost use Rattle.bm_world.specs.Crews.{IsBack, MakeRun};
 ghost use Rattle.bm_world.specs.Routed.{AreRouted};
 ghost use Rattle.bm_world.specs.Served.{IsNewRow};
 
@@ -20,14 +20,14 @@ use crate::crew::{make_workers, take_apart};
 use crate::known::known_servers;
 use crate::phase::run_phases;
 use crate::routing::route_all;
+use crate::run_logs::run_logs;
 use crate::servers::{Rows, finish_all, make_servers};
-use crate::shard_logs::add_all_books;
 use bm_base::{Fate, Flow, Hop, List, Memory, MuxId, Octets};
-use bm_core::{History, Log, Stage};
+use bm_core::{Event, History, Log, Stage};
 use bm_fault::Faults;
 use bm_io::Gate;
 use bm_lead::{Head, post_the_rest};
-use bm_merge::merge;
+use bm_merge::{join_in_order, merge_rising};
 use bm_publish::{Look, Poster, board};
 use bm_route::Route;
 use bm_rows::front;
@@ -123,7 +123,7 @@ fn run_workers<W: Threads + Wait + Sync, F: Fn(u32, Hop) -> Fate + Sync, G: Gate
     back
 }
 
-/// The logs of a run, of which each packet has this mux.
+/// The events of a run, of which each packet has this mux, by clock.
 fn run_stage<W: Threads + Wait + Sync, F: Fn(u32, Hop) -> Fate + Sync, G: Gate>(
     rt: &W,
     alloc: Global,
@@ -132,14 +132,14 @@ fn run_stage<W: Threads + Wait + Sync, F: Fn(u32, Hop) -> Fate + Sync, G: Gate>(
     routes: &[Option<MuxId>],
     faults: &Faults<F>,
     gate: &G,
-) -> Result<Vec<Log>, Memory>
+) -> Result<Vec<Event>, Memory>
     requires sound { IsSound stage.now }
     requires packets { ArePackets stage.now.capture.records octets.now }
     requires count { length routes.now ≡ length stage.now.capture.records }
     requires routed { AreRouted stage.now routes.now }
     requires faults { IsRule F.Fn faults.now.rule }
-    ensures { IfOk result (λ logs. MergeToRun (RoutedBy routes.now) (Gives F.Fn faults.now.rule)
-        stage.now logs.items) }
+    ensures { IfOk result (λ events. MakeRun (RoutedBy routes.now) (Gives F.Fn faults.now.rule)
+        stage.now events.items) }
 {
     let setting = &stage.script.setting;
     let ids = known_servers(alloc, &stage.script)?;
@@ -163,17 +163,14 @@ fn run_stage<W: Threads + Wait + Sync, F: Fn(u32, Hop) -> Fate + Sync, G: Gate>(
         faults: _faults,
         gate: _gate,
     } = shared;
-    let Back {
-        late,
-        mut logs,
-        rows,
-    } = back?;
+    let Back { late, logs, rows } = back?;
     let books = finish_all(alloc, servers, rows)?;
     if late {
         unreachable!();
     }
-    add_all_books(alloc, books.as_slice(), &mut logs)?;
-    Ok(logs)
+    let workers = join_in_order(alloc, logs.as_slice())?;
+    let logs = run_logs(alloc, workers.as_slice(), books.as_slice())?;
+    merge_rising(alloc, logs.as_slice())
 }
 
 /// Carries the packets of a stage through its muxes and servers, the packets of each mux in a thread
@@ -204,6 +201,9 @@ pub fn run_threads<
         (IsThreadedRun (Answers R.Fn route.now.rule) (Gives F.Fn faults.now.rule)) }
 {
     let routes = route_all(alloc, &stage, route)?;
-    let logs = run_stage(rt, alloc, &stage, octets, routes.as_slice(), faults, gate)?;
-    merge(alloc, stage, logs)
+    let events = run_stage(rt, alloc, &stage, octets, routes.as_slice(), faults, gate)?;
+    Ok(History {
+        stage,
+        events: List::of(events),
+    })
 }

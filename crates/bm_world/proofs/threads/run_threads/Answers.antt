@@ -1,17 +1,10 @@
-use Rattle.std.proofs.Common.{◌≡◌, ℕ, List, Option, Some, sym, subst}
-use Rattle.std.specs.Prelude.{reverse}
-use Rattle.bm_base.specs.declared.flow.Segment.{Segment}
+use Rattle.std.proofs.Common.{ℕ, List, Option, refl, sym, subst}
 use Rattle.bm_base.specs.declared.ids.MuxId.{MuxId}
 use Rattle.bm_core.specs.declared.events.History.{History}
-use Rattle.bm_core.specs.declared.events.Stage.{Stage}
-use Rattle.bm_core.specs.Past.{segment_of}
-use Rattle.bm_core.specs.Threads.{IsThreadedRun}
 use Rattle.bm_fault.specs.Faults.{Gives}
-use Rattle.bm_merge.specs.Merges.{by_clock, joined}
 use Rattle.bm_route.specs.Routes.{Answers}
-use Rattle.bm_worker.specs.Turns.{mux_at}
 use Rattle.bm_world.specs.Routed.{AreGiven, AreRouted}
-use Rattle.bm_world.proofs.Answered.{are_routed, if_ok_both, routes_given, run_routed}
+use Rattle.bm_world.proofs.Answered.{are_routed, routes_given, run_routed}
 use Rattle.bm_world.proofs.threads.run_threads.Goals as goal
 
 pub run_stage-requires-clause-routed : goal.run_stage-requires-clause-routed
@@ -28,9 +21,6 @@ returns-clause-run g c =
     let routes = c.as_slice.result.now in
     let given = subst (λ (l : List (Option MuxId)). AreGiven R c.args.stage c.args.route.now.muxes l)
     (sym c.as_slice.ensures.value) c.in_ok-routes.ensures in
-    if_ok_both (λ (h : History). h.events ≡ reverse (by_clock (reverse (joined c.in_ok-logs.logs.items))))
-    (λ (h : History). h.stage ≡ c.args.stage) (IsThreadedRun R F) c.merge.result
-    (λ h events stage. run_routed R F routes h
-    (subst (λ (s : Stage). (k m : ℕ) (seg : Segment) → mux_at routes k ≡ Some m → segment_of s k ≡ Some seg
-    → R k seg.flow m) (sym stage) (routes_given R c.args.stage c.args.route.now.muxes routes given))
-    (c.in_ok-logs.ensures h stage events)) c.merge.ensures.order c.merge.ensures.stage
+    let h : History = record { stage = c.args.stage; events = c.of.result } in
+    run_routed R F routes h (routes_given R c.args.stage c.args.route.now.muxes routes given)
+    (c.in_ok-events.ensures h refl c.of.ensures)

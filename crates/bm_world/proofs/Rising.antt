@@ -1,0 +1,130 @@
+-- The logs of a run rise, and what they merge to.
+use Rattle.std.proofs.Common.{◌≡◌, ℕ, zero, suc, Option, Some, option_map, ◌+◌, ◌<◌, ◌≤◌, List, [], ◌∷◌, ◌++◌, length, map, reverse, take, get_or}
+use Rattle.std.proofs.Common.{refl, sym, ap, ◌∙◌, subst, arith, append-nil, append_assoc}
+use Rattle.std.specs.Prelude.{slice_get}
+use Rattle.std.specs.List.{AllByRecursion}
+use Rattle.std.proofs.lemmas.List.{reverse-append, reverse-reverse, take_more}
+use Rattle.bm_core.specs.declared.events.Event.{Event}
+use Rattle.bm_core.specs.Runs.{next_clock}
+use Rattle.bm_shard.specs.declared.book.Shard.{Shard}
+use Rattle.bm_shard.specs.declared.calls.ShardEntry.{ShardEntry}
+use Rattle.bm_shard.specs.Books.{Book, Replays}
+use Rattle.bm_shard.specs.Turns.{call_moment}
+use Rattle.bm_merge.specs.Rising.{IsRising}
+use Rattle.bm_world.specs.declared.run_logs.RunLog.{RunLog}
+use Rattle.bm_world.specs.Logged.{book_log, books_logs, log_events}
+use Rattle.bm_world.proofs.Through.{books_append}
+use Rattle.bm_merge.proofs.Placed.{IsFalling, all_so}
+use Rattle.bm_merge.proofs.Heading.{falling_rises}
+
+above : (n : ℕ) (e : ShardEntry) (past : List ShardEntry)
+    → AllByRecursion (λ x. x.clock.0 ≤ e.event.clock.0) (map (λ (x : ShardEntry). x.event) past) → e.event.clock.0 < n
+    → AllByRecursion (λ x. x.clock.0 ≤ n) (map (λ (x : ShardEntry). x.event) (e ∷ past))
+above n e past under lt = (
+  omega arith,
+  all_so (λ x. x.clock.0 ≤ e.event.clock.0) (λ x. x.clock.0 ≤ n) (map (λ (x : ShardEntry). x.event) past)
+      (λ x h. omega arith) under,
+)
+
+entries_fall : (shard : Shard) (past : List ShardEntry) → Replays shard past
+    → IsFalling (λ x. x.clock.0) (map (λ (x : ShardEntry). x.event) past)
+entries_fall shard [] replays = tt
+entries_fall shard (e ∷ []) replays = (tt, tt)
+entries_fall shard (e ∷ f ∷ past) replays =
+    let rest = entries_fall shard (f ∷ past) replays.1 in
+    let is : e.event.clock.0 ≡ next_clock f.event.clock.0 (call_moment e.call).0 =
+    ap (λ (x : Event). x.clock.0) replays.0 in
+    let lt : f.event.clock.0 < e.event.clock.0 = omega arith in
+    (above e.event.clock.0 f past rest.0 lt, rest)
+
+turned : (past : List ShardEntry)
+    → reverse (map (λ (x : ShardEntry). x.event) past) ≡ map (λ (x : ShardEntry). x.event) (reverse past)
+turned [] = refl
+turned (e ∷ past) =
+    reverse-append (e.event ∷ []) (map (λ (x : ShardEntry). x.event) past)
+    ∙ ap (λ (l : List Event). l ++ e.event ∷ []) (turned past)
+    ∙ sym (mapped (reverse past) (e ∷ []))
+    ∙ ap (λ (l : List ShardEntry). map (λ (x : ShardEntry). x.event) l) (sym (reverse-append (e ∷ []) past))
+  where
+    mapped : (x y : List ShardEntry)
+        → map (λ (z : ShardEntry). z.event) (x ++ y)
+        ≡ map (λ (z : ShardEntry). z.event) x ++ map (λ (z : ShardEntry). z.event) y
+    mapped [] y = refl
+    mapped (d ∷ x) y = ap (λ (l : List Event). d.event ∷ l) (mapped x y)
+
+pub book_rises : (shard : Shard) (entries : List ShardEntry) → Replays shard (reverse entries)
+    → IsRising (map (λ (x : ShardEntry). x.event) entries)
+book_rises shard entries replays =
+    subst (λ (l : List Event). IsRising l)
+    (turned (reverse entries)
+    ∙ ap (λ (l : List ShardEntry). map (λ (x : ShardEntry). x.event) l) (reverse-reverse entries))
+    (falling_rises (map (λ (x : ShardEntry). x.event) (reverse entries)) (entries_fall shard (reverse entries) replays))
+
+pub all_and : (x y : List (List Event)) → AllByRecursion IsRising x → AllByRecursion IsRising y
+    → AllByRecursion IsRising (x ++ y)
+all_and [] y p q = q
+all_and (l ∷ x) y p q = (p.0, all_and x y p.1 q)
+
+-- THEY ARE LISTED
+
+append_mapped : (x : List RunLog) (e : RunLog) → map log_events (x ++ e ∷ []) ≡ map log_events x ++ log_events e ∷ []
+append_mapped [] e = refl
+append_mapped (d ∷ x) e = ap (λ (l : List (List Event)). log_events d ∷ l) (append_mapped x e)
+
+taken_mapped : (books : List Book) (i : ℕ) (d : Book) → i < length books
+    → map book_log (take (i + 1) books) ≡ map book_log (take i books) ++ book_log (get_or books i d) ∷ []
+taken_mapped books i d lt =
+    ap (λ (l : List Book). map book_log l) (take_more books i d lt) ∙ over (take i books) (get_or books i d) where
+      over : (x : List Book) (b : Book) → map book_log (x ++ b ∷ []) ≡ map book_log x ++ book_log b ∷ []
+      over [] b = refl
+      over (d ∷ x) b = ap (λ (l : List (List Event)). book_log d ∷ l) (over x b)
+
+-- the log of one book more
+pub book_more : (books : List Book) (i : ℕ) (first old new : List RunLog) (item : Book) (log : RunLog)
+    → map log_events old ≡ map log_events first ++ map book_log (take i books) → i < length books
+    → new ≡ old ++ log ∷ [] → log_events log ≡ book_log item → item ≡ get_or books i item
+    → map log_events new ≡ map log_events first ++ map book_log (take (i + 1) books)
+book_more books i first old new item log was lt is same at =
+    ap (λ (l : List RunLog). map log_events l) is ∙ append_mapped old log
+    ∙ ap (λ (l : List (List Event)). l ++ log_events log ∷ []) was
+    ∙ append_assoc (map log_events first) (map book_log (take i books)) (log_events log ∷ [])
+    ∙ ap (λ (l : List (List Event)). map log_events first ++ l)
+    (ap (λ (x : List Event). map book_log (take i books) ++ x ∷ []) (same ∙ ap book_log at)
+    ∙ sym (taken_mapped books i item lt))
+
+pub rising_more : (books : List Book) (i : ℕ) (item : Book) → AllByRecursion IsRising (map book_log (take i books))
+    → i < length books → item ≡ get_or books i item → IsRising (book_log item)
+    → AllByRecursion IsRising (map book_log (take (i + 1) books))
+rising_more books i item was lt at one =
+    let is = taken_mapped books i item lt in
+    rw is (all_and (map book_log (take i books)) (book_log (get_or books i item) ∷ []) was
+    (subst (λ (b : Book). IsRising (book_log b)) at one, tt))
+
+-- those of one server more
+taken_books : (all : List (List Book)) (i : ℕ) (item : List Book) → i < length all → item ≡ get_or all i item
+    → books_logs (take (i + 1) all) ≡ books_logs (take i all) ++ map book_log item
+taken_books all i item lt at =
+    ap books_logs (take_more all i item lt) ∙ books_append (take i all) (get_or all i item ∷ [])
+    ∙ ap (λ (l : List (List Event)). books_logs (take i all) ++ l) (append-nil (map book_log (get_or all i item)))
+    ∙ ap (λ (b : List Book). books_logs (take i all) ++ map book_log b) (sym at)
+
+pub books_listed : (all : List (List Book)) (i : ℕ) (workers : List Event) (old new : List RunLog) (item : List Book)
+    → map log_events old ≡ workers ∷ books_logs (take i all) → i < length all
+    → map log_events new ≡ map log_events old ++ map book_log item → item ≡ get_or all i item
+    → map log_events new ≡ workers ∷ books_logs (take (i + 1) all)
+books_listed all i workers old new item was lt is at =
+    is ∙ ap (λ (l : List (List Event)). l ++ map book_log item) was
+    ∙ ap (λ (l : List (List Event)). workers ∷ l) (sym (taken_books all i item lt at))
+
+pub books_rising : (all : List (List Book)) (i : ℕ) (item : List Book) → AllByRecursion IsRising (books_logs (take i all))
+    → i < length all → item ≡ get_or all i item → AllByRecursion IsRising (map book_log item)
+    → AllByRecursion IsRising (books_logs (take (i + 1) all))
+books_rising all i item was lt at one =
+    let is = taken_books all i item lt at in
+    rw is (all_and (books_logs (take i all)) (map book_log item) was one)
+
+pub mapped_get : (entries : List ShardEntry) (i : ℕ) (e : ShardEntry) → slice_get entries i ≡ Some e
+    → slice_get (map (λ (x : ShardEntry). x.event) entries) i ≡ Some e.event
+mapped_get [] i e h = absurd (cc)
+mapped_get (x ∷ entries) zero e h = ap (λ (o : Option ShardEntry). option_map (λ (y : ShardEntry). y.event) o) h
+mapped_get (x ∷ entries) (suc i) e h = mapped_get entries i e h

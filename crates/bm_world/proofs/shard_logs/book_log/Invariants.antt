@@ -1,5 +1,0 @@
-use Rattle.std.proofs.Common.{◌≡◌, map, take}
-use Rattle.bm_world.proofs.shard_logs.book_log.Given as goal
-
-abbrev pub invariant-loop-entry : goal.invariant-loop-entry
-invariant-loop-entry l = l.events.items ≡ map (λ e. e.event) (take l.entry-index l.entries)
