@@ -1,6 +1,6 @@
 -- The logs of authors, listed in the authors' order.
 use Rattle.std.proofs.Common.{◌≡◌, ℕ, suc, Bool, true, false, ◌||◌, List, [], ◌∷◌, ◌++◌, map, Option, Some, None}
-use Rattle.std.proofs.Common.{option_map, unwrap_or, sym, ap, ◌∙◌, refl, rules, Ordering, Less, is_eq}
+use Rattle.std.proofs.Common.{option_map, unwrap_or, is_some, sym, ap, ◌∙◌, refl, rules, Ordering, Less, is_eq}
 use Rattle.std.specs.Prelude.{slice_get}
 use Rattle.std.specs.BTreeMap as tree
 use Rattle.std.specs.Global.{Vec}
@@ -71,6 +71,14 @@ by_keys of (e ∷ es) h =
     let rest = by_keys of es (λ i k v is. h (suc i) k v is) in
     rw first (ap (λ (l : List (List Event)). e.1.items ∷ l) rest)
 
+has_logs : (of : Author → Option (Vec Event)) (es : List (Author × Vec Event)) →
+    ((i : ℕ) (k : Author) (v : Vec Event) → slice_get es i ≡ Some (k, v) → of k ≡ Some v) →
+    AllByRecursion (λ a. is_some (option_map (λ v. v.items) (of a)) ≡ true) (keys_of es)
+has_logs of [] h = tt
+has_logs of (e ∷ es) h =
+    (ap (λ (o : Option (Vec Event)). is_some (option_map (λ v. v.items) o)) (h 0 e.0 e.1 refl),
+    has_logs of es (λ i k v is. h (suc i) k v is))
+
 -- one log more
 pub listed_more : (seen : List (Vec Event)) (one : Vec Event) (old new : List (List Event)) (item : List Event) →
     old ≡ map (λ v. v.items) seen → new ≡ old ++ item ∷ [] → item ≡ one.items →
@@ -108,6 +116,9 @@ listed logs parted ordered are = record {
   order = in_order (tree.keys logs.logs) ordered;
   each =
       are ∙ by_keys (tree.get by_order logs.logs) logs.logs.entries
+      (λ i k v is. btree_map_get_place author_laws.total-law logs.logs i k v ordered is);
+  some =
+      has_logs (tree.get by_order logs.logs) logs.logs.entries
       (λ i k v is. btree_map_get_place author_laws.total-law logs.logs i k v ordered is);
   all = λ a h. ap (option_map (λ v. v.items)) (not_found a logs.logs.entries h);
 }

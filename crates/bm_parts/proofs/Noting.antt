@@ -1,6 +1,7 @@
 -- The logs of authors, while the events are parted and behind the last one.
 use Rattle.std.proofs.Common.{◌≡◌, Bool, true, false, List, [], ◌∷◌, ◌++◌, map, reverse, Option, Some, None}
-use Rattle.std.proofs.Common.{if◌then◌else◌, option_map, unwrap_or, sym, ap, subst, ◌∙◌, refl}
+use Rattle.std.proofs.Common.{if◌then◌else◌, option_map, unwrap_or, is_some, sym, ap, subst, ◌∙◌, refl, ◌≢◌}
+use Rattle.std.specs.List.{AllByRecursion}
 use Rattle.std.proofs.lemmas.List.{reverse-append}
 use Rattle.bm_core.specs.declared.events.Event.{Event}
 use Rattle.bm_core.specs.declared.events.Stage.{Stage}
@@ -60,6 +61,18 @@ none_of : (events : List Event) → if_any events ≡ None → events ≡ []
 none_of [] h = refl
 none_of (e ∷ events) h = absurd (cc)
 
+some_of : (events : List Event) → is_some (if_any events) ≡ true → events ≢ []
+some_of [] h = absurd (cc)
+some_of (e ∷ events) h = cc
+
+all_some : (of : Author → Option (List Event)) (all : Actor → List Event) (authors : List Author) →
+    ((a : Author) → of a ≡ if_any (all (actor a))) → AllByRecursion (λ a. is_some (of a) ≡ true) authors →
+    AllByRecursion (λ a. all a ≢ []) (map actor authors)
+all_some of all [] are there = tt
+all_some of all (a ∷ authors) are there =
+    (some_of (all (actor a)) (ap (λ (o : Option (List Event)). is_some o) (sym (are a)) ∙ there.0),
+    all_some of all authors are there.1)
+
 abbrev author_with : Actor → Author
 author_with Controller = by_controller
 author_with (MuxOf m) = by_mux m
@@ -78,6 +91,7 @@ parted_all stage events logs parted are listed = record {
   each =
       listed.each
       ∙ each_of (log logs) (λ a. written_by stage a (reverse events)) listed.authors are;
+  some = all_some (log logs) (λ a. written_by stage a (reverse events)) listed.authors are listed.some;
   all = λ a among. subst (λ (b : Actor). written_by stage b (reverse events) ≡ []) (with_actor a)
       (none_of (written_by stage (actor (author_with a)) (reverse events))
       (sym (are (author_with a))

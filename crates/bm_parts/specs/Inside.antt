@@ -1,6 +1,7 @@
 -- The logs while the events are parted.
 use Rattle.std.specs.Prelude.{◌≡◌, [], ◌∷◌, ◌++◌, if◌then◌else◌, List, reverse, Option, Some, None}
-use Rattle.std.specs.Prelude.{false, map, option_map, unwrap_or}
+use Rattle.std.specs.Prelude.{false, true, is_some, map, option_map, unwrap_or}
+use Rattle.std.specs.List.{AllByRecursion}
 use Rattle.std.specs.BTreeMap as tree
 use Rattle.bm_core.specs.declared.events.Event.{Event}
 use Rattle.bm_core.specs.declared.events.Stage.{Stage}
@@ -35,4 +36,5 @@ pub record AreListed (logs : Logs) (parted : List (List Event)) : Type 0 where
   pub authors : List Author
   pub order : AreInOrder (map actor authors)
   pub each : parted ≡ map (λ a. unwrap_or (log logs a) []) authors
+  pub some : AllByRecursion (λ a. is_some (log logs a) ≡ true) authors
   pub all : (a : Author) → is_among (map actor authors) (actor a) ≡ false → log logs a ≡ None

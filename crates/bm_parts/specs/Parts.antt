@@ -1,5 +1,5 @@
 -- The parts of a history: what each actor wrote down. A past has its newest event first.
-use Rattle.std.specs.Prelude.{◌≡◌, ◌<◌, ◌⊎◌, Bool, false, ◌||◌, if◌then◌else◌, List, [], ◌∷◌, map}
+use Rattle.std.specs.Prelude.{◌≡◌, ◌≢◌, ◌<◌, ◌⊎◌, Bool, false, ◌||◌, if◌then◌else◌, List, [], ◌∷◌, map}
 use Rattle.std.specs.Prelude.{reverse, unwrap_or}
 use Rattle.std.specs.List.{AllByRecursion}
 use Rattle.bm_core.specs.declared.events.Event.{Event}
@@ -48,5 +48,7 @@ pub record ArePartsOf (stage : Stage) (events : List Event) (logs : List (List E
   pub order : AreInOrder actors
   -- each has just what its actor wrote down, the oldest event first
   pub each : logs ≡ map (λ a. reverse (written_by stage a (reverse events))) actors
+  -- each of them wrote something down
+  pub some : AllByRecursion (λ a. written_by stage a (reverse events) ≢ []) actors
   -- who isn't among them wrote nothing down
   pub all : (a : Actor) → is_among actors a ≡ false → written_by stage a (reverse events) ≡ []
