@@ -22,7 +22,7 @@ use Rattle.bm_connections.specs.declared.connection.Break.{Break}
 use Rattle.bm_connections.specs.declared.servers.Served.{Served}
 use Rattle.bm_connections.specs.Connections.{as_break, one_more}
 use Rattle.bm_connections.specs.Counts.{arrivals_at, is_arrival_at, is_cause, packets_by}
-use Rattle.bm_connections.specs.Loads.{AreLoads, CanCount, count_or_none, counted, served}
+use Rattle.bm_connections.specs.Inside.Loads.{AreLoads, CanCount, count_or_none, counted, served}
 use Rattle.bm_connections.proofs.Passes.{cause_here}
 
 -- SERVERS

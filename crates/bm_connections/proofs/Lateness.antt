@@ -24,7 +24,7 @@ use Rattle.bm_connections.specs.Connections.{one_more}
 use Rattle.bm_connections.specs.Counts.{is_cause, packets_by}
 use Rattle.bm_connections.specs.Late.{came_late, comes_late, has_late_label, is_one_late, longer, longest_wait}
 use Rattle.bm_connections.specs.Late.{as_late, whole_seconds}
-use Rattle.bm_connections.specs.Stamps.{AreWaits, wait_in}
+use Rattle.bm_connections.specs.Inside.Stamps.{AreWaits, wait_in}
 use Rattle.bm_connections.specs.Waits.{stamp_of, wait_of}
 use Rattle.bm_connections.proofs.Counting.{some_at}
 use Rattle.bm_connections.proofs.Passes.{cause_here}

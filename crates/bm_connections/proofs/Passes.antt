@@ -14,7 +14,7 @@ use Rattle.bm_trace.proofs.Caused.{cause_there}
 use Rattle.bm_trace.proofs.Newest.{reverse_take}
 use Rattle.bm_connections.specs.declared.rows.Rows.{Rows}
 use Rattle.bm_connections.specs.declared.seen.Seen.{Seen}
-use Rattle.bm_connections.specs.Rows.{AreRows, IsSeen}
+use Rattle.bm_connections.specs.Inside.Rows.{AreRows, IsSeen}
 
 get_within : {X : Type 0} (xs : List X) (i : ℕ) (d : X) → i < length xs → slice_get xs i ≡ Some (get_or xs i d)
 get_within [] i d h = absurd (omega arith)

@@ -13,8 +13,8 @@ use Rattle.bm_core.specs.declared.events.Stage.{Stage}
 use Rattle.bm_core.specs.Books.{AreDistinct, is_listed}
 use Rattle.bm_core.specs.Past.{is_of, segment_of, steerable}
 use Rattle.bm_connections.specs.declared.connection.Connection.{Connection}
-use Rattle.bm_connections.specs.Rows.{HasRoom, HasRoomAt, changed_at, known, packet_place, place_in, place_of}
-use Rattle.bm_connections.specs.Rows.{places_of}
+use Rattle.bm_connections.specs.Inside.Rows.{HasRoom, HasRoomAt, changed_at, known, packet_place, place_in, place_of}
+use Rattle.bm_connections.specs.Inside.Rows.{places_of}
 use Rattle.bm_connections.specs.Seen.{flows_of, is_seen, records_of, with_flow}
 use Rattle.bm_connections.proofs.Steps.{same_flow-true, same_flow_refl}
 

@@ -10,7 +10,7 @@ use Rattle.bm_core.specs.declared.events.Stage.{Stage}
 use Rattle.bm_core.specs.Runs.{past_at}
 use Rattle.bm_trace.proofs.Newest.{reverse_take}
 use Rattle.bm_connections.specs.declared.stamps.Stamps.{Stamps}
-use Rattle.bm_connections.specs.Stamps.{AreFirstWaits, AreWaits, KnowsStamps, wait_in}
+use Rattle.bm_connections.specs.Inside.Stamps.{AreFirstWaits, AreWaits, KnowsStamps, wait_in}
 use Rattle.bm_connections.specs.Waits.{wait_after, wait_at, wait_of}
 
 -- THE PASS

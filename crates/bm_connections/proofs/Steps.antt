@@ -30,8 +30,8 @@ use Rattle.bm_connections.specs.declared.connection.Tally.{Tally}
 use Rattle.bm_connections.specs.Connections.{acceptor, arrivals, as_break, connection}
 use Rattle.bm_connections.specs.Connections.{first_break, first_fault, is_arrival_for, last_forwarding, one_more}
 use Rattle.bm_connections.specs.Connections.{strays_for, tally, first_of_two, refusal}
-use Rattle.bm_connections.specs.Rows.{HasRoom, forwarded_after, noted, refused_after}
-use Rattle.bm_connections.specs.Rows.{tallied}
+use Rattle.bm_connections.specs.Inside.Rows.{HasRoom, forwarded_after, noted, refused_after}
+use Rattle.bm_connections.specs.Inside.Rows.{tallied}
 use Rattle.bm_connections.specs.Waits.{wait, wait_of}
 
 pub same_flow-true : (a b : Flow) → same_flow a b ≡ true → a ≡ b

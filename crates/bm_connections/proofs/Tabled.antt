@@ -23,8 +23,8 @@ use Rattle.bm_connections.specs.declared.connection.Sight.{Sight}
 use Rattle.bm_connections.specs.declared.rows.Rows.{Rows}
 use Rattle.bm_connections.specs.declared.seen.Seen.{Seen}
 use Rattle.bm_connections.specs.Connections.{as_break, connection}
-use Rattle.bm_connections.specs.Rows.{AreRows, HasRoomAt, IsSeen, changed_at, noted, packet_place, place_in}
-use Rattle.bm_connections.specs.Rows.{places_of, seen, seen_again, seen_from, table}
+use Rattle.bm_connections.specs.Inside.Rows.{AreRows, HasRoomAt, IsSeen, changed_at, noted, packet_place, place_in}
+use Rattle.bm_connections.specs.Inside.Rows.{places_of, seen, seen_again, seen_from, table}
 use Rattle.bm_connections.specs.Seen.{flows_of, is_packet_of, is_seen, records_of, sight}
 use Rattle.bm_connections.specs.Waits.{wait_of}
 use Rattle.bm_connections.proofs.Placed.{IsPlace, at_place, distinct, listed_is, map_apart, map_changed}

@@ -1,11 +1,8 @@
 pub mod Seen
 pub mod Waits
 pub mod Connections
-pub mod Rows
-pub mod Stamps
 pub mod Counts
 pub mod Late
-pub mod Loads
-pub mod Held
 pub mod Laws
 pub mod Text
+pub mod Inside

@@ -10,7 +10,7 @@ ghost use Rattle.bm_core.specs.Books.{AreDistinct};
 ghost use Rattle.bm_core.specs.Past as past;
 ghost use Rattle.bm_trace.specs.Ranges.{HasRanges};
 ghost use Rattle.bm_connections.specs.Counts.{most_among};
-ghost use Rattle.bm_connections.specs.Held as kept;
+ghost use Rattle.bm_connections.specs.Inside.Held as kept;
 
 use bm_base::{Flow, Segment, ServerId, Taken};
 use bm_core::{Event, Stage, Verdict, What};

@@ -5,7 +5,7 @@ ghost use Rattle.bm_core.specs.Runs.{IsRun};
 ghost use Rattle.bm_trace.specs.Swept.{AreCauses};
 ghost use Rattle.bm_connections.specs.Counts.{is_cause};
 ghost use Rattle.bm_connections.specs.Late as spec;
-ghost use Rattle.bm_connections.specs.Stamps.{AreWaits};
+ghost use Rattle.bm_connections.specs.Inside.Stamps.{AreWaits};
 
 use crate::counts::{is_cause, packets_by};
 use crate::waits::{wait_in, waits_of};

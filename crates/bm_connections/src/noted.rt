@@ -8,9 +8,9 @@ ghost use Rattle.bm_trace.specs.CauseOf.{is_fault};
 ghost use Rattle.bm_trace.specs.Swept.{AreCauses};
 ghost use Rattle.bm_trace.specs.Totals as totals;
 ghost use Rattle.bm_connections.specs.Connections as spec;
-ghost use Rattle.bm_connections.specs.Rows as kept;
+ghost use Rattle.bm_connections.specs.Inside.Rows as kept;
 ghost use Rattle.bm_connections.specs.Seen.{records_of};
-ghost use Rattle.bm_connections.specs.Stamps.{AreWaits};
+ghost use Rattle.bm_connections.specs.Inside.Stamps.{AreWaits};
 ghost use Rattle.bm_connections.specs.Waits.{wait_of};
 
 use crate::connection::{Break, Connection, Forwarding, Tally};

@@ -1,6 +1,6 @@
 //! The connections of a capture, in the order of their first packets.
 ghost use Rattle.std.specs.Prelude.{◌≡◌, ◌∷◌, ◌++◌, ◌<◌, [], length, Some, None, OnOk};
-ghost use Rattle.bm_connections.specs.Rows as kept;
+ghost use Rattle.bm_connections.specs.Inside.Rows as kept;
 
 use crate::connection::{Connection, Sight, Tally};
 use bm_base::Flow;

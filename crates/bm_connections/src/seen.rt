@@ -6,7 +6,7 @@ ghost use Rattle.bm_base.specs.declared.capture.Body.TheVariants.{Steerable as s
 ghost use Rattle.bm_base.specs.declared.flow.Flow.{Flow};
 ghost use Rattle.bm_base.specs.Segments.{same_flow};
 ghost use Rattle.bm_core.specs.declared.events.Stage.{Stage};
-ghost use Rattle.bm_connections.specs.Rows.{AreRows, IsSeen};
+ghost use Rattle.bm_connections.specs.Inside.Rows.{AreRows, IsSeen};
 
 use crate::connection::Sight;
 use crate::rows::Rows;

@@ -6,8 +6,8 @@ ghost use Rattle.bm_base.specs.declared.ids.ServerId.{ServerId};
 ghost use Rattle.bm_table.specs.Tables.{same_server};
 ghost use Rattle.bm_core.specs.Runs.{IsRun};
 ghost use Rattle.bm_connections.specs.Counts as spec;
-ghost use Rattle.bm_connections.specs.Held.{AreHeldByShards, held_flows};
-ghost use Rattle.bm_connections.specs.Loads as kept;
+ghost use Rattle.bm_connections.specs.Inside.Held.{AreHeldByShards, held_flows};
+ghost use Rattle.bm_connections.specs.Inside.Loads as kept;
 
 use crate::held::{HeldByShards, held_by_shards};
 use crate::noted::{as_break, is_accept, is_process, one_more};

@@ -9,7 +9,7 @@ ghost use Rattle.bm_core.specs.Past as past;
 ghost use Rattle.bm_table.specs.Entries.{IsTable};
 ghost use Rattle.bm_table.specs.Tables.{table};
 ghost use Rattle.bm_trace.specs.Ranges.{HasRanges};
-ghost use Rattle.bm_connections.specs.Stamps.{IsView};
+ghost use Rattle.bm_connections.specs.Inside.Stamps.{IsView};
 ghost use Rattle.bm_connections.specs.Waits.{stamp_of, wait_of};
 
 use bm_base::{Memory, MuxId, Version};
@@ -155,7 +155,7 @@ pub(crate) struct Stamps {
 }
 
 impl Stamps {
-    ghost use Rattle.bm_connections.specs.Stamps.{KnowsStamps};
+    ghost use Rattle.bm_connections.specs.Inside.Stamps.{KnowsStamps};
 
     /// Before the first event.
     pub(crate) fn new(alloc: Global) -> Stamps

@@ -1,7 +1,7 @@
 //! The pass over the events that finds how long after their buckets' moves packets arrive.
 ghost use Rattle.std.specs.Prelude.{◌≡◌, length, IfOk};
 ghost use Rattle.bm_core.specs.Runs.{IsRun};
-ghost use Rattle.bm_connections.specs.Stamps.{AreWaits, wait_in};
+ghost use Rattle.bm_connections.specs.Inside.Stamps.{AreWaits, wait_in};
 
 use crate::stamps::Stamps;
 use bm_base::Memory;

@@ -1,5 +1,5 @@
 use Rattle.std.proofs.Common.{reverse, take}
-use Rattle.bm_connections.specs.Held.{AreHeldByShards, held_flows}
+use Rattle.bm_connections.specs.Inside.Held.{AreHeldByShards, held_flows}
 use Rattle.bm_connections.proofs.held.held_by_shards.Given as goal
 
 abbrev pub invariant-loop-place : goal.invariant-loop-place

@@ -1,5 +1,5 @@
 use Rattle.std.proofs.Common.{reverse, take}
-use Rattle.bm_connections.specs.Rows.{AreRows}
+use Rattle.bm_connections.specs.Inside.Rows.{AreRows}
 use Rattle.bm_connections.specs.Seen.{records_of}
 use Rattle.bm_connections.proofs.noted.note_events.Given as goal
 

@@ -1,5 +1,5 @@
 use Rattle.std.proofs.Common.{reverse, take}
-use Rattle.bm_connections.specs.Rows.{IsSeen}
+use Rattle.bm_connections.specs.Inside.Rows.{IsSeen}
 use Rattle.bm_connections.proofs.seen.see_records.Given as goal
 
 abbrev pub invariant-loop-place : goal.invariant-loop-place

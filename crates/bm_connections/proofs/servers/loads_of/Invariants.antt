@@ -1,5 +1,5 @@
 use Rattle.std.proofs.Common.{reverse, take}
-use Rattle.bm_connections.specs.Loads.{AreLoads, load}
+use Rattle.bm_connections.specs.Inside.Loads.{AreLoads, load}
 use Rattle.bm_connections.proofs.servers.loads_of.Given as goal
 
 abbrev pub invariant-loop-place : goal.invariant-loop-place

@@ -1,6 +1,6 @@
 use Rattle.std.proofs.Common.{reverse, subst, List, []}
 use Rattle.bm_base.specs.declared.capture.Record.{Record}
-use Rattle.bm_connections.specs.Rows.{AreRows}
+use Rattle.bm_connections.specs.Inside.Rows.{AreRows}
 use Rattle.bm_connections.proofs.table.connections.Goals as goal
 
 pub note_events-requires-clause-rows : goal.note_events-requires-clause-rows

@@ -1,5 +1,5 @@
 use Rattle.std.proofs.Common.{reverse, take}
-use Rattle.bm_connections.specs.Stamps.{AreFirstWaits, KnowsStamps}
+use Rattle.bm_connections.specs.Inside.Stamps.{AreFirstWaits, KnowsStamps}
 use Rattle.bm_connections.proofs.waits.waits_of.Given as goal
 
 abbrev pub invariant-loop-place : goal.invariant-loop-place

@@ -1,6 +1,6 @@
 use Rattle.std.proofs.Common.{sym, subst, Option}
 use Rattle.bm_connections.specs.declared.held.HeldFlows.{HeldFlows}
-use Rattle.bm_connections.specs.Held.{AreHeldFlows}
+use Rattle.bm_connections.specs.Inside.Held.{AreHeldFlows}
 use Rattle.bm_connections.proofs.Holding.{filled}
 use Rattle.bm_connections.proofs.held.HeldByShards.apply.Goals as goal
 

@@ -1,6 +1,6 @@
 use Rattle.std.proofs.Common.{sym, subst}
 use Rattle.bm_connections.specs.declared.held.FlowChange.{FlowChange}
-use Rattle.bm_connections.specs.Held.{AreFlows, flows_by}
+use Rattle.bm_connections.specs.Inside.Held.{AreFlows, flows_by}
 use Rattle.bm_connections.proofs.Holding.{ended, opened}
 use Rattle.bm_connections.proofs.held.HeldFlows.change.Goals as goal
 

@@ -1,6 +1,6 @@
 use Rattle.std.proofs.Common.{◌∙◌, ap, set}
 use Rattle.bm_connections.specs.declared.connection.Connection.{Connection}
-use Rattle.bm_connections.specs.Rows.{noted}
+use Rattle.bm_connections.specs.Inside.Rows.{noted}
 use Rattle.bm_connections.proofs.Placed.{room_here, written}
 use Rattle.bm_connections.proofs.rows.Rows.note_arrival.Goals as goal
 

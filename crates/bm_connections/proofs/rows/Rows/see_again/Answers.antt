@@ -1,4 +1,4 @@
-use Rattle.bm_connections.specs.Rows.{seen_again}
+use Rattle.bm_connections.specs.Inside.Rows.{seen_again}
 use Rattle.bm_connections.proofs.Placed.{written}
 use Rattle.bm_connections.proofs.rows.Rows.see_again.Goals as goal
 

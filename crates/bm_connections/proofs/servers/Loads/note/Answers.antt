@@ -1,5 +1,5 @@
 use Rattle.std.proofs.Common.{None, reverse}
-use Rattle.bm_connections.specs.Loads.{load}
+use Rattle.bm_connections.specs.Inside.Loads.{load}
 use Rattle.bm_connections.proofs.Counting.{can_count, loads_noted}
 use Rattle.bm_connections.proofs.servers.Loads.note.Goals as goal
 

@@ -1,0 +1,5 @@
+-- Only the proofs of bodies use these.
+pub mod Held
+pub mod Loads
+pub mod Rows
+pub mod Stamps
