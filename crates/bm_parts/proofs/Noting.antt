@@ -63,7 +63,7 @@ none_of (e ∷ events) h = absurd (cc)
 
 some_of : (events : List Event) → is_some (if_any events) ≡ true → events ≢ []
 some_of [] h = absurd (cc)
-some_of (e ∷ events) h = cc
+some_of (e ∷ events) h = λ is. absurd (cc)
 
 all_some : (of : Author → Option (List Event)) (all : Actor → List Event) (authors : List Author) →
     ((a : Author) → of a ≡ if_any (all (actor a))) → AllByRecursion (λ a. is_some (of a) ≡ true) authors →
