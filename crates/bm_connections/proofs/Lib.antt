@@ -8,3 +8,5 @@ pub mod Passes
 pub mod Sums
 pub mod Counting
 pub mod Lines
+pub mod Digits
+pub mod Dates

@@ -4,5 +4,6 @@ pub mod Connections
 pub mod Counts
 pub mod Late
 pub mod Laws
+pub mod Times
 pub mod Text
 pub mod Inside

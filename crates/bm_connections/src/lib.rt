@@ -3,7 +3,6 @@
 
 mod connection;
 mod counts;
-mod fields;
 mod held;
 mod late;
 pub mod laws;
@@ -15,16 +14,17 @@ mod stamps;
 mod summary;
 mod table;
 mod text;
+mod times;
 mod waits;
 
 pub use connection::{Break, Connection, Forwarding, Sight, Tally};
 pub use counts::{CauseCount, cause_count};
-pub use fields::table_csv;
 pub use late::{LongestLate, longest_late};
 pub use servers::{ServerCount, server_counts};
 pub use summary::{causes_text, late_text, servers_text};
 pub use table::connections;
 pub use text::table_text;
+pub use times::{Clock, SecondsText, TimeText};
 
 #[cfg(test)]
 mod tests;

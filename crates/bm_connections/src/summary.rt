@@ -5,6 +5,7 @@ ghost use Rattle.bm_connections.specs.Text as spec;
 use crate::counts::CauseCount;
 use crate::late::LongestLate;
 use crate::servers::ServerCount;
+use crate::times::SecondsText;
 use bm_base::{Memory, Text};
 use bm_trace::cause_word;
 use std::alloc::{AllocError, Global};
@@ -97,7 +98,7 @@ fn write_longest(text: &mut String, late: &LongestLate) -> Result<(), AllocError
     ensures { OnOk result
         (string_bytes text.new ≡ string_bytes text.old ++ spec.late_line late.now) }
 {
-    let wait = late.wait;
+    let wait = SecondsText(late.wait);
     let seconds = late.timeout_s;
     writeln!(text, "chain-late longest {wait} timeout_s {seconds}")
 }

@@ -209,28 +209,25 @@ fn history(alloc: Global, stage: Stage, packets: &Octets) -> Result<History, Mem
     replay(alloc, stage, packets, &route, &faults)
 }
 
-/// Tests the text of the history's connections, and their fields.
-fn check(rt: &impl Abort, alloc: Global, h: &History, text: &str, fields: &str) -> Result<(), Fail>
+/// Tests the text of the history's connections.
+fn check(rt: &impl Abort, alloc: Global, h: &History, text: &str) -> Result<(), Fail>
     requires { IsRun h.now }
 {
     let causes = sweep(alloc, h)?;
     let table = connections(alloc, h, &causes)?;
-    let lines = table_text(alloc, table.items())?;
+    let lines = table_text(alloc, Clock(None), table.items())?;
     assert_eq!(rt; lines.as_str(), text);
-    let csv = table_csv(alloc, table.items())?;
-    assert!(rt; csv.as_str().ends_with(fields));
     Ok(())
 }
 
 /// Segments that come to one shard of this capacity, whether server 1 is asked to close the first
-/// connection behind the first of them, and the texts that are wanted.
+/// connection behind the first of them, and the text that is wanted.
 #[derive(Clone, Copy)]
 struct Case {
     rows: &'static [Row],
     capacity: u16,
     closing: bool,
     text: &'static str,
-    fields: &'static str,
 }
 
 static CASES: [Case; 4] = [
@@ -238,42 +235,35 @@ static CASES: [Case; 4] = [
         rows: &[OPENING, DATA, DATA],
         capacity: 4_096,
         closing: true,
-        text: "connection 10.0.0.1:1000 192.0.2.1:80 opened 1 at 0 last 3 at 200000000000 \
+        text: "connection 10.0.0.1:1000 192.0.2.1:80 opened 1 at 0.000000000 last 3 at 200.000000000 \
                accepted 1 times 1 processed 0 forwarded 0 dropped 0 reset 2 stray 0 \
-               broken 2 reset no-previous because not-held at 100000000002\n",
-        fields: "cause\n10.0.0.1:1000,192.0.2.1:80,1,0,3,200000000000,1,1,0,0,0,2,0,\
-                 2,100000000002,1,reset,not-held,,,,,,,,,\n",
+               broken 2 reset no-previous because not-held at 100.000000002\n",
     },
     Case {
         rows: &[OPENING, OTHER, (1002, PSH_ACK, 101, 10), DATA, DATA],
         capacity: 4_096,
         closing: false,
-        text: "connection 10.0.0.1:1000 192.0.2.1:80 opened 1 at 0 last 5 at 400000000000 \
+        text: "connection 10.0.0.1:1000 192.0.2.1:80 opened 1 at 0.000000000 last 5 at 400.000000000 \
                accepted 1 times 1 processed 2 forwarded 0 dropped 0 reset 0 stray 0 whole\n\
-               connection 10.0.0.1:1002 192.0.2.1:80 opened 2 at 100000000000 \
-               last 3 at 200000000000 accepted 1 times 1 processed 1 forwarded 0 dropped 0 reset 0 stray 0 whole\n",
-        fields: "10.0.0.1:1002,192.0.2.1:80,2,100000000000,3,200000000000,1,1,1,0,0,0,0,\
-                 ,,,,,,,,,,,,,\n",
+               connection 10.0.0.1:1002 192.0.2.1:80 opened 2 at 100.000000000 \
+               last 3 at 200.000000000 accepted 1 times 1 processed 1 forwarded 0 dropped 0 reset 0 stray 0 whole\n",
     },
     Case {
         rows: &[OPENING, OTHER],
         capacity: 1,
         closing: false,
-        text: "connection 10.0.0.1:1000 192.0.2.1:80 opened 1 at 0 last 1 at 0 accepted 1 times 1 \
+        text: "connection 10.0.0.1:1000 192.0.2.1:80 opened 1 at 0.000000000 last 1 at 0.000000000 accepted 1 times 1 \
                processed 0 forwarded 0 dropped 0 reset 0 stray 0 whole\n\
-               connection 10.0.0.1:1002 192.0.2.1:80 opened 2 at 100000000000 \
-               last 2 at 100000000000 accepted none times 0 processed 0 forwarded 0 dropped 1 reset 0 stray 0 \
-               refused 2 drop full because full at 100000000002\n",
-        fields: "10.0.0.1:1002,192.0.2.1:80,2,100000000000,2,100000000000,,0,0,0,1,0,0,,,,,,,,,,\
-                 2,100000000002,1,drop,full\n",
+               connection 10.0.0.1:1002 192.0.2.1:80 opened 2 at 100.000000000 \
+               last 2 at 100.000000000 accepted none times 0 processed 0 forwarded 0 dropped 1 reset 0 stray 0 \
+               refused 2 drop full because full at 100.000000002\n",
     },
     Case {
         rows: &[DATA, OPENING, DATA],
         capacity: 4_096,
         closing: false,
-        text: "connection 10.0.0.1:1000 192.0.2.1:80 opened 1 at 0 last 3 at 200000000000 \
+        text: "connection 10.0.0.1:1000 192.0.2.1:80 opened 1 at 0.000000000 last 3 at 200.000000000 \
                accepted 1 times 1 processed 1 forwarded 0 dropped 0 reset 1 stray 0 whole\n",
-        fields: "10.0.0.1:1000,192.0.2.1:80,1,0,3,200000000000,1,1,1,0,0,1,0,,,,,,,,,,,,,,\n",
     },
 ];
 
@@ -282,7 +272,7 @@ fn check_case(rt: &impl Abort, alloc: Global, case: &Case) -> Result<(), Fail> {
     let (capture, packets) = capture(alloc, case.rows)?;
     let stage = bare_stage(alloc, u32::from(case.capacity), case.closing, capture)?;
     let h = history(alloc, stage, &packets)?;
-    check(rt, alloc, &h, case.text, case.fields)
+    check(rt, alloc, &h, case.text)
 }
 
 fn check_cases(rt: &impl Abort, alloc: Global, cases: &[Case]) -> Result<(), Fail> {
@@ -337,12 +327,12 @@ fn check_late(rt: &impl Abort, alloc: Global, h: &History) -> Result<(), Fail>
     let late = late_text(alloc, longest_late(alloc, h, &causes)?)?;
     assert_eq!(rt;
         late.as_str(),
-        "chain-late longest 299999999502 timeout_s 300\n"
+        "chain-late longest 299.999999502 timeout_s 300\n"
     );
     Ok(())
 }
 
-/// The bucket moves at 500 nanoseconds, and the timeout is 240 seconds.
+/// The bucket moves at 0.000000500 nanoseconds, and the timeout is 240 seconds.
 #[test]
 fn a_moved_connection_breaks_behind_the_timeout(rt: HostRuntime) -> Result<(), Fail> {
     let alloc = rt.alloc();
@@ -350,12 +340,54 @@ fn a_moved_connection_breaks_behind_the_timeout(rt: HostRuntime) -> Result<(), F
     let stage = moved_stage(alloc, capture)?;
     let h = history(alloc, stage, &packets)?;
     let text =
-        "connection 10.0.0.1:1000 192.0.2.1:80 opened 1 at 0 last 4 at 300000000000 accepted 1 \
+        "connection 10.0.0.1:1000 192.0.2.1:80 opened 1 at 0.000000000 last 4 at 300.000000000 accepted 1 \
                 times 1 processed 2 forwarded 2 dropped 0 reset 1 stray 0 \
-                last-forward 3 by 2 at 200000000002 after 199999999502 \
-                broken 4 reset chain-expired because chain-late at 300000000002\n";
-    let fields = "10.0.0.1:1000,192.0.2.1:80,1,0,4,300000000000,1,1,2,2,0,1,0,\
-                4,300000000002,2,reset,chain-late,3,200000000002,2,199999999502,,,,,\n";
+                last-forward 3 by 2 at 200.000000002 after 199.999999502 \
+                broken 4 reset chain-expired because chain-late at 300.000000002\n";
     check_late(&rt, alloc, &h)?;
-    check(&rt, alloc, &h, text, fields)
+    check(&rt, alloc, &h, text)
+}
+
+/// A moment, when record 1 was captured, and the text that is wanted.
+type Instant = (u64, u64, &'static str);
+
+static INSTANTS: [Instant; 6] = [
+    (0, 0, "1970-01-01T00:00:00.000000000Z"),
+    (951_782_399_999_999_999, 1, "2000-02-29T00:00:00.000000000Z"),
+    (
+        951_868_799_000_000_000,
+        21_000,
+        "2000-02-29T23:59:59.000021000Z",
+    ),
+    (
+        1_795_834_305_000_000_000,
+        21_000,
+        "2026-11-28T02:51:45.000021000Z",
+    ),
+    (
+        4_107_542_399_000_000_000,
+        1_000_000_000,
+        "2100-03-01T00:00:00.000000000Z",
+    ),
+    (u64::MAX, 1, "2554-07-21T23:34:33.709551615Z"),
+];
+
+fn check_instant(rt: &impl Abort, alloc: Global, row: &Instant) -> Result<(), Fail> {
+    let (began, moment, want) = *row;
+    let time = TimeText(Clock(Some(began)), Moment(moment));
+    let text = format!(in alloc; "{time}")?;
+    assert_eq!(rt; text.as_str(), want);
+    Ok(())
+}
+
+fn check_instants(rt: &impl Abort, alloc: Global, rows: &[Instant]) -> Result<(), Fail> {
+    for row in rows {
+        check_instant(rt, alloc, row)?;
+    }
+    Ok(())
+}
+
+#[test]
+fn moments_are_told_in_utc(rt: HostRuntime) -> Result<(), Fail> {
+    check_instants(&rt, rt.alloc(), &INSTANTS)
 }

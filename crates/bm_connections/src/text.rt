@@ -4,6 +4,7 @@ ghost use Rattle.bm_trace.specs.Words.{spaced};
 ghost use Rattle.bm_connections.specs.Text as spec;
 
 use crate::connection::{Break, Connection, Forwarding, Sight, Tally};
+use crate::times::{Clock, SecondsText, TimeText};
 use bm_base::{Memory, ServerId, Text};
 use bm_trace::{BecauseWords, Endpoint, VerdictWords};
 use std::alloc::{AllocError, Global};
@@ -21,6 +22,20 @@ impl fmt::Display for ServerWord {
             None => write!(f, "none"),
             Some(server) => write!(f, "{}", server.0),
         }
+    }
+}
+
+/// A record of the capture, each word behind a space.
+#[derive(Clone, Copy)]
+struct SightWords(Clock, Sight);
+
+impl fmt::Display for SightWords {
+    ghost output = { λ s. Some (spaced (spec.sight_words s.0.0 s.1)) };
+
+    fn fmt<W: fmt::Write>(&self, f: &mut fmt::Formatter<W>) -> fmt::Result {
+        let number = self.1.number;
+        let at = TimeText(self.0, self.1.moment);
+        write!(f, " {number} at {at}")
     }
 }
 
@@ -50,66 +65,67 @@ impl fmt::Display for TallyWords {
 
 /// A packet that was forwarded, each word behind a space.
 #[derive(Clone, Copy)]
-struct ForwardingWords(Forwarding);
+struct ForwardingWords(Clock, Forwarding);
 
 impl fmt::Display for ForwardingWords {
-    ghost output = { λ x. Some (spaced (spec.forwarding_words x.0)) };
+    ghost output = { λ x. Some (spaced (spec.forwarding_words x.0.0 x.1)) };
 
     fn fmt<W: fmt::Write>(&self, f: &mut fmt::Formatter<W>) -> fmt::Result {
-        let packet = self.0.packet;
-        let server = self.0.server.0;
-        let clock = self.0.clock.0;
-        let wait = self.0.wait;
-        write!(f, " {packet} by {server} at {clock} after {wait}")
+        let packet = self.1.packet;
+        let server = self.1.server.0;
+        let at = TimeText(self.0, self.1.clock);
+        let wait = SecondsText(self.1.wait);
+        write!(f, " {packet} by {server} at {at} after {wait}")
     }
 }
 
 /// The last packet that was forwarded, each word behind a space, or nothing.
 #[derive(Clone, Copy)]
-struct ForwardedWords(Option<Forwarding>);
+struct ForwardedWords(Clock, Option<Forwarding>);
 
 impl fmt::Display for ForwardedWords {
-    ghost output = { λ x. Some (spec.forwarded_text x.0) };
+    ghost output = { λ x. Some (spec.forwarded_text x.0.0 x.1) };
 
     fn fmt<W: fmt::Write>(&self, f: &mut fmt::Formatter<W>) -> fmt::Result {
-        match self.0 {
+        match self.1 {
             None => Ok(()),
-            Some(last) => write!(f, " last-forward{}", ForwardingWords(last)),
+            Some(last) => write!(f, " last-forward{}", ForwardingWords(self.0, last)),
         }
     }
 }
 
 /// A packet that was dropped, reset or a stray, each word behind a space.
 #[derive(Clone, Copy)]
-struct FaultWords(Break);
+struct FaultWords(Clock, Break);
 
 impl fmt::Display for FaultWords {
-    ghost output = { λ b. Some (spec.fault_text b.0) };
+    ghost output = { λ b. Some (spec.fault_text b.0.0 b.1) };
 
     fn fmt<W: fmt::Write>(&self, f: &mut fmt::Formatter<W>) -> fmt::Result {
-        let packet = self.0.packet;
-        let verdict = VerdictWords(self.0.verdict);
-        let because = BecauseWords(self.0.cause);
-        let clock = self.0.clock.0;
-        write!(f, " {packet}{verdict}{because} at {clock}")
+        let packet = self.1.packet;
+        let verdict = VerdictWords(self.1.verdict);
+        let because = BecauseWords(self.1.cause);
+        let at = TimeText(self.0, self.1.clock);
+        write!(f, " {packet}{verdict}{because} at {at}")
     }
 }
 
 /// What broke or refused a connection, each word behind a space, or whether a server accepted it.
 #[derive(Clone, Copy)]
 struct EndWords {
+    clock: Clock,
     broken: Option<Break>,
     refused: Option<Break>,
     server: Option<ServerId>,
 }
 
 impl fmt::Display for EndWords {
-    ghost output = { λ c. Some (spec.end_text c.broken c.refused c.server) };
+    ghost output = { λ c. Some (spec.end_text c.clock.0 c.broken c.refused c.server) };
 
     fn fmt<W: fmt::Write>(&self, f: &mut fmt::Formatter<W>) -> fmt::Result {
         match (self.broken, self.refused, self.server) {
-            (Some(first), _, _) => write!(f, " broken{}", FaultWords(first)),
-            (None, Some(first), _) => write!(f, " refused{}", FaultWords(first)),
+            (Some(first), _, _) => write!(f, " broken{}", FaultWords(self.clock, first)),
+            (None, Some(first), _) => write!(f, " refused{}", FaultWords(self.clock, first)),
             (None, None, None) => write!(f, " unaccepted"),
             (None, None, Some(_)) => write!(f, " whole"),
         }
@@ -117,9 +133,9 @@ impl fmt::Display for EndWords {
 }
 
 /// The flow of a connection, and where it was first and last seen.
-fn write_seen(text: &mut String, c: &Connection) -> Result<(), AllocError>
+fn write_seen(text: &mut String, clock: Clock, c: &Connection) -> Result<(), AllocError>
     ensures { OnOk result
-        (string_bytes text.new ≡ string_bytes text.old ++ spec.seen_text c.now) }
+        (string_bytes text.new ≡ string_bytes text.old ++ spec.seen_text clock.0 c.now) }
 {
     let client = Endpoint {
         addr: c.flow.src,
@@ -129,26 +145,25 @@ fn write_seen(text: &mut String, c: &Connection) -> Result<(), AllocError>
         addr: c.flow.dst,
         port: c.flow.dport,
     };
-    let Sight { number, moment } = c.first;
-    let opened_at = moment.0;
-    let last = c.last.number;
-    let last_at = c.last.moment.0;
+    let opened = SightWords(clock, c.first);
+    let last = SightWords(clock, c.last);
     write!(
         text,
-        "connection {client} {service} opened {number} at {opened_at} last {last} at {last_at}"
+        "connection {client} {service} opened{opened} last{last}"
     )
 }
 
 /// What became of a connection's packets.
-fn write_fate(text: &mut String, c: &Connection) -> Result<(), AllocError>
+fn write_outcome(text: &mut String, clock: Clock, c: &Connection) -> Result<(), AllocError>
     ensures { OnOk result
-        (string_bytes text.new ≡ string_bytes text.old ++ spec.fate_text c.now) }
+        (string_bytes text.new ≡ string_bytes text.old ++ spec.outcome_text clock.0 c.now) }
 {
     let server = ServerWord(c.server);
     let times = c.tally.accepted;
     let tally = TallyWords(c.tally);
-    let forwarded = ForwardedWords(c.forwarded);
+    let forwarded = ForwardedWords(clock, c.forwarded);
     let end = EndWords {
+        clock,
         broken: c.broken,
         refused: c.refused,
         server: c.server,
@@ -160,30 +175,35 @@ fn write_fate(text: &mut String, c: &Connection) -> Result<(), AllocError>
 }
 
 /// The line of a connection.
-fn write_connection(text: &mut String, c: &Connection) -> Result<(), AllocError>
+fn write_connection(text: &mut String, clock: Clock, c: &Connection) -> Result<(), AllocError>
     ensures { OnOk result
-        (string_bytes text.new ≡ string_bytes text.old ++ spec.connection_line c.now) }
+        (string_bytes text.new ≡ string_bytes text.old ++ spec.connection_line clock.0 c.now) }
 {
-    write_seen(text, c)?;
-    write_fate(text, c)?;
+    write_seen(text, clock, c)?;
+    write_outcome(text, clock, c)?;
     Ok(())
 }
 
-fn write_connections(text: &mut String, connections: &[Connection]) -> Result<(), AllocError>
-    ensures { OnOk result
-        (string_bytes text.new ≡ string_bytes text.old ++ spec.table_text connections.now) }
+fn write_connections(
+    text: &mut String,
+    clock: Clock,
+    connections: &[Connection],
+) -> Result<(), AllocError>
+    ensures { OnOk result (string_bytes text.new
+        ≡ string_bytes text.old ++ spec.table_text clock.0 connections.now) }
 {
     for connection in connections {
-        write_connection(text, connection)?;
+        write_connection(text, clock, connection)?;
     }
     Ok(())
 }
 
-/// The table as text: a line for each connection.
-pub fn table_text(alloc: Global, connections: &[Connection]) -> Result<Text, Memory>
-    ensures { IfOk result (λ text. text ≡ spec.table_text connections.now) }
+/// The table as text: a line for each connection. Moments are told by the clock, and waits in
+/// seconds.
+pub fn table_text(alloc: Global, clock: Clock, connections: &[Connection]) -> Result<Text, Memory>
+    ensures { IfOk result (λ text. text ≡ spec.table_text clock.0 connections.now) }
 {
     let mut text = String::new(alloc);
-    write_connections(&mut text, connections)?;
+    write_connections(&mut text, clock, connections)?;
     Ok(Text::of(text))
 }

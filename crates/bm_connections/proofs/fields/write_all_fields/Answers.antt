@@ -1,9 +1,0 @@
-use Rattle.bm_connections.specs.Text.{connection_fields}
-use Rattle.bm_connections.proofs.Lines.{lines_more}
-use Rattle.bm_connections.proofs.fields.write_all_fields.Goals as goal
-
-pub loop-connection-preserved : goal.loop-connection-preserved
-loop-connection-preserved c = record {
-  written = lines_more connection_fields c.args.connections.now c.loop-connection.connection-index _ _ _ _
-      c.loop-connection-test.true c.in_ok-write_fields.ensures c.loop-connection.invariant.written;
-}
