@@ -107,13 +107,15 @@ def packets_of_facts(path, vips):
     return packets
 
 
-def capture(packets, link=RAW_IP, unit=1, front=b""):
-    """A capture of the packets, each behind the octets of a link layer, in units of so many nanoseconds."""
+def capture(packets, link=RAW_IP, unit=1, front=b"", began=0):
+    """A capture of the packets that begins so many nanoseconds after 1970, each packet behind the octets of a link layer, in units of
+    so many nanoseconds."""
     magic = {1: 0xA1B23C4D, 1000: 0xA1B2C3D4}[unit]
     octets = struct.pack("<IHHiIII", magic, 2, 4, 0, 0, 262144, link)
     for packet in packets:
         body = front + packet.octets()
-        octets += struct.pack("<IIII", packet.moment // 10**9, packet.moment % 10**9 // unit, len(body), len(body)) + body
+        seconds, rest = divmod(began + packet.moment, 10**9)
+        octets += struct.pack("<IIII", seconds, rest // unit, len(body), len(body)) + body
     return octets
 
 

@@ -1,5 +1,5 @@
 # Completes the words of beamer in bash: the form, then the capture, then the script; and those of beamer-connections: the capture,
-# the script and an option.
+# the script and the options.
 #
 # usage: source tools/completion.bash
 
@@ -34,7 +34,11 @@ _beamer_connections() {
   case $COMP_CWORD in
     1) _beamer_files "$word" '@(pcap|pcapng|cap)' ;;
     2) _beamer_files "$word" toml ;;
-    3) mapfile -t COMPREPLY < <(compgen -W "--csv --json" -- "$word") ;;
+    3) mapfile -t COMPREPLY < <(compgen -W "--csv --json --clock" -- "$word") ;;
+    4) case ${COMP_WORDS[3]} in
+         --clock) mapfile -t COMPREPLY < <(compgen -W "--csv --json" -- "$word") ;;
+         --csv | --json) mapfile -t COMPREPLY < <(compgen -W "--clock" -- "$word") ;;
+       esac ;;
   esac
 }
 complete -F _beamer_connections beamer-connections ./beamer-connections

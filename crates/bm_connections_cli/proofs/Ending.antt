@@ -1,10 +1,12 @@
 -- How a call ends, by what was read and what was written.
-use Rattle.std.proofs.Common.{◌≡◌, ℕ, List, Option, None, Ok, refl, sym, subst, ap, ap₂, ◌∙◌}
+use Rattle.std.proofs.Common.{◌≡◌, ℕ, List, Option, None, Some, Ok, Err, refl, sym, subst, ap, ap₂, ◌∙◌}
+use Rattle.std.specs.Prelude.{if◌then◌else◌, ⊤}
 use Rattle.bm_core.specs.declared.events.Event.{Event}
 use Rattle.bm_core.specs.declared.events.History.{History}
 use Rattle.bm_core.specs.declared.events.Stage.{Stage}
 use Rattle.bm_core.specs.Rules.{setting_fate, setting_mux}
 use Rattle.bm_core.proofs.Determined.{replay_law}
+use Rattle.bm_cli.specs.declared.fault.StageFault.{StageFault}
 use Rattle.bm_cli.specs.declared.mode.Mode.TheVariants.{Replay}
 use Rattle.bm_cli.specs.declared.status.Status.{Status}
 use Rattle.bm_cli.specs.declared.status.Status.TheVariants.{Done, Usage}
@@ -19,7 +21,7 @@ use Rattle.bm_cli.proofs.Ending.{asks_as, holds_any, holds_more, said_stage, say
 use Rattle.bm_cli.proofs.Names.{all_of_none}
 use Rattle.bm_cli.proofs.Telling.{tells_due, untouched}
 use Rattle.bm_connections_cli.specs.declared.words.Format.{Format}
-use Rattle.bm_connections_cli.specs.Dues.{EndsAs, due_of, usage_line}
+use Rattle.bm_connections_cli.specs.Dues.{EndsAs, clock_of, due_of, usage_line}
 use Rattle.bm_connections_cli.specs.Headline.{IsReplayOf, IsTableOf}
 use Rattle.bm_connections_cli.specs.Text.{text}
 use Rattle.bm_connections_cli.specs.Words.{Asked}
@@ -37,48 +39,66 @@ same_replay stage a b p q =
     let stages = p.about ∙ sym q.about in
     history_is a b stages (replay_law a b stages (setting_mux setting) (setting_fate setting) p.made q.made)
 
-table_of : (format : Format) (stage : Stage) (h : History) → IsReplayOf stage h →
-    IsTableOf format stage (text format h)
-table_of format stage h replay = record {
+table_of : (format : Format) (clock : Option ℕ) (stage : Stage) (h : History) → IsReplayOf stage h →
+    IsTableOf format clock stage (text format clock h)
+table_of format clock stage h replay = record {
   history = h;
   replay = replay;
-  printed = λ other is. ap (text format) (same_replay stage h other replay is);
+  printed = λ other is. ap (text format clock) (same_replay stage h other replay is);
 }
 
 -- the history's text was written
-pub tells_table : (format : Format) (h : History) (sink : SinkDid) (result : Status) → IsMadeBy Replay h.stage h →
-    Writes Done (text format h) sink result →
-    Tells (answer_for (IsTableOf format) (Ok h.stage)) sink result
-tells_table format h sink result made writes =
-    tells_due (Shown (IsTableOf format h.stage)) (text format h) sink result
-    (table_of format h.stage h (record { about = refl; made = made })) writes
+pub tells_table : (format : Format) (clock : Option ℕ) (h : History) (sink : SinkDid) (result : Status) →
+    IsMadeBy Replay h.stage h → Writes Done (text format clock h) sink result →
+    Tells (answer_for (IsTableOf format clock) (Ok h.stage)) sink result
+tells_table format clock h sink result made writes =
+    tells_due (Shown (IsTableOf format clock h.stage)) (text format clock h) sink result
+    (table_of format clock h.stage h (record { about = refl; made = made })) writes
 
 -- THE FORM
 
 -- what was read of a stage was answered
 ends_played : (asked : Asked) (reads : Reads) (files : FilesDid) (sink : SinkDid) (r : Reading)
     (result : Status) → ReadsStage Replay asked.names reads files r →
-    Tells (answer_for (IsTableOf asked.format) r) sink result → Ends (due_of asked reads) files sink result
-ends_played asked reads files sink r result read tells = record {
-  says = tells.says;
-  text = tells.text;
-  said =
-      said_stage (IsTableOf asked.format) (reading Replay asked.names reads) r tells.says tells.text read.read
-      tells.is;
-  writes = tells.writes;
-  asks =
-      asks_as (names_behind asked.names (script_by Replay reads asked.names.script)) files (status_by r) tells.says
-      read.asks (says_read (IsTableOf asked.format) r tells.says tells.text tells.is);
-}
+    Tells (answer_for (IsTableOf asked.format (clock_of asked reads)) r) sink result →
+    Ends (due_of asked reads) files sink result
+ends_played asked reads files sink r result read tells =
+    let shows = IsTableOf asked.format (clock_of asked reads) in
+    record {
+      says = tells.says;
+      text = tells.text;
+      said =
+          said_stage shows (reading Replay asked.names reads) r tells.says tells.text read.read tells.is;
+      writes = tells.writes;
+      asks =
+          asks_as (names_behind asked.names (script_by Replay reads asked.names.script)) files (status_by r)
+          tells.says read.asks (says_read shows r tells.says tells.text tells.is);
+    }
 
-pub played_ends : (asked : Asked) (told : Octets) (files : FilesDid) (sink : SinkDid) (r : Reading)
-    (result : Status) → Holds told (λ reads. ReadsStage Replay asked.names reads files r) →
-    Tells (answer_for (IsTableOf asked.format) r) sink result →
+-- the table of a stage was told, by the clock that is due
+pub played_ends : (asked : Asked) (told : Octets) (files : FilesDid) (sink : SinkDid) (stage : Stage)
+    (began : ℕ) (result : Status) →
+    Holds told (λ reads.
+    ReadsStage Replay asked.names reads files (Ok stage) × (began ≡ reads.began asked.names.capture)) →
+    Tells (answer_for (IsTableOf asked.format (if asked.clock then Some began else None)) (Ok stage)) sink result →
     Holds told (λ reads. Ends (due_of asked reads) files sink result)
-played_ends asked told files sink r result read tells =
-    holds_more told (λ reads. ReadsStage Replay asked.names reads files r)
+played_ends asked told files sink stage began result read tells =
+    holds_more told
+    (λ reads. ReadsStage Replay asked.names reads files (Ok stage) × (began ≡ reads.began asked.names.capture))
     (λ reads. Ends (due_of asked reads) files sink result)
-    (λ reads stage. ends_played asked reads files sink r result stage tells) read
+    (λ reads both. ends_played asked reads files sink (Ok stage) result (both.0)
+    (subst (λ b. Tells (answer_for (IsTableOf asked.format (if asked.clock then Some b else None)) (Ok stage)) sink result)
+    (both.1) tells)) read
+
+-- the line of a fault was told
+pub refused_ends : (asked : Asked) (told : Octets) (files : FilesDid) (sink : SinkDid) (fault : StageFault)
+    (result : Status) → Holds told (λ reads. ReadsStage Replay asked.names reads files (Err fault) × ⊤) →
+    Tells (answer_for (IsTableOf asked.format None) (Err fault)) sink result →
+    Holds told (λ reads. Ends (due_of asked reads) files sink result)
+refused_ends asked told files sink fault result read tells =
+    holds_more told (λ reads. ReadsStage Replay asked.names reads files (Err fault) × ⊤)
+    (λ reads. Ends (due_of asked reads) files sink result)
+    (λ reads both. ends_played asked reads files sink (Err fault) result (both.0) tells) read
 
 -- THE WORDS
 

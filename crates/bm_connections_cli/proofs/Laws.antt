@@ -17,7 +17,7 @@ use Rattle.bm_cli.proofs.Laws.{all_asked, dues, line_said, own, read_said, refus
 use Rattle.bm_cli.proofs.Laws.{stage_names, stage_usage, status_said}
 use Rattle.bm_cli.proofs.Names.{asks_all}
 use Rattle.bm_cli.proofs.Statuses.{code_below, same_code, says_is}
-use Rattle.bm_connections_cli.specs.Dues.{EndsAs, EndsUnasked, EndsWith, due_of, usage_line}
+use Rattle.bm_connections_cli.specs.Dues.{EndsAs, EndsUnasked, EndsWith, clock_of, due_of, usage_line}
 use Rattle.bm_connections_cli.specs.Headline.{IsTableOf}
 use Rattle.bm_connections_cli.specs.Top.{IsAccepted, IsStatusFor, Refuses, Tells, WritesSomeFor, names_due, scripts_in}
 use Rattle.bm_connections_cli.specs.Words.{Asked}
@@ -51,7 +51,7 @@ module _ (reads : Reads) (files : FilesDid) (sink : SinkDid) (s : Status) where
   no_usage : (asked : Asked) → EndsAs (Some asked) reads files sink s → s ≡ Usage → ⊥
   no_usage asked ends e =
       let d = dues (due_of asked reads) files sink s ends Usage (λ x. cc) (λ x. cc) (λ x. cc) e in
-      stage_usage (IsTableOf asked.format) (reading Replay asked.names reads) (sym e ∙ d.0)
+      stage_usage (IsTableOf asked.format (clock_of asked reads)) (reading Replay asked.names reads) (sym e ∙ d.0)
 
   usage_by : (form : Option Asked) → EndsAs form reads files sink s → s ≡ Usage → form ≡ None
   usage_by None ends e = refl
@@ -135,7 +135,7 @@ module _ (reads : Reads) (files : FilesDid) (sink : SinkDid) (s : Status) where
       let due = due_of asked reads in
       let d = dues due files sink s ends BadScript (λ x. cc) (λ x. cc) (λ x. cc) e in
       subst (λ l. AsksAll files.before files.now l)
-      (stage_names (IsTableOf asked.format) asked.names reads (script_by Replay reads asked.names.script)
+      (stage_names (IsTableOf asked.format (clock_of asked reads)) asked.names reads (script_by Replay reads asked.names.script)
       (sym d.0 ∙ e))
       (all_asked due files sink s ends BadScript (λ x. cc) (λ x. cc) (λ x. cc) e)
 

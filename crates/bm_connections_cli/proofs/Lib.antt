@@ -1,4 +1,5 @@
 pub mod Ending
 pub mod Laws
 pub mod Lists
+pub mod Rows
 pub mod Pieces

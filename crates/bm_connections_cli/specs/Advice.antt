@@ -1,9 +1,15 @@
 -- What an operator may do about a cause (docs/CAUSES.md).
-use Rattle.std.specs.Prelude.{ℕ, List, [], ◌∷◌, codes, ◌++◌}
+use Rattle.std.specs.Prelude.{ℕ, ◌-◌, Bool, nat_lt, if◌then◌else◌, List, [], ◌∷◌, codes, ◌++◌}
+use Rattle.std.specs.Prelude.{Option, Some, None, length, option_map}
+use Rattle.std.specs.List.{list_all, slice_get}
+use Rattle.bm_base.specs.declared.capture.Record.{Record}
+use Rattle.bm_base.specs.declared.ids.Moment.{Moment}
 use Rattle.bm_core.specs.declared.events.Cause.{Cause}
 use Rattle.bm_core.specs.declared.events.Cause.TheVariants.{NeverAccepted, NotHeld, StaleMux}
 use Rattle.bm_core.specs.declared.events.Cause.TheVariants.{MovedTwice, ChainLate, SynElsewhere}
 use Rattle.bm_core.specs.declared.events.Cause.TheVariants.{Full, OldTable}
+use Rattle.bm_core.specs.declared.events.Stage.{Stage}
+use Rattle.bm_table.specs.declared.plan.Change.{Change}
 use Rattle.bm_trace.specs.Words.{cause_word}
 use Rattle.bm_connections.specs.declared.connection.Connection.{Connection}
 
@@ -27,3 +33,25 @@ advice_line cause = codes "advice " ++ cause_word cause ++ codes ": " ++ remedy 
 abbrev pub unsteered_line : List Connection → List ℕ
 unsteered_line [] = codes "advice nothing-steered: name your services in vips\n"
 unsteered_line (c ∷ rest) = []
+
+-- all records come before the moment
+abbrev pub ends_before : List Record → Moment → Bool
+ends_before records moment = list_all (λ (r : Record). nat_lt r.moment.0 moment.0) records
+
+-- the moment of the last change
+abbrev pub last_moment : List Change → Option Moment
+last_moment changes =
+    option_map (λ (c : Change). c.moment) (slice_get changes (length changes - 1))
+
+-- the line of advice where all records come before this moment of a change
+abbrev pub behind_text : List Record → Option Moment → List ℕ
+behind_text records None = []
+behind_text records (Some moment) =
+    if ends_before records moment
+    then codes "advice change-behind-the-end: the capture ends before the last change; "
+    ++ codes "capture longer\n"
+    else []
+
+-- the same, of the stage's last change
+abbrev pub behind_line : Stage → List ℕ
+behind_line stage = behind_text stage.capture.records (last_moment stage.script.plan.changes)

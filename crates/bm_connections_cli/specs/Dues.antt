@@ -1,5 +1,5 @@
 -- What is due: by the words, and by what is read under the names in them.
-use Rattle.std.specs.Prelude.{◌≡◌, ℕ, List, [], Option, Some, None, codes}
+use Rattle.std.specs.Prelude.{◌≡◌, ℕ, if◌then◌else◌, ◌++◌, List, [], Option, Some, None, codes}
 use Rattle.bm_cli.specs.declared.mode.Mode.TheVariants.{Replay}
 use Rattle.bm_cli.specs.declared.status.Status.{Status}
 use Rattle.bm_cli.specs.declared.status.Status.TheVariants.{Usage}
@@ -12,13 +12,18 @@ use Rattle.bm_connections_cli.specs.Headline.{IsTableOf}
 use Rattle.bm_connections_cli.specs.Words.{Asked}
 
 abbrev pub usage_line : List ℕ
-usage_line = codes "usage: beamer-connections CAPTURE SCRIPT [--csv | --json]\n"
+usage_line =
+    codes "usage: beamer-connections CAPTURE SCRIPT [--csv | --json] [--clock]\n"
+
+-- when the named capture began, where its wall clock is asked for
+abbrev pub clock_of : Asked → Reads → Option ℕ
+clock_of asked reads = if asked.clock then Some (reads.began asked.names.capture) else None
 
 -- the connections of the replay that `beamer replay` makes are due, or the line of its fault
 abbrev pub due_of : Asked → Reads → Due
 due_of asked reads = record {
   names = names_behind asked.names (script_by Replay reads asked.names.script);
-  answer = answer_for (IsTableOf asked.format) (reading Replay asked.names reads);
+  answer = answer_for (IsTableOf asked.format (clock_of asked reads)) (reading Replay asked.names reads);
 }
 
 -- the usage line was written, as far as the sink let it, and no file was asked for

@@ -1,5 +1,5 @@
 -- What the program promises of what it writes.
-use Rattle.std.specs.Prelude.{◌≡◌, ℕ, List}
+use Rattle.std.specs.Prelude.{◌≡◌, ℕ, List, Option}
 use Rattle.bm_core.specs.declared.events.History.{History}
 use Rattle.bm_core.specs.declared.events.Stage.{Stage}
 use Rattle.bm_core.specs.Histories.{IsReplay}
@@ -14,10 +14,11 @@ pub record IsReplayOf (stage : Stage) (history : History) : Type 0 where
   pub made :
       IsReplay (setting_route stage.script.setting) (setting_rule stage.script.setting) history
 
--- these octets tell, in this format, the connections of the replay of the stage
-pub record IsTableOf (format : Format) (stage : Stage) (octets : List ℕ) : Type 0 where
+-- these octets tell, in this format and by this clock, the connections of the replay of the stage
+pub record IsTableOf (format : Format) (clock : Option ℕ) (stage : Stage) (octets : List ℕ)
+    : Type 0 where
   -- there is a replay
   pub history : History
   pub replay : IsReplayOf stage history
   -- whatever history is a replay of the stage, the octets are its text
-  pub printed : (h : History) → IsReplayOf stage h → octets ≡ text format h
+  pub printed : (h : History) → IsReplayOf stage h → octets ≡ text format clock h

@@ -1,4 +1,5 @@
--- A connection as JSON. The members of an object are in the order of their names (docs/FORMATS.md).
+-- A connection as JSON. The members of an object are in the order of their names
+-- (docs/FORMATS.md). A clock is when record 1 was captured, where moments are told since 1970.
 use Rattle.std.specs.Prelude.{ℕ, List, ◌++◌, Option, Some, None, codes, flat_map}
 use Rattle.serde_json.specs.Data.{Data, member, no_members, null, number, object, string, unsigned}
 use Rattle.serde_json.specs.Written.{compact_text}
@@ -10,16 +11,17 @@ use Rattle.bm_connections.specs.declared.connection.Connection.{Connection}
 use Rattle.bm_connections.specs.declared.connection.Forwarding.{Forwarding}
 use Rattle.bm_connections.specs.declared.connection.Sight.{Sight}
 use Rattle.bm_connections.specs.declared.connection.Tally.{Tally}
-use Rattle.bm_connections.specs.Text.{verdict_field}
+use Rattle.bm_connections.specs.Times.{told}
+use Rattle.bm_connections_cli.specs.Csv.{verdict_field}
 
 abbrev pub count : ℕ → Data
 count n = number (unsigned n)
 
 -- a record of the capture
-abbrev pub sight_value : Sight → Data
-sight_value s =
+abbrev pub sight_value : Option ℕ → Sight → Data
+sight_value clock s =
     object
-    (member (codes "at_ns") (count s.moment.0)
+    (member (codes "at_ns") (count (told clock s.moment.0))
     (member (codes "packet") (count s.number)
     no_members))
 
@@ -34,11 +36,11 @@ cause_value None = null
 cause_value (Some cause) = string (cause_word cause)
 
 -- the first packet that broke or refused the connection, or null
-abbrev pub fault_value : Option Break → Data
-fault_value None = null
-fault_value (Some b) =
+abbrev pub fault_value : Option ℕ → Option Break → Data
+fault_value clock None = null
+fault_value clock (Some b) =
     object
-    (member (codes "at_ns") (count b.clock.0)
+    (member (codes "at_ns") (count (told clock b.clock.0))
     (member (codes "cause") (cause_value b.cause)
     (member (codes "packet") (count b.packet)
     (member (codes "server") (count b.server.0)
@@ -46,11 +48,11 @@ fault_value (Some b) =
     no_members)))))
 
 -- the last packet that was forwarded, or null
-abbrev pub forward_value : Option Forwarding → Data
-forward_value None = null
-forward_value (Some x) =
+abbrev pub forward_value : Option ℕ → Option Forwarding → Data
+forward_value clock None = null
+forward_value clock (Some x) =
     object
-    (member (codes "at_ns") (count x.clock.0)
+    (member (codes "at_ns") (count (told clock x.clock.0))
     (member (codes "packet") (count x.packet)
     (member (codes "server") (count x.server.0)
     (member (codes "wait_ns") (count x.wait)
@@ -67,24 +69,24 @@ tally_value t =
     (member (codes "stray") (count t.stray)
     no_members))))))
 
-abbrev pub connection_value : Connection → Data
-connection_value c =
+abbrev pub connection_value : Option ℕ → Connection → Data
+connection_value clock c =
     object
     (member (codes "arrivals") (tally_value c.tally)
-    (member (codes "broken") (fault_value c.broken)
+    (member (codes "broken") (fault_value clock c.broken)
     (member (codes "client") (string (endpoint c.flow.src c.flow.sport))
-    (member (codes "forward") (forward_value c.forwarded)
-    (member (codes "last") (sight_value c.last)
-    (member (codes "opened") (sight_value c.first)
-    (member (codes "refused") (fault_value c.refused)
+    (member (codes "forward") (forward_value clock c.forwarded)
+    (member (codes "last") (sight_value clock c.last)
+    (member (codes "opened") (sight_value clock c.first)
+    (member (codes "refused") (fault_value clock c.refused)
     (member (codes "server") (server_value c.server)
     (member (codes "service") (string (endpoint c.flow.dst c.flow.dport))
     no_members)))))))))
 
 -- the value on a line of its own
-abbrev pub json_line : Connection → List ℕ
-json_line c = compact_text (connection_value c) ++ codes "\n"
+abbrev pub json_line : Option ℕ → Connection → List ℕ
+json_line clock c = compact_text (connection_value clock c) ++ codes "\n"
 
 -- a line for each connection
-abbrev pub json_lines : List Connection → List ℕ
-json_lines cs = flat_map json_line cs
+abbrev pub json_lines : Option ℕ → List Connection → List ℕ
+json_lines clock cs = flat_map (json_line clock) cs

@@ -2,6 +2,8 @@ pub mod Top
 pub mod Dues
 pub mod Headline
 pub mod Text
+pub mod Csv
+pub mod Rows
 pub mod Json
 pub mod Advice
 pub mod Servers

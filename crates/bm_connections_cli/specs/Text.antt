@@ -1,5 +1,6 @@
--- What is told of a history's connections (docs/FORMATS.md).
-use Rattle.std.specs.Prelude.{ℕ, Bool, nat_lt, List, [], ◌∷◌, filter, flat_map, map}
+-- What is told of a history's connections (docs/FORMATS.md). A clock is when record 1 was
+-- captured, where moments are those of the wall clock.
+use Rattle.std.specs.Prelude.{ℕ, Bool, nat_lt, List, [], ◌∷◌, Option, filter, flat_map, map}
 use Rattle.bm_core.specs.declared.events.Cause.{Cause}
 use Rattle.bm_core.specs.declared.events.Cause.TheVariants.{NeverAccepted, NotHeld, StaleMux}
 use Rattle.bm_core.specs.declared.events.Cause.TheVariants.{MovedTwice, ChainLate, SynElsewhere}
@@ -9,10 +10,11 @@ use Rattle.bm_connections.specs.declared.counts.CauseCount.{CauseCount}
 use Rattle.bm_connections.specs.Connections.{connections}
 use Rattle.bm_connections.specs.Counts.{cause_count, server_counts}
 use Rattle.bm_connections.specs.Late.{longest_late}
-use Rattle.bm_connections.specs.Text.{cause_line, late_text, server_line, table_csv, table_text}
+use Rattle.bm_connections.specs.Text.{cause_line, late_text, server_line, table_text}
 use Rattle.bm_connections_cli.specs.declared.words.Format.{Format}
 use Rattle.bm_connections_cli.specs.declared.words.Format.TheVariants.{Lines, Csv, Json}
-use Rattle.bm_connections_cli.specs.Advice.{advice_line, unsteered_line}
+use Rattle.bm_connections_cli.specs.Advice.{advice_line, behind_line, unsteered_line}
+use Rattle.bm_connections_cli.specs.Csv.{table_csv}
 use Rattle.bm_connections_cli.specs.Json.{json_lines}
 use Rattle.bm_connections_cli.specs.Servers.{servers_of}
 
@@ -44,13 +46,14 @@ late_lines h = late_text (longest_late h)
 abbrev pub advice_lines : History → List ℕ
 advice_lines h = flat_map (λ c. advice_line c.cause) (causes_in h)
 
--- what is told in each format, part by part
-abbrev pub parts : Format → History → List (List ℕ)
-parts Lines h =
-    table_text (connections h) ∷ server_lines h ∷ cause_lines h ∷ late_lines h ∷ advice_lines h
-    ∷ unsteered_line (connections h) ∷ []
-parts Csv h = table_csv (connections h) ∷ []
-parts Json h = json_lines (connections h) ∷ []
+-- what is told in lines, part by part
+abbrev pub parts : Option ℕ → History → List (List ℕ)
+parts clock h =
+    table_text clock (connections h) ∷ server_lines h ∷ cause_lines h ∷ late_lines h
+    ∷ advice_lines h ∷ unsteered_line (connections h) ∷ behind_line h.stage ∷ []
 
-abbrev pub text : Format → History → List ℕ
-text format h = flat_map (λ part. part) (parts format h)
+-- what is told in each format
+abbrev pub text : Format → Option ℕ → History → List ℕ
+text Lines clock h = flat_map (λ part. part) (parts clock h)
+text Csv clock h = table_csv clock (connections h)
+text Json clock h = json_lines clock (connections h)

@@ -1,16 +1,18 @@
--- What the words ask for: `CAPTURE SCRIPT`, and perhaps `--csv` or `--json` behind them. A name
--- that is empty or begins with `-` makes them no form.
+-- What the words ask for: `CAPTURE SCRIPT`, and behind them perhaps a format and `--clock`, in
+-- either order, each at most once. A name that is empty or begins with `-` makes them no form.
 use Rattle.std.specs.Prelude.{ℕ, List, [], ◌∷◌, ◌&&◌, if◌then◌else◌, Option, Some, None, codes, map}
-use Rattle.std.specs.Prelude.{String, option_and_then, string_bytes}
+use Rattle.std.specs.Prelude.{Bool, true, false, String, option_and_then, option_map, string_bytes}
 use Rattle.std.specs.Str.{bytes_eq}
 use Rattle.bm_words.specs.Form.{Named, is_name, named}
 use Rattle.bm_connections_cli.specs.declared.words.Asked.{Asked as Answered}
 use Rattle.bm_connections_cli.specs.declared.words.Format.{Format}
 use Rattle.bm_connections_cli.specs.declared.words.Format.TheVariants.{Lines, Csv, Json}
+use Rattle.bm_connections_cli.specs.declared.words.Manner.{Manner}
 
--- how the connections are told, and what is replayed
+-- how the connections are told, whether by the wall clock, and what is replayed
 pub record Asked : Type 0 where
   pub format : Format
+  pub clock : Bool
   pub names : Named
 
 -- the format that the word asks for
@@ -20,21 +22,41 @@ format_of word =
     else if bytes_eq word (codes "--json") then Some Json
     else None
 
+-- the word asks for the wall clock
+abbrev pub is_clock : List ℕ → Bool
+is_clock word = bytes_eq word (codes "--clock")
+
+-- in this format, and by the wall clock if that is asked for
+abbrev pub manner : Bool → Format → Manner
+manner clock format = record { format = format; clock = clock }
+
+-- how the options say that the connections are told: by no option, by one, by one of each kind
+abbrev pub manner_of : List (List ℕ) → Option Manner
+manner_of [] = Some (manner false Lines)
+manner_of (word ∷ []) =
+    if is_clock word then Some (manner true Lines)
+    else option_map (manner false) (format_of word)
+manner_of (one ∷ other ∷ []) =
+    if is_clock one then option_map (manner true) (format_of other)
+    else if is_clock other then option_map (manner true) (format_of one)
+    else None
+manner_of _ = None
+
 -- these words name a capture and a script
-abbrev pub with_names : Format → List ℕ → List ℕ → Option Asked
-with_names format capture script =
+abbrev pub with_names : List ℕ → List ℕ → Manner → Option Asked
+with_names capture script m =
     if is_name capture && is_name script
     then Some (record {
-      format = format;
+      format = m.format;
+      clock = m.clock;
       names = record { capture = capture; script = Some script };
     })
     else None
 
 -- what the words ask for; None where they are of no form
 abbrev pub form_of : List (List ℕ) → Option Asked
-form_of (capture ∷ script ∷ []) = with_names Lines capture script
-form_of (capture ∷ script ∷ word ∷ []) =
-    option_and_then (λ format. with_names format capture script) (format_of word)
+form_of (capture ∷ script ∷ options) =
+    option_and_then (with_names capture script) (manner_of options)
 form_of _ = None
 
 -- the same, of the words as they are given
@@ -43,4 +65,4 @@ form_in words = form_of (map string_bytes words)
 
 -- what the code answers, without where its texts lie
 abbrev pub asked : Answered → Asked
-asked a = record { format = a.format; names = named a.names }
+asked a = record { format = a.manner.format; clock = a.manner.clock; names = named a.names }

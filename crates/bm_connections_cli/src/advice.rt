@@ -1,10 +1,11 @@
 //! What an operator may do about the causes that occur.
-ghost use Rattle.std.specs.Prelude.{◌≡◌, ◌++◌, IfOk, OnOk, flat_map, string_bytes};
+ghost use Rattle.std.specs.Prelude.{◌≡◌, ◌++◌, IfOk, OnOk, Some, flat_map, string_bytes};
 ghost use Rattle.bm_connections_cli.specs.Advice as spec;
 
-use bm_base::{Memory, Text};
+use bm_base::{Memory, Moment, Record, Text, Version};
 use bm_connections::{CauseCount, Connection};
-use bm_core::Cause;
+use bm_core::{Cause, Stage};
+use bm_table::Plan;
 use bm_trace::cause_word;
 use std::alloc::{AllocError, Global};
 
@@ -62,6 +63,46 @@ pub(crate) fn unsteered_text(alloc: Global, table: &[Connection]) -> Result<Text
     let mut text = String::new(alloc);
     if table.is_empty() {
         writeln!(text, "advice nothing-steered: name your services in vips")?;
+    }
+    Ok(Text::of(text))
+}
+
+/// Whether all records come before the moment.
+fn ends_before(records: &[Record], moment: Moment) -> bool
+    ensures { result ≡ spec.ends_before records.now moment }
+{
+    records.iter().all(|record| record.moment.0 < moment.0)
+}
+
+/// The moment of the script's last change.
+fn last_moment(plan: &Plan) -> Option<Moment>
+    ensures { result ≡ spec.last_moment plan.now.changes }
+{
+    let before = plan.versions().saturating_sub(1);
+    Some(plan.next_change(Version(before))?.moment)
+}
+
+/// A line of advice where the capture ends before the script's last change.
+pub(crate) fn behind_text(alloc: Global, stage: &Stage) -> Result<Text, Memory>
+    ensures { IfOk result (λ text. text ≡ spec.behind_line stage.now) }
+{
+    let records = stage.capture.records.items();
+    match last_moment(&stage.script.plan) {
+        None => Ok(Text::of(String::new(alloc))),
+        Some(moment) => ended_text(alloc, records, moment),
+    }
+}
+
+/// A line of advice where all records come before the moment of a change.
+fn ended_text(alloc: Global, records: &[Record], moment: Moment) -> Result<Text, Memory>
+    ensures { IfOk result (λ text. text ≡ spec.behind_text records.now (Some moment)) }
+{
+    let mut text = String::new(alloc);
+    if ends_before(records, moment) {
+        writeln!(
+            text,
+            "advice change-behind-the-end: the capture ends before the last change; capture longer"
+        )?;
     }
     Ok(Text::of(text))
 }

@@ -1,21 +1,21 @@
 //! Connections as JSON, a line for each.
 ghost use Rattle.std.specs.Prelude.{◌≡◌, ◌++◌, IfOk, OnOk, flat_map, string_bytes};
 ghost use Rattle.serde_json.specs.View.{view};
-ghost use Rattle.bm_connections.specs.Text.{verdict_field};
 ghost use Rattle.bm_connections_cli.specs.Json as spec;
 
+use crate::fields::verdict_field;
 use bm_base::{Memory, ServerId, Text};
-use bm_connections::{Break, Connection, Forwarding, Sight, Tally};
-use bm_core::{Cause, Verdict};
+use bm_connections::{Break, Clock, Connection, Forwarding, Sight, Tally};
+use bm_core::Cause;
 use bm_trace::{Endpoint, cause_word};
 use serde_json::{Value, json};
 use std::alloc::{AllocError, Global};
 
-fn sight_value(alloc: Global, sight: Sight) -> Result<Value, AllocError>
-    ensures { IfOk result (λ value. view value ≡ spec.sight_value sight) }
+fn sight_value(alloc: Global, clock: Clock, sight: Sight) -> Result<Value, AllocError>
+    ensures { IfOk result (λ value. view value ≡ spec.sight_value clock.0 sight) }
 {
     let packet = u64::from(sight.number);
-    let at = sight.moment.0;
+    let at = clock.told(sight.moment);
     json!(in alloc; {"packet": packet, "at_ns": at})
 }
 
@@ -39,35 +39,23 @@ fn cause_value(alloc: Global, cause: Option<Cause>) -> Result<Value, AllocError>
     }
 }
 
-fn verdict_name(verdict: Verdict) -> &'static str
-    ensures { result.now ≡ verdict_field verdict }
-{
-    match verdict {
-        Verdict::Accept => "accept",
-        Verdict::Process(_) => "process",
-        Verdict::Forward(_) => "forward",
-        Verdict::Reset(_) => "reset",
-        Verdict::Drop(_) => "drop",
-    }
-}
-
 /// The first packet that broke or refused a connection, or null.
-fn fault_value(alloc: Global, fault: Option<Break>) -> Result<Value, AllocError>
-    ensures { IfOk result (λ value. view value ≡ spec.fault_value fault) }
+fn fault_value(alloc: Global, clock: Clock, fault: Option<Break>) -> Result<Value, AllocError>
+    ensures { IfOk result (λ value. view value ≡ spec.fault_value clock.0 fault) }
 {
     match fault {
         None => Ok(Value::Null),
-        Some(first) => break_value(alloc, first),
+        Some(first) => break_value(alloc, clock, first),
     }
 }
 
-fn break_value(alloc: Global, first: Break) -> Result<Value, AllocError>
-    ensures { IfOk result (λ value. view value ≡ spec.fault_value (Some first)) }
+fn break_value(alloc: Global, clock: Clock, first: Break) -> Result<Value, AllocError>
+    ensures { IfOk result (λ value. view value ≡ spec.fault_value clock.0 (Some first)) }
 {
     let packet = u64::from(first.packet);
-    let at = first.clock.0;
+    let at = clock.told(first.clock);
     let server = u64::from(first.server.0);
-    let verdict = verdict_name(first.verdict);
+    let verdict = verdict_field(first.verdict);
     let cause = cause_value(alloc, first.cause)?;
     json!(in alloc; {
         "packet": packet,
@@ -79,20 +67,24 @@ fn break_value(alloc: Global, first: Break) -> Result<Value, AllocError>
 }
 
 /// The last packet that was forwarded, or null.
-fn forward_value(alloc: Global, forwarded: Option<Forwarding>) -> Result<Value, AllocError>
-    ensures { IfOk result (λ value. view value ≡ spec.forward_value forwarded) }
+fn forward_value(
+    alloc: Global,
+    clock: Clock,
+    forwarded: Option<Forwarding>,
+) -> Result<Value, AllocError>
+    ensures { IfOk result (λ value. view value ≡ spec.forward_value clock.0 forwarded) }
 {
     match forwarded {
         None => Ok(Value::Null),
-        Some(last) => forwarding_value(alloc, last),
+        Some(last) => forwarding_value(alloc, clock, last),
     }
 }
 
-fn forwarding_value(alloc: Global, last: Forwarding) -> Result<Value, AllocError>
-    ensures { IfOk result (λ value. view value ≡ spec.forward_value (Some last)) }
+fn forwarding_value(alloc: Global, clock: Clock, last: Forwarding) -> Result<Value, AllocError>
+    ensures { IfOk result (λ value. view value ≡ spec.forward_value clock.0 (Some last)) }
 {
     let packet = u64::from(last.packet);
-    let at = last.clock.0;
+    let at = clock.told(last.clock);
     let server = u64::from(last.server.0);
     let wait = last.wait;
     json!(in alloc; {"packet": packet, "at_ns": at, "server": server, "wait_ns": wait})
@@ -120,8 +112,8 @@ fn tally_value(alloc: Global, tally: Tally) -> Result<Value, AllocError>
     })
 }
 
-fn connection_value(alloc: Global, c: &Connection) -> Result<Value, AllocError>
-    ensures { IfOk result (λ value. view value ≡ spec.connection_value c.now) }
+fn connection_value(alloc: Global, clock: Clock, c: &Connection) -> Result<Value, AllocError>
+    ensures { IfOk result (λ value. view value ≡ spec.connection_value clock.0 c.now) }
 {
     let client = Endpoint {
         addr: c.flow.src,
@@ -134,11 +126,11 @@ fn connection_value(alloc: Global, c: &Connection) -> Result<Value, AllocError>
     let client = format!(in alloc; "{client}")?;
     let service = format!(in alloc; "{service}")?;
     let arrivals = tally_value(alloc, c.tally)?;
-    let broken = fault_value(alloc, c.broken)?;
-    let forward = forward_value(alloc, c.forwarded)?;
-    let refused = fault_value(alloc, c.refused)?;
-    let opened = sight_value(alloc, c.first)?;
-    let last = sight_value(alloc, c.last)?;
+    let broken = fault_value(alloc, clock, c.broken)?;
+    let forward = forward_value(alloc, clock, c.forwarded)?;
+    let refused = fault_value(alloc, clock, c.refused)?;
+    let opened = sight_value(alloc, clock, c.first)?;
+    let last = sight_value(alloc, clock, c.last)?;
     let server = server_value(c.server);
     json!(in alloc; {
         "client": client,
@@ -154,33 +146,43 @@ fn connection_value(alloc: Global, c: &Connection) -> Result<Value, AllocError>
 }
 
 /// Appends the connection on a line of its own.
-fn write_value(alloc: Global, text: &mut String, c: &Connection) -> Result<(), AllocError>
+fn write_value(
+    alloc: Global,
+    text: &mut String,
+    clock: Clock,
+    c: &Connection,
+) -> Result<(), AllocError>
     ensures { OnOk result
-        (string_bytes text.new ≡ string_bytes text.old ++ spec.json_line c.now) }
+        (string_bytes text.new ≡ string_bytes text.old ++ spec.json_line clock.0 c.now) }
 {
-    let line = connection_value(alloc, c)?.to_string(alloc)?;
+    let line = connection_value(alloc, clock, c)?.to_string(alloc)?;
     writeln!(text, "{line}")
 }
 
 fn write_values(
     alloc: Global,
     text: &mut String,
+    clock: Clock,
     connections: &[Connection],
 ) -> Result<(), AllocError>
-    ensures { OnOk result
-        (string_bytes text.new ≡ string_bytes text.old ++ spec.json_lines connections.now) }
+    ensures { OnOk result (string_bytes text.new
+        ≡ string_bytes text.old ++ spec.json_lines clock.0 connections.now) }
 {
     for connection in connections {
-        write_value(alloc, text, connection)?;
+        write_value(alloc, text, clock, connection)?;
     }
     Ok(())
 }
 
-/// The connections as JSON, a line for each.
-pub(crate) fn json_text(alloc: Global, connections: &[Connection]) -> Result<Text, Memory>
-    ensures { IfOk result (λ text. text ≡ spec.json_lines connections.now) }
+/// The connections as JSON, a line for each. Moments are nanoseconds that are told by the clock.
+pub(crate) fn json_text(
+    alloc: Global,
+    clock: Clock,
+    connections: &[Connection],
+) -> Result<Text, Memory>
+    ensures { IfOk result (λ text. text ≡ spec.json_lines clock.0 connections.now) }
 {
     let mut text = String::new(alloc);
-    write_values(alloc, &mut text, connections)?;
+    write_values(alloc, &mut text, clock, connections)?;
     Ok(Text::of(text))
 }

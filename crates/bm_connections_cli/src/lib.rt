@@ -4,6 +4,7 @@
 
 mod advice;
 mod causes;
+mod fields;
 mod json;
 mod parts;
 mod put;

@@ -1,5 +1,5 @@
 //! The top call.
-ghost use Rattle.std.specs.Prelude.{◌≡◌, ◌≢◌, ◌⊎◌, ◌<◌, ◌≤◌, None, Some, IsSome};
+ghost use Rattle.std.specs.Prelude.{◌≡◌, ◌≢◌, ◌⊎◌, ◌<◌, ◌≤◌, if◌then◌else◌, None, Some, IsSome};
 ghost use Rattle.std.specs.Io.KnownBytes.{Appends};
 ghost use Rattle.bm_io.specs.Causes.{Rose};
 ghost use Rattle.bm_cli.specs.declared.fault.StageFault.TheVariants.{Files as files_failed};
@@ -14,14 +14,15 @@ ghost use Rattle.bm_connections_cli.specs.Top.{WritesSomeFor, names_due, scripts
 ghost use Rattle.bm_connections_cli.specs.Words.{asked, form_in};
 
 use crate::tell::tell;
-use crate::words::{Asked, read_words};
+use crate::words::{Asked, Manner, read_words};
 use bm_cli::{Status, refuse, replay_files, say};
+use bm_connections::Clock;
 use bm_io::{Files, Sink};
 use std::alloc::Global;
 use std::sync::Wait;
 use std::thread::Threads;
 
-const USAGE: &str = "usage: beamer-connections CAPTURE SCRIPT [--csv | --json]\n";
+const USAGE: &str = "usage: beamer-connections CAPTURE SCRIPT [--csv | --json] [--clock]\n";
 
 /// Does all that the program does, and answers the status.
 ///
@@ -127,8 +128,22 @@ fn answer_form<R: Threads + Wait + Sync, F: Files, K: Sink>(
     ensures open { F.open_now files.new ≡ F.open_now files.old }
 {
     match replay_files(rt, alloc, files, form.names) {
-        Ok(history) => tell(alloc, form.format, &history, out),
+        Ok(replayed) => {
+            let clock = clock_of(form.manner, replayed.began);
+            tell(alloc, form.manner.format, clock, &replayed.history, out)
+        }
         Err(fault) => refuse(alloc, &fault, out),
+    }
+}
+
+/// What moments are told from, where the capture began so many nanoseconds after 1970.
+fn clock_of(manner: Manner, began: u64) -> Clock
+    ensures { result.0 ≡ (if manner.clock then Some began else None) }
+{
+    if manner.clock {
+        Clock(Some(began))
+    } else {
+        Clock(None)
     }
 }
 

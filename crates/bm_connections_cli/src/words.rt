@@ -1,5 +1,5 @@
 //! The words of the command line, and what they ask for.
-ghost use Rattle.std.specs.Prelude.{◌≡◌, option_map};
+ghost use Rattle.std.specs.Prelude.{◌≡◌, ◌∷◌, [], true, map, option_map, string_bytes};
 ghost use Rattle.bm_words.specs.Form as forms;
 ghost use Rattle.bm_connections_cli.specs.Words as spec;
 
@@ -16,10 +16,18 @@ pub(crate) enum Format {
     Json,
 }
 
+/// How the connections are told: in which format, and whether moments are those of the wall clock
+/// (`--clock`).
+#[derive(Clone, Copy, Debug, PartialEq, Eq)]
+pub(crate) struct Manner {
+    pub(crate) format: Format,
+    pub(crate) clock: bool,
+}
+
 /// What the words ask for: how the connections are told, and which capture and script are replayed.
 #[derive(Debug, Drop)]
 pub(crate) struct Asked<'a> {
-    pub(crate) format: Format,
+    pub(crate) manner: Manner,
     pub(crate) names: Names<'a>,
 }
 
@@ -29,17 +37,70 @@ pub(crate) fn read_words<'a>(words: &'a [String]) -> Option<Asked<'a>>
     ensures { option_map spec.asked result ≡ spec.form_in words.entry.now }
 {
     match words {
-        [capture, script] => with_names(Format::Lines, capture.as_str(), script.as_str()),
-        [capture, script, word] => match format_named(word.as_str()) {
-            Some(format) => with_names(format, capture.as_str(), script.as_str()),
-            None => None,
-        },
+        [capture, script, options @ ..] => {
+            with_names(capture.as_str(), script.as_str(), read_options(options)?)
+        }
         _ => None,
     }
 }
 
+/// How the options say that the connections are told: `--clock` and a format, in either order,
+/// each at most once.
+fn read_options(options: &[String]) -> Option<Manner>
+    ensures { result ≡ spec.manner_of (map string_bytes options.now) }
+{
+    match options {
+        [] => Some(Manner {
+            format: Format::Lines,
+            clock: false,
+        }),
+        [word] => read_option(word.as_str()),
+        [one, other] => read_both(one.as_str(), other.as_str()),
+        _ => None,
+    }
+}
+
+fn read_option(word: &str) -> Option<Manner>
+    ensures { result ≡ spec.manner_of (word.now ∷ []) }
+{
+    if word == "--clock" {
+        return Some(Manner {
+            format: Format::Lines,
+            clock: true,
+        });
+    }
+    let format = read_format(word)?;
+    Some(Manner {
+        format,
+        clock: false,
+    })
+}
+
+fn read_both(one: &str, other: &str) -> Option<Manner>
+    ensures { result ≡ spec.manner_of (one.now ∷ other.now ∷ []) }
+{
+    if one == "--clock" {
+        return with_clock(other);
+    }
+    if other == "--clock" {
+        return with_clock(one);
+    }
+    None
+}
+
+/// The wall clock, and the format that the word asks for.
+fn with_clock(word: &str) -> Option<Manner>
+    ensures { result ≡ option_map (spec.manner true) (spec.format_of word.now) }
+{
+    let format = read_format(word)?;
+    Some(Manner {
+        format,
+        clock: true,
+    })
+}
+
 /// The format that the word asks for.
-fn format_named(word: &str) -> Option<Format>
+fn read_format(word: &str) -> Option<Format>
     ensures { result ≡ spec.format_of word.now }
 {
     match word {
@@ -50,16 +111,16 @@ fn format_named(word: &str) -> Option<Format>
 }
 
 /// What is asked for where these are names of a capture and a script.
-fn with_names<'a>(format: Format, capture: &'a str, script: &'a str) -> Option<Asked<'a>>
+fn with_names<'a>(capture: &'a str, script: &'a str, manner: Manner) -> Option<Asked<'a>>
     ensures { option_map spec.asked result
-        ≡ spec.with_names format capture.entry.now script.entry.now }
+        ≡ spec.with_names capture.entry.now script.entry.now manner }
 {
     if is_name(capture) && is_name(script) {
         let names = Names {
             capture,
             script: Some(script),
         };
-        Some(Asked { format, names })
+        Some(Asked { manner, names })
     } else {
         None
     }

@@ -1,0 +1,98 @@
+-- The table in fields, with commas between them (docs/FORMATS.md). A clock is when record 1 was
+-- captured, where moments are told in UTC.
+use Rattle.std.specs.Prelude.{ℕ, List, [], ◌∷◌, ◌++◌, Option, Some, None, codes, decimal, flat_map}
+use Rattle.csv.specs.Writing.{default_writer, row_text}
+use Rattle.bm_base.specs.declared.ids.ServerId.{ServerId}
+use Rattle.bm_core.specs.declared.events.Cause.{Cause}
+use Rattle.bm_core.specs.declared.events.Verdict.{Verdict}
+use Rattle.bm_core.specs.declared.events.Verdict.TheVariants.{Accept, Process, Forward, Reset, Drop}
+use Rattle.bm_trace.specs.Words.{cause_word, endpoint}
+use Rattle.bm_connections.specs.declared.connection.Break.{Break}
+use Rattle.bm_connections.specs.declared.connection.Connection.{Connection}
+use Rattle.bm_connections.specs.declared.connection.Forwarding.{Forwarding}
+use Rattle.bm_connections.specs.declared.connection.Sight.{Sight}
+use Rattle.bm_connections.specs.declared.connection.Tally.{Tally}
+use Rattle.bm_connections.specs.Times.{seconds_text, time_text}
+
+-- a server's number, or nothing
+abbrev pub server_field : Option ServerId → List ℕ
+server_field None = []
+server_field (Some server) = decimal server.0
+
+-- the kind of a verdict
+abbrev pub verdict_field : Verdict → List ℕ
+verdict_field Accept = codes "accept"
+verdict_field (Process taken) = codes "process"
+verdict_field (Forward to) = codes "forward"
+verdict_field (Reset why) = codes "reset"
+verdict_field (Drop why) = codes "drop"
+
+-- a cause, or nothing
+abbrev pub cause_field : Option Cause → List ℕ
+cause_field None = []
+cause_field (Some cause) = cause_word cause
+
+-- the number of a record and its moment
+abbrev pub sight_fields : Option ℕ → Sight → List (List ℕ)
+sight_fields clock s = decimal s.number ∷ time_text clock s.moment.0 ∷ []
+
+abbrev pub tally_fields : Tally → List (List ℕ)
+tally_fields t =
+    decimal t.accepted ∷ decimal t.processed ∷ decimal t.forwarded ∷ decimal t.dropped
+    ∷ decimal t.reset ∷ decimal t.stray ∷ []
+
+-- the first packet that broke or refused the connection, its clock, its server, its verdict and its
+-- cause
+abbrev pub fault_fields : Option ℕ → Option Break → List (List ℕ)
+fault_fields clock None = [] ∷ [] ∷ [] ∷ [] ∷ [] ∷ []
+fault_fields clock (Some b) =
+    decimal b.packet ∷ time_text clock b.clock.0 ∷ decimal b.server.0 ∷ verdict_field b.verdict
+    ∷ cause_field b.cause ∷ []
+
+-- the last packet that was forwarded, its clock, the server that forwarded it, and how long after
+-- its bucket's move it came
+abbrev pub forwarded_fields : Option ℕ → Option Forwarding → List (List ℕ)
+forwarded_fields clock None = [] ∷ [] ∷ [] ∷ [] ∷ []
+forwarded_fields clock (Some x) =
+    decimal x.packet ∷ time_text clock x.clock.0 ∷ decimal x.server.0 ∷ seconds_text x.wait ∷ []
+
+-- the names of the fields
+abbrev pub header : List (List ℕ)
+header =
+    codes "client" ∷ codes "service"
+    ∷ codes "opened" ∷ codes "opened_at" ∷ codes "last" ∷ codes "last_at"
+    ∷ codes "server" ∷ codes "accepted" ∷ codes "processed" ∷ codes "forwarded"
+    ∷ codes "dropped" ∷ codes "reset" ∷ codes "stray"
+    ∷ codes "broken" ∷ codes "broken_at" ∷ codes "broken_by" ∷ codes "verdict" ∷ codes "cause"
+    ∷ codes "forward" ∷ codes "forward_at" ∷ codes "forward_by" ∷ codes "forward_wait"
+    ∷ codes "refused" ∷ codes "refused_at" ∷ codes "refused_by" ∷ codes "refused_verdict"
+    ∷ codes "refused_cause" ∷ []
+
+-- the flow, where it was first and last seen, and the server that accepted it last
+abbrev pub seen_fields : Option ℕ → Connection → List (List ℕ)
+seen_fields clock c =
+    endpoint c.flow.src c.flow.sport ∷ endpoint c.flow.dst c.flow.dport ∷ []
+    ++ sight_fields clock c.first
+    ++ sight_fields clock c.last
+    ++ server_field c.server ∷ []
+
+-- the fields of a connection
+abbrev pub connection_fields : Option ℕ → Connection → List (List ℕ)
+connection_fields clock c =
+    seen_fields clock c
+    ++ tally_fields c.tally
+    ++ fault_fields clock c.broken
+    ++ forwarded_fields clock c.forwarded
+    ++ fault_fields clock c.refused
+
+-- the record of these fields, as the kit's writer of CSV writes it
+abbrev pub csv_line : List (List ℕ) → List ℕ
+csv_line fields = row_text default_writer fields
+
+-- the record of a connection
+abbrev pub connection_record : Option ℕ → Connection → List ℕ
+connection_record clock c = csv_line (connection_fields clock c)
+
+-- the names, and a record for each
+abbrev pub table_csv : Option ℕ → List Connection → List ℕ
+table_csv clock cs = csv_line header ++ flat_map (connection_record clock) cs
