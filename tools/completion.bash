@@ -34,10 +34,10 @@ _beamer_connections() {
   case $COMP_CWORD in
     1) _beamer_files "$word" '@(pcap|pcapng|cap)' ;;
     2) _beamer_files "$word" toml ;;
-    3) mapfile -t COMPREPLY < <(compgen -W "--csv --json --clock" -- "$word") ;;
+    3) mapfile -t COMPREPLY < <(compgen -W "--csv --json --svg --clock" -- "$word") ;;
     4) case ${COMP_WORDS[3]} in
-         --clock) mapfile -t COMPREPLY < <(compgen -W "--csv --json" -- "$word") ;;
-         --csv | --json) mapfile -t COMPREPLY < <(compgen -W "--clock" -- "$word") ;;
+         --clock) mapfile -t COMPREPLY < <(compgen -W "--csv --json --svg" -- "$word") ;;
+         --csv | --json | --svg) mapfile -t COMPREPLY < <(compgen -W "--clock" -- "$word") ;;
        esac ;;
   esac
 }

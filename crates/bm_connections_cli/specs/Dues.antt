@@ -13,7 +13,7 @@ use Rattle.bm_connections_cli.specs.Words.{Asked}
 
 abbrev pub usage_line : List ℕ
 usage_line =
-    codes "usage: beamer-connections CAPTURE SCRIPT [--csv | --json] [--clock]\n"
+    codes "usage: beamer-connections CAPTURE SCRIPT [--csv | --json | --svg] [--clock]\n"
 
 -- when the named capture began, where its wall clock is asked for
 abbrev pub clock_of : Asked → Reads → Option ℕ

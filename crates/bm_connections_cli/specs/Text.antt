@@ -11,8 +11,9 @@ use Rattle.bm_connections.specs.Connections.{connections}
 use Rattle.bm_connections.specs.Counts.{cause_count, server_counts}
 use Rattle.bm_connections.specs.Late.{longest_late}
 use Rattle.bm_connections.specs.Text.{cause_line, late_text, server_line, table_text}
+use Rattle.bm_drawing.specs.Drawing.{drawing}
 use Rattle.bm_connections_cli.specs.declared.words.Format.{Format}
-use Rattle.bm_connections_cli.specs.declared.words.Format.TheVariants.{Lines, Csv, Json}
+use Rattle.bm_connections_cli.specs.declared.words.Format.TheVariants.{Lines, Csv, Json, Svg}
 use Rattle.bm_connections_cli.specs.Advice.{advice_line, behind_line, unsteered_line}
 use Rattle.bm_connections_cli.specs.Csv.{table_csv}
 use Rattle.bm_connections_cli.specs.Json.{json_lines}
@@ -57,3 +58,4 @@ abbrev pub text : Format → Option ℕ → History → List ℕ
 text Lines clock h = flat_map (λ part. part) (parts clock h)
 text Csv clock h = table_csv clock (connections h)
 text Json clock h = json_lines clock (connections h)
+text Svg clock h = drawing h (connections h)

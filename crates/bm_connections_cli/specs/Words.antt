@@ -6,7 +6,7 @@ use Rattle.std.specs.Str.{bytes_eq}
 use Rattle.bm_words.specs.Form.{Named, is_name, named}
 use Rattle.bm_connections_cli.specs.declared.words.Asked.{Asked as Answered}
 use Rattle.bm_connections_cli.specs.declared.words.Format.{Format}
-use Rattle.bm_connections_cli.specs.declared.words.Format.TheVariants.{Lines, Csv, Json}
+use Rattle.bm_connections_cli.specs.declared.words.Format.TheVariants.{Lines, Csv, Json, Svg}
 use Rattle.bm_connections_cli.specs.declared.words.Manner.{Manner}
 
 -- how the connections are told, whether by the wall clock, and what is replayed
@@ -20,6 +20,7 @@ abbrev pub format_of : List ℕ → Option Format
 format_of word =
     if bytes_eq word (codes "--csv") then Some Csv
     else if bytes_eq word (codes "--json") then Some Json
+    else if bytes_eq word (codes "--svg") then Some Svg
     else None
 
 -- the word asks for the wall clock

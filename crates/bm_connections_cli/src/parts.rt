@@ -4,7 +4,7 @@ ghost use Rattle.bm_core.specs.Runs.{IsRun};
 ghost use Rattle.bm_trace.specs.Swept.{AreCauses};
 ghost use Rattle.bm_connections.specs.Connections as tables;
 ghost use Rattle.bm_connections_cli.specs.Text as spec;
-ghost use Rattle.bm_connections_cli.specs.declared.words.Format.TheVariants.{Csv, Json};
+ghost use Rattle.bm_connections_cli.specs.declared.words.Format.TheVariants.{Csv, Json, Svg};
 
 use crate::advice::{advice_text, behind_text, unsteered_text};
 use crate::causes::causes_in;
@@ -17,6 +17,7 @@ use bm_connections::{
     servers_text, table_text,
 };
 use bm_core::History;
+use bm_drawing::drawing;
 use bm_trace::{CauseList, sweep};
 use std::alloc::Global;
 
@@ -81,4 +82,13 @@ pub(crate) fn values_of(alloc: Global, clock: Clock, h: &History) -> Result<Text
 {
     let table = table_of(alloc, h)?;
     json_text(alloc, clock, table.items())
+}
+
+/// The drawing of connections.
+pub(crate) fn drawing_of(alloc: Global, h: &History) -> Result<Text, Memory>
+    requires { IsRun h.now }
+    ensures { (clock : _) → IfOk result (λ text. text ≡ spec.text Svg clock h.now) }
+{
+    let table = table_of(alloc, h)?;
+    drawing(alloc, h, table.items())
 }

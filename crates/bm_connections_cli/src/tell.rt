@@ -4,7 +4,7 @@ ghost use Rattle.bm_cli.specs.Statuses.{Writes, did};
 ghost use Rattle.bm_connections_cli.specs.Text.{text};
 ghost use Rattle.bm_connections_cli.specs.declared.words.Format.TheVariants as in_format;
 
-use crate::parts::{fields_of, lines_of, values_of};
+use crate::parts::{drawing_of, fields_of, lines_of, values_of};
 use crate::put::put_parts;
 use crate::words::Format;
 use bm_cli::{Status, say};
@@ -30,6 +30,7 @@ pub(crate) fn tell<K: Sink>(
         Format::Lines => tell_lines(alloc, clock, history, out),
         Format::Csv => tell_fields(alloc, clock, history, out),
         Format::Json => tell_values(alloc, clock, history, out),
+        Format::Svg => tell_drawing(alloc, history, out),
     }
 }
 
@@ -68,4 +69,15 @@ fn tell_values<K: Sink>(alloc: Global, clock: Clock, history: &History, out: &mu
         return Status::Memory;
     };
     say(out, values.as_str().as_bytes(), Status::Done)
+}
+
+fn tell_drawing<K: Sink>(alloc: Global, history: &History, out: &mut K) -> Status
+    requires { IsRun history.now }
+    ensures { (clock : _) → Writes Status.Done (text in_format.Svg clock history.now)
+        (did K.written K.faults out.old out.new) result }
+{
+    let Ok(drawing) = drawing_of(alloc, history) else {
+        return Status::Memory;
+    };
+    say(out, drawing.as_str().as_bytes(), Status::Done)
 }

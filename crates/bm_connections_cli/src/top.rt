@@ -22,7 +22,7 @@ use std::alloc::Global;
 use std::sync::Wait;
 use std::thread::Threads;
 
-const USAGE: &str = "usage: beamer-connections CAPTURE SCRIPT [--csv | --json] [--clock]\n";
+const USAGE: &str = "usage: beamer-connections CAPTURE SCRIPT [--csv | --json | --svg] [--clock]\n";
 
 /// Does all that the program does, and answers the status.
 ///

@@ -14,6 +14,8 @@ pub(crate) enum Format {
     Csv,
     /// `--json`: a line for each connection, a JSON object.
     Json,
+    /// `--svg`: a drawing, an SVG text.
+    Svg,
 }
 
 /// How the connections are told: in which format, and whether moments are those of the wall clock
@@ -106,6 +108,7 @@ fn read_format(word: &str) -> Option<Format>
     match word {
         "--csv" => Some(Format::Csv),
         "--json" => Some(Format::Json),
+        "--svg" => Some(Format::Svg),
         _ => None,
     }
 }
