@@ -60,10 +60,10 @@ fn main(rt: HostRuntime) -> ExitCode {
         capture: capture.as_str(),
         script: Some(script.as_str()),
     };
-    let Ok(history) = replay_files(&rt, alloc, &mut StdFiles::new(rt), names) else {
+    let Ok(replayed) = replay_files(&rt, alloc, &mut StdFiles::new(rt), names) else {
         return ExitCode::from(2);
     };
-    let text = match merged_report(alloc, history) {
+    let text = match merged_report(alloc, replayed.history) {
         Ok(text) => text,
         Err(Memory) => return ExitCode::from(6),
     };
