@@ -47,13 +47,14 @@ table_of format clock stage h replay = record {
   printed = λ other is. ap (text format clock) (same_replay stage h other replay is);
 }
 
--- the history's text was written
-pub tells_table : (format : Format) (clock : Option ℕ) (h : History) (sink : SinkDid) (result : Status) →
-    IsMadeBy Replay h.stage h → Writes Done (text format clock h) sink result →
-    Tells (answer_for (IsTableOf format clock) (Ok h.stage)) sink result
-tells_table format clock h sink result made writes =
-    tells_due (Shown (IsTableOf format clock h.stage)) (text format clock h) sink result
-    (table_of format clock h.stage h (record { about = refl; made = made })) writes
+-- the history's text was written, by the clock that is due
+pub tells_table : (format : Format) (clock due : Option ℕ) (h : History) (sink : SinkDid) (result : Status) →
+    clock ≡ due → IsMadeBy Replay h.stage h → Writes Done (text format clock h) sink result →
+    Tells (answer_for (IsTableOf format due) (Ok h.stage)) sink result
+tells_table format clock due h sink result same made writes =
+    tells_due (Shown (IsTableOf format due h.stage)) (text format due h) sink result
+    (table_of format due h.stage h (record { about = refl; made = made }))
+    (subst (λ c. Writes Done (text format c h) sink result) same writes)
 
 -- THE FORM
 

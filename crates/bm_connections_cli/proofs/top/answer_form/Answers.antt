@@ -1,7 +1,3 @@
-use Rattle.std.proofs.Common.{subst}
-use Rattle.bm_cli.specs.Statuses.{Writes}
-use Rattle.bm_cli.specs.declared.status.Status.TheVariants.{Done}
-use Rattle.bm_connections_cli.specs.Text.{text}
 use Rattle.bm_connections_cli.specs.Words.{asked}
 use Rattle.bm_connections_cli.proofs.Ending.{played_ends, refused_ends, tells_table}
 use Rattle.bm_connections_cli.proofs.top.answer_form.Goals as goal
@@ -10,9 +6,8 @@ pub returns-in-Ok-clause-ends : goal.returns-in-Ok-clause-ends
 returns-in-Ok-clause-ends g c =
     let h = c.in-Ok.replayed.history in
     let format = c.args.form.manner.format in
-    let written = subst (λ clock. Writes Done (text format clock h) _ c.tell.result) c.clock_of-clock.ensures c.tell.ensures in
     played_ends (asked c.args.form) _ _ _ h.stage c.in-Ok.replayed.began c.tell.result c.in-Ok.ensures.stage
-    (tells_table format _ h _ _ c.in-Ok.ensures.made written)
+    (tells_table format c.clock_of-clock.result.0 _ h _ _ c.clock_of-clock.ensures c.in-Ok.ensures.made c.tell.ensures)
 
 pub returns-in-Err-clause-ends : goal.returns-in-Err-clause-ends
 returns-in-Err-clause-ends g c =
