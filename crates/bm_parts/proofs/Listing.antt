@@ -75,9 +75,10 @@ has_logs : (of : Author → Option (Vec Event)) (es : List (Author × Vec Event)
     ((i : ℕ) (k : Author) (v : Vec Event) → slice_get es i ≡ Some (k, v) → of k ≡ Some v) →
     AllByRecursion (λ a. is_some (option_map (λ v. v.items) (of a)) ≡ true) (keys_of es)
 has_logs of [] h = tt
-has_logs of (e ∷ es) h =
-    (ap (λ (o : Option (Vec Event)). is_some (option_map (λ v. v.items) o)) (h 0 e.0 e.1 refl),
-    has_logs of es (λ i k v is. h (suc i) k v is))
+has_logs of (e ∷ es) h = (
+  ap (λ (o : Option (Vec Event)). is_some (option_map (λ v. v.items) o)) (h 0 e.0 e.1 refl),
+  has_logs of es (λ i k v is. h (suc i) k v is),
+)
 
 -- one log more
 pub listed_more : (seen : List (Vec Event)) (one : Vec Event) (old new : List (List Event)) (item : List Event) →

@@ -69,9 +69,10 @@ all_some : (of : Author → Option (List Event)) (all : Actor → List Event) (a
     ((a : Author) → of a ≡ if_any (all (actor a))) → AllByRecursion (λ a. is_some (of a) ≡ true) authors →
     AllByRecursion (λ a. all a ≢ []) (map actor authors)
 all_some of all [] are there = tt
-all_some of all (a ∷ authors) are there =
-    (some_of (all (actor a)) (ap (λ (o : Option (List Event)). is_some o) (sym (are a)) ∙ there.0),
-    all_some of all authors are there.1)
+all_some of all (a ∷ authors) are there = (
+  some_of (all (actor a)) (ap (λ (o : Option (List Event)). is_some o) (sym (are a)) ∙ there.0),
+  all_some of all authors are there.1,
+)
 
 abbrev author_with : Actor → Author
 author_with Controller = by_controller
