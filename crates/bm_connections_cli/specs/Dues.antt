@@ -1,5 +1,5 @@
 -- What is due: by the words, and by what is read under the names in them.
-use Rattle.std.specs.Prelude.{◌≡◌, ℕ, if◌then◌else◌, ◌++◌, List, [], Option, Some, None, codes}
+use Rattle.std.specs.Prelude.{◌≡◌, ℕ, if◌then◌else◌, List, [], Option, Some, None, codes}
 use Rattle.bm_cli.specs.declared.mode.Mode.TheVariants.{Replay}
 use Rattle.bm_cli.specs.declared.status.Status.{Status}
 use Rattle.bm_cli.specs.declared.status.Status.TheVariants.{Usage}

@@ -42,7 +42,7 @@ fn cause_field(cause: Option<Cause>) -> &'static str
 #[derive(Drop)]
 struct Fields {
     alloc: Global,
-    record: ByteRecord,
+    row: ByteRecord,
 }
 
 impl Model for Fields {
@@ -51,31 +51,31 @@ impl Model for Fields {
 
     ghost Value = { List (List ℕ) };
 
-    ghost view = { λ a. fields_of a.record };
+    ghost view = { λ a. fields_of a.row };
 
-    ghost invariant = { λ a. partial_of a.record ≡ [] };
+    ghost invariant = { λ a. partial_of a.row ≡ [] };
 }
 
 impl Fields {
     fn new(alloc: Global) -> Fields
         ensures { result ≡ [] }
     {
-        let record = ByteRecord::new(alloc);
-        Fields { alloc, record }
+        let row = ByteRecord::new(alloc);
+        Fields { alloc, row }
     }
 
     /// The record of these fields.
-    fn record(&self) -> &ByteRecord
+    fn row(&self) -> &ByteRecord
         ensures { fields_of result.now ≡ self.now }
     {
-        &self.record
+        &self.row
     }
 
     /// Appends a text.
     fn text(mut self, text: &str) -> Result<Fields, AllocError>
         ensures { IfOk result (λ fields. fields ≡ self ++ text.now ∷ []) }
     {
-        self.record.push_field(text.as_bytes())?;
+        self.row.push_field(text.as_bytes())?;
         Ok(self)
     }
 
@@ -252,7 +252,7 @@ fn write_fields<W: Write + Drop>(csv: &mut Writer<W>, fields: &Fields) -> Result
     ensures { (octets : List ℕ) → HasWritten W.contents csv.old octets
         → OnOk result (HasWritten W.contents csv.new (octets ++ spec.csv_line fields.now)) }
 {
-    match csv.write_byte_record(fields.record()) {
+    match csv.write_byte_record(fields.row()) {
         Ok(()) => Ok(()),
         Err(_) => Err(Memory),
     }

@@ -3,8 +3,9 @@ ghost use Rattle.std.specs.Prelude.{◌≡◌, IfOk};
 ghost use Rattle.bm_core.specs.Runs.{IsRun};
 ghost use Rattle.bm_trace.specs.Swept.{AreCauses};
 ghost use Rattle.bm_connections.specs.Connections as tables;
+ghost use Rattle.bm_drawing.specs.Drawing as draw;
 ghost use Rattle.bm_connections_cli.specs.Text as spec;
-ghost use Rattle.bm_connections_cli.specs.declared.words.Format.TheVariants.{Csv, Json, Svg};
+ghost use Rattle.bm_connections_cli.specs.declared.words.Format.TheVariants.{Csv, Json};
 
 use crate::advice::{advice_text, behind_text, unsteered_text};
 use crate::causes::causes_in;
@@ -87,7 +88,7 @@ pub(crate) fn values_of(alloc: Global, clock: Clock, h: &History) -> Result<Text
 /// The drawing of connections.
 pub(crate) fn drawing_of(alloc: Global, h: &History) -> Result<Text, Memory>
     requires { IsRun h.now }
-    ensures { (clock : _) → IfOk result (λ text. text ≡ spec.text Svg clock h.now) }
+    ensures { IfOk result (λ text. text ≡ draw.drawing h.now (tables.connections h.now)) }
 {
     let table = table_of(alloc, h)?;
     drawing(alloc, h, table.items())

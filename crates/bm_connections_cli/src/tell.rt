@@ -1,6 +1,8 @@
 //! The connections of a history, told.
 ghost use Rattle.bm_core.specs.Runs.{IsRun};
 ghost use Rattle.bm_cli.specs.Statuses.{Writes, did};
+ghost use Rattle.bm_connections.specs.Connections.{connections};
+ghost use Rattle.bm_drawing.specs.Drawing.{drawing};
 ghost use Rattle.bm_connections_cli.specs.Text.{text};
 ghost use Rattle.bm_connections_cli.specs.declared.words.Format.TheVariants as in_format;
 
@@ -73,11 +75,11 @@ fn tell_values<K: Sink>(alloc: Global, clock: Clock, history: &History, out: &mu
 
 fn tell_drawing<K: Sink>(alloc: Global, history: &History, out: &mut K) -> Status
     requires { IsRun history.now }
-    ensures { (clock : _) → Writes Status.Done (text in_format.Svg clock history.now)
+    ensures { Writes Status.Done (drawing history.now (connections history.now))
         (did K.written K.faults out.old out.new) result }
 {
-    let Ok(drawing) = drawing_of(alloc, history) else {
+    let Ok(picture) = drawing_of(alloc, history) else {
         return Status::Memory;
     };
-    say(out, drawing.as_str().as_bytes(), Status::Done)
+    say(out, picture.as_str().as_bytes(), Status::Done)
 }

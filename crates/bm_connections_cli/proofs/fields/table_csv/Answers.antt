@@ -1,4 +1,4 @@
-use Rattle.std.proofs.Common.{ℕ, List, Some, [], ap, ap₂, ◌∙◌}
+use Rattle.std.proofs.Common.{Some, [], ap, ap₂, ◌∙◌}
 use Rattle.std.specs.Io.KnownBytes.{append_known}
 use Rattle.bm_connections_cli.proofs.Rows.{same_octets}
 use Rattle.bm_connections_cli.proofs.fields.table_csv.Goals as goal
