@@ -37,7 +37,12 @@ _beamer_connections() {
     3) mapfile -t COMPREPLY < <(compgen -W "--csv --json --svg --clock" -- "$word") ;;
     4) case ${COMP_WORDS[3]} in
          --clock) mapfile -t COMPREPLY < <(compgen -W "--csv --json --svg" -- "$word") ;;
-         --csv | --json | --svg) mapfile -t COMPREPLY < <(compgen -W "--clock" -- "$word") ;;
+         --csv | --json) mapfile -t COMPREPLY < <(compgen -W "--clock" -- "$word") ;;
+         --svg) mapfile -t COMPREPLY < <(compgen -f -W "--clock" -- "$word") ;;
+       esac ;;
+    5) case ${COMP_WORDS[3]} in
+         --clock) [ "${COMP_WORDS[4]}" != --svg ] || mapfile -t COMPREPLY < <(compgen -f -- "$word") ;;
+         --svg) mapfile -t COMPREPLY < <(compgen -W "--clock" -- "$word") ;;
        esac ;;
   esac
 }
