@@ -1,8 +1,43 @@
--- One more word of a one's complement sum.
-use Rattle.std.proofs.Common.{◌≡◌, ℕ, ◌+◌, ◌-◌, ◌*◌, ◌≤◌, List, [], ◌∷◌, length, get_or, take, drop, refl, ap₂, ◌∙◌}
-use Rattle.std.proofs.Common.{arith}
-use Rattle.std.proofs.lemmas.List.{take_rest}
+-- One more word of a one's complement sum, which is kept as a plain sum.
+use Rattle.std.proofs.Common.{◌≡◌, ℕ, zero, suc, ◌+◌, ◌-◌, ◌*◌, ◌%◌, ◌≤◌, ◌<◌, List, [], ◌∷◌, length, get_or, take, drop}
+use Rattle.std.proofs.Common.{nat_lt, nat_eq, true, false, inl, inr, refl, ap, ap₂, sym, ◌∙◌, arith}
+use Rattle.std.proofs.lemmas.Bool.{cases_Bool}
+use Rattle.std.proofs.lemmas.Bool.Decides.{nat_tests}
+use Rattle.std.proofs.lemmas.List.{take_rest, length-drop}
 use Rattle.bm_ipv4.specs.Checksum.{add_ones, ones_from}
+use Rattle.bm_ipv4.specs.Folding.{folded}
+
+-- without a carry
+add_small : (a b : ℕ) → nat_lt (a + b) 65536 ≡ true → add_ones a b ≡ a + b
+add_small a b small = rw small refl
+
+-- with one
+add_large : (a b : ℕ) → nat_lt (a + b) 65536 ≡ false → add_ones a b ≡ a + b - 65535
+add_large a b large = rw large refl
+
+folded_suc : (sum : ℕ) → folded (suc sum) ≡ sum % 65535 + 1
+folded_suc sum =
+    let some : nat_eq (suc sum) 0 ≡ false = grind (arith, nat_tests)
+    in rw some (ap (λ n. n % 65535 + 1) (omega arith))
+
+-- a word added to the plain sum is added to the one's complement sum
+pub folded_more : (sum word : ℕ) → word < 65536 → add_ones (folded sum) word ≡ folded (sum + word)
+folded_more zero zero few = refl
+folded_more zero (suc word) few =
+    let small : nat_lt (0 + suc word) 65536 ≡ true = grind (arith, nat_tests, few)
+    in let same : suc word ≡ 0 + suc word = omega arith
+    in let first : 0 + suc word ≡ word % 65535 + 1 = omega (arith, few)
+    in add_small 0 (suc word) small ∙ (first ∙ (sym (folded_suc word) ∙ ap folded same))
+folded_more (suc sum) word few = rw (folded_suc sum) (elim (cases_Bool (nat_lt (sum % 65535 + 1 + word) 65536)) [
+  | inl small ↦
+      let below : sum % 65535 + 1 + word < 65536 = grind (arith, nat_tests, small)
+      in let first : sum % 65535 + 1 + word ≡ (sum + word) % 65535 + 1 = omega (arith, below)
+      in add_small (sum % 65535 + 1) word small ∙ (first ∙ (sym (folded_suc (sum + word)) ∙ ap folded (omega arith)))
+  | inr large ↦
+      let above : 65536 ≤ sum % 65535 + 1 + word = grind (arith, nat_tests, large)
+      in let first : sum % 65535 + 1 + word - 65535 ≡ (sum + word) % 65535 + 1 = omega (arith, above, few)
+      in add_large (sum % 65535 + 1) word large ∙ (first ∙ (sym (folded_suc (sum + word)) ∙ ap folded (omega arith)))
+])
 
 ones_front : (sum : ℕ) (bs : List ℕ) → 2 ≤ length bs
     → ones_from (add_ones sum (get_or bs 0 0 * 256 + get_or bs 1 0)) (drop 2 bs) ≡ ones_from sum bs
@@ -10,8 +45,18 @@ ones_front sum [] h = absurd (omega arith)
 ones_front sum (x ∷ []) h = absurd (omega arith)
 ones_front sum (x ∷ y ∷ bs) h = refl
 
-pub ones_step : (sum high low next : ℕ) (bs : List ℕ) → 2 ≤ length bs → high ≡ get_or bs 0 0 → low ≡ get_or bs 1 0
-    → next ≡ add_ones sum (high * 256 + low) → ones_from next (take (length bs - 2) (drop 2 bs)) ≡ ones_from sum bs
-ones_step sum high low next bs h is_high is_low is_next =
-    ap₂ ones_from (is_next ∙ ap₂ (λ a b. add_ones sum (a * 256 + b)) is_high is_low) (take_rest bs 2)
-    ∙ ones_front sum bs h
+-- the two octets in front are added
+pub ones_step : (sum word : ℕ) (bs : List ℕ) → 2 ≤ length bs → word ≡ get_or bs 0 0 * 256 + get_or bs 1 0
+    → word < 65536 → ones_from (folded (sum + word)) (take (length bs - 2) (drop 2 bs)) ≡ ones_from (folded sum) bs
+ones_step sum word bs long is short =
+    ap₂ ones_from (sym (folded_more sum word short) ∙ ap (λ n. add_ones (folded sum) n) is) (take_rest bs 2)
+    ∙ ones_front (folded sum) bs long
+
+-- and the sum still fits
+pub fits_step : (sum word most : ℕ) (bs : List ℕ) → 2 ≤ length bs → word < 65536
+    → 2 * sum + 65535 * length bs ≤ most
+    → 2 * (sum + word) + 65535 * length (take (length bs - 2) (drop 2 bs)) ≤ most
+fits_step sum word most bs long short room =
+    let rest : length (take (length bs - 2) (drop 2 bs)) ≡ length bs - 2 =
+    ap length (take_rest bs 2) ∙ length-drop 2 bs
+    in omega (arith, rest, room, short, long)

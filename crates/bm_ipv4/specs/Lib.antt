@@ -1,3 +1,4 @@
 pub mod Fields
 pub mod Header
 pub mod Checksum
+pub mod Folding

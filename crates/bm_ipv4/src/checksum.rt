@@ -1,6 +1,7 @@
 //! The Internet checksum (RFC 1071).
-ghost use Rattle.std.specs.Prelude.{◌≡◌, ◌≤◌, ◌%◌, length};
-ghost use Rattle.bm_ipv4.specs.Checksum.{add_ones, checksum_of};
+ghost use Rattle.std.specs.Prelude.{◌≡◌, ◌+◌, ◌*◌, ◌≤◌, ◌%◌, length};
+ghost use Rattle.bm_ipv4.specs.Checksum.{checksum_of};
+ghost use Rattle.bm_ipv4.specs.Folding.{folded};
 
 /// The one's complement of the one's complement sum of the big-endian 16-bit words. Over a header
 /// whose checksum stands in it, this is 0.
@@ -13,20 +14,27 @@ pub fn header_sum(octets: &[u8]) -> u16
     let mut sum = 0;
     let mut rest = octets;
     while let [high, low, after @ ..] = rest {
-        sum = plus(sum, u16::from(*high) * 256 + u16::from(*low));
+        sum += u32::from(word(*high, *low));
         rest = after;
     }
-    u16::MAX - sum
+    u16::MAX - folded(sum)
 }
 
-/// One's complement addition.
-fn plus(a: u16, b: u16) -> u16
-    ensures { result ≡ add_ones a b }
+/// The one's complement sum of words whose plain sum this is: what is carried out of the top is
+/// added at the bottom.
+fn folded(sum: u32) -> u16
+    ensures { result ≡ folded sum }
 {
-    let sum = u32::from(a) + u32::from(b);
-    if sum < 65536 {
-        sum as u16
+    if sum == 0 {
+        0
     } else {
-        (sum - 65535) as u16
+        ((sum - 1) % 65535 + 1) as u16
     }
+}
+
+/// The big-endian word of two octets.
+fn word(high: u8, low: u8) -> u16
+    ensures { result ≡ high * 256 + low }
+{
+    u16::from(high) * 256 + u16::from(low)
 }

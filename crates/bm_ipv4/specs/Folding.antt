@@ -1,0 +1,6 @@
+-- A plain sum of words brought back to 16 bits. For proofs of bodies alone.
+use Rattle.std.specs.Prelude.{ℕ, ◌+◌, ◌-◌, ◌%◌, ◌==◌, if◌then◌else◌}
+
+-- the one's complement sum of words whose plain sum this is
+abbrev pub folded : ℕ → ℕ
+folded sum = if sum == 0 then 0 else (sum - 1) % 65535 + 1
