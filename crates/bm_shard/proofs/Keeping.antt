@@ -3,47 +3,43 @@ use Rattle.std.proofs.Common.{◌≡◌, ℕ, ◌==◌, ◌||◌, Bool, List, �
 use Rattle.bm_base.specs.declared.flow.Flow.{Flow}
 use Rattle.bm_base.specs.declared.ids.Moment.{Moment}
 use Rattle.bm_seq.specs.declared.receiver.Receiver.{Receiver}
-use Rattle.bm_conn.specs.Connections.{Connections, IsMap, IsSame}
+use Rattle.bm_core.specs.declared.events.Event.{Event}
 use Rattle.bm_core.specs.declared.events.Local.{Local}
-use Rattle.bm_core.specs.declared.events.What.{What}
-use Rattle.bm_core.specs.Books.{Turn, add_turn, turn_held, turn_retires, book_flows}
+use Rattle.bm_core.specs.Books.{Turn, add_turn, turn_held, turn_retires, book_flows, book_local}
 use Rattle.bm_core.specs.Runs.{next_clock}
 use Rattle.bm_shard.specs.declared.book.Shard.{Shard}
 use Rattle.bm_shard.specs.declared.calls.ShardCall.{ShardCall}
 use Rattle.bm_shard.specs.declared.calls.ShardCall.TheVariants.{Arrive, Close, Retire}
 use Rattle.bm_shard.specs.declared.calls.ShardEntry.{ShardEntry}
-use Rattle.bm_shard.specs.declared.calls.ShardReply.{ShardReply}
 use Rattle.bm_shard.specs.declared.holding.Holding.{Holding}
-use Rattle.bm_shard.specs.Books.{knows_after, clock_of, clock_after, reply_after}
-use Rattle.bm_shard.specs.Holdings.{IsLeftBy, TakesTurn, local_in}
+use Rattle.bm_shard.specs.Books.{clock_of, clock_after, event_after, reply_after}
+use Rattle.bm_shard.specs.Holdings.{IsLeftBy, TakesTurn}
 use Rattle.bm_shard.specs.Replies.{what_of, reply_of, turn_of}
+use Rattle.bm_shard.specs.States.{IsAfter, IsLeft, State, clock_at, event_at, holding_in, known_in, reply_at, turn_at}
 use Rattle.bm_shard.specs.Turns.{call_moment, turn_kept, turns}
 use Rattle.bm_shard.proofs.Counting.{held_count}
 
--- the table with room
-abbrev pub readied : Holding → Connections → Holding
-readied h table = record h { table = table }
-
-pub left_readied : (book : List Turn) (h : Holding) (table : Connections) → IsLeftBy book h → IsSame h.table table
-    → IsLeftBy book (readied h table)
-left_readied book h table left same = record {
-  held = λ f. same.each f ∙ left.held f;
-  retired = left.retired;
-}
-
--- a shard knows of each flow what its entries say
-pub knows_same : (shard : Shard) (past : List ShardEntry) (h : Holding) → IsLeftBy (turns past) h → IsMap h.table
-    → h.table.capacity ≡ shard.capacity → local_in h ≡ knows_after shard past
-knows_same shard past h left map capacity =
-    let count : length h.table.connections ≡ length (book_flows (turns past)) =
-    held_count (turns past) h.table.connections map.once left.held
-    in λ i f. record { retired = left.retired i; held = left.held f i; full = count i == capacity i }
+-- a shard that turns left knows of each flow what they say
+pub knows_same : (turns : List Turn) (state : State) → IsLeft turns state
+    → known_in state ≡ book_local state.shard.capacity turns
+knows_same turns state is =
+    let count : length state.connections ≡ length (book_flows turns) =
+    held_count turns state.connections is.once is.left.held
+    in λ i f. record { retired = is.left.retired i; held = is.left.held f i; full = count i == state.shard.capacity }
 
 pub left_by_turn : (turn : Turn) (book : List Turn) (old new : Holding) → IsLeftBy book old → TakesTurn turn old new
     → IsLeftBy (turn ∷ book) new
 left_by_turn turn book old new left takes = record {
   held = λ f. takes.held f ∙ ap (λ (o : Option Receiver). turn_held turn f o) (left.held f);
   retired = takes.retired ∙ ap (λ (b : Bool). turn_retires turn || b) left.retired;
+}
+
+-- after a call these turns and the call's left the state
+pub left_after : (turns : List Turn) (call : ShardCall) (old new : State) → IsLeft turns old → IsAfter call old new
+    → IsLeft (turn_at old call ∷ turns) new
+left_after turns call old new is after = record {
+  left = left_by_turn (turn_at old call) turns (holding_in old) (holding_in new) is.left after.takes;
+  once = after.once;
 }
 
 -- what happened says the turn
@@ -54,33 +50,30 @@ turn_is_kept shard knows clock (Close flow at) = refl
 turn_is_kept shard knows clock (Retire at result) = refl
 
 -- the call's entry leaves what the call left
-pub left_by_entry : (shard : Shard) (knows : Flow → Local) (past : List ShardEntry) (seat : ℕ) (call : ShardCall)
-    (clock : Moment) (what : What) (old new : Holding)
-    → IsLeftBy (turns past) old → what ≡ what_of shard knows clock call
-    → TakesTurn (turn_of shard knows clock call) old new
-    → IsLeftBy (turns (record { seat = seat; call = call; event = record { clock = clock; what = what } } ∷ past)) new
-left_by_entry shard knows past seat call clock what old new left is takes =
-    let kept : turn_kept call what ≡ Some (turn_of shard knows clock call) =
-    ap (λ (w : What). turn_kept call w) is ∙ turn_is_kept shard knows clock call
-    in subst (λ (o : Option Turn). IsLeftBy (add_turn o (turns past)) new) (sym kept)
-    (left_by_turn (turn_of shard knows clock call) (turns past) old new left takes)
+pub left_by_entry : (past : List ShardEntry) (seat : ℕ) (call : ShardCall) (event : Event) (old new : State)
+    → IsLeft (turns past) old → event ≡ event_at old call → IsAfter call old new
+    → IsLeft (turns (record { seat = seat; call = call; event = event } ∷ past)) new
+left_by_entry past seat call event old new is made after =
+    let kept : turn_kept call event.what ≡ Some (turn_at old call) =
+    ap (λ (e : Event). turn_kept call e.what) made ∙ turn_is_kept old.shard (known_in old) (clock_at old call) call
+    in subst (λ (o : Option Turn). IsLeft (add_turn o (turns past)) new) (sym kept)
+    (left_after (turns past) call old new is after)
 
--- the clock is that after the entries
-pub clock_is : (past : List ShardEntry) (call : ShardCall) (before clock : Moment) → before ≡ clock_of past
-    → clock.0 ≡ next_clock before.0 (call_moment call).0 → clock ≡ clock_after past call
-clock_is past call before clock is rises =
-    let e : clock.0 ≡ next_clock (clock_of past).0 (call_moment call).0 =
-    rises ∙ ap (λ (m : Moment). next_clock m.0 (call_moment call).0) is
-    in λ i. record { 0 = e i }
+-- THE BOOK'S WORDS
 
-pub what_is : (shard : Shard) (past : List ShardEntry) (call : ShardCall) (knows : Flow → Local) (clock : Moment)
-    (what : What) → knows ≡ knows_after shard past → clock ≡ clock_after past call
-    → what ≡ what_of shard knows clock call
-    → what ≡ what_of shard (knows_after shard past) (clock_after past call) call
-what_is shard past call knows clock what same time is = is ∙ (λ i. what_of shard (same i) (time i) call)
+pub clock_is : (past : List ShardEntry) (call : ShardCall) (state : State) → state.clock ≡ clock_of past
+    → clock_at state call ≡ clock_after past call
+clock_is past call state is = ap (λ (m : Moment). record { 0 = next_clock m.0 (call_moment call).0 }) is
 
-pub reply_is : (shard : Shard) (past : List ShardEntry) (call : ShardCall) (knows : Flow → Local) (clock : Moment)
-    (reply : ShardReply) → knows ≡ knows_after shard past → clock ≡ clock_after past call
-    → reply ≡ reply_of shard knows clock call
-    → reply ≡ reply_after shard past call
-reply_is shard past call knows clock reply same time is = is ∙ (λ i. reply_of shard (same i) (time i) call)
+pub event_is : (past : List ShardEntry) (call : ShardCall) (state : State) → IsLeft (turns past) state
+    → state.clock ≡ clock_of past → event_at state call ≡ event_after state.shard past call
+event_is past call state left clock =
+    λ i. record {
+      clock = clock_is past call state clock i;
+      what = what_of state.shard (knows_same (turns past) state left i) (clock_is past call state clock i) call;
+    }
+
+pub reply_is : (past : List ShardEntry) (call : ShardCall) (state : State) → IsLeft (turns past) state
+    → state.clock ≡ clock_of past → reply_at state call ≡ reply_after state.shard past call
+reply_is past call state left clock =
+    λ i. reply_of state.shard (knows_same (turns past) state left i) (clock_is past call state clock i) call

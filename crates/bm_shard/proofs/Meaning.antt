@@ -1,4 +1,4 @@
--- What the entries of a book say of a history, and of a shard that is retired.
+-- What the turns of a shard say of a history, and of a shard that is retired.
 use Rattle.std.proofs.Common.{◌≡◌, ℕ, Bool, true, false, cond, ◌&&◌, List, [], ◌∷◌, Option, Some, None, is_some, inl}
 use Rattle.std.proofs.Common.{inr, refl, sym, ap, subst, ◌∙◌}
 use Rattle.std.proofs.lemmas.Bool.{cases_Bool}
@@ -34,25 +34,26 @@ use Rattle.bm_shard.proofs.Keeping.{turn_is_kept}
 
 -- A HISTORY
 
--- what the shard knows is what the history says
-known : (stage : Stage) (past : List Event) (about : Shard) (entries : List ShardEntry) (f : Flow)
-    → about.capacity ≡ stage.script.setting.capacity → turns entries ≡ book_of stage past about.server about.number
+-- what the shard's turns say is what the history says
+known : (stage : Stage) (past : List Event) (about : Shard) (book : List Turn) (f : Flow)
+    → about.capacity ≡ stage.script.setting.capacity → book ≡ book_of stage past about.server about.number
     → shard stage f ≡ about.number
-    → knows_after about entries f ≡ local_at stage past about.server f
-known stage past about entries f capacity are here =
-    let book : turns entries ≡ book_of stage past about.server (shard stage f) =
+    → book_local about.capacity book f ≡ local_at stage past about.server f
+known stage past about book f capacity are here =
+    let there : book ≡ book_of stage past about.server (shard stage f) =
     are ∙ ap (λ (h : ℕ). book_of stage past about.server h) (sym here)
-    in (λ i. book_local (capacity i) (book i) f) ∙ sym (local_in_book stage past about.server f)
+    in (λ i. book_local (capacity i) (there i) f) ∙ sym (local_in_book stage past about.server f)
 
-pub verdict_same : (stage : Stage) (past : List Event) (about : Shard) (entries : List ShardEntry)
+pub verdict_same : (stage : Stage) (past : List Event) (about : Shard) (book : List Turn)
     → about.capacity ≡ stage.script.setting.capacity → about.timeout ≡ stage.script.setting.timeout
-    → turns entries ≡ book_of stage past about.server about.number
+    → book ≡ book_of stage past about.server about.number
     → (label : Label) (hop : Hop) (tag : Tag) (s : Segment) (clock : Moment) → tag_of label hop ≡ Some tag
     → shard stage s.flow ≡ about.number
-    → verdict_by about (knows_after about entries) clock tag s ≡ verdict_at stage past clock.0 label hop about.server s
-verdict_same stage past about entries capacity time are label hop tag s clock tagged here =
-    let same : knows_after about entries s.flow ≡ local_at stage past about.server s.flow =
-    known stage past about entries s.flow capacity are here
+    → verdict_by about (book_local about.capacity book) clock tag s
+    ≡ verdict_at stage past clock.0 label hop about.server s
+verdict_same stage past about book capacity time are label hop tag s clock tagged here =
+    let same : book_local about.capacity book s.flow ≡ local_at stage past about.server s.flow =
+    known stage past about book s.flow capacity are here
     in (λ i. verdict_on (same i) (time i) clock.0 tag s)
     ∙ verdict_by_tag (local_at stage past about.server s.flow) stage.script.setting.timeout clock.0 label hop tag s
     tagged
@@ -61,13 +62,13 @@ some_same : (o : Option Holding) → is_some (receiver_of o) ≡ is_some o
 some_same None = refl
 some_same (Some h) = refl
 
-pub held_same : (stage : Stage) (past : List Event) (about : Shard) (entries : List ShardEntry)
-    → about.capacity ≡ stage.script.setting.capacity → turns entries ≡ book_of stage past about.server about.number
+pub held_same : (stage : Stage) (past : List Event) (about : Shard) (book : List Turn)
+    → about.capacity ≡ stage.script.setting.capacity → book ≡ book_of stage past about.server about.number
     → (f : Flow) → shard stage f ≡ about.number
-    → is_held_by (knows_after about entries) f ≡ is_some (held stage past about.server f)
-held_same stage past about entries capacity are f here =
-    let same : knows_after about entries f ≡ local_at stage past about.server f =
-    known stage past about entries f capacity are here
+    → is_held_by (book_local about.capacity book) f ≡ is_some (held stage past about.server f)
+held_same stage past about book capacity are f here =
+    let same : book_local about.capacity book f ≡ local_at stage past about.server f =
+    known stage past about book f capacity are here
     in ap (λ (l : Local). is_some l.held) same ∙ some_same (held stage past about.server f)
 
 -- A RETIRED SHARD

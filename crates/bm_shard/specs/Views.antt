@@ -1,17 +1,29 @@
--- How contracts see a book, and what it keeps.
+-- How contracts see a shard's state and its book, and what these keep.
 use Rattle.std.specs.Prelude.{◌≡◌, ◌+◌, ◌*◌, ◌^◌, ◌≤◌, length, reverse}
 use Rattle.bm_shard.specs.Books.{Book, Replays, clock_of}
-use Rattle.bm_shard.specs.Holdings.{IsLeftBy}
+use Rattle.bm_shard.specs.States.{IsLeft, State}
 use Rattle.bm_shard.specs.Turns.{turns}
-use Rattle.bm_shard.specs.declared.book.ShardBook.TheInside.{Inside}
+use Rattle.bm_shard.specs.declared.book.ShardBook.TheInside.{Inside as BookInside}
+use Rattle.bm_shard.specs.declared.state.ShardState.TheInside.{Inside as StateInside}
 
-abbrev pub book_of : Inside → Book
-book_of a = record { shard = a.shard; entries = a.entries.items }
+abbrev pub state_of : StateInside → State
+state_of a = record {
+  shard = a.shard;
+  connections = a.holding.table.connections;
+  retired = a.holding.retired;
+  clock = a.clock;
+}
 
--- what is held is what the entries left
-pub record IsKept (a : Inside) : Type 0 where
-  pub left : IsLeftBy (turns (reverse a.entries.items)) a.holding
-  pub capacity : a.holding.table.capacity ≡ a.shard.capacity
-  pub clock : a.clock ≡ clock_of (reverse a.entries.items)
-  pub bound : a.clock.0 ≤ 9 * 10 ^ 18 + length a.entries.items
-  pub replays : Replays a.shard (reverse a.entries.items)
+-- the table has the shard's capacity
+abbrev pub HasCapacity : StateInside → Type 0
+HasCapacity a = a.holding.table.capacity ≡ a.shard.capacity
+
+abbrev pub book_of : BookInside → Book
+book_of a = record { shard = a.state.shard; entries = a.entries.items }
+
+-- the state is what the entries left
+pub record IsKept (a : BookInside) : Type 0 where
+  pub left : IsLeft (turns (reverse a.entries.items)) a.state
+  pub clock : a.state.clock ≡ clock_of (reverse a.entries.items)
+  pub bound : a.state.clock.0 ≤ 9 * 10 ^ 18 + length a.entries.items
+  pub replays : Replays a.state.shard (reverse a.entries.items)

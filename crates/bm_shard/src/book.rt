@@ -3,11 +3,8 @@ ghost use Rattle.std.specs.Prelude.{◌≡◌, ◌≤◌, ◌<◌, ◌+◌, ◌*
 ghost use Rattle.std.specs.Prelude.{IfOk, OnOk, OnErr};
 ghost use Rattle.bm_shard.specs.Books.{IsTaken, Replays, clock_of, entry_after, reply_after};
 
-use crate::holding::Holding;
-use crate::{ShardCall, ShardEntry, ShardReply};
+use crate::{ShardCall, ShardEntry, ShardReply, ShardState};
 use bm_base::{Memory, Moment, ServerId};
-use bm_conn::ConnTable;
-use bm_core::{Event, next_clock};
 use std::alloc::Global;
 use std::marker::Model;
 
@@ -24,9 +21,7 @@ pub struct Shard {
 /// A shard with all that it was asked, in its order.
 #[derive(Debug, Drop)]
 pub struct ShardBook {
-    shard: Shard,
-    holding: Holding,
-    clock: Moment,
+    state: ShardState,
     entries: Vec<ShardEntry>,
 }
 
@@ -58,19 +53,14 @@ impl ShardBook {
             ≡ record { server = server; number = shard; capacity = capacity; timeout = timeout }) }
         ensures entries { IfOk result (λ book. book.entries ≡ []) }
     {
-        let table = ConnTable::new(alloc, capacity)?;
+        let shard = Shard {
+            server,
+            number: shard,
+            capacity,
+            timeout,
+        };
         Ok(ShardBook {
-            shard: Shard {
-                server,
-                number: shard,
-                capacity,
-                timeout,
-            },
-            holding: Holding {
-                table,
-                retired: false,
-            },
-            clock: Moment(0),
+            state: ShardState::new(alloc, shard)?,
             entries: Vec::new(alloc),
         })
     }
@@ -90,15 +80,8 @@ impl ShardBook {
         ensures memory { OnErr result (self.new ≡ self.old) }
     {
         self.entries.reserve(1)?;
-        self.holding.table.ready()?;
-        let clock = next_clock(self.clock, call.moment());
-        let (what, reply) = self.holding.serve(&self.shard, clock, &call);
-        self.entries.push_reserved(ShardEntry {
-            seat,
-            call,
-            event: Event { clock, what },
-        });
-        self.clock = clock;
+        let (event, reply) = self.state.apply(&call)?;
+        self.entries.push_reserved(ShardEntry { seat, call, event });
         Ok(reply)
     }
 
@@ -115,6 +98,6 @@ impl ShardBook {
         ensures clock { result ≡ clock_of (reverse self.now.entries) }
         ensures bound { result.0 ≤ 9 * 10 ^ 18 + length self.now.entries }
     {
-        self.clock
+        self.state.clock()
     }
 }

@@ -154,32 +154,35 @@ impl Holding {
     {
         let local = self.local(&segment.flow);
         let verdict = decide(&local, tag, segment, clock, timeout);
-        self.settle(verdict, segment);
+        self.settle(verdict, segment, local.held);
         verdict
     }
 
-    fn settle(&mut self, verdict: Verdict, segment: &Segment)
+    /// The verdict takes effect on the flow, which had this receiver or none.
+    fn settle(&mut self, verdict: Verdict, segment: &Segment, held: Option<Receiver>)
         requires can { CanTake verdict segment.now self.old }
         requires len { segment.now.len ≤ 1048576 }
+        requires held { held ≡ receiver_in self.old.table.connections segment.now.flow }
         ensures { TakesTurn (Took segment.now verdict) self.old self.new }
     {
         match verdict {
-            Verdict::Accept => self.accept(segment),
+            Verdict::Accept => self.accept(segment, held),
             Verdict::Process(Taken::Ended) => {
                 self.table.remove(&segment.flow);
             }
-            Verdict::Process(_) => self.take(segment),
+            Verdict::Process(_) => self.take(segment, held),
             Verdict::Forward(_) | Verdict::Reset(_) | Verdict::Drop(_) => {}
         }
     }
 
     /// The flow's connection begins, in place of one that it may have had.
-    fn accept(&mut self, segment: &Segment)
-        requires { CanOpen segment.now.flow self.old }
+    fn accept(&mut self, segment: &Segment, held: Option<Receiver>)
+        requires can { CanOpen segment.now.flow self.old }
+        requires held { held ≡ receiver_in self.old.table.connections segment.now.flow }
         ensures { TakesTurn (Took segment.now Verdict.Accept) self.old self.new }
     {
         let receiver = Receiver::open(segment);
-        if self.table.find(&segment.flow).is_some() {
+        if held.is_some() {
             self.table.replace(&segment.flow, receiver);
         } else {
             self.table.insert(segment.flow, receiver);
@@ -187,11 +190,12 @@ impl Holding {
     }
 
     /// The flow's receiver takes the segment, if the flow is held.
-    fn take(&mut self, segment: &Segment)
-        requires { segment.now.len ≤ 1048576 }
+    fn take(&mut self, segment: &Segment, held: Option<Receiver>)
+        requires len { segment.now.len ≤ 1048576 }
+        requires held { held ≡ receiver_in self.old.table.connections segment.now.flow }
         ensures { Takes segment.now self.old self.new }
     {
-        if let Some(mut receiver) = self.table.find(&segment.flow) {
+        if let Some(mut receiver) = held {
             receiver.take(segment);
             self.table.replace(&segment.flow, receiver);
         }
