@@ -14,12 +14,12 @@ use crate::view::View;
 use atomic_table::Table;
 use bm_base::Memory;
 use std::alloc::Global;
-use std::hint::spin_loop;
 use std::snapshot::Snapshot;
 use std::sync::Wait;
 
-/// How often a thread looks before it sleeps.
-const LOOKS: u32 = 100;
+/// How often a thread looks before it sleeps: some 10 microseconds, for a turn takes less than one.
+/// It doesn't pause in between, since a virtual machine may take the processor from one that does.
+const LOOKS: u32 = 5_000;
 
 /// Word 0 is the next ticket, word 1 the one that is served, and the only slot has the state.
 #[derive(Drop)]
@@ -94,7 +94,6 @@ impl<T: Booked + Drop> Tickets<T> {
             if self.table.shared.load::<Look<T>>(seat, 1) == ticket {
                 return true;
             }
-            spin_loop();
         }
         false
     }
