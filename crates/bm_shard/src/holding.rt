@@ -195,8 +195,10 @@ impl Holding {
         requires held { held ≡ receiver_in self.old.table.connections segment.now.flow }
         ensures { Takes segment.now self.old self.new }
     {
-        if let Some(mut receiver) = held {
-            receiver.take(segment);
+        let Some(before) = held else { return };
+        let mut receiver = before;
+        receiver.take(segment);
+        if receiver != before {
             self.table.replace(&segment.flow, receiver);
         }
     }
