@@ -43,11 +43,12 @@ use Rattle.bm_replay.specs.Flights.{AreFlying, IsFlying}
 use Rattle.bm_replay.specs.Players.{CanArrive, HasArrived, HasGone, passes_to, HasSent, after_arrival, chained}
 use Rattle.bm_replay.specs.Players.{place_for, sent, verdict_for}
 use Rattle.bm_replay.specs.Playing.{HasPlayed, IsPlayed, KeepsState, lost_call, past_of}
-use Rattle.bm_replay.specs.Shards.{KeepsBooks, arrival, book_at, books_after}
-use Rattle.bm_replay.proofs.ShardBooks.{places_of, shard_below, verdict_as}
+use Rattle.bm_shard.specs.States.{State}
+use Rattle.bm_replay.specs.Shards.{IsCalled, KeepsShards, arrival, state_at}
+use Rattle.bm_replay.proofs.ShardStates.{places_of, shard_below, verdict_as}
 use Rattle.bm_replay.proofs.NextEvents.{copy_due}
 use Rattle.bm_replay.proofs.Flights.{HasStopAt, all_stay, copies_fly, first_flies, others_fly, tag_stop}
-use Rattle.bm_replay.proofs.Unchanged.{books_more, muxes_stay, queues_stay}
+use Rattle.bm_replay.proofs.Unchanged.{muxes_stay, queues_stay, shards_more}
 use Rattle.bm_link.specs.Fits.{ArePackets, IsPacketOf}
 use Rattle.bm_base.specs.declared.capture.Body.TheVariants.{Steerable, Unsteered}
 use Rattle.bm_base.specs.declared.capture.Body.{Body}
@@ -172,15 +173,15 @@ can_arrive R F p at c =
 
 verdict_same : (p : Player) (past : List Event) (at : Moment) (flight : Flight) (s : Segment) (u : Underway)
     (is : IsLanding p.stage past flight u) → flight.tag.dest.0 ≤ 1024 → 1 ≤ p.stage.script.setting.shards
-    → last_clock past < at.0 → KeepsBooks p.stage past p.shards
+    → last_clock past < at.0 → KeepsShards p.stage past p.shards
     → verdict_for p at flight s ≡ verdict_at p.stage past at.0 is.label flight.tag.hop flight.tag.dest s
 verdict_same p past at flight s u is number some later keeps =
-    verdict_as p.stage past (shard p.stage s.flow) (book_at p.shards (place_for p flight s)) at is.label flight s
+    verdict_as p.stage past (shard p.stage s.flow) (state_at p.shards (place_for p flight s)) at is.label flight s
     (keeps.each flight.tag.dest (shard p.stage s.flow) number (shard_below p.stage s.flow some)) refl is.tag later
 
 arrive_answered : (p : Player) (past : List Event) (at : Moment) (flight : Flight) (s : Segment) (u : Underway)
     → IsLanding p.stage past flight u → flight.tag.dest.0 ≤ 1024 → 1 ≤ p.stage.script.setting.shards
-    → last_clock past < at.0 → KeepsBooks p.stage past p.shards
+    → last_clock past < at.0 → KeepsShards p.stage past p.shards
     → segment_of p.stage flight.packet ≡ Some s
     → IsAnswered p.stage past at.0 (Arrive flight.packet flight.tag.hop flight.tag.dest (verdict_for p at flight s))
 arrive_answered p past at flight s u is number some later keeps seg = record {
@@ -211,43 +212,46 @@ arrive_event at flight s p =
     record { clock = at; what = Arrive flight.packet flight.tag.hop flight.tag.dest (verdict_for p at flight s) }
 
 -- the first copy that comes next, at its stop
-record IsAtStop (R : Routes) (F : Rules) (p : Player) (at : Moment) (flight : Flight) (s : Segment) : Type 0 where
+record IsAtStop (R : Routes) (F : Rules) (p : Player) (at : Moment) (flight : Flight) (s : Segment)
+    (states : List State) : Type 0 where
   copy : IsReadyCopy R F p at
   is_landing : IsLanding p.stage (past_of p) flight copy.copy
   number : flight.tag.dest.0 ≤ 1024
   some : 1 ≤ p.stage.script.setting.shards
   later : last_clock (past_of p) < at.0
   is_segment : segment_of p.stage flight.packet ≡ Some s
+  called : IsCalled (place_for p flight s) (arrival flight s at) p.shards states
 
-books_arrived : (p : Player) (past : List Event) (at : Moment) (flight : Flight) (s : Segment)
+shards_arrived : (p : Player) (past : List Event) (at : Moment) (flight : Flight) (s : Segment) (states : List State)
     → flight.tag.dest.0 ≤ 1024 → 1 ≤ p.stage.script.setting.shards → segment_of p.stage flight.packet ≡ Some s
-    → last_clock past < at.0 → KeepsBooks p.stage past p.shards
-    → KeepsBooks p.stage (arrive_event at flight s p ∷ past)
-    (books_after p.shards (place_for p flight s) (arrival flight s at))
-books_arrived p past at flight s number some seg later keeps =
-    books_more p.stage past (arrive_event at flight s p) p.shards (arrival flight s at)
+    → last_clock past < at.0 → KeepsShards p.stage past p.shards
+    → IsCalled (place_for p flight s) (arrival flight s at) p.shards states
+    → KeepsShards p.stage (arrive_event at flight s p ∷ past) states
+shards_arrived p past at flight s states number some seg later keeps called =
+    shards_more p.stage past (arrive_event at flight s p) p.shards states (arrival flight s at)
     (Took s (verdict_for p at flight s)) flight.tag.dest (shard p.stage s.flow)
-    number (shard_below p.stage s.flow some) (λ t h. rw seg refl) refl later (omega arith) keeps
+    number (shard_below p.stage s.flow some) (λ t h. rw seg refl) refl later (omega arith) keeps called
 
 told_arrival : (R : Routes) (F : Rules) (p : Player) (at : Moment) (flight : Flight) (s : Segment)
-    (c : IsAtStop R F p at flight s) (f : Fate)
+    (states : List State) (c : IsAtStop R F p at flight s states) (f : Fate)
     → IfSome (sending_of (arrive_what at flight s p)) (λ x. F x.packet x.hop f) → IsSoon f
     → IsPlayed R F p.stage (f ∷ c.copy.ready.fates) (arrive_event at flight s p ∷ past_of p)
-told_arrival R F p at flight s c f given soon =
+told_arrival R F p at flight s states c f given soon =
     told R F p at (copy_due c.copy.copy) c.copy.ready (arrive_what at flight s p) f
     (λ i. Arrives (c.is_landing.packet i) (c.is_landing.hop i))
-    (arrive_answered p (past_of p) at flight s c.copy.copy c.is_landing c.number c.some c.later c.copy.ready.state.books
-    c.is_segment) tt given soon
+    (arrive_answered p (past_of p) at flight s c.copy.copy c.is_landing c.number c.some c.later
+    c.copy.ready.state.shards c.is_segment) tt given soon
 
 kept_arrival : (R : Routes) (F : Rules) (p : Player) (at : Moment) (flight : Flight) (s : Segment)
-    (c : IsAtStop R F p at flight s) (f : Fate) (o : Option Sending) (flying : List Flying) (loss : Option Loss)
+    (states : List State) (c : IsAtStop R F p at flight s states) (f : Fate) (o : Option Sending) (flying : List Flying)
+    (loss : Option Loss)
     → sending_of (arrive_what at flight s p) ≡ o
     → AreFlying p.stage (arrive_event at flight s p ∷ past_of p) flying
     (put_sent f (length (past_of p)) at.0 o (rest (wire c.copy.ready.fates (past_of p))))
     → lost_call loss ≡ loss_of_fate f o
     → KeepsState (f ∷ c.copy.ready.fates) (arrive_event at flight s p ∷ past_of p)
-    (record (after_arrival at flight s p) { wire = flying; loss = loss })
-kept_arrival R F p at flight s c f o flying loss is are owes = record {
+    (record (after_arrival at flight s states p) { wire = flying; loss = loss })
+kept_arrival R F p at flight s states c f o flying loss is are owes = record {
   clock = refl;
   loss = owes ∙ ap (λ (x : Option Sending). loss_of_fate f x) (sym is);
   flights =
@@ -258,55 +262,57 @@ kept_arrival R F p at flight s c f o flying loss is are owes = record {
       c.copy.ready.state.muxes;
   queues = queues_stay p.stage (past_of p) (arrive_event at flight s p) p.close p.retire p.sync p.packet refl refl refl
       refl c.copy.ready.state.queues;
-  books = books_arrived p (past_of p) at flight s c.number c.some c.is_segment c.later c.copy.ready.state.books;
+  shards =
+      shards_arrived p (past_of p) at flight s states c.number c.some c.is_segment c.later c.copy.ready.state.shards
+      c.called;
   packets = c.copy.ready.state.packets;
 }
 
 others_arrived : (R : Routes) (F : Rules) (p : Player) (at : Moment) (flight : Flight) (s : Segment)
-    (c : IsAtStop R F p at flight s) (f : Fate)
+    (states : List State) (c : IsAtStop R F p at flight s states) (f : Fate)
     → IsPlayed R F p.stage (f ∷ c.copy.ready.fates) (arrive_event at flight s p ∷ past_of p)
     → AreFlying p.stage (arrive_event at flight s p ∷ past_of p) (others p.wire)
     (rest (wire c.copy.ready.fates (past_of p)))
-others_arrived R F p at flight s c f played =
+others_arrived R F p at flight s states c f played =
     others_fly p.stage (arrive_event at flight s p ∷ past_of p) p.wire (wire c.copy.ready.fates (past_of p))
     (all_stay p.stage (past_of p) (arrive_event at flight s p) played.run.0 p.wire (wire c.copy.ready.fates (past_of p))
     c.copy.ready.state.flights)
 
 -- it goes nowhere
 ended : (R : Routes) (F : Rules) (p q : Player) (at : Moment) (flight : Flight) (s : Segment)
-    → IsAtStop R F p at flight s → sending_of (arrive_what at flight s p) ≡ None → q ≡ after_arrival at flight s p
-    → HasPlayed R F p q
-ended R F p q at flight s c none is =
+    (states : List State) → IsAtStop R F p at flight s states → sending_of (arrive_what at flight s p) ≡ None
+    → q ≡ after_arrival at flight s states p → HasPlayed R F p q
+ended R F p q at flight s states c none is =
     let given : IfSome (sending_of (arrive_what at flight s p)) (λ x. F x.packet x.hop plain) =
     subst (λ (o : Option Sending). IfSome o (λ x. F x.packet x.hop plain)) (sym none) tt
     in let played : IsPlayed R F p.stage (plain ∷ c.copy.ready.fates) (arrive_event at flight s p ∷ past_of p) =
-    told_arrival R F p at flight s c plain given plain_soon
+    told_arrival R F p at flight s states c plain given plain_soon
     in subst (λ (x : Player). HasPlayed R F p x) (sym is)
-    (packaged R F p (after_arrival at flight s p) plain c.copy.ready.fates (arrive_event at flight s p) refl refl played
-    (kept_arrival R F p at flight s c plain None (others p.wire) p.loss none
-    (others_arrived R F p at flight s c plain played) (c.copy.ready.state.loss ∙ c.copy.ready.no_loss_due)))
+    (packaged R F p (after_arrival at flight s states p) plain c.copy.ready.fates (arrive_event at flight s p) refl refl
+    played (kept_arrival R F p at flight s states c plain None (others p.wire) p.loss none
+    (others_arrived R F p at flight s states c plain played) (c.copy.ready.state.loss ∙ c.copy.ready.no_loss_due)))
 
 sends_on : (k : ℕ) (hop : Hop) (server to : ServerId) → hop ≡ Direct
     → sending_of (Arrive k hop server (Forward to)) ≡ Some (record { packet = k; hop = Chained })
 sends_on k hop server to is = rw is refl
 
 -- it is forwarded
-went_on : (R : Routes) (F : Rules) (p q : Player) (at : Moment) (flight : Flight) (s : Segment) (to : ServerId)
-    → IsAtStop R F p at flight s → verdict_for p at flight s ≡ Forward to
-    → HasSent F at (chained to flight) (after_arrival at flight s p) q → HasPlayed R F p q
-went_on R F p q at flight s to c forward sending =
+went_on : (R : Routes) (F : Rules) (p q : Player) (at : Moment) (flight : Flight) (s : Segment)
+    (states : List State) (to : ServerId) → IsAtStop R F p at flight s states → verdict_for p at flight s ≡ Forward to
+    → HasSent F at (chained to flight) (after_arrival at flight s states p) q → HasPlayed R F p q
+went_on R F p q at flight s states to c forward sending =
     subst (λ (x : Player). HasPlayed R F p x) (sym sending.is)
-    (packaged R F p (sent sending.fate at (chained to flight) (after_arrival at flight s p)) sending.fate
+    (packaged R F p (sent sending.fate at (chained to flight) (after_arrival at flight s states p)) sending.fate
     c.copy.ready.fates (arrive_event at flight s p) refl refl played
-    (kept_arrival R F p at flight s c sending.fate (Some (record { packet = flight.packet; hop = Chained })) _ _ sends
-    (copies_fly p.stage (arrive_event at flight s p ∷ past_of p) _ _ flying sending.fate.copies (others p.wire)
-    (rest (wire c.copy.ready.fates (past_of p))) (others_arrived R F p at flight s c sending.fate played))
+    (kept_arrival R F p at flight s states c sending.fate (Some (record { packet = flight.packet; hop = Chained })) _ _
+    sends (copies_fly p.stage (arrive_event at flight s p ∷ past_of p) _ _ flying sending.fate.copies (others p.wire)
+    (rest (wire c.copy.ready.fates (past_of p))) (others_arrived R F p at flight s states c sending.fate played))
     (loss_is_due sending.fate (chained to flight) (record { packet = flight.packet; hop = Chained }) refl refl))) where
       passed : (flight.tag.hop ≡ Direct) × (c.is_landing.label.entry.prev ≡ Some to)
       passed = forwarded (local_at p.stage (past_of p) flight.tag.dest s.flow) (timeout p.stage) at.0
           c.is_landing.label.entry flight.tag.hop s to
           (sym (verdict_same p (past_of p) at flight s c.copy.copy c.is_landing c.number c.some c.later
-          c.copy.ready.state.books) ∙ forward)
+          c.copy.ready.state.shards) ∙ forward)
 
       sends : sending_of (arrive_what at flight s p) ≡ Some (record { packet = flight.packet; hop = Chained })
       sends = ap (λ (v : Verdict). sending_of (Arrive flight.packet flight.tag.hop flight.tag.dest v)) forward
@@ -316,7 +322,7 @@ went_on R F p q at flight s to c forward sending =
       given = subst (λ (o : Option Sending). IfSome o (λ x. F x.packet x.hop sending.fate)) (sym sends) sending.gives
 
       played : IsPlayed R F p.stage (sending.fate ∷ c.copy.ready.fates) (arrive_event at flight s p ∷ past_of p)
-      played = told_arrival R F p at flight s c sending.fate given sending.soon
+      played = told_arrival R F p at flight s states c sending.fate given sending.soon
 
       stop_here : HasStopAt c.is_landing.label flight.tag.hop flight.tag
       stop_here = tag_stop c.is_landing.label flight.tag.hop flight.tag c.is_landing.tag
@@ -341,20 +347,20 @@ went_on R F p q at flight s to c forward sending =
       }
 
 by_verdict : (R : Routes) (F : Rules) (p q : Player) (at : Moment) (flight : Flight) (s : Segment)
-    → IsAtStop R F p at flight s → (v : Verdict) → verdict_for p at flight s ≡ v
-    → HasGone F at flight (passes_to v) (after_arrival at flight s p) q → HasPlayed R F p q
-by_verdict R F p q at flight s c (Forward to) is gone = went_on R F p q at flight s to c is gone
-by_verdict R F p q at flight s c Accept is gone =
-    ended R F p q at flight s c
+    (states : List State) → IsAtStop R F p at flight s states → (v : Verdict) → verdict_for p at flight s ≡ v
+    → HasGone F at flight (passes_to v) (after_arrival at flight s states p) q → HasPlayed R F p q
+by_verdict R F p q at flight s states c (Forward to) is gone = went_on R F p q at flight s states to c is gone
+by_verdict R F p q at flight s states c Accept is gone =
+    ended R F p q at flight s states c
     (ap (λ (v : Verdict). sending_of (Arrive flight.packet flight.tag.hop flight.tag.dest v)) is) gone
-by_verdict R F p q at flight s c (Process t) is gone =
-    ended R F p q at flight s c
+by_verdict R F p q at flight s states c (Process t) is gone =
+    ended R F p q at flight s states c
     (ap (λ (v : Verdict). sending_of (Arrive flight.packet flight.tag.hop flight.tag.dest v)) is) gone
-by_verdict R F p q at flight s c (Reset why) is gone =
-    ended R F p q at flight s c
+by_verdict R F p q at flight s states c (Reset why) is gone =
+    ended R F p q at flight s states c
     (ap (λ (v : Verdict). sending_of (Arrive flight.packet flight.tag.hop flight.tag.dest v)) is) gone
-by_verdict R F p q at flight s c (Drop why) is gone =
-    ended R F p q at flight s c
+by_verdict R F p q at flight s states c (Drop why) is gone =
+    ended R F p q at flight s states c
     (ap (λ (v : Verdict). sending_of (Arrive flight.packet flight.tag.hop flight.tag.dest v)) is) gone
 
 pub arrived : (R : Routes) (F : Rules) (p q : Player) (at : Moment) → IsReadyCopy R F p at → HasArrived F at p q
@@ -363,7 +369,7 @@ arrived R F p q at c come =
     let is : IsLanding p.stage (past_of p) come.flight c.copy =
     landing p.stage (past_of p) p.wire (wire c.ready.fates (past_of p)) c.copy c.others come.flight
     c.ready.state.flights c.is_wire come.is_flight
-    in by_verdict R F p q at come.flight come.segment (record {
+    in by_verdict R F p q at come.flight come.segment come.states (record {
       copy = c;
       is_landing = is;
       number = (landing_tag p.stage (past_of p) come.flight is.label c.ready.played.sound.script c.ready.played.run
@@ -371,4 +377,5 @@ arrived R F p q at c come =
       some = c.ready.played.sound.script.setting.shards.0;
       later = (clock_later R F p at (copy_due c.copy) c.ready).0;
       is_segment = come.is_segment;
+      called = come.called;
     }) (verdict_for p at come.flight come.segment) refl come.is

@@ -17,21 +17,25 @@ use Rattle.bm_replay.specs.declared.coming.Coming.{Coming}
 use Rattle.bm_replay.specs.declared.coming.Coming.TheVariants.{Over}
 use Rattle.bm_replay.specs.Players.{IsNew, soonest_command, coming_for}
 use Rattle.bm_replay.specs.Playing.{IsPlaying, KeepsState, lost_call, past_of}
-use Rattle.bm_replay.specs.Shards.{IsBookOf, KeepsBooks, all_books}
-use Rattle.bm_shard.specs.Books.{Book}
-use Rattle.bm_replay.proofs.ShardBooks.{book_at_first, length_all}
+use Rattle.bm_replay.specs.Shards.{IsShardOf, KeepsShards, all_shards}
+use Rattle.bm_shard.specs.States.{State}
+use Rattle.bm_replay.proofs.ShardStates.{first_at, length_all}
 use Rattle.bm_replay.specs.Comings.{sooner_of}
 use Rattle.bm_replay.proofs.NextEvents.{IsComingOf}
 use Rattle.bm_replay.proofs.Unchanged.{switches_are}
 use Rattle.bm_replay.proofs.LeastOfTwo.{least_none}
 use Rattle.bm_replay.proofs.ReadyEvents.{come_least, state_turn}
 
-first_books : (stage : Stage) → KeepsBooks stage [] (all_books stage.script.setting 1025)
-first_books stage = record {
+first_shards : (stage : Stage) → KeepsShards stage [] (all_shards stage.script.setting 1025)
+first_shards stage = record {
   lie = let l = length_all stage.script.setting 1025 in omega arith;
-  each = λ s h few below. subst (λ (x : Book). IsBookOf stage [] s h x)
-      (sym (book_at_first stage.script.setting 1025 s h (omega arith) below))
-      (record { shard = refl; calls = refl; clock = omega arith; few = omega arith });
+  each = λ s h few below. subst (λ (x : State). IsShardOf stage [] s h x)
+      (sym (first_at stage.script.setting 1025 s h (omega arith) below))
+      (record {
+        shard = refl;
+        turns = record { left = record { held = λ f. refl; retired = refl }; once = tt };
+        clock = omega arith;
+      });
 }
 
 new_state : (stage : Stage) (p : Player) → IsNew stage p → p.stage ≡ stage → KeepsState [] [] p
@@ -51,7 +55,7 @@ new_state stage p new about = record {
   });
   queues = rw about
       (record { due_closes = new.close; due_retires = new.retire; due_syncs = new.sync; due_packets = new.packet });
-  books = rw about (rw new.shards (first_books stage));
+  shards = rw about (rw new.shards (first_shards stage));
   packets = rw about new.packets;
 }
 

@@ -28,14 +28,14 @@ use Rattle.bm_core.specs.Verdicts.{receiver_of}
 use Rattle.bm_core.proofs.Pasts.{newest_within}
 use Rattle.bm_core.proofs.Schedules.{Each, IsFrom, each_append, each_dropped}
 use Rattle.bm_replay.specs.declared.player.Player.{Player}
-use Rattle.bm_shard.specs.Books.{Book}
+use Rattle.bm_shard.specs.States.{State}
 use Rattle.bm_shard.specs.declared.calls.ShardCall.TheVariants.{Close as AsksClose, Retire as AsksRetire}
 use Rattle.bm_replay.specs.Players.{HasClosed, HasPlaces, HasRetired, HasSynced, happened}
 use Rattle.bm_replay.specs.Playing.{HasPlayed, IsPlayed, KeepsState, past_of}
-use Rattle.bm_replay.specs.Shards.{KeepsBooks, before, book_at, books_after, holds, place_of}
-use Rattle.bm_replay.proofs.ShardBooks.{holds_same, places_of, shard_below}
+use Rattle.bm_replay.specs.Shards.{IsCalled, KeepsShards, before, holds, place_of, state_at}
+use Rattle.bm_replay.proofs.ShardStates.{holds_same, places_of, shard_below}
 use Rattle.bm_replay.proofs.Flights.{all_stay}
-use Rattle.bm_replay.proofs.Unchanged.{books_more, books_stay, muxes_stay, part_next, part_stays}
+use Rattle.bm_replay.proofs.Unchanged.{shards_more, shards_stay, muxes_stay, part_next, part_stays}
 use Rattle.bm_replay.proofs.KnownServers.{known_server}
 use Rattle.bm_replay.proofs.ReadyEvents.{clock_later, IsReady, packaged, plain, plain_soon, told}
 
@@ -115,32 +115,30 @@ some_receiver (Some h) = refl
 
 abbrev close_event : Moment → ServerId → Flow → Player → Event
 close_event at s f p =
-    record { clock = at; what = Close s f (holds (book_at p.shards (place_of p.stage s (shard p.stage f))) f) }
+    record { clock = at; what = Close s f (holds (state_at p.shards (place_of p.stage s (shard p.stage f))) f) }
 
-abbrev shards_closed : Moment → ServerId → Flow → Player → List Book
-shards_closed at s f p = books_after p.shards (place_of p.stage s (shard p.stage f)) (AsksClose f (before at))
-
-close_answered : (stage : Stage) (past : List Event) (books : List Book) (s : ServerId) (f : Flow) → s.0 ≤ 1024
-    → 1 ≤ stage.script.setting.shards → KeepsBooks stage past books
-    → holds (book_at books (place_of stage s (shard stage f))) f ≡ is_some (held stage past s f)
-close_answered stage past books s f number some keeps =
-    holds_same stage past s (shard stage f) (book_at books (place_of stage s (shard stage f))) f
+close_answered : (stage : Stage) (past : List Event) (states : List State) (s : ServerId) (f : Flow) → s.0 ≤ 1024
+    → 1 ≤ stage.script.setting.shards → KeepsShards stage past states
+    → holds (state_at states (place_of stage s (shard stage f))) f ≡ is_some (held stage past s f)
+close_answered stage past states s f number some keeps =
+    holds_same stage past s (shard stage f) (state_at states (place_of stage s (shard stage f))) f
     (keeps.each s (shard stage f) number (shard_below stage f some)) refl
 
-close_books : (p : Player) (past : List Event) (at : Moment) (s : ServerId) (f : Flow) → s.0 ≤ 1024
-    → 1 ≤ p.stage.script.setting.shards → last_clock past < at.0 → KeepsBooks p.stage past p.shards
-    → KeepsBooks p.stage (close_event at s f p ∷ past) (shards_closed at s f p)
-close_books p past at s f number some later keeps =
-    books_more p.stage past (close_event at s f p) p.shards (AsksClose f (before at))
-    (Closed f (holds (book_at p.shards (place_of p.stage s (shard p.stage f))) f)) s (shard p.stage f)
-    number (shard_below p.stage f some) (λ t h. refl) refl later (omega arith) keeps
+shards_closed : (p : Player) (past : List Event) (at : Moment) (s : ServerId) (f : Flow) (states : List State)
+    → s.0 ≤ 1024 → 1 ≤ p.stage.script.setting.shards → last_clock past < at.0 → KeepsShards p.stage past p.shards
+    → IsCalled (place_of p.stage s (shard p.stage f)) (AsksClose f (before at)) p.shards states
+    → KeepsShards p.stage (close_event at s f p ∷ past) states
+shards_closed p past at s f states number some later keeps called =
+    shards_more p.stage past (close_event at s f p) p.shards states (AsksClose f (before at))
+    (Closed f (holds (state_at p.shards (place_of p.stage s (shard p.stage f))) f)) s (shard p.stage f)
+    number (shard_below p.stage f some) (λ t h. refl) refl later (omega arith) keeps called
 
 pub closed_one : (R : Routes) (F : Rules) (p q : Player) (at : Moment) (d : Due) (s : ServerId) (f : Flow)
     → IsReady R F p at d → d.call ≡ Closes s f → HasClosed at s f p q → HasPlayed R F p q
 closed_one R F p q at d s f ready call come =
     subst (λ (x : Player). HasPlayed R F p x) (sym come.is)
     (packaged R F p
-    (happened at (close_event at s f p).what (record p { close = come.queue; shards = shards_closed at s f p }))
+    (happened at (close_event at s f p).what (record p { close = come.queue; shards = come.states }))
     plain ready.fates (close_event at s f p) refl refl played state) where
       number : s.0 ≤ 1024
       number = close_number R F p at d s f ready call
@@ -150,10 +148,10 @@ closed_one R F p q at d s f ready call come =
 
       played : IsPlayed R F p.stage (plain ∷ ready.fates) (close_event at s f p ∷ past_of p)
       played = told R F p at d ready (close_event at s f p).what plain (sym call)
-          (close_answered p.stage (past_of p) p.shards s f number some ready.state.books) tt tt plain_soon
+          (close_answered p.stage (past_of p) p.shards s f number some ready.state.shards) tt tt plain_soon
 
       state : KeepsState (plain ∷ ready.fates) (close_event at s f p ∷ past_of p)
-          (happened at (close_event at s f p).what (record p { close = come.queue; shards = shards_closed at s f p }))
+          (happened at (close_event at s f p).what (record p { close = come.queue; shards = come.states }))
       state = record {
         clock = refl;
         loss = ready.state.loss ∙ ready.no_loss_due;
@@ -171,7 +169,9 @@ closed_one R F p q at d s f ready call come =
           due_syncs = part_stays _ _ _ (past_of p) (close_event at s f p) syncs refl ready.state.queues.due_syncs;
           due_packets = part_stays _ _ _ (past_of p) (close_event at s f p) steers refl ready.state.queues.due_packets;
         };
-        books = close_books p (past_of p) at s f number some (clock_later R F p at d ready).0 ready.state.books;
+        shards =
+            shards_closed p (past_of p) at s f come.states number some (clock_later R F p at d ready).0
+            ready.state.shards come.called;
         packets = ready.state.packets;
       }
 
@@ -204,14 +204,14 @@ published_within R F p at d ready =
 abbrev retire_event : Moment → ServerId → ℕ → Moment → Retirement → Event
 retire_event at s h since result = record { clock = at; what = Retire s h since result }
 
-retire_books : (p : Player) (past : List Event) (at : Moment) (s : ServerId) (h : ℕ) (since : Moment)
-    (result : Retirement) → s.0 ≤ 1024 → h < p.stage.script.setting.shards → last_clock past < at.0 → since.0 < at.0
-    → KeepsBooks p.stage past p.shards
-    → KeepsBooks p.stage (retire_event at s h since result ∷ past)
-    (books_after p.shards (place_of p.stage s h) (AsksRetire since result))
-retire_books p past at s h since result number below later early keeps =
-    books_more p.stage past (retire_event at s h since result) p.shards (AsksRetire since result) (RetiredAs result) s h
-    number below (λ t x. refl) refl later early keeps
+shards_retired : (p : Player) (past : List Event) (at : Moment) (s : ServerId) (h : ℕ) (since : Moment)
+    (result : Retirement) (states : List State) → s.0 ≤ 1024 → h < p.stage.script.setting.shards
+    → last_clock past < at.0 → since.0 < at.0 → KeepsShards p.stage past p.shards
+    → IsCalled (place_of p.stage s h) (AsksRetire since result) p.shards states
+    → KeepsShards p.stage (retire_event at s h since result ∷ past) states
+shards_retired p past at s h since result states number below later early keeps called =
+    shards_more p.stage past (retire_event at s h since result) p.shards states (AsksRetire since result)
+    (RetiredAs result) s h number below (λ t x. refl) refl later early keeps called
 
 pub retire_early : (R : Routes) (F : Rules) (p : Player) (at : Moment) (d : Due) (s : ServerId) (h since : ℕ)
     → IsReady R F p at d → d.call ≡ Retires s h since → since < at.0
@@ -227,11 +227,7 @@ retired_one R F p q at d s h since ready call come =
     subst (λ (x : Player). HasPlayed R F p x) (sym come.is)
     (packaged R F p
     (happened at (Retire s h since come.result)
-    (record p {
-      retire = come.queue;
-      shards =
-          books_after p.shards (place_of p.stage s h) (AsksRetire since come.result);
-    })) plain ready.fates
+    (record p { retire = come.queue; shards = come.states })) plain ready.fates
     (retire_event at s h since come.result) refl refl played state) where
       numbers : (s.0 ≤ 1024) × (h < p.stage.script.setting.shards) × (d.moment ≡ since.0)
       numbers = retire_numbers R F p at d s h since.0 ready call
@@ -243,11 +239,7 @@ retired_one R F p q at d s h since ready call come =
 
       state : KeepsState (plain ∷ ready.fates) (retire_event at s h since come.result ∷ past_of p)
           (happened at (Retire s h since come.result)
-          (record p {
-            retire = come.queue;
-            shards =
-                books_after p.shards (place_of p.stage s h) (AsksRetire since come.result);
-          }))
+          (record p { retire = come.queue; shards = come.states }))
       state = record {
         clock = refl;
         loss = ready.state.loss ∙ ready.no_loss_due;
@@ -271,8 +263,10 @@ retired_one R F p q at d s h since ready call come =
               part_stays _ _ _ (past_of p) (retire_event at s h since come.result) steers refl
               ready.state.queues.due_packets;
         };
-        books = retire_books p (past_of p) at s h since come.result numbers.0 numbers.1 (clock_later R F p at d ready).0
-            (retire_early R F p at d s h since.0 ready call) ready.state.books;
+        shards =
+            shards_retired p (past_of p) at s h since come.result come.states numbers.0 numbers.1
+            (clock_later R F p at d ready).0 (retire_early R F p at d s h since.0 ready call) ready.state.shards
+            come.called;
         packets = ready.state.packets;
       }
 
@@ -317,7 +311,7 @@ synced R F p q at d ready call come =
               part_stays _ _ _ (past_of p) (record { clock = at; what = Sync }) steers refl
               ready.state.queues.due_packets;
         };
-        books = books_stay p.stage (past_of p) (record { clock = at; what = Sync }) p.shards (λ s h. refl)
-            (omega (arith, (clock_later R F p at d ready).0)) ready.state.books;
+        shards = shards_stay p.stage (past_of p) (record { clock = at; what = Sync }) p.shards (λ s h. refl)
+            (omega (arith, (clock_later R F p at d ready).0)) ready.state.shards;
         packets = ready.state.packets;
       }

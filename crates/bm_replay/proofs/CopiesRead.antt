@@ -1,6 +1,6 @@
 -- A copy that arrives carries its tag and its packet's segment, and goes on by them.
 use Rattle.std.proofs.Common.{◌≡◌, ℕ, ◌-◌, ◌<◌, ◌^◌, List, [], Option, Some, None, sym, ap, subst, ◌∙◌}
-use Rattle.std.specs.Prelude.{reverse, slice_index_or}
+use Rattle.std.specs.Prelude.{slice_index_or}
 use Rattle.std.proofs.lemmas.Option.{same_Some}
 use Rattle.bm_base.specs.declared.capture.Body.TheVariants.{Steerable}
 use Rattle.bm_base.specs.declared.flow.Segment.{Segment}
@@ -19,14 +19,14 @@ use Rattle.bm_core.specs.Accounts.{Rules}
 use Rattle.bm_core.specs.Past.{segment_of, shard}
 use Rattle.bm_core.specs.Verdicts.{entry_of}
 use Rattle.bm_core.proofs.Forwards.{forwarded}
-use Rattle.bm_shard.specs.Books.{clock_after}
+use Rattle.bm_shard.specs.States.{State, clock_at, known_in}
 use Rattle.bm_fault.specs.Flying.{Flying}
 use Rattle.bm_shard.specs.declared.calls.ShardCall.TheVariants.{Arrive as AsksArrive}
 use Rattle.bm_replay.specs.declared.player.Player.{Player}
 use Rattle.bm_replay.specs.Carriers.{carried, next_tag}
 use Rattle.bm_replay.specs.Players.{CanArrive, HasArrived, HasGone, passes_to, after_arrival, place_for, verdict_for}
-use Rattle.bm_replay.specs.Players.{after_call, forwards, what_for}
-use Rattle.bm_replay.specs.Shards.{arrival, book_at, known_in, before}
+use Rattle.bm_replay.specs.Players.{HasCalled, forwards, what_for}
+use Rattle.bm_replay.specs.Shards.{IsCalled, arrival, before, state_at}
 use Rattle.bm_replay.proofs.Carriers.{carries, goes_on}
 
 -- the copy that comes first, with a valid tag, and the packet within
@@ -96,52 +96,77 @@ says_next at p flight s segment tag octets carrier next is same read by to forwa
           ∙ passes_forward _ to (sym by ∙ forward)
 
       passes : (flight.tag.hop ≡ Direct) × (flight.tag.prev ≡ Some to)
-      passes = forwarded (known_in (book_at p.shards (place_for p flight s)) s.flow)
-          (book_at p.shards (place_for p flight s)).shard.timeout
-          (clock_after (reverse (book_at p.shards (place_for p flight s)).entries) (arrival flight s at)).0
+      passes = forwarded (known_in (state_at p.shards (place_for p flight s)) s.flow)
+          (state_at p.shards (place_for p flight s)).shard.timeout
+          (clock_at (state_at p.shards (place_for p flight s)) (arrival flight s at)).0
           (entry_of flight.tag) flight.tag.hop s to forwards
+
+-- the copy arrived, and what happened is written
+pub record HasCome (at : Moment) (flight : Flight) (segment : Segment) (p wrote : Player) : Type 0 where
+  pub states : List State
+  pub called : IsCalled (place_for p flight segment) (arrival flight segment at) p.shards states
+  pub is : wrote ≡ after_arrival at flight segment states p
 
 -- the copy arrived, and went on
 pub comes : (F : Rules) (at : Moment) (p wrote q : Player) (can : CanArrive at p) (flight : Flight) (segment : Segment)
     (tag : Tag) (next : Option ServerId)
     → first_flight p.wire ≡ Some flight → IsReadAs flight can.segment tag segment
     → next ≡ passes_to (verdict_for p at (record { packet = flight.packet; tag = tag }) segment)
-    → wrote ≡ after_arrival at (record { packet = flight.packet; tag = tag }) segment p
+    → HasCome at (record { packet = flight.packet; tag = tag }) segment p wrote
     → HasGone F at (record { packet = flight.packet; tag = tag }) next wrote q → HasArrived F at p q
-comes F at p wrote q can flight segment tag next first read by is gone =
+comes F at p wrote q can flight segment tag next first read by come gone =
     let same : can.flight ≡ flight = same_Some _ _ (sym can.is_flight ∙ first)
     in record {
       flight = flight;
       is_flight = first;
       segment = can.segment;
       is_segment = subst (λ (f : Flight). segment_of p.stage f.packet ≡ Some can.segment) same can.is_segment;
-      is = subst (λ (t : Tag). Went t can.segment) (sym read.tag_is)
-          (subst (λ (x : Segment). Went tag x) (sym read.segment_is) went);
+      states = come.states;
+      called = there.0;
+      is = there.1;
     } where
       Went : Tag → Segment → Type 0
-      Went t x = HasGone F at (record { packet = flight.packet; tag = t })
+      Went t x = IsCalled (place_for p (record { packet = flight.packet; tag = t }) x)
+          (arrival (record { packet = flight.packet; tag = t }) x at) p.shards come.states
+          × HasGone F at (record { packet = flight.packet; tag = t })
           (passes_to (verdict_for p at (record { packet = flight.packet; tag = t }) x))
-          (after_arrival at (record { packet = flight.packet; tag = t }) x p) q
+          (after_arrival at (record { packet = flight.packet; tag = t }) x come.states p) q
 
       went : Went tag segment
-      went =
-          subst (λ (o : Option ServerId). HasGone F at (record { packet = flight.packet; tag = tag }) o
-          (after_arrival at (record { packet = flight.packet; tag = tag }) segment p) q) by
-          (subst (λ (x : Player). HasGone F at (record { packet = flight.packet; tag = tag }) next x q) is gone)
+      went = (
+        come.called,
+        subst (λ (o : Option ServerId). HasGone F at (record { packet = flight.packet; tag = tag }) o
+            (after_arrival at (record { packet = flight.packet; tag = tag }) segment come.states p) q) by
+            (subst (λ (x : Player). HasGone F at (record { packet = flight.packet; tag = tag }) next x q) come.is gone),
+      )
+
+      there : Went flight.tag can.segment
+      there = subst (λ (t : Tag). Went t can.segment) (sym read.tag_is)
+          (subst (λ (x : Segment). Went tag x) (sym read.segment_is) went)
 
 -- what has a next hop says it
 pub some_next : (o : Option Tag) (tag : Tag) → o ≡ Some tag → o ≡ None → ⊥
 some_next o tag some none = let bad : ◌≡◌ {A = Option Tag} None (Some tag) = sym none ∙ some in absurd (cc)
 
 -- the call of an arrival, and what happens at it
-pub call_is : (at : Moment) (p : Player) (flight : Flight) (segment : Segment) (h : ℕ) (due : Moment)
+pub call_is : (at : Moment) (p wrote : Player) (flight : Flight) (segment : Segment) (h : ℕ) (due : Moment)
     (wire : List Flying)
     → wire ≡ others p.wire → h ≡ shard p.stage segment.flow → due ≡ before at
-    → after_call at flight.tag.dest h (AsksArrive flight.packet flight.tag segment due) (record p { wire = wire })
-    ≡ after_arrival at flight segment p
-call_is at p flight segment h due wire popped here early =
-    λ i. after_call at flight.tag.dest (here i) (AsksArrive flight.packet flight.tag segment (early i))
-    (record p { wire = popped i })
+    → HasCalled at flight.tag.dest h (AsksArrive flight.packet flight.tag segment due) (record p { wire = wire }) wrote
+    → HasCome at flight segment p wrote
+call_is at p wrote flight segment h due wire popped here early called = record {
+  states = there.states;
+  called = there.called;
+  is = there.is;
+} where
+  there : HasCalled at flight.tag.dest (shard p.stage segment.flow) (arrival flight segment at)
+      (record p { wire = others p.wire }) wrote
+  there = subst (λ (x : ℕ). HasCalled at flight.tag.dest x (arrival flight segment at)
+      (record p { wire = others p.wire }) wrote) here
+      (subst (λ (m : Moment). HasCalled at flight.tag.dest h (AsksArrive flight.packet flight.tag segment m)
+      (record p { wire = others p.wire }) wrote) early
+      (subst (λ (l : List Flying). HasCalled at flight.tag.dest h (AsksArrive flight.packet flight.tag segment due)
+      (record p { wire = l }) wrote) popped called))
 
 pub next_is : (at : Moment) (p : Player) (flight : Flight) (segment : Segment) (h : ℕ) (due : Moment)
     (wire : List Flying)

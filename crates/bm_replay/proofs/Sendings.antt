@@ -35,7 +35,7 @@ use Rattle.bm_replay.specs.Flights.{IsFlying}
 use Rattle.bm_replay.specs.Players.{CanSteer, HasSteered, after_loss, happened, loss_of, sent}
 use Rattle.bm_replay.specs.Playing.{HasPlayed, IsPlayed, IsPlaying, KeepsState, lost_call, past_of}
 use Rattle.bm_replay.proofs.Flights.{HasStopAt, all_stay, copies_fly, tag_stop}
-use Rattle.bm_replay.proofs.Unchanged.{books_stay, muxes_stay, part_next, part_stays, queues_stay}
+use Rattle.bm_replay.proofs.Unchanged.{shards_stay, muxes_stay, part_next, part_stays, queues_stay}
 use Rattle.bm_replay.proofs.ReadyEvents.{clock_later, IsReady, clock_low, packaged, plain, plain_soon, played_more}
 use Rattle.bm_replay.proofs.ReadyEvents.{told}
 
@@ -79,8 +79,8 @@ lost R F p q loss playing some is =
         queues = queues_stay p.stage (past_of p) (lose_event loss p) p.close p.retire p.sync p.packet refl refl refl
             refl
             playing.state.queues;
-        books = books_stay p.stage (past_of p) (lose_event loss p) p.shards (λ s h. refl)
-            (omega (arith, playing.state.clock)) playing.state.books;
+        shards = shards_stay p.stage (past_of p) (lose_event loss p) p.shards (λ s h. refl)
+            (omega (arith, playing.state.clock)) playing.state.shards;
         packets = playing.state.packets;
       }
 
@@ -235,7 +235,7 @@ steered R F p q at d k ready call come =
               part_next _ _ _ p.packet.head come.queue.head d (past_of p) (steer_event at k come.mux) steers refl
               (steer_from R F p at d k ready call) ready.state.queues.due_packets come.next;
         };
-        books = books_stay p.stage (past_of p) (steer_event at k come.mux) p.shards (λ s h. refl)
-            (omega (arith, (clock_later R F p at d ready).0)) ready.state.books;
+        shards = shards_stay p.stage (past_of p) (steer_event at k come.mux) p.shards (λ s h. refl)
+            (omega (arith, (clock_later R F p at d ready).0)) ready.state.shards;
         packets = ready.state.packets;
       }

@@ -23,7 +23,7 @@ use Rattle.bm_replay.specs.Muxes.{HasTable, IsMoved}
 use Rattle.bm_replay.specs.Players.{CanSwitch, HasLags, HasSwitched, after_publish, happened, switch_for}
 use Rattle.bm_replay.specs.Playing.{HasPlayed, IsPlayed, KeepsMuxes, KeepsState, past_of}
 use Rattle.bm_replay.proofs.Flights.{all_stay}
-use Rattle.bm_replay.proofs.Unchanged.{books_stay, count_grows, count_stays, muxes_stay, queues_stay, switches_are}
+use Rattle.bm_replay.proofs.Unchanged.{shards_stay, count_grows, count_stays, muxes_stay, queues_stay, switches_are}
 use Rattle.bm_core.proofs.Moments.{change_early}
 use Rattle.bm_replay.proofs.ReadyEvents.{clock_later, IsReady, packaged, plain, plain_soon, told}
 
@@ -49,9 +49,9 @@ published R F p q at d v ready call is =
         muxes = muxes_stay p.stage (past_of p) _ p.muxes p.switch (λ m. refl) (λ m. refl) ready.state.muxes;
         queues = queues_stay p.stage (past_of p) _ p.close p.retire p.sync p.packet refl refl refl refl
             ready.state.queues;
-        books = books_stay p.stage (past_of p) _ p.shards (λ s h. refl)
+        shards = shards_stay p.stage (past_of p) _ p.shards (λ s h. refl)
             (omega (arith, (clock_later R F p at d ready).0))
-            ready.state.books;
+            ready.state.shards;
         packets = ready.state.packets;
       }
 
@@ -196,7 +196,7 @@ switched R F p q at d m v ready call come =
                 from.0 from.2 come.is_change come.count come.others come.moved ready.state.muxes;
             queues = queues_stay p.stage (past_of p) event p.close p.retire p.sync p.packet refl refl refl refl
                 ready.state.queues;
-            books = books_stay p.stage (past_of p) event p.shards (λ s h. refl)
-                (omega (arith, (clock_later R F p at d ready).0)) ready.state.books;
+            shards = shards_stay p.stage (past_of p) event p.shards (λ s h. refl)
+                (omega (arith, (clock_later R F p at d ready).0)) ready.state.shards;
             packets = ready.state.packets;
           }

@@ -2,7 +2,7 @@
 use Rattle.std.proofs.Common.{◌≡◌, ◌≢◌, ℕ, zero, suc, ◌+◌, ◌*◌, ◌<◌, ◌≤◌, Bool, true, false, cond, ◌&&◌, inl, inr, List}
 use Rattle.std.proofs.Common.{[], ◌∷◌, ◌++◌, Option, Some, None, length, slice_get, length-set, eqb, refl, sym, ap}
 use Rattle.std.proofs.Common.{subst, ◌∙◌, arith}
-use Rattle.std.specs.Prelude.{slice_index_or, reverse}
+use Rattle.std.specs.Prelude.{slice_index_or, slice_set}
 use Rattle.std.proofs.lemmas.Bool.{cases_lt, and_parts, both_ways, eq-eqb, eqb-true}
 use Rattle.std.proofs.lemmas.List.{get_or-set_same, get_or-set_other}
 use Rattle.std.proofs.Math.Nat.{mul-le-mul_right}
@@ -25,13 +25,12 @@ use Rattle.bm_replay.specs.declared.queue.Queue.{Queue}
 use Rattle.bm_replay.specs.Muxes.{HasTable, switches_of, version_in}
 use Rattle.bm_replay.specs.Playing.{KeepsMuxes, KeepsQueues}
 use Rattle.bm_replay.specs.Queues.{IsHead}
-use Rattle.bm_replay.specs.Shards.{IsBookOf, KeepsBooks, book_after, book_at, books_after, known_in, no_book, place_of}
-use Rattle.bm_shard.specs.Books.{Book, clock_after}
-use Rattle.bm_shard.specs.Replies.{turn_of as turn_by}
+use Rattle.bm_replay.specs.Shards.{IsCalled, IsShardOf, KeepsShards, no_state, place_of, state_at}
+use Rattle.bm_shard.specs.States.{IsLeft, State, turn_at}
 use Rattle.bm_shard.specs.Turns.{call_moment}
 use Rattle.bm_shard.specs.declared.calls.ShardCall.{ShardCall}
 use Rattle.bm_core.specs.Runs.{last_clock}
-use Rattle.bm_replay.proofs.ShardBooks.{after_call, place_inside}
+use Rattle.bm_replay.proofs.ShardStates.{after_call, place_inside}
 use Rattle.bm_replay.proofs.NextEvents.{head_first}
 
 -- COUNTS
@@ -125,24 +124,23 @@ switches_are stage past muxes tables (suc m) below =
     ++ switch_due stage.script.setting.muxes (slice_index_or stage.script.setting.lags m 0) m (same i)
     (next_change stage.script.plan (same i))
 
--- BOOKS
+-- SHARDS
 
-book_stays : (stage : Stage) (past : List Event) (e : Event) (s : ServerId) (h : ℕ) (book : Book)
-    → turn_of stage e.what s h ≡ None → last_clock past ≤ e.clock.0 → IsBookOf stage past s h book
-    → IsBookOf stage (e ∷ past) s h book
-book_stays stage past e s h book none later is = record {
+shard_stays : (stage : Stage) (past : List Event) (e : Event) (s : ServerId) (h : ℕ) (state : State)
+    → turn_of stage e.what s h ≡ None → last_clock past ≤ e.clock.0 → IsShardOf stage past s h state
+    → IsShardOf stage (e ∷ past) s h state
+shard_stays stage past e s h state none later is = record {
   shard = is.shard;
-  calls = is.calls ∙ ap (λ (o : Option Turn). add_turn o (book_of stage past s h)) (sym none);
+  turns = subst (λ (o : Option Turn). IsLeft (add_turn o (book_of stage past s h)) state) (sym none) is.turns;
   clock = let c = is.clock in omega arith;
-  few = let f = is.few in omega arith;
 }
 
-pub books_stay : (stage : Stage) (past : List Event) (e : Event) (books : List Book)
+pub shards_stay : (stage : Stage) (past : List Event) (e : Event) (states : List State)
     → ((s : ServerId) (h : ℕ) → turn_of stage e.what s h ≡ None) → last_clock past ≤ e.clock.0
-    → KeepsBooks stage past books → KeepsBooks stage (e ∷ past) books
-books_stay stage past e books none later keeps = record {
+    → KeepsShards stage past states → KeepsShards stage (e ∷ past) states
+shards_stay stage past e states none later keeps = record {
   lie = keeps.lie;
-  each = λ s h few in_it. book_stays stage past e s h (book_at books (place_of stage s h)) (none s h) later
+  each = λ s h few in_it. shard_stays stage past e s h (state_at states (place_of stage s h)) (none s h) later
       (keeps.each s h few in_it);
 }
 
@@ -157,50 +155,50 @@ place_unique a b shards x y lx ly same = elim (cases_lt a b) [
 ]
 
 -- a shard was asked, with the turn that the event is
-pub books_more : (stage : Stage) (past : List Event) (e : Event) (books : List Book) (call : ShardCall) (t : Turn)
+pub shards_more : (stage : Stage) (past : List Event) (e : Event) (old new : List State) (call : ShardCall) (t : Turn)
     (server : ServerId) (shard : ℕ) → server.0 ≤ 1024 → shard < stage.script.setting.shards
     → ((s : ServerId) (h : ℕ) → turn_of stage e.what s h ≡ cond (same_server server s && eqb shard h) (Some t) None)
-    → turn_by (book_at books (place_of stage server shard)).shard
-    (known_in (book_at books (place_of stage server shard)))
-    (clock_after (reverse (book_at books (place_of stage server shard)).entries) call) call ≡ t
-    → last_clock past < e.clock.0 → (call_moment call).0 < e.clock.0 → KeepsBooks stage past books
-    → KeepsBooks stage (e ∷ past) (books_after books (place_of stage server shard) call)
-books_more stage past e books call t server shard number in_range turn by later early keeps = record {
-  lie = rw (length-set books (place_of stage server shard)
-      (book_after (book_at books (place_of stage server shard)) call)) keeps.lie;
-  each = λ s h few in_it. at s h few in_it (same_server server s && eqb shard h) refl;
-} where
-  at : (s : ServerId) (h : ℕ) → s.0 ≤ 1024 → h < stage.script.setting.shards → (b : Bool)
-      → (same_server server s && eqb shard h) ≡ b
-      → IsBookOf stage (e ∷ past) s h
-      (book_at (books_after books (place_of stage server shard) call) (place_of stage s h))
-  at s h few in_it true is =
-      let parts = and_parts (same_server server s) (eqb shard h) is
-      in let a : server ≡ s = same_server-true server s parts.0
-      in let b : shard ≡ h = eqb-true shard h parts.1
-      in let inside : place_of stage server shard < length books =
-      place_inside server.0 stage.script.setting.shards shard (length books) number in_range keeps.lie
-      in let p : same_server server server ≡ true = eq-eqb _ _ refl
-      in let q : eqb shard shard ≡ true = eq-eqb _ _ refl
-      in let own : turn_of stage e.what server shard ≡ Some t = turn server shard ∙ rw (p, q) refl
-      in let there : IsBookOf stage (e ∷ past) server shard
-      (book_at (books_after books (place_of stage server shard) call) (place_of stage server shard)) =
-      subst (λ (x : Book). IsBookOf stage (e ∷ past) server shard x)
-      (sym (get_or-set_same books (place_of stage server shard) _ no_book inside))
-      (after_call stage past e server shard (book_at books (place_of stage server shard)) call t own by later early
-      (keeps.each server shard number in_range))
-      in subst (λ (n : ℕ). IsBookOf stage (e ∷ past) s n
-      (book_at (books_after books (place_of stage server shard) call) (place_of stage s n))) b
-      (subst (λ (r : ServerId). IsBookOf stage (e ∷ past) r shard
-      (book_at (books_after books (place_of stage server shard) call) (place_of stage r shard))) a there)
-  at s h few in_it false is =
-      let other : place_of stage s h ≢ place_of stage server shard = λ same.
-      (let both = place_unique s.0 server.0 stage.script.setting.shards h shard in_it in_range same
-      in let a : same_server server s ≡ true = eq-eqb _ _ (sym both.0)
-      in let b : eqb shard h ≡ true = eq-eqb _ _ (sym both.1)
-      in let bad : same_server server s && eqb shard h ≡ true = rw (a, b) refl
-      in both_ways _ is bad)
-      in let none : turn_of stage e.what s h ≡ None = turn s h ∙ rw is refl
-      in subst (λ (x : Book). IsBookOf stage (e ∷ past) s h x)
-      (sym (get_or-set_other books (place_of stage server shard) (place_of stage s h) _ no_book other))
-      (book_stays stage past e s h (book_at books (place_of stage s h)) none (omega arith) (keeps.each s h few in_it))
+    → turn_at (state_at old (place_of stage server shard)) call ≡ t
+    → last_clock past < e.clock.0 → (call_moment call).0 < e.clock.0 → KeepsShards stage past old
+    → IsCalled (place_of stage server shard) call old new
+    → KeepsShards stage (e ∷ past) new
+shards_more stage past e old new call t server shard number in_range turn by later early keeps called =
+    subst (λ (states : List State). KeepsShards stage (e ∷ past) states) (sym called.is) (record {
+      lie = rw (length-set old (place_of stage server shard) called.after) keeps.lie;
+      each = λ s h few in_it. at s h few in_it (same_server server s && eqb shard h) refl;
+    }) where
+      at : (s : ServerId) (h : ℕ) → s.0 ≤ 1024 → h < stage.script.setting.shards → (b : Bool)
+          → (same_server server s && eqb shard h) ≡ b
+          → IsShardOf stage (e ∷ past) s h
+          (state_at (slice_set old (place_of stage server shard) called.after) (place_of stage s h))
+      at s h few in_it true is =
+          let parts = and_parts (same_server server s) (eqb shard h) is
+          in let a : server ≡ s = same_server-true server s parts.0
+          in let b : shard ≡ h = eqb-true shard h parts.1
+          in let inside : place_of stage server shard < length old =
+          place_inside server.0 stage.script.setting.shards shard (length old) number in_range keeps.lie
+          in let p : same_server server server ≡ true = eq-eqb _ _ refl
+          in let q : eqb shard shard ≡ true = eq-eqb _ _ refl
+          in let own : turn_of stage e.what server shard ≡ Some t = turn server shard ∙ rw (p, q) refl
+          in let there : IsShardOf stage (e ∷ past) server shard
+          (state_at (slice_set old (place_of stage server shard) called.after) (place_of stage server shard)) =
+          subst (λ (x : State). IsShardOf stage (e ∷ past) server shard x)
+          (sym (get_or-set_same old (place_of stage server shard) _ no_state inside))
+          (after_call stage past e server shard (state_at old (place_of stage server shard)) called.after call t own by
+          later early (keeps.each server shard number in_range) called.made)
+          in subst (λ (n : ℕ). IsShardOf stage (e ∷ past) s n
+          (state_at (slice_set old (place_of stage server shard) called.after) (place_of stage s n))) b
+          (subst (λ (r : ServerId). IsShardOf stage (e ∷ past) r shard
+          (state_at (slice_set old (place_of stage server shard) called.after) (place_of stage r shard))) a there)
+      at s h few in_it false is =
+          let other : place_of stage s h ≢ place_of stage server shard = λ same.
+          (let both = place_unique s.0 server.0 stage.script.setting.shards h shard in_it in_range same
+          in let a : same_server server s ≡ true = eq-eqb _ _ (sym both.0)
+          in let b : eqb shard h ≡ true = eq-eqb _ _ (sym both.1)
+          in let bad : same_server server s && eqb shard h ≡ true = rw (a, b) refl
+          in both_ways _ is bad)
+          in let none : turn_of stage e.what s h ≡ None = turn s h ∙ rw is refl
+          in subst (λ (x : State). IsShardOf stage (e ∷ past) s h x)
+          (sym (get_or-set_other old (place_of stage server shard) (place_of stage s h) _ no_state other))
+          (shard_stays stage past e s h (state_at old (place_of stage s h)) none (omega arith)
+          (keeps.each s h few in_it))

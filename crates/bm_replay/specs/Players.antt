@@ -46,8 +46,9 @@ use Rattle.bm_replay.specs.Muxes.{HasTable, IsMoved, IsWritten, switches_of}
 use Rattle.bm_replay.specs.Flights.{copies_put}
 use Rattle.bm_replay.specs.Queues.{IsHead, closes_from, packets_after, retires_after, retires_from}
 use Rattle.bm_replay.specs.Queues.{syncs_from}
-use Rattle.bm_replay.specs.Shards.{all_books, arrival, before, book_at, books_after, holds}
-use Rattle.bm_replay.specs.Shards.{place_of, verdict_in, what_at, IsAbout, IsReady}
+use Rattle.bm_shard.specs.States.{State}
+use Rattle.bm_replay.specs.Shards.{all_shards, arrival, before, holds, place_of, state_at}
+use Rattle.bm_replay.specs.Shards.{verdict_in, what_at, IsAbout, IsCalled, IsReady}
 use Rattle.bm_replay.specs.Comings.{first_coming, sooner_of}
 
 -- the soonest switch of these muxes
@@ -77,7 +78,7 @@ pub record IsNew (stage : Stage) (p : Player) : Type 0 where
       (syncs_from stage.script.commands p.sync.next) p.sync.head
   pub packet : IsHead (packets_after stage.capture.records 0)
       (packets_after stage.capture.records p.packet.next) p.packet.head
-  pub shards : p.shards ≡ all_books stage.script.setting 1025
+  pub shards : p.shards ≡ all_shards stage.script.setting 1025
   pub packets : ArePackets stage.capture.records p.packets.now
 
 -- WHAT COMES NEXT
@@ -127,15 +128,12 @@ pub record HasClosed (clock : Moment) (s : ServerId) (f : Flow) (p q : Player) :
   pub queue : Queue
   pub next : IsHead (closes_from p.stage.script.commands p.close.next)
       (closes_from p.stage.script.commands queue.next) queue.head
-  pub is : q
-      ≡ happened clock
-      (Close s f (holds (book_at p.shards (place_of p.stage s (shard p.stage f))) f))
-      (record p {
-        close = queue;
-        shards =
-            books_after p.shards (place_of p.stage s (shard p.stage f))
-            (AsksClose f (before clock));
-      })
+  pub states : List State
+  pub called : IsCalled (place_of p.stage s (shard p.stage f)) (AsksClose f (before clock)) p.shards
+      states
+  pub is : q ≡ happened clock
+      (Close s f (holds (state_at p.shards (place_of p.stage s (shard p.stage f))) f))
+      (record p { close = queue; shards = states })
 
 -- the server's shard was asked to retire
 pub record HasRetired (clock : Moment) (s : ServerId) (h : ℕ) (at : Moment) (p q : Player) : Type
@@ -146,12 +144,10 @@ pub record HasRetired (clock : Moment) (s : ServerId) (h : ℕ) (at : Moment) (p
   pub result : Retirement
   pub answer : IsRetirement p.stage.script.plan p.stage.script.setting.timeout p.published s at.0
       result
+  pub states : List State
+  pub called : IsCalled (place_of p.stage s h) (AsksRetire at result) p.shards states
   pub is : q ≡ happened clock (Retire s h at result)
-      (record p {
-        retire = queue;
-        shards =
-            books_after p.shards (place_of p.stage s h) (AsksRetire at result);
-      })
+      (record p { retire = queue; shards = states })
 
 -- a phase ended
 pub record HasSynced (clock : Moment) (p q : Player) : Type 0 where
@@ -211,28 +207,26 @@ place_for p flight s = place_of p.stage flight.tag.dest (shard p.stage s.flow)
 
 -- what happens at a call to the server's shard
 abbrev pub what_for : Player → ServerId → ℕ → ShardCall → What
-what_for p s h call = what_at s h (book_at p.shards (place_of p.stage s h)) call
+what_for p s h call = what_at s h (state_at p.shards (place_of p.stage s h)) call
 
 -- the call was made to the server's shard, and what happened there is written at this clock
-abbrev pub after_call : Moment → ServerId → ℕ → ShardCall → Player → Player
-after_call clock s h call p =
-    happened clock (what_for p s h call)
-    (record p { shards = books_after p.shards (place_of p.stage s h) call })
+pub record HasCalled (clock : Moment) (s : ServerId) (h : ℕ) (call : ShardCall) (p q : Player) :
+    Type 0 where
+  pub states : List State
+  pub called : IsCalled (place_of p.stage s h) call p.shards states
+  pub is : q ≡ happened clock (what_for p s h call) (record p { shards = states })
 
 -- the verdict of the shard at the flight's destination
 abbrev pub verdict_for : Player → Moment → Flight → Segment → Verdict
-verdict_for p clock flight s = verdict_in (book_at p.shards (place_for p flight s)) flight s clock
+verdict_for p clock flight s =
+    verdict_in (state_at p.shards (place_for p flight s)) flight s clock
 
--- the copy arrived, and its verdict took effect
-abbrev pub after_arrival : Moment → Flight → Segment → Player → Player
-after_arrival clock flight s p =
+-- the copy arrived, and its verdict left these shards
+abbrev pub after_arrival : Moment → Flight → Segment → List State → Player → Player
+after_arrival clock flight s states p =
     happened clock
     (Arrive flight.packet flight.tag.hop flight.tag.dest (verdict_for p clock flight s))
-    (record p {
-      wire = others p.wire;
-      shards =
-          books_after p.shards (place_for p flight s) (arrival flight s clock);
-    })
+    (record p { wire = others p.wire; shards = states })
 
 -- a copy of a flight that goes on to the server
 abbrev pub chained : ServerId → Flight → Flight
@@ -259,18 +253,20 @@ pub record HasArrived (F : Rules) (clock : Moment) (p q : Player) : Type 0 where
   pub is_flight : first_flight p.wire ≡ Some flight
   pub segment : Segment
   pub is_segment : segment_of p.stage flight.packet ≡ Some segment
+  pub states : List State
+  pub called : IsCalled (place_for p flight segment) (arrival flight segment clock) p.shards states
   pub is : HasGone F clock flight (passes_to (verdict_for p clock flight segment))
-      (after_arrival clock flight segment p) q
+      (after_arrival clock flight segment states p) q
 
 -- WHAT THE STEPS NEED
 
--- the shards of each server lie among the shards, and were asked few things
+-- the shards of each server lie among the shards, and their clocks are low
 pub record HasPlaces (p : Player) : Type 0 where
   pub shards : IsWithin 1 64 p.stage.script.setting.shards
   pub about : (s : ServerId) (h : ℕ) → s.0 ≤ 1024 → h < p.stage.script.setting.shards
-      → IsAbout s h (book_at p.shards (place_of p.stage s h))
-  pub ready : (s : ServerId) (h : ℕ) (at : Moment) → s.0 ≤ 1024 → h < p.stage.script.setting.shards
-      → at.0 ≤ 9 * 10 ^ 18 → IsReady (place_of p.stage s h) at p.shards
+      → IsAbout s h (state_at p.shards (place_of p.stage s h))
+  pub ready : (s : ServerId) (h : ℕ) → s.0 ≤ 1024 → h < p.stage.script.setting.shards
+      → IsReady (place_of p.stage s h) p.shards
 
 -- what the soonest switch is found by
 pub record HasLags (stage : Stage) : Type 0 where

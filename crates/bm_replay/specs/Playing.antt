@@ -29,7 +29,7 @@ use Rattle.bm_replay.specs.Muxes.{HasTable}
 use Rattle.bm_replay.specs.Flights.{AreFlying}
 use Rattle.bm_replay.specs.Players.{coming_for}
 use Rattle.bm_replay.specs.Queues.{IsHead, closes_from, packets_after, retires_after, syncs_from}
-use Rattle.bm_replay.specs.Shards.{KeepsBooks}
+use Rattle.bm_replay.specs.Shards.{KeepsShards}
 
 -- these events, with these fates, are a replay of a sound stage so far
 pub record IsPlayed (R : Routes) (F : Rules) (stage : Stage) (fates : List Fate)
@@ -76,7 +76,7 @@ pub record KeepsState (fates : List Fate) (past : List Event) (p : Player) : Typ
   pub published : p.published ≡ newest past
   pub muxes : KeepsMuxes p.stage past p.muxes p.switch
   pub queues : KeepsQueues p.stage past p.close p.retire p.sync p.packet
-  pub books : KeepsBooks p.stage past p.shards
+  pub shards : KeepsShards p.stage past p.shards
   pub packets : ArePackets p.stage.capture.records p.packets.now
 
 -- the events so far, the newest first

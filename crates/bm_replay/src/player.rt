@@ -11,9 +11,9 @@ ghost use Rattle.bm_replay.specs.declared.coming.Coming.TheVariants.{Arrive, Cal
 ghost use Rattle.bm_replay.specs.Carriers.{next_tag};
 ghost use Rattle.bm_replay.specs.Flights.{copies_put};
 ghost use Rattle.bm_replay.specs.Players as players;
-ghost use Rattle.bm_replay.specs.Players.{CanArrive, CanSteer, CanSwitch, HasArrived, HasClosed};
-ghost use Rattle.bm_replay.specs.Players.{HasGone, HasPlaces, HasRetired, HasSent, HasSteered};
-ghost use Rattle.bm_replay.specs.Players.{HasSwitched, HasSynced, IsNew, after_call, after_loss};
+ghost use Rattle.bm_replay.specs.Players.{CanArrive, CanSteer, CanSwitch, HasArrived, HasCalled};
+ghost use Rattle.bm_replay.specs.Players.{HasClosed, HasGone, HasPlaces, HasRetired, HasSent};
+ghost use Rattle.bm_replay.specs.Players.{HasSteered, HasSwitched, HasSynced, IsNew, after_loss};
 ghost use Rattle.bm_replay.specs.Players.{after_publish, chained, coming_for, forwards, happened};
 ghost use Rattle.bm_replay.specs.Players.{publish_after, what_for};
 ghost use Rattle.bm_replay.specs.Playing.{HasPlayed, HasStepped, IsComing, IsPlaying};
@@ -336,10 +336,10 @@ impl Player<'_> {
         requires shard { shard < self.old.stage.script.setting.shards }
         requires taken { IsTaken call }
         ensures what { IfOk result (λ what. what ≡ what_for self.old server shard call) }
-        ensures effect { OnOk result (self.new ≡ after_call clock server shard call self.old) }
+        ensures effect { OnOk result (HasCalled clock server shard call self.old self.new) }
     {
         let place = self.place(server, shard);
-        let what = self.shards.call(place, call)?;
+        let what = self.shards.call(place, &call)?;
         self.write(clock, what)?;
         Ok(what)
     }

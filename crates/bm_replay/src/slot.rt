@@ -1,82 +1,76 @@
-//! The book of a shard, which is made at its first call.
-ghost use Rattle.std.specs.Prelude.{◌≡◌, ◌<◌, ◌^◌, [], IfOk, OnOk, length};
+//! A shard, which is made at its first call.
+ghost use Rattle.std.specs.Prelude.{◌≡◌, ◌<◌, ◌^◌, IfOk, OnOk};
 ghost use Rattle.bm_shard.specs.Books.{IsTaken};
+ghost use Rattle.bm_shard.specs.States.{IsAfter, first_state};
 ghost use Rattle.bm_table.specs.Settings.{IsWithin};
-ghost use Rattle.bm_replay.specs.Shards.{book_after, what_in};
+ghost use Rattle.bm_replay.specs.Shards.{what_in};
 
 use bm_base::Memory;
 use bm_core::What;
-use bm_shard::{Shard, ShardBook, ShardCall};
+use bm_shard::{Shard, ShardCall, ShardState};
 use std::alloc::Global;
 use std::marker::Model;
 
-/// The book of a shard. Until its first call it takes no memory of its own.
+/// A shard. Until its first call it takes no memory of its own.
 #[derive(Debug, Drop)]
 pub(crate) struct Slot {
     shard: Shard,
-    book: Option<Box<ShardBook>>,
+    state: Option<Box<ShardState>>,
 }
 
 impl Model for Slot {
-    ghost use Rattle.bm_shard.specs.Books.{Book};
+    ghost use Rattle.bm_shard.specs.States.{State};
     ghost use Rattle.bm_table.specs.Settings.{IsWithin};
-    ghost use Rattle.bm_replay.specs.Slots.{book_in};
+    ghost use Rattle.bm_replay.specs.Slots.{state_in};
 
-    ghost Value = { Book };
+    ghost Value = { State };
 
-    ghost view = { λ slot. book_in slot.shard slot.book };
+    ghost view = { λ slot. state_in slot.shard slot.state };
 
     ghost invariant = { λ slot. IsWithin 1 65536 slot.shard.capacity };
 }
 
-/// The empty book of a shard.
-fn empty_book(alloc: Global, shard: &Shard) -> Result<Box<ShardBook>, Memory>
-    requires { IsWithin 1 65536 shard.now.capacity }
-    ensures { IfOk result (λ book. book.value ≡ record { shard = shard.now; entries = [] }) }
+/// A shard that holds nothing.
+fn first_state(alloc: Global, shard: Shard) -> Result<Box<ShardState>, Memory>
+    requires { IsWithin 1 65536 shard.capacity }
+    ensures { IfOk result (λ state. state.value ≡ first_state shard) }
 {
-    let book = ShardBook::new(
-        alloc,
-        shard.server,
-        shard.number,
-        shard.capacity,
-        shard.timeout,
-    )?;
-    Ok(Box::new(alloc, book)?)
+    let state = ShardState::new(alloc, shard)?;
+    Ok(Box::new(alloc, state)?)
 }
 
-/// Makes a call under seat 0: what happens, by the event that the book keeps.
-fn make_call(book: &mut ShardBook, call: ShardCall) -> Result<What, Memory>
-    requires few { length book.old.entries < 2 ^ 48 }
-    requires taken { IsTaken call }
-    ensures what { IfOk result (λ what. what ≡ what_in book.old call) }
-    ensures book { OnOk result (book.new ≡ book_after book.old call) }
+/// Makes a call: what happens.
+fn make_call(state: &mut ShardState, call: &ShardCall) -> Result<What, Memory>
+    requires clock { state.old.clock.0 < 2 ^ 63 }
+    requires taken { IsTaken call.now }
+    ensures what { IfOk result (λ what. what ≡ what_in state.old call.now) }
+    ensures effect { OnOk result (IsAfter call.now state.old state.new) }
 {
-    book.apply(0, call)?;
-    let entries = book.history();
-    Ok(entries[entries.len() - 1].event.what)
+    let (event, _) = state.apply(call)?;
+    Ok(event.what)
 }
 
 impl Slot {
-    /// An empty book. Takes no memory.
+    /// A shard that was asked nothing. Takes no memory.
     pub(crate) fn new(shard: Shard) -> Slot
         requires { IsWithin 1 65536 shard.capacity }
-        ensures { result ≡ record { shard = shard; entries = [] } }
+        ensures { result ≡ first_state shard }
     {
-        Slot { shard, book: None }
+        Slot { shard, state: None }
     }
 
-    /// Makes a call to the shard: what happens there, by the event that its book keeps.
-    pub(crate) fn call(&mut self, alloc: Global, call: ShardCall) -> Result<What, Memory>
-        requires few { length self.old.entries < 2 ^ 48 }
-        requires taken { IsTaken call }
-        ensures what { IfOk result (λ what. what ≡ what_in self.old call) }
-        ensures book { OnOk result (self.new ≡ book_after self.old call) }
+    /// Makes a call to the shard: what happens there.
+    pub(crate) fn call(&mut self, alloc: Global, call: &ShardCall) -> Result<What, Memory>
+        requires clock { self.old.clock.0 < 2 ^ 63 }
+        requires taken { IsTaken call.now }
+        ensures what { IfOk result (λ what. what ≡ what_in self.old call.now) }
+        ensures effect { OnOk result (IsAfter call.now self.old self.new) }
     {
-        if self.book.is_none() {
-            self.book = Some(empty_book(alloc, &self.shard)?);
+        if self.state.is_none() {
+            self.state = Some(first_state(alloc, self.shard)?);
         }
-        match &mut self.book {
-            Some(book) => make_call(book, call),
+        match &mut self.state {
+            Some(state) => make_call(state, call),
             None => unreachable!(),
         }
     }

@@ -72,9 +72,8 @@ returns g c =
     let next = c.next_server.ensures ∙ (ap forwards c.in_ok-what.ensures.what
     ∙ next_is c.args.clock c.args.self.now flight c.in-Some-read.segment _ _ c.pop.new.self c.shard_of-shard.ensures
     c.before-2.ensures) in
-    let wrote = c.in_ok-what.ensures.effect
-    ∙ call_is c.args.clock c.args.self.now flight c.in-Some-read.segment _ _ _ c.pop.ensures.others
-    c.shard_of-shard.ensures c.before-2.ensures in
+    let come = call_is c.args.clock c.args.self.now c.serve.new.self flight c.in-Some-read.segment _ _ _
+    c.pop.ensures.others c.shard_of-shard.ensures c.before-2.ensures c.in_ok-what.ensures.effect in
     comes (Gives g.F.Fn c.args.faults.now.rule) c.args.clock c.args.self.now c.serve.new.self c.go_on.new.self
     c.requires.can c.in-Some.flight c.in-Some-read.segment c.in-Some-read.tag c.next_server.result first read next
-    wrote c.in_ok-go_on.ensures
+    come c.in_ok-go_on.ensures
