@@ -6,13 +6,17 @@ ghost use Rattle.bm_trace.specs.Report as report;
 
 use crate::records::{End, Ending, ending_of};
 use bm_core::Event;
+use smallvec::SmallVec;
 use std::alloc::{AllocError, Global};
 use std::marker::Model;
+
+/// How many ends of a packet need no allocation. Four take no more room than one would.
+const INLINE: usize = 4;
 
 /// The ends of one packet's copies, which contracts see as a list.
 #[derive(Drop)]
 pub(crate) struct Ends {
-    ends: Vec<End>,
+    ends: SmallVec<End, INLINE>,
 }
 
 impl Model for Ends {
@@ -29,7 +33,7 @@ impl Ends {
         ensures { result ≡ [] }
     {
         Ends {
-            ends: Vec::new(alloc),
+            ends: SmallVec::new(alloc),
         }
     }
 

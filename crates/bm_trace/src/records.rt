@@ -15,8 +15,9 @@ use bm_core::{Event, Verdict, What};
 use std::alloc::AllocError;
 
 /// How a copy of a packet ended.
-#[derive(Clone, Copy)]
+#[derive(Clone, Copy, Default)]
 pub(crate) enum End {
+    #[default]
     Lost,
     Accepted(ServerId),
     Processed(ServerId),
