@@ -1,8 +1,8 @@
 //! The ten numbers of a history's last line.
 #![tactic(auto, using(crate::proofs::Newest::reverse_last))]
 
-ghost use Rattle.std.specs.Prelude.{◌≡◌, List, length, reverse, count_by, not};
-ghost use Rattle.bm_trace.specs.Kinds.{is_of_kind};
+ghost use Rattle.std.specs.Prelude.{◌≡◌, ◌+◌, ◌<◌, List, length, reverse, count_by};
+ghost use Rattle.bm_trace.specs.Counts.{HasRoom, counts_of, with_event};
 ghost use Rattle.bm_trace.specs.Totals as totals;
 
 use crate::causes::Arrival;
@@ -49,51 +49,46 @@ fn strays(stage: &Stage, events: &[Event]) -> u64
     count
 }
 
-/// A verdict, without what it holds.
-#[derive(Clone, Copy)]
-enum Kind {
-    Accept,
-    Process,
-    Forward,
-    Reset,
-    Drop,
+/// How many events are arrivals with a verdict of each kind, or lose a copy.
+#[derive(Clone, Copy, Default)]
+struct Counts {
+    accepted: u64,
+    processed: u64,
+    forwarded: u64,
+    reset: u64,
+    dropped: u64,
+    lost: u64,
 }
 
-fn is_of_kind(verdict: &Verdict, kind: Kind) -> bool
-    ensures { result ≡ is_of_kind kind verdict.now }
-{
-    match kind {
-        Kind::Accept => matches!(verdict, Verdict::Accept),
-        Kind::Process => matches!(verdict, Verdict::Process(_)),
-        Kind::Forward => matches!(verdict, Verdict::Forward(_)),
-        Kind::Reset => matches!(verdict, Verdict::Reset(_)),
-        Kind::Drop => matches!(verdict, Verdict::Drop(_)),
+impl Counts {
+    /// Counts one event more.
+    fn add(&mut self, what: &What)
+        requires { HasRoom self.old }
+        ensures { self.new ≡ with_event what.now self.old }
+    {
+        match what {
+            What::Arrive { verdict, .. } => match verdict {
+                Verdict::Accept => self.accepted += 1,
+                Verdict::Process(_) => self.processed += 1,
+                Verdict::Forward(_) => self.forwarded += 1,
+                Verdict::Reset(_) => self.reset += 1,
+                Verdict::Drop(_) => self.dropped += 1,
+            },
+            What::Lose { .. } => self.lost += 1,
+            _ => {}
+        }
     }
 }
 
-fn arrives(what: &What, kind: Kind) -> bool
-    ensures { result ≡ totals.arrives (is_of_kind kind) what.now }
+#[tactic(auto, using(crate::proofs::Counting::counts_more, crate::proofs::Counting::room))]
+fn counts_of(events: &[Event]) -> Counts
+    ensures { result ≡ counts_of events.now }
 {
-    match what {
-        What::Arrive { verdict, .. } => is_of_kind(verdict, kind),
-        _ => false,
+    let mut counts = Counts::default();
+    for event in events {
+        counts.add(&event.what);
     }
-}
-
-/// How many arrivals have a verdict of this kind.
-fn arrivals(events: &[Event], kind: Kind) -> u64
-    ensures { result ≡ count_by (λ e. totals.arrives (is_of_kind kind) e.what) events.now }
-{
-    events.iter().filter(|e| arrives(&e.what, kind)).count() as u64
-}
-
-fn lost(events: &[Event]) -> u64
-    ensures { result ≡ count_by (λ e. totals.is_lost e.what) events.now }
-{
-    events
-        .iter()
-        .filter(|e| matches!(e.what, What::Lose { .. }))
-        .count() as u64
+    counts
 }
 
 fn steered(records: &[Record]) -> u64
@@ -102,29 +97,27 @@ fn steered(records: &[Record]) -> u64
     records.iter().filter(|r| is_steered(r)).count() as u64
 }
 
-fn unsteered(records: &[Record]) -> u64
-    ensures { result ≡ count_by (λ r. not (totals.is_steered r)) records.now }
-{
-    records.iter().filter(|r| !is_steered(r)).count() as u64
-}
-
 /// The ten numbers of a history with so many strays.
+#[tactic(auto, using(crate::proofs::Counting::steered_or_not))]
 pub(crate) fn totals_with(h: &History, stray: u64) -> Totals
     requires { stray ≡ totals.strays h.now.stage (reverse h.now.events) }
     ensures { result ≡ totals.totals_of h.now }
 {
     let records = h.stage.capture.records.items();
     let events = h.events.items();
+    let packets = records.len() as u64;
+    let steered = steered(records);
+    let counts = counts_of(events);
     Totals {
-        packets: records.len() as u64,
-        steered: steered(records),
-        unsteered: unsteered(records),
-        accepted: arrivals(events, Kind::Accept),
-        processed: arrivals(events, Kind::Process),
-        forwarded: arrivals(events, Kind::Forward),
-        reset: arrivals(events, Kind::Reset),
-        dropped: arrivals(events, Kind::Drop),
-        lost: lost(events),
+        packets,
+        steered,
+        unsteered: packets - steered,
+        accepted: counts.accepted,
+        processed: counts.processed,
+        forwarded: counts.forwarded,
+        reset: counts.reset,
+        dropped: counts.dropped,
+        lost: counts.lost,
         stray,
     }
 }

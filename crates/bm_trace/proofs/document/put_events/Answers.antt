@@ -1,7 +1,7 @@
 use Rattle.std.proofs.Common.{◌∙◌}
 use Rattle.bm_trace.proofs.Handing.{none_sent}
 use Rattle.bm_trace.proofs.Parted.{events_left, events_more, events_refused, on_err}
-use Rattle.bm_trace.proofs.Sweeping.{cause_here, versions_next}
+use Rattle.bm_trace.proofs.Sweeping.{versions_next}
 use Rattle.bm_trace.proofs.document.put_events.Goals as goal
 
 pub returns-in_err-versions-clause-err : goal.returns-in_err-versions-clause-err

@@ -1,5 +1,5 @@
 use Rattle.std.proofs.Common.{rules}
-use Rattle.bm_trace.proofs.Handing.{buffer_on, buffer_part, stays}
+use Rattle.bm_trace.proofs.Handing.{buffer_on, buffer_part}
 use Rattle.bm_trace.proofs.Parted.{on_err}
 use Rattle.bm_trace.proofs.document.put_full.Goals as goal
 
