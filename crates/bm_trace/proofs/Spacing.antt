@@ -6,7 +6,7 @@ use Rattle.std.proofs.lemmas.List.{append-nil}
 use Rattle.std.proofs.lemmas.Grind.{common_steps}
 use Rattle.bm_trace.specs.declared.records.End.{End}
 use Rattle.bm_trace.specs.Ends.{words_of_end, words_of_ends}
-use Rattle.bm_trace.specs.Words.{spaced}
+use Rattle.bm_trace.specs.Words.{line, spaced}
 
 pub spaced_append : (a b : List (List ℕ)) → spaced (a ++ b) ≡ spaced a ++ spaced b
 spaced_append [] b = refl
@@ -62,3 +62,34 @@ wrote_more base written new ends i e below is before step =
     ∙ append_assoc base (spaced (words_of_ends (take i ends))) (spaced (words_of_end e))
     ∙ ap (λ x. base ++ (spaced (words_of_ends (take i ends)) ++ spaced (words_of_end x))) (sym is)
     ∙ ap (λ x. base ++ x) (sym (spaced_more ends i e below))
+
+-- LINES
+
+-- now there is the old text and a line that begins with these words
+pub record IsBegun (old first : List ℕ) (words : List (List ℕ)) (now : List ℕ) : Type 0 where
+  pub whole : now ≡ old ++ (first ++ spaced words)
+
+pub begun : (old first now : List ℕ) → now ≡ old ++ first → IsBegun old first [] now
+begun old first now step = record { whole = step ∙ ap (λ x. old ++ x) (sym (append-nil first)) }
+
+pub words_more : (old first now new : List ℕ) (words more : List (List ℕ)) → IsBegun old first words now
+    → new ≡ now ++ spaced more → IsBegun old first (words ++ more) new
+words_more old first now new words more b step = record {
+  whole = step
+      ∙ ap (λ x. x ++ spaced more) b.whole
+      ∙ append_assoc old (first ++ spaced words) (spaced more)
+      ∙ ap (λ x. old ++ x) (append_assoc first (spaced words) (spaced more))
+      ∙ ap (λ x. old ++ (first ++ x)) (sym (spaced_append words more));
+}
+
+-- what was found is this word
+pub word_more : (old first now new : List ℕ) (words : List (List ℕ)) (found word : List ℕ)
+    → IsBegun old first words now → found ≡ word → new ≡ now ++ spaced (found ∷ [])
+    → IsBegun old first (words ++ word ∷ []) new
+word_more old first now new words found word b is step =
+    words_more old first now new words (word ∷ []) b (step ∙ ap (λ x. now ++ spaced (x ∷ [])) is)
+
+pub line_ends : (old first now new : List ℕ) (words : List (List ℕ)) → IsBegun old first words now
+    → new ≡ now ++ 10 ∷ [] → new ≡ old ++ line first words
+line_ends old first now new words b step =
+    step ∙ ap (λ x. x ++ 10 ∷ []) b.whole ∙ append_assoc old (first ++ spaced words) (10 ∷ [])

@@ -8,9 +8,10 @@ ghost use Rattle.bm_trace.specs.Words as words;
 ghost use Rattle.bm_trace.specs.Report as report;
 ghost use Rattle.bm_trace.specs.Running.{AreVersions};
 
+use crate::append::{push_because, push_digits, push_number, push_verdict, push_word};
 use crate::sums::Totals;
 use crate::versions::version_in;
-use crate::words::{BecauseWords, Counted, Endpoint, RetirementWords, VerdictWords, hop_word};
+use crate::words::{Counted, Endpoint, RetirementWords, hop_word};
 use bm_base::{Flow, Hop, MuxId, ServerId, Version};
 use bm_core::{Cause, Event, Stage, Verdict, What};
 use bm_hash::bucket_of;
@@ -30,14 +31,15 @@ fn write_arrival(
         (string_bytes line.new ≡ string_bytes line.old ++ words.line (decimal clock)
         ((codes "arrive" ∷ decimal packet ∷ words.hop_word hop ∷ decimal server.0 ∷ []) ++ words.verdict_words verdict ++ words.because_words cause)) }
 {
-    let hop = hop_word(hop);
-    let server = server.0;
-    let verdict = VerdictWords(verdict);
-    let because = BecauseWords(cause);
-    writeln!(
-        line,
-        "{clock} arrive {packet} {hop} {server}{verdict}{because}"
-    )
+    push_digits(line, clock)?;
+    push_word(line, "arrive")?;
+    push_number(line, u64::from(packet))?;
+    push_word(line, hop_word(hop))?;
+    push_number(line, u64::from(server.0))?;
+    push_verdict(line, verdict)?;
+    push_because(line, cause)?;
+    line.push_str("\n")?;
+    Ok(())
 }
 
 fn write_close(
@@ -111,7 +113,14 @@ fn write_steer(
 {
     let version = version_in(versions, events, mux).0;
     let bucket = bucket_of_packet(stage, packet);
-    writeln!(line, "{clock} steer {packet} {} {version} {bucket}", mux.0)
+    push_digits(line, clock)?;
+    push_word(line, "steer")?;
+    push_number(line, u64::from(packet))?;
+    push_number(line, u64::from(mux.0))?;
+    push_number(line, u64::from(version))?;
+    push_number(line, u64::from(bucket))?;
+    line.push_str("\n")?;
+    Ok(())
 }
 
 /// The line of an event that has these before it, and this cause.

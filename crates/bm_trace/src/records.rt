@@ -9,8 +9,9 @@ ghost use Rattle.bm_trace.specs.Ends.{words_of_record};
 ghost use Rattle.bm_trace.specs.Words as words;
 ghost use Rattle.bm_trace.specs.Report as report;
 
+use crate::append::{push_number, push_word};
 use crate::words::reason_word;
-use bm_base::{Body, ServerId};
+use bm_base::{Body, Reason, ServerId};
 use bm_core::{Event, Verdict, What};
 use std::alloc::AllocError;
 
@@ -69,17 +70,26 @@ pub(crate) fn ending_of(what: &What) -> Option<Ending>
     }
 }
 
+/// Appends the word of an end and the server, each behind a space.
+fn push_end(line: &mut String, word: &str, server: ServerId) -> Result<(), AllocError>
+    ensures { OnOk result (string_bytes line.new
+        ≡ string_bytes line.old ++ words.spaced (word.now ∷ decimal server.0 ∷ [])) }
+{
+    push_word(line, word)?;
+    push_number(line, u64::from(server.0))
+}
+
 /// An end, each word behind a space.
 fn write_end(line: &mut String, end: End) -> Result<(), AllocError>
     ensures { OnOk result
         (string_bytes line.new ≡ string_bytes line.old ++ words.spaced (words_of_end end)) }
 {
     match end {
-        End::Lost => write!(line, " lost"),
-        End::Accepted(server) => write!(line, " accepted {}", server.0),
-        End::Processed(server) => write!(line, " processed {}", server.0),
-        End::Reset(server) => write!(line, " reset {}", server.0),
-        End::Dropped(server) => write!(line, " dropped {}", server.0),
+        End::Lost => push_word(line, "lost"),
+        End::Accepted(server) => push_end(line, "accepted", server),
+        End::Processed(server) => push_end(line, "processed", server),
+        End::Reset(server) => push_end(line, "reset", server),
+        End::Dropped(server) => push_end(line, "dropped", server),
     }
 }
 
@@ -95,6 +105,15 @@ fn write_ends(line: &mut String, ends: &[End]) -> Result<(), AllocError>
     Ok(())
 }
 
+/// Why a record isn't steered, each word behind a space.
+fn write_reason(line: &mut String, reason: Reason) -> Result<(), AllocError>
+    ensures { OnOk result (string_bytes line.new ≡ string_bytes line.old
+        ++ words.spaced (codes "unsteered" ∷ words.reason_word reason ∷ [])) }
+{
+    push_word(line, "unsteered")?;
+    push_word(line, reason_word(reason))
+}
+
 /// The line of a record.
 pub(crate) fn write_record(
     line: &mut String,
@@ -106,10 +125,12 @@ pub(crate) fn write_record(
         (string_bytes line.new ≡ string_bytes line.old
         ++ words.line (codes "packet") (decimal number ∷ words_of_record body.now ends.now)) }
 {
-    write!(line, "packet {number}")?;
+    line.push_str("packet")?;
+    push_number(line, u64::from(number))?;
     match body {
-        Body::Unsteered(reason) => write!(line, " unsteered {}", reason_word(*reason))?,
+        Body::Unsteered(reason) => write_reason(line, *reason)?,
         Body::Steerable(_) => write_ends(line, ends)?,
     }
-    writeln!(line)
+    line.push_str("\n")?;
+    Ok(())
 }

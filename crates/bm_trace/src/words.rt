@@ -16,7 +16,7 @@ pub(crate) fn hop_word(hop: Hop) -> &'static str
     }
 }
 
-fn taken_word(taken: Taken) -> &'static str
+pub(crate) fn taken_word(taken: Taken) -> &'static str
     ensures { result.now ≡ words.taken_word taken }
 {
     match taken {
@@ -29,7 +29,7 @@ fn taken_word(taken: Taken) -> &'static str
     }
 }
 
-fn why_word(why: Why) -> &'static str
+pub(crate) fn why_word(why: Why) -> &'static str
     ensures { result.now ≡ words.why_word why }
 {
     match why {
