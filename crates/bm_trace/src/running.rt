@@ -12,6 +12,7 @@ ghost use Rattle.bm_core.specs.Past.{is_accept};
 ghost use Rattle.bm_trace.specs.Accepts.{owner_before};
 
 use crate::past::{Owner, Sent, sent_of};
+use crate::steering::Packed;
 use crate::versions::{no_versions, set_version, version_in};
 use bm_base::{Flow, Hop, MuxId, Segment, ServerId, Version};
 use bm_core::{Event, Stage, Verdict, What};
@@ -73,14 +74,14 @@ impl Accepts {
     }
 }
 
-fn set_sent(packets: &mut Vec<Option<Sent>>, packet: u32, sent: Sent)
+fn set_sent(packets: &mut Vec<Packed>, packet: u32, sent: Sent)
     ensures { packets.new.items
         ≡ (if packet == 0 then packets.old.items
         else slice_set packets.old.items (packet - 1) (Some sent)) }
 {
     let packet = packet as usize;
     if 0 < packet && packet <= packets.len() {
-        packets[packet - 1] = Some(sent);
+        packets[packet - 1] = Packed::new(Some(sent));
     }
 }
 
@@ -91,7 +92,7 @@ pub(crate) struct Running {
     newest: Version,
     versions: Vec<Version>,
     accepts: Accepts,
-    packets: Vec<Option<Sent>>,
+    packets: Vec<Packed>,
 }
 
 impl Running {
@@ -106,7 +107,7 @@ impl Running {
             newest: Version(0),
             versions: no_versions(alloc, muxes)?,
             accepts: Accepts::new(alloc),
-            packets: vec![in alloc; None; packets]?,
+            packets: vec![in alloc; Packed::new(None); packets]?,
         })
     }
 
@@ -125,7 +126,7 @@ impl Running {
     {
         let place = packet as usize;
         if 0 < place && place <= self.packets.len() {
-            self.packets[place - 1]
+            self.packets[place - 1].sent()
         } else {
             sent_of(stage, events, packet)
         }
