@@ -37,20 +37,20 @@ entries_fall shard (e ∷ f ∷ past) replays =
     let lt : f.event.clock.0 < e.event.clock.0 = omega arith in
     (above e.event.clock.0 f past rest.0 lt, rest)
 
+mapped_append : (x y : List ShardEntry)
+    → map (λ (z : ShardEntry). z.event) (x ++ y)
+    ≡ map (λ (z : ShardEntry). z.event) x ++ map (λ (z : ShardEntry). z.event) y
+mapped_append [] y = refl
+mapped_append (d ∷ x) y = ap (λ (l : List Event). d.event ∷ l) (mapped_append x y)
+
 turned : (past : List ShardEntry)
     → reverse (map (λ (x : ShardEntry). x.event) past) ≡ map (λ (x : ShardEntry). x.event) (reverse past)
 turned [] = refl
 turned (e ∷ past) =
     reverse-append (e.event ∷ []) (map (λ (x : ShardEntry). x.event) past)
     ∙ ap (λ (l : List Event). l ++ e.event ∷ []) (turned past)
-    ∙ sym (mapped (reverse past) (e ∷ []))
+    ∙ sym (mapped_append (reverse past) (e ∷ []))
     ∙ ap (λ (l : List ShardEntry). map (λ (x : ShardEntry). x.event) l) (sym (reverse-append (e ∷ []) past))
-  where
-    mapped : (x y : List ShardEntry)
-        → map (λ (z : ShardEntry). z.event) (x ++ y)
-        ≡ map (λ (z : ShardEntry). z.event) x ++ map (λ (z : ShardEntry). z.event) y
-    mapped [] y = refl
-    mapped (d ∷ x) y = ap (λ (l : List Event). d.event ∷ l) (mapped x y)
 
 pub book_rises : (shard : Shard) (entries : List ShardEntry) → Replays shard (reverse entries)
     → IsRising (map (λ (x : ShardEntry). x.event) entries)
@@ -79,6 +79,16 @@ taken_mapped books i d lt =
       over [] b = refl
       over (d ∷ x) b = ap (λ (l : List (List Event)). book_log d ∷ l) (over x b)
 
+-- what happened by one entry more
+pub event_more : (entries : List ShardEntry) (i : ℕ) (d : ShardEntry) (old new : List Event)
+    → old ≡ map (λ (x : ShardEntry). x.event) (take i entries) → i < length entries
+    → new ≡ old ++ (get_or entries i d).event ∷ []
+    → new ≡ map (λ (x : ShardEntry). x.event) (take (i + 1) entries)
+event_more entries i d old new was lt is =
+    is ∙ ap (λ (l : List Event). l ++ (get_or entries i d).event ∷ []) was
+    ∙ sym (ap (λ (l : List ShardEntry). map (λ (x : ShardEntry). x.event) l) (take_more entries i d lt)
+    ∙ mapped_append (take i entries) (get_or entries i d ∷ []))
+
 -- the log of one book more
 pub book_more : (books : List Book) (i : ℕ) (first old new : List RunLog) (item : Book) (log : RunLog)
     → map log_events old ≡ map log_events first ++ map book_log (take i books) → i < length books
@@ -101,30 +111,19 @@ rising_more books i item was lt at one =
     (subst (λ (b : Book). IsRising (book_log b)) at one, tt))
 
 -- those of one server more
-taken_books : (all : List (List Book)) (i : ℕ) (item : List Book) → i < length all → item ≡ get_or all i item
-    → books_logs (take (i + 1) all) ≡ books_logs (take i all) ++ map book_log item
-taken_books all i item lt at =
-    ap books_logs (take_more all i item lt) ∙ books_append (take i all) (get_or all i item ∷ [])
-    ∙ ap (λ (l : List (List Event)). books_logs (take i all) ++ l) (append-nil (map book_log (get_or all i item)))
-    ∙ ap (λ (b : List Book). books_logs (take i all) ++ map book_log b) (sym at)
+books_then : (all : List (List Book)) (item : List Book)
+    → books_logs (all ++ item ∷ []) ≡ books_logs all ++ map book_log item
+books_then all item =
+    books_append all (item ∷ [])
+    ∙ ap (λ (l : List (List Event)). books_logs all ++ l) (append-nil (map book_log item))
 
-pub books_listed : (all : List (List Book)) (i : ℕ) (workers : List Event) (old new : List RunLog) (item : List Book)
-    → map log_events old ≡ workers ∷ books_logs (take i all) → i < length all
-    → map log_events new ≡ map log_events old ++ map book_log item → item ≡ get_or all i item
-    → map log_events new ≡ workers ∷ books_logs (take (i + 1) all)
-books_listed all i workers old new item was lt is at =
+pub books_listed : (all : List (List Book)) (workers : List Event) (old new : List RunLog) (item : List Book)
+    → map log_events old ≡ workers ∷ books_logs all → map log_events new ≡ map log_events old ++ map book_log item
+    → map log_events new ≡ workers ∷ books_logs (all ++ item ∷ [])
+books_listed all workers old new item was is =
     is ∙ ap (λ (l : List (List Event)). l ++ map book_log item) was
-    ∙ ap (λ (l : List (List Event)). workers ∷ l) (sym (taken_books all i item lt at))
+    ∙ ap (λ (l : List (List Event)). workers ∷ l) (sym (books_then all item))
 
-pub books_rising : (all : List (List Book)) (i : ℕ) (item : List Book) → AllByRecursion IsRising (books_logs (take i all))
-    → i < length all → item ≡ get_or all i item → AllByRecursion IsRising (map book_log item)
-    → AllByRecursion IsRising (books_logs (take (i + 1) all))
-books_rising all i item was lt at one =
-    let is = taken_books all i item lt at in
-    rw is (all_and (books_logs (take i all)) (map book_log item) was one)
-
-pub mapped_get : (entries : List ShardEntry) (i : ℕ) (e : ShardEntry) → slice_get entries i ≡ Some e
-    → slice_get (map (λ (x : ShardEntry). x.event) entries) i ≡ Some e.event
-mapped_get [] i e h = absurd (cc)
-mapped_get (x ∷ entries) zero e h = ap (λ (o : Option ShardEntry). option_map (λ (y : ShardEntry). y.event) o) h
-mapped_get (x ∷ entries) (suc i) e h = mapped_get entries i e h
+pub books_rising : (all : List (List Book)) (item : List Book) → AllByRecursion IsRising (books_logs all)
+    → AllByRecursion IsRising (map book_log item) → AllByRecursion IsRising (books_logs (all ++ item ∷ []))
+books_rising all item was one = rw (books_then all item) (all_and (books_logs all) (map book_log item) was one)

@@ -3,7 +3,6 @@ use Rattle.std.specs.Prelude.{List, [], ◌∷◌, ◌++◌, map}
 use Rattle.bm_core.specs.declared.events.Event.{Event}
 use Rattle.bm_shard.specs.Books.{Book}
 use Rattle.bm_world.specs.declared.run_logs.RunLog.{RunLog}
-use Rattle.bm_world.specs.declared.run_logs.RunLog.TheVariants.{Workers, Shard}
 
 -- the events of a book, the oldest first
 abbrev pub book_log : Book → List Event
@@ -16,5 +15,4 @@ books_logs (books ∷ all) = map book_log books ++ books_logs all
 
 -- the events of a log that is merged
 abbrev pub log_events : RunLog → List Event
-log_events (Workers events) = events.now
-log_events (Shard entries) = map (λ e. e.event) entries.now
+log_events log = log.events.items

@@ -9,78 +9,70 @@ use bm_base::Memory;
 use bm_core::Event;
 use bm_merge::EventLog;
 use bm_server::Books;
-use bm_shard::ShardEntry;
+use bm_shard::ShardBook;
 use std::alloc::Global;
 
-/// A log of a run: what the controller and the muxes wrote down, by clock, or the book of a shard.
-#[derive(Clone, Copy)]
-pub(crate) enum RunLog<'a> {
-    Workers(&'a [Event]),
-    Shard(&'a [ShardEntry]),
+/// A log of a run: what the controller and the muxes wrote down, by clock, or what happened at a
+/// shard. Events alone are merged in less time than the entries of books, which are larger.
+#[derive(Drop)]
+pub(crate) struct RunLog {
+    pub(crate) events: Vec<Event>,
 }
 
-/// The event at this place.
-fn event_at(events: &[Event], place: usize) -> Event
-    requires { place < length events.now }
-    ensures { slice_get events.now place ≡ Some result }
-{
-    events[place]
-}
-
-/// The entry at this place.
-fn entry_at(entries: &[ShardEntry], place: usize) -> ShardEntry
-    requires { place < length entries.now }
-    ensures { slice_get entries.now place ≡ Some result }
-{
-    entries[place]
-}
-
-impl EventLog for RunLog<'_> {
+impl EventLog for RunLog {
     ghost events = { logged.log_events };
 
     fn count(&self) -> usize {
-        match self {
-            RunLog::Workers(events) => events.len(),
-            RunLog::Shard(entries) => entries.len(),
-        }
+        self.events.len()
     }
 
     fn event(&self, place: usize) -> Event {
-        match self {
-            RunLog::Workers(events) => event_at(events, place),
-            RunLog::Shard(entries) => entry_at(entries, place).event,
-        }
+        self.events[place]
     }
 }
 
-/// Adds the book of each shard of a server.
-fn add_books<'a>(books: &'a Books, logs: &mut Vec<RunLog<'a>>) -> Result<(), Memory>
+/// What happened at the shard of a book.
+fn log_of(alloc: Global, book: &ShardBook) -> Result<RunLog, Memory>
+    ensures events { IfOk result (λ log. logged.log_events log ≡ logged.book_log book.now) }
+    ensures rising { IfOk result (λ _. IsRising (logged.book_log book.now)) }
+{
+    let entries = book.history();
+    let mut events = Vec::with_capacity(alloc, entries.len())?;
+    for entry in entries {
+        events.push(entry.event)?;
+    }
+    Ok(RunLog { events })
+}
+
+/// Adds what happened at each shard of a server.
+fn add_books(alloc: Global, books: &Books, logs: &mut Vec<RunLog>) -> Result<(), Memory>
     ensures logs { OnOk result (map logged.log_events logs.new.items
-        ≡ map logged.log_events logs.old.items ++ map logged.book_log books.entry.now) }
-    ensures rising { OnOk result (AllByRecursion IsRising (map logged.book_log books.entry.now)) }
+        ≡ map logged.log_events logs.old.items ++ map logged.book_log books.now) }
+    ensures rising { OnOk result (AllByRecursion IsRising (map logged.book_log books.now)) }
 {
     for book in books.items() {
-        logs.push(RunLog::Shard(book.history()))?;
+        logs.push(log_of(alloc, book)?)?;
     }
     Ok(())
 }
 
-/// What the workers wrote down, and the books of all servers behind it.
-pub(crate) fn run_logs<'a>(
+/// What the workers wrote down, and behind it what happened at the shards of all servers. Each
+/// server's books are let go as soon as they are read.
+pub(crate) fn run_logs(
     alloc: Global,
-    workers: &'a [Event],
-    all: &'a [Books],
-) -> Result<Vec<RunLog<'a>>, Memory>
-    requires { IsRising workers.now }
+    workers: Vec<Event>,
+    all: Vec<Books>,
+) -> Result<Vec<RunLog>, Memory>
+    requires { IsRising workers.items }
     ensures logs { IfOk result (λ logs. map logged.log_events logs.items
-        ≡ workers.entry.now ∷ books_logs all.entry.now) }
+        ≡ workers.items ∷ books_logs all.items) }
     ensures rising { IfOk result
         (λ logs. AllByRecursion IsRising (map logged.log_events logs.items)) }
 {
     let mut logs = Vec::new(alloc);
-    logs.push(RunLog::Workers(workers))?;
+    logs.push(RunLog { events: workers })?;
     for books in all {
-        add_books(books, &mut logs)?;
+        add_books(alloc, &books, &mut logs)?;
     }
     Ok(logs)
 }

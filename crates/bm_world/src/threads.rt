@@ -169,7 +169,7 @@ fn run_stage<W: Threads + Wait + Sync, F: Fn(u32, Hop) -> Fate + Sync, G: Gate>(
         unreachable!();
     }
     let workers = join_in_order(alloc, logs.as_slice())?;
-    let logs = run_logs(alloc, workers.as_slice(), books.as_slice())?;
+    let logs = run_logs(alloc, workers, books)?;
     merge_rising(alloc, logs.as_slice())
 }
 

@@ -3,9 +3,7 @@ use Rattle.bm_world.proofs.run_logs.run_logs.Goals as goal
 
 pub loop-books-preserved : goal.loop-books-preserved
 loop-books-preserved c = record {
-  logs = books_listed c.args.all.now c.loop-books.books-index c.args.workers.now c.loop-books.logs.items
-      c.add_books.new.logs.items _ c.loop-books.invariant.logs c.loop-books-test.true c.in_ok-add_books.ensures.logs
-      c.books-item.is;
-  rising = books_rising c.args.all.now c.loop-books.books-index _ c.loop-books.invariant.rising c.loop-books-test.true
-      c.books-item.is c.in_ok-add_books.ensures.rising;
+  logs = books_listed c.loop-books.yielded c.args.workers.items c.loop-books.logs.items c.add_books.new.logs.items _
+      c.loop-books.invariant.logs c.in_ok-add_books.ensures.logs;
+  rising = books_rising c.loop-books.yielded _ c.loop-books.invariant.rising c.in_ok-add_books.ensures.rising;
 }

@@ -1,4 +1,4 @@
-use Rattle.std.proofs.Common.{◌≡◌, ◌∷◌, map, take}
+use Rattle.std.proofs.Common.{◌≡◌, ◌∷◌, map}
 use Rattle.std.specs.List.{AllByRecursion}
 use Rattle.bm_merge.specs.Rising.{IsRising}
 use Rattle.bm_world.specs.Logged.{books_logs, log_events}
@@ -6,6 +6,6 @@ use Rattle.bm_world.proofs.run_logs.run_logs.Given as goal
 
 abbrev pub invariant-loop-books : goal.invariant-loop-books
 invariant-loop-books l = record {
-  logs : map log_events l.logs.items ≡ l.fn.workers ∷ books_logs (take l.books-index l.all);
-  rising : AllByRecursion IsRising (books_logs (take l.books-index l.all));
+  logs : map log_events l.logs.items ≡ l.fn.workers.items ∷ books_logs l.yielded;
+  rising : AllByRecursion IsRising (books_logs l.yielded);
 }

@@ -133,11 +133,9 @@ returns g c =
     let merged = merge_to_run F stage servers c.args.routes.now back.posted back.head back.workers all lists
     c.requires.sound suits seats c.requires.routed back.shown through c.in_ok-books.ensures.count books
     (ap (λ (l : List (List Event)). l ++ books_logs all) back.logs_are) in
-    let rest = ap books_logs c.as_slice-5.ensures.value in
-    let first = c.as_slice-4.ensures.value ∙ c.in_ok-workers.ensures.order
+    let first = c.in_ok-workers.ensures.order
     ∙ ap (λ (l : List (List Event)). in_order (joined l)) c.as_slice-3.ensures.value in
-    let logs = ap (λ (l : List RunLog). map log_events l) c.as_slice-6.ensures.value ∙ c.in_ok-logs.ensures.logs
-    ∙ ap (λ (l : List (List Event)). c.as_slice-4.result.now ∷ l) rest
+    let logs = ap (λ (l : List RunLog). map log_events l) c.as_slice-4.ensures.value ∙ c.in_ok-logs.ensures.logs
     ∙ ap (λ (l : List Event). l ∷ books_logs all) first in
     let order = ap (λ (l : List (List Event)). in_order (joined l)) logs
     ∙ in_order_again c.in_ok-late.field-0.logs.items (books_logs all) in
