@@ -25,7 +25,8 @@ use Rattle.bm_cli.specs.Inside.Scripts.{IsOutside, IsRead, ReadsScript}
 use Rattle.bm_cli.specs.Inside.Stages.{ReadsStage, status_by}
 use Rattle.bm_cli.specs.Lines.{capture_status, fault_status}
 use Rattle.bm_cli.specs.Names.{AsksAll, AsksPrefix, names_in, script_names}
-use Rattle.bm_cli.specs.Reading.{Holds, Octets, Reading, Reads, if_taken, reading, reads_of, script_by, script_for, taken}
+use Rattle.bm_cli.specs.Reading.{Holds, Octets, Reading, Reads, if_taken, reading, reads_of, script_by, script_for}
+use Rattle.bm_cli.specs.Reading.{taken}
 use Rattle.bm_cli.specs.Reading.{with_capture, with_script}
 use Rattle.bm_cli.specs.Statuses.{FilesDid}
 use Rattle.bm_cli.proofs.Ending.{holds_more}

@@ -20,7 +20,8 @@ use std::sync::Wait;
 use std::thread::Threads;
 
 /// A history, and when its capture began: the captured time of record 1 in nanoseconds since
-/// 1970-01-01T00:00:00Z, or 0 where there is no record.
+/// 1970-01-01T00:00:00Z, in the pcapng form that of the first packet that has one; 0 where there is
+/// none.
 #[derive(Debug, Drop)]
 pub struct Replayed {
     pub history: History,

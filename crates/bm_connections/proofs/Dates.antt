@@ -1,6 +1,7 @@
 -- The date of a day by its number, and the text of an instant.
 use Rattle.std.proofs.Common.{◌≡◌, ℕ, zero, suc, ◌+◌, ◌-◌, ◌*◌, ◌/◌, ◌%◌, ◌^◌, ◌<◌, ◌≤◌, List, [], ◌∷◌, ◌++◌}
-use Rattle.std.proofs.Common.{inl, inr, refl, sym, ap, ap₂, ◌∙◌, arith, false, true, Some, Option, Bool, rules, append_assoc}
+use Rattle.std.proofs.Common.{inl, inr, refl, sym, ap, ap₂, ◌∙◌, arith, false, true, Some, Option, Bool, rules}
+use Rattle.std.proofs.Common.{append_assoc}
 use Rattle.std.proofs.Common.{ℤ, pos, ◌+ℤ◌, ◌≤ℤ◌, ◌<ℤ◌, neg_ℤ}
 use Rattle.std.specs.Prelude.{codes}
 use Rattle.std.proofs.lemmas.Bool.{cases_lt, lt-ltb, le-ltb}
@@ -20,7 +21,8 @@ use Rattle.jiff_core.specs.declared.timestamp.Timestamp.{Timestamp}
 use Rattle.jiff_fmt.specs.declared.temporal.printer.DateTimePrinter.{DateTimePrinter}
 use Rattle.jiff_fmt.specs.Printer.{IsTimestampText, options}
 use Rattle.jiff_fmt.specs.Text as Text
-use Rattle.bm_connections.specs.Times.{Day, day_after, days_after_1970, date_text, clock_text, instant_text, last_digits}
+use Rattle.bm_connections.specs.Times.{Day, day_after, days_after_1970, date_text, clock_text, instant_text}
+use Rattle.bm_connections.specs.Times.{last_digits}
 use Rattle.bm_connections.proofs.Digits.{two, four, nine_places}
 
 -- the calendar has this day, and it is the day of this number

@@ -28,7 +28,8 @@ use Rattle.bm_connections.specs.declared.held.ShardKey.{ShardKey}
 use Rattle.bm_connections.specs.declared.held.FlowChange.{FlowChange}
 use Rattle.bm_connections.specs.declared.held.ShardChange.{ShardChange}
 use Rattle.bm_connections.specs.Counts.{most_in_shard}
-use Rattle.bm_connections.specs.Inside.Held.{AreFlows, AreHeldByShards, AreHeldFlows, arrival_change, change_of, flows_by}
+use Rattle.bm_connections.specs.Inside.Held.{AreFlows, AreHeldByShards, AreHeldFlows, arrival_change, change_of}
+use Rattle.bm_connections.specs.Inside.Held.{flows_by}
 use Rattle.bm_connections.specs.Inside.Held.{same_key}
 use Rattle.bm_connections.proofs.Steps.{same_flow-true, same_flow_refl}
 

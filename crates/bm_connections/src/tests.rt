@@ -332,7 +332,7 @@ fn check_late(rt: &impl Abort, alloc: Global, h: &History) -> Result<(), Fail>
     Ok(())
 }
 
-/// The bucket moves at 0.000000500 nanoseconds, and the timeout is 240 seconds.
+/// The bucket moves at 500 nanoseconds, and the timeout is 240 seconds.
 #[test]
 fn a_moved_connection_breaks_behind_the_timeout(rt: HostRuntime) -> Result<(), Fail> {
     let alloc = rt.alloc();

@@ -23,7 +23,8 @@ clock_of asked reads = if asked.clock then Some (reads.began asked.names.capture
 abbrev pub due_of : Asked → Reads → Due
 due_of asked reads = record {
   names = names_behind asked.names (script_by Replay reads asked.names.script);
-  answer = answer_for (IsTableOf asked.format (clock_of asked reads)) (reading Replay asked.names reads);
+  answer = answer_for (IsTableOf asked.format (clock_of asked reads))
+      (reading Replay asked.names reads);
 }
 
 -- the usage line was written, as far as the sink let it, and no file was asked for

@@ -1,6 +1,7 @@
 -- What a writer of CSV has written, for the proofs of bodies.
 use Rattle.std.specs.Prelude.{◌≡◌, ℕ, List, Option, Some, false}
-use Rattle.csv.specs.Writing.{default_writer, fields_written, has_written, text_written, writer_setup}
+use Rattle.csv.specs.Writing.{default_writer, fields_written, has_written, text_written}
+use Rattle.csv.specs.Writing.{writer_setup}
 use Rattle.csv.specs.declared.writer.Writer.{Writer}
 
 -- a writer as it is made wrote these octets, in whole records

@@ -1,4 +1,5 @@
--- The drawing of a history's connections over time, an SVG 1.1 text (W3C, Scalable Vector Graphics).
+-- The drawing of a history's connections over time, an SVG 1.1 text (W3C, Scalable Vector
+-- Graphics).
 use Rattle.std.specs.Prelude.{ℕ, ◌+◌, ◌*◌, ◌/◌, ◌%◌, max, true, false, if◌then◌else◌}
 use Rattle.std.specs.Prelude.{nat_lt, ◌==◌, List, [], ◌∷◌, ◌++◌, Option, Some, None}
 use Rattle.std.specs.Prelude.{codes, decimal, length, map, fold, flat_map}
@@ -19,7 +20,8 @@ use Rattle.bm_connections.specs.Text.{server_word}
 use Rattle.bm_drawing.specs.declared.changes.Published.{Published}
 use Rattle.bm_drawing.specs.declared.plot.Plot.{Plot}
 use Rattle.bm_drawing.specs.Scales.{x, tick_step, seconds}
-use Rattle.bm_drawing.specs.Shapes.{dashed, group, group_close, group_end, label, line, mark, newline}
+use Rattle.bm_drawing.specs.Shapes.{dashed, group, group_close, group_end, label, line, mark}
+use Rattle.bm_drawing.specs.Shapes.{newline}
 
 -- WHAT IS DRAWN
 

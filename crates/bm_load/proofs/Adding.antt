@@ -4,7 +4,8 @@ use Rattle.std.proofs.lemmas.Bool.{le-ltb}
 use Rattle.bm_controller.specs.Commands.{add_refusal, addition, first_refusal, when}
 use Rattle.bm_load.specs.Load.{load_plan, opened}
 use Rattle.bm_quota.specs.declared.refusal.Refusal.{Refusal}
-use Rattle.bm_quota.specs.declared.refusal.Refusal.TheVariants.{KnownServer, UnknownServer, NotActive, LastServer, BadBucket, SameServer, StampFell, TooMany, Memory}
+use Rattle.bm_quota.specs.declared.refusal.Refusal.TheVariants.{KnownServer, UnknownServer, NotActive, LastServer}
+use Rattle.bm_quota.specs.declared.refusal.Refusal.TheVariants.{BadBucket, SameServer, StampFell, TooMany, Memory}
 use Rattle.bm_table.specs.Planned.{Planned}
 use Rattle.bm_table.specs.Plans.{with_change}
 
