@@ -1,6 +1,7 @@
 -- Lists of the servers that hold a flow.
 use Rattle.std.specs.Prelude.{ℕ, Bool, true, false, ◌&&◌, ◌||◌, not, nat_lt, ◌==◌, if◌then◌else◌}
-use Rattle.std.specs.Prelude.{List, [], ◌∷◌, ◌++◌, filter, Option, Some, None, Vec}
+use Rattle.std.specs.Prelude.{List, [], ◌∷◌, ◌++◌, filter, Option, Some, None}
+use Rattle.smallvec.specs.SmallVec.{SmallVec}
 use Rattle.bm_base.specs.declared.ids.ServerId.{ServerId}
 use Rattle.bm_table.specs.Tables.{same_server}
 use Rattle.bm_trace.specs.declared.holders.Holder.{Holder}
@@ -10,7 +11,7 @@ abbrev pub same_key : ShardKey → ShardKey → Bool
 same_key a b = a.server == b.server && a.shard == b.shard
 
 -- the list, where there is one
-abbrev pub listed : {A : Type 0} → Option (Vec Holder A) → List Holder
+abbrev pub listed : Option (SmallVec Holder) → List Holder
 listed None = []
 listed (Some v) = v.items
 

@@ -19,6 +19,7 @@ use bm_base::{Flow, Hop, Moment, Segment, ServerId, Taken};
 use bm_core::{Event, Stage, Verdict, What};
 use bm_hash::shard_of;
 use bm_table::Retirement;
+use smallvec::SmallVec;
 use std::alloc::{AllocError, Global};
 use std::collections::BTreeMap;
 
@@ -29,6 +30,18 @@ pub(crate) struct Holder {
     pub(crate) place: usize,
 }
 
+impl Default for Holder {
+    fn default() -> Holder {
+        Holder {
+            server: ServerId(0),
+            place: 0,
+        }
+    }
+}
+
+/// The holders of a flow. Mostly there is one, which needs no allocation.
+type HolderList = SmallVec<Holder, 1>;
+
 /// A shard of a server.
 #[derive(Clone, Copy, PartialEq, Eq, PartialOrd, Ord)]
 pub(crate) struct ShardKey {
@@ -36,14 +49,14 @@ pub(crate) struct ShardKey {
     pub(crate) shard: u16,
 }
 
-fn drop_holder(holders: &mut Vec<Holder>, server: ServerId)
+fn drop_holder(holders: &mut HolderList, server: ServerId)
     ensures { holders.new.items ≡ without_server server holders.old.items }
 {
     holders.retain(|holder| holder.server != server);
 }
 
 fn put_holder(
-    holders: &mut Vec<Holder>,
+    holders: &mut HolderList,
     server: ServerId,
     place: Option<usize>,
 ) -> Result<(), AllocError>
@@ -89,7 +102,7 @@ fn place_in(holders: &[Holder], server: ServerId) -> Option<usize>
 /// The holders of each flow.
 #[derive(Drop)]
 pub(crate) struct Lists {
-    lists: BTreeMap<Flow, Vec<Holder>>,
+    lists: BTreeMap<Flow, HolderList>,
 }
 
 impl Lists {
@@ -102,7 +115,7 @@ impl Lists {
     }
 
     /// Takes the flow's list away.
-    fn take(&mut self, alloc: Global, flow: &Flow) -> Vec<Holder>
+    fn take(&mut self, alloc: Global, flow: &Flow) -> HolderList
         ensures list { result.items
             ≡ listed (tree.get ⟦<Flow as Ord>⟧.cmp self.old.lists flow.now) }
         ensures others { (q : Flow) → same_flow flow.now q ≡ false
@@ -111,11 +124,11 @@ impl Lists {
     {
         match self.lists.remove(flow) {
             Some(list) => list,
-            None => Vec::new(alloc),
+            None => HolderList::new(alloc),
         }
     }
 
-    fn put(&mut self, flow: Flow, list: Vec<Holder>) -> Result<(), AllocError>
+    fn put(&mut self, flow: Flow, list: HolderList) -> Result<(), AllocError>
         ensures { OnOk result ((q : Flow) → tree.get ⟦<Flow as Ord>⟧.cmp self.new.lists q
             ≡ (if same_flow flow q then Some list
             else tree.get ⟦<Flow as Ord>⟧.cmp self.old.lists q)) }
