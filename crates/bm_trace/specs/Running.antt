@@ -2,8 +2,6 @@
 -- asks what servers hold.
 use Rattle.std.specs.Prelude.{◌≡◌, ℕ, suc, ◌<◌, List, length, Option, None, option_map}
 use Rattle.std.specs.Prelude.{slice_index_or, slice_set}
-use Rattle.std.specs.BTreeMap as tree
-use Rattle.bm_base.specs.contracts.flow.FlowOrd.TheImpl as flow_order
 use Rattle.bm_base.specs.declared.flow.Flow.{Flow}
 use Rattle.bm_base.specs.declared.ids.MuxId.{MuxId}
 use Rattle.bm_base.specs.declared.ids.Version.{Version}
@@ -15,6 +13,7 @@ use Rattle.bm_core.specs.Past.{accept_of, label_of, newest, owner, segment_of, v
 use Rattle.bm_trace.specs.declared.past.Owner.{Owner}
 use Rattle.bm_trace.specs.declared.past.Sent.{Sent}
 use Rattle.bm_trace.specs.declared.running.Running.{Running}
+use Rattle.bm_trace.specs.ByFlow.{owner_in}
 use Rattle.bm_trace.specs.Seen.{as_accepted}
 use Rattle.bm_trace.specs.Sent.{label_from, owner_from}
 
@@ -46,5 +45,4 @@ pub record IsKept (stage : Stage) (past : List Event) (published : Version)
 -- they are what is kept here
 abbrev pub Keeps : Stage → List Event → Running → Type 0
 Keeps stage past r =
-    IsKept stage past r.newest r.versions.items (tree.get (flow_order.ghosts).cmp r.accepts.owners)
-    r.packets.items
+    IsKept stage past r.newest r.versions.items (owner_in r.accepts) r.packets.items

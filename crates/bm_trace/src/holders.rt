@@ -10,11 +10,13 @@ ghost use Rattle.bm_table.specs.Tables.{same_server};
 ghost use Rattle.bm_core.specs.declared.events.Event.{Event};
 ghost use Rattle.bm_core.specs.Past as past;
 ghost use Rattle.bm_core.specs.Causes as causes;
+ghost use Rattle.bm_trace.specs.FlowKeys.{key_of};
 ghost use Rattle.bm_trace.specs.HolderLists.{put_holder, without_server, listed, place_in};
 ghost use Rattle.bm_trace.specs.HolderLists.{is_alive, other_alive, alive_place};
 ghost use Rattle.bm_trace.specs.Holders.{ruling, ruled};
 ghost use Rattle.bm_trace.specs.Ranges.{HasRanges};
 
+use crate::flow_key::FlowKey;
 use bm_base::{Flow, Hop, Moment, Segment, ServerId, Taken};
 use bm_core::{Event, Stage, Verdict, What};
 use bm_hash::shard_of;
@@ -102,12 +104,14 @@ fn place_in(holders: &[Holder], server: ServerId) -> Option<usize>
 /// The holders of each flow.
 #[derive(Drop)]
 pub(crate) struct Lists {
-    lists: BTreeMap<Flow, HolderList>,
+    lists: BTreeMap<FlowKey, HolderList>,
 }
 
 impl Lists {
+    ghost use Rattle.bm_trace.specs.ByFlow.{holders_in};
+
     fn new(alloc: Global) -> Lists
-        ensures { (q : Flow) → listed (tree.get ⟦<Flow as Ord>⟧.cmp result.lists q) ≡ [] }
+        ensures { (q : Flow) → holders_in result q ≡ [] }
     {
         Lists {
             lists: BTreeMap::new(alloc),
@@ -116,24 +120,24 @@ impl Lists {
 
     /// Takes the flow's list away.
     fn take(&mut self, alloc: Global, flow: &Flow) -> HolderList
-        ensures list { result.items
-            ≡ listed (tree.get ⟦<Flow as Ord>⟧.cmp self.old.lists flow.now) }
+        ensures list { result.items ≡ holders_in self.old flow.now }
         ensures others { (q : Flow) → same_flow flow.now q ≡ false
-            → tree.get ⟦<Flow as Ord>⟧.cmp self.new.lists q
-            ≡ tree.get ⟦<Flow as Ord>⟧.cmp self.old.lists q }
+            → tree.get ⟦<FlowKey as Ord>⟧.cmp self.new.lists (key_of q)
+            ≡ tree.get ⟦<FlowKey as Ord>⟧.cmp self.old.lists (key_of q) }
     {
-        match self.lists.remove(flow) {
+        match self.lists.remove(&FlowKey::of(flow)) {
             Some(list) => list,
             None => HolderList::new(alloc),
         }
     }
 
     fn put(&mut self, flow: Flow, list: HolderList) -> Result<(), AllocError>
-        ensures { OnOk result ((q : Flow) → tree.get ⟦<Flow as Ord>⟧.cmp self.new.lists q
+        ensures { OnOk result ((q : Flow)
+            → tree.get ⟦<FlowKey as Ord>⟧.cmp self.new.lists (key_of q)
             ≡ (if same_flow flow q then Some list
-            else tree.get ⟦<Flow as Ord>⟧.cmp self.old.lists q)) }
+            else tree.get ⟦<FlowKey as Ord>⟧.cmp self.old.lists (key_of q))) }
     {
-        self.lists.insert(flow, list)?;
+        self.lists.insert(FlowKey::of(&flow), list)?;
         Ok(())
     }
 
@@ -145,10 +149,10 @@ impl Lists {
         server: ServerId,
         place: Option<usize>,
     ) -> Result<(), AllocError>
-        ensures { OnOk result ((q : Flow) → listed (tree.get ⟦<Flow as Ord>⟧.cmp self.new.lists q)
+        ensures { OnOk result ((q : Flow) → holders_in self.new q
             ≡ (if same_flow flow q
-            then put_holder server place (listed (tree.get ⟦<Flow as Ord>⟧.cmp self.old.lists q))
-            else listed (tree.get ⟦<Flow as Ord>⟧.cmp self.old.lists q))) }
+            then put_holder server place (holders_in self.old q)
+            else holders_in self.old q)) }
     {
         let mut list = self.take(alloc, &flow);
         put_holder(&mut list, server, place)?;
@@ -164,10 +168,10 @@ impl Lists {
         server: ServerId,
         ruling: Option<Option<usize>>,
     ) -> Result<(), AllocError>
-        ensures { OnOk result ((q : Flow) → listed (tree.get ⟦<Flow as Ord>⟧.cmp self.new.lists q)
+        ensures { OnOk result ((q : Flow) → holders_in self.new q
             ≡ (if past.is_of segment q
-            then ruled server ruling (listed (tree.get ⟦<Flow as Ord>⟧.cmp self.old.lists q))
-            else listed (tree.get ⟦<Flow as Ord>⟧.cmp self.old.lists q))) }
+            then ruled server ruling (holders_in self.old q)
+            else holders_in self.old q)) }
     {
         match (segment, ruling) {
             (Some(segment), Some(place)) => self.set(alloc, segment.flow, server, place),
@@ -176,9 +180,9 @@ impl Lists {
     }
 
     fn get(&self, flow: &Flow) -> &[Holder]
-        ensures { result.now ≡ listed (tree.get ⟦<Flow as Ord>⟧.cmp self.now.lists flow.now) }
+        ensures { result.now ≡ holders_in self.now flow.now }
     {
-        match self.lists.get(flow) {
+        match self.lists.get(&FlowKey::of(flow)) {
             Some(list) => list.as_slice(),
             None => &[],
         }

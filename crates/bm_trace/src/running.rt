@@ -2,7 +2,6 @@
 ghost use Rattle.std.specs.Prelude.{◌≡◌, ℕ, ◌+◌, ◌-◌, ◌<◌, ◌≤◌, ◌==◌, List, length, reverse, OnOk};
 ghost use Rattle.std.specs.Prelude.{IfOk, Some, None, if◌then◌else◌, slice_set, slice_index_or, []};
 ghost use Rattle.std.specs.Prelude.{◌∷◌, ◌&&◌};
-ghost use Rattle.std.specs.BTreeMap as tree;
 ghost use Rattle.bm_base.specs.declared.flow.Flow.{Flow};
 ghost use Rattle.bm_base.specs.Segments.{same_flow};
 ghost use Rattle.bm_core.specs.declared.events.Event.{Event};
@@ -11,6 +10,7 @@ ghost use Rattle.bm_trace.specs.Ranges.{HasRanges};
 ghost use Rattle.bm_core.specs.Past.{is_accept};
 ghost use Rattle.bm_trace.specs.Accepts.{owner_before};
 
+use crate::flow_key::FlowKey;
 use crate::past::{Owner, Sent, sent_of};
 use crate::steering::Packed;
 use crate::versions::{no_versions, set_version, version_in};
@@ -22,12 +22,14 @@ use std::collections::BTreeMap;
 /// Each flow's last Accept.
 #[derive(Drop)]
 pub(crate) struct Accepts {
-    owners: BTreeMap<Flow, Owner>,
+    owners: BTreeMap<FlowKey, Owner>,
 }
 
 impl Accepts {
+    ghost use Rattle.bm_trace.specs.ByFlow.{owner_in};
+
     fn new(alloc: Global) -> Accepts
-        ensures { (f : Flow) → tree.get ⟦<Flow as Ord>⟧.cmp result.owners f ≡ None }
+        ensures { (f : Flow) → owner_in result f ≡ None }
     {
         Accepts {
             owners: BTreeMap::new(alloc),
@@ -35,24 +37,24 @@ impl Accepts {
     }
 
     fn get(&self, flow: &Flow) -> Option<Owner>
-        ensures { result ≡ tree.get ⟦<Flow as Ord>⟧.cmp self.now.owners flow.now }
+        ensures { result ≡ owner_in self.now flow.now }
     {
-        self.owners.get(flow).copied()
+        self.owners.get(&FlowKey::of(flow)).copied()
     }
 
     /// The last Accept of the segment's flow.
     fn get_for(&self, segment: Option<Segment>) -> Option<Owner>
-        ensures { result ≡ owner_before (tree.get ⟦<Flow as Ord>⟧.cmp self.now.owners) segment }
+        ensures { result ≡ owner_before (owner_in self.now) segment }
     {
         self.get(&segment?.flow)
     }
 
     fn put(&mut self, flow: Flow, owner: Owner) -> Result<(), AllocError>
-        ensures { OnOk result ((q : Flow) → tree.get ⟦<Flow as Ord>⟧.cmp self.new.owners q
+        ensures { OnOk result ((q : Flow) → owner_in self.new q
             ≡ (if same_flow flow q then Some owner
-            else tree.get ⟦<Flow as Ord>⟧.cmp self.old.owners q)) }
+            else owner_in self.old q)) }
     {
-        self.owners.insert(flow, owner)?;
+        self.owners.insert(FlowKey::of(&flow), owner)?;
         Ok(())
     }
 
@@ -63,9 +65,9 @@ impl Accepts {
         owner: Owner,
         verdict: Verdict,
     ) -> Result<(), AllocError>
-        ensures { OnOk result ((q : Flow) → tree.get ⟦<Flow as Ord>⟧.cmp self.new.owners q
+        ensures { OnOk result ((q : Flow) → owner_in self.new q
             ≡ (if is_accept verdict && past.is_of segment q then Some owner
-            else tree.get ⟦<Flow as Ord>⟧.cmp self.old.owners q)) }
+            else owner_in self.old q)) }
     {
         match (segment, verdict) {
             (Some(segment), Verdict::Accept) => self.put(segment.flow, owner),

@@ -13,8 +13,8 @@ enum Steering {
     Owned(MuxId, Version, Owner),
 }
 
-/// What is known of a packet, which contracts see as an `Option<Sent>`. It takes 24 octets, and that
-/// would take 40.
+/// What is known of a packet, which contracts see as an `Option<Sent>`. It takes 24 octets, where
+/// that would take 40.
 #[derive(Clone, Drop)]
 pub(crate) struct Packed {
     steering: Steering,

@@ -1,0 +1,27 @@
+//! Flows as the keys of maps.
+ghost use Rattle.std.specs.Prelude.{◌≡◌};
+ghost use Rattle.bm_trace.specs.FlowKeys.{key_of};
+
+use bm_base::Flow;
+
+/// A flow. The client's port is compared first, since it tells most flows apart.
+#[derive(Clone, Copy, PartialEq, Eq, PartialOrd, Ord)]
+pub(crate) struct FlowKey {
+    sport: u16,
+    dport: u16,
+    src: u32,
+    dst: u32,
+}
+
+impl FlowKey {
+    pub(crate) fn of(flow: &Flow) -> FlowKey
+        ensures { result ≡ key_of flow.now }
+    {
+        FlowKey {
+            sport: flow.sport,
+            dport: flow.dport,
+            src: flow.src,
+            dst: flow.dst,
+        }
+    }
+}
