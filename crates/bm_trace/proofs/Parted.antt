@@ -48,7 +48,7 @@ in_memory octets text before now none is all =
 
 -- THE EVENTS
 
-later_lines : Stage → List Event → List Event → List ℕ
+pub later_lines : Stage → List Event → List Event → List ℕ
 later_lines stage [] past = []
 later_lines stage (e ∷ later) past = later_lines stage later past ++ event_line stage (later ++ past) e
 
@@ -61,7 +61,7 @@ lines_append stage (e ∷ later) past =
     ∙ ap (λ x. x ++ event_line stage (later ++ past) e) (lines_append stage later past)
 
 -- the lines of the first events and of the later ones
-events_whole : (stage : Stage) (events : List Event) (i : ℕ) → event_lines stage (reverse (take i events))
+pub events_whole : (stage : Stage) (events : List Event) (i : ℕ) → event_lines stage (reverse (take i events))
     ++ later_lines stage (reverse (drop i events)) (reverse (take i events)) ≡ event_lines stage (reverse events)
 events_whole stage events i =
     lines_append stage (reverse (drop i events)) (reverse (take i events))
@@ -75,7 +75,7 @@ events_all : (stage : Stage) (shown events : List Event) (i : ℕ) → shown ≡
 events_all stage shown events i same =
     events_whole stage shown i ∙ ap (λ xs. event_lines stage (reverse xs)) same
 
-events_step : (stage : Stage) (events : List Event) (i : ℕ) (d : Event) → i < length events
+pub events_step : (stage : Stage) (events : List Event) (i : ℕ) (d : Event) → i < length events
     → event_lines stage (reverse (take i events)) ++ event_line stage (reverse (take i events)) (get_or events i d)
     ≡ event_lines stage (reverse (take (i + 1) events))
 events_step stage events i d below = ap (λ x. event_lines stage x) (sym (reverse_take events i d below))

@@ -69,7 +69,11 @@ fn put_events<K: Sink>(
 }
 
 /// Writes the lines of the records.
-fn put_records<K: Sink>(h: &History, lines: &mut String, out: &mut K) -> Result<(), IoFault>
+pub(crate) fn put_records<K: Sink>(
+    h: &History,
+    lines: &mut String,
+    out: &mut K,
+) -> Result<(), IoFault>
     requires { HasRanges h.now.stage }
     ensures ok { OnOk result (HandsOn (K.written out.old) (string_bytes lines.old)
         (K.written out.new) (string_bytes lines.new)

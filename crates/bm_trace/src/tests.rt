@@ -1,3 +1,6 @@
+ghost use Rattle.std.specs.Prelude.{◌<◌};
+
+use crate::beside::put_beside;
 use crate::document::put_report;
 use crate::swept::causes_of;
 use crate::totals;
@@ -10,6 +13,7 @@ use bm_table::{Change, Kind, Move, Plan, Retirement, Script, Setting};
 use std::alloc::Global;
 use std::process::Abort;
 use std::test::Fail;
+use std::thread::Threads;
 
 /// A record: a packet by its source port, flags, sequence number and length, or why it isn't one.
 #[derive(Clone, Copy)]
@@ -173,6 +177,42 @@ fn report(rt: &impl Abort, alloc: Global, h: &History) -> Result<MemSink, Fail> 
     Ok(out)
 }
 
+/// The same, written by so many threads.
+fn beside<R: Abort + Threads + std::marker::Sync>(
+    rt: &R,
+    alloc: Global,
+    threads: usize,
+    h: &History,
+) -> Result<MemSink, Fail>
+    requires { 0 < threads }
+{
+    let script = &h.stage.script;
+    assert!(rt; script.setting.buckets == 8);
+    assert!(rt; script.plan.buckets() == 8);
+    assert!(rt; 1 <= script.setting.shards && script.setting.shards <= 64);
+    assert!(rt; h.stage.capture.records.items().len() <= 100);
+    let mut out = MemSink::new(alloc, Vec::new(alloc));
+    let causes = causes_of(alloc, h)?;
+    put_beside(rt, threads, h, &causes, &totals(h), &mut out).map_err(|_| "the sink failed")?;
+    Ok(out)
+}
+
+/// The same history with so many switches, each with a steering behind it.
+fn long_history(alloc: Global, switches: u32) -> Result<History, Fail> {
+    let History { stage, .. } = history(alloc)?;
+    let mut events = Vec::new(alloc);
+    for version in 0..switches {
+        for happening in [Switch(1, version), Steer(1, 1)] {
+            events.push(Event {
+                clock: Moment(1),
+                what: what(happening),
+            })?;
+        }
+    }
+    let events = List::of(events);
+    Ok(History { stage, events })
+}
+
 fn lines(alloc: Global) -> Result<Vec<u8>, Fail> {
     let mut text = Vec::new(alloc);
     for (_, _, line) in &EVENTS {
@@ -200,6 +240,20 @@ fn each_event_and_each_record_has_its_line(rt: HostRuntime) -> Result<(), Fail> 
     let out = report(&rt, alloc, &h)?;
     assert_eq!(rt; out.written(), want.as_slice());
     assert!(rt; totals(&h).processed == 6 && totals(&h).stray == 1);
+    Ok(())
+}
+
+#[test]
+fn threads_write_the_same_report(rt: HostRuntime) -> Result<(), Fail> {
+    let alloc = rt.alloc();
+    let h = history(alloc)?;
+    let one = report(&rt, alloc, &h)?;
+    let many = beside(&rt, alloc, 3, &h)?;
+    assert_eq!(rt; many.written(), one.written());
+    let h = long_history(alloc, 20_000)?;
+    let one = report(&rt, alloc, &h)?;
+    let many = beside(&rt, alloc, 2, &h)?;
+    assert_eq!(rt; many.written(), one.written());
     Ok(())
 }
 

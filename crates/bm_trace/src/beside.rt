@@ -1,0 +1,284 @@
+//! The whole report, with the lines of the events written by several threads side by side.
+ghost use Rattle.std.specs.Prelude.{◌≡◌, ◌+◌, ◌<◌, ◌≤◌, ℕ, All, IfOk, MatchBool, OnErr, OnOk, Some};
+ghost use Rattle.std.specs.Prelude.{[], false, length, min, reverse, slice_get, string_bytes, take};
+ghost use Rattle.std.specs.Prelude.{vec_len, ◌^◌};
+ghost use Rattle.std.specs.Io.KnownBytes.{Appends};
+ghost use Rattle.bm_core.specs.Runs.{IsRun};
+ghost use Rattle.bm_io.specs.Causes.{HasIoCause};
+ghost use Rattle.bm_trace.specs.Pieces.{AreInRow, AreLines, CanWrite, HasWritten, PutsLines};
+ghost use Rattle.bm_trace.specs.Pieces.{PutsPart, place_of};
+ghost use Rattle.bm_trace.specs.Parts.{HandsOn, HandsPart, WritesPart};
+ghost use Rattle.bm_trace.specs.Ranges.{HasRanges};
+ghost use Rattle.bm_trace.specs.Report as report;
+ghost use Rattle.bm_trace.specs.Running.{AreVersions};
+ghost use Rattle.bm_trace.specs.Swept.{AreCauses};
+ghost use Rattle.bm_trace.specs.Totals as totals;
+ghost use Rattle.bm_trace.specs.declared.beside.Piece.{Piece as PieceOf};
+
+use crate::document::put_records;
+use crate::lines::{write_cut, write_event, write_totals};
+use crate::sums::Totals;
+use crate::swept::{CauseList, totals_of};
+use crate::versions::{no_versions, note_version};
+use bm_base::Version;
+use bm_core::{Event, History};
+use bm_io::{IoFault, Sink, put_all};
+use std::alloc::{AllocError, Global};
+use std::thread;
+use std::thread::Threads;
+
+/// How many events a piece has, but for the last one.
+const PIECE: usize = 16_384;
+
+/// Some events of a history in a row, and their lines.
+#[derive(Drop)]
+pub(crate) struct Piece {
+    from: usize,
+    to: usize,
+    /// The versions of the muxes before the piece's next event.
+    versions: Vec<Version>,
+    lines: String,
+    /// Whether memory was refused for the lines.
+    refused: bool,
+}
+
+/// Writes the lines of the events from one place to another, before which the versions are these.
+fn write_lines(
+    lines: &mut String,
+    versions: &mut Vec<Version>,
+    h: &History,
+    causes: &CauseList,
+    from: usize,
+    to: usize,
+) -> Result<(), AllocError>
+    requires ranges { HasRanges h.now.stage }
+    requires causes { AreCauses h.now causes.now }
+    requires order { (from ≤ to) × (to ≤ length h.now.events) }
+    requires known { AreVersions (reverse (take from h.now.events)) versions.old.items }
+    requires empty { string_bytes lines.old ≡ [] }
+    ensures { OnOk result (AreLines h.now from to (string_bytes lines.new)) }
+{
+    let events = h.events.items();
+    for place in from..to {
+        let event = &events[place];
+        let cause = causes.at(place);
+        write_event(lines, versions, &h.stage, &events[..place], event, cause)?;
+        note_version(versions, &event.what);
+    }
+    Ok(())
+}
+
+/// Takes note of the events from one place to another.
+fn note_versions(versions: &mut Vec<Version>, events: &[Event], from: usize, to: usize)
+    requires order { (from ≤ to) × (to ≤ length events.now) }
+    requires known { AreVersions (reverse (take from events.now)) versions.old.items }
+    ensures { AreVersions (reverse (take to events.now)) versions.new.items }
+{
+    for place in from..to {
+        note_version(versions, &events[place].what);
+    }
+}
+
+impl Piece {
+    /// The events from one place to another, before which the versions are these.
+    fn new(alloc: Global, from: usize, to: usize, versions: &[Version]) -> Result<Piece, AllocError>
+        ensures { IfOk result (λ p. (p.from ≡ from) × (p.to ≡ to) × (p.versions.items ≡ versions.now)
+            × (string_bytes p.lines ≡ [])) }
+    {
+        Ok(Piece {
+            from,
+            to,
+            versions: versions.to_vec(alloc)?,
+            lines: String::new(alloc),
+            refused: false,
+        })
+    }
+
+    /// Writes the piece's lines.
+    fn write(&mut self, h: &History, causes: &CauseList)
+        requires ranges { HasRanges h.now.stage }
+        requires causes { AreCauses h.now causes.now }
+        requires can { CanWrite h.now self.old }
+        ensures { HasWritten h.now self.old self.new }
+    {
+        let written = write_lines(
+            &mut self.lines,
+            &mut self.versions,
+            h,
+            causes,
+            self.from,
+            self.to,
+        );
+        self.refused = written.is_err();
+    }
+
+    /// Hands the piece's lines on.
+    fn put<K: Sink>(&self, out: &mut K) -> Result<(), IoFault>
+        ensures ok { OnOk result ((self.now.refused ≡ false)
+            × Appends (K.written out.old) (K.written out.new) (string_bytes self.now.lines)) }
+        ensures err { OnErr result (MatchBool self.now.refused
+            (K.written out.new ≡ K.written out.old)
+            (WritesPart (K.written out.old) (K.written out.new) (string_bytes self.now.lines))) }
+        ensures cause { HasIoCause (K.faults out.old) (K.faults out.new) result }
+    {
+        if self.refused {
+            return Err(IoFault::Memory);
+        }
+        put_all(out, self.lines.as_bytes())
+    }
+}
+
+/// The next pieces from this place on, before which the versions are these. Then the versions are
+/// those behind the pieces.
+fn next_pieces(
+    alloc: Global,
+    count: usize,
+    h: &History,
+    from: usize,
+    versions: &mut Vec<Version>,
+) -> Result<Vec<Piece>, AllocError>
+    requires from { from ≤ length h.now.events }
+    requires known { AreVersions (reverse (take from h.now.events)) versions.old.items }
+    ensures count { IfOk result (λ pieces. vec_len pieces ≡ count) }
+    ensures can { IfOk result (λ pieces. All (CanWrite h.now) pieces.items) }
+    ensures row { IfOk result (λ pieces. AreInRow h.now from pieces.items) }
+    ensures known { OnOk result
+        (AreVersions (reverse (take (place_of h.now from count) h.now.events)) versions.new.items) }
+{
+    let events = h.events.items();
+    let mut pieces = Vec::new(alloc);
+    let mut at = from;
+    for _ in 0..count {
+        let to = at + PIECE.min(events.len() - at);
+        pieces.push(Piece::new(alloc, at, to, versions)?)?;
+        note_versions(versions, events, at, to);
+        at = to;
+    }
+    Ok(pieces)
+}
+
+/// Writes the lines of all pieces at once, and waits for all of them.
+fn write_all<R: Threads + Sync>(rt: &R, h: &History, causes: &CauseList, pieces: &mut [Piece])
+    requires ranges { HasRanges h.now.stage }
+    requires causes { AreCauses h.now causes.now }
+    requires can { All (CanWrite h.now) pieces.old }
+    ensures count { length pieces.new ≡ length pieces.old }
+    ensures each { (k : ℕ) (old new : PieceOf) → slice_get pieces.old k ≡ Some old
+        → slice_get pieces.new k ≡ Some new → HasWritten h.now old new }
+{
+    let threads = pieces.len().max(1);
+    thread::for_each_mut(
+        rt,
+        pieces,
+        threads,
+        &|_, piece: &mut Piece|
+            requires { HasRanges h.now.stage × AreCauses h.now causes.now × CanWrite h.now piece.now }
+            ensures { HasWritten h.entry.now piece.entry.now piece.exit.now }
+        { piece.write(h, causes) },
+    );
+}
+
+/// Writes the lines of the next pieces from this place on, before which the versions are these, and
+/// answers where the events behind them begin.
+fn put_next<R: Threads + Sync, K: Sink>(
+    rt: &R,
+    threads: usize,
+    h: &History,
+    causes: &CauseList,
+    from: usize,
+    versions: &mut Vec<Version>,
+    out: &mut K,
+) -> Result<usize, IoFault>
+    requires threads { 0 < threads }
+    requires ranges { HasRanges h.now.stage }
+    requires causes { AreCauses h.now causes.now }
+    requires from { from < length h.now.events }
+    requires known { AreVersions (reverse (take from h.now.events)) versions.old.items }
+    ensures place { IfOk result (λ to. to ≡ place_of h.now from threads) }
+    ensures known { IfOk result
+        (λ to. AreVersions (reverse (take to h.now.events)) versions.new.items) }
+    ensures lines { IfOk result
+        (λ to. PutsLines h.now from to (K.written out.old) (K.written out.new)) }
+    ensures err { OnErr result (PutsPart h.now from (K.written out.old) (K.written out.new)) }
+    ensures cause { HasIoCause (K.faults out.old) (K.faults out.new) result }
+{
+    let mut pieces = next_pieces(causes.allocator(), threads, h, from, versions)?;
+    write_all(rt, h, causes, pieces.as_mut_slice());
+    let mut at = from;
+    for piece in pieces.as_slice() {
+        piece.put(out)?;
+        at = piece.to;
+    }
+    Ok(at)
+}
+
+/// Writes the lines of the events, a piece in each thread at once.
+fn put_events<R: Threads + Sync, K: Sink>(
+    rt: &R,
+    threads: usize,
+    h: &History,
+    causes: &CauseList,
+    out: &mut K,
+) -> Result<(), IoFault>
+    requires threads { 0 < threads }
+    requires ranges { HasRanges h.now.stage }
+    requires causes { AreCauses h.now causes.now }
+    ensures ok { OnOk result
+        (PutsLines h.now 0 (length h.now.events) (K.written out.old) (K.written out.new)) }
+    ensures err { OnErr result (PutsPart h.now 0 (K.written out.old) (K.written out.new)) }
+    ensures cause { HasIoCause (K.faults out.old) (K.faults out.new) result }
+{
+    let muxes = usize::from(h.stage.script.setting.muxes);
+    let mut versions = no_versions(causes.allocator(), muxes)?;
+    let mut from = 0;
+    while from < h.events.items().len() {
+        from = put_next(rt, threads, h, causes, from, &mut versions, out)?;
+    }
+    Ok(())
+}
+
+/// Writes the report of the history, whose causes and totals are these.
+pub(crate) fn put_beside<R: Threads + Sync, K: Sink>(
+    rt: &R,
+    threads: usize,
+    h: &History,
+    causes: &CauseList,
+    sums: &Totals,
+    out: &mut K,
+) -> Result<(), IoFault>
+    requires threads { 0 < threads }
+    requires ranges { HasRanges h.now.stage }
+    requires causes { AreCauses h.now causes.now }
+    requires sums { sums.now ≡ totals.totals_of h.now }
+    ensures ok { OnOk result (Appends (K.written out.old) (K.written out.new) (report.text h.now)) }
+    ensures err { OnErr result (WritesPart (K.written out.old) (K.written out.new)
+        (report.text h.now)) }
+    ensures cause { HasIoCause (K.faults out.old) (K.faults out.new) result }
+{
+    put_events(rt, threads, h, causes, out)?;
+    let mut lines = String::new(causes.allocator());
+    put_records(h, &mut lines, out)?;
+    write_cut(&mut lines, h.stage.capture.cut)?;
+    write_totals(&mut lines, sums)?;
+    put_all(out, lines.as_bytes())
+}
+
+/// Writes the report of the history, with these causes of its events, by as many threads. It is
+/// never held whole. Where it is refused, a first part of it was written.
+#[tactic(auto, using(crate::proofs::Ranged::ranges_of))]
+pub fn report_beside<R: Threads + Sync, K: Sink>(
+    rt: &R,
+    threads: usize,
+    h: &History,
+    causes: &CauseList,
+    out: &mut K,
+) -> Result<(), IoFault>
+    requires run { IsRun h.now }
+    requires causes { AreCauses h.now causes.now }
+    ensures ok { OnOk result (Appends (K.written out.old) (K.written out.new) (report.text h.now)) }
+    ensures err { OnErr result (WritesPart (K.written out.old) (K.written out.new)
+        (report.text h.now)) }
+    ensures cause { HasIoCause (K.faults out.old) (K.faults out.new) result }
+{
+    put_beside(rt, threads.max(1), h, causes, &totals_of(h, causes), out)
+}
