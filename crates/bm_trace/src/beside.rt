@@ -82,8 +82,8 @@ fn note_versions(versions: &mut Vec<Version>, events: &[Event], from: usize, to:
 impl Piece {
     /// The events from one place to another, before which the versions are these.
     fn new(alloc: Global, from: usize, to: usize, versions: &[Version]) -> Result<Piece, AllocError>
-        ensures { IfOk result (λ p. (p.from ≡ from) × (p.to ≡ to) × (p.versions.items ≡ versions.now)
-            × (string_bytes p.lines ≡ [])) }
+        ensures { IfOk result (λ p. (p.from ≡ from) × (p.to ≡ to)
+            × (p.versions.items ≡ versions.now) × (string_bytes p.lines ≡ [])) }
     {
         Ok(Piece {
             from,
@@ -172,7 +172,8 @@ fn write_all<R: Threads + Sync>(rt: &R, h: &History, causes: &CauseList, pieces:
         pieces,
         threads,
         &|_, piece: &mut Piece|
-            requires { HasRanges h.now.stage × AreCauses h.now causes.now × CanWrite h.now piece.now }
+            requires { HasRanges h.now.stage × AreCauses h.now causes.now
+                × CanWrite h.now piece.now }
             ensures { HasWritten h.entry.now piece.entry.now piece.exit.now }
         { piece.write(h, causes) },
     );

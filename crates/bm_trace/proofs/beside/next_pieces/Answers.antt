@@ -1,4 +1,5 @@
-use Rattle.std.proofs.Common.{◌∷◌, [], min, ◌^◌, ◌-◌, arith, reverse, subst, sym, take, ◌∙◌, ◌+◌, length, length-append, ap, All}
+use Rattle.std.proofs.Common.{◌∷◌, [], min, ◌^◌, ◌-◌, arith, reverse, subst, sym, take, ◌∙◌, ◌+◌, length, length-append}
+use Rattle.std.proofs.Common.{ap, All}
 use Rattle.std.proofs.lemmas.List.Elements.{All-push}
 use Rattle.bm_trace.specs.Pieces.{CanWrite}
 use Rattle.bm_trace.specs.Running.{AreVersions}
@@ -16,8 +17,8 @@ loop-preserved c =
     in let piece = c.in_ok-new.field-0
     in let made = c.in_ok-new.ensures
     in let pushed = c.in_ok-push.ensures.items
-    in let can = can_write h piece c.loop.at to _ made.0 made.1 (made.2 ∙ c.deref.ensures.value) made.3 (omega arith) inside
-    c.loop.invariant.known
+    in let can = can_write h piece c.loop.at to _ made.0 made.1 (made.2 ∙ c.deref.ensures.value) made.3 (omega arith)
+    inside c.loop.invariant.known
     in record {
       within = inside;
       place = next;

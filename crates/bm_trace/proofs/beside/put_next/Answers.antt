@@ -14,9 +14,10 @@ returns-in_err-put-clause-err g c =
     in let back = c.as_slice-piece-items.ensures.value
     ∙ written_back c.in_ok-pieces.pieces.items c.write_all.new.pieces c.in_ok-pieces.pieces.len
     (c.write_all.ensures.count ∙ ap length given.value) (omega (arith, given.len, ap length given.value))
-    in let there = piece_there h c.args.from c.loop-piece.piece-index c.in_ok-pieces.pieces.items c.as_mut_slice.result.now
-    c.write_all.new.pieces c.as_slice-piece-items.result.now c.piece-item.result given.value
-    c.write_all.ensures.count c.in_ok-pieces.ensures.row c.write_all.ensures.each back c.loop-piece-test.true c.piece-item.is
+    in let there = piece_there h c.args.from c.loop-piece.piece-index c.in_ok-pieces.pieces.items
+    c.as_mut_slice.result.now c.write_all.new.pieces c.as_slice-piece-items.result.now c.piece-item.result given.value
+    c.write_all.ensures.count c.in_ok-pieces.ensures.row c.write_all.ensures.each back c.loop-piece-test.true
+    c.piece-item.is
     in on_err _ _
     (piece_refused h c.args.from c.loop-piece.piece-index c.loop-piece.at _ _ _ c.piece-item.result
     c.loop-piece.invariant.place there c.loop-piece.invariant.written c.in_err-put.ensures.err)
@@ -28,8 +29,8 @@ loop-piece-preserved g c =
     in let back = c.as_slice-piece-items.ensures.value
     ∙ written_back c.in_ok-pieces.pieces.items c.write_all.new.pieces c.in_ok-pieces.pieces.len
     (c.write_all.ensures.count ∙ ap length given.value) (omega (arith, given.len, ap length given.value))
-    in let there = piece_there h c.args.from c.loop-piece.piece-index c.in_ok-pieces.pieces.items c.as_mut_slice.result.now
-    c.write_all.new.pieces c.as_slice-piece-items.result.now c.piece-item.result given.value
+    in let there = piece_there h c.args.from c.loop-piece.piece-index c.in_ok-pieces.pieces.items
+    c.as_mut_slice.result.now c.write_all.new.pieces c.as_slice-piece-items.result.now c.piece-item.result given.value
     c.write_all.ensures.count c.in_ok-pieces.ensures.row c.write_all.ensures.each back c.loop-piece-test.true
     c.piece-item.is
     in record {
