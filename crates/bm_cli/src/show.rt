@@ -15,10 +15,13 @@ use crate::status::Status;
 use bm_base::{Memory, Octets};
 use bm_core::{History, Stage};
 use bm_io::{Gate, IoFault, Sink};
-use bm_trace::{report_to, sweep};
+use bm_trace::{report_beside, report_to, sweep};
 use std::alloc::Global;
 use std::sync::Wait;
 use std::thread::Threads;
+
+/// At most so many threads write a report.
+const MOST_THREADS: usize = 8;
 
 /// Plays the stage, and writes the report of its history. `packets` has the packet of each record.
 pub(crate) fn show<R: Threads + Wait + Sync, K: Sink, G: Gate>(
@@ -35,13 +38,24 @@ pub(crate) fn show<R: Threads + Wait + Sync, K: Sink, G: Gate>(
     ensures { Tells (Shown (IsReportOf mode stage)) (did K.written K.faults out.old out.new) result }
 {
     match history_of(rt, alloc, mode, stage, packets, gate) {
-        Ok(history) => show_history(alloc, &history, out),
+        Ok(history) => show_history(rt, alloc, mode, &history, out),
         Err(Memory) => Status::Memory,
     }
 }
 
-/// Writes the report of the history, in pieces.
-fn show_history<K: Sink>(alloc: Global, history: &History, out: &mut K) -> Status
+/// How many threads write the report of a run: one for each mux, but not many.
+fn threads_of(history: &History) -> usize {
+    usize::from(history.stage.script.setting.muxes).min(MOST_THREADS)
+}
+
+/// Writes the report of the history, in pieces: of a run by several threads.
+fn show_history<R: Threads + Sync, K: Sink>(
+    rt: &R,
+    alloc: Global,
+    mode: Mode,
+    history: &History,
+    out: &mut K,
+) -> Status
     requires { IsRun history.now }
     ensures { Writes Status.Done (report.text history.now)
         (did K.written K.faults out.old out.new) result }
@@ -49,7 +63,11 @@ fn show_history<K: Sink>(alloc: Global, history: &History, out: &mut K) -> Statu
     let Ok(causes) = sweep(alloc, history) else {
         return Status::Memory;
     };
-    match report_to(history, &causes, out) {
+    let shown = match mode {
+        Mode::Replay => report_to(history, &causes, out),
+        Mode::Run => report_beside(rt, threads_of(history), history, &causes, out),
+    };
+    match shown {
         Ok(()) => Status::Done,
         Err(IoFault::Failed) => Status::WriteFault,
         Err(IoFault::Memory) => Status::Memory,

@@ -5,7 +5,8 @@ use Rattle.bm_cli.specs.Headline.{IsReportOf}
 use Rattle.bm_cli.proofs.show.show.Goals as goal
 
 pub show_history-requires : goal.show_history-requires
-show_history-requires g c = is_run c.args.mode c.args.stage c.in-Ok.history c.in-Ok.ensures.made
+show_history-requires g c =
+    (c.type_bounds.sync-R, is_run c.args.mode c.args.stage c.in-Ok.history c.in-Ok.ensures.made)
 
 pub returns-in-Ok : goal.returns-in-Ok
 returns-in-Ok g c =
