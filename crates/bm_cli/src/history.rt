@@ -18,17 +18,17 @@ use std::sync::Wait;
 use std::thread::Threads;
 
 /// The history of the stage, played by the route and the fault rule of its setting. `packets` has
-/// the packet of each record.
+/// the packet of each record, and is let go.
 pub(crate) fn history_of<R: Threads + Wait + Sync, G: Gate>(
     rt: &R,
     alloc: Global,
     mode: Mode,
     stage: Stage,
-    packets: &Octets,
+    packets: Octets,
     gate: &G,
 ) -> Result<History, Memory>
     requires sound { IsSound stage }
-    requires packets { ArePackets stage.capture.records packets.now }
+    requires packets { ArePackets stage.capture.records packets }
     ensures about { IfOk result (λ h. h.stage ≡ stage) }
     ensures made { IfOk result (IsMadeBy mode stage) }
 {
@@ -49,7 +49,7 @@ pub(crate) fn history_of<R: Threads + Wait + Sync, G: Gate>(
         { rows.fate(packet, hop) },
     );
     match mode {
-        Mode::Replay => replay(alloc, stage, packets, &route, &faults),
-        Mode::Run => run_threads(rt, alloc, stage, packets, &route, &faults, gate),
+        Mode::Replay => replay(alloc, stage, &packets, &route, &faults),
+        Mode::Run => run_threads(rt, alloc, stage, &packets, &route, &faults, gate),
     }
 }

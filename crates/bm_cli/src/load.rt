@@ -45,7 +45,7 @@ fn line_of<R: Threads + Wait + Sync, G: Gate>(
     ensures { IfOk result (λ line. IsSummaryOf n (string_bytes line)) }
 {
     let (stage, packets) = load_stage(alloc, n)?;
-    let history = history_of(rt, alloc, Mode::Run, stage, &packets, gate)?;
+    let history = history_of(rt, alloc, Mode::Run, stage, packets, gate)?;
     loaded(&history, n);
     let causes = sweep(alloc, &history)?;
     let line = summary(alloc, n, &totals_of(&history, &causes))?;

@@ -52,6 +52,6 @@ pub fn replay_files<R: Threads + Wait + Sync, F: Files>(
     ensures open { F.open_now files.new ≡ F.open_now files.old }
 {
     let (stage, packets, began) = read_stage(alloc, files, Mode::Replay, names)?;
-    let history = history_of(rt, alloc, Mode::Replay, stage, &packets, &OpenGate)?;
+    let history = history_of(rt, alloc, Mode::Replay, stage, packets, &OpenGate)?;
     Ok(Replayed { history, began })
 }

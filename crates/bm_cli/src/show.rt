@@ -23,18 +23,19 @@ use std::thread::Threads;
 /// At most so many threads write a report.
 const MOST_THREADS: usize = 8;
 
-/// Plays the stage, and writes the report of its history. `packets` has the packet of each record.
+/// Plays the stage, and writes the report of its history. `packets` has the packet of each record,
+/// and is let go before the report is made.
 pub(crate) fn show<R: Threads + Wait + Sync, K: Sink, G: Gate>(
     rt: &R,
     alloc: Global,
     mode: Mode,
     stage: Stage,
-    packets: &Octets,
+    packets: Octets,
     out: &mut K,
     gate: &G,
 ) -> Status
     requires sound { IsSound stage }
-    requires packets { ArePackets stage.capture.records packets.now }
+    requires packets { ArePackets stage.capture.records packets }
     ensures { Tells (Shown (IsReportOf mode stage)) (did K.written K.faults out.old out.new) result }
 {
     match history_of(rt, alloc, mode, stage, packets, gate) {
