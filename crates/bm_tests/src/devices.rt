@@ -129,15 +129,18 @@ fn fail(
     Ok(true)
 }
 
-/// What was written before a write that failed: all pieces before that one.
+/// What was written before a write that failed: all pieces before that one. The lines of a run's
+/// events are handed on apart from the others, so that one piece may be short.
 fn check_part(rt: &impl Abort, form: &str, call: u32, status: u8, written: &[u8]) {
     assert_eq!(rt; status, 5);
-    assert_eq!(rt;
-        (written.len() + STEP) as u64,
-        STEP as u64 * u64::from(call)
-    );
+    let made = (written.len() + STEP) as u64;
+    let whole = STEP as u64 * u64::from(call);
     if form == "replay" {
+        assert_eq!(rt; made, whole);
         assert!(rt; REPORT.as_bytes().starts_with(written));
+    } else {
+        assert!(rt; made <= whole);
+        assert!(rt; whole < made.saturating_add(STEP as u64));
     }
 }
 
