@@ -71,11 +71,15 @@ fn next_hop(tag: &Tag) -> Result<Tag, EncapFault>
 }
 
 /// The header of the tag for this total length, with its checksum.
+#[tactic(auto, unfolding(crate::specs::Spellings::header))]
 fn summed(tag: &Tag, total: u16) -> [u8; 44]
     ensures { result
         ≡ spellings.header tag.now total (checksum_of (spellings.header tag.now total 0)) }
 {
-    header(tag, total, header_sum(&header(tag, total, 0)))
+    let mut octets = header(tag, total, 0);
+    let sum = header_sum(&octets);
+    write_u16(&mut octets, 10, sum);
+    octets
 }
 
 /// The octets of a header that are the same for every tag, and zero elsewhere.
