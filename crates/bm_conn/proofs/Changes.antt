@@ -1,7 +1,7 @@
 -- What the calls do to the slots.
 use Rattle.std.proofs.Common.{◌≡◌, ℕ, zero, suc, ◌+◌, ◌<◌, ◌≤◌, true, cond, List, [], ◌∷◌, ◌++◌, length, set, take}
-use Rattle.std.proofs.Common.{drop, replicate, Option, Some, None, inl, inr, refl, sym, ap, subst, ◌∙◌, arith, rules}
-use Rattle.std.proofs.Common.{length-set, length-append, drop-cons, get_or-set_same}
+use Rattle.std.proofs.Common.{drop, replicate, Option, Some, None, is_some, inl, inr, refl, sym, ap, subst, ◌∙◌, arith}
+use Rattle.std.proofs.Common.{rules, length-set, length-append, drop-cons, get_or-set_same}
 use Rattle.std.proofs.lemmas.List.{take_more, take-append-drop, append-nil}
 use Rattle.std.specs.Prelude.{IsSome}
 use Rattle.std.proofs.lemmas.Bool.{cases_Bool, both_ways}
@@ -13,10 +13,11 @@ use Rattle.bm_conn.specs.declared.slot.Slot.{Slot}
 use Rattle.bm_conn.specs.declared.slot.Slot.TheVariants.{Free, Used}
 use Rattle.bm_conn.specs.Connections.{receiver_in, AreOnce}
 use Rattle.bm_conn.specs.Slots.{used, slot_at, is_of, AreReached, HoldsSame, IsPlaced, IsPutInto, AreMoved, Stops}
+use Rattle.bm_conn.specs.Slots.{IsPlaceOf, receiver_of}
 use Rattle.bm_conn.proofs.Flows.{same_flow-true, same_flow_refl}
 use Rattle.bm_conn.proofs.Maps.{receiver-put}
 use Rattle.bm_conn.proofs.Filled.{absent_at, receiver_filled, receiver_freed, length_filled, length_freed, once_filled}
-use Rattle.bm_conn.proofs.Filled.{once_freed}
+use Rattle.bm_conn.proofs.Filled.{once_freed, receiver_at}
 use Rattle.bm_conn.proofs.Reached.{HasPassed, used_by, free_is, used_is, found_none, reached_filled}
 
 -- WHERE A WALK STOPS
@@ -46,6 +47,17 @@ pub stop_there : (s : List Slot) (f : Flow) (place : ℕ) → Stops s f place �
 stop_there s f place stops inside placed passed some = elim stops [
   | inl free ↦ absurd (not_none (receiver_in (used s) f) some (found_none s f place placed.reached inside free passed))
   | inr own ↦ used_by (slot_at s place) f own
+]
+
+-- the receiver at the flow's place
+pub place_receiver : (s : List Slot) (f : Flow) (place : ℕ) → IsPlaced s → IsPlaceOf s f place
+    → receiver_of (slot_at s place) ≡ receiver_in (used s) f
+place_receiver s f place placed at = elim at.stops [
+  | inl free ↦ ap (λ (x : Slot). receiver_of x) (free_is (slot_at s place) free)
+      ∙ sym (found_none s f place placed.reached at.within free at.passed)
+  | inr own ↦
+      let is : (r : Receiver) × (slot_at s place ≡ Used f r) = used_by (slot_at s place) f own
+      in ap (λ (x : Slot). receiver_of x) is.1 ∙ sym (receiver_at s place f is.0 at.within is.1 placed.once)
 ]
 
 -- PUT
@@ -109,6 +121,26 @@ given_puts s place f r old inside is placed passed =
       },
       subst (λ (l : List Slot). length (used l) ≡ length (used s)) twice count,
     )
+
+-- a flow that was sought has the receiver
+pub filled : (s : List Slot) (f : Flow) (place : ℕ) (r : Receiver) (o : Option Receiver) → IsPlaced s
+    → IsPlaceOf s f place → o ≡ receiver_in (used s) f
+    → IsPutInto f (Some r) s (set s place (Used f r))
+    × (length (used (set s place (Used f r))) ≡ length (used s) + cond (is_some o) 0 1)
+filled s f place r None placed at is =
+    let free : slot_at s place ≡ Free = stop_free s f place at.stops at.within (sym is)
+    in (
+      filled_puts s place f r at.within free placed (sym is) at.passed,
+      length_filled s place f r at.within free,
+    )
+filled s f place r (Some before) placed at is =
+    let some : IsSome (receiver_in (used s) f) = subst (λ (o : Option Receiver). IsSome o) is refl
+    in let own : (old : Receiver) × (slot_at s place ≡ Used f old) =
+    stop_there s f place at.stops at.within placed at.passed some
+    in let given : IsPutInto f (Some r) s (set s place (Used f r))
+    × (length (used (set s place (Used f r))) ≡ length (used s)) =
+    given_puts s place f r own.0 at.within own.1 placed at.passed
+    in (given.0, omega (arith, given.1))
 
 -- TAKEN AWAY
 

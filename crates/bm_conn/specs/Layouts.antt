@@ -1,10 +1,13 @@
 -- Where the flows of a table stand.
-use Rattle.std.specs.Prelude.{◌≡◌, ℕ, ◌+◌, ◌*◌, ◌/◌, ◌^◌, ◌<◌, ◌≤◌, ◌⊎◌, length, Some}
+use Rattle.std.specs.Prelude.{◌≡◌, ℕ, ◌+◌, ◌*◌, ◌/◌, ◌^◌, ◌<◌, ◌≤◌, ◌⊎◌, List, length, Some}
 use Rattle.bm_base.specs.declared.flow.Flow.{Flow}
 use Rattle.bm_seq.specs.declared.receiver.Receiver.{Receiver}
+use Rattle.bm_conn.specs.declared.slot.Found.{Found}
+use Rattle.bm_conn.specs.declared.slot.Slot.{Slot}
 use Rattle.bm_conn.specs.declared.slot.Slot.TheVariants.{Free, Used}
+use Rattle.bm_conn.specs.declared.table.Connection.{Connection}
 use Rattle.bm_conn.specs.Connections.{Connections, receiver_in}
-use Rattle.bm_conn.specs.Slots.{AreReached, slot_at}
+use Rattle.bm_conn.specs.Slots.{AreReached, IsPlaceOf, slot_at}
 
 -- each flow stands in exactly one slot, with its receiver, and no slot on its way from its home is
 -- free
@@ -30,3 +33,9 @@ Readies old new =
     ((old.room ≡ 0) × (length old.connections < old.capacity)
     × (length new.slots ≡ 2 * length old.slots))
     ⊎ (((1 ≤ old.room) ⊎ (length old.connections ≡ old.capacity)) × (new ≡ old))
+
+-- what seeking a flow finds: its receiver, if it is there, and where its way ends
+pub record IsFound (connections : List Connection) (slots : List Slot) (found : Found)
+    : Type 0 where
+  pub receiver : found.receiver ≡ receiver_in connections found.flow
+  pub place : IsPlaceOf slots found.flow found.place

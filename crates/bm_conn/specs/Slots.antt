@@ -1,7 +1,7 @@
 -- The slots of a table: open addressing, each flow behind its home.
 use Rattle.std.specs.Prelude.{◌≡◌, ℕ, ◌+◌, ◌-◌, ◌%◌, ◌<◌, Bool, true, false, if◌then◌else◌, ◌==◌}
 use Rattle.std.specs.Prelude.{nat_le, List, [], ◌∷◌, length, slice_index_or, slice_set, ◌≤◌, ◌⊎◌}
-use Rattle.std.specs.Prelude.{Option}
+use Rattle.std.specs.Prelude.{Option, Some, None}
 use Rattle.bm_base.specs.declared.flow.Flow.{Flow}
 use Rattle.bm_base.specs.Segments.{same_flow}
 use Rattle.bm_hash.specs.Buckets.{flow_hash}
@@ -30,6 +30,11 @@ abbrev pub is_of : Flow → Slot → Bool
 is_of f Free = false
 is_of f (Used g receiver) = same_flow g f
 
+-- the receiver in a slot
+abbrev pub receiver_of : Slot → Option Receiver
+receiver_of Free = None
+receiver_of (Used f receiver) = Some receiver
+
 -- how many steps from one place to another, of so many places, going round at the end
 unfoldable pub distance : ℕ → ℕ → ℕ → ℕ
 distance count from to = if nat_le from to then to - from else to + count - from
@@ -53,6 +58,15 @@ pub record AreReached (slots : List Slot) (count : ℕ) : Type 0 where
 abbrev pub Stops : List Slot → Flow → ℕ → Type 0
 Stops slots f place =
     (is_free (slot_at slots place) ≡ true) ⊎ (is_of f (slot_at slots place) ≡ true)
+
+-- the place is the flow's: over slots of other flows its way ends there
+pub record IsPlaceOf (slots : List Slot) (f : Flow) (place : ℕ) : Type 0 where
+  pub within : place < length slots
+  pub stops : Stops slots f place
+  pub passed : (between : ℕ) → between < length slots
+      → distance (length slots) (home (length slots) f) between
+      < distance (length slots) (home (length slots) f) place
+      → (is_free (slot_at slots between) ≡ false) × (is_of f (slot_at slots between) ≡ false)
 
 -- so many steps from the flow's home to this place, over slots of other flows
 pub record IsWalked (slots : List Slot) (f : Flow) (place steps : ℕ) : Type 0 where

@@ -1,12 +1,13 @@
 //! The slots of a table, and the walk from a flow's home.
-ghost use Rattle.std.specs.Prelude.{if◌then◌else◌, is_some, IfOk, IsSome, Some, None, replicate};
-ghost use Rattle.std.specs.Prelude.{◌≡◌, ◌<◌, ◌≤◌, ◌+◌, ◌^◌, ℕ, length, true, false};
+ghost use Rattle.std.specs.Prelude.{if◌then◌else◌, is_some, IfOk, Some, None, replicate};
+ghost use Rattle.std.specs.Prelude.{◌≡◌, ◌<◌, ◌≤◌, ◌+◌, ◌^◌, ℕ, length, true};
 ghost use Rattle.bm_conn.specs.Connections.{AreOnce, receiver_in};
-ghost use Rattle.bm_conn.specs.Slots.{slot_at, is_free, is_of, used};
+ghost use Rattle.bm_conn.specs.Layouts.{IsFound};
+ghost use Rattle.bm_conn.specs.Slots.{slot_at, is_free, used};
 ghost use Rattle.bm_conn.specs.Slots as slots;
 
 use bm_base::{Flow, Memory};
-use bm_hash::flow_hash;
+use bm_hash::{flow_hash, remainder};
 use bm_seq::Receiver;
 use std::alloc::Global;
 
@@ -15,6 +16,15 @@ use std::alloc::Global;
 pub enum Slot {
     Free,
     Used(Flow, Receiver),
+}
+
+/// What seeking a flow found: its receiver, if it is there, and its own slot or the free one where
+/// its way ends.
+#[derive(Clone, Copy, Debug, PartialEq, Eq)]
+pub struct Found {
+    pub flow: Flow,
+    pub receiver: Option<Receiver>,
+    place: usize,
 }
 
 /// How many steps from one place to another, of `count` places, going round at the end.
@@ -39,7 +49,7 @@ pub(crate) fn home(count: usize, flow: &Flow) -> usize
     ensures within { result < count }
     ensures home { result ≡ slots.home count flow.now }
 {
-    (flow_hash(flow) % (count as u64)) as usize
+    remainder(flow_hash(flow), count as u64) as usize
 }
 
 /// The next place, going round at the end.
@@ -56,14 +66,7 @@ pub(crate) fn seek(places: &[Slot], flow: &Flow) -> usize
     requires few { length places.now ≤ 2 ^ 32 }
     requires free { (place : ℕ) × (place < length places.now)
         × (is_free (slot_at places.now place) ≡ true) }
-    ensures within { result < length places.now }
-    ensures stops { slots.Stops places.now flow.now result }
-    ensures passed { (between : ℕ) → between < length places.now
-        → slots.distance (length places.now) (slots.home (length places.now) flow.now)
-        between < slots.distance (length places.now) (slots.home (length places.now) flow.now)
-        result
-        → (is_free (slot_at places.now between) ≡ false)
-        × (is_of flow.now (slot_at places.now between) ≡ false) }
+    ensures { slots.IsPlaceOf places.now flow.now result }
 {
     let count = places.len();
     let mut place = home(count, flow);
@@ -132,21 +135,45 @@ pub(crate) fn free_slots(alloc: Global, count: usize) -> Result<Vec<Slot>, Memor
     Ok(vec![in alloc; Slot::Free; count]?)
 }
 
-/// The receiver of the flow, if the flow is there.
-pub(crate) fn look(places: &[Slot], flow: &Flow) -> Option<Receiver>
-    requires few { length places.now ≤ 2 ^ 32 }
-    requires spare { length (used places.now) < length places.now }
-    requires placed { slots.IsPlaced places.now }
-    ensures { result ≡ receiver_in (used places.now) flow.now }
+/// The receiver in a slot.
+fn receiver_of(slot: Slot) -> Option<Receiver>
+    ensures { result ≡ slots.receiver_of slot }
 {
-    match places[seek(places, flow)] {
+    match slot {
         Slot::Free => None,
         Slot::Used(_, receiver) => Some(receiver),
     }
 }
 
+/// Seeks the flow.
+pub(crate) fn look(places: &[Slot], flow: &Flow) -> Found
+    requires few { length places.now ≤ 2 ^ 32 }
+    requires spare { length (used places.now) < length places.now }
+    requires placed { slots.IsPlaced places.now }
+    ensures flow { result.flow ≡ flow.now }
+    ensures found { IsFound (used places.now) places.now result }
+{
+    let place = seek(places, flow);
+    Found {
+        flow: *flow,
+        receiver: receiver_of(places[place]),
+        place,
+    }
+}
+
+/// Puts a receiver where the flow was found, or into the free slot that was found for it.
+pub(crate) fn fill(places: &mut [Slot], found: Found, receiver: Receiver)
+    requires placed { slots.IsPlaced places.old }
+    requires found { IsFound (used places.old) places.old found }
+    ensures puts { slots.IsPutInto found.flow (Some receiver) places.old places.new }
+    ensures count { length (used places.new)
+        ≡ length (used places.old) + (if is_some found.receiver then 0 else 1) }
+{
+    places[found.place] = Slot::Used(found.flow, receiver);
+}
+
 /// Takes a flow that isn't there.
-pub(crate) fn put(places: &mut [Slot], flow: Flow, receiver: Receiver)
+fn put(places: &mut [Slot], flow: Flow, receiver: Receiver)
     requires few { length places.old ≤ 2 ^ 32 }
     requires spare { length (used places.old) < length places.old }
     requires placed { slots.IsPlaced places.old }
@@ -154,39 +181,26 @@ pub(crate) fn put(places: &mut [Slot], flow: Flow, receiver: Receiver)
     ensures puts { slots.IsPutInto flow (Some receiver) places.old places.new }
     ensures count { length (used places.new) ≡ length (used places.old) + 1 }
 {
-    let place = seek(places, &flow);
-    places[place] = Slot::Used(flow, receiver);
+    let found = look(places, &flow);
+    fill(places, found, receiver);
 }
 
-/// Gives a flow that is there another receiver.
-pub(crate) fn give(places: &mut [Slot], flow: &Flow, receiver: Receiver)
+/// Takes away the flow that was sought; true exactly where it was there.
+pub(crate) fn take(places: &mut [Slot], found: Found) -> bool
     requires few { length places.old ≤ 2 ^ 32 }
     requires spare { length (used places.old) < length places.old }
     requires placed { slots.IsPlaced places.old }
-    requires there { IsSome (receiver_in (used places.old) flow.now) }
-    ensures puts { slots.IsPutInto flow.now (Some receiver) places.old places.new }
-    ensures count { length (used places.new) ≡ length (used places.old) }
-{
-    let place = seek(places, flow);
-    places[place] = Slot::Used(*flow, receiver);
-}
-
-/// Takes the flow away; true exactly where it was there.
-pub(crate) fn take(places: &mut [Slot], flow: &Flow) -> bool
-    requires few { length places.old ≤ 2 ^ 32 }
-    requires spare { length (used places.old) < length places.old }
-    requires placed { slots.IsPlaced places.old }
-    ensures there { result ≡ is_some (receiver_in (used places.old) flow.now) }
-    ensures puts { slots.IsPutInto flow.now None places.old places.new }
+    requires found { IsFound (used places.old) places.old found }
+    ensures there { result ≡ is_some found.receiver }
+    ensures puts { slots.IsPutInto found.flow None places.old places.new }
     ensures count { length (used places.new) + (if result then 1 else 0)
         ≡ length (used places.old) }
 {
-    let place = seek(places, flow);
-    match places[place] {
+    match places[found.place] {
         Slot::Free => false,
         Slot::Used(_, _) => {
-            places[place] = Slot::Free;
-            close_up(places, place);
+            places[found.place] = Slot::Free;
+            close_up(places, found.place);
             true
         }
     }

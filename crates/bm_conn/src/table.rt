@@ -3,9 +3,9 @@ ghost use Rattle.std.specs.Prelude.{◌≡◌, ◌==◌, ◌<◌, ◌≤◌, ◌
 ghost use Rattle.std.specs.Prelude.{IsSome, IfOk, MatchResult, Some, None};
 ghost use Rattle.std.specs.Bool.{OnFalse};
 ghost use Rattle.bm_conn.specs.Connections.{HasRoom, IsMap, IsSame, Puts, receiver_in};
-ghost use Rattle.bm_conn.specs.Layouts.{IsLaidOut, Readies};
+ghost use Rattle.bm_conn.specs.Layouts.{IsFound, IsLaidOut, Readies};
 
-use crate::slot::{Slot, free_slots, give, look, move_all, put, take, wipe};
+use crate::slot::{Found, Slot, fill, free_slots, look, move_all, take, wipe};
 use bm_base::{Flow, Memory};
 use bm_seq::Receiver;
 use std::alloc::Global;
@@ -59,6 +59,14 @@ impl ConnTable {
     /// The receiver of the flow; None exactly where the flow isn't there.
     pub fn find(&self, flow: &Flow) -> Option<Receiver>
         ensures { result ≡ receiver_in self.now.connections flow.now }
+    {
+        self.seek(flow).receiver
+    }
+
+    /// Seeks the flow once for all that is then done with it, while nothing else changes the table.
+    pub fn seek(&self, flow: &Flow) -> Found
+        ensures flow { result.flow ≡ flow.now }
+        ensures found { IsFound self.now.connections self.now.slots result }
     {
         look(&self.slots, flow)
     }
@@ -118,8 +126,8 @@ impl ConnTable {
         ensures room { self.new.room + 1 ≡ self.old.room }
         ensures slots { length self.new.slots ≡ length self.old.slots }
     {
-        put(&mut self.slots, flow, receiver);
-        self.len += 1;
+        let found = self.seek(&flow);
+        self.insert_at(found, receiver);
     }
 
     /// Gives a flow that is there another receiver. Takes no memory.
@@ -130,7 +138,8 @@ impl ConnTable {
         ensures room { self.new.room ≡ self.old.room }
         ensures slots { length self.new.slots ≡ length self.old.slots }
     {
-        give(&mut self.slots, flow, receiver);
+        let found = self.seek(flow);
+        self.replace_at(found, receiver);
     }
 
     /// Takes the flow away; true exactly where it was there. Takes no memory.
@@ -142,7 +151,48 @@ impl ConnTable {
         ensures room { self.new.room ≡ self.old.room + (if result then 1 else 0) }
         ensures slots { length self.new.slots ≡ length self.old.slots }
     {
-        let there = take(&mut self.slots, flow);
+        let found = self.seek(flow);
+        self.remove_at(found)
+    }
+
+    /// Takes a flow that was sought and isn't there. Takes no memory.
+    pub fn insert_at(&mut self, found: Found, receiver: Receiver)
+        requires found { IsFound self.old.connections self.old.slots found }
+        requires absent { found.receiver ≡ None }
+        requires free { length self.old.connections < self.old.capacity }
+        requires room { 1 ≤ self.old.room }
+        ensures puts { Puts found.flow (Some receiver) self.old self.new }
+        ensures count { length self.new.connections ≡ length self.old.connections + 1 }
+        ensures room { self.new.room + 1 ≡ self.old.room }
+        ensures slots { length self.new.slots ≡ length self.old.slots }
+    {
+        fill(&mut self.slots, found, receiver);
+        self.len += 1;
+    }
+
+    /// Gives a flow that was sought and is there another receiver. Takes no memory.
+    pub fn replace_at(&mut self, found: Found, receiver: Receiver)
+        requires found { IsFound self.old.connections self.old.slots found }
+        requires there { IsSome found.receiver }
+        ensures puts { Puts found.flow (Some receiver) self.old self.new }
+        ensures count { length self.new.connections ≡ length self.old.connections }
+        ensures room { self.new.room ≡ self.old.room }
+        ensures slots { length self.new.slots ≡ length self.old.slots }
+    {
+        fill(&mut self.slots, found, receiver);
+    }
+
+    /// Takes away a flow that was sought; true exactly where it was there. Takes no memory.
+    pub fn remove_at(&mut self, found: Found) -> bool
+        requires found { IsFound self.old.connections self.old.slots found }
+        ensures there { result ≡ is_some found.receiver }
+        ensures puts { Puts found.flow None self.old self.new }
+        ensures count { length self.new.connections + (if result then 1 else 0)
+            ≡ length self.old.connections }
+        ensures room { self.new.room ≡ self.old.room + (if result then 1 else 0) }
+        ensures slots { length self.new.slots ≡ length self.old.slots }
+    {
+        let there = take(&mut self.slots, found);
         if there {
             self.len -= 1;
         }

@@ -26,12 +26,7 @@ loop-preserved c =
     (walked_more c.args.places.now c.args.flow.now c.loop.place c.loop.counter c.loop.invariant c.loop-test.true used
     other)
 
-pub returns-clause-stops : goal.returns-clause-stops
-returns-clause-stops c =
-    absurd (walked_all c.args.places.now c.args.flow.now c.loop.place c.loop.counter c.requires.free.0 c.loop.invariant
-    (omega arith) c.requires.free.1 c.requires.free.2)
-
-pub returns-clause-passed : goal.returns-clause-passed
-returns-clause-passed c =
+pub returns : goal.returns
+returns c =
     absurd (walked_all c.args.places.now c.args.flow.now c.loop.place c.loop.counter c.requires.free.0 c.loop.invariant
     (omega arith) c.requires.free.1 c.requires.free.2)
