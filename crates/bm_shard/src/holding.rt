@@ -2,6 +2,7 @@
 ghost use Rattle.std.specs.Prelude.{◌≡◌, ◌==◌, ◌<◌, ◌≤◌, length, is_some};
 ghost use Rattle.std.specs.Bool.{OnFalse};
 ghost use Rattle.bm_conn.specs.Connections.{HasRoom, IsMap, receiver_in};
+ghost use Rattle.bm_conn.specs.Layouts.{IsFound};
 ghost use Rattle.bm_core.specs.Books.{Closed, RetiredAs, Took};
 ghost use Rattle.bm_core.specs.Verdicts.{verdict_on};
 ghost use Rattle.bm_core.specs.declared.events.What.TheVariants.{Arrive as Arrives};
@@ -15,7 +16,7 @@ ghost use Rattle.bm_shard.specs.declared.calls.ShardReply.TheVariants.{Arrived, 
 use crate::calls::answer_to;
 use crate::{Shard, ShardCall, ShardReply};
 use bm_base::{Flow, Moment, Segment, Tag, Taken};
-use bm_conn::ConnTable;
+use bm_conn::{ConnTable, Found};
 use bm_core::{Local, Verdict, What, decide};
 use bm_seq::Receiver;
 use bm_table::Retirement;
@@ -28,15 +29,16 @@ pub(crate) struct Holding {
 }
 
 impl Holding {
-    /// What the shard knows of a flow.
-    fn local(&self, flow: &Flow) -> Local
-        ensures local { result ≡ local_in self.now flow.now }
+    /// What the shard knows of a flow that was sought.
+    fn local(&self, found: Found) -> Local
+        requires { found.receiver ≡ receiver_in self.now.table.connections found.flow }
+        ensures local { result ≡ local_in self.now found.flow }
         ensures free { OnFalse result.full
             (length self.now.table.connections < self.now.table.capacity) }
     {
         Local {
             retired: self.retired,
-            held: self.table.find(flow),
+            held: found.receiver,
             full: self.table.is_full(),
         }
     }
@@ -152,54 +154,58 @@ impl Holding {
             tag.now segment.now }
         ensures effect { TakesTurn (Took segment.now result) self.old self.new }
     {
-        let local = self.local(&segment.flow);
+        let found = self.table.seek(&segment.flow);
+        let local = self.local(found);
         let verdict = decide(&local, tag, segment, clock, timeout);
-        self.settle(verdict, segment, local.held);
+        self.settle(verdict, segment, found);
         verdict
     }
 
-    /// The verdict takes effect on the flow, which had this receiver or none.
-    fn settle(&mut self, verdict: Verdict, segment: &Segment, held: Option<Receiver>)
+    /// The verdict takes effect on the flow, which was sought.
+    fn settle(&mut self, verdict: Verdict, segment: &Segment, found: Found)
         requires can { CanTake verdict segment.now self.old }
         requires len { segment.now.len ≤ 1048576 }
-        requires held { held ≡ receiver_in self.old.table.connections segment.now.flow }
+        requires flow { found.flow ≡ segment.now.flow }
+        requires found { IsFound self.old.table.connections self.old.table.slots found }
         ensures { TakesTurn (Took segment.now verdict) self.old self.new }
     {
         match verdict {
-            Verdict::Accept => self.accept(segment, held),
+            Verdict::Accept => self.accept(segment, found),
             Verdict::Process(Taken::Ended) => {
-                self.table.remove(&segment.flow);
+                self.table.remove_at(found);
             }
-            Verdict::Process(_) => self.take(segment, held),
+            Verdict::Process(_) => self.take(segment, found),
             Verdict::Forward(_) | Verdict::Reset(_) | Verdict::Drop(_) => {}
         }
     }
 
     /// The flow's connection begins, in place of one that it may have had.
-    fn accept(&mut self, segment: &Segment, held: Option<Receiver>)
+    fn accept(&mut self, segment: &Segment, found: Found)
         requires can { CanOpen segment.now.flow self.old }
-        requires held { held ≡ receiver_in self.old.table.connections segment.now.flow }
+        requires flow { found.flow ≡ segment.now.flow }
+        requires found { IsFound self.old.table.connections self.old.table.slots found }
         ensures { TakesTurn (Took segment.now Verdict.Accept) self.old self.new }
     {
         let receiver = Receiver::open(segment);
-        if held.is_some() {
-            self.table.replace(&segment.flow, receiver);
+        if found.receiver.is_some() {
+            self.table.replace_at(found, receiver);
         } else {
-            self.table.insert(segment.flow, receiver);
+            self.table.insert_at(found, receiver);
         }
     }
 
     /// The flow's receiver takes the segment, if the flow is held.
-    fn take(&mut self, segment: &Segment, held: Option<Receiver>)
+    fn take(&mut self, segment: &Segment, found: Found)
         requires len { segment.now.len ≤ 1048576 }
-        requires held { held ≡ receiver_in self.old.table.connections segment.now.flow }
+        requires flow { found.flow ≡ segment.now.flow }
+        requires found { IsFound self.old.table.connections self.old.table.slots found }
         ensures { Takes segment.now self.old self.new }
     {
-        let Some(before) = held else { return };
+        let Some(before) = found.receiver else { return };
         let mut receiver = before;
         receiver.take(segment);
         if receiver != before {
-            self.table.replace(&segment.flow, receiver);
+            self.table.replace_at(found, receiver);
         }
     }
 
