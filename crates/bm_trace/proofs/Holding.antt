@@ -2,6 +2,8 @@
 use Rattle.std.proofs.Common.{◌≡◌, ℕ, suc, ◌<◌, ◌==◌, Bool, true, false, ◌&&◌, ◌||◌, not, ◌⊎◌, inl, inr, List, [], ◌∷◌}
 use Rattle.std.proofs.Common.{◌++◌, length, Option, Some, None, option_map, is_some, refl, sym, ap, ◌∙◌, arith, subst}
 use Rattle.std.specs.Prelude.{if◌then◌else◌, find}
+use Rattle.std.specs.BTreeMap as tree
+use Rattle.std.specs.BTreeMap.{BTreeMap}
 use Rattle.std.specs.Cmp.{both_ways}
 use Rattle.std.proofs.lemmas.Bool.{cases_Bool, or_left, or_right}
 use Rattle.std.proofs.lemmas.Bool.Decides.{nat_tests}
@@ -26,10 +28,11 @@ use Rattle.bm_table.specs.declared.plan.Retirement.{Retirement}
 use Rattle.bm_table.specs.Tables.{same_server}
 use Rattle.bm_table.proofs.Tables.{same_server-true, eq-same_server}
 use Rattle.bm_trace.specs.declared.holders.Holder.{Holder}
+use Rattle.bm_trace.specs.contracts.holders.ShardKeyOrd.TheImpl as key_order
 use Rattle.bm_trace.specs.declared.holders.ShardKey.{ShardKey}
 use Rattle.bm_trace.specs.HolderLists.{alive_place, is_alive, other_alive, place_in, put_holder, same_key}
 use Rattle.bm_trace.specs.HolderLists.{without_server}
-use Rattle.bm_trace.specs.Holders.{IsHolding, holders, holders_after, last_retired, ruled, ruling}
+use Rattle.bm_trace.specs.Holders.{IsHolding, IsHoldingFlow, holders, holders_after, last_retired, ruled, ruling}
 
 pub cond_same : {X : Type 0} (b : Bool) (x : X) → x ≡ (if b then x else x)
 cond_same true x = refl
@@ -400,12 +403,33 @@ held_alive stage (e ∷ past) s f =
     ∙ ap (λ o. alive_place (last_retired (e ∷ past) s (shard stage f)) o)
     (sym (place_after stage (length past) e.what s f (holders stage past f)))
 
-pub held_from : (stage : Stage) (past : List Event) (lists : Flow → List Holder) (retired : ShardKey → Option ℕ)
-    (s : ServerId) (f : Flow) (key : ShardKey)
-    → key.server ≡ s.0 → key.shard ≡ shard stage f → IsHolding stage past lists retired
-    → option_map (λ h. h.place) (held stage past s f) ≡ alive_place (retired key) (place_in (lists f) s)
-held_from stage past lists retired s f key a b k =
-    held_alive stage past s f ∙ sym (rw (k.retired_of_each key, k.holders_of_each f, a, b) refl)
+pub held_from : (stage : Stage) (past : List Event) (f : Flow) (list : List Holder) (retired : ServerId → Option ℕ)
+    (s : ServerId)
+    → IsHoldingFlow stage past f list retired
+    → alive_place (retired s) (place_in list s) ≡ option_map (λ h. h.place) (held stage past s f)
+held_from stage past f list retired s k =
+    rw (k.retired_of_each s, k.holders_of_flow) (sym (held_alive stage past s f))
+
+-- an empty map has the same at any two keys
+pub none_in : (m : BTreeMap ShardKey ℕ) (a b : ShardKey) → length m.entries ≡ 0
+    → tree.get (key_order.ghosts).cmp m a ≡ tree.get (key_order.ghosts).cmp m b
+none_in m a b none = rw (no_items m.entries none) refl
+  where
+    no_items : (xs : List (ShardKey × ℕ)) → length xs ≡ 0 → xs ≡ []
+    no_items [] h = refl
+    no_items (x ∷ xs) h = absurd (omega (arith, h))
+
+pub flow_from : (stage : Stage) (past : List Event) (f : Flow) (lists : Flow → List Holder)
+    (retired : ShardKey → Option ℕ) (list : List Holder) (h : ℕ)
+    → list ≡ lists f
+    → ((s : ServerId)
+    → retired (record { server = s.0; shard = h }) ≡ retired (record { server = s.0; shard = shard stage f }))
+    → IsHolding stage past lists retired
+    → IsHoldingFlow stage past f list (λ s. retired (record { server = s.0; shard = h }))
+flow_from stage past f lists retired list h is same k = record {
+  holders_of_flow = is ∙ k.holders_of_each f;
+  retired_of_each = λ s. same s ∙ k.retired_of_each (record { server = s.0; shard = shard stage f });
+}
 
 -- ELSEWHERE
 
@@ -513,13 +537,11 @@ elsewhere_alive stage past f s = both_ways _ _
     sym (some_held (held stage past e.0 f)) ∙ ap is_some (held_alive stage past e.0 f) ∙ e.2
     in elsewhere_shows stage past past e.0 s f holds e.1 holds)
 
-pub elsewhere_from : (stage : Stage) (past : List Event) (lists : Flow → List Holder) (retired : ShardKey → Option ℕ)
-    (s : ServerId) (f : Flow) (h : ℕ)
-    → h ≡ shard stage f → IsHolding stage past lists retired
-    → is_elsewhere stage past past f s ≡ other_alive (λ t. retired (record { server = t.0; shard = h })) (lists f) s
-elsewhere_from stage past lists retired s f h is k =
-    elsewhere_alive stage past f s
-    ∙ other_same (λ t. last_retired past t (shard stage f)) (λ t. retired (record { server = t.0; shard = h }))
-    (holders stage past f) s
-    (λ t. sym (k.retired_of_each (record { server = t.0; shard = h }) ∙ ap (λ i. last_retired past t i) is))
-    ∙ ap (λ hs. other_alive (λ t. retired (record { server = t.0; shard = h })) hs s) (sym (k.holders_of_each f))
+pub elsewhere_from : (stage : Stage) (past : List Event) (f : Flow) (list : List Holder)
+    (retired : ServerId → Option ℕ) (s : ServerId)
+    → IsHoldingFlow stage past f list retired
+    → other_alive retired list s ≡ is_elsewhere stage past past f s
+elsewhere_from stage past f list retired s k =
+    ap (λ hs. other_alive retired hs s) k.holders_of_flow
+    ∙ other_same retired (λ t. last_retired past t (shard stage f)) (holders stage past f) s k.retired_of_each
+    ∙ sym (elsewhere_alive stage past f s)

@@ -225,6 +225,27 @@ moved_twice plan b w v h =
     in let e : moves plan b w v ≡ length (movers plan b v) - length (movers plan b w) = omega (arith, i)
     in ap (nat_le 2) e
 
+few_moves : (plan : Planned) (b w v : ℕ) → moves plan b w v ≤ v - w
+few_moves plan b w zero = omega arith
+few_moves plan b w (suc v) =
+    let i = few_moves plan b w v
+    in elim (cases_lt v w) [
+      | inl last ↦ let z : moves plan b w (suc v) ≡ 0 = moves_before plan b w (suc v) (omega arith) in omega (arith, z)
+      | inr since ↦
+          let l : leb w v ≡ true = le-leb w v since
+          in elim (cases_Bool (moves_next plan v b)) [
+            | inl goes ↦ rw (l, goes) (omega (arith, i, since))
+            | inr stays ↦ rw (l, stays) (omega (arith, i, since))
+          ]
+    ]
+
+-- a bucket that moved twice did so by two changes
+pub not_twice : (plan : Planned) (b w v : ℕ) → v - w < 2 → nat_le 2 (moves plan b w v) ≡ false
+not_twice plan b w v h =
+    let f = few_moves plan b w v
+    in let below : moves plan b w v < 2 = omega (arith, f, h)
+    in grind (arith, nat_tests)
+
 moved_stamp : (old : Entry) (at : ℕ) (to : Option ServerId)
     → (moved old at to).stamp.0 ≡ (if is_some to then at else old.stamp.0)
 moved_stamp old at None = refl

@@ -12,7 +12,7 @@ use Rattle.bm_core.specs.declared.events.What.{What}
 use Rattle.bm_core.specs.declared.events.What.TheVariants.{Arrive, Close}
 use Rattle.bm_core.specs.declared.events.Event.{Event}
 use Rattle.bm_core.specs.declared.events.Stage.{Stage}
-use Rattle.bm_core.specs.Past.{is_of, retires, segment_of}
+use Rattle.bm_core.specs.Past.{is_of, retires, segment_of, shard}
 use Rattle.bm_trace.specs.declared.holders.Holder.{Holder}
 use Rattle.bm_trace.specs.declared.holders.ShardKey.{ShardKey}
 use Rattle.bm_trace.specs.HolderLists.{put_holder}
@@ -52,3 +52,9 @@ pub record IsHolding (stage : Stage) (past : List Event) (lists : Flow → List 
   pub holders_of_each : (f : Flow) → lists f ≡ holders stage past f
   pub retired_of_each : (key : ShardKey)
       → retired key ≡ last_retired past (record { 0 = key.server }) key.shard
+
+-- these are the holders of one flow and the last retirements of its shards after these events
+pub record IsHoldingFlow (stage : Stage) (past : List Event) (f : Flow) (list : List Holder)
+    (retired : ServerId → Option ℕ) : Type 0 where
+  pub holders_of_flow : list ≡ holders stage past f
+  pub retired_of_each : (s : ServerId) → retired s ≡ last_retired past s (shard stage f)

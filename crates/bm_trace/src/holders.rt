@@ -4,10 +4,12 @@ ghost use Rattle.std.specs.Prelude.{Option, Some, None, option_map, find, if◌t
 ghost use Rattle.std.specs.Prelude.{false};
 ghost use Rattle.std.specs.BTreeMap as tree;
 ghost use Rattle.bm_base.specs.declared.flow.Flow.{Flow};
+ghost use Rattle.bm_base.specs.declared.ids.ServerId.{ServerId};
 ghost use Rattle.bm_base.specs.Segments.{same_flow};
 ghost use Rattle.std.specs.Option.{option_copied};
 ghost use Rattle.bm_table.specs.Tables.{same_server};
 ghost use Rattle.bm_core.specs.declared.events.Event.{Event};
+ghost use Rattle.bm_core.specs.declared.events.Stage.{Stage};
 ghost use Rattle.bm_core.specs.Past as past;
 ghost use Rattle.bm_core.specs.Causes as causes;
 ghost use Rattle.bm_trace.specs.FlowKeys.{key_of};
@@ -207,6 +209,24 @@ impl Retirements {
         }
     }
 
+    /// The shard of the flow, by which its servers' retirements are looked up. While there are none
+    /// any number will do, which saves a hash.
+    #[tactic(auto, using(crate::proofs::Holding::none_in))]
+    fn shard_for(&self, stage: &Stage, flow: &Flow) -> u16
+        requires { HasRanges stage.now }
+        ensures { (s : ServerId)
+            → tree.get ⟦<ShardKey as Ord>⟧.cmp self.now.places
+            (record { server = s.0; shard = result })
+            ≡ tree.get ⟦<ShardKey as Ord>⟧.cmp self.now.places
+            (record { server = s.0; shard = past.shard stage.now flow.now }) }
+    {
+        if self.places.is_empty() {
+            0
+        } else {
+            shard_of(flow, stage.script.setting.shards)
+        }
+    }
+
     fn get(&self, key: ShardKey) -> Option<usize>
         ensures { result ≡ tree.get ⟦<ShardKey as Ord>⟧.cmp self.now.places key }
     {
@@ -282,7 +302,7 @@ pub(crate) struct Holders {
 }
 
 impl Holders {
-    ghost use Rattle.bm_trace.specs.Holding.{HoldsAfter};
+    ghost use Rattle.bm_trace.specs.Holding.{HoldsAfter, HoldsFlow};
 
     pub(crate) fn new(alloc: Global) -> Holders
         ensures { (stage : Stage) → HoldsAfter stage [] result }
@@ -400,24 +420,47 @@ impl Holders {
         }
     }
 
-    /// The place of the Accept of the flow that the server holds.
-    pub(crate) fn held_place(&self, stage: &Stage, server: ServerId, flow: &Flow) -> Option<usize>
+    /// The holders of the flow.
+    pub(crate) fn of(&self, stage: &Stage, flow: &Flow) -> HeldBy<'_>
         requires { HasRanges stage.now }
         ensures { (seen : List Event) → HoldsAfter stage.now seen self.now
-            → result ≡ option_map (λ h. h.place) (past.held stage.now seen server flow.now) }
+            → HoldsFlow stage.now seen flow.now result }
     {
-        let shard = shard_of(flow, stage.script.setting.shards);
-        self.retired.alive_in(self.lists.get(flow), server, shard)
+        HeldBy {
+            holders: self.lists.get(flow),
+            shard: self.retired.shard_for(stage, flow),
+            retired: &self.retired,
+        }
+    }
+}
+
+/// The holders of one flow, and the shard of the flow by which retirements are looked up.
+#[derive(Clone, Copy)]
+pub(crate) struct HeldBy<'a> {
+    holders: &'a [Holder],
+    shard: u16,
+    retired: &'a Retirements,
+}
+
+impl<'a> HeldBy<'a> {
+    ghost use Rattle.bm_trace.specs.Holding.{HoldsFlow};
+
+    /// The place of the Accept of the flow that the server holds.
+    pub(crate) fn place(&self, server: ServerId) -> Option<usize>
+        ensures { (stage : Stage) (seen : List Event) (flow : Flow)
+            → HoldsFlow stage seen flow self.now
+            → result ≡ option_map (λ h. h.place) (past.held stage seen server flow) }
+    {
+        self.retired.alive_in(self.holders, server, self.shard)
     }
 
     /// Whether a server other than this holds the flow.
-    pub(crate) fn is_elsewhere(&self, stage: &Stage, flow: &Flow, server: ServerId) -> bool
-        requires { HasRanges stage.now }
-        ensures { (seen : List Event) → HoldsAfter stage.now seen self.now
-            → result ≡ causes.is_elsewhere stage.now seen seen flow.now server }
+    pub(crate) fn is_elsewhere(&self, server: ServerId) -> bool
+        ensures { (stage : Stage) (seen : List Event) (flow : Flow)
+            → HoldsFlow stage seen flow self.now
+            → result ≡ causes.is_elsewhere stage seen seen flow server }
     {
-        let shard = shard_of(flow, stage.script.setting.shards);
         self.retired
-            .is_other_alive(self.lists.get(flow), server, shard)
+            .is_other_alive(self.holders, server, self.shard)
     }
 }

@@ -1,6 +1,7 @@
 //! What is known after some events, for the causes of those that follow.
 ghost use Rattle.std.specs.Prelude.{◌≡◌, List, length, reverse, OnOk, IfOk, Some, None, option_map};
-ghost use Rattle.std.specs.Prelude.{[], ◌∷◌};
+ghost use Rattle.std.specs.Prelude.{[], ◌∷◌, ◌≤◌, nat_le};
+ghost use Rattle.bm_table.specs.Tables as tables;
 ghost use Rattle.bm_core.specs.Past as past;
 ghost use Rattle.bm_core.specs.Causes as causes;
 ghost use Rattle.bm_trace.specs.Holding.{HoldsAfter};
@@ -28,11 +29,29 @@ pub(crate) struct Known {
     movers: Movers,
 }
 
-fn is_late(movers: &Movers, stage: &Stage, bucket: u32, sent: &Sent, clock: Moment) -> bool
-    requires { AreMovers stage.now.script.plan movers.now }
-    ensures { (f : Flow) → bucket ≡ past.bucket stage.now f
-        → result ≡ causes.is_late stage.now (label_sent stage.now f sent.now) clock.0 }
+/// Whether two or more of the changes from `since + 1` to `version` move the flow's bucket.
+#[tactic(auto, using(crate::proofs::Moved::not_twice))]
+fn moves_twice(movers: &Movers, stage: &Stage, flow: &Flow, since: u32, version: u32) -> bool
+    requires ranges { HasRanges stage.now }
+    requires kept { AreMovers stage.now.script.plan movers.now }
+    requires order { since ≤ version }
+    ensures { result ≡ nat_le 2
+        (tables.moves stage.now.script.plan (past.bucket stage.now flow.now) since version) }
 {
+    // A change moves a bucket once at most, so mostly no bucket is asked for.
+    if version - since < 2 {
+        return false;
+    }
+    let bucket = bucket_of(flow, stage.script.setting.buckets);
+    movers.moves_twice(&stage.script.plan, bucket, since, version)
+}
+
+fn is_late(movers: &Movers, stage: &Stage, flow: &Flow, sent: &Sent, clock: Moment) -> bool
+    requires ranges { HasRanges stage.now }
+    requires kept { AreMovers stage.now.script.plan movers.now }
+    ensures { result ≡ causes.is_late stage.now (label_sent stage.now flow.now sent.now) clock.0 }
+{
+    let bucket = bucket_of(flow, stage.script.setting.buckets);
     let stamp = movers.stamp(&stage.script.plan, bucket, sent.version.0);
     u128::from(stamp.0) + u128::from(stage.script.setting.timeout) < u128::from(clock.0)
 }
@@ -67,30 +86,6 @@ impl Known {
         self.holders.note(alloc, stage, events.len(), event)
     }
 
-    fn held_place(
-        &self,
-        stage: &Stage,
-        events: &[Event],
-        server: ServerId,
-        flow: &Flow,
-    ) -> Option<usize>
-        requires ranges { HasRanges stage.now }
-        requires knows { Knows stage.now (reverse events.now) self.now }
-        ensures { result
-            ≡ option_map (λ h. h.place) (past.held stage.now (reverse events.now) server flow.now) }
-    {
-        self.holders.held_place(stage, server, flow)
-    }
-
-    fn is_elsewhere(&self, stage: &Stage, events: &[Event], flow: &Flow, server: ServerId) -> bool
-        requires ranges { HasRanges stage.now }
-        requires knows { Knows stage.now (reverse events.now) self.now }
-        ensures { result ≡ causes.is_elsewhere stage.now (reverse events.now) (reverse events.now)
-            flow.now server }
-    {
-        self.holders.is_elsewhere(stage, flow, server)
-    }
-
     /// The first premise that is broken where a packet arrives that isn't opening.
     fn first_broken(
         &self,
@@ -110,19 +105,16 @@ impl Known {
         let Some(owner) = sent.owner else {
             return Some(Cause::NeverAccepted);
         };
-        let bucket = bucket_of(flow, stage.script.setting.buckets);
-        if self.held_place(stage, events, owner.server, flow) != Some(owner.place) {
+        let held = self.holders.of(stage, flow);
+        if held.place(owner.server) != Some(owner.place) {
             Some(Cause::NotHeld)
         } else if sent.version.0 < owner.version {
             Some(Cause::StaleMux)
-        } else if self
-            .movers
-            .moves_twice(&stage.script.plan, bucket, owner.version, sent.version.0)
-        {
+        } else if moves_twice(&self.movers, stage, flow, owner.version, sent.version.0) {
             Some(Cause::MovedTwice)
-        } else if server != owner.server && is_late(&self.movers, stage, bucket, sent, clock) {
+        } else if server != owner.server && is_late(&self.movers, stage, flow, sent, clock) {
             Some(Cause::ChainLate)
-        } else if self.is_elsewhere(stage, events, flow, owner.server) {
+        } else if held.is_elsewhere(owner.server) {
             Some(Cause::SynElsewhere)
         } else {
             None
