@@ -102,46 +102,43 @@ pub lines_lost : (a b : Option (List ℕ)) (p q s rest whole : List ℕ) → s +
     → HandsPart a p b whole
 lines_lost a b p q s rest whole all on = subst (λ x. HandsPart a p b x) all (rest_lost a b p q s rest on)
 
--- THE WHOLE
+-- THE LAST OF THE BUFFER
 
--- how much was sent of a text whose buffer was empty at first
-sent_whole : (a b : Option (List ℕ)) (p q r s t : List ℕ) (on : HandsOn a p b q s) → p ≡ [] → r ≡ q ++ t
-    → on.sent ++ r ≡ s ++ t
-sent_whole a b p q r s t on empty more =
-    ap (λ x. on.sent ++ x) more
-    ∙ sym (append_assoc on.sent q t)
-    ∙ ap (λ x. x ++ t) (on.whole ∙ ap (λ x. x ++ s) empty)
+-- it was written, with a text behind it
+pub all_on : (a b c : Option (List ℕ)) (p q r s t : List ℕ) → HandsOn a p b q s → r ≡ q ++ t → Appends b c r
+    → HandsOn a p c [] (s ++ t)
+all_on a b c p q r s t on more last =
+    both_on a b c p q [] s t on (record { sent = r; appended = last; whole = append-nil r ∙ more })
 
--- the last of the buffer was written
-pub all_written : (a b c : Option (List ℕ)) (p q r s t : List ℕ) → p ≡ [] → HandsOn a p b q s → r ≡ q ++ t
-    → Appends b c r → Appends a c (s ++ t)
-all_written a b c p q r s t empty on more last =
-    subst (λ x. Appends a c x) (sent_whole a b p q r s t on empty more)
-    (Appends-trans a b c on.sent r on.appended last)
+-- it was refused
+pub last_part : (a b c : Option (List ℕ)) (p q r s t : List ℕ) → HandsOn a p b q s → r ≡ q ++ t
+    → WritesPart b c r → HandsPart a p c (s ++ t)
+last_part a b c p q r s t on more part =
+    part_after a b c p q s t on
+    (record {
+      lost = drop part.0 r;
+      on = record {
+        sent = take part.0 r;
+        appended = part.2;
+        whole = take-append-drop part.0 r ∙ more;
+      };
+    })
 
-written_part : (a b : Option (List ℕ)) (sent rest text : List ℕ) → sent ++ rest ≡ text → Appends a b sent
-    → WritesPart a b text
-written_part a b sent rest text whole appended =
-    let front : take (length sent) text ≡ sent =
-    ap (λ x. take (length sent) x) (sym whole) ∙ take-append_seam sent rest
-    in (
-      length sent,
-      omega (arith, ap length whole, length-append sent rest),
-      subst (λ x. Appends a b x) (sym front) appended,
-    )
+-- THE WHOLE, where nothing waited at first
 
--- the last of the buffer was refused
-pub last_refused : (a b c : Option (List ℕ)) (p q r s t : List ℕ) → p ≡ [] → HandsOn a p b q s → r ≡ q ++ t
-    → ((n : ℕ) × (n ≤ length r) × Appends b c (take n r)) → WritesPart a c (s ++ t)
-last_refused a b c p q r s t empty on more part =
-    written_part a c (on.sent ++ take part.0 r) (drop part.0 r) (s ++ t)
-    (append_assoc on.sent (take part.0 r) (drop part.0 r)
-    ∙ ap (λ x. on.sent ++ x) (take-append-drop part.0 r)
-    ∙ sent_whole a b p q r s t on empty more)
-    (Appends-trans a b c on.sent (take part.0 r) on.appended part.2)
+pub all_written : (a b : Option (List ℕ)) (p s : List ℕ) → p ≡ [] → HandsOn a p b [] s → Appends a b s
+all_written a b p s empty on =
+    subst (λ x. Appends a b x) (sym (append-nil on.sent) ∙ on.whole ∙ ap (λ x. x ++ s) empty) on.appended
 
 -- a first part was written
-pub part_written : (a b : Option (List ℕ)) (p s t : List ℕ) → p ≡ [] → HandsPart a p b s → WritesPart a b (s ++ t)
-part_written a b p s t empty part =
-    written_part a b part.on.sent (part.lost ++ t) (s ++ t)
-    (sent_whole a b p part.lost (part.lost ++ t) s t part.on empty refl) part.on.appended
+pub part_written : (a b : Option (List ℕ)) (p s : List ℕ) → p ≡ [] → HandsPart a p b s → WritesPart a b s
+part_written a b p s empty part =
+    let sent = part.on.sent
+    in let whole : sent ++ part.lost ≡ s = part.on.whole ∙ ap (λ x. x ++ s) empty
+    in let front : take (length sent) s ≡ sent =
+    ap (λ x. take (length sent) x) (sym whole) ∙ take-append_seam sent part.lost
+    in (
+      length sent,
+      omega (arith, ap length whole, length-append sent part.lost),
+      subst (λ x. Appends a b x) (sym front) part.on.appended,
+    )

@@ -14,12 +14,13 @@ use Rattle.bm_core.specs.declared.events.Stage.{Stage}
 use Rattle.bm_trace.specs.declared.records.End.{End}
 use Rattle.bm_trace.specs.declared.sums.Totals.{Totals}
 use Rattle.bm_trace.specs.Ends.{words_of_ends, words_of_record}
-use Rattle.bm_trace.specs.Parts.{AppendsPart, HandsOn, HandsPart, WritesPart}
+use Rattle.bm_trace.specs.Parts.{AppendsPart, HandsOn, HandsPart, WritesPart, lines_behind}
 use Rattle.bm_trace.specs.Report.{event_line, event_lines, ends_of, note_line, record_lines, record_words, text}
 use Rattle.bm_trace.specs.Report.{totals_line}
 use Rattle.bm_trace.specs.Totals.{totals_of}
 use Rattle.bm_trace.specs.Words.{line}
-use Rattle.bm_trace.proofs.Handing.{all_written, last_refused, line_more, line_refused, lines_lost, part_written}
+use Rattle.bm_trace.proofs.Handing.{all_written, both_on, line_more, line_refused, lines_lost, part_after}
+use Rattle.bm_trace.proofs.Handing.{part_rest, part_written}
 use Rattle.bm_trace.proofs.Newest.{reverse_take}
 
 -- nothing was appended
@@ -191,19 +192,6 @@ records_left past shown records i a b p q is before =
 
 -- THE WHOLE
 
--- the lines of the events and of the records
-abbrev pub body_lines : History → List ℕ
-body_lines h =
-    event_lines h.stage (reverse h.events) ++ record_lines (reverse h.events) 1 h.stage.capture.records
-
--- the note and the totals
-abbrev pub last_lines : History → List ℕ
-last_lines h = note_line h.stage.capture.cut ++ totals_line (totals_of h)
-
-text_is : (h : History) → body_lines h ++ last_lines h ≡ text h
-unfolding text
-text_is h = sym (append_assoc (body_lines h) (note_line h.stage.capture.cut) (totals_line (totals_of h)))
-
 -- the buffer behind the note and the totals
 pub last_put : (piece old noted new note : List ℕ) (s t : Totals) → piece ≡ new → noted ≡ old ++ note
     → new ≡ noted ++ totals_line s → s ≡ t → piece ≡ old ++ (note ++ totals_line t)
@@ -211,18 +199,37 @@ last_put piece old noted new note s t is first second same =
     is ∙ second ∙ ap (λ x. x ++ totals_line s) first ∙ append_assoc old note (totals_line s)
     ∙ ap (λ x. old ++ (note ++ totals_line x)) same
 
-pub report_written : (h : History) (a b c : Option (List ℕ)) (p q r : List ℕ) → p ≡ []
-    → HandsOn a p b q (body_lines h) → r ≡ q ++ last_lines h → Appends b c r → Appends a c (text h)
-report_written h a b c p q r empty on more last =
-    subst (λ x. Appends a c x) (text_is h) (all_written a b c p q r (body_lines h) (last_lines h) empty on more last)
+-- the lines of the events
+abbrev first_lines : History → List ℕ
+first_lines h = event_lines h.stage (reverse h.events)
 
-pub report_refused : (h : History) (a b c : Option (List ℕ)) (p q r : List ℕ) → p ≡ []
-    → HandsOn a p b q (body_lines h) → r ≡ q ++ last_lines h → WritesPart b c r → WritesPart a c (text h)
-report_refused h a b c p q r empty on more part =
-    subst (λ x. WritesPart a c x) (text_is h)
-    (last_refused a b c p q r (body_lines h) (last_lines h) empty on more part)
+text_is : (h : History) → first_lines h ++ lines_behind h ≡ text h
+unfolding text
+text_is h =
+    let records = record_lines (reverse h.events) 1 h.stage.capture.records
+    in let note = note_line h.stage.capture.cut
+    in let total = totals_line (totals_of h)
+    in sym (append_assoc (first_lines h) records (note ++ total)) ∙ sym (append_assoc (first_lines h ++ records) note total)
 
-pub report_part : (h : History) (a b : Option (List ℕ)) (p : List ℕ) → p ≡ [] → HandsPart a p b (body_lines h)
+pub report_written : (h : History) (a b c : Option (List ℕ)) (p q : List ℕ) → p ≡ []
+    → HandsOn a p b q (first_lines h) → HandsOn b q c [] (lines_behind h) → Appends a c (text h)
+report_written h a b c p q empty first rest =
+    subst (λ x. Appends a c x) (text_is h)
+    (all_written a c p (first_lines h ++ lines_behind h) empty
+    (both_on a b c p q [] (first_lines h) (lines_behind h) first rest))
+
+-- the lines of the events were refused
+pub first_refused : (h : History) (a b : Option (List ℕ)) (p : List ℕ) → p ≡ [] → HandsPart a p b (first_lines h)
     → WritesPart a b (text h)
-report_part h a b p empty part =
-    subst (λ x. WritesPart a b x) (text_is h) (part_written a b p (body_lines h) (last_lines h) empty part)
+first_refused h a b p empty part =
+    subst (λ x. WritesPart a b x) (text_is h)
+    (part_written a b p (first_lines h ++ lines_behind h) empty
+    (part_rest a b p (first_lines h) (lines_behind h) part))
+
+-- what stands behind them was refused
+pub rest_refused : (h : History) (a b c : Option (List ℕ)) (p q : List ℕ) → p ≡ []
+    → HandsOn a p b q (first_lines h) → HandsPart b q c (lines_behind h) → WritesPart a c (text h)
+rest_refused h a b c p q empty first part =
+    subst (λ x. WritesPart a c x) (text_is h)
+    (part_written a c p (first_lines h ++ lines_behind h) empty
+    (part_after a b c p q (first_lines h) (lines_behind h) first part))

@@ -46,10 +46,10 @@ take_all : {X : Type 0} (xs : List X) → take (length xs) xs ≡ xs
 take_all xs = grind (arith, common_steps)
 
 -- the lines of the events behind a place
-abbrev lines_behind : History → ℕ → List ℕ
-lines_behind h i = later_lines h.stage (reverse (drop i h.events)) (reverse (take i h.events))
+abbrev lines_from : History → ℕ → List ℕ
+lines_from h i = later_lines h.stage (reverse (drop i h.events)) (reverse (take i h.events))
 
-lines_rest : (h : History) (i : ℕ) → AreLines h i (length h.events) (lines_behind h i)
+lines_rest : (h : History) (i : ℕ) → AreLines h i (length h.events) (lines_from h i)
 lines_rest h i =
     events_whole h.stage h.events i ∙ ap (λ x. event_lines h.stage (reverse x)) (sym (take_all h.events))
 
@@ -75,9 +75,9 @@ puts_both h i j k a b c first second = puts_more h i j k a b c second.sent first
 pub puts_left : (h : History) (i j : ℕ) (a b : Option (List ℕ)) → PutsLines h i j a b → PutsPart h i a b
 puts_left h i j a b before = record {
   sent = before.sent;
-  rest = lines_behind h j;
+  rest = lines_from h j;
   appended = before.appended;
-  lines = lines_both h i j (length h.events) before.sent (lines_behind h j) before.lines (lines_rest h j);
+  lines = lines_both h i j (length h.events) before.sent (lines_from h j) before.lines (lines_rest h j);
 }
 
 pub puts_after : (h : History) (i j : ℕ) (a b c : Option (List ℕ)) → PutsLines h i j a b → PutsPart h j b c
@@ -96,13 +96,13 @@ pub piece_left : (h : History) (i j : ℕ) (a b : Option (List ℕ)) (lines : Li
     → WritesPart a b lines → PutsPart h i a b
 piece_left h i j a b lines are part = record {
   sent = take part.0 lines;
-  rest = drop part.0 lines ++ lines_behind h j;
+  rest = drop part.0 lines ++ lines_from h j;
   appended = part.2;
   lines =
       ap (λ x. first_lines h.stage h.events i ++ x)
-      (sym (append_assoc (take part.0 lines) (drop part.0 lines) (lines_behind h j))
-      ∙ ap (λ x. x ++ lines_behind h j) (take-append-drop part.0 lines))
-      ∙ lines_both h i j (length h.events) lines (lines_behind h j) are (lines_rest h j);
+      (sym (append_assoc (take part.0 lines) (drop part.0 lines) (lines_from h j))
+      ∙ ap (λ x. x ++ lines_from h j) (take-append-drop part.0 lines))
+      ∙ lines_both h i j (length h.events) lines (lines_from h j) are (lines_rest h j);
 }
 
 -- ALL EVENTS

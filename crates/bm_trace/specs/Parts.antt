@@ -1,6 +1,9 @@
 -- What a writer leaves that gave up, and how lines reach a sink in pieces.
-use Rattle.std.specs.Prelude.{◌≡◌, ℕ, ◌≤◌, List, ◌++◌, length, take, Option}
+use Rattle.std.specs.Prelude.{◌≡◌, ℕ, ◌≤◌, List, ◌++◌, length, reverse, take, Option}
 use Rattle.std.specs.Io.KnownBytes.{Appends}
+use Rattle.bm_core.specs.declared.events.History.{History}
+use Rattle.bm_trace.specs.Report.{note_line, record_lines, totals_line}
+use Rattle.bm_trace.specs.Totals.{totals_of}
 
 -- a first part of the text was appended
 pub record AppendsPart (old new text : List ℕ) : Type 0 where
@@ -25,3 +28,9 @@ pub record HandsPart (before : Option (List ℕ)) (waited : List ℕ) (now : Opt
     (text : List ℕ) : Type 0 where
   pub lost : List ℕ
   pub on : HandsOn before waited now lost text
+
+-- what stands behind the lines of the events: the lines of the records, the note and the totals
+abbrev pub lines_behind : History → List ℕ
+lines_behind h =
+    record_lines (reverse h.events) 1 h.stage.capture.records
+    ++ (note_line h.stage.capture.cut ++ totals_line (totals_of h))

@@ -7,17 +7,15 @@ ghost use Rattle.bm_core.specs.Runs.{IsRun};
 ghost use Rattle.bm_io.specs.Causes.{HasIoCause};
 ghost use Rattle.bm_trace.specs.Pieces.{AreInRow, AreLines, CanWrite, HasWritten, PutsLines};
 ghost use Rattle.bm_trace.specs.Pieces.{PutsPart, place_of};
-ghost use Rattle.bm_trace.specs.Parts.{HandsOn, HandsPart, WritesPart};
+ghost use Rattle.bm_trace.specs.Parts.{WritesPart};
 ghost use Rattle.bm_trace.specs.Ranges.{HasRanges};
 ghost use Rattle.bm_trace.specs.Report as report;
 ghost use Rattle.bm_trace.specs.Running.{AreVersions};
 ghost use Rattle.bm_trace.specs.Swept.{AreCauses};
-ghost use Rattle.bm_trace.specs.Totals as totals;
 ghost use Rattle.bm_trace.specs.declared.beside.Piece.{Piece as PieceOf};
 
-use crate::document::put_records;
-use crate::lines::{write_cut, write_event, write_totals};
-use crate::sums::Totals;
+use crate::document::put_rest;
+use crate::lines::write_event;
 use crate::swept::{CauseList, totals_of};
 use crate::versions::{no_versions, note_version};
 use bm_base::Version;
@@ -214,7 +212,7 @@ fn put_next<R: Threads + Sync, K: Sink>(
 }
 
 /// Writes the lines of the events, a piece in each thread at once.
-fn put_events<R: Threads + Sync, K: Sink>(
+pub(crate) fn put_events<R: Threads + Sync, K: Sink>(
     rt: &R,
     threads: usize,
     h: &History,
@@ -238,32 +236,6 @@ fn put_events<R: Threads + Sync, K: Sink>(
     Ok(())
 }
 
-/// Writes the report of the history, whose causes and totals are these.
-pub(crate) fn put_beside<R: Threads + Sync, K: Sink>(
-    rt: &R,
-    threads: usize,
-    h: &History,
-    causes: &CauseList,
-    sums: &Totals,
-    out: &mut K,
-) -> Result<(), IoFault>
-    requires threads { 0 < threads }
-    requires ranges { HasRanges h.now.stage }
-    requires causes { AreCauses h.now causes.now }
-    requires sums { sums.now ≡ totals.totals_of h.now }
-    ensures ok { OnOk result (Appends (K.written out.old) (K.written out.new) (report.text h.now)) }
-    ensures err { OnErr result (WritesPart (K.written out.old) (K.written out.new)
-        (report.text h.now)) }
-    ensures cause { HasIoCause (K.faults out.old) (K.faults out.new) result }
-{
-    put_events(rt, threads, h, causes, out)?;
-    let mut lines = String::new(causes.allocator());
-    put_records(h, &mut lines, out)?;
-    write_cut(&mut lines, h.stage.capture.cut)?;
-    write_totals(&mut lines, sums)?;
-    put_all(out, lines.as_bytes())
-}
-
 /// Writes the report of the history, with these causes of its events, by as many threads. It is
 /// never held whole. Where it is refused, a first part of it was written.
 #[tactic(auto, using(crate::proofs::Ranged::ranges_of))]
@@ -281,5 +253,11 @@ pub fn report_beside<R: Threads + Sync, K: Sink>(
         (report.text h.now)) }
     ensures cause { HasIoCause (K.faults out.old) (K.faults out.new) result }
 {
-    put_beside(rt, threads.max(1), h, causes, &totals_of(h, causes), out)
+    put_events(rt, threads.max(1), h, causes, out)?;
+    put_rest(
+        h,
+        &totals_of(h, causes),
+        String::new(causes.allocator()),
+        out,
+    )
 }

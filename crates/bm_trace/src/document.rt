@@ -4,7 +4,7 @@ ghost use Rattle.std.specs.Prelude.{string_bytes, []};
 ghost use Rattle.std.specs.Io.KnownBytes.{Appends};
 ghost use Rattle.bm_core.specs.Runs.{IsRun};
 ghost use Rattle.bm_io.specs.Causes.{HasIoCause};
-ghost use Rattle.bm_trace.specs.Parts.{AppendsPart, HandsOn, HandsPart, WritesPart};
+ghost use Rattle.bm_trace.specs.Parts.{AppendsPart, HandsOn, HandsPart, WritesPart, lines_behind};
 ghost use Rattle.bm_trace.specs.Ranges.{HasRanges};
 ghost use Rattle.bm_trace.specs.Report as report;
 ghost use Rattle.bm_trace.specs.Swept.{AreCauses};
@@ -40,7 +40,7 @@ fn put_full<K: Sink>(lines: &mut String, out: &mut K) -> Result<(), IoFault>
 }
 
 /// Writes the lines of the events.
-fn put_events<K: Sink>(
+pub(crate) fn put_events<K: Sink>(
     h: &History,
     causes: &CauseList,
     lines: &mut String,
@@ -69,11 +69,7 @@ fn put_events<K: Sink>(
 }
 
 /// Writes the lines of the records.
-pub(crate) fn put_records<K: Sink>(
-    h: &History,
-    lines: &mut String,
-    out: &mut K,
-) -> Result<(), IoFault>
+fn put_records<K: Sink>(h: &History, lines: &mut String, out: &mut K) -> Result<(), IoFault>
     requires { HasRanges h.now.stage }
     ensures ok { OnOk result (HandsOn (K.written out.old) (string_bytes lines.old)
         (K.written out.new) (string_bytes lines.new)
@@ -97,23 +93,21 @@ pub(crate) fn put_records<K: Sink>(
     Ok(())
 }
 
-/// Writes the report of the history, whose causes and totals are these.
-pub(crate) fn put_report<K: Sink>(
+/// Writes the lines that wait, and behind them what stands behind the lines of the events.
+pub(crate) fn put_rest<K: Sink>(
     h: &History,
-    causes: &CauseList,
     sums: &Totals,
+    mut lines: String,
     out: &mut K,
 ) -> Result<(), IoFault>
     requires ranges { HasRanges h.now.stage }
-    requires causes { AreCauses h.now causes.now }
     requires sums { sums.now ≡ totals.totals_of h.now }
-    ensures ok { OnOk result (Appends (K.written out.old) (K.written out.new) (report.text h.now)) }
-    ensures err { OnErr result (WritesPart (K.written out.old) (K.written out.new)
-        (report.text h.now)) }
+    ensures ok { OnOk result (HandsOn (K.written out.old) (string_bytes lines)
+        (K.written out.new) [] (lines_behind h.now)) }
+    ensures err { OnErr result (HandsPart (K.written out.old) (string_bytes lines)
+        (K.written out.new) (lines_behind h.now)) }
     ensures cause { HasIoCause (K.faults out.old) (K.faults out.new) result }
 {
-    let mut lines = String::new(causes.allocator());
-    put_events(h, causes, &mut lines, out)?;
     put_records(h, &mut lines, out)?;
     write_cut(&mut lines, h.stage.capture.cut)?;
     write_totals(&mut lines, sums)?;
@@ -131,7 +125,9 @@ pub fn report_to<K: Sink>(h: &History, causes: &CauseList, out: &mut K) -> Resul
         (report.text h.now)) }
     ensures cause { HasIoCause (K.faults out.old) (K.faults out.new) result }
 {
-    put_report(h, causes, &totals_of(h, causes), out)
+    let mut lines = String::new(causes.allocator());
+    put_events(h, causes, &mut lines, out)?;
+    put_rest(h, &totals_of(h, causes), lines, out)
 }
 
 /// Appends the report of the history. Where memory is refused, a first part of it was appended.

@@ -1,9 +1,8 @@
 ghost use Rattle.std.specs.Prelude.{◌<◌};
 
-use crate::beside::put_beside;
-use crate::document::put_report;
+use crate::document::{put_events, put_rest};
 use crate::swept::causes_of;
-use crate::totals;
+use crate::{beside, totals};
 use Happening::*;
 use Seen::*;
 use bm_base::*;
@@ -173,12 +172,14 @@ fn report(rt: &impl Abort, alloc: Global, h: &History) -> Result<MemSink, Fail> 
     assert!(rt; h.stage.capture.records.items().len() <= 100);
     let mut out = MemSink::new(alloc, Vec::new(alloc));
     let causes = causes_of(alloc, h)?;
-    put_report(h, &causes, &totals(h), &mut out).map_err(|_| "the sink failed")?;
+    let mut lines = String::new(alloc);
+    put_events(h, &causes, &mut lines, &mut out).map_err(|_| "the sink failed")?;
+    put_rest(h, &totals(h), lines, &mut out).map_err(|_| "the sink failed")?;
     Ok(out)
 }
 
 /// The same, written by so many threads.
-fn beside<R: Abort + Threads + std::marker::Sync>(
+fn report_beside<R: Abort + Threads + std::marker::Sync>(
     rt: &R,
     alloc: Global,
     threads: usize,
@@ -193,7 +194,8 @@ fn beside<R: Abort + Threads + std::marker::Sync>(
     assert!(rt; h.stage.capture.records.items().len() <= 100);
     let mut out = MemSink::new(alloc, Vec::new(alloc));
     let causes = causes_of(alloc, h)?;
-    put_beside(rt, threads, h, &causes, &totals(h), &mut out).map_err(|_| "the sink failed")?;
+    beside::put_events(rt, threads, h, &causes, &mut out).map_err(|_| "the sink failed")?;
+    put_rest(h, &totals(h), String::new(alloc), &mut out).map_err(|_| "the sink failed")?;
     Ok(out)
 }
 
@@ -248,11 +250,11 @@ fn threads_write_the_same_report(rt: HostRuntime) -> Result<(), Fail> {
     let alloc = rt.alloc();
     let h = history(alloc)?;
     let one = report(&rt, alloc, &h)?;
-    let many = beside(&rt, alloc, 3, &h)?;
+    let many = report_beside(&rt, alloc, 3, &h)?;
     assert_eq!(rt; many.written(), one.written());
     let h = long_history(alloc, 20_000)?;
     let one = report(&rt, alloc, &h)?;
-    let many = beside(&rt, alloc, 2, &h)?;
+    let many = report_beside(&rt, alloc, 2, &h)?;
     assert_eq!(rt; many.written(), one.written());
     Ok(())
 }

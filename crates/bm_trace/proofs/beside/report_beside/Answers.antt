@@ -1,0 +1,21 @@
+use Rattle.std.proofs.Common.{refl, rules}
+use Rattle.bm_trace.proofs.Parted.{err_more, first_refused, ok_more, on_err, report_written, rest_refused}
+use Rattle.bm_trace.proofs.Pieces.{puts_all, puts_first}
+use Rattle.bm_trace.proofs.beside.report_beside.Goals as goal
+
+pub returns-in_err-put_events-clause-err : goal.returns-in_err-put_events-clause-err
+returns-in_err-put_events-clause-err g c =
+    on_err _ _
+    (first_refused c.args.h.now _ _ _ refl (puts_first c.args.h.now _ _ c.in_err-put_events.ensures.err))
+
+pub returns-clause-ok : goal.returns-clause-ok
+returns-clause-ok g c =
+    ok_more c.put_rest.result _ _
+    (report_written c.args.h.now _ _ _ _ _ (search rules)
+    (puts_all c.args.h.now _ _ _ (search rules) c.in_ok-put_events.ensures.ok)) c.put_rest.ensures.ok
+
+pub returns-clause-err : goal.returns-clause-err
+returns-clause-err g c =
+    err_more c.put_rest.result _ _
+    (rest_refused c.args.h.now _ _ _ _ _ (search rules)
+    (puts_all c.args.h.now _ _ _ (search rules) c.in_ok-put_events.ensures.ok)) c.put_rest.ensures.err
