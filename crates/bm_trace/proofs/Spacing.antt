@@ -1,6 +1,7 @@
 -- Words behind words.
 use Rattle.std.proofs.Common.{◌≡◌, ℕ, ◌+◌, ◌-◌, ◌<◌, ◌≤◌, ◌==◌, if◌then◌else◌, true, false, inl, inr, List, [], ◌∷◌}
 use Rattle.std.proofs.Common.{◌++◌, length, take, get_or, set, refl, ap, ◌∙◌, sym, arith, append_assoc}
+use Rattle.std.specs.Prelude.{decimal}
 use Rattle.std.proofs.lemmas.Bool.{cases_eq, eq-eqb, ne_eqb}
 use Rattle.std.proofs.lemmas.List.{append-nil}
 use Rattle.std.proofs.lemmas.Grind.{common_steps}
@@ -63,6 +64,13 @@ wrote_more base written new ends i e below is before step =
     ∙ ap (λ x. base ++ (spaced (words_of_ends (take i ends)) ++ spaced (words_of_end x))) (sym is)
     ∙ ap (λ x. base ++ x) (sym (spaced_more ends i e below))
 
+-- a word between spaces, and a text behind it
+pub named_is : (text word more : List ℕ) → text ≡ 32 ∷ word ++ 32 ∷ [] → text ++ more ≡ spaced (word ∷ more ∷ [])
+named_is text word more is =
+    ap (λ x. x ++ more) is
+    ∙ append_assoc (32 ∷ word) (32 ∷ []) more
+    ∙ ap (λ x. (32 ∷ word) ++ (32 ∷ x)) (sym (append-nil more))
+
 -- LINES
 
 -- now there is the old text and a line that begins with these words
@@ -89,7 +97,24 @@ pub word_more : (old first now new : List ℕ) (words : List (List ℕ)) (found 
 word_more old first now new words found word b is step =
     words_more old first now new words (word ∷ []) b (step ∙ ap (λ x. now ++ spaced (x ∷ [])) is)
 
+-- the text is this word between spaces, and the number that was found is this one
+pub named_more : (old first now new : List ℕ) (words : List (List ℕ)) (text word : List ℕ) (found number : ℕ)
+    → IsBegun old first words now → text ≡ 32 ∷ word ++ 32 ∷ [] → found ≡ number
+    → new ≡ now ++ (text ++ decimal found) → IsBegun old first (words ++ word ∷ decimal number ∷ []) new
+named_more old first now new words text word found number b is same step =
+    words_more old first now new words (word ∷ decimal number ∷ []) b
+    (step
+    ∙ ap (λ x. now ++ x) (named_is text word (decimal found) is ∙ ap (λ n. spaced (word ∷ decimal n ∷ [])) same))
+
 pub line_ends : (old first now new : List ℕ) (words : List (List ℕ)) → IsBegun old first words now
     → new ≡ now ++ 10 ∷ [] → new ≡ old ++ line first words
 line_ends old first now new words b step =
     step ∙ ap (λ x. x ++ 10 ∷ []) b.whole ∙ append_assoc old (first ++ spaced words) (10 ∷ [])
+
+-- the last words and the line's end
+pub words_end : (old first now new : List ℕ) (words more : List (List ℕ)) → IsBegun old first words now
+    → new ≡ now ++ (spaced more ++ 10 ∷ []) → new ≡ old ++ line first (words ++ more)
+words_end old first now new words more b step =
+    line_ends old first (now ++ spaced more) new (words ++ more)
+    (words_more old first now (now ++ spaced more) words more b refl)
+    (step ∙ sym (append_assoc now (spaced more) (10 ∷ [])))

@@ -2,7 +2,7 @@
 ghost use Rattle.std.specs.Prelude.{◌≡◌, ◌∷◌, ◌++◌, [], OnOk, decimal, string_bytes};
 ghost use Rattle.bm_trace.specs.Words as words;
 
-use crate::words::{cause_word, taken_word, why_word};
+use crate::words::{cause_word, process_text, why_word};
 use bm_core::{Cause, Verdict};
 use itoa::Buffer;
 use std::alloc::AllocError;
@@ -11,17 +11,12 @@ use std::alloc::AllocError;
 pub(crate) fn push_digits(line: &mut String, number: u64) -> Result<(), AllocError>
     ensures { OnOk result (string_bytes line.new ≡ string_bytes line.old ++ decimal number) }
 {
+    // One digit needs no buffer and no copy.
+    if number < 10 {
+        line.push(char::from(b'0' + number as u8))?;
+        return Ok(());
+    }
     line.push_str(Buffer::new().format(number))?;
-    Ok(())
-}
-
-/// Appends a space and a word.
-pub(crate) fn push_word(line: &mut String, word: &str) -> Result<(), AllocError>
-    ensures { OnOk result
-        (string_bytes line.new ≡ string_bytes line.old ++ words.spaced (word.now ∷ [])) }
-{
-    line.push_str(" ")?;
-    line.push_str(word)?;
     Ok(())
 }
 
@@ -30,46 +25,53 @@ pub(crate) fn push_number(line: &mut String, number: u64) -> Result<(), AllocErr
     ensures { OnOk result
         (string_bytes line.new ≡ string_bytes line.old ++ words.spaced (decimal number ∷ [])) }
 {
-    line.push_str(" ")?;
+    line.push(' ')?;
     push_digits(line, number)
 }
 
+/// Appends a text and a number. Few long appends take less time than many of a word or a space.
+pub(crate) fn push_named(line: &mut String, text: &str, number: u64) -> Result<(), AllocError>
+    ensures { OnOk result
+        (string_bytes line.new ≡ string_bytes line.old ++ (text.now ++ decimal number)) }
+{
+    line.push_str(text)?;
+    push_digits(line, number)
+}
+
+/// Appends a text and a word.
+fn push_words(line: &mut String, text: &str, word: &str) -> Result<(), AllocError>
+    ensures { OnOk result
+        (string_bytes line.new ≡ string_bytes line.old ++ (text.now ++ word.now)) }
+{
+    line.push_str(text)?;
+    line.push_str(word)?;
+    Ok(())
+}
+
 /// Appends the words of a verdict, each behind a space.
+#[tactic(auto, using(crate::proofs::Spacing::named_is))]
 pub(crate) fn push_verdict(line: &mut String, verdict: Verdict) -> Result<(), AllocError>
     ensures { OnOk result (string_bytes line.new
         ≡ string_bytes line.old ++ words.spaced (words.verdict_words verdict)) }
 {
     match verdict {
-        Verdict::Accept => push_word(line, "accept"),
-        Verdict::Process(taken) => {
-            push_word(line, "process")?;
-            push_word(line, taken_word(taken))
-        }
-        Verdict::Forward(server) => {
-            push_word(line, "forward")?;
-            push_number(line, u64::from(server.0))
-        }
-        Verdict::Reset(why) => {
-            push_word(line, "reset")?;
-            push_word(line, why_word(why))
-        }
-        Verdict::Drop(why) => {
-            push_word(line, "drop")?;
-            push_word(line, why_word(why))
-        }
+        Verdict::Accept => line.push_str(" accept")?,
+        Verdict::Process(taken) => line.push_str(process_text(taken))?,
+        Verdict::Forward(server) => push_named(line, " forward ", u64::from(server.0))?,
+        Verdict::Reset(why) => push_words(line, " reset ", why_word(why))?,
+        Verdict::Drop(why) => push_words(line, " drop ", why_word(why))?,
     }
+    Ok(())
 }
 
-/// Appends the words of a cause, each behind a space, or nothing.
-pub(crate) fn push_because(line: &mut String, cause: Option<Cause>) -> Result<(), AllocError>
+/// Ends a line with the words of a cause, where there is one.
+pub(crate) fn end_line(line: &mut String, cause: Option<Cause>) -> Result<(), AllocError>
     ensures { OnOk result (string_bytes line.new
-        ≡ string_bytes line.old ++ words.spaced (words.because_words cause)) }
+        ≡ string_bytes line.old ++ (words.spaced (words.because_words cause) ++ 10 ∷ [])) }
 {
-    match cause {
-        None => Ok(()),
-        Some(cause) => {
-            push_word(line, "because")?;
-            push_word(line, cause_word(cause))
-        }
+    if let Some(cause) = cause {
+        push_words(line, " because ", cause_word(cause))?;
     }
+    line.push('\n')?;
+    Ok(())
 }

@@ -8,10 +8,10 @@ ghost use Rattle.bm_trace.specs.Words as words;
 ghost use Rattle.bm_trace.specs.Report as report;
 ghost use Rattle.bm_trace.specs.Running.{AreVersions};
 
-use crate::append::{push_because, push_digits, push_number, push_verdict, push_word};
+use crate::append::{end_line, push_digits, push_named, push_number, push_verdict};
 use crate::sums::Totals;
 use crate::versions::version_in;
-use crate::words::{Counted, Endpoint, RetirementWords, hop_word};
+use crate::words::{Counted, Endpoint, RetirementWords, hop_text, hop_word};
 use bm_base::{Flow, Hop, MuxId, ServerId, Version};
 use bm_core::{Cause, Event, Stage, Verdict, What};
 use bm_hash::bucket_of;
@@ -32,14 +32,10 @@ fn write_arrival(
         ((codes "arrive" ∷ decimal packet ∷ words.hop_word hop ∷ decimal server.0 ∷ []) ++ words.verdict_words verdict ++ words.because_words cause)) }
 {
     push_digits(line, clock)?;
-    push_word(line, "arrive")?;
-    push_number(line, u64::from(packet))?;
-    push_word(line, hop_word(hop))?;
-    push_number(line, u64::from(server.0))?;
+    push_named(line, " arrive ", u64::from(packet))?;
+    push_named(line, hop_text(hop), u64::from(server.0))?;
     push_verdict(line, verdict)?;
-    push_because(line, cause)?;
-    line.push_str("\n")?;
-    Ok(())
+    end_line(line, cause)
 }
 
 fn write_close(
@@ -114,12 +110,11 @@ fn write_steer(
     let version = version_in(versions, events, mux).0;
     let bucket = bucket_of_packet(stage, packet);
     push_digits(line, clock)?;
-    push_word(line, "steer")?;
-    push_number(line, u64::from(packet))?;
+    push_named(line, " steer ", u64::from(packet))?;
     push_number(line, u64::from(mux.0))?;
     push_number(line, u64::from(version))?;
     push_number(line, u64::from(bucket))?;
-    line.push_str("\n")?;
+    line.push('\n')?;
     Ok(())
 }
 

@@ -9,7 +9,7 @@ ghost use Rattle.bm_trace.specs.Ends.{words_of_record};
 ghost use Rattle.bm_trace.specs.Words as words;
 ghost use Rattle.bm_trace.specs.Report as report;
 
-use crate::append::{push_number, push_word};
+use crate::append::push_named;
 use crate::words::reason_word;
 use bm_base::{Body, Reason, ServerId};
 use bm_core::{Event, Verdict, What};
@@ -70,27 +70,20 @@ pub(crate) fn ending_of(what: &What) -> Option<Ending>
     }
 }
 
-/// Appends the word of an end and the server, each behind a space.
-fn push_end(line: &mut String, word: &str, server: ServerId) -> Result<(), AllocError>
-    ensures { OnOk result (string_bytes line.new
-        ≡ string_bytes line.old ++ words.spaced (word.now ∷ decimal server.0 ∷ [])) }
-{
-    push_word(line, word)?;
-    push_number(line, u64::from(server.0))
-}
-
 /// An end, each word behind a space.
+#[tactic(auto, using(crate::proofs::Spacing::named_is))]
 fn write_end(line: &mut String, end: End) -> Result<(), AllocError>
     ensures { OnOk result
         (string_bytes line.new ≡ string_bytes line.old ++ words.spaced (words_of_end end)) }
 {
     match end {
-        End::Lost => push_word(line, "lost"),
-        End::Accepted(server) => push_end(line, "accepted", server),
-        End::Processed(server) => push_end(line, "processed", server),
-        End::Reset(server) => push_end(line, "reset", server),
-        End::Dropped(server) => push_end(line, "dropped", server),
+        End::Lost => line.push_str(" lost")?,
+        End::Accepted(server) => push_named(line, " accepted ", u64::from(server.0))?,
+        End::Processed(server) => push_named(line, " processed ", u64::from(server.0))?,
+        End::Reset(server) => push_named(line, " reset ", u64::from(server.0))?,
+        End::Dropped(server) => push_named(line, " dropped ", u64::from(server.0))?,
     }
+    Ok(())
 }
 
 /// The ends of a packet, each word behind a space.
@@ -110,8 +103,9 @@ fn write_reason(line: &mut String, reason: Reason) -> Result<(), AllocError>
     ensures { OnOk result (string_bytes line.new ≡ string_bytes line.old
         ++ words.spaced (codes "unsteered" ∷ words.reason_word reason ∷ [])) }
 {
-    push_word(line, "unsteered")?;
-    push_word(line, reason_word(reason))
+    line.push_str(" unsteered ")?;
+    line.push_str(reason_word(reason))?;
+    Ok(())
 }
 
 /// The line of a record.
@@ -125,12 +119,11 @@ pub(crate) fn write_record(
         (string_bytes line.new ≡ string_bytes line.old
         ++ words.line (codes "packet") (decimal number ∷ words_of_record body.now ends.now)) }
 {
-    line.push_str("packet")?;
-    push_number(line, u64::from(number))?;
+    push_named(line, "packet ", u64::from(number))?;
     match body {
         Body::Unsteered(reason) => write_reason(line, *reason)?,
         Body::Steerable(_) => write_ends(line, ends)?,
     }
-    line.push_str("\n")?;
+    line.push('\n')?;
     Ok(())
 }

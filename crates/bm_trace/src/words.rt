@@ -1,5 +1,6 @@
 //! The words of a report.
-ghost use Rattle.std.specs.Prelude.{◌≡◌, Some};
+ghost use Rattle.std.specs.Prelude.{◌≡◌, Some, ◌∷◌, ◌++◌, []};
+ghost use Rattle.bm_core.specs.declared.events.Verdict.TheVariants.{Process};
 ghost use Rattle.bm_trace.specs.Words as words;
 
 use bm_base::{Hop, Reason, Taken};
@@ -16,16 +17,27 @@ pub(crate) fn hop_word(hop: Hop) -> &'static str
     }
 }
 
-pub(crate) fn taken_word(taken: Taken) -> &'static str
-    ensures { result.now ≡ words.taken_word taken }
+/// The word of a hop between two spaces.
+pub(crate) fn hop_text(hop: Hop) -> &'static str
+    ensures { result.now ≡ 32 ∷ words.hop_word hop ++ 32 ∷ [] }
+{
+    match hop {
+        Hop::Direct => " direct ",
+        Hop::Chained => " chained ",
+    }
+}
+
+/// The words of a packet that is processed, each behind a space.
+pub(crate) fn process_text(taken: Taken) -> &'static str
+    ensures { result.now ≡ words.spaced (words.verdict_words (Process taken)) }
 {
     match taken {
-        Taken::Advance => "advance",
-        Taken::Duplicate => "duplicate",
-        Taken::Ahead => "ahead",
-        Taken::Outside => "outside",
-        Taken::Challenge => "challenge",
-        Taken::Ended => "ended",
+        Taken::Advance => " process advance",
+        Taken::Duplicate => " process duplicate",
+        Taken::Ahead => " process ahead",
+        Taken::Outside => " process outside",
+        Taken::Challenge => " process challenge",
+        Taken::Ended => " process ended",
     }
 }
 
@@ -88,7 +100,7 @@ impl fmt::Display for VerdictWords {
     fn fmt<W: fmt::Write>(&self, f: &mut fmt::Formatter<W>) -> fmt::Result {
         match self.0 {
             Verdict::Accept => write!(f, " accept"),
-            Verdict::Process(taken) => write!(f, " process {}", taken_word(taken)),
+            Verdict::Process(taken) => write!(f, "{}", process_text(taken)),
             Verdict::Forward(server) => write!(f, " forward {}", server.0),
             Verdict::Reset(why) => write!(f, " reset {}", why_word(why)),
             Verdict::Drop(why) => write!(f, " drop {}", why_word(why)),
