@@ -89,8 +89,9 @@ pub(crate) fn collect<'a, F: Fn(u32, Hop) -> Fate, G>(
         (λ batch. AreCollected (Gives F.Fn shared.now.faults.now.rule) shared.now.stage.now
         shared.now.routes.now mux.0 from batch.end batch.items.items batch.fates.items) }
 {
-    let mut items = Vec::new(shared.alloc);
-    let mut fates = Vec::new(shared.alloc);
+    let room = ((until - from) as usize).min(BATCH);
+    let mut items = Vec::with_capacity(shared.alloc, room)?;
+    let mut fates = Vec::with_capacity(shared.alloc, room)?;
     for at in from..until {
         if items.len() == BATCH {
             return Ok(Batch {

@@ -8,7 +8,8 @@ loop-at-init g c = record {
   at = omega arith;
   all = collected_new (Gives g.F.Fn c.args.shared.now.faults.now.rule) c.args.shared.now.stage.now
       c.args.shared.now.routes.now c.args.mux.0 c.args.from
-      c.new-items.result.items c.new-fates.result.items c.new-items.ensures.items c.new-fates.ensures.items;
+      c.in_ok-items.items.items c.in_ok-fates.fates.items c.in_ok-items.ensures.items
+      c.in_ok-fates.ensures.items;
 }
 
 pub returns-then-len-eq-BATCH-clause-more : goal.returns-then-len-eq-BATCH-clause-more
