@@ -63,7 +63,8 @@ impl ConnTable {
         self.seek(flow).receiver
     }
 
-    /// Seeks the flow once for all that is then done with it, while nothing else changes the table.
+    /// Seeks the flow, once for all that is then done with it: what is found holds until the table
+    /// changes.
     pub fn seek(&self, flow: &Flow) -> Found
         ensures flow { result.flow ≡ flow.now }
         ensures found { IsFound self.now.connections self.now.slots result }
