@@ -1,5 +1,5 @@
 -- What is kept stays true with each event.
-use Rattle.std.proofs.Common.{◌≡◌, ℕ, suc, ◌-◌, ◌<◌, ◌==◌, true, false, ◌&&◌, inl, inr, List, ◌∷◌, length, get_or, set}
+use Rattle.std.proofs.Common.{◌≡◌, ℕ, suc, ◌-◌, ◌<◌, ◌==◌, true, false, inl, inr, List, ◌∷◌, length, get_or, set}
 use Rattle.std.proofs.Common.{Option, Some, None, option_map, refl, ap, ◌∙◌, arith}
 use Rattle.std.specs.Prelude.{if◌then◌else◌}
 use Rattle.std.proofs.lemmas.Bool.{cases_Bool, cases_eq, eq-eqb, ne_eqb}
@@ -14,6 +14,7 @@ use Rattle.bm_base.specs.declared.ids.Version.{Version}
 use Rattle.bm_core.specs.declared.events.Event.{Event}
 use Rattle.bm_core.specs.declared.events.Stage.{Stage}
 use Rattle.bm_core.specs.declared.events.Verdict.{Verdict}
+use Rattle.bm_core.specs.declared.events.Verdict.TheVariants.{Accept}
 use Rattle.bm_core.specs.declared.events.What.{What}
 use Rattle.bm_core.specs.declared.events.What.TheVariants.{Publish, Switch, Steer, Lose, Arrive, Close, Retire, Sync}
 use Rattle.bm_core.specs.Past.{Accepted, accept_after, accept_before, accept_of, is_accept, is_of, label_after}
@@ -182,32 +183,46 @@ kept_steer stage past newest versions accepts packets new e packet m segment sen
       in rw (is, there) (owner_noted stage past packet i m sent (get_or packets i None) owned (k.owner_of_each i few));
 }
 
-accept_noted : (stage : Stage) (past : List Event) (packet : ℕ) (hop : Hop) (server : ServerId) (verdict : Verdict)
-    (f : Flow) (owner : Owner) (before : Option Accepted) (old : Option Owner)
+accept_noted : (stage : Stage) (past : List Event) (packet : ℕ) (hop : Hop) (server : ServerId) (f : Flow)
+    (owner : Owner) (before : Option Accepted) (old : Option Owner)
     → owner.server ≡ server → owner.version ≡ version_of (label_of stage past packet) → owner.place ≡ length past
     → option_map as_accepted old ≡ before
-    → option_map as_accepted (if is_accept verdict && is_of (segment_of stage packet) f then Some owner else old)
-    ≡ accept_after stage past (Arrive packet hop server verdict) f before
-accept_noted stage past packet hop server verdict f owner before old s v p is =
-    elim (cases_Bool (is_accept verdict && is_of (segment_of stage packet) f)) [
+    → option_map as_accepted (if is_of (segment_of stage packet) f then Some owner else old)
+    ≡ accept_after stage past (Arrive packet hop server Accept) f before
+accept_noted stage past packet hop server f owner before old s v p is =
+    elim (cases_Bool (is_of (segment_of stage packet) f)) [
       | inl here ↦ rw (here, s, v, p) refl
       | inr elsewhere ↦ rw elsewhere is
     ]
 
-pub kept_arrival : (stage : Stage) (past : List Event) (newest : Version) (versions : List Version)
+pub kept_accept : (stage : Stage) (past : List Event) (newest : Version) (versions : List Version)
     (accepts new : Flow → Option Owner) (packets : List (Option Sent)) (e : Event) (packet : ℕ) (hop : Hop)
-    (server : ServerId) (verdict : Verdict) (owner : Owner)
-    → e.what ≡ Arrive packet hop server verdict → owner.server ≡ server
+    (server : ServerId) (owner : Owner)
+    → e.what ≡ Arrive packet hop server Accept → owner.server ≡ server
     → owner.version ≡ version_of (label_of stage past packet) → owner.place ≡ length past
-    → ((q : Flow) → new q ≡ (if is_accept verdict && is_of (segment_of stage packet) q then Some owner else accepts q))
+    → ((q : Flow) → new q ≡ (if is_of (segment_of stage packet) q then Some owner else accepts q))
     → IsKept stage past newest versions accepts packets → IsKept stage (e ∷ past) newest versions new packets
-kept_arrival stage past newest versions accepts new packets e packet hop server verdict owner is s v p n k = record {
+kept_accept stage past newest versions accepts new packets e packet hop server owner is s v p n k = record {
   newest_one = rw is k.newest_one;
   version_of_each = λ q below. rw is (k.version_of_each q below);
   accept_of_each =
       λ f. ap (λ o. option_map as_accepted o) (n f)
-      ∙ rw is (accept_noted stage past packet hop server verdict f owner (accept_of stage past f) (accepts f) s v p
+      ∙ rw is (accept_noted stage past packet hop server f owner (accept_of stage past f) (accepts f) s v p
       (k.accept_of_each f));
+  label_of_each = λ i below. rw is (k.label_of_each i below);
+  owner_of_each = λ i below. rw is (k.owner_of_each i below);
+}
+
+-- an arrival that is no Accept changes nothing of what is kept
+pub kept_arrival : (stage : Stage) (past : List Event) (newest : Version) (versions : List Version)
+    (accepts : Flow → Option Owner) (packets : List (Option Sent)) (e : Event) (packet : ℕ) (hop : Hop)
+    (server : ServerId) (verdict : Verdict)
+    → e.what ≡ Arrive packet hop server verdict → is_accept verdict ≡ false
+    → IsKept stage past newest versions accepts packets → IsKept stage (e ∷ past) newest versions accepts packets
+kept_arrival stage past newest versions accepts packets e packet hop server verdict is other k = record {
+  newest_one = rw is k.newest_one;
+  version_of_each = λ q below. rw is (k.version_of_each q below);
+  accept_of_each = λ f. rw (is, other) (k.accept_of_each f);
   label_of_each = λ i below. rw is (k.label_of_each i below);
   owner_of_each = λ i below. rw is (k.owner_of_each i below);
 }

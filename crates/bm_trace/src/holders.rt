@@ -1,7 +1,6 @@
 //! Which servers hold which flows, kept along the events.
 ghost use Rattle.std.specs.Prelude.{◌≡◌, ◌&&◌, ◌||◌, List, length, reverse, OnOk, OnErr, IfOk};
 ghost use Rattle.std.specs.Prelude.{Option, Some, None, option_map, find, if◌then◌else◌, [], ◌∷◌};
-ghost use Rattle.std.specs.Prelude.{false};
 ghost use Rattle.std.specs.BTreeMap as tree;
 ghost use Rattle.bm_base.specs.declared.flow.Flow.{Flow};
 ghost use Rattle.bm_base.specs.declared.ids.ServerId.{ServerId};
@@ -19,7 +18,7 @@ ghost use Rattle.bm_trace.specs.Holders.{ruling, ruled};
 ghost use Rattle.bm_trace.specs.Ranges.{HasRanges};
 
 use crate::flow_key::FlowKey;
-use bm_base::{Flow, Hop, Moment, Segment, ServerId, Taken};
+use bm_base::{Flow, Hop, Moment, ServerId, Taken};
 use bm_core::{Event, Stage, Verdict, What};
 use bm_hash::shard_of;
 use bm_table::Retirement;
@@ -59,18 +58,22 @@ fn drop_holder(holders: &mut HolderList, server: ServerId)
     holders.retain(|holder| holder.server != server);
 }
 
-fn put_holder(
-    holders: &mut HolderList,
-    server: ServerId,
-    place: Option<usize>,
-) -> Result<(), AllocError>
-    ensures { OnOk result (holders.new.items ≡ put_holder server place holders.old.items) }
+/// The holder in place of what the list has of its server.
+fn put_holder(holders: &mut HolderList, holder: Holder) -> Result<(), AllocError>
+    ensures { OnOk result (holders.new.items
+        ≡ put_holder holder.server (Some holder.place) holders.old.items) }
 {
-    drop_holder(holders, server);
-    if let Some(place) = place {
-        holders.push(Holder { server, place })?;
-    }
+    drop_holder(holders, holder.server);
+    holders.push(holder)?;
     Ok(())
+}
+
+fn one_holder(alloc: Global, holder: Holder) -> Result<HolderList, AllocError>
+    ensures { IfOk result (λ list. list.items ≡ holder ∷ []) }
+{
+    let mut list = HolderList::new(alloc);
+    list.push(holder)?;
+    Ok(list)
 }
 
 /// What the verdict on an arrival at this place has the server hold, where it changes that.
@@ -120,27 +123,49 @@ impl Lists {
         }
     }
 
-    /// Takes the flow's list away.
-    fn take(&mut self, alloc: Global, flow: &Flow) -> HolderList
-        ensures list { result.items ≡ holders_in self.old flow.now }
-        ensures others { (q : Flow) → same_flow flow.now q ≡ false
-            → tree.get ⟦<FlowKey as Ord>⟧.cmp self.new.lists (key_of q)
-            ≡ tree.get ⟦<FlowKey as Ord>⟧.cmp self.old.lists (key_of q) }
-    {
-        match self.lists.remove(&FlowKey::of(flow)) {
-            Some(list) => list,
-            None => HolderList::new(alloc),
-        }
-    }
-
-    fn put(&mut self, flow: Flow, list: HolderList) -> Result<(), AllocError>
-        ensures { OnOk result ((q : Flow)
+    /// Puts the flow's list in place of another, which it answers.
+    fn put(&mut self, flow: Flow, list: HolderList) -> Result<Option<HolderList>, AllocError>
+        ensures old { IfOk result (λ old. listed old ≡ holders_in self.old flow) }
+        ensures new { OnOk result ((q : Flow)
             → tree.get ⟦<FlowKey as Ord>⟧.cmp self.new.lists (key_of q)
             ≡ (if same_flow flow q then Some list
             else tree.get ⟦<FlowKey as Ord>⟧.cmp self.old.lists (key_of q))) }
     {
-        self.lists.insert(FlowKey::of(&flow), list)?;
+        Ok(self.lists.insert(FlowKey::of(&flow), list)?)
+    }
+
+    /// This server holds the flow's Accept of this place alone.
+    fn hold(
+        &mut self,
+        alloc: Global,
+        flow: Flow,
+        server: ServerId,
+        place: usize,
+    ) -> Result<(), AllocError>
+        ensures { OnOk result ((q : Flow) → holders_in self.new q
+            ≡ (if same_flow flow q
+            then put_holder server (Some place) (holders_in self.old q)
+            else holders_in self.old q)) }
+    {
+        let holder = Holder { server, place };
+        // Mostly there are no others, and one search does.
+        if let Some(mut others) = self.put(flow, one_holder(alloc, holder)?)? {
+            put_holder(&mut others, holder)?;
+            self.put(flow, others)?;
+        }
         Ok(())
+    }
+
+    /// This server doesn't hold the flow.
+    fn release(&mut self, flow: &Flow, server: ServerId)
+        ensures { (q : Flow) → holders_in self.new q
+            ≡ (if same_flow flow.now q
+            then without_server server (holders_in self.old q)
+            else holders_in self.old q) }
+    {
+        if let Some(holders) = self.lists.get_mut(&FlowKey::of(flow)) {
+            drop_holder(holders, server);
+        }
     }
 
     /// The server holds the flow's Accept of this place alone, or none.
@@ -156,28 +181,36 @@ impl Lists {
             then put_holder server place (holders_in self.old q)
             else holders_in self.old q)) }
     {
-        let mut list = self.take(alloc, &flow);
-        put_holder(&mut list, server, place)?;
-        self.put(flow, list)
+        match place {
+            Some(place) => self.hold(alloc, flow, server, place),
+            None => {
+                self.release(&flow, server);
+                Ok(())
+            }
+        }
     }
 
-    /// Takes note of a segment's arrival.
+    /// Takes note of a packet's arrival. Most rulings change nothing, and no segment is read.
     #[tactic(auto, using(crate::proofs::Holding::cond_same))]
     fn rule(
         &mut self,
         alloc: Global,
-        segment: Option<Segment>,
+        stage: &Stage,
+        packet: u32,
         server: ServerId,
         ruling: Option<Option<usize>>,
     ) -> Result<(), AllocError>
         ensures { OnOk result ((q : Flow) → holders_in self.new q
-            ≡ (if past.is_of segment q
+            ≡ (if past.is_of (past.segment_of stage.now packet) q
             then ruled server ruling (holders_in self.old q)
             else holders_in self.old q)) }
     {
-        match (segment, ruling) {
-            (Some(segment), Some(place)) => self.set(alloc, segment.flow, server, place),
-            _ => Ok(()),
+        let Some(place) = ruling else {
+            return Ok(());
+        };
+        match stage.segment(packet) {
+            Some(segment) => self.set(alloc, segment.flow, server, place),
+            None => Ok(()),
         }
     }
 
@@ -329,12 +362,8 @@ impl Holders {
             → HoldsAfter stage.now seen self.old
             → OnOk result (HoldsAfter stage.now (e ∷ seen) self.new) }
     {
-        self.lists.rule(
-            alloc,
-            stage.segment(packet),
-            server,
-            ruling(place, &verdict),
-        )
+        self.lists
+            .rule(alloc, stage, packet, server, ruling(place, &verdict))
     }
 
     #[tactic(auto, using(crate::proofs::Holding::kept_closed, crate::proofs::Holding::kept_unclosed))]

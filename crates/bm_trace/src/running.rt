@@ -1,13 +1,12 @@
 //! What is kept of the events while their causes are found.
 ghost use Rattle.std.specs.Prelude.{◌≡◌, ℕ, ◌+◌, ◌-◌, ◌<◌, ◌≤◌, ◌==◌, List, length, reverse, OnOk};
 ghost use Rattle.std.specs.Prelude.{IfOk, Some, None, if◌then◌else◌, slice_set, slice_index_or, []};
-ghost use Rattle.std.specs.Prelude.{◌∷◌, ◌&&◌};
+ghost use Rattle.std.specs.Prelude.{◌∷◌};
 ghost use Rattle.bm_base.specs.declared.flow.Flow.{Flow};
 ghost use Rattle.bm_base.specs.Segments.{same_flow};
 ghost use Rattle.bm_core.specs.declared.events.Event.{Event};
 ghost use Rattle.bm_core.specs.Past as past;
 ghost use Rattle.bm_trace.specs.Ranges.{HasRanges};
-ghost use Rattle.bm_core.specs.Past.{is_accept};
 ghost use Rattle.bm_trace.specs.Accepts.{owner_before};
 
 use crate::flow_key::FlowKey;
@@ -58,20 +57,15 @@ impl Accepts {
         Ok(())
     }
 
-    /// Takes note of a segment's arrival.
-    fn put_for(
-        &mut self,
-        segment: Option<Segment>,
-        owner: Owner,
-        verdict: Verdict,
-    ) -> Result<(), AllocError>
+    /// Takes note of an Accept of the segment's flow.
+    fn put_for(&mut self, segment: Option<Segment>, owner: Owner) -> Result<(), AllocError>
         ensures { OnOk result ((q : Flow) → owner_in self.new q
-            ≡ (if is_accept verdict && past.is_of segment q then Some owner
+            ≡ (if past.is_of segment q then Some owner
             else owner_in self.old q)) }
     {
-        match (segment, verdict) {
-            (Some(segment), Verdict::Accept) => self.put(segment.flow, owner),
-            _ => Ok(()),
+        match segment {
+            Some(segment) => self.put(segment.flow, owner),
+            None => Ok(()),
         }
     }
 }
@@ -174,7 +168,26 @@ impl Running {
         set_sent(&mut self.packets, packet, sent)
     }
 
-    #[tactic(auto, using(crate::proofs::Keeping::kept_arrival))]
+    #[tactic(auto, using(crate::proofs::Keeping::kept_accept))]
+    fn note_accept(
+        &mut self,
+        stage: &Stage,
+        events: &[Event],
+        packet: u32,
+        server: ServerId,
+    ) -> Result<(), AllocError>
+        requires { Keeps stage.now (reverse events.now) self.old }
+        ensures { (e : Event) (hop : Hop) → e.what ≡ What.Arrive packet hop server Verdict.Accept
+            → OnOk result (Keeps stage.now (e ∷ reverse events.now) self.new) }
+    {
+        let owner = Owner {
+            server,
+            version: self.version_sent(stage, events, packet),
+            place: events.len(),
+        };
+        self.accepts.put_for(stage.segment(packet), owner)
+    }
+
     fn note_arrival(
         &mut self,
         stage: &Stage,
@@ -188,12 +201,10 @@ impl Running {
         ensures { (e : Event) → e.what ≡ What.Arrive packet hop server verdict
             → OnOk result (Keeps stage.now (e ∷ reverse events.now) self.new) }
     {
-        let owner = Owner {
-            server,
-            version: self.version_sent(stage, events, packet),
-            place: events.len(),
-        };
-        self.accepts.put_for(stage.segment(packet), owner, verdict)
+        match verdict {
+            Verdict::Accept => self.note_accept(stage, events, packet, server),
+            _ => Ok(()),
+        }
     }
 
     /// Takes note of the event that comes after these.
