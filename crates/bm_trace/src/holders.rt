@@ -367,22 +367,14 @@ impl Holders {
     }
 
     #[tactic(auto, using(crate::proofs::Holding::kept_closed, crate::proofs::Holding::kept_unclosed))]
-    fn note_close(
-        &mut self,
-        alloc: Global,
-        stage: &Stage,
-        server: ServerId,
-        flow: Flow,
-        closed: bool,
-    ) -> Result<(), AllocError>
-        ensures { (seen : List Event) (e : Event) → e.what ≡ What.Close server flow closed
+    fn note_close(&mut self, stage: &Stage, server: ServerId, flow: &Flow, closed: bool)
+        ensures { (seen : List Event) (e : Event) → e.what ≡ What.Close server flow.now closed
             → HoldsAfter stage.now seen self.old
-            → OnOk result (HoldsAfter stage.now (e ∷ seen) self.new) }
+            → HoldsAfter stage.now (e ∷ seen) self.new }
     {
         if closed {
-            self.lists.set(alloc, flow, server, None)?;
+            self.lists.release(flow, server);
         }
-        Ok(())
     }
 
     #[tactic(auto, using(crate::proofs::Holding::kept_retired, crate::proofs::Holding::kept_unretired))]
@@ -434,7 +426,10 @@ impl Holders {
                 server,
                 flow,
                 closed,
-            } => self.note_close(alloc, stage, server, flow, closed),
+            } => {
+                self.note_close(stage, server, &flow, closed);
+                Ok(())
+            }
             What::Retire {
                 server,
                 shard,
