@@ -1,5 +1,5 @@
 -- Lines of events that are written side by side.
-use Rattle.std.proofs.Common.{◌≡◌, ℕ, ◌+◌, ◌*◌, ◌^◌, ◌-◌, ◌<◌, ◌≤◌, List, [], ◌∷◌, ◌++◌, length, take, drop, get_or}
+use Rattle.std.proofs.Common.{◌≡◌, ℕ, ◌+◌, ◌*◌, ◌^◌, ◌-◌, ◌<◌, ◌≤◌, List, [], ◌∷◌, ◌++◌, length, take, drop, get_or, set}
 use Rattle.std.proofs.Common.{refl, ap, ◌∙◌, sym, arith, append_assoc, Option, Some, subst}
 use Rattle.std.proofs.Common.{inl, inr, length-append, Bool, true, false}
 use Rattle.std.proofs.lemmas.Bool.{cases_lt}
@@ -170,13 +170,18 @@ row_more h from k pieces new p is count begins ends row j q at = elim (cases_lt 
       )
 ]
 
+-- a piece of the row begins anew
+pub begun_take : {X : Type 0} (xs : List X) (k : ℕ) (x : X) → k < length xs
+    → take (k + 1) (set xs k x) ≡ take k xs ++ x ∷ []
+begun_take xs k x below = grind (arith, common_steps)
+
 -- the piece of this number was written, but where memory was refused
 abbrev pub IsWritten : History → ℕ → ℕ → Piece → Type 0
 IsWritten h from k p =
     (p.from ≡ place_of h from k) × (p.to ≡ place_of h from (k + 1))
     × (p.refused ≡ false → AreLines h p.from p.to (string_bytes p.lines))
 
-pub written_there : (h : History) (from k : ℕ) (old new : List Piece) (d : Piece) → length new ≡ length old
+written_there : (h : History) (from k : ℕ) (old new : List Piece) (d : Piece) → length new ≡ length old
     → AreInRow h from old
     → ((k : ℕ) (p q : Piece) → slice_get old k ≡ Some p → slice_get new k ≡ Some q → HasWritten h p q)
     → k < length new → IsWritten h from k (get_or new k d)
@@ -192,23 +197,12 @@ written_there h from k old new d count row each below =
       λ fine. rw (wrote.begins, wrote.ends) (wrote.lines fine),
     )
 
--- what was written takes the place of all that was there
-pub written_back : (given wrote : List Piece) (n : ℕ) → length wrote ≡ length given → n ≡ length given
-    → take n (wrote ++ drop (length wrote) given) ≡ wrote
-written_back given wrote n count whole =
-    let none : drop (length wrote) given ≡ [] = grind (arith, common_steps)
-    in let all : n ≡ length wrote = omega (arith, count, whole)
-    in ap (λ x. take n (wrote ++ x)) none ∙ ap (λ x. take n x) (append-nil wrote) ∙ ap (λ k. take k wrote) all
-    ∙ take_all wrote
-
-pub piece_there : (h : History) (from k : ℕ) (made given wrote shown : List Piece) (p : Piece) → given ≡ made
-    → length wrote ≡ length given → AreInRow h from made
-    → ((k : ℕ) (p q : Piece) → slice_get given k ≡ Some p → slice_get wrote k ≡ Some q → HasWritten h p q)
-    → shown ≡ wrote → k < length shown → p ≡ get_or shown k p → IsWritten h from k p
-piece_there h from k made given wrote shown p value count row each same below is =
-    let below' : k < length wrote = omega (arith, below, ap length same)
-    in subst (λ x. IsWritten h from k x) (ap (λ xs. get_or xs k p) (sym same) ∙ sym is)
-    (written_there h from k given wrote p count (subst (λ xs. AreInRow h from xs) (sym value) row) each below')
+pub piece_there : (h : History) (from k : ℕ) (old new : List Piece) (p : Piece) → length new ≡ length old
+    → AreInRow h from old
+    → ((k : ℕ) (p q : Piece) → slice_get old k ≡ Some p → slice_get new k ≡ Some q → HasWritten h p q)
+    → k < length new → p ≡ get_or new k p → IsWritten h from k p
+piece_there h from k old new p count row each below is =
+    subst (λ x. IsWritten h from k x) (sym is) (written_there h from k old new p count row each below)
 
 pub piece_put : (h : History) (from k at : ℕ) (a b c : Option (List ℕ)) (p : Piece) → at ≡ place_of h from k
     → IsWritten h from k p → PutsLines h from at a b → (p.refused ≡ false) × Appends b c (string_bytes p.lines)

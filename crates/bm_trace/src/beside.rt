@@ -78,18 +78,29 @@ fn note_versions(versions: &mut Vec<Version>, events: &[Event], from: usize, to:
 }
 
 impl Piece {
-    /// The events from one place to another, before which the versions are these.
-    fn new(alloc: Global, from: usize, to: usize, versions: &[Version]) -> Result<Piece, AllocError>
-        ensures { IfOk result (λ p. (p.from ≡ from) × (p.to ≡ to)
-            × (p.versions.items ≡ versions.now) × (string_bytes p.lines ≡ [])) }
-    {
-        Ok(Piece {
-            from,
-            to,
-            versions: versions.to_vec(alloc)?,
+    /// A piece without events.
+    fn new(alloc: Global) -> Piece {
+        Piece {
+            from: 0,
+            to: 0,
+            versions: Vec::new(alloc),
             lines: String::new(alloc),
             refused: false,
-        })
+        }
+    }
+
+    /// Takes the events from one place to another, before which the versions are these. What memory
+    /// it has for lines it keeps.
+    fn begin(&mut self, from: usize, to: usize, versions: &[Version]) -> Result<(), AllocError>
+        ensures { OnOk result ((self.new.from ≡ from) × (self.new.to ≡ to)
+            × (self.new.versions.items ≡ versions.now) × (string_bytes self.new.lines ≡ [])) }
+    {
+        self.from = from;
+        self.to = to;
+        self.versions.clear();
+        self.versions.extend_from_slice(versions)?;
+        self.lines.clear();
+        Ok(())
     }
 
     /// Writes the piece's lines.
@@ -126,33 +137,43 @@ impl Piece {
     }
 }
 
-/// The next pieces from this place on, before which the versions are these. Then the versions are
-/// those behind the pieces.
-fn next_pieces(
-    alloc: Global,
-    count: usize,
+/// So many pieces without events.
+fn no_pieces(alloc: Global, count: usize) -> Result<Vec<Piece>, AllocError>
+    ensures { IfOk result (λ pieces. vec_len pieces ≡ count) }
+{
+    let mut pieces = Vec::new(alloc);
+    for _ in 0..count {
+        pieces.push(Piece::new(alloc))?;
+    }
+    Ok(pieces)
+}
+
+/// Gives the pieces the events from this place on, before which the versions are these. Then the
+/// versions are those behind the pieces.
+fn deal_out(
+    pieces: &mut [Piece],
     h: &History,
     from: usize,
     versions: &mut Vec<Version>,
-) -> Result<Vec<Piece>, AllocError>
+) -> Result<(), AllocError>
     requires from { from ≤ length h.now.events }
     requires known { AreVersions (reverse (take from h.now.events)) versions.old.items }
-    ensures count { IfOk result (λ pieces. vec_len pieces ≡ count) }
-    ensures can { IfOk result (λ pieces. All (CanWrite h.now) pieces.items) }
-    ensures row { IfOk result (λ pieces. AreInRow h.now from pieces.items) }
+    ensures count { length pieces.new ≡ length pieces.old }
+    ensures can { OnOk result (All (CanWrite h.now) pieces.new) }
+    ensures row { OnOk result (AreInRow h.now from pieces.new) }
     ensures known { OnOk result
-        (AreVersions (reverse (take (place_of h.now from count) h.now.events)) versions.new.items) }
+        (AreVersions (reverse (take (place_of h.now from (length pieces.old)) h.now.events))
+        versions.new.items) }
 {
     let events = h.events.items();
-    let mut pieces = Vec::new(alloc);
     let mut at = from;
-    for _ in 0..count {
+    for number in 0..pieces.len() {
         let to = at + PIECE.min(events.len() - at);
-        pieces.push(Piece::new(alloc, at, to, versions)?)?;
+        pieces[number].begin(at, to, versions)?;
         note_versions(versions, events, at, to);
         at = to;
     }
-    Ok(pieces)
+    Ok(())
 }
 
 /// Writes the lines of all pieces at once, and waits for all of them.
@@ -177,23 +198,23 @@ fn write_all<R: Threads + Sync>(rt: &R, h: &History, causes: &CauseList, pieces:
     );
 }
 
-/// Writes the lines of the next pieces from this place on, before which the versions are these, and
+/// Writes the lines of the next events from this place on, before which the versions are these, and
 /// answers where the events behind them begin.
 fn put_next<R: Threads + Sync, K: Sink>(
     rt: &R,
-    threads: usize,
+    pieces: &mut [Piece],
     h: &History,
     causes: &CauseList,
     from: usize,
     versions: &mut Vec<Version>,
     out: &mut K,
 ) -> Result<usize, IoFault>
-    requires threads { 0 < threads }
     requires ranges { HasRanges h.now.stage }
     requires causes { AreCauses h.now causes.now }
     requires from { from < length h.now.events }
     requires known { AreVersions (reverse (take from h.now.events)) versions.old.items }
-    ensures place { IfOk result (λ to. to ≡ place_of h.now from threads) }
+    ensures count { length pieces.new ≡ length pieces.old }
+    ensures place { IfOk result (λ to. to ≡ place_of h.now from (length pieces.old)) }
     ensures known { IfOk result
         (λ to. AreVersions (reverse (take to h.now.events)) versions.new.items) }
     ensures lines { IfOk result
@@ -201,10 +222,10 @@ fn put_next<R: Threads + Sync, K: Sink>(
     ensures err { OnErr result (PutsPart h.now from (K.written out.old) (K.written out.new)) }
     ensures cause { HasIoCause (K.faults out.old) (K.faults out.new) result }
 {
-    let mut pieces = next_pieces(causes.allocator(), threads, h, from, versions)?;
-    write_all(rt, h, causes, pieces.as_mut_slice());
+    deal_out(pieces, h, from, versions)?;
+    write_all(rt, h, causes, pieces);
     let mut at = from;
-    for piece in pieces.as_slice() {
+    for piece in pieces.iter() {
         piece.put(out)?;
         at = piece.to;
     }
@@ -229,15 +250,24 @@ pub(crate) fn put_events<R: Threads + Sync, K: Sink>(
 {
     let muxes = usize::from(h.stage.script.setting.muxes);
     let mut versions = no_versions(causes.allocator(), muxes)?;
+    let mut pieces = no_pieces(causes.allocator(), threads)?;
     let mut from = 0;
     while from < h.events.items().len() {
-        from = put_next(rt, threads, h, causes, from, &mut versions, out)?;
+        from = put_next(
+            rt,
+            pieces.as_mut_slice(),
+            h,
+            causes,
+            from,
+            &mut versions,
+            out,
+        )?;
     }
     Ok(())
 }
 
-/// Writes the report of the history, with these causes of its events, by as many threads. It is
-/// never held whole. Where it is refused, a first part of it was written.
+/// Writes the report of the history, with these causes of its events, by as many threads, of which 0
+/// count as 1. It is never held whole. Where it is refused, a first part of it was written.
 #[tactic(auto, using(crate::proofs::Ranged::ranges_of))]
 pub fn report_beside<R: Threads + Sync, K: Sink>(
     rt: &R,

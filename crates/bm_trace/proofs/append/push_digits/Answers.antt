@@ -1,4 +1,4 @@
-use Rattle.std.proofs.Common.{◌∷◌, ◌++◌, [], ◌+◌, ◌∙◌, ap, sym, arith, rules, string_bytes}
+use Rattle.std.proofs.Common.{◌∷◌, ◌++◌, [], ◌∙◌, ap, sym, arith, string_bytes}
 use Rattle.std.proofs.lemmas.Fmt.{decimal_digit}
 use Rattle.bm_trace.proofs.append.push_digits.Goals as goal
 
