@@ -20,7 +20,6 @@ use Rattle.bm_core.specs.declared.events.Stage.{Stage}
 use Rattle.bm_core.specs.declared.events.Verdict.TheVariants.{Accept, Reset}
 use Rattle.bm_core.specs.declared.events.Why.TheVariants.{NoPrevious}
 use Rattle.bm_core.specs.declared.events.What.TheVariants.{Close, Sync}
-use Rattle.bm_core.specs.Accounts.{before}
 use Rattle.bm_core.specs.Threads.{HaveLooked}
 use Rattle.bm_core.proofs.Worked.{server, syn, data_of, flow_from, record_at, at, switch, steer, arrive}
 use Rattle.bm_merge.proofs.Broken.{IsAccounted, moment, quiet, quiet_sound, opening_label, LacksPhase, LacksOrder}

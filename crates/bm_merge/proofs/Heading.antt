@@ -10,10 +10,10 @@ use Rattle.std.proofs.lemmas.List.{reverse-append, reverse-reverse, length-appen
 use Rattle.bm_core.specs.declared.events.Event.{Event}
 use Rattle.bm_merge.specs.declared.rising.Head.{Head}
 use Rattle.bm_merge.specs.Merges.{place_in, by_clock, joined}
-use Rattle.bm_merge.specs.Rising.{AreStanding, IsEarliest, IsNextOf, IsRising, Stands, in_order, left_of, lefts}
+use Rattle.bm_merge.specs.Rising.{AreStanding, IsEarliest, IsNextOf, IsRising, Stands, all_logs, in_order, left_of, lefts}
 use Rattle.bm_merge.proofs.Joined.{joined_append, joined_next, none_more}
 use Rattle.bm_merge.proofs.Placed.{IsFalling, all_by_clock, all_so}
-use Rattle.bm_merge.proofs.Sorting.{clock_falls}
+use Rattle.bm_merge.proofs.Sorting.{clock_falls, of_append, of_by_clock, of_clock, of_reverse, one_order}
 
 -- ALL OF TWO LISTS
 
@@ -268,32 +268,43 @@ falling_rises xs falls = turned_onto xs [] falls tt (none_under xs)
 pub in_order_rises : (events : List Event) → IsRising (in_order events)
 in_order_rises events = falling_rises (by_clock (reverse events)) (clock_falls (reverse events))
 
-place_top : (e : Event) (s : List Event) → AllByRecursion (λ x. x.clock.0 ≤ e.clock.0) s → place_in e s ≡ e ∷ s
-place_top e [] h = refl
-place_top e (x ∷ s) h = let is : leb x.clock.0 e.clock.0 ≡ true = le-leb _ _ h.0 in rw is refl
+-- the events of one clock keep their order
+of_order : (c : ℕ) (events : List Event) → of_clock c (in_order events) ≡ of_clock c events
+of_order c events =
+    of_reverse c (by_clock (reverse events))
+    ∙ ap (λ (l : List Event). reverse l) (of_by_clock c (reverse events) ∙ of_reverse c events)
+    ∙ reverse-reverse (of_clock c events)
 
-falls_again : (s : List Event) → IsFalling (λ x. x.clock.0) s → by_clock s ≡ s
-falls_again [] falls = refl
-falls_again (e ∷ s) falls =
-    ap (λ (l : List Event). place_in e l) (falls_again s falls.1) ∙ place_top e s falls.0
+-- so events are put in one order by those of each clock
+orders_alike : (x y : List Event) → ((c : ℕ) → of_clock c x ≡ of_clock c y) → in_order x ≡ in_order y
+orders_alike x y same =
+    ap (λ (l : List Event). reverse l)
+    (one_order (by_clock (reverse x)) (by_clock (reverse y)) (clock_falls (reverse x)) (clock_falls (reverse y))
+    (λ c. of_by_clock c (reverse x) ∙ of_reverse c x ∙ ap (λ (l : List Event). reverse l) (same c)
+    ∙ sym (of_by_clock c (reverse y) ∙ of_reverse c y)))
 
-by_clock_under : (newer x y : List Event) → by_clock x ≡ by_clock y → by_clock (newer ++ x) ≡ by_clock (newer ++ y)
-by_clock_under [] x y same = same
-by_clock_under (e ∷ newer) x y same = ap (λ (l : List Event). place_in e l) (by_clock_under newer x y same)
+-- what each group merges to
+abbrev pub orders : List (List (List Event)) → List (List Event)
+orders groups = map (λ logs. in_order (joined logs)) groups
 
--- logs that were put in order before are put in order with others as they would be at once
-pub in_order_again : (logs others : List (List Event))
-    → in_order (joined (in_order (joined logs) ∷ others)) ≡ in_order (joined (logs ++ others))
-in_order_again logs others =
-    let first = joined logs in
-    let rest = joined others in
-    let turned : reverse (in_order first) ≡ by_clock (reverse first) = reverse-reverse (by_clock (reverse first)) in
-    ap (λ (l : List Event). reverse (by_clock l)) (reverse-append (in_order first) rest)
-    ∙ ap (λ (l : List Event). reverse l)
-    (by_clock_under (reverse rest) (reverse (in_order first)) (reverse first)
-    (ap (λ (l : List Event). by_clock l) turned ∙ falls_again (by_clock (reverse first)) (clock_falls (reverse first))))
-    ∙ ap (λ (l : List Event). reverse (by_clock l)) (sym (reverse-append first rest))
-    ∙ ap (λ (l : List Event). in_order l) (sym (joined_append logs others))
+of_groups : (c : ℕ) (groups : List (List (List Event)))
+    → of_clock c (joined (orders groups)) ≡ of_clock c (joined (all_logs groups))
+of_groups c [] = refl
+of_groups c (logs ∷ groups) =
+    of_append c (in_order (joined logs)) (joined (orders groups))
+    ∙ ap (λ (l : List Event). l ++ of_clock c (joined (orders groups))) (of_order c (joined logs))
+    ∙ ap (λ (l : List Event). of_clock c (joined logs) ++ l) (of_groups c groups)
+    ∙ sym (of_append c (joined logs) (joined (all_logs groups)))
+    ∙ ap (λ (l : List Event). of_clock c l) (sym (joined_append logs (all_logs groups)))
+
+-- logs that were put in order by groups are put in order as they would be at once
+pub in_order_again : (groups : List (List (List Event)))
+    → in_order (joined (orders groups)) ≡ in_order (joined (all_logs groups))
+in_order_again groups = orders_alike (joined (orders groups)) (joined (all_logs groups)) (λ c. of_groups c groups)
+
+pub orders_rise : (groups : List (List (List Event))) → AllByRecursion IsRising (orders groups)
+orders_rise [] = tt
+orders_rise (logs ∷ groups) = (in_order_rises (joined logs), orders_rise groups)
 
 -- WHAT COMES NEXT
 

@@ -42,7 +42,7 @@ of_place c e (x ∷ s) =
     (of_place c e s)
 
 -- putting events in order leaves those of one clock in their order
-of_by_clock : (c : ℕ) (es : List Event) → of_clock c (by_clock es) ≡ of_clock c es
+pub of_by_clock : (c : ℕ) (es : List Event) → of_clock c (by_clock es) ≡ of_clock c es
 of_by_clock c [] = refl
 of_by_clock c (e ∷ es) =
     of_place c e (by_clock es) ∙ ap (λ (l : List Event). cond (eqb e.clock.0 c) (e ∷ l) l) (of_by_clock c es)
@@ -119,7 +119,7 @@ one_order_step d e x y a b same =
     in ap (λ (l : List Event). head_or d l) (sym left)
     ∙ ap (λ (t : Bool). head_or d (cond t (e ∷ of_clock d.clock.0 y) (of_clock d.clock.0 y))) is
 
-one_order : (x y : List Event) → IsFalling (λ z. z.clock.0) x → IsFalling (λ z. z.clock.0) y
+pub one_order : (x y : List Event) → IsFalling (λ z. z.clock.0) x → IsFalling (λ z. z.clock.0) y
     → ((c : ℕ) → of_clock c x ≡ of_clock c y) → x ≡ y
 one_order [] [] a b same = refl
 one_order [] (e ∷ y) a b same =
@@ -167,7 +167,7 @@ tied : (c : ℕ) (xs : List Event)
 tied c [] = refl
 tied c (x ∷ xs) = rw (tie c x.clock.0, tied c xs) refl
 
-of_append : (c : ℕ) (x y : List Event) → of_clock c (x ++ y) ≡ of_clock c x ++ of_clock c y
+pub of_append : (c : ℕ) (x y : List Event) → of_clock c (x ++ y) ≡ of_clock c x ++ of_clock c y
 of_append c [] y = refl
 of_append c (e ∷ x) y = step (eqb e.clock.0 c) (of_append c x y) where
   step : (mine : Bool) → of_clock c (x ++ y) ≡ of_clock c x ++ of_clock c y
@@ -187,7 +187,7 @@ of_reverse_onto : (c : ℕ) (x acc : List Event)
 of_reverse_onto c [] acc = refl
 of_reverse_onto c (e ∷ x) acc = of_reverse_onto c x (e ∷ acc) ∙ onto_step c e x acc (eqb e.clock.0 c) refl
 
-of_reverse : (c : ℕ) (x : List Event) → of_clock c (reverse x) ≡ reverse (of_clock c x)
+pub of_reverse : (c : ℕ) (x : List Event) → of_clock c (reverse x) ≡ reverse (of_clock c x)
 of_reverse c x = of_reverse_onto c x []
 
 -- a stable sort by clock of events, the oldest first, puts them in the merged order

@@ -1,6 +1,6 @@
 -- Logs whose clocks don't fall, and the events that come next in them. What is below `in_order` only
 -- the proofs of bodies use.
-use Rattle.std.specs.Prelude.{◌≡◌, ◌≤◌, ◌<◌, ℕ, List, [], ◌∷◌, length, map, drop, reverse}
+use Rattle.std.specs.Prelude.{◌≡◌, ◌≤◌, ◌<◌, ℕ, List, [], ◌∷◌, ◌++◌, length, map, drop, reverse}
 use Rattle.std.specs.Prelude.{slice_get, slice_index_or, Option, Some, None}
 use Rattle.std.specs.List.{AllByRecursion}
 use Rattle.bm_core.specs.declared.events.Event.{Event}
@@ -15,6 +15,11 @@ IsRising (e ∷ events) = AllByRecursion (λ x. e.clock.0 ≤ x.clock.0) events 
 -- the events by clock, those of one clock in the order that they have; the oldest event comes first
 abbrev pub in_order : List Event → List Event
 in_order events = reverse (by_clock (reverse events))
+
+-- the logs of groups, one group after the other
+abbrev pub all_logs : List (List (List Event)) → List (List Event)
+all_logs [] = []
+all_logs (logs ∷ groups) = logs ++ all_logs groups
 
 -- what is left of a log, from its next event on
 abbrev pub left_of : List (List Event) → Head → List Event
