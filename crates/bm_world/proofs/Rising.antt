@@ -1,21 +1,25 @@
 -- The logs of a run rise, and what they merge to.
-use Rattle.std.proofs.Common.{◌≡◌, ℕ, zero, suc, Option, Some, option_map, ◌+◌, ◌<◌, ◌≤◌, List, [], ◌∷◌, ◌++◌, length, map, reverse, take, get_or}
-use Rattle.std.proofs.Common.{refl, sym, ap, ◌∙◌, subst, arith, append-nil, append_assoc}
-use Rattle.std.specs.Prelude.{slice_get}
+use Rattle.std.proofs.Common.{◌≡◌, ℕ, suc, Some, ◌+◌, ◌<◌, ◌≤◌, List, [], ◌∷◌, ◌++◌, length, map, reverse, take, get_or}
+use Rattle.std.proofs.Common.{refl, sym, ap, ◌∙◌, subst, arith, append-nil, append_assoc, drop, Bool, true, false}
+use Rattle.std.specs.Prelude.{slice_get, ◌||◌}
 use Rattle.std.specs.List.{AllByRecursion}
-use Rattle.std.proofs.lemmas.List.{reverse-append, reverse-reverse, take_more}
+use Rattle.std.proofs.Math.Seq.{take-length}
+use Rattle.std.proofs.lemmas.Grind.{common_steps}
+use Rattle.std.proofs.lemmas.List.{reverse-append, reverse-reverse, take-append-drop, take_more}
 use Rattle.bm_core.specs.declared.events.Event.{Event}
 use Rattle.bm_core.specs.Runs.{next_clock}
 use Rattle.bm_shard.specs.declared.book.Shard.{Shard}
 use Rattle.bm_shard.specs.declared.calls.ShardEntry.{ShardEntry}
 use Rattle.bm_shard.specs.Books.{Book, Replays}
 use Rattle.bm_shard.specs.Turns.{call_moment}
-use Rattle.bm_merge.specs.Rising.{IsRising}
+use Rattle.bm_merge.specs.Merges.{joined}
+use Rattle.bm_merge.specs.Rising.{IsRising, all_logs, in_order}
+use Rattle.bm_world.specs.declared.run_logs.Group.{Group}
 use Rattle.bm_world.specs.declared.run_logs.RunLog.{RunLog}
-use Rattle.bm_world.specs.Logged.{book_log, books_logs, log_events}
+use Rattle.bm_world.specs.Logged.{HasMerged, book_log, books_logs, group_events, group_logs, log_events, one_refused}
 use Rattle.bm_world.proofs.Through.{books_append}
 use Rattle.bm_merge.proofs.Placed.{IsFalling, all_so}
-use Rattle.bm_merge.proofs.Heading.{falling_rises}
+use Rattle.bm_merge.proofs.Heading.{falling_rises, orders}
 
 above : (n : ℕ) (e : ShardEntry) (past : List ShardEntry)
     → AllByRecursion (λ x. x.clock.0 ≤ e.event.clock.0) (map (λ (x : ShardEntry). x.event) past) → e.event.clock.0 < n
@@ -117,13 +121,87 @@ books_then all item =
     books_append all (item ∷ [])
     ∙ ap (λ (l : List (List Event)). books_logs all ++ l) (append-nil (map book_log item))
 
-pub books_listed : (all : List (List Book)) (workers : List Event) (old new : List RunLog) (item : List Book)
-    → map log_events old ≡ workers ∷ books_logs all → map log_events new ≡ map log_events old ++ map book_log item
-    → map log_events new ≡ workers ∷ books_logs (all ++ item ∷ [])
-books_listed all workers old new item was is =
-    is ∙ ap (λ (l : List (List Event)). l ++ map book_log item) was
-    ∙ ap (λ (l : List (List Event)). workers ∷ l) (sym (books_then all item))
+pub books_listed : (all : List (List Book)) (old new : List RunLog) (item : List Book)
+    → map log_events old ≡ books_logs all → map log_events new ≡ map log_events old ++ map book_log item
+    → map log_events new ≡ books_logs (all ++ item ∷ [])
+books_listed all old new item was is =
+    is ∙ ap (λ (l : List (List Event)). l ++ map book_log item) was ∙ sym (books_then all item)
 
 pub books_rising : (all : List (List Book)) (item : List Book) → AllByRecursion IsRising (books_logs all)
     → AllByRecursion IsRising (map book_log item) → AllByRecursion IsRising (books_logs (all ++ item ∷ []))
 books_rising all item was one = rw (books_then all item) (all_and (books_logs all) (map book_log item) was one)
+
+-- GROUPS
+
+books_cut : (all part rest : List (List Book)) (n : ℕ) → part ≡ take n all → rest ≡ drop n all
+    → books_logs all ≡ books_logs part ++ books_logs rest
+books_cut all part rest n first last =
+    ap books_logs (sym (take-append-drop n all)) ∙ books_append (take n all) (drop n all)
+    ∙ ap (λ (l : List (List Event)). l ++ books_logs (drop n all)) (ap books_logs (sym first))
+    ∙ ap (λ (l : List (List Event)). books_logs part ++ l) (ap books_logs (sym last))
+
+group_then : (groups : List Group) (group : Group)
+    → all_logs (map group_logs (groups ++ group ∷ [])) ≡ all_logs (map group_logs groups) ++ group_logs group
+group_then [] group = append-nil (group_logs group)
+group_then (g ∷ groups) group =
+    ap (λ (l : List (List Event)). group_logs g ++ l) (group_then groups group)
+    ∙ sym (append_assoc (group_logs g) (all_logs (map group_logs groups)) (group_logs group))
+
+-- one group more, of the first of the books that are left
+pub group_more : (groups new : List Group) (group : Group) (all part rest : List (List Book)) (n : ℕ)
+    (whole : List (List Event)) → all_logs (map group_logs groups) ++ books_logs all ≡ whole → part ≡ take n all
+    → rest ≡ drop n all → new ≡ groups ++ group ∷ [] → group_logs group ≡ books_logs part
+    → all_logs (map group_logs new) ++ books_logs rest ≡ whole
+group_more groups new group all part rest n whole was first last is same =
+    let done = all_logs (map group_logs groups) in
+    ap (λ (l : List Group). all_logs (map group_logs l) ++ books_logs rest) is
+    ∙ ap (λ (l : List (List Event)). l ++ books_logs rest)
+    (group_then groups group ∙ ap (λ (l : List (List Event)). done ++ l) same)
+    ∙ append_assoc done (books_logs part) (books_logs rest)
+    ∙ ap (λ (l : List (List Event)). done ++ l) (sym (books_cut all part rest n first last)) ∙ was
+
+-- the last group, of all of them
+pub group_last : (groups new : List Group) (group : Group) (all : List (List Book)) (whole : List (List Event))
+    → all_logs (map group_logs groups) ++ books_logs all ≡ whole → new ≡ groups ++ group ∷ []
+    → group_logs group ≡ books_logs all → all_logs (map group_logs new) ≡ whole
+group_last groups new group all whole was is same =
+    ap (λ (l : List Group). all_logs (map group_logs l)) is ∙ group_then groups group
+    ∙ ap (λ (l : List (List Event)). all_logs (map group_logs groups) ++ l) same ∙ was
+
+-- what was merged takes the place of all that was there
+written_back : (given wrote : List Group) (n : ℕ) → length wrote ≡ length given → n ≡ length given
+    → take n (wrote ++ drop (length wrote) given) ≡ wrote
+written_back given wrote n count whole =
+    let none : drop (length wrote) given ≡ [] = grind (arith, common_steps)
+    in let all : n ≡ length wrote = omega (arith, count, whole)
+    in ap (λ x. take n (wrote ++ x)) none ∙ ap (λ x. take n x) (append-nil wrote) ∙ ap (λ k. take k wrote) all
+    ∙ take-length wrote
+
+-- where memory was refused for no group, each has what its logs merge to
+pub merged_all : (old new : List Group) → length new ≡ length old
+    → ((k : ℕ) (o n : Group) → slice_get old k ≡ Some o → slice_get new k ≡ Some n → HasMerged o n)
+    → one_refused new ≡ false → map group_events new ≡ orders (map group_logs old)
+merged_all [] [] count each fine = refl
+merged_all [] (n ∷ new) count each fine = absurd (omega arith)
+merged_all (o ∷ old) [] count each fine = absurd (omega arith)
+merged_all (o ∷ old) (n ∷ new) count each fine =
+    go n.refused refl fine (merged_all old new (omega arith) (λ k x y a b. each (suc k) x y a b)) where
+      go : (r : Bool) → n.refused ≡ r → (r || one_refused new) ≡ false
+          → (one_refused new ≡ false → map group_events new ≡ orders (map group_logs old))
+          → group_events n ∷ map group_events new ≡ in_order (joined (group_logs o)) ∷ orders (map group_logs old)
+      go true refused fails rest = absurd (cc)
+      go false one others rest =
+          ap (λ (l : List Event). l ∷ map group_events new) (each 0 o n refl refl one)
+          ∙ ap (λ (l : List (List Event)). in_order (joined (group_logs o)) ∷ l) (rest others)
+
+pub merged_back : (groups given wrote tested seen : List Group) (n : ℕ) (refused : Bool) → given ≡ groups
+    → length given ≡ n → length wrote ≡ length given
+    → ((k : ℕ) (o n : Group) → slice_get given k ≡ Some o → slice_get wrote k ≡ Some n → HasMerged o n)
+    → tested ≡ take n (wrote ++ drop (length wrote) groups) → refused ≡ one_refused tested → refused ≡ false
+    → seen ≡ take n (wrote ++ drop (length wrote) groups) → map group_events seen ≡ orders (map group_logs groups)
+merged_back groups given wrote tested seen n refused same whole count each first is none last =
+    let long = ap (λ (l : List Group). length l) same in
+    let back = written_back groups wrote n (count ∙ long) (sym whole ∙ long) in
+    let fine : one_refused wrote ≡ false = ap one_refused (sym (first ∙ back)) ∙ sym is ∙ none in
+    ap (λ (l : List Group). map group_events l) (last ∙ back) ∙ merged_all given wrote count each fine
+    ∙ ap (λ (l : List Group). orders (map group_logs l)) same

@@ -1,8 +1,13 @@
 -- The logs of the books, and those that are merged. Only the proofs of bodies use this.
-use Rattle.std.specs.Prelude.{List, [], ◌∷◌, ◌++◌, map}
+use Rattle.std.specs.Prelude.{◌≡◌, List, [], ◌∷◌, ◌++◌, map, Bool, false, ◌||◌}
 use Rattle.bm_core.specs.declared.events.Event.{Event}
+use Rattle.bm_merge.specs.Merges.{joined}
+use Rattle.bm_merge.specs.Rising.{in_order}
 use Rattle.bm_shard.specs.Books.{Book}
+use Rattle.bm_world.specs.declared.run_logs.Group.{Group}
 use Rattle.bm_world.specs.declared.run_logs.RunLog.{RunLog}
+use Rattle.bm_world.specs.declared.run_logs.Source.{Source}
+use Rattle.bm_world.specs.declared.run_logs.Source.TheVariants.{Servers, Workers}
 
 -- the events of a book, the oldest first
 abbrev pub book_log : Book → List Event
@@ -16,3 +21,25 @@ books_logs (books ∷ all) = map book_log books ++ books_logs all
 -- the events of a log that is merged
 abbrev pub log_events : RunLog → List Event
 log_events log = log.events.items
+
+-- the logs of a group
+abbrev pub source_logs : Source → List (List Event)
+source_logs (Workers logs) = logs.items
+source_logs (Servers all) = books_logs all.items
+
+abbrev pub group_logs : Group → List (List Event)
+group_logs group = source_logs group.source
+
+-- what was merged of a group
+abbrev pub group_events : Group → List Event
+group_events group = group.events.items
+
+-- the group's logs were merged, but where memory was refused
+abbrev pub HasMerged : Group → Group → Type 0
+HasMerged old new =
+    new.refused ≡ false → new.events.items ≡ in_order (joined (group_logs old))
+
+-- memory was refused for one of the groups
+abbrev pub one_refused : List Group → Bool
+one_refused [] = false
+one_refused (group ∷ groups) = group.refused || one_refused groups

@@ -1,22 +1,27 @@
-//! The logs of a run, as they are merged.
-ghost use Rattle.std.specs.Prelude.{◌≡◌, ◌<◌, ◌++◌, ◌∷◌, length, map, slice_get, Some, IfOk, OnOk};
+//! The logs of a run, merged by threads.
+ghost use Rattle.std.specs.Prelude.{◌≡◌, ◌<◌, ◌++◌, ℕ, length, map, slice_get, Some, IfOk, OnOk};
 ghost use Rattle.std.specs.List.{AllByRecursion};
-ghost use Rattle.bm_merge.specs.Rising.{IsRising};
+ghost use Rattle.bm_merge.specs.Merges.{joined};
+ghost use Rattle.bm_merge.specs.Rising.{IsRising, all_logs, in_order as by_order};
+ghost use Rattle.bm_world.specs.declared.run_logs.Group.{Group as GroupOf};
 ghost use Rattle.bm_world.specs.Logged as logged;
-ghost use Rattle.bm_world.specs.Logged.{books_logs};
+ghost use Rattle.bm_world.specs.Logged.{HasMerged, books_logs, one_refused};
 
 use bm_base::Memory;
-use bm_core::Event;
-use bm_merge::EventLog;
+use bm_core::{Event, Log};
+use bm_merge::{EventLog, join_in_order, merge_rising};
 use bm_server::Books;
 use bm_shard::ShardBook;
+use core::mem::replace;
 use std::alloc::Global;
+use std::thread;
+use std::thread::Threads;
 
-/// A log of a run: what the controller and the muxes wrote down, by clock, or what happened at a
-/// shard. Events alone are merged in less time than the entries of books, which are larger.
+/// What happened at a shard. Events alone are merged in less time than the entries of books, which
+/// are larger.
 #[derive(Drop)]
-pub(crate) struct RunLog {
-    pub(crate) events: Vec<Event>,
+struct RunLog {
+    events: Vec<Event>,
 }
 
 impl EventLog for RunLog {
@@ -56,23 +61,162 @@ fn add_books(alloc: Global, books: &Books, logs: &mut Vec<RunLog>) -> Result<(),
     Ok(())
 }
 
-/// What the workers wrote down, and behind it what happened at the shards of all servers. Each
-/// server's books are let go as soon as they are read.
-pub(crate) fn run_logs(
-    alloc: Global,
-    workers: Vec<Event>,
-    all: Vec<Books>,
-) -> Result<Vec<RunLog>, Memory>
-    requires { IsRising workers.items }
-    ensures logs { IfOk result (λ logs. map logged.log_events logs.items
-        ≡ workers.items ∷ books_logs all.items) }
+/// What happened at the shards of these servers. Each server's books are let go as soon as they are
+/// read.
+fn book_logs(alloc: Global, all: Vec<Books>) -> Result<Vec<RunLog>, Memory>
+    ensures logs { IfOk result
+        (λ logs. map logged.log_events logs.items ≡ books_logs all.items) }
     ensures rising { IfOk result
         (λ logs. AllByRecursion IsRising (map logged.log_events logs.items)) }
 {
     let mut logs = Vec::new(alloc);
-    logs.push(RunLog { events: workers })?;
     for books in all {
         add_books(alloc, &books, &mut logs)?;
     }
     Ok(logs)
+}
+
+/// Some logs of a run in a row.
+#[derive(Drop)]
+enum Source {
+    /// Those of the controller and the muxes.
+    Workers(Vec<Log>),
+    /// Those in the books of some servers.
+    Servers(Vec<Books>),
+}
+
+impl Source {
+    /// All events of these logs, by clock.
+    fn merged(self, alloc: Global) -> Result<Vec<Event>, Memory>
+        ensures { IfOk result
+            (λ events. events.items ≡ by_order (joined (logged.source_logs self))) }
+    {
+        match self {
+            Source::Workers(logs) => join_in_order(alloc, logs.as_slice()),
+            Source::Servers(all) => {
+                let logs = book_logs(alloc, all)?;
+                merge_rising(alloc, logs.as_slice())
+            }
+        }
+    }
+}
+
+/// The logs that a thread merges, and then their events by clock.
+#[derive(Drop)]
+struct Group {
+    source: Source,
+    events: Vec<Event>,
+    /// Whether memory was refused for the events.
+    refused: bool,
+}
+
+impl EventLog for Group {
+    ghost events = { logged.group_events };
+
+    fn count(&self) -> usize {
+        self.events.len()
+    }
+
+    fn event(&self, place: usize) -> Event {
+        self.events[place]
+    }
+}
+
+impl Group {
+    /// These logs, not yet merged.
+    fn new(alloc: Global, source: Source) -> Group
+        ensures { result.source ≡ source }
+    {
+        Group {
+            source,
+            events: Vec::new(alloc),
+            refused: false,
+        }
+    }
+
+    /// Merges the logs, and lets them go.
+    fn merge(&mut self, alloc: Global)
+        ensures { HasMerged self.old self.new }
+    {
+        let source = replace(&mut self.source, Source::Workers(Vec::new(alloc)));
+        match source.merged(alloc) {
+            Ok(events) => self.events = events,
+            Err(_) => self.refused = true,
+        }
+    }
+}
+
+/// The logs in groups: those of the workers, and behind them the books of so many servers in each.
+fn grouped(
+    alloc: Global,
+    workers: Vec<Log>,
+    all: Vec<Books>,
+    size: usize,
+) -> Result<Vec<Group>, Memory>
+    requires { 0 < size }
+    ensures { IfOk result (λ groups. all_logs (map logged.group_logs groups.items)
+        ≡ workers.items ++ books_logs all.items) }
+{
+    let mut groups = Vec::new(alloc);
+    groups.push(Group::new(alloc, Source::Workers(workers)))?;
+    let mut all = all;
+    while all.len() > size {
+        let rest = all.split_off(size)?;
+        groups.push(Group::new(alloc, Source::Servers(all)))?;
+        all = rest;
+    }
+    groups.push(Group::new(alloc, Source::Servers(all)))?;
+    Ok(groups)
+}
+
+/// Merges the logs of each group, all at once, and waits for all of them.
+fn merge_each<R: Threads + Sync>(rt: &R, alloc: Global, groups: &mut [Group])
+    ensures count { length groups.new ≡ length groups.old }
+    ensures each { (k : ℕ) (old new : GroupOf) → slice_get groups.old k ≡ Some old
+        → slice_get groups.new k ≡ Some new → HasMerged old new }
+{
+    let threads = groups.len().max(1);
+    thread::for_each_mut(
+        rt,
+        groups,
+        threads,
+        &|_, group: &mut Group|
+            ensures { HasMerged group.entry.now group.exit.now }
+        { group.merge(alloc) },
+    );
+}
+
+/// Whether memory was refused for one of the groups.
+fn is_one_refused(groups: &[Group]) -> bool
+    ensures { result ≡ one_refused groups.now }
+{
+    for group in groups {
+        if group.refused {
+            return true;
+        }
+    }
+    false
+}
+
+/// What the workers wrote down and what happened at the shards of all servers, by clock. Those of
+/// one clock stand in the order of the logs. The logs are merged in as many threads as that, but
+/// at least in two: the workers' logs in one, and the servers' books in the others.
+pub(crate) fn merge_beside<R: Threads + Sync>(
+    rt: &R,
+    alloc: Global,
+    threads: usize,
+    workers: Vec<Log>,
+    all: Vec<Books>,
+) -> Result<Vec<Event>, Memory>
+    ensures { IfOk result
+        (λ events. events.items ≡ by_order (joined (workers.items ++ books_logs all.items))) }
+{
+    let others = threads.saturating_sub(1).max(1);
+    let size = all.len().div_ceil(others).max(1);
+    let mut groups = grouped(alloc, workers, all, size)?;
+    merge_each(rt, alloc, groups.as_mut_slice());
+    if is_one_refused(groups.as_slice()) {
+        return Err(Memory);
+    }
+    merge_rising(alloc, groups.as_slice())
 }

@@ -20,14 +20,13 @@ use crate::crew::{make_workers, take_apart};
 use crate::known::known_servers;
 use crate::phase::run_phases;
 use crate::routing::route_all;
-use crate::run_logs::run_logs;
+use crate::run_logs::merge_beside;
 use crate::servers::{Rows, finish_all, make_servers};
 use bm_base::{Fate, Flow, Hop, List, Memory, MuxId, Octets};
 use bm_core::{Event, History, Log, Stage};
 use bm_fault::Faults;
 use bm_io::Gate;
 use bm_lead::{Head, post_the_rest};
-use bm_merge::{join_in_order, merge_rising};
 use bm_publish::{Look, Poster, board};
 use bm_route::Route;
 use bm_rows::front;
@@ -35,6 +34,9 @@ use bm_worker::{Porter, Shared};
 use std::alloc::Global;
 use std::sync::Wait;
 use std::thread::Threads;
+
+/// By more threads than these the logs aren't merged.
+const MOST_MERGING: usize = 8;
 
 /// What the workers hand back.
 #[derive(Drop)]
@@ -168,9 +170,8 @@ fn run_stage<W: Threads + Wait + Sync, F: Fn(u32, Hop) -> Fate + Sync, G: Gate>(
     if late {
         unreachable!();
     }
-    let workers = join_in_order(alloc, logs.as_slice())?;
-    let logs = run_logs(alloc, workers, books)?;
-    merge_rising(alloc, logs.as_slice())
+    let threads = usize::from(setting.muxes).min(MOST_MERGING);
+    merge_beside(rt, alloc, threads, logs, books)
 }
 
 /// Carries the packets of a stage through its muxes and servers, the packets of each mux in a thread

@@ -1,4 +1,4 @@
-use Rattle.std.proofs.Common.{◌≡◌, ◌∙◌, ℕ, suc, ◌+◌, ◌∷◌, ◌++◌, Bool, List, Some, length, map, sym, ap, subst, arith}
+use Rattle.std.proofs.Common.{◌≡◌, ◌∙◌, ℕ, suc, ◌+◌, ◌++◌, Bool, List, Some, length, sym, ap, subst, arith}
 use Rattle.std.specs.Prelude.{slice_get, true}
 use Rattle.std.proofs.lemmas.List.{length-map}
 use Rattle.std.proofs.lemmas.Result.{IfOk-weaker}
@@ -13,11 +13,7 @@ use Rattle.bm_server.specs.Seats.{Seated}
 use Rattle.bm_server.specs.Servings.{Serving}
 use Rattle.bm_worker.specs.Phases.{IsRunnable}
 use Rattle.bm_world.specs.Crews.{rows_of, IsBack}
-use Rattle.bm_merge.specs.Merges.{joined}
-use Rattle.bm_merge.specs.Rising.{in_order}
-use Rattle.bm_merge.proofs.Heading.{in_order_again}
-use Rattle.bm_world.specs.declared.run_logs.RunLog.{RunLog}
-use Rattle.bm_world.specs.Logged.{books_logs, log_events}
+use Rattle.bm_world.specs.Logged.{books_logs}
 use Rattle.bm_world.specs.Served.{AreBooksThere}
 use Rattle.bm_world.proofs.Backed.{row_sits, rows_long, sitting, Stood}
 use Rattle.bm_world.proofs.Late.{none_late}
@@ -133,11 +129,4 @@ returns g c =
     let merged = merge_to_run F stage servers c.args.routes.now back.posted back.head back.workers all lists
     c.requires.sound suits seats c.requires.routed back.shown through c.in_ok-books.ensures.count books
     (ap (λ (l : List (List Event)). l ++ books_logs all) back.logs_are) in
-    let first = c.in_ok-workers.ensures.order
-    ∙ ap (λ (l : List (List Event)). in_order (joined l)) c.as_slice-3.ensures.value in
-    let logs = ap (λ (l : List RunLog). map log_events l) c.as_slice-4.ensures.value ∙ c.in_ok-logs.ensures.logs
-    ∙ ap (λ (l : List Event). l ∷ books_logs all) first in
-    let order = ap (λ (l : List (List Event)). in_order (joined l)) logs
-    ∙ in_order_again c.in_ok-late.field-0.logs.items (books_logs all) in
-    IfOk-weaker c.merge_rising.result _ _ (λ events is h about made. merged h about (made ∙ is ∙ order))
-    c.merge_rising.ensures
+    IfOk-weaker c.merge_beside.result _ _ (λ events is h about made. merged h about (made ∙ is)) c.merge_beside.ensures
