@@ -4,8 +4,8 @@ ghost use Rattle.bm_trace.specs.FlowKeys.{key_of};
 
 use bm_base::Flow;
 
-/// A flow. The client's port is compared first, since it tells most flows apart.
-#[derive(Clone, Copy, PartialEq, Eq, PartialOrd, Ord)]
+/// A flow, as a key. The ports come first, since they tell most flows apart.
+#[derive(Clone, Copy, PartialEq, Eq, Hash)]
 pub(crate) struct FlowKey {
     sport: u16,
     dport: u16,

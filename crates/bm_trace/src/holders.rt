@@ -2,6 +2,7 @@
 ghost use Rattle.std.specs.Prelude.{◌≡◌, ◌&&◌, ◌||◌, List, length, reverse, OnOk, OnErr, IfOk};
 ghost use Rattle.std.specs.Prelude.{Option, Some, None, option_map, find, if◌then◌else◌, [], ◌∷◌};
 ghost use Rattle.std.specs.BTreeMap as tree;
+ghost use Rattle.std.specs.HashMap as table;
 ghost use Rattle.bm_base.specs.declared.flow.Flow.{Flow};
 ghost use Rattle.bm_base.specs.declared.ids.ServerId.{ServerId};
 ghost use Rattle.bm_base.specs.Segments.{same_flow};
@@ -24,7 +25,7 @@ use bm_hash::shard_of;
 use bm_table::Retirement;
 use smallvec::SmallVec;
 use std::alloc::{AllocError, Global};
-use std::collections::BTreeMap;
+use std::collections::{BTreeMap, HashMap};
 
 /// A server that holds a flow, and how many events stand before its Accept.
 #[derive(Clone, Copy)]
@@ -109,7 +110,7 @@ fn place_in(holders: &[Holder], server: ServerId) -> Option<usize>
 /// The holders of each flow.
 #[derive(Drop)]
 pub(crate) struct Lists {
-    lists: BTreeMap<FlowKey, HolderList>,
+    lists: HashMap<FlowKey, HolderList>,
 }
 
 impl Lists {
@@ -119,7 +120,7 @@ impl Lists {
         ensures { (q : Flow) → holders_in result q ≡ [] }
     {
         Lists {
-            lists: BTreeMap::new(alloc),
+            lists: HashMap::new(alloc),
         }
     }
 
@@ -127,9 +128,9 @@ impl Lists {
     fn put(&mut self, flow: Flow, list: HolderList) -> Result<Option<HolderList>, AllocError>
         ensures old { IfOk result (λ old. listed old ≡ holders_in self.old flow) }
         ensures new { OnOk result ((q : Flow)
-            → tree.get ⟦<FlowKey as Ord>⟧.cmp self.new.lists (key_of q)
+            → table.get ⟦<FlowKey as PartialEq>⟧.eq self.new.lists (key_of q)
             ≡ (if same_flow flow q then Some list
-            else tree.get ⟦<FlowKey as Ord>⟧.cmp self.old.lists (key_of q))) }
+            else table.get ⟦<FlowKey as PartialEq>⟧.eq self.old.lists (key_of q))) }
     {
         Ok(self.lists.insert(FlowKey::of(&flow), list)?)
     }

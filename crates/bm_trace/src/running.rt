@@ -16,12 +16,12 @@ use crate::versions::{no_versions, set_version, version_in};
 use bm_base::{Flow, Hop, MuxId, Segment, ServerId, Version};
 use bm_core::{Event, Stage, Verdict, What};
 use std::alloc::{AllocError, Global};
-use std::collections::BTreeMap;
+use std::collections::HashMap;
 
 /// Each flow's last Accept.
 #[derive(Drop)]
 pub(crate) struct Accepts {
-    owners: BTreeMap<FlowKey, Owner>,
+    owners: HashMap<FlowKey, Owner>,
 }
 
 impl Accepts {
@@ -31,7 +31,7 @@ impl Accepts {
         ensures { (f : Flow) → owner_in result f ≡ None }
     {
         Accepts {
-            owners: BTreeMap::new(alloc),
+            owners: HashMap::new(alloc),
         }
     }
 
