@@ -1,3 +1,8 @@
+ghost use Rattle.std.specs.Prelude.{map, IfOk};
+ghost use Rattle.std.specs.List.{AllByRecursion};
+ghost use Rattle.bm_merge.specs.Rising.{IsRising};
+ghost use Rattle.bm_merge.specs.declared.tests.Row.{Row as RowOf};
+
 use super::*;
 use bm_base::{Capture, Hop, List, Memory, Moment, MuxId, ServerId, Taken, Version};
 use bm_core::{Event, Log, Stage, Verdict, What};
@@ -115,5 +120,79 @@ fn a_loss_may_have_a_later_clock_than_what_stands_behind_it(rt: HostRuntime) -> 
         lost,
     ];
     assert!(rt; merge_to(rt.alloc(), &parts, &want)?);
+    Ok(())
+}
+
+/// Events whose clocks don't fall, as a log.
+#[derive(Drop)]
+struct Row {
+    events: Vec<Event>,
+}
+
+impl EventLog for Row {
+    ghost events = { λ (row : RowOf). row.events.items };
+
+    fn count(&self) -> usize {
+        self.events.len()
+    }
+
+    fn event(&self, place: usize) -> Event {
+        self.events[place]
+    }
+}
+
+/// These events by clock, as a log.
+fn make_row(alloc: Global, events: &[Event]) -> Result<Row, Memory>
+    ensures { IfOk result (λ row. IsRising row.events.items) }
+{
+    let mut one = Vec::new(alloc);
+    one.push(List::of(Vec::from_slice(alloc, events)?))?;
+    let events = join_in_order(alloc, one.as_slice())?;
+    Ok(Row { events })
+}
+
+/// So many logs, each with an event at one clock and another at the next.
+fn make_rows(alloc: Global, count: u32) -> Result<Vec<Row>, Memory>
+    ensures { IfOk result (λ rows. AllByRecursion IsRising
+        (map (λ (row : RowOf). row.events.items) rows.items)) }
+{
+    let mut rows = Vec::new(alloc);
+    for log in 0..count {
+        rows.push(make_row(alloc, &[publish(7, log), switch(8, log)])?)?;
+    }
+    Ok(rows)
+}
+
+#[test]
+fn events_of_one_clock_keep_the_order_of_their_logs(rt: HostRuntime) -> Result<(), Fail> {
+    let alloc = rt.alloc();
+    let first = make_row(alloc, &[switch(1, 0), switch(5, 1)])?;
+    let second = make_row(alloc, &[publish(5, 1), publish(6, 2)])?;
+    let third = make_row(alloc, &[steer(1, 1), steer(5, 2)])?;
+    let merged = merge_rising(alloc, &[first, second, third])?;
+    let want = [
+        switch(1, 0),
+        steer(1, 1),
+        switch(5, 1),
+        publish(5, 1),
+        steer(5, 2),
+        publish(6, 2),
+    ];
+    assert!(rt; merged.as_slice() == want.as_slice());
+    Ok(())
+}
+
+/// They are too many to look at the next event of each.
+#[test]
+fn the_events_of_65_logs_keep_their_order(rt: HostRuntime) -> Result<(), Fail> {
+    let alloc = rt.alloc();
+    let rows = make_rows(alloc, 65)?;
+    let merged = merge_rising(alloc, rows.as_slice())?;
+    let events = merged.as_slice();
+    assert!(rt; events.len() == 130);
+    assert!(rt; events.first() == Some(&publish(7, 0)));
+    assert!(rt; events.get(64) == Some(&publish(7, 64)));
+    assert!(rt; events.get(65) == Some(&switch(8, 0)));
+    assert!(rt; events.last() == Some(&switch(8, 64)));
     Ok(())
 }
