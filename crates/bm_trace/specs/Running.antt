@@ -1,5 +1,4 @@
--- What the code keeps of the events before an event, so that a cause needs a look back only where it
--- asks what servers hold.
+-- What the code keeps of the events before an event, so that a cause needs no look back.
 use Rattle.std.specs.Prelude.{◌≡◌, ℕ, suc, ◌<◌, List, length, Option, None, option_map}
 use Rattle.std.specs.Prelude.{slice_index_or, slice_set}
 use Rattle.bm_base.specs.declared.flow.Flow.{Flow}
