@@ -105,24 +105,19 @@ lines_lost a b p q s rest whole all on = subst (λ x. HandsPart a p b x) all (re
 -- THE LAST OF THE BUFFER
 
 -- it was written, with a text behind it
-pub all_on : (a b c : Option (List ℕ)) (p q r s t : List ℕ) → HandsOn a p b q s → r ≡ q ++ t → Appends b c r
-    → HandsOn a p c [] (s ++ t)
-all_on a b c p q r s t on more last =
-    both_on a b c p q [] s t on (record { sent = r; appended = last; whole = append-nil r ∙ more })
+pub end_on : (a b : Option (List ℕ)) (q r t : List ℕ) → r ≡ q ++ t → Appends a b r → HandsOn a q b [] t
+end_on a b q r t more last = record { sent = r; appended = last; whole = append-nil r ∙ more }
 
 -- it was refused
-pub last_part : (a b c : Option (List ℕ)) (p q r s t : List ℕ) → HandsOn a p b q s → r ≡ q ++ t
-    → WritesPart b c r → HandsPart a p c (s ++ t)
-last_part a b c p q r s t on more part =
-    part_after a b c p q s t on
-    (record {
-      lost = drop part.0 r;
-      on = record {
-        sent = take part.0 r;
-        appended = part.2;
-        whole = take-append-drop part.0 r ∙ more;
-      };
-    })
+pub end_part : (a b : Option (List ℕ)) (q r t : List ℕ) → r ≡ q ++ t → WritesPart a b r → HandsPart a q b t
+end_part a b q r t more part = record {
+  lost = drop part.0 r;
+  on = record {
+    sent = take part.0 r;
+    appended = part.2;
+    whole = take-append-drop part.0 r ∙ more;
+  };
+}
 
 -- THE WHOLE, where nothing waited at first
 

@@ -14,7 +14,7 @@ use Rattle.bm_core.specs.declared.events.Stage.{Stage}
 use Rattle.bm_trace.specs.declared.records.End.{End}
 use Rattle.bm_trace.specs.declared.sums.Totals.{Totals}
 use Rattle.bm_trace.specs.Ends.{words_of_ends, words_of_record}
-use Rattle.bm_trace.specs.Parts.{AppendsPart, HandsOn, HandsPart, WritesPart, lines_behind}
+use Rattle.bm_trace.specs.Parts.{AppendsPart, HandsOn, HandsPart, WritesPart, last_lines, lines_behind}
 use Rattle.bm_trace.specs.Report.{event_line, event_lines, ends_of, note_line, record_lines, record_words, text}
 use Rattle.bm_trace.specs.Report.{totals_line}
 use Rattle.bm_trace.specs.Totals.{totals_of}
@@ -122,7 +122,7 @@ records_append past k (r ∷ a) b =
     ∙ sym (append_assoc (line (codes "packet") (decimal k ∷ record_words past k r.body)) (record_lines past (suc k) a)
     _)
 
-records_all : (past : List Event) (shown records : List Record) (i : ℕ) → shown ≡ records
+pub records_all : (past : List Event) (shown records : List Record) (i : ℕ) → shown ≡ records
     → record_lines past 1 (take i shown) ++ record_lines past (1 + length (take i shown)) (drop i shown)
     ≡ record_lines past 1 records
 records_all past shown records i same =
@@ -134,8 +134,8 @@ same_words : (past : List Event) (k : ℕ) (body : Body) (ends : List End) → w
 same_words past k (Unsteered reason) ends e = refl
 same_words past k (Steerable s) ends e = e
 
-records_step : (past : List Event) (records : List Record) (i : ℕ) (d : Record) (ends : List End) → i < length records
-    → words_of_ends ends ≡ ends_of past (i + 1)
+pub records_step : (past : List Event) (records : List Record) (i : ℕ) (d : Record) (ends : List End)
+    → i < length records → words_of_ends ends ≡ ends_of past (i + 1)
     → record_lines past 1 (take i records)
     ++ line (codes "packet") (decimal (i + 1) ∷ words_of_record (get_or records i d).body ends)
     ≡ record_lines past 1 (take (i + 1) records)
@@ -199,37 +199,41 @@ last_put piece old noted new note s t is first second same =
     is ∙ second ∙ ap (λ x. x ++ totals_line s) first ∙ append_assoc old note (totals_line s)
     ∙ ap (λ x. old ++ (note ++ totals_line x)) same
 
--- the lines of the events
-abbrev first_lines : History → List ℕ
-first_lines h = event_lines h.stage (reverse h.events)
-
-text_is : (h : History) → first_lines h ++ lines_behind h ≡ text h
+-- the report in two parts, the lines of the events and what stands behind them
+pub behind_events : (h : History) → event_lines h.stage (reverse h.events) ++ lines_behind h ≡ text h
 unfolding text
-text_is h =
-    let records = record_lines (reverse h.events) 1 h.stage.capture.records
+behind_events h =
+    let events = event_lines h.stage (reverse h.events)
+    in let records = record_lines (reverse h.events) 1 h.stage.capture.records
     in let note = note_line h.stage.capture.cut
     in let total = totals_line (totals_of h)
-    in sym (append_assoc (first_lines h) records (note ++ total)) ∙ sym (append_assoc (first_lines h ++ records) note total)
+    in sym (append_assoc events records (note ++ total)) ∙ sym (append_assoc (events ++ records) note total)
 
-pub report_written : (h : History) (a b c : Option (List ℕ)) (p q : List ℕ) → p ≡ []
-    → HandsOn a p b q (first_lines h) → HandsOn b q c [] (lines_behind h) → Appends a c (text h)
-report_written h a b c p q empty first rest =
-    subst (λ x. Appends a c x) (text_is h)
-    (all_written a c p (first_lines h ++ lines_behind h) empty
-    (both_on a b c p q [] (first_lines h) (lines_behind h) first rest))
+-- the same, with the lines of the records in the first part
+pub behind_records : (h : History)
+    → (event_lines h.stage (reverse h.events) ++ record_lines (reverse h.events) 1 h.stage.capture.records)
+    ++ last_lines h ≡ text h
+unfolding text
+behind_records h =
+    sym (append_assoc
+    (event_lines h.stage (reverse h.events) ++ record_lines (reverse h.events) 1 h.stage.capture.records)
+    (note_line h.stage.capture.cut) (totals_line (totals_of h)))
 
--- the lines of the events were refused
-pub first_refused : (h : History) (a b : Option (List ℕ)) (p : List ℕ) → p ≡ [] → HandsPart a p b (first_lines h)
-    → WritesPart a b (text h)
-first_refused h a b p empty part =
-    subst (λ x. WritesPart a b x) (text_is h)
-    (part_written a b p (first_lines h ++ lines_behind h) empty
-    (part_rest a b p (first_lines h) (lines_behind h) part))
+pub report_written : (first rest whole : List ℕ) (a b c : Option (List ℕ)) (p q : List ℕ) → first ++ rest ≡ whole
+    → p ≡ [] → HandsOn a p b q first → HandsOn b q c [] rest → Appends a c whole
+report_written first rest whole a b c p q is empty before behind =
+    subst (λ x. Appends a c x) is
+    (all_written a c p (first ++ rest) empty (both_on a b c p q [] first rest before behind))
 
--- what stands behind them was refused
-pub rest_refused : (h : History) (a b c : Option (List ℕ)) (p q : List ℕ) → p ≡ []
-    → HandsOn a p b q (first_lines h) → HandsPart b q c (lines_behind h) → WritesPart a c (text h)
-rest_refused h a b c p q empty first part =
-    subst (λ x. WritesPart a c x) (text_is h)
-    (part_written a c p (first_lines h ++ lines_behind h) empty
-    (part_after a b c p q (first_lines h) (lines_behind h) first part))
+-- the first part was refused
+pub first_refused : (first rest whole : List ℕ) (a b : Option (List ℕ)) (p : List ℕ) → first ++ rest ≡ whole → p ≡ []
+    → HandsPart a p b first → WritesPart a b whole
+first_refused first rest whole a b p is empty part =
+    subst (λ x. WritesPart a b x) is (part_written a b p (first ++ rest) empty (part_rest a b p first rest part))
+
+-- what stands behind it was refused
+pub rest_refused : (first rest whole : List ℕ) (a b c : Option (List ℕ)) (p q : List ℕ) → first ++ rest ≡ whole
+    → p ≡ [] → HandsOn a p b q first → HandsPart b q c rest → WritesPart a c whole
+rest_refused first rest whole a b c p q is empty before part =
+    subst (λ x. WritesPart a c x) is
+    (part_written a c p (first ++ rest) empty (part_after a b c p q first rest before part))

@@ -29,8 +29,10 @@ pub record HandsPart (before : Option (List ℕ)) (waited : List ℕ) (now : Opt
   pub lost : List ℕ
   pub on : HandsOn before waited now lost text
 
+-- the last lines: the note and the totals
+abbrev pub last_lines : History → List ℕ
+last_lines h = note_line h.stage.capture.cut ++ totals_line (totals_of h)
+
 -- what stands behind the lines of the events: the lines of the records, the note and the totals
 abbrev pub lines_behind : History → List ℕ
-lines_behind h =
-    record_lines (reverse h.events) 1 h.stage.capture.records
-    ++ (note_line h.stage.capture.cut ++ totals_line (totals_of h))
+lines_behind h = record_lines (reverse h.events) 1 h.stage.capture.records ++ last_lines h

@@ -1,22 +1,48 @@
--- The events of a history in pieces, whose lines are written side by side.
-use Rattle.std.specs.Prelude.{◌≡◌, ℕ, ◌+◌, ◌*◌, ◌^◌, ◌≤◌, List, [], ◌++◌, Option, Some, false}
-use Rattle.std.specs.Prelude.{length, take, reverse, min, slice_get, string_bytes}
+-- The lines of a history's events and records in pieces, which are written side by side.
+use Rattle.std.specs.Prelude.{◌≡◌, ℕ, ◌+◌, ◌-◌, ◌*◌, ◌^◌, ◌<◌, ◌≤◌, List, [], ◌++◌, Option, Some}
+use Rattle.std.specs.Prelude.{false, length, take, reverse, min, slice_get, slice_index_or}
+use Rattle.std.specs.Prelude.{string_bytes}
 use Rattle.std.specs.Io.KnownBytes.{Appends}
 use Rattle.bm_core.specs.declared.events.History.{History}
-use Rattle.bm_trace.specs.Report.{event_lines}
+use Rattle.bm_trace.specs.Ends.{words_of_ends}
+use Rattle.bm_trace.specs.Ranges.{HasRanges}
+use Rattle.bm_trace.specs.Report.{ends_of, event_lines, record_lines}
 use Rattle.bm_trace.specs.Running.{AreVersions}
+use Rattle.bm_trace.specs.Swept.{AreCauses}
+use Rattle.bm_trace.specs.declared.beside.Facts.{Facts}
 use Rattle.bm_trace.specs.declared.beside.Piece.{Piece}
+use Rattle.bm_trace.specs.declared.records.End.{End}
 
--- these are the lines of the events from one place to another
+-- these are the ends of each record's packet
+pub record AreEnds (h : History) (table : List (List End)) : Type 0 where
+  pub count : length table ≡ length h.stage.capture.records
+  pub each : (k : ℕ) → k < length h.stage.capture.records
+      → words_of_ends (slice_index_or table k []) ≡ ends_of (reverse h.events) (k + 1)
+
+-- the causes and the ends are those of the history
+pub record AreRight (facts : Facts) : Type 0 where
+  pub ranges : HasRanges facts.history.now.stage
+  pub causes : AreCauses facts.history.now facts.causes.now
+  pub ends : AreEnds facts.history.now facts.ends.now
+
+-- each event and each record has a line
+abbrev pub line_count : History → ℕ
+line_count h = length h.events + length h.stage.capture.records
+
+-- the first so many lines: those of the events, and behind them those of the records
+abbrev pub first_lines : History → ℕ → List ℕ
+first_lines h n =
+    event_lines h.stage (reverse (take n h.events))
+    ++ record_lines (reverse h.events) 1 (take (n - length h.events) h.stage.capture.records)
+
+-- these are the lines from one place to another
 abbrev pub AreLines : History → ℕ → ℕ → List ℕ → Type 0
-AreLines h from to lines =
-    event_lines h.stage (reverse (take from h.events)) ++ lines
-    ≡ event_lines h.stage (reverse (take to h.events))
+AreLines h from to lines = first_lines h from ++ lines ≡ first_lines h to
 
--- where a piece of this number begins, from a place on: there are 2 ^ 14 events in each, as far as
--- there are events
+-- where a piece of this number begins, from a place on: there are 2 ^ 14 lines in each, as far as
+-- there are lines
 abbrev pub place_of : History → ℕ → ℕ → ℕ
-place_of h from k = min (from + k * 2 ^ 14) (length h.events)
+place_of h from k = min (from + k * 2 ^ 14) (line_count h)
 
 -- the pieces stand one behind the other, from a place on
 abbrev pub AreInRow : History → ℕ → List Piece → Type 0
@@ -27,7 +53,7 @@ AreInRow h from pieces =
 -- the piece's lines can be written
 pub record CanWrite (h : History) (p : Piece) : Type 0 where
   pub order : p.from ≤ p.to
-  pub there : p.to ≤ length h.events
+  pub there : p.to ≤ line_count h
   pub known : AreVersions (reverse (take p.from h.events)) p.versions.items
   pub empty : string_bytes p.lines ≡ []
 
@@ -37,7 +63,7 @@ pub record HasWritten (h : History) (old new : Piece) : Type 0 where
   pub ends : new.to ≡ old.to
   pub lines : new.refused ≡ false → AreLines h old.from old.to (string_bytes new.lines)
 
--- the lines of the events from one place to another reached a sink
+-- the lines from one place to another reached a sink
 pub record PutsLines (h : History) (from to : ℕ) (before now : Option (List ℕ)) : Type 0 where
   pub sent : List ℕ
   pub appended : Appends before now sent
@@ -48,4 +74,4 @@ pub record PutsPart (h : History) (from : ℕ) (before now : Option (List ℕ)) 
   pub sent : List ℕ
   pub rest : List ℕ
   pub appended : Appends before now sent
-  pub lines : AreLines h from (length h.events) (sent ++ rest)
+  pub lines : AreLines h from (line_count h) (sent ++ rest)

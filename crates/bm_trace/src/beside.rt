@@ -1,21 +1,22 @@
-//! The whole report, with the lines of the events written by several threads side by side.
+//! The whole report, with the lines of events and records written by several threads side by side.
 ghost use Rattle.std.specs.Prelude.{◌≡◌, ◌+◌, ◌<◌, ◌≤◌, ℕ, All, IfOk, MatchBool, OnErr, OnOk, Some};
 ghost use Rattle.std.specs.Prelude.{[], false, length, min, reverse, slice_get, string_bytes, take};
-ghost use Rattle.std.specs.Prelude.{vec_len, ◌^◌};
+ghost use Rattle.std.specs.Prelude.{vec_len, ◌^◌, ◌-◌};
 ghost use Rattle.std.specs.Io.KnownBytes.{Appends};
 ghost use Rattle.bm_core.specs.Runs.{IsRun};
 ghost use Rattle.bm_io.specs.Causes.{HasIoCause};
-ghost use Rattle.bm_trace.specs.Pieces.{AreInRow, AreLines, CanWrite, HasWritten, PutsLines};
-ghost use Rattle.bm_trace.specs.Pieces.{PutsPart, place_of};
+ghost use Rattle.bm_trace.specs.Pieces.{AreInRow, AreLines, AreRight, CanWrite, HasWritten};
+ghost use Rattle.bm_trace.specs.Pieces.{PutsLines, PutsPart, line_count, place_of};
 ghost use Rattle.bm_trace.specs.Parts.{WritesPart};
-ghost use Rattle.bm_trace.specs.Ranges.{HasRanges};
 ghost use Rattle.bm_trace.specs.Report as report;
 ghost use Rattle.bm_trace.specs.Running.{AreVersions};
 ghost use Rattle.bm_trace.specs.Swept.{AreCauses};
 ghost use Rattle.bm_trace.specs.declared.beside.Piece.{Piece as PieceOf};
 
-use crate::document::put_rest;
+use crate::document::put_end;
+use crate::endings::{Ends, ends_of_packets};
 use crate::lines::write_event;
+use crate::records::write_record;
 use crate::swept::{CauseList, totals_of};
 use crate::versions::{no_versions, note_version};
 use bm_base::Version;
@@ -25,60 +26,108 @@ use std::alloc::{AllocError, Global};
 use std::thread;
 use std::thread::Threads;
 
-/// How many events a piece has, but for the last one.
+/// How many lines a piece has, but for the last one.
 const PIECE: usize = 16_384;
 
-/// Some events of a history in a row, and their lines.
+/// What the lines of the events and the records are written from.
+#[derive(Clone, Copy)]
+pub(crate) struct Facts<'a> {
+    history: &'a History,
+    causes: &'a CauseList,
+    /// The ends of each record's packet.
+    ends: &'a [Ends],
+}
+
+impl<'a> Facts<'a> {
+    /// How many events and records there are.
+    fn line_count(&self) -> usize
+        requires { AreRight self.now }
+        ensures { result ≡ line_count self.now.history.now }
+    {
+        self.history.events.items().len() + self.history.stage.capture.records.items().len()
+    }
+
+    /// Writes the line at a place, before which the versions are these. The lines of the records
+    /// stand behind those of the events.
+    fn write_line(
+        &self,
+        lines: &mut String,
+        versions: &mut Vec<Version>,
+        place: usize,
+    ) -> Result<(), AllocError>
+        requires right { AreRight self.now }
+        requires place { place < line_count self.now.history.now }
+        requires known { AreVersions (reverse (take place self.now.history.now.events))
+            versions.old.items }
+        ensures line { OnOk result ((from : ℕ)
+            → AreLines self.now.history.now from place (string_bytes lines.old)
+            → AreLines self.now.history.now from (place + 1) (string_bytes lines.new)) }
+        ensures known { OnOk result
+            (AreVersions (reverse (take (place + 1) self.now.history.now.events))
+            versions.new.items) }
+    {
+        let events = self.history.events.items();
+        if place < events.len() {
+            let event = &events[place];
+            let cause = self.causes.at(place);
+            let stage = &self.history.stage;
+            write_event(lines, versions, stage, &events[..place], event, cause)?;
+            note_version(versions, &event.what);
+            return Ok(());
+        }
+        let record = place - events.len();
+        let body = &self.history.stage.capture.records.items()[record].body;
+        write_record(lines, record as u32 + 1, body, self.ends[record].as_slice())?;
+        Ok(())
+    }
+}
+
+/// The lines of some events and records in a row.
 #[derive(Drop)]
 pub(crate) struct Piece {
     from: usize,
     to: usize,
-    /// The versions of the muxes before the piece's next event.
+    /// The versions of the muxes before the piece's next line.
     versions: Vec<Version>,
     lines: String,
     /// Whether memory was refused for the lines.
     refused: bool,
 }
 
-/// Writes the lines of the events from one place to another, before which the versions are these.
+/// Writes the lines from one place to another, before which the versions are these.
 fn write_lines(
     lines: &mut String,
     versions: &mut Vec<Version>,
-    h: &History,
-    causes: &CauseList,
+    facts: &Facts<'_>,
     from: usize,
     to: usize,
 ) -> Result<(), AllocError>
-    requires ranges { HasRanges h.now.stage }
-    requires causes { AreCauses h.now causes.now }
-    requires order { (from ≤ to) × (to ≤ length h.now.events) }
-    requires known { AreVersions (reverse (take from h.now.events)) versions.old.items }
+    requires right { AreRight facts.now }
+    requires order { (from ≤ to) × (to ≤ line_count facts.now.history.now) }
+    requires known { AreVersions (reverse (take from facts.now.history.now.events))
+        versions.old.items }
     requires empty { string_bytes lines.old ≡ [] }
-    ensures { OnOk result (AreLines h.now from to (string_bytes lines.new)) }
+    ensures { OnOk result (AreLines facts.now.history.now from to (string_bytes lines.new)) }
 {
-    let events = h.events.items();
     for place in from..to {
-        let event = &events[place];
-        let cause = causes.at(place);
-        write_event(lines, versions, &h.stage, &events[..place], event, cause)?;
-        note_version(versions, &event.what);
+        facts.write_line(lines, versions, place)?;
     }
     Ok(())
 }
 
-/// Takes note of the events from one place to another.
+/// Takes note of the events from one place to another, as far as there are events.
 fn note_versions(versions: &mut Vec<Version>, events: &[Event], from: usize, to: usize)
-    requires order { (from ≤ to) × (to ≤ length events.now) }
+    requires order { from ≤ to }
     requires known { AreVersions (reverse (take from events.now)) versions.old.items }
     ensures { AreVersions (reverse (take to events.now)) versions.new.items }
 {
-    for place in from..to {
+    for place in from.min(events.len())..to.min(events.len()) {
         note_version(versions, &events[place].what);
     }
 }
 
 impl Piece {
-    /// A piece without events.
+    /// A piece without lines.
     fn new(alloc: Global) -> Piece {
         Piece {
             from: 0,
@@ -89,7 +138,7 @@ impl Piece {
         }
     }
 
-    /// Takes the events from one place to another, before which the versions are these. What memory
+    /// Takes the lines from one place to another, before which the versions are these. What memory
     /// it has for lines it keeps.
     fn begin(&mut self, from: usize, to: usize, versions: &[Version]) -> Result<(), AllocError>
         ensures { OnOk result ((self.new.from ≡ from) × (self.new.to ≡ to)
@@ -104,17 +153,15 @@ impl Piece {
     }
 
     /// Writes the piece's lines.
-    fn write(&mut self, h: &History, causes: &CauseList)
-        requires ranges { HasRanges h.now.stage }
-        requires causes { AreCauses h.now causes.now }
-        requires can { CanWrite h.now self.old }
-        ensures { HasWritten h.now self.old self.new }
+    fn write(&mut self, facts: &Facts<'_>)
+        requires right { AreRight facts.now }
+        requires can { CanWrite facts.now.history.now self.old }
+        ensures { HasWritten facts.now.history.now self.old self.new }
     {
         let written = write_lines(
             &mut self.lines,
             &mut self.versions,
-            h,
-            causes,
+            facts,
             self.from,
             self.to,
         );
@@ -137,7 +184,7 @@ impl Piece {
     }
 }
 
-/// So many pieces without events.
+/// So many pieces without lines.
 fn no_pieces(alloc: Global, count: usize) -> Result<Vec<Piece>, AllocError>
     ensures { IfOk result (λ pieces. vec_len pieces ≡ count) }
 {
@@ -148,27 +195,30 @@ fn no_pieces(alloc: Global, count: usize) -> Result<Vec<Piece>, AllocError>
     Ok(pieces)
 }
 
-/// Gives the pieces the events from this place on, before which the versions are these. Then the
+/// Gives the pieces the lines from this place on, before which the versions are these. Then the
 /// versions are those behind the pieces.
 fn deal_out(
     pieces: &mut [Piece],
-    h: &History,
+    facts: &Facts<'_>,
     from: usize,
     versions: &mut Vec<Version>,
 ) -> Result<(), AllocError>
-    requires from { from ≤ length h.now.events }
-    requires known { AreVersions (reverse (take from h.now.events)) versions.old.items }
+    requires right { AreRight facts.now }
+    requires from { from ≤ line_count facts.now.history.now }
+    requires known { AreVersions (reverse (take from facts.now.history.now.events))
+        versions.old.items }
     ensures count { length pieces.new ≡ length pieces.old }
-    ensures can { OnOk result (All (CanWrite h.now) pieces.new) }
-    ensures row { OnOk result (AreInRow h.now from pieces.new) }
-    ensures known { OnOk result
-        (AreVersions (reverse (take (place_of h.now from (length pieces.old)) h.now.events))
-        versions.new.items) }
+    ensures can { OnOk result (All (CanWrite facts.now.history.now) pieces.new) }
+    ensures row { OnOk result (AreInRow facts.now.history.now from pieces.new) }
+    ensures known { OnOk result (AreVersions
+        (reverse (take (place_of facts.now.history.now from (length pieces.old))
+        facts.now.history.now.events)) versions.new.items) }
 {
-    let events = h.events.items();
+    let events = facts.history.events.items();
+    let end = facts.line_count();
     let mut at = from;
     for number in 0..pieces.len() {
-        let to = at + PIECE.min(events.len() - at);
+        let to = at + PIECE.min(end - at);
         pieces[number].begin(at, to, versions)?;
         note_versions(versions, events, at, to);
         at = to;
@@ -177,13 +227,12 @@ fn deal_out(
 }
 
 /// Writes the lines of all pieces at once, and waits for all of them.
-fn write_all<R: Threads + Sync>(rt: &R, h: &History, causes: &CauseList, pieces: &mut [Piece])
-    requires ranges { HasRanges h.now.stage }
-    requires causes { AreCauses h.now causes.now }
-    requires can { All (CanWrite h.now) pieces.old }
+fn write_all<R: Threads + Sync>(rt: &R, facts: &Facts<'_>, pieces: &mut [Piece])
+    requires right { AreRight facts.now }
+    requires can { All (CanWrite facts.now.history.now) pieces.old }
     ensures count { length pieces.new ≡ length pieces.old }
     ensures each { (k : ℕ) (old new : PieceOf) → slice_get pieces.old k ≡ Some old
-        → slice_get pieces.new k ≡ Some new → HasWritten h.now old new }
+        → slice_get pieces.new k ≡ Some new → HasWritten facts.now.history.now old new }
 {
     let threads = pieces.len().max(1);
     thread::for_each_mut(
@@ -191,39 +240,39 @@ fn write_all<R: Threads + Sync>(rt: &R, h: &History, causes: &CauseList, pieces:
         pieces,
         threads,
         &|_, piece: &mut Piece|
-            requires { HasRanges h.now.stage × AreCauses h.now causes.now
-                × CanWrite h.now piece.now }
-            ensures { HasWritten h.entry.now piece.entry.now piece.exit.now }
-        { piece.write(h, causes) },
+            requires { AreRight facts.now × CanWrite facts.now.history.now piece.now }
+            ensures { HasWritten facts.entry.now.history.now piece.entry.now piece.exit.now }
+        { piece.write(facts) },
     );
 }
 
-/// Writes the lines of the next events from this place on, before which the versions are these, and
-/// answers where the events behind them begin.
+/// Writes the next lines from this place on, before which the versions are these, and answers where
+/// the lines behind them begin.
 fn put_next<R: Threads + Sync, K: Sink>(
     rt: &R,
     pieces: &mut [Piece],
-    h: &History,
-    causes: &CauseList,
+    facts: &Facts<'_>,
     from: usize,
     versions: &mut Vec<Version>,
     out: &mut K,
 ) -> Result<usize, IoFault>
-    requires ranges { HasRanges h.now.stage }
-    requires causes { AreCauses h.now causes.now }
-    requires from { from < length h.now.events }
-    requires known { AreVersions (reverse (take from h.now.events)) versions.old.items }
+    requires right { AreRight facts.now }
+    requires from { from < line_count facts.now.history.now }
+    requires known { AreVersions (reverse (take from facts.now.history.now.events))
+        versions.old.items }
     ensures count { length pieces.new ≡ length pieces.old }
-    ensures place { IfOk result (λ to. to ≡ place_of h.now from (length pieces.old)) }
+    ensures place { IfOk result
+        (λ to. to ≡ place_of facts.now.history.now from (length pieces.old)) }
     ensures known { IfOk result
-        (λ to. AreVersions (reverse (take to h.now.events)) versions.new.items) }
-    ensures lines { IfOk result
-        (λ to. PutsLines h.now from to (K.written out.old) (K.written out.new)) }
-    ensures err { OnErr result (PutsPart h.now from (K.written out.old) (K.written out.new)) }
+        (λ to. AreVersions (reverse (take to facts.now.history.now.events)) versions.new.items) }
+    ensures lines { IfOk result (λ to. PutsLines facts.now.history.now from to
+        (K.written out.old) (K.written out.new)) }
+    ensures err { OnErr result
+        (PutsPart facts.now.history.now from (K.written out.old) (K.written out.new)) }
     ensures cause { HasIoCause (K.faults out.old) (K.faults out.new) result }
 {
-    deal_out(pieces, h, from, versions)?;
-    write_all(rt, h, causes, pieces);
+    deal_out(pieces, facts, from, versions)?;
+    write_all(rt, facts, pieces);
     let mut at = from;
     for piece in pieces.iter() {
         piece.put(out)?;
@@ -232,36 +281,29 @@ fn put_next<R: Threads + Sync, K: Sink>(
     Ok(at)
 }
 
-/// Writes the lines of the events, a piece in each thread at once.
-pub(crate) fn put_events<R: Threads + Sync, K: Sink>(
+/// Writes the lines of the events and the records, a piece in each thread at once.
+fn put_lines<R: Threads + Sync, K: Sink>(
     rt: &R,
     threads: usize,
-    h: &History,
-    causes: &CauseList,
+    facts: &Facts<'_>,
     out: &mut K,
 ) -> Result<(), IoFault>
     requires threads { 0 < threads }
-    requires ranges { HasRanges h.now.stage }
-    requires causes { AreCauses h.now causes.now }
-    ensures ok { OnOk result
-        (PutsLines h.now 0 (length h.now.events) (K.written out.old) (K.written out.new)) }
-    ensures err { OnErr result (PutsPart h.now 0 (K.written out.old) (K.written out.new)) }
+    requires right { AreRight facts.now }
+    ensures ok { OnOk result (PutsLines facts.now.history.now 0
+        (line_count facts.now.history.now) (K.written out.old) (K.written out.new)) }
+    ensures err { OnErr result
+        (PutsPart facts.now.history.now 0 (K.written out.old) (K.written out.new)) }
     ensures cause { HasIoCause (K.faults out.old) (K.faults out.new) result }
 {
-    let muxes = usize::from(h.stage.script.setting.muxes);
-    let mut versions = no_versions(causes.allocator(), muxes)?;
-    let mut pieces = no_pieces(causes.allocator(), threads)?;
+    let alloc = facts.causes.allocator();
+    let muxes = usize::from(facts.history.stage.script.setting.muxes);
+    let mut versions = no_versions(alloc, muxes)?;
+    let mut pieces = no_pieces(alloc, threads)?;
+    let end = facts.line_count();
     let mut from = 0;
-    while from < h.events.items().len() {
-        from = put_next(
-            rt,
-            pieces.as_mut_slice(),
-            h,
-            causes,
-            from,
-            &mut versions,
-            out,
-        )?;
+    while from < end {
+        from = put_next(rt, pieces.as_mut_slice(), facts, from, &mut versions, out)?;
     }
     Ok(())
 }
@@ -283,11 +325,14 @@ pub fn report_beside<R: Threads + Sync, K: Sink>(
         (report.text h.now)) }
     ensures cause { HasIoCause (K.faults out.old) (K.faults out.new) result }
 {
-    put_events(rt, threads.max(1), h, causes, out)?;
-    put_rest(
-        h,
-        &totals_of(h, causes),
-        String::new(causes.allocator()),
-        out,
-    )
+    let alloc = causes.allocator();
+    let records = h.stage.capture.records.items().len();
+    let ends = ends_of_packets(alloc, records, h.events.items())?;
+    let facts = Facts {
+        history: h,
+        causes,
+        ends: ends.as_slice(),
+    };
+    put_lines(rt, threads.max(1), &facts, out)?;
+    put_end(h, &totals_of(h, causes), String::new(alloc), out)
 }

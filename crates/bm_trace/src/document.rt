@@ -4,7 +4,8 @@ ghost use Rattle.std.specs.Prelude.{string_bytes, []};
 ghost use Rattle.std.specs.Io.KnownBytes.{Appends};
 ghost use Rattle.bm_core.specs.Runs.{IsRun};
 ghost use Rattle.bm_io.specs.Causes.{HasIoCause};
-ghost use Rattle.bm_trace.specs.Parts.{AppendsPart, HandsOn, HandsPart, WritesPart, lines_behind};
+ghost use Rattle.bm_trace.specs.Parts.{AppendsPart, HandsOn, HandsPart, WritesPart, last_lines};
+ghost use Rattle.bm_trace.specs.Parts.{lines_behind};
 ghost use Rattle.bm_trace.specs.Ranges.{HasRanges};
 ghost use Rattle.bm_trace.specs.Report as report;
 ghost use Rattle.bm_trace.specs.Swept.{AreCauses};
@@ -40,7 +41,7 @@ fn put_full<K: Sink>(lines: &mut String, out: &mut K) -> Result<(), IoFault>
 }
 
 /// Writes the lines of the events.
-pub(crate) fn put_events<K: Sink>(
+fn put_events<K: Sink>(
     h: &History,
     causes: &CauseList,
     lines: &mut String,
@@ -93,8 +94,27 @@ fn put_records<K: Sink>(h: &History, lines: &mut String, out: &mut K) -> Result<
     Ok(())
 }
 
+/// Writes the lines that wait, and behind them the note and the totals.
+pub(crate) fn put_end<K: Sink>(
+    h: &History,
+    sums: &Totals,
+    mut lines: String,
+    out: &mut K,
+) -> Result<(), IoFault>
+    requires { sums.now ≡ totals.totals_of h.now }
+    ensures ok { OnOk result (HandsOn (K.written out.old) (string_bytes lines)
+        (K.written out.new) [] (last_lines h.now)) }
+    ensures err { OnErr result (HandsPart (K.written out.old) (string_bytes lines)
+        (K.written out.new) (last_lines h.now)) }
+    ensures cause { HasIoCause (K.faults out.old) (K.faults out.new) result }
+{
+    write_cut(&mut lines, h.stage.capture.cut)?;
+    write_totals(&mut lines, sums)?;
+    put_all(out, lines.as_bytes())
+}
+
 /// Writes the lines that wait, and behind them what stands behind the lines of the events.
-pub(crate) fn put_rest<K: Sink>(
+fn put_rest<K: Sink>(
     h: &History,
     sums: &Totals,
     mut lines: String,
@@ -109,9 +129,7 @@ pub(crate) fn put_rest<K: Sink>(
     ensures cause { HasIoCause (K.faults out.old) (K.faults out.new) result }
 {
     put_records(h, &mut lines, out)?;
-    write_cut(&mut lines, h.stage.capture.cut)?;
-    write_totals(&mut lines, sums)?;
-    put_all(out, lines.as_bytes())
+    put_end(h, sums, lines, out)
 }
 
 /// Writes the report of the history, with these causes of its events. The report is never held whole.

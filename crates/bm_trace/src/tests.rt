@@ -252,7 +252,8 @@ fn threads_write_the_same_report(rt: HostRuntime) -> Result<(), Fail> {
     let one = report(&rt, alloc, &h)?;
     let many = report_beside(&rt, alloc, 3, &h)?;
     assert_eq!(rt; many.written(), one.written());
-    let h = long_history(alloc, 20_000)?;
+    // the third piece ends among the records
+    let h = long_history(alloc, 24_572)?;
     let one = report(&rt, alloc, &h)?;
     let many = report_beside(&rt, alloc, 2, &h)?;
     assert_eq!(rt; many.written(), one.written());

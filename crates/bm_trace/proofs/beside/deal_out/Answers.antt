@@ -1,21 +1,21 @@
-use Rattle.std.proofs.Common.{◌∷◌, ◌++◌, ◌≡◌, ◌<◌, [], min, ◌^◌, ◌-◌, arith, reverse, subst, sym, take, ◌∙◌, ◌+◌, length, ap, All, set}
-use Rattle.std.proofs.Common.{length-set, length-take-le}
+use Rattle.std.proofs.Common.{◌∷◌, ◌++◌, ◌≡◌, ◌<◌, [], min, ◌^◌, ◌-◌, arith, reverse, subst, sym, take, ◌∙◌, ◌+◌, ap, All}
+use Rattle.std.proofs.Common.{length, length-set, length-take-le, set}
 use Rattle.std.proofs.lemmas.List.Elements.{All-push}
-use Rattle.bm_trace.specs.Pieces.{CanWrite}
+use Rattle.bm_trace.specs.Pieces.{AreInRow, CanWrite, line_count}
 use Rattle.bm_trace.specs.Running.{AreVersions}
-use Rattle.bm_trace.proofs.Pieces.{begun_take, can_write, place_next, row_more, step_within}
+use Rattle.bm_trace.proofs.Pieces.{begun_take, can_write, place_next, row_more, step_within, take_over}
 use Rattle.bm_trace.proofs.beside.deal_out.Goals as goal
 
 pub loop-number-preserved : goal.loop-number-preserved
 loop-number-preserved c =
-    let h = c.args.h.now
+    let h = c.args.facts.now.history.now
     in let pieces = c.loop-number.pieces
     in let number = c.loop-number.number
     in let to = c.loop-number.at + c.min.result
-    in let step = c.min.ensures ∙ ap (λ es. min (2 ^ 14) (length es - c.loop-number.at)) c.items-events.ensures
-    in let next = place_next (length h.events) c.args.from number c.loop-number.at c.min.result
+    in let step = c.min.ensures ∙ ap (λ end. min (2 ^ 14) (end - c.loop-number.at)) c.line_count-end.ensures
+    in let next = place_next (line_count h) c.args.from number c.loop-number.at c.min.result
     c.loop-number.invariant.place step
-    in let inside = step_within (length h.events) c.loop-number.at c.min.result c.loop-number.invariant.within step
+    in let inside = step_within (line_count h) c.loop-number.at c.min.result c.loop-number.invariant.within step
     in let piece = c.begin.new.self
     in let made = c.in_ok-begin.ensures
     in let below : number < length pieces = omega (arith, c.loop-number.invariant.count)
@@ -35,3 +35,9 @@ loop-number-preserved c =
           (length-take-le number pieces (omega (arith, below))) (made.0 ∙ c.loop-number.invariant.place) (made.1 ∙ next)
           c.loop-number.invariant.row;
     }
+
+pub returns-clause-row : goal.returns-clause-row
+returns-clause-row c =
+    subst (AreInRow c.args.facts.now.history.now c.args.from)
+    (take_over c.loop-number.pieces c.loop-number.number
+    (omega (arith, c.loop-number.invariant.count, c.loop-number-test.false))) c.loop-number.invariant.row

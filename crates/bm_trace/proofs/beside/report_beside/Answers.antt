@@ -1,21 +1,23 @@
 use Rattle.std.proofs.Common.{refl, rules}
-use Rattle.bm_trace.proofs.Parted.{err_more, first_refused, ok_more, on_err, report_written, rest_refused}
+use Rattle.bm_trace.proofs.Parted.{behind_records, err_more, first_refused, ok_more, on_err, report_written}
+use Rattle.bm_trace.proofs.Parted.{rest_refused}
 use Rattle.bm_trace.proofs.Pieces.{puts_all, puts_first}
 use Rattle.bm_trace.proofs.beside.report_beside.Goals as goal
 
-pub returns-in_err-put_events-clause-err : goal.returns-in_err-put_events-clause-err
-returns-in_err-put_events-clause-err g c =
+pub returns-in_err-put_lines-clause-err : goal.returns-in_err-put_lines-clause-err
+returns-in_err-put_lines-clause-err g c =
     on_err _ _
-    (first_refused c.args.h.now _ _ _ refl (puts_first c.args.h.now _ _ c.in_err-put_events.ensures.err))
+    (first_refused _ _ _ _ _ _ (behind_records c.args.h.now) refl
+    (puts_first c.args.h.now _ _ c.in_err-put_lines.ensures.err))
 
 pub returns-clause-ok : goal.returns-clause-ok
 returns-clause-ok g c =
-    ok_more c.put_rest.result _ _
-    (report_written c.args.h.now _ _ _ _ _ (search rules)
-    (puts_all c.args.h.now _ _ _ (search rules) c.in_ok-put_events.ensures.ok)) c.put_rest.ensures.ok
+    ok_more c.put_end.result _ _
+    (report_written _ _ _ _ _ _ _ _ (behind_records c.args.h.now) (search rules)
+    (puts_all c.args.h.now _ _ _ (search rules) c.in_ok-put_lines.ensures.ok)) c.put_end.ensures.ok
 
 pub returns-clause-err : goal.returns-clause-err
 returns-clause-err g c =
-    err_more c.put_rest.result _ _
-    (rest_refused c.args.h.now _ _ _ _ _ (search rules)
-    (puts_all c.args.h.now _ _ _ (search rules) c.in_ok-put_events.ensures.ok)) c.put_rest.ensures.err
+    err_more c.put_end.result _ _
+    (rest_refused _ _ _ _ _ _ _ _ (behind_records c.args.h.now) (search rules)
+    (puts_all c.args.h.now _ _ _ (search rules) c.in_ok-put_lines.ensures.ok)) c.put_end.ensures.err
