@@ -5,18 +5,20 @@ ghost use Rattle.std.specs.Prelude.{vec_len, ◌^◌, ◌-◌};
 ghost use Rattle.std.specs.Io.KnownBytes.{Appends};
 ghost use Rattle.bm_core.specs.Runs.{IsRun};
 ghost use Rattle.bm_io.specs.Causes.{HasIoCause};
-ghost use Rattle.bm_trace.specs.Pieces.{AreInRow, AreLines, AreRight, CanWrite, HasWritten};
-ghost use Rattle.bm_trace.specs.Pieces.{PutsLines, PutsPart, line_count, place_of};
+ghost use Rattle.bm_trace.specs.Pieces.{AreEnds, AreInRow, AreLines, AreRight, CanWrite};
+ghost use Rattle.bm_trace.specs.Pieces.{HasWritten, PutsLines, PutsPart, line_count, place_of};
 ghost use Rattle.bm_trace.specs.Parts.{WritesPart};
 ghost use Rattle.bm_trace.specs.Report as report;
 ghost use Rattle.bm_trace.specs.Running.{AreVersions};
 ghost use Rattle.bm_trace.specs.Swept.{AreCauses};
+ghost use Rattle.bm_trace.specs.Totals as totals;
 ghost use Rattle.bm_trace.specs.declared.beside.Piece.{Piece as PieceOf};
 
 use crate::document::put_end;
 use crate::endings::{Ends, ends_of_packets};
 use crate::lines::write_event;
 use crate::records::write_record;
+use crate::sums::Totals;
 use crate::swept::{CauseList, totals_of};
 use crate::versions::{no_versions, note_version};
 use bm_base::Version;
@@ -308,6 +310,37 @@ fn put_lines<R: Threads + Sync, K: Sink>(
     Ok(())
 }
 
+/// The totals, and the ends of each record's packet, found by two threads side by side.
+fn totals_and_ends<R: Threads + Sync>(
+    rt: &R,
+    h: &History,
+    causes: &CauseList,
+) -> Result<(Totals, Vec<Ends>), AllocError>
+    requires run { IsRun h.now }
+    requires causes { AreCauses h.now causes.now }
+    ensures sums { IfOk result (λ found. found.0 ≡ totals.totals_of h.now) }
+    ensures ends { IfOk result (λ found. AreEnds h.now found.1.items) }
+{
+    let alloc = causes.allocator();
+    let (sums, ends) = thread::join(
+        rt,
+        || -> Totals
+            requires { IsRun h.now × AreCauses h.now causes.now }
+            ensures { result ≡ totals.totals_of h.entry.now }
+        { totals_of(h, causes) },
+        || -> Result<Vec<Ends>, AllocError>
+            ensures { IfOk result (λ table. AreEnds h.entry.now table.items) }
+        {
+            ends_of_packets(
+                alloc,
+                h.stage.capture.records.items().len(),
+                h.events.items(),
+            )
+        },
+    );
+    Ok((sums, ends?))
+}
+
 /// Writes the report of the history, with these causes of its events, by as many threads, of which 0
 /// count as 1. It is never held whole. Where it is refused, a first part of it was written.
 #[tactic(auto, using(crate::proofs::Ranged::ranges_of))]
@@ -326,13 +359,12 @@ pub fn report_beside<R: Threads + Sync, K: Sink>(
     ensures cause { HasIoCause (K.faults out.old) (K.faults out.new) result }
 {
     let alloc = causes.allocator();
-    let records = h.stage.capture.records.items().len();
-    let ends = ends_of_packets(alloc, records, h.events.items())?;
+    let (sums, ends) = totals_and_ends(rt, h, causes)?;
     let facts = Facts {
         history: h,
         causes,
         ends: ends.as_slice(),
     };
     put_lines(rt, threads.max(1), &facts, out)?;
-    put_end(h, &totals_of(h, causes), String::new(alloc), out)
+    put_end(h, &sums, String::new(alloc), out)
 }

@@ -168,6 +168,29 @@ group_last groups new group all whole was is same =
     ap (λ (l : List Group). all_logs (map group_logs l)) is ∙ group_then groups group
     ∙ ap (λ (l : List (List Event)). all_logs (map group_logs groups) ++ l) same ∙ was
 
+-- one group more, of the first of the logs that are left
+pub logs_more : (groups new : List Group) (group : Group) (all part rest : List (List Event)) (n : ℕ)
+    (whole : List (List Event)) → all_logs (map group_logs groups) ++ all ≡ whole → part ≡ take n all
+    → rest ≡ drop n all → new ≡ groups ++ group ∷ [] → group_logs group ≡ part
+    → all_logs (map group_logs new) ++ rest ≡ whole
+logs_more groups new group all part rest n whole was first last is same =
+    let done = all_logs (map group_logs groups) in
+    ap (λ (l : List Group). all_logs (map group_logs l) ++ rest) is
+    ∙ ap (λ (l : List (List Event)). l ++ rest)
+    (group_then groups group ∙ ap (λ (l : List (List Event)). done ++ l) same)
+    ∙ append_assoc done part rest
+    ∙ ap (λ (l : List (List Event)). done ++ (l ++ rest)) first
+    ∙ ap (λ (l : List (List Event)). done ++ (take n all ++ l)) last
+    ∙ ap (λ (l : List (List Event)). done ++ l) (take-append-drop n all) ∙ was
+
+-- the last of them
+pub logs_last : (groups new : List Group) (group : Group) (all whole : List (List Event))
+    → all_logs (map group_logs groups) ++ all ≡ whole → new ≡ groups ++ group ∷ [] → group_logs group ≡ all
+    → all_logs (map group_logs new) ≡ whole
+logs_last groups new group all whole was is same =
+    ap (λ (l : List Group). all_logs (map group_logs l)) is ∙ group_then groups group
+    ∙ ap (λ (l : List (List Event)). all_logs (map group_logs groups) ++ l) same ∙ was
+
 -- what was merged takes the place of all that was there
 written_back : (given wrote : List Group) (n : ℕ) → length wrote ≡ length given → n ≡ length given
     → take n (wrote ++ drop (length wrote) given) ≡ wrote

@@ -146,22 +146,40 @@ impl Group {
     }
 }
 
-/// The logs in groups: those of the workers, and behind them the books of so many servers in each.
+/// The workers' logs in groups, so many in each.
+fn worker_groups(alloc: Global, workers: Vec<Log>, size: usize) -> Result<Vec<Group>, Memory>
+    requires { 0 < size }
+    ensures { IfOk result
+        (λ groups. all_logs (map logged.group_logs groups.items) ≡ workers.items) }
+{
+    let mut groups = Vec::new(alloc);
+    let mut all = workers;
+    while all.len() > size {
+        let rest = all.split_off(size)?;
+        groups.push(Group::new(alloc, Source::Workers(all)))?;
+        all = rest;
+    }
+    groups.push(Group::new(alloc, Source::Workers(all)))?;
+    Ok(groups)
+}
+
+/// The logs in groups: so many of the workers' in each, and behind them the books of so many
+/// servers in each.
 fn grouped(
     alloc: Global,
     workers: Vec<Log>,
+    logs: usize,
     all: Vec<Books>,
-    size: usize,
+    servers: usize,
 ) -> Result<Vec<Group>, Memory>
-    requires { 0 < size }
+    requires { (0 < logs) × (0 < servers) }
     ensures { IfOk result (λ groups. all_logs (map logged.group_logs groups.items)
         ≡ workers.items ++ books_logs all.items) }
 {
-    let mut groups = Vec::new(alloc);
-    groups.push(Group::new(alloc, Source::Workers(workers)))?;
+    let mut groups = worker_groups(alloc, workers, logs)?;
     let mut all = all;
-    while all.len() > size {
-        let rest = all.split_off(size)?;
+    while all.len() > servers {
+        let rest = all.split_off(servers)?;
         groups.push(Group::new(alloc, Source::Servers(all)))?;
         all = rest;
     }
@@ -199,8 +217,8 @@ fn is_one_refused(groups: &[Group]) -> bool
 }
 
 /// What the workers wrote down and what happened at the shards of all servers, by clock. Those of
-/// one clock stand in the order of the logs. The logs are merged in as many threads as that, but
-/// at least in two: the workers' logs in one, and the servers' books in the others.
+/// one clock stand in the order of the logs. The workers' logs are put in order in as many threads
+/// as that at most, and the servers' books in as many beside them.
 pub(crate) fn merge_beside<R: Threads + Sync>(
     rt: &R,
     alloc: Global,
@@ -211,9 +229,10 @@ pub(crate) fn merge_beside<R: Threads + Sync>(
     ensures { IfOk result
         (λ events. events.items ≡ by_order (joined (workers.items ++ books_logs all.items))) }
 {
-    let others = threads.saturating_sub(1).max(1);
-    let size = all.len().div_ceil(others).max(1);
-    let mut groups = grouped(alloc, workers, all, size)?;
+    let threads = threads.max(1);
+    let logs = workers.len().div_ceil(threads).max(1);
+    let servers = all.len().div_ceil(threads).max(1);
+    let mut groups = grouped(alloc, workers, logs, all, servers)?;
     merge_each(rt, alloc, groups.as_mut_slice());
     if is_one_refused(groups.as_slice()) {
         return Err(Memory);
