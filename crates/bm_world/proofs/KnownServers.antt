@@ -1,6 +1,6 @@
 -- The servers that a script knows.
 use Rattle.std.proofs.Common.{◌≡◌, ℕ, zero, suc, ◌+◌, ◌<◌, ◌≤◌, true, false, List, [], ◌∷◌, ◌++◌}
-use Rattle.std.proofs.Common.{slice_get, refl, sym, ap, ◌∙◌, subst, arith, inl, inr}
+use Rattle.std.proofs.Common.{◌⊎◌, slice_get, refl, sym, ap, ◌∙◌, subst, arith, inl, inr}
 use Rattle.std.specs.Prelude.{All}
 use Rattle.std.specs.List.{AllByRecursion}
 use Rattle.std.proofs.lemmas.Bool.{or_cases, or_left, or_right, cases_lt, eq-eqb}
@@ -91,6 +91,20 @@ pub among_new : (ids : List ServerId) (id s : ServerId) → id.0 ≡ s.0 → is_
 among_new [] id s same = or_left _ _ (eq-eqb _ _ same)
 among_new (t ∷ ids) id s same = or_right _ _ (among_new ids id s same)
 
+among_one : (ids : List ServerId) (id s : ServerId) → is_among (ids ++ id ∷ []) s ≡ true
+    → (is_among ids s ≡ true) ⊎ (id ≡ s)
+among_one [] id s is = elim (or_cases (same_server id s) false is) [
+  | inl here ↦ inr (same_server-true id s here)
+  | inr none ↦ absurd (cc)
+]
+among_one (t ∷ ids) id s is = elim (or_cases (same_server t s) (is_among (ids ++ id ∷ []) s) is) [
+  | inl here ↦ inl (or_left _ _ here)
+  | inr there ↦ elim (among_one ids id s there) [
+    | inl old ↦ inl (or_right _ _ old)
+    | inr new ↦ inr new
+  ]
+]
+
 pub known_among : (plan : Planned) (s : ServerId) (n : ℕ) → is_among plan.servers s ≡ true → is_known plan n s ≡ true
 known_among plan s zero is = is
 known_among plan s (suc n) is = or_right _ _ (known_among plan s n is)
@@ -100,6 +114,7 @@ pub record AreKnownBelow (plan : Planned) (changes number : ℕ) (ids : List Ser
   pub rise : RiseFrom 1 ids
   pub below : AllByRecursion (λ (s : ServerId). s.0 < number) ids
   pub known : (id : ServerId) → 1 ≤ id.0 → id.0 < number → is_known plan changes id ≡ true → is_among ids id ≡ true
+  pub only : (id : ServerId) → is_among ids id ≡ true → is_known plan changes id ≡ true
 
 lift_below : (n : ℕ) (ids : List ServerId) → AllByRecursion (λ (s : ServerId). s.0 < n) ids
     → AllByRecursion (λ (s : ServerId). s.0 < n + 1) ids
@@ -112,9 +127,9 @@ below_snoc n [] id all low = (low, tt)
 below_snoc n (s ∷ ids) id all low = (all.0, below_snoc n ids id all.1 low)
 
 pub known_more : (plan : Planned) (changes number : ℕ) (ids ids' : List ServerId) → 1 ≤ number
-    → ids' ≡ ids ++ record { 0 = number } ∷ [] → AreKnownBelow plan changes number ids
-    → AreKnownBelow plan changes (number + 1) ids'
-known_more plan changes number ids ids' some same old =
+    → is_known plan changes (record { 0 = number }) ≡ true → ids' ≡ ids ++ record { 0 = number } ∷ []
+    → AreKnownBelow plan changes number ids → AreKnownBelow plan changes (number + 1) ids'
+known_more plan changes number ids ids' some is_one same old =
     let id : ServerId = record { 0 = number }
     in subst (λ (l : List ServerId). AreKnownBelow plan changes (number + 1) l) (sym same) (record {
       rise = rise_more 1 ids id old.rise old.below some;
@@ -122,6 +137,10 @@ known_more plan changes number ids ids' some same old =
       known = λ s first low is. elim (cases_lt s.0 number) [
         | inl under ↦ among_old ids id s (old.known s first under is)
         | inr over ↦ among_new ids id s (omega arith)
+      ];
+      only = λ s is. elim (among_one ids id s is) [
+        | inl before ↦ old.only s before
+        | inr here ↦ subst (λ (x : ServerId). is_known plan changes x ≡ true) here is_one
       ];
     })
 
@@ -140,9 +159,15 @@ known_less plan changes number ids ids' not same old =
             in let bad : true ≡ false = sym is ∙ ap (λ (x : ServerId). is_known plan changes x) at ∙ not
             in absurd (cc)
       ];
+      only = old.only;
     })
 
 pub nothing_below : (plan : Planned) (changes : ℕ) (ids : List ServerId) → ids ≡ [] → AreKnownBelow plan changes 1 ids
 nothing_below plan changes ids none =
     subst (λ (l : List ServerId). AreKnownBelow plan changes 1 l) (sym none)
-    (record { rise = tt; below = tt; known = λ s first low is. absurd (omega arith) })
+    (record {
+      rise = tt;
+      below = tt;
+      known = λ s first low is. absurd (omega arith);
+      only = λ s is. absurd (cc);
+    })

@@ -69,6 +69,8 @@ pub(crate) fn known_servers(alloc: Global, script: &Script) -> Result<Vec<Server
     ensures known { IfOk result (λ ids. (id : Id) → IsWithin 1 1024 id.0
         → is_known script.now.plan (length script.now.plan.changes) id ≡ true
         → is_among ids.items id ≡ true) }
+    ensures only { IfOk result (λ ids. (id : Id) → is_among ids.items id ≡ true
+        → is_known script.now.plan (length script.now.plan.changes) id ≡ true) }
 {
     let mut ids = Vec::new(alloc);
     for number in 1..1025 {

@@ -14,6 +14,7 @@ pub loop-number-preserved : goal.loop-number-preserved
 loop-number-preserved c = elim c.if-is_known_at_last.branch [
   | then-is_known_at_last+in_ok-push w ↦ known_more c.args.script.now.plan (length c.args.script.now.plan.changes)
       c.loop-number.number c.loop-number.ids.items c.if-is_known_at_last.ids.items c.loop-number.auto.number
+      (sym c.is_known_at_last.ensures ∙ w.if-is_known_at_last.true)
       (ap (λ (v : Vec ServerId Global). v.items) w.ids-is ∙ w.in_ok-push.ensures.items) c.loop-number.invariant
   | else-is_known_at_last w ↦ known_less c.args.script.now.plan (length c.args.script.now.plan.changes)
       c.loop-number.number c.loop-number.ids.items c.if-is_known_at_last.ids.items
