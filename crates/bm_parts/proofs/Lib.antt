@@ -1,2 +1,3 @@
 mod Listing
 mod Noting
+mod Same

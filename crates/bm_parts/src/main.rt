@@ -6,7 +6,10 @@
 //! usage: bm_parts CAPTURE SCRIPT
 #![tactic(auto)]
 
+ghost use Rattle.std.specs.Prelude.{◌≡◌, IfNone, IfOk, IfSome};
 ghost use Rattle.bm_core.specs.Runs.{IsRun};
+ghost use Rattle.bm_parts.specs.Parts.{MergesAgain, MergesOtherwise};
+ghost use Rattle.bm_trace.specs.Report as told;
 
 mod parting;
 
@@ -35,6 +38,9 @@ fn read_words(rt: &HostRuntime) -> Option<(String, String)> {
 /// The report of the history, where its parted logs merge to its events again.
 fn merged_report(alloc: Global, history: History) -> Result<Option<Vec<u8>>, Memory>
     requires { IsRun history }
+    ensures text { IfOk result (λ some. IfSome some (λ text. text.items ≡ told.text history)) }
+    ensures merged { IfOk result (λ some. IfSome some (λ _. MergesAgain history)) }
+    ensures other { IfOk result (λ some. IfNone some (MergesOtherwise history)) }
 {
     let History { stage, events } = history;
     let logs = part(alloc, &stage, events.items())?;
