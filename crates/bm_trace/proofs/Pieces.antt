@@ -12,7 +12,6 @@ use Rattle.std.proofs.lemmas.Option.{same_Some, slice_get-get_or, slice_get_with
 use Rattle.bm_base.specs.declared.capture.Record.{Record}
 use Rattle.bm_base.specs.declared.ids.Version.{Version}
 use Rattle.bm_table.proofs.Gets.{slice_get-append_left, slice_get-push}
-use Rattle.bm_core.specs.declared.events.Event.{Event}
 use Rattle.bm_core.specs.declared.events.History.{History}
 use Rattle.bm_trace.specs.Ends.{words_of_ends, words_of_record}
 use Rattle.bm_trace.specs.Pieces.{AreInRow, AreLines, CanWrite, HasWritten, PutsLines, PutsPart, first_lines}
@@ -22,21 +21,13 @@ use Rattle.bm_trace.specs.Words.{line}
 use Rattle.bm_trace.specs.declared.beside.Piece.{Piece}
 use Rattle.bm_trace.specs.declared.records.End.{End}
 use Rattle.bm_trace.specs.Parts.{HandsOn, HandsPart, WritesPart}
-use Rattle.bm_trace.specs.Report.{ends_of, event_line, event_lines, record_lines}
-use Rattle.bm_trace.proofs.Parted.{events_step, events_whole, later_lines, records_all, records_step}
+use Rattle.bm_trace.specs.Report.{ends_of, event_lines, record_lines}
+use Rattle.bm_trace.proofs.Parted.{events_whole, later_lines, records_all, records_step}
 
 -- THE LINES
 
 pub take_over : {X : Type 0} (xs : List X) (n : ℕ) → length xs ≤ n → take n xs ≡ xs
 take_over xs n over = grind (arith, common_steps)
-
-pub take_min : {X : Type 0} (xs : List X) (n : ℕ) → take (min n (length xs)) xs ≡ take n xs
-take_min xs n = elim (cases_lt n (length xs)) [
-  | inl below ↦ let e : min n (length xs) ≡ n = omega (arith, below) in ap (λ k. take k xs) e
-  | inr over ↦
-      let e : min n (length xs) ≡ length xs = omega (arith, over)
-      in ap (λ k. take k xs) e ∙ take_over xs (length xs) (omega arith) ∙ sym (take_over xs n over)
-]
 
 -- the lines of all events, and of the first records
 abbrev event_part : History → List ℕ
@@ -58,20 +49,6 @@ among_records h i j is =
     let place : i - length h.events ≡ j = omega (arith, is)
     in ap (λ k. event_lines h.stage (reverse (take i h.events)) ++ record_part h k) place
     ∙ ap (λ es. event_lines h.stage (reverse es) ++ record_part h j) (take_over h.events i (omega (arith, is)))
-
--- the line of an event more
-pub event_next : (h : History) (shown : List Event) (from i : ℕ) (d : Event) (lines new : List ℕ) → shown ≡ h.events
-    → i < length shown → new ≡ lines ++ event_line h.stage (reverse (take i shown)) (get_or shown i d)
-    → AreLines h from i lines → AreLines h from (i + 1) new
-event_next h shown from i d lines new same below is before =
-    let next = event_line h.stage (reverse (take i h.events)) (get_or h.events i d)
-    in let within : i < length h.events = omega (arith, below, ap length same)
-    in ap (λ x. first_lines h from ++ x)
-    (is ∙ ap (λ es. lines ++ event_line h.stage (reverse (take i es)) (get_or es i d)) same)
-    ∙ sym (append_assoc (first_lines h from) lines next)
-    ∙ ap (λ x. x ++ next) (before ∙ among_events h i (omega (arith, within)))
-    ∙ events_step h.stage h.events i d within
-    ∙ sym (among_events h (i + 1) (omega (arith, within)))
 
 -- the line of a record more
 pub record_next : (h : History) (shown : List Record) (from i j : ℕ) (d : Record) (ends : List End) (lines new : List ℕ)
@@ -147,10 +124,6 @@ puts_more h i j k a b c lines before are put = record {
   appended = Appends-trans a b c before.sent lines before.appended put;
   lines = lines_both h i j k before.sent lines before.lines are;
 }
-
-pub puts_both : (h : History) (i j k : ℕ) (a b c : Option (List ℕ)) → PutsLines h i j a b → PutsLines h j k b c
-    → PutsLines h i k a c
-puts_both h i j k a b c first second = puts_more h i j k a b c second.sent first second.lines second.appended
 
 -- WHERE IT ENDS EARLY
 

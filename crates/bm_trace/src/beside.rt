@@ -8,6 +8,7 @@ ghost use Rattle.bm_io.specs.Causes.{HasIoCause};
 ghost use Rattle.bm_trace.specs.Pieces.{AreEnds, AreInRow, AreLines, AreRight, CanWrite};
 ghost use Rattle.bm_trace.specs.Pieces.{HasWritten, PutsLines, PutsPart, line_count, place_of};
 ghost use Rattle.bm_trace.specs.Parts.{WritesPart};
+ghost use Rattle.bm_trace.specs.Ranges.{HasRanges};
 ghost use Rattle.bm_trace.specs.Report as report;
 ghost use Rattle.bm_trace.specs.Running.{AreVersions};
 ghost use Rattle.bm_trace.specs.Swept.{AreCauses};
@@ -283,8 +284,8 @@ fn put_next<R: Threads + Sync, K: Sink>(
     Ok(at)
 }
 
-/// Writes the lines of the events and the records, a piece in each thread at once.
-fn put_lines<R: Threads + Sync, K: Sink>(
+/// Writes all lines, a piece in each thread at once.
+fn put_pieces<R: Threads + Sync, K: Sink>(
     rt: &R,
     threads: usize,
     facts: &Facts<'_>,
@@ -308,6 +309,32 @@ fn put_lines<R: Threads + Sync, K: Sink>(
         from = put_next(rt, pieces.as_mut_slice(), facts, from, &mut versions, out)?;
     }
     Ok(())
+}
+
+/// Writes the lines of the events and the records, by so many threads. The packets have these ends.
+pub(crate) fn put_lines<R: Threads + Sync, K: Sink>(
+    rt: &R,
+    threads: usize,
+    h: &History,
+    causes: &CauseList,
+    ends: &[Ends],
+    out: &mut K,
+) -> Result<(), IoFault>
+    requires threads { 0 < threads }
+    requires ranges { HasRanges h.now.stage }
+    requires causes { AreCauses h.now causes.now }
+    requires ends { AreEnds h.now ends.now }
+    ensures ok { OnOk result
+        (PutsLines h.now 0 (line_count h.now) (K.written out.old) (K.written out.new)) }
+    ensures err { OnErr result (PutsPart h.now 0 (K.written out.old) (K.written out.new)) }
+    ensures cause { HasIoCause (K.faults out.old) (K.faults out.new) result }
+{
+    let facts = Facts {
+        history: h,
+        causes,
+        ends,
+    };
+    put_pieces(rt, threads, &facts, out)
 }
 
 /// The totals, and the ends of each record's packet, found by two threads side by side.
@@ -358,13 +385,7 @@ pub fn report_beside<R: Threads + Sync, K: Sink>(
         (report.text h.now)) }
     ensures cause { HasIoCause (K.faults out.old) (K.faults out.new) result }
 {
-    let alloc = causes.allocator();
     let (sums, ends) = totals_and_ends(rt, h, causes)?;
-    let facts = Facts {
-        history: h,
-        causes,
-        ends: ends.as_slice(),
-    };
-    put_lines(rt, threads.max(1), &facts, out)?;
-    put_end(h, &sums, String::new(alloc), out)
+    put_lines(rt, threads.max(1), h, causes, ends.as_slice(), out)?;
+    put_end(h, &sums, String::new(causes.allocator()), out)
 }

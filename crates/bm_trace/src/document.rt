@@ -41,7 +41,7 @@ fn put_full<K: Sink>(lines: &mut String, out: &mut K) -> Result<(), IoFault>
 }
 
 /// Writes the lines of the events.
-fn put_events<K: Sink>(
+pub(crate) fn put_events<K: Sink>(
     h: &History,
     causes: &CauseList,
     lines: &mut String,
@@ -114,7 +114,7 @@ pub(crate) fn put_end<K: Sink>(
 }
 
 /// Writes the lines that wait, and behind them what stands behind the lines of the events.
-fn put_rest<K: Sink>(
+pub(crate) fn put_rest<K: Sink>(
     h: &History,
     sums: &Totals,
     mut lines: String,

@@ -1,6 +1,6 @@
 use Rattle.bm_trace.proofs.Parted.{on_err}
 use Rattle.bm_trace.proofs.Pieces.{puts_after, puts_left, puts_none}
-use Rattle.bm_trace.proofs.beside.put_lines.Goals as goal
+use Rattle.bm_trace.proofs.beside.put_pieces.Goals as goal
 
 pub returns-in_err-versions-clause-err : goal.returns-in_err-versions-clause-err
 returns-in_err-versions-clause-err g c =

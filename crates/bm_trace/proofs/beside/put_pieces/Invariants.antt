@@ -1,7 +1,7 @@
 use Rattle.std.proofs.Common.{◌≡◌, ◌<◌, ◌≤◌, ◌-◌, take, reverse, vec_len}
 use Rattle.bm_trace.specs.Pieces.{PutsLines, line_count}
 use Rattle.bm_trace.specs.Running.{AreVersions}
-use Rattle.bm_trace.proofs.beside.put_lines.Given as goal
+use Rattle.bm_trace.proofs.beside.put_pieces.Given as goal
 
 abbrev pub invariant-loop-from : goal.invariant-loop-from
 invariant-loop-from g l = record {
