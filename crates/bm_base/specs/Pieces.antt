@@ -1,5 +1,5 @@
 -- Lists that stand one behind the other in one list, each with its end.
-use Rattle.std.specs.Prelude.{◌≡◌, ℕ, ◌≤◌, ◌-◌, ◌==◌, List, [], ◌∷◌, slice_range, slice_index_or}
+use Rattle.std.specs.Prelude.{◌≡◌, ℕ, zero, suc, ◌≤◌, ◌-◌, ◌==◌, List, [], ◌∷◌, slice_range, slice_index_or}
 use Rattle.std.specs.Prelude.{if◌then◌else◌}
 
 -- the lists from this place on
@@ -15,3 +15,9 @@ AreEnds from (end ∷ ends) last = (from ≤ end) × AreEnds end ends last
 -- where the list at this place begins, from the first place on
 abbrev pub begin_of : List ℕ → ℕ → ℕ
 begin_of ends at = if at == 0 then 0 else slice_index_or ends (at - 1) 0
+
+-- the lists, of which so many in front are empty now
+abbrev pub cleared : ℕ → List (List ℕ) → List (List ℕ)
+cleared zero lists = lists
+cleared (suc count) [] = []
+cleared (suc count) (list ∷ lists) = [] ∷ cleared count lists

@@ -1,6 +1,7 @@
 //! The packets of a capture.
-ghost use Rattle.std.specs.Prelude.{◌≡◌, ◌<◌, [], ◌∷◌, ◌++◌, length, slice_index_or, OnOk, OnErr};
-ghost use Rattle.bm_base.specs.Pieces.{AreEnds, begin_of, pieces};
+ghost use Rattle.std.specs.Prelude.{◌≡◌, ◌<◌, ◌≤◌, ◌-◌, [], ◌∷◌, ◌++◌, drop, length, map};
+ghost use Rattle.std.specs.Prelude.{slice_index_or, OnOk, OnErr};
+ghost use Rattle.bm_base.specs.Pieces.{AreEnds, begin_of, cleared, pieces};
 
 use crate::Memory;
 use std::alloc::Global;
@@ -63,6 +64,16 @@ impl Octets {
         piece(&self.octets, &self.ends, place as usize)
     }
 
+    /// Lets the octets of the first `count` lists go, which are empty then. Takes no memory.
+    pub fn clear_first(&mut self, count: u32)
+        requires { count ≤ length self.old }
+        ensures { self.new ≡ cleared count self.old }
+    {
+        let gone = begin(&self.ends, count as usize);
+        remove_first(&mut self.octets, gone);
+        lower(&mut self.ends, gone);
+    }
+
     /// How many lists there are.
     pub fn len(&self) -> u32
         ensures { result ≡ length self.now }
@@ -71,12 +82,32 @@ impl Octets {
     }
 }
 
-/// Where the list at this place begins.
+/// Where the list at this place begins, or would begin behind the last one.
 fn begin(ends: &[usize], at: usize) -> usize
-    requires { at < length ends.now }
+    requires { at ≤ length ends.now }
     ensures { result ≡ begin_of ends.now at }
 {
     if at == 0 { 0 } else { ends[at - 1] }
+}
+
+/// Removes so many octets, and gives their memory back.
+fn remove_first(octets: &mut Vec<u8>, count: usize)
+    requires { count ≤ length octets.old.items }
+    ensures { octets.new.items ≡ drop count octets.old.items }
+{
+    let left = octets.len() - count;
+    octets.as_mut_slice().copy_within(count.., 0);
+    octets.truncate(left);
+    octets.shrink_to_fit();
+}
+
+/// Each number is less by this, or 0.
+fn lower(numbers: &mut Vec<usize>, by: usize)
+    ensures { numbers.new.items ≡ map (λ n. n - by) numbers.old.items }
+{
+    for place in 0..numbers.len() {
+        numbers[place] = numbers[place].saturating_sub(by);
+    }
 }
 
 /// The list at this place, of lists that have these ends.

@@ -79,6 +79,22 @@ fn octets_give_back_what_was_pushed(rt: HostRuntime) -> Result<(), Fail> {
 }
 
 #[test]
+fn octets_that_are_cleared_are_gone(rt: HostRuntime) -> Result<(), Fail> {
+    let mut octets = Octets::new(rt.alloc());
+    octets.push(&[1, 2])?;
+    octets.push(&[3])?;
+    octets.push(&[4, 5, 6])?;
+    octets.clear_first(2);
+    assert_eq!(rt; octets.len(), 3);
+    assert_eq!(rt; octets.get(0), [].as_slice());
+    assert_eq!(rt; octets.get(1), [].as_slice());
+    assert_eq!(rt; octets.get(2), [4, 5, 6].as_slice());
+    octets.push(&[7])?;
+    assert_eq!(rt; octets.get(3), [7].as_slice());
+    Ok(())
+}
+
+#[test]
 fn servers_and_muxes_have_addresses(rt: HostRuntime) {
     let rows = [
         (0xac10_0000, None),

@@ -7,7 +7,8 @@ ghost use Rattle.bm_io.specs.Causes.{HasCause};
 
 use crate::Failed;
 
-/// What octets are read from. One of `Files` that is let go and not closed stays open in their count.
+/// What octets are read from. One of `Files` that is let go and not closed stays open in their
+/// count.
 pub trait Source: Drop {
     /// The octets that are left, where the source tells them.
     ghost left: { Self → Option (List ℕ) };

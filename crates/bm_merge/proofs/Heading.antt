@@ -25,7 +25,8 @@ all_append P (e ∷ x) y p q = (p.0, all_append P x y p.1 q)
 all_reverse : (P : Event → Type 0) (x : List Event) → AllByRecursion P x → AllByRecursion P (reverse x)
 all_reverse P [] p = tt
 all_reverse P (e ∷ x) p =
-    let rest : AllByRecursion P (reverse x ++ e ∷ []) = all_append P (reverse x) (e ∷ []) (all_reverse P x p.1) (p.0, tt) in
+    let rest : AllByRecursion P (reverse x ++ e ∷ []) =
+    all_append P (reverse x) (e ∷ []) (all_reverse P x p.1) (p.0, tt) in
     let is : reverse (e ∷ x) ≡ reverse x ++ e ∷ [] = reverse-append (e ∷ []) x in
     rw is rest
 
@@ -38,7 +39,8 @@ place_last e (x ∷ s) over =
     let under : leb x.clock.0 e.clock.0 ≡ false = lt-leb _ _ h in
     rw under (ap (λ (l : List Event). x ∷ l) (place_last e s over.1))
 
-place_before : (b e : Event) (s : List Event) → e.clock.0 ≤ b.clock.0 → place_in b (s ++ e ∷ []) ≡ place_in b s ++ e ∷ []
+place_before : (b e : Event) (s : List Event) → e.clock.0 ≤ b.clock.0
+    → place_in b (s ++ e ∷ []) ≡ place_in b s ++ e ∷ []
 place_before b e [] le = let is : leb e.clock.0 b.clock.0 ≡ true = le-leb _ _ le in rw is refl
 place_before b e (x ∷ s) le = step (leb x.clock.0 b.clock.0) (place_before b e s le) where
   step : (t : Bool) → place_in b (s ++ e ∷ []) ≡ place_in b s ++ e ∷ []
@@ -48,7 +50,8 @@ place_before b e (x ∷ s) le = step (leb x.clock.0 b.clock.0) (place_before b e
   step false old = ap (λ (l : List Event). x ∷ l) old
 
 by_clock_last : (newer older : List Event) (e : Event) → AllByRecursion (λ x. e.clock.0 < x.clock.0) older
-    → AllByRecursion (λ x. e.clock.0 ≤ x.clock.0) newer → by_clock (newer ++ e ∷ older) ≡ by_clock (newer ++ older) ++ e ∷ []
+    → AllByRecursion (λ x. e.clock.0 ≤ x.clock.0) newer
+    → by_clock (newer ++ e ∷ older) ≡ by_clock (newer ++ older) ++ e ∷ []
 by_clock_last [] older e over up = place_last e (by_clock older) (all_by_clock (λ x. e.clock.0 < x.clock.0) older over)
 by_clock_last (b ∷ newer) older e over up =
     ap (λ (l : List Event). place_in b l) (by_clock_last newer older e over up.1)
@@ -77,11 +80,13 @@ takes_first a b e over up =
 
 over_left : (n : ℕ) (e : Event) (es : List Event) → IsRising (e ∷ es) → n < e.clock.0
     → AllByRecursion (λ x. n < x.clock.0) (e ∷ es)
-over_left n e es rising lt = (lt, all_so (λ x. e.clock.0 ≤ x.clock.0) (λ x. n < x.clock.0) es (λ x h. omega arith) rising.0)
+over_left n e es rising lt =
+    (lt, all_so (λ x. e.clock.0 ≤ x.clock.0) (λ x. n < x.clock.0) es (λ x h. omega arith) rising.0)
 
 up_left : (n : ℕ) (e : Event) (es : List Event) → IsRising (e ∷ es) → n ≤ e.clock.0
     → AllByRecursion (λ x. n ≤ x.clock.0) (e ∷ es)
-up_left n e es rising le = (le, all_so (λ x. e.clock.0 ≤ x.clock.0) (λ x. n ≤ x.clock.0) es (λ x h. omega arith) rising.0)
+up_left n e es rising le =
+    (le, all_so (λ x. e.clock.0 ≤ x.clock.0) (λ x. n ≤ x.clock.0) es (λ x h. omega arith) rising.0)
 
 up_all : (logs : List (List Event)) (heads : List Head) (n : ℕ) → AreStanding logs heads
     → ((i : ℕ) (h : Head) → slice_get heads i ≡ Some h → n ≤ h.event.clock.0)
@@ -172,7 +177,8 @@ taken logs heads at h s =
     ∙ takes_first s.a (behind_of logs h ++ s.b) h.event s.over
     (all_append (λ x. h.event.clock.0 ≤ x.clock.0) (behind_of logs h) s.b s.stands.rising.0 s.up)
 
-onto : (done more all rest : List Event) (e : Event) → more ≡ done ++ e ∷ [] → done ++ e ∷ rest ≡ all → more ++ rest ≡ all
+onto : (done more all rest : List Event) (e : Event) → more ≡ done ++ e ∷ [] → done ++ e ∷ rest ≡ all
+    → more ++ rest ≡ all
 onto done more all rest e is was =
     ap (λ (l : List Event). l ++ rest) is ∙ sym (associated done (e ∷ []) rest) ∙ was
 

@@ -161,10 +161,10 @@ impl<S: Source> PcapReader<S> {
 }
 
 /// Reads the records of a capture, classified for these services, and the packet of each. The
-/// reader is one that was not asked for a record yet. Afterwards it answers the end, the cut or the
-/// fault again, unless memory was refused, and knows when the capture began. A fault is the first in
-/// order of place; `ReadFault` where the source failed, and `Memory` where memory was refused, may
-/// come at any place.
+/// reader is one that was not asked for a record yet. Afterwards it answers the end, the cut or
+/// the fault again, unless memory was refused, and knows when the capture began. A fault is the
+/// first in order of place; `ReadFault` where the source failed, and `Memory` where memory was
+/// refused, may come at any place.
 pub fn read_capture<S: Source>(
     alloc: Global,
     r: &mut PcapReader<S>,

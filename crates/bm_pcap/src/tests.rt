@@ -27,8 +27,8 @@ const BIG: [u8; 146] = [
     0x6a,
 ];
 
-// Ethernet: ARP; IPv6; a first fragment; a first segment to another address; one behind a tag; data in
-// a packet whose total length is 0; nine octets of a header.
+// Ethernet: ARP; IPv6; a first fragment; a first segment to another address; one behind a tag; data
+// in a packet whose total length is 0; nine octets of a header.
 const ETHERNET: [u8; 443] = [
     0xd4, 0xc3, 0xb2, 0xa1, 2, 0, 4, 0, 0, 0, 0, 0, 0, 0, 0, 0, 0xff, 0xff, 0, 0, 1, 0, 0, 0, 0, 0,
     0, 0, 0, 0, 0, 0, 0x2a, 0, 0, 0, 0x2a, 0, 0, 0, 2, 0, 0, 0, 0, 1, 2, 0, 0, 0, 0, 2, 8, 6, 0, 1,

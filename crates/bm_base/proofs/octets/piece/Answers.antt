@@ -1,5 +1,4 @@
-use Rattle.std.proofs.Common.{◌≡◌, ◌≤◌, ◌∙◌, ℕ, List, length, slice_range, slice_index_or, sym, ap, subst, arith, rules}
-use Rattle.bm_base.specs.Pieces.{begin_of}
+use Rattle.std.proofs.Common.{sym}
 use Rattle.bm_base.proofs.Pieces.{begins, end_within, piece_at}
 use Rattle.bm_base.proofs.octets.piece.Goals as goal
 

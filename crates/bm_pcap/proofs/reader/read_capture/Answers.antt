@@ -131,14 +131,16 @@ pub returns-in-Cut-clause-replayable : goal.returns-in-Cut-clause-replayable
 returns-in-Cut-clause-replayable g c =
     rw c.captured.ensures
     (replayable_so_far c.args.vips.now c.loop-packets.records.items (Some c.in-Cut.number) c.loop-packets.packets
-    c.loop-packets.r.place.number c.loop-packets.r.place.last.0 c.loop-packets.invariant.count c.loop-packets.invariant.few c.loop-packets.invariant.packed
+    c.loop-packets.r.place.number c.loop-packets.r.place.last.0 c.loop-packets.invariant.count
+    c.loop-packets.invariant.few c.loop-packets.invariant.packed
     c.loop-packets.invariant.early c.loop-packets.invariant.rise c.loop-packets.invariant.fit)
 
 pub returns-in-End-clause-replayable : goal.returns-in-End-clause-replayable
 returns-in-End-clause-replayable g c =
     rw c.captured-in-End.ensures
     (replayable_so_far c.args.vips.now c.loop-packets.records.items None c.loop-packets.packets
-    c.loop-packets.r.place.number c.loop-packets.r.place.last.0 c.loop-packets.invariant.count c.loop-packets.invariant.few c.loop-packets.invariant.packed
+    c.loop-packets.r.place.number c.loop-packets.r.place.last.0 c.loop-packets.invariant.count
+    c.loop-packets.invariant.few c.loop-packets.invariant.packed
     c.loop-packets.invariant.early c.loop-packets.invariant.rise c.loop-packets.invariant.fit)
 
 pub returns-in_err-moment-clause-last : goal.returns-in_err-moment-clause-last

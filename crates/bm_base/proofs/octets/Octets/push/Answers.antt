@@ -1,5 +1,4 @@
-use Rattle.std.proofs.Common.{◌≡◌, ◌<◌, ◌+◌, ◌∙◌, ◌++◌, ◌∷◌, [], ℕ, List, length, length-append, sym, ap, arith, rules}
-use Rattle.bm_base.specs.Pieces.{AreEnds}
+use Rattle.std.proofs.Common.{◌≡◌, ◌<◌, ◌∙◌, ◌++◌, ◌∷◌, [], ℕ, List, length, length-append, ap, arith, rules}
 use Rattle.bm_base.proofs.Pieces.{ends_more, length_pieces, pieces_more}
 use Rattle.bm_base.proofs.octets.Octets.push.Goals as goal
 

@@ -20,7 +20,8 @@ returns-clause-ahead g c = elim c.loop-self-test.branch [
       let e = w.in_ok-read.ensures in
       let long : length (held x) ≡ x.upto =
       front_held x.octets.items x.from x.upto _ (e.from ∙ c.loop-self.invariant.front) x.within refl in
-      let none = e.end w.if-branch-eq0.true (omega (arith, w.loop-self-test.true, c.requires, c.loop-self.invariant.wide)) in
+      let none =
+      e.end w.if-branch-eq0.true (omega (arith, w.loop-self-test.true, c.requires, c.loop-self.invariant.wide)) in
       let less : x.upto ≤ c.args.most = omega (arith, e.count, w.if-branch-eq0.true, w.loop-self-test.true) in
       let all : c.min.result ≡ length (held x) =
       omega (arith, c.min.ensures, ap (λ (v : Window g.row.S.Denot). v.upto) w.self-is, long, less) in
