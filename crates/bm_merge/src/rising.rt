@@ -77,9 +77,12 @@ fn earliest(heads: &[Head]) -> usize
     ensures { IsEarliest heads.now result }
 {
     let mut least = 0;
+    let mut clock = heads[0].event.clock;
     for place in 1..heads.len() {
-        if heads[place].event.clock < heads[least].event.clock {
+        let next = heads[place].event.clock;
+        if next < clock {
             least = place;
+            clock = next;
         }
     }
     least
