@@ -39,17 +39,20 @@ use Rattle.bm_core.proofs.Pasts.{label_stays}
 use Rattle.bm_core.proofs.Stops.{HasStop, first_stop}
 use Rattle.bm_replay.specs.declared.player.Loss.{Loss}
 use Rattle.bm_replay.specs.declared.player.Player.{Player}
+use Rattle.bm_replay.specs.declared.queue.Queue.{Queue}
 use Rattle.bm_replay.specs.Flights.{AreFlying, IsFlying}
+use Rattle.bm_replay.specs.Packets.{AreBehind, HoldsPackets}
 use Rattle.bm_replay.specs.Players.{CanArrive, HasArrived, HasGone, passes_to, HasSent, after_arrival, chained}
-use Rattle.bm_replay.specs.Players.{place_for, sent, verdict_for}
+use Rattle.bm_replay.specs.Players.{KeepsPackets, place_for, sent, verdict_for}
 use Rattle.bm_replay.specs.Playing.{HasPlayed, IsPlayed, KeepsState, lost_call, past_of}
 use Rattle.bm_shard.specs.States.{State}
 use Rattle.bm_replay.specs.Shards.{IsCalled, KeepsShards, arrival, state_at}
 use Rattle.bm_replay.proofs.ShardStates.{places_of, shard_below, verdict_as}
 use Rattle.bm_replay.proofs.NextEvents.{copy_due}
 use Rattle.bm_replay.proofs.Flights.{HasStopAt, all_stay, copies_fly, first_flies, others_fly, tag_stop}
+use Rattle.bm_replay.proofs.HeldPackets.{copies_behind, first_behind, others_behind, still_held}
 use Rattle.bm_replay.proofs.Unchanged.{muxes_stay, queues_stay, shards_more}
-use Rattle.bm_link.specs.Fits.{ArePackets, IsPacketOf}
+use Rattle.bm_link.specs.Fits.{IsPacketOf}
 use Rattle.bm_base.specs.declared.capture.Body.TheVariants.{Steerable, Unsteered}
 use Rattle.bm_base.specs.declared.capture.Body.{Body}
 use Rattle.bm_replay.proofs.Tags.{landing_fits, landing_tag}
@@ -116,13 +119,14 @@ record_of : (o : Option Record) (s : Segment) → steerable o ≡ Some s → (r 
 record_of None s is = absurd (cc)
 record_of (Some r) s is = (r, refl, record_body r.moment r.body s is)
 
--- a steerable record's packet is there
-packet_at : (records : List Record) (i : ℕ) (s : Segment) (packets : List (List ℕ)) → ArePackets records packets
+-- a steerable record's packet is there, where it was not let go
+packet_at : (records : List Record) (i : ℕ) (s : Segment) (n : ℕ) (packets : List (List ℕ)) (flying : List Flying)
+    (queue : Queue) → HoldsPackets records n packets flying queue → n ≤ i
     → steerable (slice_get records i) ≡ Some s → (i < length packets)
     × IsPacketOf (Steerable s) (slice_index_or packets i [])
-packet_at records i s packets are is =
+packet_at records i s n packets flying queue are behind is =
     let there = record_of (slice_get records i) s is
-    in let packet : IsPacketOf there.0.body (slice_index_or packets i []) = are.each i there.0 there.1
+    in let packet : IsPacketOf there.0.body (slice_index_or packets i []) = are.each i there.0 behind there.1
     in (inside, subst (λ (b : Body). IsPacketOf b (slice_index_or packets i [])) there.2 packet) where
       inside : i < length packets
       inside = elim (slice_get_cases records i).1 [
@@ -130,19 +134,18 @@ packet_at records i s packets are is =
         | inr beyond ↦ absurd (let bad : steerable None ≡ Some s = rw beyond.1 at is in cc)
       ]
 
-packet_number : (stage : Stage) (k : ℕ) (s : Segment) (packets : List (List ℕ))
-    → ArePackets stage.capture.records packets → segment_of stage k ≡ Some s → (1 ≤ k) × (k ≤ length packets)
-packet_number stage zero s packets are is = absurd (cc)
-packet_number stage (suc i) s packets are is =
-    let h = (packet_at stage.capture.records i s packets are is).0 in (omega arith, omega arith)
-
-packet_is : (stage : Stage) (k : ℕ) (s : Segment) (packets : List (List ℕ)) → ArePackets stage.capture.records packets
-    → segment_of stage k ≡ Some s → IsPacketOf (Steerable s) (slice_index_or packets (k - 1) [])
-packet_is stage zero s packets are is = absurd (cc)
-packet_is stage (suc i) s packets are is =
+-- the packet of a copy is there
+packet_there : (p : Player) (k : ℕ) (s : Segment) → KeepsPackets p → p.cleared < k → segment_of p.stage k ≡ Some s
+    → ((1 ≤ k) × (k ≤ length p.packets)) × IsPacketOf (Steerable s) (slice_index_or p.packets (k - 1) [])
+packet_there p zero s are behind is = absurd (cc)
+packet_there p (suc i) s are behind is =
     let same : suc i - 1 ≡ i = omega arith
-    in subst (λ (n : ℕ). IsPacketOf (Steerable s) (slice_index_or packets n [])) (sym same)
-    (packet_at stage.capture.records i s packets are is).1
+    in let at =
+    packet_at p.stage.capture.records i s p.cleared p.packets p.wire p.packet are (omega (arith, behind)) is
+    in (
+      (omega arith, omega (arith, at.0)),
+      subst (λ (n : ℕ). IsPacketOf (Steerable s) (slice_index_or p.packets n [])) (sym same) at.1,
+    )
 
 pub can_arrive : (R : Routes) (F : Rules) (p : Player) (at : Moment) → IsReadyCopy R F p at → CanArrive at p
 can_arrive R F p at c =
@@ -153,6 +156,9 @@ can_arrive R F p at c =
     first_stop c.ready.fates p.stage (past_of p) c.copy c.others c.ready.played.run c.is_wire
     in let seg : segment_of p.stage f.0.flight.packet ≡ Some st.segment =
     ap (λ (k : ℕ). segment_of p.stage k) is.packet ∙ st.is_segment
+    in let packet =
+    packet_there p f.0.flight.packet st.segment c.ready.state.packets
+    (first_behind p.cleared p.wire f.0.flight c.ready.state.packets.under_way f.1) seg
     in record {
       flight = f.0.flight;
       is_flight = f.1;
@@ -164,8 +170,8 @@ can_arrive R F p at c =
           is.is_label is.tag;
       fits = landing_fits p.stage (past_of p) f.0.flight is.label c.ready.played.sound.script c.ready.played.plan.count
           c.ready.played.run is.is_label is.tag;
-      number = packet_number p.stage f.0.flight.packet st.segment p.packets.now c.ready.state.packets seg;
-      packet = packet_is p.stage f.0.flight.packet st.segment p.packets.now c.ready.state.packets seg;
+      number = packet.0;
+      packet = packet.1;
       places = places_of R F p c.ready.fates (past_of p) c.ready.played c.ready.state;
     }
 
@@ -220,6 +226,7 @@ record IsAtStop (R : Routes) (F : Rules) (p : Player) (at : Moment) (flight : Fl
   some : 1 ≤ p.stage.script.setting.shards
   later : last_clock (past_of p) < at.0
   is_segment : segment_of p.stage flight.packet ≡ Some s
+  behind : p.cleared < flight.packet
   called : IsCalled (place_for p flight s) (arrival flight s at) p.shards states
 
 shards_arrived : (p : Player) (past : List Event) (at : Moment) (flight : Flight) (s : Segment) (states : List State)
@@ -248,10 +255,10 @@ kept_arrival : (R : Routes) (F : Rules) (p : Player) (at : Moment) (flight : Fli
     → sending_of (arrive_what at flight s p) ≡ o
     → AreFlying p.stage (arrive_event at flight s p ∷ past_of p) flying
     (put_sent f (length (past_of p)) at.0 o (rest (wire c.copy.ready.fates (past_of p))))
-    → lost_call loss ≡ loss_of_fate f o
+    → AreBehind p.cleared flying → lost_call loss ≡ loss_of_fate f o
     → KeepsState (f ∷ c.copy.ready.fates) (arrive_event at flight s p ∷ past_of p)
     (record (after_arrival at flight s states p) { wire = flying; loss = loss })
-kept_arrival R F p at flight s states c f o flying loss is are owes = record {
+kept_arrival R F p at flight s states c f o flying loss is are behind owes = record {
   clock = refl;
   loss = owes ∙ ap (λ (x : Option Sending). loss_of_fate f x) (sym is);
   flights =
@@ -265,8 +272,14 @@ kept_arrival R F p at flight s states c f o flying loss is are owes = record {
   shards =
       shards_arrived p (past_of p) at flight s states c.number c.some c.is_segment c.later c.copy.ready.state.shards
       c.called;
-  packets = c.copy.ready.state.packets;
+  packets = still_held p.stage.capture.records p.cleared p.packets p.wire flying p.packet c.copy.ready.state.packets
+      behind;
 }
+
+-- the others are still behind the packets that were let go
+others_held : (R : Routes) (F : Rules) (p : Player) (at : Moment) (flight : Flight) (s : Segment)
+    (states : List State) → IsAtStop R F p at flight s states → AreBehind p.cleared (others p.wire)
+others_held R F p at flight s states c = others_behind p.cleared p.wire c.copy.ready.state.packets.under_way
 
 others_arrived : (R : Routes) (F : Rules) (p : Player) (at : Moment) (flight : Flight) (s : Segment)
     (states : List State) (c : IsAtStop R F p at flight s states) (f : Fate)
@@ -290,7 +303,8 @@ ended R F p q at flight s states c none is =
     in subst (λ (x : Player). HasPlayed R F p x) (sym is)
     (packaged R F p (after_arrival at flight s states p) plain c.copy.ready.fates (arrive_event at flight s p) refl refl
     played (kept_arrival R F p at flight s states c plain None (others p.wire) p.loss none
-    (others_arrived R F p at flight s states c plain played) (c.copy.ready.state.loss ∙ c.copy.ready.no_loss_due)))
+    (others_arrived R F p at flight s states c plain played) (others_held R F p at flight s states c)
+    (c.copy.ready.state.loss ∙ c.copy.ready.no_loss_due)))
 
 sends_on : (k : ℕ) (hop : Hop) (server to : ServerId) → hop ≡ Direct
     → sending_of (Arrive k hop server (Forward to)) ≡ Some (record { packet = k; hop = Chained })
@@ -307,6 +321,7 @@ went_on R F p q at flight s states to c forward sending =
     (kept_arrival R F p at flight s states c sending.fate (Some (record { packet = flight.packet; hop = Chained })) _ _
     sends (copies_fly p.stage (arrive_event at flight s p ∷ past_of p) _ _ flying sending.fate.copies (others p.wire)
     (rest (wire c.copy.ready.fates (past_of p))) (others_arrived R F p at flight s states c sending.fate played))
+    (copies_behind p.cleared _ c.behind sending.fate.copies (others p.wire) (others_held R F p at flight s states c))
     (loss_is_due sending.fate (chained to flight) (record { packet = flight.packet; hop = Chained }) refl refl))) where
       passed : (flight.tag.hop ≡ Direct) × (c.is_landing.label.entry.prev ≡ Some to)
       passed = forwarded (local_at p.stage (past_of p) flight.tag.dest s.flow) (timeout p.stage) at.0
@@ -377,5 +392,6 @@ arrived R F p q at c come =
       some = c.ready.played.sound.script.setting.shards.0;
       later = (clock_later R F p at (copy_due c.copy) c.ready).0;
       is_segment = come.is_segment;
+      behind = first_behind p.cleared p.wire come.flight c.ready.state.packets.under_way come.is_flight;
       called = come.called;
     }) (verdict_for p at come.flight come.segment) refl come.is

@@ -56,7 +56,13 @@ new_state stage p new about = record {
   queues = rw about
       (record { due_closes = new.close; due_retires = new.retire; due_syncs = new.sync; due_packets = new.packet });
   shards = rw about (rw new.shards (first_shards stage));
-  packets = rw about new.packets;
+  packets = rw (about, new.cleared) (record {
+    count = new.packets.count;
+    each = λ i r behind is. new.packets.each i r is;
+    under_way = rw new.wire tt;
+    behind = new.behind;
+    within = new.within;
+  });
 }
 
 pub begins : (R : Routes) (F : Rules) (stage : Stage) (p : Player) → IsSound stage → IsNew stage p → IsPlaying R F p

@@ -37,11 +37,11 @@ pub record IsCopy (p : Player) (flight : Flight) (s : Segment) (octets : List �
 
 pub is_copy : (at : Moment) (p : Player) (can : CanArrive at p) (flight : Flight) (octets : List ℕ)
     → first_flight p.wire ≡ Some flight
-    → octets ≡ slice_index_or p.packets.now (flight.packet - 1) [] → IsCopy p flight can.segment octets
+    → octets ≡ slice_index_or p.packets (flight.packet - 1) [] → IsCopy p flight can.segment octets
 is_copy at p can flight octets first is =
     let same : can.flight ≡ flight = same_Some _ _ (sym can.is_flight ∙ first)
-    in let packet : IsPacketOf (Steerable can.segment) (slice_index_or p.packets.now (flight.packet - 1) []) =
-    subst (λ (f : Flight). IsPacketOf (Steerable can.segment) (slice_index_or p.packets.now (f.packet - 1) [])) same
+    in let packet : IsPacketOf (Steerable can.segment) (slice_index_or p.packets (flight.packet - 1) []) =
+    subst (λ (f : Flight). IsPacketOf (Steerable can.segment) (slice_index_or p.packets (f.packet - 1) [])) same
     can.packet
     in record {
       tag = subst (λ (f : Flight). IsTag f.tag) same can.tag;

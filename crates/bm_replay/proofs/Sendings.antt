@@ -35,6 +35,8 @@ use Rattle.bm_replay.specs.Flights.{IsFlying}
 use Rattle.bm_replay.specs.Players.{CanSteer, HasSteered, after_loss, happened, loss_of, sent}
 use Rattle.bm_replay.specs.Playing.{HasPlayed, IsPlayed, IsPlaying, KeepsState, lost_call, past_of}
 use Rattle.bm_replay.proofs.Flights.{HasStopAt, all_stay, copies_fly, tag_stop}
+use Rattle.bm_replay.proofs.HeldPackets.{steered_packets}
+use Rattle.bm_replay.proofs.NextEvents.{head_first}
 use Rattle.bm_replay.proofs.Unchanged.{shards_stay, muxes_stay, part_next, part_stays, queues_stay}
 use Rattle.bm_replay.proofs.ReadyEvents.{clock_later, IsReady, clock_low, packaged, plain, plain_soon, played_more}
 use Rattle.bm_replay.proofs.ReadyEvents.{told}
@@ -237,5 +239,9 @@ steered R F p q at d k ready call come =
         };
         shards = shards_stay p.stage (past_of p) (steer_event at k come.mux) p.shards (λ s h. refl)
             (omega (arith, (clock_later R F p at d ready).0)) ready.state.shards;
-        packets = ready.state.packets;
+        packets =
+            steered_packets p.stage.capture.records p.cleared p.packets p.wire p.packet come.queue d k
+            come.sending.fate.copies _ ready.state.packets
+            (head_first _ _ p.packet.head d ready.state.queues.due_packets (steer_from R F p at d k ready call)).0 call
+            refl come.behind come.within;
       }

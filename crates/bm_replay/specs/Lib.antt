@@ -3,6 +3,7 @@ pub mod Muxes
 pub mod Flights
 pub mod Players
 pub mod Playing
+pub mod Packets
 pub mod Queues
 pub mod Replays
 pub mod Shards

@@ -44,8 +44,9 @@ use Rattle.bm_shard.specs.declared.calls.ShardCall.TheVariants.{Close as AsksClo
 use Rattle.bm_shard.specs.declared.calls.ShardCall.TheVariants.{Retire as AsksRetire}
 use Rattle.bm_replay.specs.Muxes.{HasTable, IsMoved, IsWritten, switches_of}
 use Rattle.bm_replay.specs.Flights.{copies_put}
-use Rattle.bm_replay.specs.Queues.{IsHead, closes_from, packets_after, retires_after, retires_from}
-use Rattle.bm_replay.specs.Queues.{syncs_from}
+use Rattle.bm_replay.specs.Packets.{HoldsPackets}
+use Rattle.bm_replay.specs.Queues.{IsBehind, IsHead, closes_from, packets_after, retires_after}
+use Rattle.bm_replay.specs.Queues.{retires_from, syncs_from}
 use Rattle.bm_shard.specs.States.{State}
 use Rattle.bm_replay.specs.Shards.{all_shards, arrival, before, holds, place_of, state_at}
 use Rattle.bm_replay.specs.Shards.{verdict_in, what_at, IsAbout, IsCalled, IsReady}
@@ -79,7 +80,10 @@ pub record IsNew (stage : Stage) (p : Player) : Type 0 where
   pub packet : IsHead (packets_after stage.capture.records 0)
       (packets_after stage.capture.records p.packet.next) p.packet.head
   pub shards : p.shards ≡ all_shards stage.script.setting 1025
-  pub packets : ArePackets stage.capture.records p.packets.now
+  pub behind : IsBehind 0 p.packet.next p.packet.head
+  pub within : p.packet.next ≤ length stage.capture.records
+  pub cleared : p.cleared ≡ 0
+  pub packets : ArePackets stage.capture.records p.packets
 
 -- WHAT COMES NEXT
 
@@ -198,6 +202,8 @@ pub record HasSteered (R : Routes) (F : Rules) (clock : Moment) (k : ℕ) (p q :
   pub queue : Queue
   pub next : IsHead (packets_after p.stage.capture.records p.packet.next)
       (packets_after p.stage.capture.records queue.next) queue.head
+  pub behind : IsBehind p.packet.next queue.next queue.head
+  pub within : queue.next ≤ length p.stage.capture.records
   pub sending : HasSent F clock (record { packet = k; tag = tag })
       (happened clock (Steer k mux) (record p { packet = queue })) q
 
@@ -258,6 +264,17 @@ pub record HasArrived (F : Rules) (clock : Moment) (p q : Player) : Type 0 where
   pub is : HasGone F clock flight (passes_to (verdict_for p clock flight segment))
       (after_arrival clock flight segment states p) q
 
+-- the packets of those to come are there
+abbrev pub KeepsPackets : Player → Type 0
+KeepsPackets p = HoldsPackets p.stage.capture.records p.cleared p.packets p.wire p.packet
+
+-- packets were let go that come no more, or none
+pub record HasLetGo (p q : Player) : Type 0 where
+  pub packets : List (List ℕ)
+  pub cleared : ℕ
+  pub holds : HoldsPackets p.stage.capture.records cleared packets p.wire p.packet
+  pub is : q ≡ record p { packets = packets; cleared = cleared }
+
 -- WHAT THE STEPS NEED
 
 -- the shards of each server lie among the shards, and their clocks are low
@@ -305,6 +322,6 @@ pub record CanArrive (at : Moment) (p : Player) : Type 0 where
   pub tag : IsTag flight.tag
   pub fits : (flight.tag.stamp.0 < 2 ^ 64) × (flight.tag.version.0 < 2 ^ 32)
   pub len : segment.len ≤ 1048576
-  pub number : (1 ≤ flight.packet) × (flight.packet ≤ length p.packets.now)
-  pub packet : IsPacketOf (Steerable segment) (slice_index_or p.packets.now (flight.packet - 1) [])
+  pub number : (1 ≤ flight.packet) × (flight.packet ≤ length p.packets)
+  pub packet : IsPacketOf (Steerable segment) (slice_index_or p.packets (flight.packet - 1) [])
   pub places : HasPlaces p

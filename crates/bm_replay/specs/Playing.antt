@@ -4,7 +4,6 @@ use Rattle.std.specs.Prelude.{Some, None, slice_get}
 use Rattle.bm_base.specs.declared.ids.Moment.{Moment}
 use Rattle.bm_base.specs.declared.fate.Fate.{Fate}
 use Rattle.bm_table.specs.Plans.{IsPlan}
-use Rattle.bm_link.specs.Fits.{ArePackets}
 use Rattle.bm_core.specs.declared.events.Event.{Event}
 use Rattle.bm_core.specs.declared.events.Stage.{Stage}
 use Rattle.bm_core.specs.declared.schedule.Call.{Call as Calls}
@@ -27,7 +26,7 @@ use Rattle.bm_replay.specs.declared.coming.Coming.{Coming}
 use Rattle.bm_replay.specs.declared.coming.Coming.TheVariants.{Arrive, Call, Over}
 use Rattle.bm_replay.specs.Muxes.{HasTable}
 use Rattle.bm_replay.specs.Flights.{AreFlying}
-use Rattle.bm_replay.specs.Players.{coming_for}
+use Rattle.bm_replay.specs.Players.{KeepsPackets, coming_for}
 use Rattle.bm_replay.specs.Queues.{IsHead, closes_from, packets_after, retires_after, syncs_from}
 use Rattle.bm_replay.specs.Shards.{KeepsShards}
 
@@ -77,7 +76,7 @@ pub record KeepsState (fates : List Fate) (past : List Event) (p : Player) : Typ
   pub muxes : KeepsMuxes p.stage past p.muxes p.switch
   pub queues : KeepsQueues p.stage past p.close p.retire p.sync p.packet
   pub shards : KeepsShards p.stage past p.shards
-  pub packets : ArePackets p.stage.capture.records p.packets.now
+  pub packets : KeepsPackets p
 
 -- the events so far, the newest first
 abbrev pub past_of : Player → List Event

@@ -1,11 +1,11 @@
 -- What is left of the commands of each kind, and of the packets, behind a place of the script or
 -- the capture.
-use Rattle.std.specs.Prelude.{◌≡◌, ℕ, suc, List, [], ◌∷◌, ◌++◌, Option, Some, None}
+use Rattle.std.specs.Prelude.{◌≡◌, ◌<◌, ℕ, suc, List, [], ◌∷◌, ◌++◌, Option, Some, None}
 use Rattle.bm_base.specs.declared.ids.ServerId.{ServerId}
 use Rattle.bm_base.specs.declared.capture.Record.{Record}
 use Rattle.bm_table.specs.declared.script.Command.{Command}
 use Rattle.bm_core.specs.declared.schedule.Call.{Call}
-use Rattle.bm_core.specs.declared.schedule.Call.TheVariants.{Retires}
+use Rattle.bm_core.specs.declared.schedule.Call.TheVariants.{Retires, Steers}
 use Rattle.bm_core.specs.declared.schedule.Due.{Due}
 use Rattle.bm_core.specs.Schedule.{close_commands, dropped, packets_from, retire_commands}
 use Rattle.bm_core.specs.Schedule.{retire_dues, sync_commands}
@@ -47,3 +47,8 @@ retires_after shards commands q = behind shards q.head ++ retires_from shards co
 -- the packets of the records behind the first n
 abbrev pub packets_after : List Record → ℕ → List Due
 packets_after records n = packets_from (suc n) (dropped n records)
+
+-- the head is the packet of the last record before the next place, behind the first n
+abbrev pub IsBehind : ℕ → ℕ → Option Due → Type 0
+IsBehind n next None = Unit {0}
+IsBehind n next (Some d) = (d.call ≡ Steers next) × (n < next)

@@ -1,6 +1,8 @@
 //! A replay on its way: its state, what comes next, and the steps.
-ghost use Rattle.std.specs.Prelude.{◌≡◌, ◌*◌, ◌^◌, ◌<◌, ◌≤◌, IfOk, OnOk, Some, length, suc};
+ghost use Rattle.std.specs.Prelude.{◌≡◌, ◌*◌, ◌^◌, ◌<◌, ◌≤◌, IfOk, IfSome, OnOk, Some};
+ghost use Rattle.std.specs.Prelude.{length, suc};
 ghost use Rattle.bm_base.specs.declared.ids.ServerId.{ServerId};
+ghost use Rattle.bm_base.specs.Pieces.{cleared};
 ghost use Rattle.bm_link.specs.Fits.{ArePackets};
 ghost use Rattle.bm_table.specs.Tables.{next_change};
 ghost use Rattle.bm_route.specs.Routes.{Answers, IsRoute};
@@ -10,9 +12,11 @@ ghost use Rattle.bm_core.specs.Weights.{IsSoon};
 ghost use Rattle.bm_replay.specs.declared.coming.Coming.TheVariants.{Arrive, Call as called};
 ghost use Rattle.bm_replay.specs.Carriers.{next_tag};
 ghost use Rattle.bm_replay.specs.Flights.{copies_put};
+ghost use Rattle.bm_replay.specs.Packets.{HoldsPackets};
 ghost use Rattle.bm_replay.specs.Players as players;
 ghost use Rattle.bm_replay.specs.Players.{CanArrive, CanSteer, CanSwitch, HasArrived, HasCalled};
-ghost use Rattle.bm_replay.specs.Players.{HasClosed, HasGone, HasPlaces, HasRetired, HasSent};
+ghost use Rattle.bm_replay.specs.Players.{HasClosed, HasGone, HasLetGo, HasPlaces, HasRetired};
+ghost use Rattle.bm_replay.specs.Players.{HasSent, KeepsPackets};
 ghost use Rattle.bm_replay.specs.Players.{HasSteered, HasSwitched, HasSynced, IsNew, after_loss};
 ghost use Rattle.bm_replay.specs.Players.{after_publish, chained, coming_for, forwards, happened};
 ghost use Rattle.bm_replay.specs.Players.{publish_after, what_for};
@@ -37,6 +41,9 @@ use std::alloc::Global;
 /// How many servers there may be, and one more, since they count from 1.
 const SERVERS: u16 = 1_025;
 
+/// The fewest packets that are let go together.
+const FEWEST_LET_GO: u32 = 16_384;
+
 /// A sending without copies, whose loss is recorded next.
 #[derive(Clone, Copy, Debug, PartialEq, Eq)]
 pub(crate) struct Loss {
@@ -46,10 +53,12 @@ pub(crate) struct Loss {
 
 /// A replay on its way.
 #[derive(Drop)]
-pub(crate) struct Player<'a> {
+pub(crate) struct Player {
     pub(crate) stage: Stage,
-    /// The packet of each record.
-    pub(crate) packets: &'a Octets,
+    /// The packet of each record, or no octets where it was let go.
+    pub(crate) packets: Octets,
+    /// How many packets in front were let go.
+    pub(crate) cleared: u32,
     /// What happened so far.
     pub(crate) events: Events,
     /// The clock of the last event.
@@ -76,15 +85,11 @@ pub(crate) struct Player<'a> {
     pub(crate) shards: Shards,
 }
 
-impl<'a> Player<'a> {
+impl Player {
     /// Nothing happened yet.
-    pub(crate) fn new(
-        alloc: Global,
-        stage: Stage,
-        packets: &'a Octets,
-    ) -> Result<Player<'a>, Memory>
+    pub(crate) fn new(alloc: Global, stage: Stage, packets: Octets) -> Result<Player, Memory>
         requires sound { IsSound stage }
-        requires packets { ArePackets stage.capture.records packets.now }
+        requires packets { ArePackets stage.capture.records packets }
         ensures { IfOk result (IsNew stage) }
     {
         let setting = &stage.script.setting;
@@ -102,6 +107,7 @@ impl<'a> Player<'a> {
         Ok(Player {
             stage,
             packets,
+            cleared: 0,
             events,
             clock: Moment(0),
             loss: None,
@@ -156,16 +162,14 @@ impl<'a> Player<'a> {
 
     /// The history of what happened.
     pub(crate) fn into_history(self) -> History
-        ensures { result ≡ record { stage = self.entry.stage; events = self.entry.events } }
+        ensures { result ≡ record { stage = self.stage; events = self.events } }
     {
         History {
             stage: self.stage,
             events: self.events.into_list(),
         }
     }
-}
 
-impl Player<'_> {
     /// What comes next happens; false where nothing is left. Octets on their way are written into
     /// the carrier.
     pub(crate) fn step<R: Fn(u32, &Flow) -> u16, F: Fn(u32, Hop) -> Fate>(
@@ -199,6 +203,39 @@ impl Player<'_> {
             Coming::Over => return Ok(false),
         }
         Ok(true)
+    }
+
+    /// Lets the packets go that come no more, where they are many.
+    pub(crate) fn let_go(&mut self)
+        requires { KeepsPackets self.old }
+        ensures { HasLetGo self.old self.new }
+    {
+        if let Some(done) = self.done() {
+            self.packets.clear_first(done);
+            self.cleared = done;
+        }
+    }
+
+    /// How many packets in front come no more: those before the one that is steered next, where no
+    /// copy is under way. None where letting them go isn't worth its time, since too few of them,
+    /// or less than half of all packets, are still held.
+    fn done(&self) -> Option<u32>
+        requires { KeepsPackets self.now }
+        ensures within { IfSome result (λ done. done ≤ length self.now.packets) }
+        ensures holds { IfSome result (λ done. HoldsPackets self.now.stage.capture.records done
+            (cleared done self.now.packets) self.now.wire self.now.packet) }
+    {
+        let Call::Steers(packet) = self.packet.head?.call else {
+            return None;
+        };
+        let done = packet - 1;
+        let more = done - self.cleared;
+        let many = more >= FEWEST_LET_GO && more >= self.packets.len() - done;
+        if many && self.wire.least().is_none() {
+            Some(done)
+        } else {
+            None
+        }
     }
 
     /// The change, command or packet that is due comes.

@@ -1,7 +1,7 @@
 //! The commands of each kind and the packets, each in their order.
 ghost use Rattle.std.specs.Prelude.{◌≡◌, ℕ, ◌<◌, ◌≤◌, length};
-ghost use Rattle.bm_replay.specs.Queues.{IsHead, behind, retire_at, closes_from, packets_after};
-ghost use Rattle.bm_replay.specs.Queues.{retires_after, retires_from, syncs_from};
+ghost use Rattle.bm_replay.specs.Queues.{IsBehind, IsHead, behind, retire_at, closes_from};
+ghost use Rattle.bm_replay.specs.Queues.{packets_after, retires_after, retires_from, syncs_from};
 
 use bm_base::{Body, Record, ServerId};
 use bm_core::{Call, Due};
@@ -124,8 +124,10 @@ pub(crate) fn next_sync(commands: &[Command], from: usize) -> Queue
 /// The first steerable record from this index on.
 pub(crate) fn next_packet(records: &[Record], from: usize) -> Queue
     requires { length records.now ≤ 200000 }
-    ensures { IsHead (packets_after records.now from) (packets_after records.now result.next)
+    ensures head { IsHead (packets_after records.now from) (packets_after records.now result.next)
         result.head }
+    ensures behind { IsBehind from result.next result.head }
+    ensures within { result.next ≤ length records.now }
 {
     for i in from..records.len() {
         if let Body::Steerable(_) = records[i].body {

@@ -16,16 +16,17 @@ use std::alloc::Global;
 
 /// The history of the stage's replay: a run that follows the script, with the muxes that the route
 /// answers and the fates that the faults give, and in which every packet, copy and command is
-/// accounted for. `octets` has the packet of each record. `Memory` where memory was refused.
+/// accounted for. `octets` has the packet of each record, and lets them go as they are replayed.
+/// `Memory` where memory was refused.
 pub fn replay<R: Fn(u32, &Flow) -> u16, F: Fn(u32, Hop) -> Fate>(
     alloc: Global,
     stage: Stage,
-    octets: &Octets,
+    octets: Octets,
     route: &Route<R>,
     faults: &Faults<F>,
 ) -> Result<History, Memory>
     requires sound { IsSound stage }
-    requires packets { ArePackets stage.capture.records octets.now }
+    requires packets { ArePackets stage.capture.records octets }
     requires route { IsRoute R.Fn route.now.rule route.now.muxes }
     requires muxes { route.now.muxes ≡ stage.script.setting.muxes }
     requires faults { IsRule F.Fn faults.now.rule }
@@ -35,6 +36,8 @@ pub fn replay<R: Fn(u32, &Flow) -> u16, F: Fn(u32, Hop) -> Fate>(
 {
     let mut player = Player::new(alloc, stage, octets)?;
     let mut carrier = Carrier::empty(alloc);
-    while player.step(&mut carrier, route, faults)? {}
+    while player.step(&mut carrier, route, faults)? {
+        player.let_go();
+    }
     Ok(player.into_history())
 }

@@ -234,12 +234,12 @@ fn check(
     rt: &impl Abort,
     alloc: Global,
     stage: Stage,
-    packets: &Octets,
+    packets: Octets,
     faulty: bool,
     events: &[Event],
 ) -> Result<(), Fail>
     requires sound { IsSound stage }
-    requires packets { ArePackets stage.capture.records packets.now }
+    requires packets { ArePackets stage.capture.records packets }
     requires muxes { stage.script.setting.muxes ≡ 1 }
 {
     let route = Route::new(|_packet: u32, _flow: &Flow| -> u16 { 0 }, 1);
@@ -270,7 +270,7 @@ fn a_connection_is_closed_once(rt: HostRuntime) -> Result<(), Fail> {
         steer(1_001, 2),
         arrive(1_002, 2, direct, 1, Verdict::Reset(Why::NoPrevious)),
     ];
-    check(&rt, alloc, stage, &packets, false, &want)
+    check(&rt, alloc, stage, packets, false, &want)
 }
 
 #[test]
@@ -286,7 +286,7 @@ fn a_full_shard_drops(rt: HostRuntime) -> Result<(), Fail> {
         steer(1_001, 2),
         arrive(1_002, 2, direct, 1, Verdict::Drop(Why::Full)),
     ];
-    check(&rt, alloc, stage, &packets, false, &want)
+    check(&rt, alloc, stage, packets, false, &want)
 }
 
 #[test]
@@ -306,7 +306,7 @@ fn copies_are_lost_or_come_again(rt: HostRuntime) -> Result<(), Fail> {
         arrive(2_003, 3, direct, 1, again),
         arrive(2_004, 3, direct, 1, again),
     ];
-    check(&rt, alloc, stage, &packets, true, &want)
+    check(&rt, alloc, stage, packets, true, &want)
 }
 
 #[test]
@@ -326,5 +326,5 @@ fn a_packet_is_forwarded_after_a_move(rt: HostRuntime) -> Result<(), Fail> {
         arrive(1_002, 2, Hop::Direct, 2, forward),
         arrive(1_003, 2, Hop::Chained, 1, Verdict::Process(Taken::Advance)),
     ];
-    check(&rt, alloc, stage, &packets, false, &want)
+    check(&rt, alloc, stage, packets, false, &want)
 }

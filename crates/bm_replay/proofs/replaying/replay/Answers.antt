@@ -1,6 +1,7 @@
-use Rattle.std.proofs.Common.{Bool, subst, arith}
+use Rattle.std.proofs.Common.{◌≡◌, Bool, length, ap, subst, arith}
 use Rattle.bm_fault.specs.Faults.{Gives}
 use Rattle.bm_route.specs.Routes.{Answers}
+use Rattle.bm_replay.specs.declared.player.Player.{Player}
 use Rattle.bm_replay.specs.Playing.{HasPlayed, HasStepped}
 use Rattle.bm_replay.proofs.BeginAndEnd.{begins, few_events}
 use Rattle.bm_replay.proofs.replaying.replay.Goals as goal
@@ -19,6 +20,8 @@ loop-carrier-smaller g c =
     subst (λ (b : Bool). HasStepped (Answers g.R.Fn c.args.route.now.rule) (Gives g.F.Fn c.args.faults.now.rule)
     c.loop-carrier.player c.step.new.self b) c.if-branch.true c.in_ok-step.ensures
     in let one = more.one_more
+    in let same : length c.let_go.new.self.events ≡ length c.step.new.self.events =
+    ap (λ (p : Player). length p.events) c.let_go.ensures.is
     in let few =
     few_events (Answers g.R.Fn c.args.route.now.rule) (Gives g.F.Fn c.args.faults.now.rule) c.step.new.self more.playing
     in omega arith

@@ -1,4 +1,4 @@
-use Rattle.std.proofs.Common.{ℕ, List, refl, ap, ◌∙◌, subst, arith}
+use Rattle.std.proofs.Common.{ℕ, ◌≤◌, List, length, refl, ap, ◌∙◌, subst, arith}
 use Rattle.bm_base.specs.declared.capture.Record.{Record}
 use Rattle.bm_table.specs.declared.script.Command.{Command}
 use Rattle.bm_core.specs.Schedule.{least}
@@ -39,7 +39,11 @@ returns c = record {
       c.next_sync-sync.result.head) c.items-commands.ensures c.next_sync-sync.ensures;
   packet = subst
       (λ (l : List Record). IsHead (packets_after l 0) (packets_after l c.next_packet-packet.result.next)
-      c.next_packet-packet.result.head) c.items-2.ensures c.next_packet-packet.ensures;
+      c.next_packet-packet.result.head) c.items-2.ensures c.next_packet-packet.ensures.head;
+  behind = c.next_packet-packet.ensures.behind;
+  within = subst (λ (l : List Record). c.next_packet-packet.result.next ≤ length l) c.items-2.ensures
+      c.next_packet-packet.ensures.within;
+  cleared = refl;
   shards = c.in_ok-shards.ensures;
   packets = c.requires.packets;
 }

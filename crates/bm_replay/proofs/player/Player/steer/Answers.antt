@@ -1,4 +1,4 @@
-use Rattle.std.proofs.Common.{◌≡◌, ◌<◌, ℕ, List, Some, sym, subst}
+use Rattle.std.proofs.Common.{◌≡◌, ◌<◌, ◌≤◌, ℕ, List, length, Some, sym, subst}
 use Rattle.bm_base.specs.declared.capture.Record.{Record}
 use Rattle.bm_fault.specs.Faults.{Gives}
 use Rattle.bm_core.specs.Past.{segment_of}
@@ -30,7 +30,10 @@ returns g c =
       next = subst
           (λ (l : List Record). IsHead (packets_after l c.args.self.now.packet.next)
           (packets_after l c.next_packet-self.result.next) c.next_packet-self.result.head) c.items.ensures
-          c.next_packet-self.ensures;
+          c.next_packet-self.ensures.head;
+      behind = c.next_packet-self.ensures.behind;
+      within = subst (λ (l : List Record). c.next_packet-self.result.next ≤ length l) c.items.ensures
+          c.next_packet-self.ensures.within;
       sending =
           subst (λ (p : Player). HasSent (Gives g.F.Fn c.args.faults.now.rule) c.args.clock
           (record { packet = c.args.packet; tag = c.tag_of-tag.result }) p c.send.new.self) c.in_ok-write.ensures
