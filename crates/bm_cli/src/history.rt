@@ -49,7 +49,7 @@ pub(crate) fn history_of<R: Threads + Wait + Sync, G: Gate>(
         { rows.fate(packet, hop) },
     );
     match mode {
-        Mode::Replay => replay(alloc, stage, &packets, &route, &faults),
+        Mode::Replay => replay(alloc, stage, packets, &route, &faults),
         Mode::Run => run_threads(rt, alloc, stage, &packets, &route, &faults, gate),
     }
 }

@@ -193,9 +193,9 @@ fn moved_stage(alloc: Global, capture: Capture) -> Result<Stage, Fail>
 }
 
 /// The history of the stage's replay by one mux, where each sending has one copy.
-fn history(alloc: Global, stage: Stage, packets: &Octets) -> Result<History, Memory>
+fn history(alloc: Global, stage: Stage, packets: Octets) -> Result<History, Memory>
     requires sound { IsSound stage }
-    requires packets { ArePackets stage.capture.records packets.now }
+    requires packets { ArePackets stage.capture.records packets }
     requires muxes { stage.script.setting.muxes ≡ 1 }
     ensures { IfOk result IsRun }
 {
@@ -271,7 +271,7 @@ fn check_case(rt: &impl Abort, alloc: Global, case: &Case) -> Result<(), Fail> {
     assert!(rt; case.rows.len() <= 100 && 0 < case.capacity);
     let (capture, packets) = capture(alloc, case.rows)?;
     let stage = bare_stage(alloc, u32::from(case.capacity), case.closing, capture)?;
-    let h = history(alloc, stage, &packets)?;
+    let h = history(alloc, stage, packets)?;
     check(rt, alloc, &h, case.text)
 }
 
@@ -315,7 +315,7 @@ fn servers_and_causes_are_counted(rt: HostRuntime) -> Result<(), Fail> {
     let alloc = rt.alloc();
     let (capture, packets) = capture(alloc, &[OPENING, DATA, DATA])?;
     let stage = bare_stage(alloc, 4_096, true, capture)?;
-    let h = history(alloc, stage, &packets)?;
+    let h = history(alloc, stage, packets)?;
     check_counts(&rt, alloc, &h)
 }
 
@@ -338,7 +338,7 @@ fn a_moved_connection_breaks_behind_the_timeout(rt: HostRuntime) -> Result<(), F
     let alloc = rt.alloc();
     let (capture, packets) = capture(alloc, &[OPENING, DATA, DATA, DATA])?;
     let stage = moved_stage(alloc, capture)?;
-    let h = history(alloc, stage, &packets)?;
+    let h = history(alloc, stage, packets)?;
     let text =
         "connection 10.0.0.1:1000 192.0.2.1:80 opened 1 at 0.000000000 last 4 at 300.000000000 accepted 1 \
                 times 1 processed 2 forwarded 2 dropped 0 reset 1 stray 0 \

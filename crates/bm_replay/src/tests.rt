@@ -71,7 +71,7 @@ fn packet(alloc: Global, row: Row) -> Result<Vec<u8>, Memory>
 
 /// These segments, a microsecond apart, and their packets.
 fn capture(alloc: Global, rows: &[Row]) -> Result<(Capture, Octets), Memory>
-    requires { length rows.now ≤ 100 }
+    requires { length rows.now ≤ 20000 }
     ensures fit { IfOk result (λ read. IsReplayable plain_setting.vips read.0) }
     ensures packets { IfOk result (λ read. ArePackets read.0.records read.1) }
 {
@@ -307,6 +307,42 @@ fn copies_are_lost_or_come_again(rt: HostRuntime) -> Result<(), Fail> {
         arrive(2_004, 3, direct, 1, again),
     ];
     check(&rt, alloc, stage, packets, true, &want)
+}
+
+/// So many segments, of which the first opens a connection and the others are alike.
+fn many_rows(alloc: Global, count: u16) -> Result<Vec<Row>, Memory>
+    ensures { IfOk result (λ rows. length rows.items ≡ count) }
+{
+    let mut rows = Vec::from_slice(alloc, &[OPENING])?;
+    rows.resize(usize::from(count), DATA)?;
+    Ok(rows)
+}
+
+/// What happens at these segments.
+fn many_events(alloc: Global, count: u16) -> Result<Vec<Event>, Memory> {
+    let mut events = Vec::new(alloc);
+    for i in 0..count {
+        let clock = u64::from(i) * 1_000;
+        let packet = u32::from(i) + 1;
+        let verdict = match i {
+            0 => Verdict::Accept,
+            1 => Verdict::Process(Taken::Advance),
+            _ => Verdict::Process(Taken::Duplicate),
+        };
+        events.push(steer(clock + 1, packet))?;
+        events.push(arrive(clock + 2, packet, Hop::Direct, 1, verdict))?;
+    }
+    Ok(events)
+}
+
+#[test]
+fn packets_behind_those_let_go_come(rt: HostRuntime) -> Result<(), Fail> {
+    let alloc = rt.alloc();
+    let count = 16_400;
+    let (capture, packets) = capture(alloc, &many_rows(alloc, count)?)?;
+    let stage = bare_stage(alloc, 4_096, false, capture)?;
+    let want = many_events(alloc, count)?;
+    check(&rt, alloc, stage, packets, false, &want)
 }
 
 #[test]
