@@ -1,8 +1,11 @@
 //! The history of a stage, shown.
-ghost use Rattle.std.specs.Prelude.{◌≡◌};
+ghost use Rattle.std.specs.Prelude.{◌≡◌, ◌≤◌, length, OnErr, OnOk};
+ghost use Rattle.std.specs.Io.KnownBytes.{Appends};
 ghost use Rattle.bm_core.specs.Runs.{IsRun};
 ghost use Rattle.bm_core.specs.Stages.{IsSound};
+ghost use Rattle.bm_io.specs.Causes.{HasIoCause};
 ghost use Rattle.bm_link.specs.Fits.{ArePackets};
+ghost use Rattle.bm_trace.specs.Parts.{WritesPart};
 ghost use Rattle.bm_trace.specs.Report as report;
 ghost use Rattle.bm_cli.specs.Dues.{Shown};
 ghost use Rattle.bm_cli.specs.Headline.{IsReportOf};
@@ -50,6 +53,32 @@ fn threads_of(history: &History) -> usize {
 }
 
 /// Writes the report of the history, in pieces: of a run by several threads.
+fn write_report<R: Threads + Sync, K: Sink>(
+    rt: &R,
+    alloc: Global,
+    mode: Mode,
+    history: &History,
+    out: &mut K,
+) -> Result<(), IoFault>
+    requires { IsRun history.now }
+    ensures ok { OnOk result (Appends (K.written out.old) (K.written out.new)
+        (report.text history.now)) }
+    ensures err { OnErr result (WritesPart (K.written out.old) (K.written out.new)
+        (report.text history.now)) }
+    ensures cause { HasIoCause (K.faults out.old) (K.faults out.new) result }
+{
+    match mode {
+        Mode::Replay => {
+            let Ok(causes) = sweep(alloc, history) else {
+                return Err(IoFault::Memory);
+            };
+            report_to(history, &causes, out)
+        }
+        Mode::Run => report_beside(rt, alloc, threads_of(history), history, out),
+    }
+}
+
+/// Writes the report of the history, and tells how that ended.
 fn show_history<R: Threads + Sync, K: Sink>(
     rt: &R,
     alloc: Global,
@@ -61,14 +90,7 @@ fn show_history<R: Threads + Sync, K: Sink>(
     ensures { Writes Status.Done (report.text history.now)
         (did K.written K.faults out.old out.new) result }
 {
-    let Ok(causes) = sweep(alloc, history) else {
-        return Status::Memory;
-    };
-    let shown = match mode {
-        Mode::Replay => report_to(history, &causes, out),
-        Mode::Run => report_beside(rt, threads_of(history), history, &causes, out),
-    };
-    match shown {
+    match write_report(rt, alloc, mode, history, out) {
         Ok(()) => Status::Done,
         Err(IoFault::Failed) => Status::WriteFault,
         Err(IoFault::Memory) => Status::Memory,

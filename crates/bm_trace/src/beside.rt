@@ -12,17 +12,15 @@ ghost use Rattle.bm_trace.specs.Ranges.{HasRanges};
 ghost use Rattle.bm_trace.specs.Report as report;
 ghost use Rattle.bm_trace.specs.Running.{AreVersions};
 ghost use Rattle.bm_trace.specs.Swept.{AreCauses};
-ghost use Rattle.bm_trace.specs.Totals as totals;
 ghost use Rattle.bm_trace.specs.declared.beside.Piece.{Piece as PieceOf};
 
 use crate::document::put_end;
 use crate::endings::{Ends, ends_of_packets};
 use crate::lines::write_event;
 use crate::records::write_record;
-use crate::sums::Totals;
-use crate::swept::{CauseList, totals_of};
+use crate::swept::{CauseList, causes_of, totals_of};
 use crate::versions::{no_versions, note_version};
-use bm_base::Version;
+use bm_base::{Memory, Version};
 use bm_core::{Event, History};
 use bm_io::{IoFault, Sink, put_all};
 use std::alloc::{AllocError, Global};
@@ -337,24 +335,19 @@ pub(crate) fn put_lines<R: Threads + Sync, K: Sink>(
     put_pieces(rt, threads, &facts, out)
 }
 
-/// The totals, and the ends of each record's packet, found by two threads side by side.
-fn totals_and_ends<R: Threads + Sync>(
+/// The cause of each event and the ends of each record's packet, found side by side: the causes,
+/// which take longer, in the caller's own thread, and the ends in one that is started for them.
+fn causes_and_ends<R: Threads + Sync>(
     rt: &R,
+    alloc: Global,
     h: &History,
-    causes: &CauseList,
-) -> Result<(Totals, Vec<Ends>), AllocError>
-    requires run { IsRun h.now }
-    requires causes { AreCauses h.now causes.now }
-    ensures sums { IfOk result (λ found. found.0 ≡ totals.totals_of h.now) }
+) -> Result<(CauseList, Vec<Ends>), Memory>
+    requires { HasRanges h.now.stage }
+    ensures causes { IfOk result (λ found. AreCauses h.now found.0) }
     ensures ends { IfOk result (λ found. AreEnds h.now found.1.items) }
 {
-    let alloc = causes.allocator();
-    let (sums, ends) = thread::join(
+    let (ends, causes) = thread::join(
         rt,
-        || -> Totals
-            requires { IsRun h.now × AreCauses h.now causes.now }
-            ensures { result ≡ totals.totals_of h.entry.now }
-        { totals_of(h, causes) },
         || -> Result<Vec<Ends>, AllocError>
             ensures { IfOk result (λ table. AreEnds h.entry.now table.items) }
         {
@@ -364,28 +357,36 @@ fn totals_and_ends<R: Threads + Sync>(
                 h.events.items(),
             )
         },
+        || -> Result<CauseList, Memory>
+            requires { HasRanges h.now.stage }
+            ensures { IfOk result (λ causes. AreCauses h.entry.now causes) }
+        { causes_of(alloc, h) },
     );
-    Ok((sums, ends?))
+    Ok((causes?, ends?))
 }
 
-/// Writes the report of the history, with these causes of its events, by as many threads, of which 0
-/// count as 1. It is never held whole. Where it is refused, a first part of it was written.
+/// Writes the report of the history by as many threads, of which 0 count as 1. The causes of its
+/// events are found first, beside what the lines of the records need. The report is never held
+/// whole. Where it is refused, a first part of it was written: nothing, where memory was refused
+/// for the causes.
 #[tactic(auto, using(crate::proofs::Ranged::ranges_of))]
 pub fn report_beside<R: Threads + Sync, K: Sink>(
     rt: &R,
+    alloc: Global,
     threads: usize,
     h: &History,
-    causes: &CauseList,
     out: &mut K,
 ) -> Result<(), IoFault>
-    requires run { IsRun h.now }
-    requires causes { AreCauses h.now causes.now }
+    requires { IsRun h.now }
     ensures ok { OnOk result (Appends (K.written out.old) (K.written out.new) (report.text h.now)) }
     ensures err { OnErr result (WritesPart (K.written out.old) (K.written out.new)
         (report.text h.now)) }
     ensures cause { HasIoCause (K.faults out.old) (K.faults out.new) result }
 {
-    let (sums, ends) = totals_and_ends(rt, h, causes)?;
-    put_lines(rt, threads.max(1), h, causes, ends.as_slice(), out)?;
-    put_end(h, &sums, String::new(causes.allocator()), out)
+    let Ok((causes, ends)) = causes_and_ends(rt, alloc, h) else {
+        return Err(IoFault::Memory);
+    };
+    let sums = totals_of(h, &causes);
+    put_lines(rt, threads.max(1), h, &causes, ends.as_slice(), out)?;
+    put_end(h, &sums, String::new(alloc), out)
 }
