@@ -14,9 +14,10 @@ use Rattle.bm_core.specs.declared.events.Stage.{Stage}
 use Rattle.bm_trace.specs.declared.records.End.{End}
 use Rattle.bm_trace.specs.declared.sums.Totals.{Totals}
 use Rattle.bm_trace.specs.Ends.{words_of_ends, words_of_record}
+use Rattle.bm_trace.specs.EndTables.{with_later}
 use Rattle.bm_trace.specs.Parts.{AppendsPart, HandsOn, HandsPart, WritesPart, last_lines, lines_behind}
-use Rattle.bm_trace.specs.Report.{event_line, event_lines, ends_of, note_line, record_lines, record_words, text}
-use Rattle.bm_trace.specs.Report.{totals_line}
+use Rattle.bm_trace.specs.Report.{end_words, event_line, event_lines, ends_of, note_line, record_lines}
+use Rattle.bm_trace.specs.Report.{record_words, text, totals_line}
 use Rattle.bm_trace.specs.Totals.{totals_of}
 use Rattle.bm_trace.specs.Words.{line}
 use Rattle.bm_trace.proofs.Handing.{all_written, both_on, line_more, line_refused, lines_lost, part_after}
@@ -150,17 +151,27 @@ records_step past records i d ends below same =
     ∙ sym (records_append past 1 (take i records) (r ∷ []))
     ∙ ap (λ x. record_lines past 1 x) (sym e)
 
--- the ends of the record at a place, from the list at its place
-pub ends_there : (events shown : List Event) (i : ℕ) (table : List (List End)) (found ends : List End)
-    → i < length table
-    → words_of_ends (get_or table i []) ≡ ends_of (reverse shown) (i + 1)
-    → shown ≡ events
-    → found ≡ get_or table i found
-    → ends ≡ found
+-- the same first end and the same later ones
+pub both_same : {first kept : Option End} {later rest : List End} → first ≡ kept → later ≡ rest
+    → with_later first later ≡ with_later kept rest
+both_same {first} {kept} {later} {rest} same is =
+    ap (λ x. with_later x later) same ∙ ap (λ x. with_later kept x) is
+
+-- the ends of the record at a place, from the table
+pub ends_there : (events shown : List Event) (i : ℕ) (kept ends : List End)
+    → words_of_ends kept ≡ ends_of (reverse shown) (i + 1) → shown ≡ events → ends ≡ kept
     → words_of_ends ends ≡ ends_of (reverse events) (i + 1)
-ends_there events shown i table found ends there listed same at is =
-    let here : get_or table i [] ≡ found = grind (arith, common_steps)
-    in ap words_of_ends (is ∙ sym here) ∙ listed ∙ ap (λ x. ends_of (reverse x) (i + 1)) same
+ends_there events shown i kept ends there same is =
+    ap words_of_ends is ∙ there ∙ ap (λ x. ends_of (reverse x) (i + 1)) same
+
+-- the ends of a packet with those of one event more
+pub event_noted : (events : List Event) (i : ℕ) (d : Event) (k : ℕ) (before now : List (List ℕ)) → i < length events
+    → before ≡ ends_of (reverse (take i events)) k → now ≡ before ++ end_words (get_or events i d).what k
+    → now ≡ ends_of (reverse (take (i + 1) events)) k
+event_noted events i d k before now below was step =
+    step
+    ∙ ap (λ x. x ++ end_words (get_or events i d).what k) was
+    ∙ ap (λ past. ends_of past k) (sym (reverse_take events i d below))
 
 pub records_more : (past : List Event) (records : List Record) (i : ℕ) (d : Record) (ends : List End)
     (a b c : Option (List ℕ)) (p q r w : List ℕ) → i < length records

@@ -1,12 +1,13 @@
 -- Words behind words.
 use Rattle.std.proofs.Common.{◌≡◌, ℕ, ◌+◌, ◌-◌, ◌<◌, ◌≤◌, ◌==◌, if◌then◌else◌, true, false, inl, inr, List, [], ◌∷◌}
-use Rattle.std.proofs.Common.{◌++◌, length, take, get_or, set, refl, ap, ◌∙◌, sym, arith, append_assoc}
-use Rattle.std.specs.Prelude.{decimal}
+use Rattle.std.proofs.Common.{◌++◌, length, take, get_or, refl, subst, ap, ◌∙◌, sym, arith, append_assoc}
+use Rattle.std.specs.Prelude.{decimal, Option, Some, None}
 use Rattle.std.proofs.lemmas.Bool.{cases_eq, eq-eqb, ne_eqb}
 use Rattle.std.proofs.lemmas.List.{append-nil}
 use Rattle.std.proofs.lemmas.Grind.{common_steps}
 use Rattle.bm_trace.specs.declared.records.End.{End}
-use Rattle.bm_trace.specs.Ends.{words_of_end, words_of_ends}
+use Rattle.bm_trace.specs.Ends.{words_of_end, words_of_ends, words_of_option}
+use Rattle.bm_trace.specs.EndTables.{with_later}
 use Rattle.bm_trace.specs.Words.{line, spaced}
 
 pub spaced_append : (a b : List (List ℕ)) → spaced (a ++ b) ≡ spaced a ++ spaced b
@@ -33,25 +34,39 @@ spaced_more ends i d h =
     ∙ ap spaced (ends_push (take i ends) (get_or ends i d))
     ∙ spaced_append (words_of_ends (take i ends)) (words_of_end (get_or ends i d))
 
--- an end is put into the list of its packet
-pub end_added : (table : List (List End)) (p : ℕ) (end : End) (old new : List End) → 0 < p → p ≤ length table
-    → old ≡ get_or table (p - 1) old → new ≡ old ++ end ∷ [] → (k : ℕ) → k < length table
-    → words_of_ends (get_or (set table (p - 1) new) k []) ≡ words_of_ends (get_or table k [])
-    ++ (if p == k + 1 then words_of_end end else [])
-end_added table p end old new some few was now k below =
+-- the words of the first end, and of the later ones behind it
+ends_with : (first : Option End) (later : List End) → words_of_ends (with_later first later)
+    ≡ words_of_option first ++ words_of_ends later
+ends_with None later = refl
+ends_with (Some end) later = refl
+
+-- an end is put behind those of its packet
+pub end_added : (old new : ℕ → List End) (p : ℕ) (end : End) → 0 < p → new (p - 1) ≡ old (p - 1) ++ end ∷ []
+    → ((k : ℕ) → (p - 1 == k) ≡ false → new k ≡ old k) → (k : ℕ)
+    → words_of_ends (new k) ≡ words_of_ends (old k) ++ (if p == k + 1 then words_of_end end else [])
+end_added old new p end some here apart k =
     elim (cases_eq p (k + 1)) [
       | inl same ↦
-          let at : k ≡ p - 1 = omega arith
+          let at : p - 1 ≡ k = omega arith
           in let eq : (p == k + 1) ≡ true = eq-eqb p (k + 1) same
-          in let here : get_or (set table (p - 1) new) k [] ≡ new = grind (arith, common_steps)
-          in let there : get_or table k [] ≡ old = grind (arith, common_steps)
-          in rw eq (ap words_of_ends (here ∙ now) ∙ ends_push old end
-          ∙ ap (λ x. words_of_ends x ++ words_of_end end) (sym there))
+          in let there : new k ≡ old k ++ end ∷ [] = subst (λ x. new x ≡ old x ++ end ∷ []) at here
+          in rw eq (ap words_of_ends there ∙ ends_push (old k) end)
       | inr other ↦
           let ne : (p == k + 1) ≡ false = ne_eqb p (k + 1) other
-          in let apart : get_or (set table (p - 1) new) k [] ≡ get_or table k [] = grind (arith, common_steps)
-          in rw ne (ap words_of_ends apart ∙ sym (append-nil (words_of_ends (get_or table k []))))
+          in let off : (p - 1 == k) ≡ false = ne_eqb (p - 1) k (λ e. other (omega arith))
+          in rw ne (ap words_of_ends (apart k off) ∙ sym (append-nil (words_of_ends (old k))))
     ]
+
+-- the first end is written, and the later ones behind it
+pub wrote_both : (base between new : List ℕ) (first : Option End) (later : List End)
+    → between ≡ base ++ spaced (words_of_option first) → new ≡ between ++ spaced (words_of_ends later)
+    → new ≡ base ++ spaced (words_of_ends (with_later first later))
+wrote_both base between new first later before step =
+    step
+    ∙ ap (λ x. x ++ spaced (words_of_ends later)) before
+    ∙ append_assoc base (spaced (words_of_option first)) (spaced (words_of_ends later))
+    ∙ ap (λ x. base ++ x) (sym (spaced_append (words_of_option first) (words_of_ends later)))
+    ∙ ap (λ x. base ++ spaced x) (sym (ends_with first later))
 
 -- one end more is written
 pub wrote_more : (base written new : List ℕ) (ends : List End) (i : ℕ) (e : End) → i < length ends → get_or ends i e ≡ e

@@ -1,23 +1,24 @@
 -- The lines of a history's events and records in pieces, which are written side by side.
 use Rattle.std.specs.Prelude.{◌≡◌, ℕ, ◌+◌, ◌-◌, ◌*◌, ◌^◌, ◌<◌, ◌≤◌, List, [], ◌++◌, Option, Some}
-use Rattle.std.specs.Prelude.{false, length, take, reverse, min, slice_get, slice_index_or}
+use Rattle.std.specs.Prelude.{false, length, take, reverse, min, slice_get}
 use Rattle.std.specs.Prelude.{string_bytes}
 use Rattle.std.specs.Io.KnownBytes.{Appends}
 use Rattle.bm_core.specs.declared.events.History.{History}
 use Rattle.bm_trace.specs.Ends.{words_of_ends}
+use Rattle.bm_trace.specs.EndTables.{ends_at}
 use Rattle.bm_trace.specs.Ranges.{HasRanges}
 use Rattle.bm_trace.specs.Report.{ends_of, event_lines, record_lines}
 use Rattle.bm_trace.specs.Running.{AreVersions}
 use Rattle.bm_trace.specs.Swept.{AreCauses}
 use Rattle.bm_trace.specs.declared.beside.Facts.{Facts}
 use Rattle.bm_trace.specs.declared.beside.Piece.{Piece}
-use Rattle.bm_trace.specs.declared.records.End.{End}
+use Rattle.bm_trace.specs.declared.endings.EndTable.{EndTable}
 
 -- these are the ends of each record's packet
-pub record AreEnds (h : History) (table : List (List End)) : Type 0 where
-  pub count : length table ≡ length h.stage.capture.records
+pub record AreEnds (h : History) (table : EndTable) : Type 0 where
+  pub count : length table.firsts.items ≡ length h.stage.capture.records
   pub each : (k : ℕ) → k < length h.stage.capture.records
-      → words_of_ends (slice_index_or table k []) ≡ ends_of (reverse h.events) (k + 1)
+      → words_of_ends (ends_at table k) ≡ ends_of (reverse h.events) (k + 1)
 
 -- the causes and the ends are those of the history
 pub record AreRight (facts : Facts) : Type 0 where

@@ -15,7 +15,7 @@ ghost use Rattle.bm_trace.specs.Swept.{AreCauses};
 ghost use Rattle.bm_trace.specs.declared.beside.Piece.{Piece as PieceOf};
 
 use crate::document::put_end;
-use crate::endings::{Ends, ends_of_packets};
+use crate::endings::{EndTable, ends_of_packets};
 use crate::lines::write_event;
 use crate::records::write_record;
 use crate::swept::{CauseList, causes_of, totals_of};
@@ -36,7 +36,7 @@ pub(crate) struct Facts<'a> {
     history: &'a History,
     causes: &'a CauseList,
     /// The ends of each record's packet.
-    ends: &'a [Ends],
+    ends: &'a EndTable,
 }
 
 impl<'a> Facts<'a> {
@@ -78,7 +78,14 @@ impl<'a> Facts<'a> {
         }
         let record = place - events.len();
         let body = &self.history.stage.capture.records.items()[record].body;
-        write_record(lines, record as u32 + 1, body, self.ends[record].as_slice())?;
+        let first = self.ends.first(record);
+        write_record(
+            lines,
+            record as u32 + 1,
+            body,
+            first,
+            self.ends.later(record),
+        )?;
         Ok(())
     }
 }
@@ -315,7 +322,7 @@ pub(crate) fn put_lines<R: Threads + Sync, K: Sink>(
     threads: usize,
     h: &History,
     causes: &CauseList,
-    ends: &[Ends],
+    ends: &EndTable,
     out: &mut K,
 ) -> Result<(), IoFault>
     requires threads { 0 < threads }
@@ -341,15 +348,15 @@ fn causes_and_ends<R: Threads + Sync>(
     rt: &R,
     alloc: Global,
     h: &History,
-) -> Result<(CauseList, Vec<Ends>), Memory>
+) -> Result<(CauseList, EndTable), Memory>
     requires { HasRanges h.now.stage }
     ensures causes { IfOk result (λ found. AreCauses h.now found.0) }
-    ensures ends { IfOk result (λ found. AreEnds h.now found.1.items) }
+    ensures ends { IfOk result (λ found. AreEnds h.now found.1) }
 {
     let (ends, causes) = thread::join(
         rt,
-        || -> Result<Vec<Ends>, AllocError>
-            ensures { IfOk result (λ table. AreEnds h.entry.now table.items) }
+        || -> Result<EndTable, AllocError>
+            ensures { IfOk result (λ table. AreEnds h.entry.now table) }
         {
             ends_of_packets(
                 alloc,
@@ -387,6 +394,6 @@ pub fn report_beside<R: Threads + Sync, K: Sink>(
         return Err(IoFault::Memory);
     };
     let sums = totals_of(h, &causes);
-    put_lines(rt, threads.max(1), h, &causes, ends.as_slice(), out)?;
+    put_lines(rt, threads.max(1), h, &causes, &ends, out)?;
     put_end(h, &sums, String::new(alloc), out)
 }

@@ -87,7 +87,8 @@ fn put_records<K: Sink>(h: &History, lines: &mut String, out: &mut K) -> Result<
             lines,
             place as u32 + 1,
             &record.body,
-            ends[place].as_slice(),
+            ends.first(place),
+            ends.later(place),
         )?;
         put_full(lines, out)?;
     }

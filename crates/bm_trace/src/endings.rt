@@ -1,83 +1,151 @@
 //! The ends of each packet's copies, in the order of the events.
 ghost use Rattle.std.specs.Prelude.{◌≡◌, ℕ, ◌+◌, ◌<◌, ◌≤◌, ◌==◌, ◌∷◌, ◌++◌, [], List, length};
-ghost use Rattle.std.specs.Prelude.{reverse, OnOk, IfOk, slice_index_or, if◌then◌else◌, vec_len};
+ghost use Rattle.std.specs.Prelude.{reverse, OnOk, IfOk, false, if◌then◌else◌, vec_len};
 ghost use Rattle.bm_trace.specs.Ends.{words_of_end, words_of_ends};
+ghost use Rattle.bm_trace.specs.EndTables.{ends_at, first_at, later_at, listed_at};
 ghost use Rattle.bm_trace.specs.Report as report;
 
 use crate::records::{End, Ending, ending_of};
-use bm_core::Event;
-use smallvec::SmallVec;
+use bm_core::{Event, What};
 use std::alloc::{AllocError, Global};
-use std::marker::Model;
+use std::collections::HashMap;
 
-/// How many ends of a packet need no allocation. Four take no more room than one would.
-const INLINE: usize = 4;
+/// The first end of a packet's copies, and whether there are later ones.
+#[derive(Clone, Copy)]
+pub(crate) enum First {
+    Missing,
+    Only(End),
+    Followed(End),
+}
 
-/// The ends of one packet's copies, which contracts see as a list.
+/// The ends of each packet's copies. A packet with one end needs no allocation.
 #[derive(Drop)]
-pub(crate) struct Ends {
-    ends: SmallVec<End, INLINE>,
+pub(crate) struct EndTable {
+    firsts: Vec<First>,
+    /// The later ends of the packets that have several, by the packet's place.
+    laters: HashMap<usize, Vec<End>>,
 }
 
-impl Model for Ends {
-    ghost use Rattle.std.specs.Prelude.{List};
-    ghost use Rattle.bm_trace.specs.declared.records.End.{End};
-
-    ghost Value = { List End };
-
-    ghost view = { λ e. e.ends.items };
-}
-
-impl Ends {
-    fn new(alloc: Global) -> Ends
-        ensures { result ≡ [] }
+impl EndTable {
+    /// No end for any of so many packets.
+    fn new(alloc: Global, packets: usize) -> Result<EndTable, AllocError>
+        ensures count { IfOk result (λ table. vec_len table.firsts ≡ packets) }
+        ensures none { IfOk result (λ table. (k : ℕ) → k < packets → ends_at table k ≡ []) }
     {
-        Ends {
-            ends: SmallVec::new(alloc),
+        Ok(EndTable {
+            firsts: vec![in alloc; First::Missing; packets]?,
+            laters: HashMap::new(alloc),
+        })
+    }
+
+    /// The first end of the packet at a place.
+    pub(crate) fn first(&self, place: usize) -> Option<End>
+        requires { place < vec_len self.now.firsts }
+        ensures { result ≡ first_at self.now place }
+    {
+        match self.firsts[place] {
+            First::Missing => None,
+            First::Only(end) => Some(end),
+            First::Followed(end) => Some(end),
         }
     }
 
-    fn push(&mut self, end: End) -> Result<(), AllocError>
-        ensures { OnOk result (self.new ≡ self.old ++ end ∷ []) }
+    fn listed(&self, place: usize) -> &[End]
+        ensures { result.now ≡ listed_at self.now place }
     {
-        self.ends.push(end)?;
+        match self.laters.get(&place) {
+            Some(ends) => ends.as_slice(),
+            None => &[],
+        }
+    }
+
+    /// The ends of the packet at a place that came behind its first.
+    pub(crate) fn later(&self, place: usize) -> &[End]
+        requires { place < vec_len self.now.firsts }
+        ensures { result.now ≡ later_at self.now place }
+    {
+        match self.firsts[place] {
+            First::Missing | First::Only(_) => &[],
+            First::Followed(_) => self.listed(place),
+        }
+    }
+
+    /// Puts the second end of a packet into the map.
+    fn begin_list(&mut self, place: usize, end: End) -> Result<(), AllocError>
+        ensures firsts { OnOk result (self.new.firsts ≡ self.old.firsts) }
+        ensures here { OnOk result (listed_at self.new place ≡ end ∷ []) }
+        ensures apart { OnOk result ((k : ℕ) → (place == k) ≡ false
+            → listed_at self.new k ≡ listed_at self.old k) }
+    {
+        let mut ends = Vec::new(*self.firsts.allocator());
+        ends.push(end)?;
+        self.laters.insert(place, ends)?;
         Ok(())
     }
 
-    pub(crate) fn as_slice(&self) -> &[End]
-        ensures { result.now ≡ self.now }
+    /// Puts an end behind those of the packet in the map.
+    fn extend_list(&mut self, place: usize, end: End) -> Result<(), AllocError>
+        ensures firsts { OnOk result (self.new.firsts ≡ self.old.firsts) }
+        ensures here { OnOk result
+            (listed_at self.new place ≡ listed_at self.old place ++ end ∷ []) }
+        ensures apart { OnOk result ((k : ℕ) → (place == k) ≡ false
+            → listed_at self.new k ≡ listed_at self.old k) }
     {
-        self.ends.as_slice()
+        let mut ends = match self.laters.remove(&place) {
+            Some(ends) => ends,
+            None => Vec::new(*self.firsts.allocator()),
+        };
+        ends.push(end)?;
+        self.laters.insert(place, ends)?;
+        Ok(())
     }
-}
 
-/// No end for any of so many packets.
-fn no_ends(alloc: Global, packets: usize) -> Result<Vec<Ends>, AllocError>
-    ensures count { IfOk result (λ table. vec_len table ≡ packets) }
-    ensures none { IfOk result
-        (λ table. (k : ℕ) → k < packets → slice_index_or table.items k [] ≡ []) }
-{
-    let mut table = Vec::with_capacity(alloc, packets)?;
-    for _ in 0..packets {
-        table.push(Ends::new(alloc))?;
+    /// Puts an end behind those of the packet at a place.
+    fn push(&mut self, place: usize, end: End) -> Result<(), AllocError>
+        requires { place < vec_len self.old.firsts }
+        ensures count { OnOk result (vec_len self.new.firsts ≡ vec_len self.old.firsts) }
+        ensures here { OnOk result
+            (ends_at self.new place ≡ ends_at self.old place ++ end ∷ []) }
+        ensures apart { OnOk result ((k : ℕ) → (place == k) ≡ false
+            → ends_at self.new k ≡ ends_at self.old k) }
+    {
+        match self.firsts[place] {
+            First::Missing => self.firsts[place] = First::Only(end),
+            First::Only(first) => {
+                self.firsts[place] = First::Followed(first);
+                self.begin_list(place, end)?;
+            }
+            First::Followed(_) => self.extend_list(place, end)?,
+        }
+        Ok(())
     }
-    Ok(table)
-}
 
-/// Puts an end into its packet's list.
-fn add_ending(table: &mut Vec<Ends>, ending: Ending) -> Result<(), AllocError>
-    ensures count { OnOk result (vec_len table.new ≡ vec_len table.old) }
-    ensures added { OnOk result ((k : ℕ) → k < vec_len table.old →
-        words_of_ends (slice_index_or table.new.items k [])
-        ≡ words_of_ends (slice_index_or table.old.items k [])
-        ++ (if ending.packet == k + 1 then words_of_end ending.end else [])) }
-{
-    let packet = ending.packet as usize;
-    if 0 < packet && packet <= table.len() {
-        let ends = &mut table[packet - 1];
-        ends.push(ending.end)?;
+    /// Puts an end behind those of its packet, where that is one of the table's.
+    fn add(&mut self, ending: Ending) -> Result<(), AllocError>
+        ensures count { OnOk result (vec_len self.new.firsts ≡ vec_len self.old.firsts) }
+        ensures added { OnOk result ((k : ℕ) → k < vec_len self.old.firsts
+            → words_of_ends (ends_at self.new k) ≡ words_of_ends (ends_at self.old k)
+            ++ (if ending.packet == k + 1 then words_of_end ending.end else [])) }
+    {
+        let packet = ending.packet as usize;
+        if 0 < packet && packet <= self.firsts.len() {
+            self.push(packet - 1, ending.end)?;
+        }
+        Ok(())
     }
-    Ok(())
+
+    /// Takes note of an event, which may be the end of a copy.
+    fn note(&mut self, what: &What) -> Result<(), AllocError>
+        ensures count { OnOk result (vec_len self.new.firsts ≡ vec_len self.old.firsts) }
+        ensures noted { OnOk result ((k : ℕ) → k < vec_len self.old.firsts
+            → words_of_ends (ends_at self.new k)
+            ≡ words_of_ends (ends_at self.old k) ++ report.end_words what.now (k + 1)) }
+    {
+        if let Some(ending) = ending_of(what) {
+            self.add(ending)?;
+        }
+        Ok(())
+    }
 }
 
 /// The ends of each of so many packets.
@@ -85,18 +153,15 @@ pub(crate) fn ends_of_packets(
     alloc: Global,
     packets: usize,
     events: &[Event],
-) -> Result<Vec<Ends>, AllocError>
-    ensures count { IfOk result (λ table. vec_len table ≡ packets) }
+) -> Result<EndTable, AllocError>
+    ensures count { IfOk result (λ table. vec_len table.firsts ≡ packets) }
     ensures ends { IfOk result
         (λ table. (k : ℕ) → k < packets
-        → words_of_ends (slice_index_or table.items k [])
-        ≡ report.ends_of (reverse events.now) (k + 1)) }
+        → words_of_ends (ends_at table k) ≡ report.ends_of (reverse events.now) (k + 1)) }
 {
-    let mut table = no_ends(alloc, packets)?;
+    let mut table = EndTable::new(alloc, packets)?;
     for event in events {
-        if let Some(ending) = ending_of(&event.what) {
-            add_ending(&mut table, ending)?;
-        }
+        table.note(&event.what)?;
     }
     Ok(table)
 }

@@ -6,6 +6,7 @@ ghost use Rattle.std.specs.Prelude.{reverse, OnOk, MatchOption, codes, decimal, 
 ghost use Rattle.std.specs.Prelude.{if◌then◌else◌};
 ghost use Rattle.bm_trace.specs.Ends.{words_of_end, words_of_ends, words_of_option};
 ghost use Rattle.bm_trace.specs.Ends.{words_of_record};
+ghost use Rattle.bm_trace.specs.EndTables.{with_later};
 ghost use Rattle.bm_trace.specs.Words as words;
 ghost use Rattle.bm_trace.specs.Report as report;
 
@@ -86,15 +87,36 @@ fn write_end(line: &mut String, end: End) -> Result<(), AllocError>
     Ok(())
 }
 
-/// The ends of a packet, each word behind a space.
+/// The later ends of a packet, each word behind a space.
 #[tactic(auto, using(crate::proofs::Spacing::spaced_more))]
-fn write_ends(line: &mut String, ends: &[End]) -> Result<(), AllocError>
+fn write_later(line: &mut String, ends: &[End]) -> Result<(), AllocError>
     ensures { OnOk result
         (string_bytes line.new ≡ string_bytes line.old ++ words.spaced (words_of_ends ends.now)) }
 {
     for end in ends {
         write_end(line, *end)?;
     }
+    Ok(())
+}
+
+/// The first end of a packet, where it has one, each word behind a space.
+fn write_first(line: &mut String, first: Option<End>) -> Result<(), AllocError>
+    ensures { OnOk result
+        (string_bytes line.new ≡ string_bytes line.old ++ words.spaced (words_of_option first)) }
+{
+    match first {
+        Some(end) => write_end(line, end),
+        None => Ok(()),
+    }
+}
+
+/// The ends of a packet, each word behind a space.
+fn write_ends(line: &mut String, first: Option<End>, later: &[End]) -> Result<(), AllocError>
+    ensures { OnOk result (string_bytes line.new
+        ≡ string_bytes line.old ++ words.spaced (words_of_ends (with_later first later.now))) }
+{
+    write_first(line, first)?;
+    write_later(line, later)?;
     Ok(())
 }
 
@@ -108,21 +130,22 @@ fn write_reason(line: &mut String, reason: Reason) -> Result<(), AllocError>
     Ok(())
 }
 
-/// The line of a record.
+/// The line of a record, whose packet has this first end and these later ones.
 pub(crate) fn write_record(
     line: &mut String,
     number: u32,
     body: &Body,
-    ends: &[End],
+    first: Option<End>,
+    later: &[End],
 ) -> Result<(), AllocError>
     ensures { OnOk result
-        (string_bytes line.new ≡ string_bytes line.old
-        ++ words.line (codes "packet") (decimal number ∷ words_of_record body.now ends.now)) }
+        (string_bytes line.new ≡ string_bytes line.old ++ words.line (codes "packet")
+        (decimal number ∷ words_of_record body.now (with_later first later.now))) }
 {
     push_named(line, "packet ", u64::from(number))?;
     match body {
         Body::Unsteered(reason) => write_reason(line, *reason)?,
-        Body::Steerable(_) => write_ends(line, ends)?,
+        Body::Steerable(_) => write_ends(line, first, later)?,
     }
     line.push('\n')?;
     Ok(())

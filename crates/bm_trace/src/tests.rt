@@ -197,9 +197,7 @@ fn report_beside<R: Abort + Threads + std::marker::Sync>(
     let causes = causes_of(alloc, h)?;
     let records = h.stage.capture.records.items().len();
     let ends = ends_of_packets(alloc, records, h.events.items())?;
-    beside::put_lines(rt, threads, h, &causes, ends.as_slice(), &mut out).map_err(
-        |_| "the sink failed",
-    )?;
+    beside::put_lines(rt, threads, h, &causes, &ends, &mut out).map_err(|_| "the sink failed")?;
     put_end(h, &totals(h), String::new(alloc), &mut out).map_err(|_| "the sink failed")?;
     Ok(out)
 }

@@ -1,9 +1,8 @@
-use Rattle.std.proofs.Common.{◌<◌, length, arith, rules, string_bytes}
-use Rattle.bm_trace.proofs.Spacing.{wrote_more}
+use Rattle.std.proofs.Common.{string_bytes}
+use Rattle.bm_trace.proofs.Spacing.{wrote_both}
 use Rattle.bm_trace.proofs.records.write_ends.Goals as goal
 
-pub loop-end-preserved : goal.loop-end-preserved
-loop-end-preserved c =
-    let below : c.loop-end.end-index < length c.args.ends.now = omega arith
-    in wrote_more (string_bytes c.args.line.now) _ _ c.args.ends.now c.loop-end.end-index _ below (search rules)
-    c.loop-end.invariant c.in_ok-write_end.ensures
+pub returns : goal.returns
+returns c =
+    wrote_both (string_bytes c.args.line.now) _ _ c.args.first c.args.later.now c.in_ok-write_first.ensures
+    c.in_ok-write_later.ensures

@@ -1,7 +1,7 @@
 use Rattle.std.proofs.Common.{◌≡◌, ◌++◌, take, string_bytes}
 use Rattle.bm_trace.specs.Words as words
 use Rattle.bm_trace.specs.Ends.{words_of_ends}
-use Rattle.bm_trace.proofs.records.write_ends.Given as goal
+use Rattle.bm_trace.proofs.records.write_later.Given as goal
 
 abbrev pub invariant-loop-end : goal.invariant-loop-end
 invariant-loop-end l =
