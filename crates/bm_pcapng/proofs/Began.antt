@@ -81,12 +81,14 @@ block_passed place n Nothing = refl
 pub began_more : (now new : Option (List ℕ)) (order : Order) (interfaces : List Interface) (place : Place) (n : ℕ)
     (content : Content) (passed : List ℕ) (time : Option ℕ) → BeganAt now order interfaces place time
     → BlockGives now new order interfaces place (Ok (Block n content)) passed → place.block ≤ most_octets
-    → BeganAt new (order_behind order content) (interfaces_behind interfaces content) (place_behind place n content) time
+    → BeganAt new (order_behind order content) (interfaces_behind interfaces content) (place_behind place n content)
+    time
 began_more now new order interfaces place n content passed time begins gives few =
     let t = subst (λ m. BlockGives m new order interfaces place (Ok (Block n content)) passed) begins.1.0 gives in
     let behind : Place = place_behind place n content in
     let others : ℕ → Option ℕ =
-    λ most. time_from most (order_behind order content) (interfaces_behind interfaces content) behind (drop n begins.0) in
+    λ most. time_from most (order_behind order content) (interfaces_behind interfaces content) behind
+    (drop n begins.0) in
     let found : time_from (most_left place) order interfaces place begins.0
     ≡ first_of (time_in content) (others (most_octets + 1 - (place.block + 1))) =
     one_time order interfaces place begins.0 few

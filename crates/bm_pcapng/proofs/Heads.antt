@@ -189,9 +189,10 @@ states_given None left order interfaces place ahead kind result is long wide kee
 states_given (Some octets) left order interfaces place ahead kind result is long wide keeps said =
     head_says order interfaces place ahead octets kind result is long wide (held_begins octets ahead left keeps) said
 
-states_in : (order : Order) (interfaces : List Interface) (place : Place) (ahead : List ℕ) (result : Result Head NgFault)
-    → ((octets : List ℕ) → Begins ahead octets → HeadSays (next_of order interfaces place octets) interfaces place octets
-    result)
+states_in : (order : Order) (interfaces : List Interface) (place : Place) (ahead : List ℕ)
+    (result : Result Head NgFault)
+    → ((octets : List ℕ) → Begins ahead octets → HeadSays (next_of order interfaces place octets) interfaces place
+    octets result)
     → IfOk result (HeadIn order interfaces place ahead)
 states_in order interfaces place ahead (Ok head.End) h = tt
 states_in order interfaces place ahead (Ok head.Cut) h = tt

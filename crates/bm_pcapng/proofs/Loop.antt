@@ -54,8 +54,8 @@ starts now order interfaces vips place octets stands is none =
     ))
 
 -- one step of the definition, whatever comes behind it
-pub any_step : (vips : List Vip) (most : ℕ) (order : Order) (interfaces : List Interface) (place : Place) (left : List ℕ)
-    → (others : Order → List Interface → Place → List ℕ → Captured)
+pub any_step : (vips : List Vip) (most : ℕ) (order : Order) (interfaces : List Interface) (place : Place)
+    (left : List ℕ) → (others : Order → List Interface → Place → List ℕ → Captured)
     × (records_from vips most order interfaces place left
     ≡ after_found vips others order interfaces place left (next_of order interfaces place left))
 unfolding records_from
@@ -97,8 +97,8 @@ at_last left order interfaces vips total place records packets result answer all
     ap (with_front records packets)
     (sym (last s.0) ∙ ap (after_found vips s.0 order interfaces place left) (sym found) ∙ sym s.1) ∙ all
 
-pub at_cut : (now new : Option (List ℕ)) (order : Order) (interfaces : List Interface) (vips : List Vip) (total : Captured)
-    (place : Place) (records : List Record) (packets : List (List ℕ)) (passed : List ℕ)
+pub at_cut : (now new : Option (List ℕ)) (order : Order) (interfaces : List Interface) (vips : List Vip)
+    (total : Captured) (place : Place) (records : List Record) (packets : List (List ℕ)) (passed : List ℕ)
     → SoFar now order interfaces vips total place records packets
     → BlockGives now new order interfaces place (Ok Cut) passed
     → Ok (record { records = records; cut = Some place.number }, packets) ≡ total
@@ -108,8 +108,8 @@ at_cut now new order interfaces vips total place records packets passed so_far g
     ∙ at_last t.0 order interfaces vips total place records packets (Ok Cut) (ends (Some place.number)) t.1.0 t.1.1.0
     (λ _. refl)
 
-pub at_end : (now new : Option (List ℕ)) (order : Order) (interfaces : List Interface) (vips : List Vip) (total : Captured)
-    (place : Place) (records : List Record) (packets : List (List ℕ)) (passed : List ℕ)
+pub at_end : (now new : Option (List ℕ)) (order : Order) (interfaces : List Interface) (vips : List Vip)
+    (total : Captured) (place : Place) (records : List Record) (packets : List (List ℕ)) (passed : List ℕ)
     → SoFar now order interfaces vips total place records packets
     → BlockGives now new order interfaces place (Ok End) passed
     → Ok (record { records = records; cut = None }, packets) ≡ total
@@ -170,8 +170,8 @@ pub goes_on : (now new : Option (List ℕ)) (order : Order) (interfaces : List I
     → moment ≡ moment_at place packet.time → (body, part) ≡ classified_by packet.link vips octets
     → SoFar new order interfaces vips total (place_behind place n (Holds packet))
     (records ++ record { moment = moment; body = body } ∷ []) (packets ++ part ∷ [])
-goes_on now new order interfaces vips total place records packets n packet octets passed moment body part so_far gives few
-    within is is_moment class =
+goes_on now new order interfaces vips total place records packets n packet octets passed moment body part so_far gives
+    few within is is_moment class =
     let t = told now new order interfaces vips total place records packets (Ok (Block n (Holds packet))) passed so_far
     gives in
     let own : octets ≡ packet_octets packet t.0 =
@@ -184,7 +184,8 @@ goes_on now new order interfaces vips total place records packets n packet octet
     let added : with_record (record { moment = moment; body = body }) part rest
     ≡ after_found vips (records_from vips (most_octets + 1 - (place.block + 1))) order interfaces place t.0
     (Ok (Block n (Holds packet))) =
-    ap₂ (λ (m : Moment) (c : Body × List ℕ). with_record (record { moment = m; body = c.0 }) c.1 rest) is_moment same in (
+    ap₂ (λ (m : Moment) (c : Body × List ℕ). with_record (record { moment = m; body = c.0 }) c.1 rest) is_moment same
+    in (
       drop n t.0,
       (
         t.1.1.2,

@@ -46,7 +46,8 @@ ahead_told : (octets : List ℕ) (mid : Option (List ℕ)) (most m : ℕ) (ahead
 ahead_told octets mid most m ahead keeps there =
     let A : Option (List ℕ) → Type 0 = λ o. Ahead o most m ahead in subst A (known octets mid keeps) there
 
-gives_of : (octets : List ℕ) (order : Order) (interfaces : List Interface) (place : Place) (result : Result Step NgFault)
+gives_of : (octets : List ℕ) (order : Order) (interfaces : List Interface) (place : Place)
+    (result : Result Step NgFault)
     → next_of order interfaces place octets ≡ result → StepGives (Some octets) order interfaces place result
 gives_of octets order interfaces place (Ok found) is = is
 gives_of octets order interfaces place (Err fault.NotACapture) is = is
@@ -83,7 +84,8 @@ pub body_cut : (old mid : Option (List ℕ)) (order : Order) (interfaces : List 
     → HeadGives old order interfaces place (Ok said) → Keeps old mid → Ahead mid most m ahead
     → most ≡ min n (place.room + 1) → m ≤ place.room → m < n → StepGives old order interfaces place (Ok step.Cut)
 body_cut None mid order interfaces place said kind own n most m ahead is gives keeps there is_most within less = tt
-body_cut (Some octets) mid order interfaces place said kind own n most m ahead is gives keeps there is_most within less =
+body_cut (Some octets) mid order interfaces place said kind own n most m ahead is gives keeps there is_most within
+    less =
     let b = body_told octets mid order interfaces place said kind own n most m ahead is gives keeps there in
     let all : m ≡ length octets = omega (arith, b.1, is_most, within, less) in
     b.0 ∙ part kind own interfaces place n octets (omega (arith, all, less))
@@ -129,17 +131,17 @@ own_octets n before ahead long =
     ap (λ m. drop m (before ++ take n ahead)) at ∙ drop_at before (take n ahead) (length before) refl
 
 -- a block that is skipped was answered
-pub block_step : (old left after : Option (List ℕ)) (order : Order) (interfaces : List Interface) (place : Place) (n : ℕ)
-    (content : Content) (ahead before passed behind : List ℕ) (found : Step) → found ≡ step.Block n content
+pub block_step : (old left after : Option (List ℕ)) (order : Order) (interfaces : List Interface) (place : Place)
+    (n : ℕ) (content : Content) (ahead before passed behind : List ℕ) (found : Step) → found ≡ step.Block n content
     → StepGives old order interfaces place (Ok found) → Keeps old (prepend_known ahead left) → n ≤ length ahead
     → behind ≡ drop n ahead → passed ≡ before ++ take n ahead → after ≡ left
     → BlockGives old (prepend_known behind after) order interfaces place (Ok found) passed
-block_step None left after order interfaces place n content ahead before passed behind found is gives keeps long rest gone
-    source = tt
-block_step (Some octets) None after order interfaces place n content ahead before passed behind found is gives keeps long
-    rest gone source = absurd keeps
-block_step (Some octets) (Some ys) after order interfaces place n content ahead before passed behind found is gives keeps
-    long rest gone source =
+block_step None left after order interfaces place n content ahead before passed behind found is gives keeps long rest
+    gone source = tt
+block_step (Some octets) None after order interfaces place n content ahead before passed behind found is gives keeps
+    long rest gone source = absurd keeps
+block_step (Some octets) (Some ys) after order interfaces place n content ahead before passed behind found is gives
+    keeps long rest gone source =
     let P : Step → Type 0 = λ f. BlockGives (Some octets) (prepend_known behind after) order interfaces place (Ok f)
     passed in
     let front : take n ahead ≡ take n octets =

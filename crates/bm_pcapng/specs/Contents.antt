@@ -22,8 +22,8 @@ abbrev pub section_content : Order → List ℕ → Result Content NgFault
 section_content order block =
     if number_at order 2 12 block == 1 then Ok (Begins order) else Err BadVersion
 
--- "Interface Description Block": the link type at octet 8, the snapshot length at 12, options from 16
--- to the second total length
+-- "Interface Description Block": the link type at octet 8, the snapshot length at 12, options from
+-- 16 to the second total length
 abbrev pub options_of : List ℕ → List ℕ
 options_of block = slice_range block 16 (length block - 4)
 
@@ -39,8 +39,8 @@ interface_content order interfaces place block =
     if nat_lt (length interfaces) most_interfaces then Ok (Describes (interface_of order block))
     else Err (BadBlock place.block)
 
--- "Enhanced Packet Block": the interface at octet 8, the time at 12 (high half) and 16 (low half), the
--- captured length at 20, the packet from 28
+-- "Enhanced Packet Block": the interface at octet 8, the time at 12 (high half) and 16 (low half),
+-- the captured length at 20, the packet from 28
 abbrev pub time_of : Order → Interface → List ℕ → ℕ
 time_of order interface block =
     nanoseconds interface.resolution
@@ -71,8 +71,8 @@ enhanced_content order interfaces place block =
     (slice_get interfaces (number_at order 4 8 block))
     (λ interface. Some (time_of order interface block))
 
--- "Simple Packet Block": the original length at octet 8, the packet from 12. It is of interface 0, and
--- what was captured is cut at that interface's snapshot length, where 0 is no limit.
+-- "Simple Packet Block": the original length at octet 8, the packet from 12. It is of interface 0,
+-- and what was captured is cut at that interface's snapshot length, where 0 is no limit.
 abbrev pub captured_of : Option Interface → ℕ → ℕ
 captured_of None original = original
 captured_of (Some interface) original =

@@ -28,15 +28,16 @@ use Rattle.bm_pcapng.specs.Limits.{longest_block, most_interfaces}
 abbrev pub Begins : List ℕ → List ℕ → Type 0
 Begins ahead octets = take (length ahead) octets ≡ ahead
 
--- The order that was read is the one that a capture's first octets tell. A failed read says nothing.
+-- The order that was read is the one that a capture's first octets tell. A failed read says
+-- nothing.
 abbrev pub OrderGives : Option (List ℕ) → Result Order NgFault → Type 0
 OrderGives None result = Unit {0}
 OrderGives (Some octets) (Ok order) = first_order octets ≡ Some order
 OrderGives (Some octets) (Err NotACapture) = first_order octets ≡ None
 OrderGives (Some octets) (Err e) = Unit {0}
 
--- Where a head states a kind, an order and a total length, the definition asks what stands behind it;
--- elsewhere the head decides. A failed read says nothing.
+-- Where a head states a kind, an order and a total length, the definition asks what stands behind
+-- it; elsewhere the head decides. A failed read says nothing.
 abbrev pub HeadSays : Result Step NgFault → List Interface → Place → List ℕ → Result Head NgFault
     → Type 0
 HeadSays found interfaces place octets (Ok head.End) = found ≡ Ok step.End
@@ -164,9 +165,9 @@ abbrev pub IsLast : List ℕ → Step → Type 0
 IsLast passed (step.Block n said) = n ≤ length passed
 IsLast passed other = Unit {0}
 
--- What was answered is what stands next, a block is the last that was answered, and what is behind it
--- is still to come. Of a failed read no more is said than that nothing is lost, and nothing where
--- the source doesn't tell its octets.
+-- What was answered is what stands next, a block is the last that was answered, and what is behind
+-- it is still to come. Of a failed read no more is said than that nothing is lost, and nothing
+-- where the source doesn't tell its octets.
 abbrev pub BlockGives : Option (List ℕ) → Option (List ℕ) → Order → List Interface → Place
     → Result Step NgFault → List ℕ → Type 0
 BlockGives None new order interfaces place result passed = Unit {0}

@@ -150,7 +150,8 @@ IsPassedOver (Holds packet) = ⊥
 IsPassedOver other = Unit {0}
 
 -- One reader comes to be the other by passing over blocks without a packet.
-pub data Passes {S : Type 0} (left : S → Option (List ℕ)) (faults : S → ℕ) (from : Reader S) : Reader S → Type 0 where
+pub data Passes {S : Type 0} (left : S → Option (List ℕ)) (faults : S → ℕ) (from : Reader S)
+    : Reader S → Type 0 where
   here : Passes left faults from from
   over : (mid new : Reader S) (n : ℕ) (content : Content) → Passes left faults from mid
       → IsPassedOver content → Advances left faults mid new (Ok (Block n content))

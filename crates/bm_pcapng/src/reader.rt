@@ -25,8 +25,8 @@ use bm_pcap::Window;
 use std::alloc::Global;
 use std::marker::Model;
 
-/// Reads a capture block by block, over any source. It reads ahead, and at most 16,777,216 octets of
-/// what was read are not answered yet.
+/// Reads a capture block by block, over any source. It reads ahead, and at most 16,777,216 octets
+/// of what was read are not answered yet.
 #[derive(Drop)]
 pub struct NgReader<S> {
     window: Window<S>,
@@ -115,8 +115,8 @@ impl<S: Source> NgReader<S> {
         window.into_source()
     }
 
-    /// Reads the next block. After a fault, a block that is cut short or the end it answers the same
-    /// again.
+    /// Reads the next block. After a fault, a block that is cut short or the end it answers the
+    /// same again.
     fn advance(&mut self) -> Result<Step, NgFault>
         ensures advances { Advances S.left S.faults self.old self.new result }
         ensures last { IfOk result (IsLast self.new.passed) }
@@ -209,9 +209,9 @@ fn open<S: Source>(alloc: Global, window: &mut Window<S>) -> Result<Section, NgF
 
 /// Reads the records of a capture, classified for these services, and the packet of each. The
 /// reader is one whose `next` was not called yet. Afterwards it answers the end, the cut or the
-/// fault again, unless memory was refused, and knows when the capture began. A fault is the first in
-/// order of place; `ReadFault` where the source failed, and `Memory` where memory was refused, may
-/// come at any place.
+/// fault again, unless memory was refused, and knows when the capture began. A fault is the first
+/// in order of place; `ReadFault` where the source failed, and `Memory` where memory was refused,
+/// may come at any place.
 pub fn read_ng<S: Source>(
     alloc: Global,
     r: &mut NgReader<S>,

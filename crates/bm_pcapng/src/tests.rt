@@ -44,9 +44,9 @@ const NANO: [u8; 216] = [
     0, 0x61, 0x62, 0x63, 0x64, 0x65, 0x66, 0x67, 0x68, 0x69, 0x6a, 0, 0, 0x54, 0, 0, 0,
 ];
 
-// A section of little order with interfaces of Ethernet in units of 2^-10 s, raw IP in nanoseconds, and
-// a link type that isn't read; a comment, names, an obsolete packet and statistics between. Then one of
-// big order, with a simple packet that is cut at the snapshot length.
+// A section of little order with interfaces of Ethernet in units of 2^-10 s, raw IP in nanoseconds,
+// and a link type that isn't read; a comment, names, an obsolete packet and statistics between.
+// Then one of big order, with a simple packet that is cut at the snapshot length.
 const MIXED: [u8; 684] = [
     0x0a, 0x0d, 0x0d, 0x0a, 0x30, 0, 0, 0, 0x4d, 0x3c, 0x2b, 0x1a, 1, 0, 0, 0, 0xff, 0xff, 0xff,
     0xff, 0xff, 0xff, 0xff, 0xff, 1, 0, 0x0c, 0, 0x74, 0x77, 0x6f, 0x20, 0x73, 0x65, 0x63, 0x74,

@@ -23,7 +23,8 @@ impl Resolution {
 
     /// How many units a second has, where that is below 2^128.
     fn per_second(self) -> Option<u128>
-        ensures { MatchOption result (2 ^ 128 ≤ per_second self) (λ count. count ≡ per_second self) }
+        ensures { MatchOption result (2 ^ 128 ≤ per_second self)
+            (λ count. count ≡ per_second self) }
     {
         match self {
             Resolution::Decimal(exponent) => 10u128.checked_pow(u32::from(exponent)),

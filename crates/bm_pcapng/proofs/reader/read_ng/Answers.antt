@@ -76,7 +76,8 @@ loop-packets-preserved-in_default g c =
     let last = ap (λ (p : Place). p.last.0) f.2.3 ∙ ap (λ (m : Moment). m.0) same.1 in
     let block = ap (λ (p : Place). p.block) f.2.3 ∙ at.0 in
     let room = ap (λ (p : Place). p.room) f.2.3 ∙ at.1 in
-    let few : c.loop-packets.r.place.block ≤ most_octets = omega (arith, c.loop-packets.invariant.room, f.2.0.0, f.2.0.2) in
+    let few : c.loop-packets.r.place.block ≤ most_octets =
+    omega (arith, c.loop-packets.invariant.room, f.2.0.0, f.2.0.2) in
     record {
       so_far = λ octets stands. rw (f.2.1, f.2.2, f.2.3)
           (passes_over _ _ c.loop-packets.r.order c.loop-packets.r.interfaces c.args.vips.now _ c.loop-packets.r.place
@@ -178,14 +179,15 @@ loop-packets-preserved g c =
     let now = ap (λ (m : Moment). m.0) moment in
     let high = moment_early c.loop-packets.r.place packet.time c.loop-packets.invariant.early in
     let low = moment_late c.loop-packets.r.place packet.time in
-    let few : c.loop-packets.r.place.block ≤ most_octets = omega (arith, c.loop-packets.invariant.room, f.2.0.0, f.2.0.2) in
+    let few : c.loop-packets.r.place.block ≤ most_octets =
+    omega (arith, c.loop-packets.invariant.room, f.2.0.0, f.2.0.2) in
     record {
       so_far = λ octets stands. rw
           (c.in_ok-push.ensures.items, c.in_ok-push-2.ensures.ok, f.2.1, f.2.2, place)
           (goes_on _ _ c.loop-packets.r.order c.loop-packets.r.interfaces c.args.vips.now _ c.loop-packets.r.place
           c.loop-packets.records.items c.loop-packets.packets n packet c.octets.result.now _ c.r.inside.place.last
-          c.classify_by-body.result.0 c.classify_by-body.result.1.now (c.loop-packets.invariant.so_far octets stands) f.0
-          few f.2.0.4.1 c.octets.ensures.octets moment c.classify_by-body.ensures.class);
+          c.classify_by-body.result.0 c.classify_by-body.result.1.now (c.loop-packets.invariant.so_far octets stands)
+          f.0 few f.2.0.4.1 c.octets.ensures.octets moment c.classify_by-body.ensures.class);
       began = λ octets stands. rw (f.2.1, f.2.2, place)
           (began_more _ _ c.loop-packets.r.order c.loop-packets.r.interfaces c.loop-packets.r.place n (Holds packet) _ _
           (c.loop-packets.invariant.began octets stands) f.0 few);

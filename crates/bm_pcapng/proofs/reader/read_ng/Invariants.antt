@@ -17,7 +17,8 @@ invariant-loop-packets g l = record {
       → SoFar (to_come g.S.Source.left l.r) l.r.order l.r.interfaces l.vips (capture l.vips octets) l.r.place
       l.records.items l.packets;
   began : (octets : List ℕ) → StandsIn (to_come g.S.Source.left l.fn.r) l.fn.r.order octets
-      → BeganAt (to_come g.S.Source.left l.r) l.r.order l.r.interfaces l.r.place (first_time octets (first_order octets));
+      → BeganAt (to_come g.S.Source.left l.r) l.r.order l.r.interfaces l.r.place
+      (first_time octets (first_order octets));
   count : length l.packets + 1 ≡ l.r.place.number;
   few : l.r.place.number ≤ most_records + 1;
   room : l.r.place.block + l.r.place.room ≤ most_octets + 1;

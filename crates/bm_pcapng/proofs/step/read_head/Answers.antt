@@ -9,8 +9,8 @@ use Rattle.bm_pcapng.proofs.step.read_head.Goals as goal
 
 pub returns-in_err-count-clause-open : goal.returns-in_err-count-clause-open
 returns-in_err-count-clause-open g c why =
-    open_head c.args.section.now.order c.args.section.now.interfaces.items c.args.place.now 8 _ _ (eight _) c.min.ensures
-    c.in_err-count.ensures.short
+    open_head c.args.section.now.order c.args.section.now.interfaces.items c.args.place.now 8 _ _ (eight _)
+    c.min.ensures c.in_err-count.ensures.short
 
 pub returns-then-count-eq0-clause-gives : goal.returns-then-count-eq0-clause-gives
 returns-then-count-eq0-clause-gives g c =
@@ -66,8 +66,8 @@ returns-clause-gives g c =
     (c.states.ensures.stated
     ∙ ap (λ n. stated c.at-kind.result c.args.section.now.order c.args.place.now (take n c.held-2.result.now))
     c.head_size-most.ensures
-    ∙ ap (λ xs. stated c.at-kind.result c.args.section.now.order c.args.place.now (take (head_size c.at-kind.result) xs))
-    c.held-2.ensures)
+    ∙ ap (λ xs. stated c.at-kind.result c.args.section.now.order c.args.place.now
+    (take (head_size c.at-kind.result) xs)) c.held-2.ensures)
 
 pub returns-clause-held : goal.returns-clause-held
 returns-clause-held g c =
@@ -84,5 +84,5 @@ returns-clause-held g c =
     (c.states.ensures.stated
     ∙ ap (λ n. stated c.at-kind.result c.args.section.now.order c.args.place.now (take n c.held-2.result.now))
     c.head_size-most.ensures
-    ∙ ap (λ xs. stated c.at-kind.result c.args.section.now.order c.args.place.now (take (head_size c.at-kind.result) xs))
-    c.held-2.ensures)
+    ∙ ap (λ xs. stated c.at-kind.result c.args.section.now.order c.args.place.now
+    (take (head_size c.at-kind.result) xs)) c.held-2.ensures)
