@@ -1,5 +1,5 @@
--- Logs whose clocks don't fall, and the events that come next in them. What is below `in_order` only
--- the proofs of bodies use.
+-- Logs whose clocks don't fall, and the events that come next in them. What is below `in_order`
+-- only the proofs of bodies use.
 use Rattle.std.specs.Prelude.{◌≡◌, ◌≤◌, ◌<◌, ℕ, List, [], ◌∷◌, ◌++◌, length, map, drop, reverse}
 use Rattle.std.specs.Prelude.{slice_get, slice_index_or, Option, Some, None}
 use Rattle.std.specs.List.{AllByRecursion}
@@ -45,7 +45,7 @@ IsNextOf logs log place None = drop place (slice_index_or logs log []) ≡ []
 -- the head at this place has the least clock, and is the first of those with it
 pub record IsEarliest (heads : List Head) (at : ℕ) : Type 0 where
   pub there : at < length heads
-  pub before : (i : ℕ) (h e : Head) → i < at → slice_get heads i ≡ Some h → slice_get heads at ≡ Some e
-      → e.event.clock.0 < h.event.clock.0
-  pub behind : (i : ℕ) (h e : Head) → at ≤ i → slice_get heads i ≡ Some h → slice_get heads at ≡ Some e
-      → e.event.clock.0 ≤ h.event.clock.0
+  pub before : (i : ℕ) (h e : Head) → i < at → slice_get heads i ≡ Some h
+      → slice_get heads at ≡ Some e → e.event.clock.0 < h.event.clock.0
+  pub behind : (i : ℕ) (h e : Head) → at ≤ i → slice_get heads i ≡ Some h
+      → slice_get heads at ≡ Some e → e.event.clock.0 ≤ h.event.clock.0

@@ -23,8 +23,8 @@ loop-log-preserved g c =
           ap (λ (v : Vec Head Global). v.items) w.heads-is ∙ w.in_ok-push.ensures.items in
           record {
             within = omega arith;
-            standing = more_stand logs was c.match-head_at.heads.items w.in-Some.head at c.requires lt inv.standing items
-                w.in-Some.ensures;
+            standing = more_stand logs was c.match-head_at.heads.items w.in-Some.head at c.requires lt inv.standing
+                items w.in-Some.ensures;
             all = more_left logs was c.match-head_at.heads.items w.in-Some.head at lt inv.all items w.in-Some.ensures
                 ∙ ap (λ (n : ℕ). joined (take n logs)) (sym next);
           }
@@ -33,7 +33,8 @@ loop-log-preserved g c =
           record {
             within = omega arith;
             standing = subst (λ (l : List Head). AreStanding logs l) (sym items) inv.standing;
-            all = ap (λ (l : List Head). joined (lefts logs l)) items ∙ none_left logs was at lt inv.all w.in_default.ensures
+            all = ap (λ (l : List Head). joined (lefts logs l)) items
+                ∙ none_left logs was at lt inv.all w.in_default.ensures
                 ∙ ap (λ (n : ℕ). joined (take n logs)) (sym next);
           }
     ]
