@@ -164,7 +164,8 @@ begun_step F stage servers stint mid ready begun seen_it =
           (rest ++ past) e.clock.0 e.what) l)
           (sym log)
           ((look, (last_post seen, last_posted seen, (omega (arith, own)))), tt);
-      hears = steerings_heard stage servers m (n ∷ []) stint.start.porter.seats mid.porter.seats seen_it.seats (refl, tt);
+      hears = steerings_heard stage servers m (n ∷ []) stint.start.porter.seats mid.porter.seats seen_it.seats
+          (refl, tt);
       copies = λ are. subst (λ (l : List (List Seated)). AreCopies stage m servers (reverse mid.mux.log) l)
           (sym seen_it.seats)
           (copies_as stage servers m past (reverse mid.mux.log) stint.start.porter.seats
@@ -222,8 +223,8 @@ routed : (stage : Stage) (stint : Stint) (what : What) → carries (mux_of stint
 routed stage stint (Steer k x) mine turn = of_segment (segment_of stage k) where
   here : mux_at stint.routes k ≡ Some x.0
   here =
-      let is : is_mux (mux_at stint.routes k) (mux_of stint).0 ≡ true = (and_parts (ltb stint.from k && leb k stint.until)
-      (is_mux (mux_at stint.routes k) (mux_of stint).0) turn).1 in
+      let is : is_mux (mux_at stint.routes k) (mux_of stint).0 ≡ true =
+      (and_parts (ltb stint.from k && leb k stint.until) (is_mux (mux_at stint.routes k) (mux_of stint).0) turn).1 in
       let same : x.0 ≡ (mux_of stint).0 = Rattle.std.proofs.lemmas.Bool.eqb-true x.0 (mux_of stint).0 mine in
       turn_of (mux_of stint).0 (mux_at stint.routes k) is ∙ ap (λ (j : ℕ). Some j) (sym same)
 

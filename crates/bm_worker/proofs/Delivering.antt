@@ -160,8 +160,8 @@ delivered_none F stage servers sents fates w =
     λ stint deeds low kept owed first. ([], kept, omega arith, tt, pays_for_none, tt)
 
 -- the worker's count of steps is no part of the record
-pub kept_steps : (F : Rules) (stage : Stage) (servers : List Serving) (stint : Stint) (now next : MuxWorker) (d : List Note)
-    → next.mux ≡ now.mux → next.porter ≡ now.porter → Kept F stage servers stint now d
+pub kept_steps : (F : Rules) (stage : Stage) (servers : List Serving) (stint : Stint) (now next : MuxWorker)
+    (d : List Note) → next.mux ≡ now.mux → next.porter ≡ now.porter → Kept F stage servers stint now d
     → Kept F stage servers stint next d
 kept_steps F stage servers stint now next d mux porter kept =
     kept_stays F stage servers stint now next d mux (λ s h. ap (λ (p : Porting). told_there p.seats s h) porter)

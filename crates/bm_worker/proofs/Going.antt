@@ -219,7 +219,8 @@ delivered_in : (F : Rules) (stage : Stage) (servers : List Serving) (stint : Sti
     (clock_of_batch now mid (mux_of stint)) (i ∷ items)) fates) y
     × AllByRecursion (λ n. IsUpTo (last_packet low (i ∷ items)) n.event.what) y)
     (λ stop. IsStopOf (y ++ with_batch now mid (mux_of stint) (i ∷ items) fates d) stop)
-delivered_in F stage servers stint now mid next d low end i items fates sents r done got until steered seen_it delivers =
+delivered_in F stage servers stint now mid next d low end i items fates sents r done got until steered seen_it
+    delivers =
     let m = mux_of stint in let past = reverse now.mux.log in let seen = mid.mux.seen in
     let all = i ∷ items in
     let c = steering_clock (switches m seen past ++ past) in
@@ -309,8 +310,8 @@ done_in F stage servers stint now mid next d low end most i items fates sents do
         from = let a = done.from in omega (arith, a, le);
         kept = o.1;
         settled = batch_settled m seen past s d y kinds o.4.0 done.settled;
-        steered = λ k. batch_steered F stint.routes m seen past stint.from low end all fates y d k got.drawn done.from le
-            (got.turns k) (done.steered k) o.3;
+        steered = λ k. batch_steered F stint.routes m seen past stint.from low end all fates y d k got.drawn done.from
+            le (got.turns k) (done.steered k) o.3;
         looked =
             let a = done.looked in
             let b = more_many (λ n. is_switch_of n.event.what m.0) x d in

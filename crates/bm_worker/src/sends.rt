@@ -87,8 +87,10 @@ impl MuxWorker {
         ensures same { IsSameWorker self.old self.new }
         ensures grows { GrowsByLosses 1 self.old.mux.log self.new.mux.log }
         ensures tries { self.new.porter.tries ≤ self.old.porter.tries + 3 }
-        ensures carries { let d = debt sending.now.packet Chained sending.now.clock.0 sending.now.fate in
-            Carries (Gives F.Fn shared.now.faults.now.rule) shared.now.stage.now shared.now.servers.now d 3 self.old self.new result }
+        ensures carries { let d = debt sending.now.packet Chained sending.now.clock.0
+            sending.now.fate in
+            Carries (Gives F.Fn shared.now.faults.now.rule) shared.now.stage.now
+            shared.now.servers.now d 3 self.old self.new result }
     {
         let due = due_of(sending.clock, sending.fate)?;
         if sending.fate.copies == 0 {
@@ -129,7 +131,8 @@ impl MuxWorker {
         ensures grows { GrowsByLosses 1 self.old.mux.log self.new.mux.log }
         ensures tries { self.new.porter.tries ≤ self.old.porter.tries + 3 }
         ensures carries { let d = debt sending.now.packet Chained clock.0 fate in
-            Carries (Gives F.Fn shared.now.faults.now.rule) shared.now.stage.now shared.now.servers.now d 3 self.old self.new result }
+            Carries (Gives F.Fn shared.now.faults.now.rule) shared.now.stage.now
+            shared.now.servers.now d 3 self.old self.new result }
     {
         let Some(place) = place_of(shared.servers, to) else {
             unreachable!();
@@ -166,8 +169,10 @@ impl MuxWorker {
         ensures same { IsSameWorker self.old self.new }
         ensures grows { GrowsByLosses 1 self.old.mux.log self.new.mux.log }
         ensures tries { self.new.porter.tries ≤ self.old.porter.tries + 4 }
-        ensures carries { let d = debt sending.now.packet Direct sending.now.clock.0 sending.now.fate in
-            CarriesOne (Gives F.Fn shared.now.faults.now.rule) shared.now.stage.now shared.now.servers.now d 4 self.old self.new result }
+        ensures carries { let d = debt sending.now.packet Direct sending.now.clock.0
+            sending.now.fate in
+            CarriesOne (Gives F.Fn shared.now.faults.now.rule) shared.now.stage.now
+            shared.now.servers.now d 4 self.old self.new result }
     {
         let (clock, verdict) = self.porter.arrive(
             rt,
@@ -203,8 +208,10 @@ impl MuxWorker {
         ensures same { IsSameWorker self.old self.new }
         ensures grows { GrowsByLosses 3 self.old.mux.log self.new.mux.log }
         ensures tries { self.new.porter.tries ≤ self.old.porter.tries + 12 }
-        ensures carries { let d = debt sending.now.packet Direct sending.now.clock.0 sending.now.fate in
-            Carries (Gives F.Fn shared.now.faults.now.rule) shared.now.stage.now shared.now.servers.now d 12 self.old self.new result }
+        ensures carries { let d = debt sending.now.packet Direct sending.now.clock.0
+            sending.now.fate in
+            Carries (Gives F.Fn shared.now.faults.now.rule) shared.now.stage.now
+            shared.now.servers.now d 12 self.old self.new result }
     {
         let due = due_of(sending.clock, sending.fate)?;
         if sending.fate.copies == 0 {

@@ -154,10 +154,11 @@ returns-in_err-deliver-clause-carries g c =
     b.end c.args.until w mid c.deliver.new.self b.items.items b.fates.items c.batch.new.out.items
     c.in_err-deliver.field-0.0 c.from_residual-in_err-deliver.result c.from_residual-in_err-deliver.ensures.1 some
     c.in_ok-batch.ensures.more.1 got steered seen_it
-    (subst (λ (l : List Steered). Delivers F c.args.shared.now.stage.now c.args.shared.now.servers.now l b.fates.items mid
-    c.deliver.new.self (Rattle.std.proofs.Common.Err c.in_err-deliver.field-0.0)) c.deref-2.ensures.value
+    (subst (λ (l : List Steered). Delivers F c.args.shared.now.stage.now c.args.shared.now.servers.now l b.fates.items
+    mid c.deliver.new.self (Rattle.std.proofs.Common.Err c.in_err-deliver.field-0.0)) c.deref-2.ensures.value
     (subst (λ (l : List Fate). Delivers F c.args.shared.now.stage.now c.args.shared.now.servers.now c.deref-2.result.now
-    l mid c.deliver.new.self (Rattle.std.proofs.Common.Err c.in_err-deliver.field-0.0)) c.deref-3.ensures.value c.in_err-deliver.ensures.delivers))
+    l mid c.deliver.new.self (Rattle.std.proofs.Common.Err c.in_err-deliver.field-0.0)) c.deref-3.ensures.value
+    c.in_err-deliver.ensures.delivers))
 
 pub returns-clause-carries : goal.returns-clause-carries
 returns-clause-carries g c =
@@ -185,7 +186,7 @@ returns-clause-carries g c =
     b.end c.args.until (3 * length c.deref-2.result.now) w mid c.deliver.new.self b.items.items b.fates.items
     c.batch.new.out.items some (let lt = c.in_ok-batch.ensures.more.0 in omega (arith, lt))
     c.in_ok-batch.ensures.more.1 got steered seen_it c.deliver.ensures.grows s.seen
-    (subst (λ (l : List Steered). Delivers F c.args.shared.now.stage.now c.args.shared.now.servers.now l b.fates.items mid
-    c.deliver.new.self (Ok tt)) c.deref-2.ensures.value
+    (subst (λ (l : List Steered). Delivers F c.args.shared.now.stage.now c.args.shared.now.servers.now l b.fates.items
+    mid c.deliver.new.self (Ok tt)) c.deref-2.ensures.value
     (subst (λ (l : List Fate). Delivers F c.args.shared.now.stage.now c.args.shared.now.servers.now c.deref-2.result.now
     l mid c.deliver.new.self (Ok tt)) c.deref-3.ensures.value c.in_ok-deliver.ensures.delivers))

@@ -76,7 +76,8 @@ loop-next-preserved g c =
       log = let a = i.log in let b = ok.grows.log in omega (arith, a, b, from, more);
       done = λ told is.
           let d = i.done told is in
-          ok.carries (stint_of c.args.shared.now.routes.now c.args.span told c.args.self.now) d.0 refl (omega arith) d.1;
+          ok.carries (stint_of c.args.shared.now.routes.now c.args.span told c.args.self.now) d.0 refl (omega arith)
+          d.1;
     }
 
 pub returns-clause-ended : goal.returns-clause-ended
