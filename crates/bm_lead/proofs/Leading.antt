@@ -176,7 +176,8 @@ led_more stage servers p q a b c e before at step done old =
       judged = subst
           (λ (l : List Event). AllByRecursion (λ n. IsJudgedBy stage l n.event.clock.0 n.event.what) (e ++ before))
           (sym control)
-          (each_append (λ n. IsJudgedBy stage (here ++ control_log stage before) n.event.clock.0 n.event.what) e before (step.judged (control_log stage before) old.published under)
+          (each_append (λ n. IsJudgedBy stage (here ++ control_log stage before) n.event.clock.0 n.event.what) e before
+          (step.judged (control_log stage before) old.published under)
           (each_two (λ n. n.event.clock.0 ≤ a.porter.latest)
           (λ n. IsJudgedBy stage (control_log stage before) n.event.clock.0 n.event.what)
           (λ n. IsJudgedBy stage (here ++ control_log stage before) n.event.clock.0 n.event.what) before

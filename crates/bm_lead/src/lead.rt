@@ -51,8 +51,8 @@ fn lead_next<R: Wait, G: Gate>(
 
 /// Carries out the commands of a phase: those from the next one on whose places are below `until`,
 /// where a sync stands, or no command. Directly before each it comes to the gate. `Late` where a
-/// moment would be above LAST, or the clock of a post above LAST less 4,096; then the commands before
-/// it are carried out. `Memory` where memory was refused. It may wait.
+/// moment would be above LAST, or the clock of a post above LAST less 4,096; then the commands
+/// before it are carried out. `Memory` where memory was refused. It may wait.
 pub fn lead_phase<R: Wait, G: Gate>(
     rt: &R,
     gate: &G,
