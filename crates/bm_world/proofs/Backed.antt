@@ -34,8 +34,8 @@ Ended F stage servers routes late posted head workers =
 -- and how worker 0 went on
 abbrev pub Went : Stage → Bool → Posted → Posted → Head → Head → Type 0
 Went stage late p q a b =
-    MatchBool late (((rest : List Note) × Adds stage p q a b rest) × (length q.clocks ≡ length stage.script.plan.changes))
-    ((q ≡ p) × (b ≡ a))
+    MatchBool late (((rest : List Note) × Adds stage p q a b rest)
+    × (length q.clocks ≡ length stage.script.plan.changes)) ((q ≡ p) × (b ≡ a))
 
 abbrev pub Stood : Rules → Stage → List Serving → List (Option MuxId) → Bool → Posted → Head → List MuxWorker → Type 0
 Stood F stage servers routes late posted head workers =

@@ -108,7 +108,8 @@ one_parted posted log head workers rest others w logs logs' rows rows' own seats
           ∙ sym (append_assoc parted.done (w ∷ []) others);
       logs_are = a ∙ ap (λ (l : List (List Event)). l ++ own ∷ []) parted.logs_are
           ∙ ap (λ (x : List Event). (log ∷ map (λ (y : MuxWorker). y.mux.log) parted.done) ++ x ∷ []) own_is
-          ∙ ap (λ (l : List (List Event)). log ∷ l) (sym (map-append (λ (y : MuxWorker). y.mux.log) parted.done (w ∷ [])));
+          ∙ ap (λ (l : List (List Event)). log ∷ l)
+          (sym (map-append (λ (y : MuxWorker). y.mux.log) parted.done (w ∷ [])));
       rows_are = b ∙ ap (λ (l : List (List (List Seated))). l ++ seats ∷ []) parted.rows_are
           ∙ ap (λ (x : List (List Seated)). rows_of head parted.done ++ x ∷ []) seats_are
           ∙ ap (λ (l : List (List (List Seated))). head ∷ l)

@@ -67,7 +67,8 @@ none_if : (t : Bool) → one_if (t && false) ≡ 0
 none_if true = refl
 none_if false = refl
 
-pub one_mux : (t : Bool) (o : Option ℕ) (n : ℕ) → sum_seats (λ w. one_if (t && is_mux o w)) n ≡ one_if (t && is_under o n)
+pub one_mux : (t : Bool) (o : Option ℕ) (n : ℕ) → sum_seats (λ w. one_if (t && is_mux o w)) n
+    ≡ one_if (t && is_under o n)
 one_mux t None zero = sym (none_if t)
 one_mux t None (suc n) = let old = one_mux t None n in let none = none_if t in omega arith
 one_mux t (Some m) zero =
@@ -162,8 +163,8 @@ led_booked stage servers rows all (Steer k m) suits count some books is at = abs
 led_booked stage servers rows all (Lose k hop) suits count some books is at = absurd (cc)
 led_booked stage servers rows all (Arrive k hop server verdict) suits count some books is at = absurd (cc)
 
-pub carried_booked : (stage : Stage) (servers : List Serving) (rows : List (List (List Seated))) (all : List (List Book))
-    (what : What)
+pub carried_booked : (stage : Stage) (servers : List Serving) (rows : List (List (List Seated)))
+    (all : List (List Book)) (what : What)
     → Suits stage servers → length all ≡ length servers → 0 < stage.script.setting.shards
     → ((s : ℕ) (books : List Book) → slice_get all s ≡ Some books → AreBooksThere servers rows s books)
     → is_command what ≡ false → IsPlaced servers what → IsBooked stage (all_books all) what
@@ -253,8 +254,8 @@ are_done R F stage servers routes board p phases workers head controller carrier
           in (
             w.0.mux.id,
             at.id,
-            subst (λ (x : List (List Seated)). AreCopies stage w.0.mux.id servers (mux_log stage m (deeds_of carriers m))
-                x) w.2
+            subst (λ (x : List (List Seated)). AreCopies stage w.0.mux.id servers
+                (mux_log stage m (deeds_of carriers m)) x) w.2
                 (subst (λ (l : List Event). AreCopies stage w.0.mux.id servers l w.0.porter.seats) at.logged at.copies),
           );
     }

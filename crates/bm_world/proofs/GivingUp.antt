@@ -224,8 +224,8 @@ left_more F stage control after first posts posts' m x deeds more sync kinds sea
           left.owed);
       drawn = each_append (IsDrawn F) x deeds drawn left.drawn;
       losses = each_append (λ n. IsLossOf (x ++ deeds) n.event.clock.0 n.event.what) x deeds
-          (each_so (λ n. IsLossOf x n.event.clock.0 n.event.what) (λ n. IsLossOf (x ++ deeds) n.event.clock.0 n.event.what)
-          x
+          (each_so (λ n. IsLossOf x n.event.clock.0 n.event.what)
+          (λ n. IsLossOf (x ++ deeds) n.event.clock.0 n.event.what) x
           (λ n h. loss_more (x ++ deeds) x n.event.clock.0 n.event.what
           (λ f. let s = total_append f x deeds in omega arith) h) losses)
           (each_so (λ n. IsLossOf deeds n.event.clock.0 n.event.what)
@@ -235,8 +235,8 @@ left_more F stage control after first posts posts' m x deeds more sync kinds sea
       steerable = each_append (λ n. IsSteerable stage n.event.what) x deeds steerable left.steerable;
       gives = subst (λ (l : List Event). AtEach (λ rest e. IsMuxClocked stage control posts' rest e.clock.0 e.what) l)
           (sym (log_append stage m x deeds))
-          (clocked_now stage after first control posts posts' (mux_log stage m x) (mux_log stage m deeds) more sync gives
-          left.gives);
+          (clocked_now stage after first control posts posts' (mux_log stage m x) (mux_log stage m deeds) more sync
+          gives left.gives);
     }
 
 -- SYNCS OF WORKER 0

@@ -326,8 +326,8 @@ over_done F stage servers p q a b workers x all over =
           in (
             w.0.mux.id,
             at.id,
-            subst (λ (y : List (List Seated)). AreCopies stage w.0.mux.id servers (mux_log stage m (deeds_of carriers m))
-                y) w.2
+            subst (λ (y : List (List Seated)). AreCopies stage w.0.mux.id servers
+                (mux_log stage m (deeds_of carriers m)) y) w.2
                 (subst (λ (l : List Event). AreCopies stage w.0.mux.id servers l w.0.porter.seats) at.logged at.copies),
           );
     }

@@ -211,8 +211,8 @@ sync_before stage controller carriers clock sync (inr some) low =
     inr (
       low,
       control_at stage controller carriers sync
-          (some_weaker (λ e. is_sync e.what && eqb e.clock.0 sync) (λ e. eqb e.clock.0 sync) (control_log stage controller)
-          (λ e h. (and_parts (is_sync e.what) (eqb e.clock.0 sync) h).1) some),
+          (some_weaker (λ e. is_sync e.what && eqb e.clock.0 sync) (λ e. eqb e.clock.0 sync)
+          (control_log stage controller) (λ e h. (and_parts (is_sync e.what) (eqb e.clock.0 sync) h).1) some),
     )
 
 before_shared : (x y : List Note) (clock c : ℕ) → ((f : Note → ℕ) → total f x ≡ total f y) → IsBefore y clock c

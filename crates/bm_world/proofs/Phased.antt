@@ -79,8 +79,8 @@ done_one : (F : Rules) (stage : Stage) (servers : List Serving) (routes : List (
     → HasWorked F stage servers routes span (told_what posted x) y
     → (d : List Note) × HasDone F stage servers routes span posted (told_what posted x) y d
 done_one F stage servers routes span posted x y before after worked =
-    let done = subst (λ (s : Option Stop). HasEnded F stage servers (stint_of routes span posted (told_what posted x)) y s)
-    after (worked.ended posted before refl)
+    let done = subst (λ (s : Option Stop). HasEnded F stage servers (stint_of routes span posted (told_what posted x))
+    y s) after (worked.ended posted before refl)
     in (
       done.0,
       record { phase = done.1; grown = worked.grown posted before refl; stop = after },
@@ -191,7 +191,8 @@ phase_stands F stage servers routes posted q head b old now span between after o
 
 -- the greatest clock of all workers
 latest_all : (g : Note → ℕ) (carriers : List (List Note)) (workers : List MuxWorker) → length carriers ≡ length workers
-    → ((m : ℕ) (w : MuxWorker) → slice_get workers m ≡ Some w → w.porter.latest ≡ greatest clock_of (deeds_of carriers m))
+    → ((m : ℕ) (w : MuxWorker) → slice_get workers m ≡ Some w
+    → w.porter.latest ≡ greatest clock_of (deeds_of carriers m))
     → latest_in workers ≡ greatest clock_of (all_deeds carriers)
 latest_all g [] [] count each = refl
 latest_all g [] (w ∷ workers) count each = absurd (omega arith)

@@ -311,12 +311,13 @@ gives_up F stage servers routes posted q head b old now span led sound known bet
     let a = there old m (omega arith)
     in let w = there now m low
     in let one = worked_part F stage servers routes (control_log stage before) (control_log stage d) posted.board
-    between.p m span posted a.0 w.0 (deeds_of carriers m) known order sync (worked m a.0 w.0 a.1 w.1) (at.each m a.0 a.1)
+    between.p m span posted a.0 w.0 (deeds_of carriers m) known order sync (worked m a.0 w.0 a.1 w.1)
+    (at.each m a.0 a.1)
     in (
       one.0,
       λ y here.
-          subst (λ (z : MuxWorker). IsPart F stage servers routes (control_log stage (d ++ before)) q.board (between.p + 1)
-          span.until m z (one.0 ++ deeds_of carriers m)) (same_Some w.0 y (sym w.1 ∙ here))
+          subst (λ (z : MuxWorker). IsPart F stage servers routes (control_log stage (d ++ before)) q.board
+          (between.p + 1) span.until m z (one.0 ++ deeds_of carriers m)) (same_Some w.0 y (sym w.1 ∙ here))
           (subst (λ (l : List Event). IsPart F stage servers routes l q.board (between.p + 1) span.until m w.0
           (one.0 ++ deeds_of carriers m)) (sym log)
           (subst (λ (o : Board). IsPart F stage servers routes (control_log stage d ++ control_log stage before) o

@@ -153,7 +153,8 @@ merge_to_run F stage servers routes posted head workers all logs sound suits sea
     (shards_are stage end.controller end.carriers (all_books all) back.kept)
     in let whole : AreLogs (plain named) ((head.log.items ∷ map (λ (w : MuxWorker). w.mux.log) workers)
     ++ map book_log (all_books all)) = (sym end.standing.led.log, parts)
-    in let lists : (head.log.items ∷ map (λ (w : MuxWorker). w.mux.log) workers) ++ map book_log (all_books all) ≡ logs =
+    in let lists : (head.log.items ∷ map (λ (w : MuxWorker). w.mux.log) workers) ++ map book_log (all_books all)
+    ≡ logs =
     ap (λ (l : List (List Event)). (head.log.items ∷ map (λ (w : MuxWorker). w.mux.log) workers) ++ l)
     (sym (books_logged all)) ∙ sym are
     in joined_run (RoutedBy routes) F h named logs end.controller end.carriers

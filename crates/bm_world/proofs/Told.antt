@@ -154,7 +154,8 @@ few_syncs stage next p sound is =
     in let few = sound.script.few_commands
     in omega arith
 
-event_snoc : (P : Event → Type 0) (x : List Event) (e : Event) → AllByRecursion P x → P e → AllByRecursion P (x ++ e ∷ [])
+event_snoc : (P : Event → Type 0) (x : List Event) (e : Event) → AllByRecursion P x → P e
+    → AllByRecursion P (x ++ e ∷ [])
 event_snoc P [] e all one = (one, tt)
 event_snoc P (y ∷ x) e all one = (all.0, event_snoc P x e all.1 one)
 

@@ -1,5 +1,5 @@
--- A run between two phases, after the last one, and where a worker has given up, as the code has it.
--- Only the proofs of bodies use this.
+-- A run between two phases, after the last one, and where a worker has given up, as the code has
+-- it. Only the proofs of bodies use this.
 use Rattle.std.specs.Prelude.{◌≡◌, ◌⊎◌, ℕ, suc, ◌+◌, ◌-◌, ◌*◌, ◌^◌, ◌≤◌, max, List, [], ◌∷◌}
 use Rattle.std.specs.Prelude.{length, map, slice_get, Option, Some, None}
 use Rattle.std.specs.Prelude.{Result, Ok, Err, Bool, true, false, ◌||◌, MatchBool}
@@ -192,8 +192,9 @@ pub record HasPostedRest (F : Rules) (stage : Stage) (servers : List Serving) (p
   pub all : length posted.clocks ≡ length stage.script.plan.changes
 
 -- what the workers hand back: the logs of the controller and of the muxes, and their seats
-pub record IsBack (F : Rules) (stage : Stage) (servers : List Serving) (routes : List (Option MuxId))
-    (late : Bool) (logs : List (List Event)) (rows : List (List (List Seated))) : Type 0 where
+pub record IsBack (F : Rules) (stage : Stage) (servers : List Serving)
+    (routes : List (Option MuxId)) (late : Bool) (logs : List (List Event))
+    (rows : List (List (List Seated))) : Type 0 where
   pub posted : Posted
   pub head : Head
   pub workers : List MuxWorker

@@ -1,5 +1,5 @@
--- A run in which a worker has given up for a moment that was too large, as the code has it. Only the
--- proofs of bodies use this.
+-- A run in which a worker has given up for a moment that was too large, as the code has it. Only
+-- the proofs of bodies use this.
 use Rattle.std.specs.Prelude.{◌≡◌, ℕ, ◌+◌, ◌*◌, ◌^◌, ◌≤◌, List, ◌++◌, length, reverse, slice_get}
 use Rattle.std.specs.Prelude.{Some}
 use Rattle.std.specs.List.{AllByRecursion}

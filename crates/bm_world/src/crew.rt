@@ -48,7 +48,8 @@ pub(crate) fn make_workers(
 ) -> Result<Vec<MuxWorker>, Memory>
     requires few { length rows.items ≤ 64 }
     requires count { length looks.items ≡ length rows.items }
-    requires looks { All (λ look. (buckets ≡ look.plan.buckets) × HasServers look.plan) looks.items }
+    requires looks { All (λ look. (buckets ≡ look.plan.buckets) × HasServers look.plan)
+        looks.items }
     requires rows { All HaveNoTurns (items_of rows.items) }
     ensures count { IfOk result (λ workers. length workers.items ≡ length rows.items) }
     ensures each { IfOk result (λ workers. (m : ℕ) (look : _) (seats : Items (Items Seated)) (w : _)
@@ -70,8 +71,8 @@ pub(crate) fn make_workers(
     Ok(workers)
 }
 
-/// What a mux's worker hands back: the mux's log, once it has heard what was told and looked, and the
-/// worker's seats.
+/// What a mux's worker hands back: the mux's log, once it has heard what was told and looked, and
+/// the worker's seats.
 fn part(worker: MuxWorker, told: Told) -> Result<(Log, Vec<ServerSeat>), Memory>
     requires { told.board ≡ worker.mux.seen.board }
     ensures log { IfOk result (λ parts. parts.0 ≡ worker.mux.log) }

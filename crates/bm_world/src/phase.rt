@@ -167,8 +167,8 @@ fn is_one_stopped(workers: &[MuxWorker]) -> bool
     false
 }
 
-/// Whether a worker gave up, for a moment that was too large. `Memory` where one gave up for want of
-/// it.
+/// Whether a worker gave up, for a moment that was too large. `Memory` where one gave up for want
+/// of it.
 fn is_late(led: Result<(), Stop>, workers: &[MuxWorker]) -> Result<bool, Memory>
     ensures { IfOk result (λ late. MatchBool late (IsLate led workers.now)
         ((led ≡ ok tt) × HaveNotStopped workers.now)) }

@@ -174,10 +174,11 @@ fn run_stage<W: Threads + Wait + Sync, F: Fn(u32, Hop) -> Fate + Sync, G: Gate>(
     merge_beside(rt, alloc, threads, logs, books)
 }
 
-/// Carries the packets of a stage through its muxes and servers, the packets of each mux in a thread
-/// of its own and the commands in another, and gives the history of what they did: a run that
-/// follows the script as such threads do, and in which every packet, copy and command is accounted
-/// for. `octets` has the packet of each record. `Memory` where memory was refused. It may wait.
+/// Carries the packets of a stage through its muxes and servers, the packets of each mux in a
+/// thread of its own and the commands in another, and gives the history of what they did: a run
+/// that follows the script as such threads do, and in which every packet, copy and command is
+/// accounted for. `octets` has the packet of each record. `Memory` where memory was refused. It may
+/// wait.
 pub fn run_threads<
     W: Threads + Wait + Sync,
     R: Fn(u32, &Flow) -> u16,

@@ -8,8 +8,8 @@ use Rattle.bm_world.proofs.crew.make_workers.Goals as goal
 
 pub make_worker-requires-clause-look : goal.make_worker-requires-clause-look
 make_worker-requires-clause-look c =
-    all_at (λ (look : Posted). (c.args.buckets ≡ look.plan.buckets) × HasServers look.plan) c.args.looks.items c.each.mux
-    c.front-look.result.0
+    all_at (λ (look : Posted). (c.args.buckets ≡ look.plan.buckets) × HasServers look.plan) c.args.looks.items
+    c.each.mux c.front-look.result.0
     (first_look c.args.looks.items (items_of c.args.rows.items) c.each.mux c.each.left.items
     (items_of c.each.rest.items) c.each.workers.items c.front-look.result.1.items c.front-look.result.0
     c.front-look.ensures c.each.invariant) c.requires.looks

@@ -62,7 +62,8 @@ returns-clause-next g c =
     let told = ap (λ (l : List MuxWorker). length l) c.tell_all.ensures in
     let size = length-map old (told_what c.args.poster.now) in
     let phase : IsPhase stage.script.commands c.args.head.now.next place =
-    subst (λ (l : List Command). IsPhase l c.args.head.now.next place) c.items.ensures c.sync_place-place.ensures.phase in
+    subst (λ (l : List Command). IsPhase l c.args.head.now.next place) c.items.ensures
+    c.sync_place-place.ensures.phase in
     let done : (c.work_beside-led.result ≡ Ok tt) × HaveNotStopped now =
     subst (λ (x : Bool). MatchBool x (IsLate c.work_beside-led.result now)
     ((c.work_beside-led.result ≡ Ok tt) × HaveNotStopped now)) c.if-branch.false c.in_ok-is_late.ensures in
@@ -98,7 +99,8 @@ returns-clause-fewer g c =
     let told = ap (λ (l : List MuxWorker). length l) c.tell_all.ensures in
     let size = length-map old (told_what c.args.poster.now) in
     let phase : IsPhase stage.script.commands c.args.head.now.next place =
-    subst (λ (l : List Command). IsPhase l c.args.head.now.next place) c.items.ensures c.sync_place-place.ensures.phase in
+    subst (λ (l : List Command). IsPhase l c.args.head.now.next place) c.items.ensures
+    c.sync_place-place.ensures.phase in
     let done : (c.work_beside-led.result ≡ Ok tt) × HaveNotStopped now =
     subst (λ (x : Bool). MatchBool x (IsLate c.work_beside-led.result now)
     ((c.work_beside-led.result ≡ Ok tt) × HaveNotStopped now)) c.if-branch.false c.in_ok-is_late.ensures in

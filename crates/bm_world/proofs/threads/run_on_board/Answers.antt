@@ -53,8 +53,8 @@ run_phases-requires-clause-first g c κs within =
     (λ m look seats w a b here. c.in_ok-workers.ensures.each m look seats w a b
     (ap (λ (l : List MuxWorker). slice_get l m) (sym value) ∙ here))
 
-back : (old now : List MuxWorker) (n : ℕ) (lent : List MuxWorker) → lent ≡ old → length now ≡ length lent → n ≡ length old
-    → take n (now ++ drop (length now) old) ≡ now
+back : (old now : List MuxWorker) (n : ℕ) (lent : List MuxWorker) → lent ≡ old → length now ≡ length lent
+    → n ≡ length old → take n (now ++ drop (length now) old) ≡ now
 back old now n lent value count size = given_back old now n (count ∙ ap (λ (l : List MuxWorker). length l) value) size
 
 pub take_apart-requires : goal.take_apart-requires

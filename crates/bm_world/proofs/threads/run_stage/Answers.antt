@@ -80,8 +80,8 @@ unreachable-requires g c =
     → is_known stage.script.plan (length stage.script.plan.changes) id ≡ true → is_among l id ≡ true)
     (sym c.as_slice.ensures.value) c.in_ok-ids.ensures.known)
     c.in_ok-servers.ensures.servers c.in_ok-servers.ensures.each_server in
-    let back = subst (λ (l : List Serving). IsBack F stage l c.args.routes.now late c.in_ok-late.field-0.logs.items rows)
-    c.as_slice-2.ensures.value c.in_ok-late.ensures in
+    let back = subst (λ (l : List Serving). IsBack F stage l c.args.routes.now late
+    c.in_ok-late.field-0.logs.items rows) c.as_slice-2.ensures.value c.in_ok-late.ensures in
     let sits = sitting F stage servers c.args.routes.now late back.posted back.head back.workers back.stood in
     let seats : (s : ℕ) (server : Serving) → slice_get servers s ≡ Some server
     → server.seats ≡ suc (length back.workers) =
@@ -111,8 +111,8 @@ returns g c =
     → is_known stage.script.plan (length stage.script.plan.changes) id ≡ true → is_among l id ≡ true)
     (sym c.as_slice.ensures.value) c.in_ok-ids.ensures.known)
     c.in_ok-servers.ensures.servers c.in_ok-servers.ensures.each_server in
-    let back = subst (λ (l : List Serving). IsBack F stage l c.args.routes.now late c.in_ok-late.field-0.logs.items rows)
-    c.as_slice-2.ensures.value c.in_ok-late.ensures in
+    let back = subst (λ (l : List Serving). IsBack F stage l c.args.routes.now late
+    c.in_ok-late.field-0.logs.items rows) c.as_slice-2.ensures.value c.in_ok-late.ensures in
     let sits = sitting F stage servers c.args.routes.now late back.posted back.head back.workers back.stood in
     let seats : (s : ℕ) (server : Serving) → slice_get servers s ≡ Some server
     → server.seats ≡ suc (length back.workers) =
