@@ -14,7 +14,8 @@ not_some r is = absurd (cc)
 
 never_refused : (n : ℕ) → add_refusal opened (record { 0 = n * 2000 }) (record { 0 = 5 }) ≡ None
 never_refused n =
-    ap (λ (late : Bool). first_refusal (None ∷ when late StampFell ∷ None ∷ None ∷ [])) (le-ltb (n * 2000) 0 (omega arith))
+    ap (λ (late : Bool). first_refusal (None ∷ when late StampFell ∷ None ∷ None ∷ []))
+    (le-ltb (n * 2000) 0 (omega arith))
 
 -- by cases, since only equality of numbers is decided by computation
 only_memory : (r : Refusal) → (r ≢ Memory → ◌≡◌ {A = Option Refusal} None (Some r)) → r ≡ Memory

@@ -6,8 +6,8 @@ ghost use Rattle.bm_trace.specs.Totals.{totals_of};
 
 use bm_core::History;
 
-/// In every run in threads of the load of n connections n packets are accepted and 3n are processed;
-/// none is reset, dropped or lost.
+/// In every run in threads of the load of n connections n packets are accepted and 3n are
+/// processed; none is reset, dropped or lost.
 pub fn loaded(h: &History, n: u32)
     requires few { (1 ≤ n) × (n ≤ 20000) }
     requires run { IsRunOfLoad n h.now }

@@ -21,7 +21,8 @@ loop-place-preserved c =
     in record {
       records = map_more (record_at n) k c.loop-place.records.items c.push.new.self.items _ c.in_ok-push.ensures.items
           i.records record_is;
-      packets = map_more (packet_at n) k c.loop-place.packets c.push-in-loop-place.new.self _ pushed i.packets packet_is;
+      packets = map_more (packet_at n) k c.loop-place.packets c.push-in-loop-place.new.self _ pushed i.packets
+          packet_is;
       count = ap (λ (xs : List (List ℕ)). length xs) pushed
           ∙ omega (arith, length-append c.loop-place.packets (c.as_slice.result.now ∷ []), i.count);
     }
