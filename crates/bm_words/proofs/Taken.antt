@@ -212,8 +212,8 @@ pub has_script : (mine : List Row) (rows : Option (List Row)) (words : List Text
 has_script mine rows words e found =
     ap (first_of (codes "script")) (same_rows mine rows words e found) ∙ found.has.script
 
-pub form_is : (words : List Text) (f : Named) (capture : Text) (script : Option Text) → names_of (drop 1 words) ≡ Some f →
-    Some capture ≡ Some f.capture → script ≡ f.script →
+pub form_is : (words : List Text) (f : Named) (capture : Text) (script : Option Text) → names_of (drop 1 words) ≡ Some f
+    → Some capture ≡ Some f.capture → script ≡ f.script →
     Some (record { capture = capture; script = script }) ≡ names_of (drop 1 words)
 form_is words f capture script h c s =
     let same : capture ≡ f.capture = cc in
