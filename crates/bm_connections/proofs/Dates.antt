@@ -65,12 +65,17 @@ year_end n y m d small is last december =
     let next = days_from_civil-next_year (pos y) (pos (y + 1)) low refl in
     elim (cases_lt y 9999) [
       | inl early ↦ record {
-        civil = ((omega (arith, signed_arith), omega (arith, signed_arith)), (omega arith, omega arith), (omega arith, omega arith));
+        civil = (
+          (omega (arith, signed_arith), omega (arith, signed_arith)),
+          (omega arith, omega arith),
+          (omega arith, omega arith),
+        );
         number = omega (arith, signed_arith, next, here);
       }
       | inr late ↦
           let same : y ≡ 9999 = omega (arith, signed_arith, is.civil.0) in
-          let max : pos n ≡ pos 2_932_896 = sym here ∙ ap (λ z. days_from_civil (pos z) 12 31) same ∙ days_from_civil-max in
+          let max : pos n ≡ pos 2_932_896 = sym here ∙ ap (λ z. days_from_civil (pos z) 12 31) same
+          ∙ days_from_civil-max in
           absurd (omega (arith, signed_arith, max))
     ]
 
@@ -91,7 +96,11 @@ day_next n d small is = elim (cases_lt d.day (days_in_month (pos d.year) d.month
 days_are : (n : ℕ) → n ≤ 2_932_896 → IsDay n (days_after_1970 n)
 unfolding days_after_1970
 days_are zero small = record {
-  civil = ((omega (arith, signed_arith), omega (arith, signed_arith)), (omega arith, omega arith), (omega arith, omega arith));
+  civil = (
+    (omega (arith, signed_arith), omega (arith, signed_arith)),
+    (omega arith, omega arith),
+    (omega arith, omega arith),
+  );
   number = omega (arith, signed_arith, days_from_civil-day_count, day_count-epoch);
 }
 days_are (suc n) small = day_next n (days_after_1970 n) (omega arith) (days_are n (omega arith))
@@ -122,9 +131,11 @@ date_written n d small number =
     let a = days_after_1970 n in
     let year : Text.year_text d.year ≡ last_digits 4 a.year =
     ap Text.year_text (is.0) ∙ four a.year (omega (arith, signed_arith, (days_are n small).civil.0)) in
-    let month : Text.pad2 d.month ≡ last_digits 2 a.month = ap Text.pad2 (is.1) ∙ two a.month (omega (arith, (days_are n small).civil.1)) in
+    let month : Text.pad2 d.month ≡ last_digits 2 a.month = ap Text.pad2 (is.1)
+    ∙ two a.month (omega (arith, (days_are n small).civil.1)) in
     let long = days_in_month_bounds (pos a.year) a.month in
-    let day : Text.pad2 d.day ≡ last_digits 2 a.day = ap Text.pad2 (is.2) ∙ two a.day (omega (arith, (days_are n small).civil.2, long)) in
+    let day : Text.pad2 d.day ≡ last_digits 2 a.day = ap Text.pad2 (is.2)
+    ∙ two a.day (omega (arith, (days_are n small).civil.2, long)) in
     rw (year, month, day) refl
 
 clock_is : (h m s sub ns : ℕ) → h < 24 → m < 60 → s < 60 → sub < 1_000_000_000 →
@@ -142,7 +153,8 @@ shown h m s f = h ++ 58 ∷ m ++ 58 ∷ s ++ f
 time_written : (ns : ℕ) (t : Time) → time_nanos t ≡ ns % 86_400_000_000_000 →
     Text.time_text (Some 9) t ≡ clock_text (ns / 1_000_000_000 % 86_400) ++ codes "." ++ last_digits 9 ns
 time_written ns t is =
-    let parts = clock_is t.hour t.minute t.second t.subsec_nanosecond ns (omega arith) (omega arith) (omega arith) (omega arith) is in
+    let parts = clock_is t.hour t.minute t.second t.subsec_nanosecond ns (omega arith) (omega arith) (omega arith)
+    (omega arith) is in
     let hour : Text.pad2 t.hour ≡ last_digits 2 (ns / 1_000_000_000 % 86_400 / 3600) =
     two t.hour (omega arith) ∙ ap (last_digits 2) (parts.0) in
     let minute : Text.pad2 t.minute ≡ last_digits 2 (ns / 1_000_000_000 % 86_400 / 60 % 60) =

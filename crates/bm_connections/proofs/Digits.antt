@@ -57,9 +57,11 @@ pub nine_digits : (n : ℕ) → n < 1_000_000_000 →
     padded_integral (format_spec 32 0 4 9 (2 ^ 64 - 1)) false [] (decimal n) ≡ last_digits 9 n
 unfolding padded_integral char_count
 nine_digits n below =
-    let width : number_padding (format_spec 32 0 4 9 (2 ^ 64 - 1)) false [] (length (decimal n)) ≡ 9 - length (decimal n) =
+    let width : number_padding (format_spec 32 0 4 9 (2 ^ 64 - 1)) false [] (length (decimal n))
+    ≡ 9 - length (decimal n) =
     omega arith in
-    ap₂ (λ m l. replicate m 48 ++ l) width (append-nil (decimal n)) ∙ padded_digits 9 n (omega arith) below (omega arith)
+    ap₂ (λ m l. replicate m 48 ++ l) width (append-nil (decimal n))
+    ∙ padded_digits 9 n (omega arith) below (omega arith)
 
 -- a fraction's first nine places
 pub nine_places : (n : ℕ) → places 9 1_000_000_000 (n % 1_000_000_000) ≡ last_digits 9 n

@@ -92,7 +92,8 @@ impl Loads {
     fn note(&mut self, before: &[Event], event: &Event) -> Result<(), AllocError>
         requires loads { kept.AreLoads (reverse before.now) (kept.load self.old) }
         requires room { suc (length before.now) < 2 ^ 64 }
-        ensures { OnOk result (kept.AreLoads (event.now ∷ reverse before.now) (kept.load self.new)) }
+        ensures { OnOk result
+            (kept.AreLoads (event.now ∷ reverse before.now) (kept.load self.new)) }
     {
         match as_break(event, None) {
             None => Ok(()),

@@ -110,7 +110,8 @@ fn setting(alloc: Global, capacity: u32) -> Result<Setting, Memory>
 /// Two closes of a flow at server 1, or none.
 fn two_closes(alloc: Global, wanted: bool) -> Result<Vec<Command>, Memory>
     ensures { IfOk result (λ commands. commands.items ≡ (if wanted
-        then closes (record { 0 = 500 }) (record { 0 = 1 }) (record { src = 0x0a00_0001; dst = 0xc000_0201; sport = 1000; dport = 80 })
+        then closes (record { 0 = 500 }) (record { 0 = 1 })
+        (record { src = 0x0a00_0001; dst = 0xc000_0201; sport = 1000; dport = 80 })
         ∷ closes (record { 0 = 600 }) (record { 0 = 1 })
         (record { src = 0x0a00_0001; dst = 0xc000_0201; sport = 1000; dport = 80 }) ∷ []
         else [])) }

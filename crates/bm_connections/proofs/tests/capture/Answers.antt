@@ -75,7 +75,8 @@ returns-clause-fit c =
     in let records : c.of-records.result ≡ c.loop-i.records.items = c.of-records.ensures
     in rw records (record {
       few = let h = c.requires in let n = inv.0 in let e = c.loop-i.auto.i-end in omega arith;
-      rise = rising_higher 0 (100_000_000_000 * c.loop-i.i) (44 * 10 ^ 17) (map (λ r. r.moment.0) c.loop-i.records.items) inv.1
+      rise = rising_higher 0 (100_000_000_000 * c.loop-i.i) (44 * 10 ^ 17)
+          (map (λ r. r.moment.0) c.loop-i.records.items) inv.1
           (let h = c.requires in let e = c.loop-i.auto.i-end in omega arith);
       fit = inv.2;
     })
