@@ -114,7 +114,8 @@ usage_form : (form : Option Asked) (reads : Reads) → Usage ≡ status_of (due 
 usage_form None reads e = refl
 usage_form (Some (Replay names)) reads e = absurd (stage_usage (IsReportOf by_replay) (reading by_replay names reads) e)
 usage_form (Some (Run capture script)) reads e =
-    absurd (stage_usage (IsReportOf by_run) (reading by_run (record { capture = capture; script = Some script }) reads) e)
+    absurd (stage_usage (IsReportOf by_run)
+    (reading by_run (record { capture = capture; script = Some script }) reads) e)
 usage_form (Some (Load n)) reads e = absurd (cc)
 
 -- no file is named by the words of no form

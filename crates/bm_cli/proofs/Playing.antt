@@ -15,8 +15,8 @@ use Rattle.bm_cli.specs.Statuses.{FilesDid}
 use Rattle.bm_cli.proofs.Ending.{holds_more}
 
 -- memory may be refused behind it
-pub stage_lost : (mode : Mode) (names : Named) (told : Octets) (files : FilesDid) (stage : Stage) (more : Reads → Type 0) →
-    Holds told (λ reads. ReadsStage mode names reads files (Ok stage) × more reads) →
+pub stage_lost : (mode : Mode) (names : Named) (told : Octets) (files : FilesDid) (stage : Stage)
+    (more : Reads → Type 0) → Holds told (λ reads. ReadsStage mode names reads files (Ok stage) × more reads) →
     Holds told (λ reads. ReadsStage mode names reads files (Err WantsMemory))
 stage_lost mode names told files stage more read =
     holds_more told (λ reads. ReadsStage mode names reads files (Ok stage) × more reads)

@@ -51,8 +51,8 @@ abbrev pub BeganWith : {A : Type 0} → Result A CaptureFault → ℕ → List �
 BeganWith r time name reads = IfOk r (λ read. time ≡ reads.began name)
 
 -- what was read, without when the capture began
-pub stage_alone : (mode : Mode) (names : Named) (told : Octets) (files : FilesDid) (r : Reading) (more : Reads → Type 0) →
-    Holds told (λ reads. ReadsStage mode names reads files r × more reads) →
+pub stage_alone : (mode : Mode) (names : Named) (told : Octets) (files : FilesDid) (r : Reading) (more : Reads → Type 0)
+    → Holds told (λ reads. ReadsStage mode names reads files r × more reads) →
     Holds told (λ reads. ReadsStage mode names reads files r)
 stage_alone mode names told files r more both =
     holds_more told (λ reads. ReadsStage mode names reads files r × more reads)

@@ -39,7 +39,8 @@ pub(crate) fn show<R: Threads + Wait + Sync, K: Sink, G: Gate>(
 ) -> Status
     requires sound { IsSound stage }
     requires packets { ArePackets stage.capture.records packets }
-    ensures { Tells (Shown (IsReportOf mode stage)) (did K.written K.faults out.old out.new) result }
+    ensures { Tells (Shown (IsReportOf mode stage))
+        (did K.written K.faults out.old out.new) result }
 {
     match history_of(rt, alloc, mode, stage, packets, gate) {
         Ok(history) => show_history(rt, alloc, mode, &history, out),

@@ -56,7 +56,8 @@ FileBegan None name time = Unit {0}
 FileBegan (Some octets) name time = time ≡ began (octets name)
 
 -- The count rises where `ReadFault` is answered, and stays elsewhere.
-pub record HasReadCause {T : Type 0} (before now : ℕ) (result : Result T CaptureFault) : Type 0 where
+pub record HasReadCause {T : Type 0} (before now : ℕ) (result : Result T CaptureFault)
+    : Type 0 where
   pub later : before ≤ now
   pub failed : IsErrOf result ReadFault → Rose before now
   pub kept : result ≢ Err ReadFault → now ≡ before

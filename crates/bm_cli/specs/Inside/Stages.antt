@@ -20,4 +20,5 @@ status_by (Err fault) = fault_status fault
 pub record ReadsStage (mode : Mode) (names : Named) (reads : Reads) (files : FilesDid)
     (result : Reading) : Type 0 where
   pub read : IsRead (reading mode names reads) result
-  pub asks : AsksFor (names_behind names (script_by mode reads names.script)) (status_by result) files
+  pub asks : AsksFor (names_behind names (script_by mode reads names.script)) (status_by result)
+      files

@@ -9,4 +9,5 @@ returns-clause-began g c =
 
 pub returns-clause-early : goal.returns-clause-early
 returns-clause-early g c =
-    ok_more c.read_capture-result.result _ _ (λ early. rw c.began-began.ensures early) c.read_capture-result.ensures.early
+    ok_more c.read_capture-result.result _ _ (λ early. rw c.began-began.ensures early)
+    c.read_capture-result.ensures.early

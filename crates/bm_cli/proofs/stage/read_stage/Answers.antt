@@ -15,15 +15,15 @@ pub returns-in_err-script-clause-stage : goal.returns-in_err-script-clause-stage
 returns-in_err-script-clause-stage g c =
     let script = c.in_err-script in
     stage_through c.args.mode (named c.args.names) _ _ c.from_residual.result script.field-0.0 c.from_residual.ensures.1
-    (script_refused c.args.mode (named c.args.names) _ _ script.field-0.0 c.requires.script script.ensures.script script.ensures.asked
-    script.ensures.all script.ensures.cause script.ensures.kept)
+    (script_refused c.args.mode (named c.args.names) _ _ script.field-0.0 c.requires.script script.ensures.script
+    script.ensures.asked script.ensures.all script.ensures.cause script.ensures.kept)
 
 pub returns-in_err-capture-clause-stage : goal.returns-in_err-capture-clause-stage
 returns-in_err-capture-clause-stage g c =
     let script = c.in_ok-script in
     let capture = c.in_err-capture in
-    stage_through c.args.mode (named c.args.names) _ _ c.from_residual-in_err-capture.result (OfCapture capture.field-0.0)
-    c.from_residual-in_err-capture.ensures.1
+    stage_through c.args.mode (named c.args.names) _ _ c.from_residual-in_err-capture.result
+    (OfCapture capture.field-0.0) c.from_residual-in_err-capture.ensures.1
     (stage_alone c.args.mode (named c.args.names) _ _ (Err (OfCapture capture.field-0.0)) (λ reads. Unit {0})
     (captured_stage c.args.mode (named c.args.names) _ _ _ _ script.script _ (Err capture.field-0.0) 0 _
     c.requires.script c.in_ok-check_seats.ensures script.ensures.octets
