@@ -88,8 +88,8 @@ played_ends asked told files sink stage began result read tells =
     (λ reads. ReadsStage Replay asked.names reads files (Ok stage) × (began ≡ reads.began asked.names.capture))
     (λ reads. Ends (due_of asked reads) files sink result)
     (λ reads both. ends_played asked reads files sink (Ok stage) result (both.0)
-    (subst (λ b. Tells (answer_for (IsTableOf asked.format (if asked.clock then Some b else None)) (Ok stage)) sink result)
-    (both.1) tells)) read
+    (subst (λ b. Tells (answer_for (IsTableOf asked.format (if asked.clock then Some b else None)) (Ok stage))
+    sink result) (both.1) tells)) read
 
 -- the line of a fault was told
 pub refused_ends : (asked : Asked) (told : Octets) (files : FilesDid) (sink : SinkDid) (fault : StageFault)

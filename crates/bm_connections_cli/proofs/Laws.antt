@@ -135,8 +135,8 @@ module _ (reads : Reads) (files : FilesDid) (sink : SinkDid) (s : Status) where
       let due = due_of asked reads in
       let d = dues due files sink s ends BadScript (λ x. cc) (λ x. cc) (λ x. cc) e in
       subst (λ l. AsksAll files.before files.now l)
-      (stage_names (IsTableOf asked.format (clock_of asked reads)) asked.names reads (script_by Replay reads asked.names.script)
-      (sym d.0 ∙ e))
+      (stage_names (IsTableOf asked.format (clock_of asked reads)) asked.names reads
+      (script_by Replay reads asked.names.script) (sym d.0 ∙ e))
       (all_asked due files sink s ends BadScript (λ x. cc) (λ x. cc) (λ x. cc) e)
 
 -- BY THE EXIT STATUS

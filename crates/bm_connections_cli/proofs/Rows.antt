@@ -35,6 +35,6 @@ record_more contents old new octets fields is more none blank setup =
       text =
           known_more (text_written contents old) (text_written contents new) octets (row_text default_writer fields)
           is.text
-          (subst (λ (s : WriterBuilder). Appends (text_written contents old) (text_written contents new) (row_text s fields))
-          is.setup (more is.fields is.blank plain));
+          (subst (λ (s : WriterBuilder). Appends (text_written contents old) (text_written contents new)
+          (row_text s fields)) is.setup (more is.fields is.blank plain));
     }

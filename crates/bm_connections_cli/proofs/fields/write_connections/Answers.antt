@@ -13,8 +13,8 @@ loop-connection-preserved g c =
     record {
       written = λ octets is.
           subst (λ l. HasWritten g.W.Write.contents c.write_connection.new.csv l)
-          (lines_more line table i _ octets (octets ++ flat_map line (take i table)) _ c.loop-connection-test.true refl refl)
-          (c.in_ok-write_connection.ensures (octets ++ flat_map line (take i table))
+          (lines_more line table i _ octets (octets ++ flat_map line (take i table)) _ c.loop-connection-test.true
+          refl refl) (c.in_ok-write_connection.ensures (octets ++ flat_map line (take i table))
           (c.loop-connection.invariant.written octets is));
     }
 

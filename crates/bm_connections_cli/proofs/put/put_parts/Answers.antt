@@ -13,6 +13,7 @@ returns-in_err-put_all-clause-err g c =
 pub loop-part-preserved : goal.loop-part-preserved
 loop-part-preserved g c = record {
   written = text_more _ _ _ c.args.parts.now c.loop-part.part-index _ c.as_bytes.result.now c.loop-part-test.true
-      (c.as_bytes.ensures.value ∙ c.as_str.ensures ∙ c.part-item.is) c.loop-part.invariant.written c.in_ok-put_all.ensures.ok;
+      (c.as_bytes.ensures.value ∙ c.as_str.ensures ∙ c.part-item.is) c.loop-part.invariant.written
+      c.in_ok-put_all.ensures.ok;
   later = c.in_ok-put_all.ensures.cause.kept ∙ c.loop-part.invariant.later;
 }
