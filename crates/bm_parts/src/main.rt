@@ -1,7 +1,7 @@
 //! Replays a capture through the servers of a script, parts the events of the history into the logs
 //! of the controller, the muxes and the shards, and merges these logs. Where they merge to the same
-//! events, it prints their report, which is that of `beamer replay` (tests/parted compares the two).
-//! Status 3 says that they don't.
+//! events, it prints their report, which is that of `beamer replay` (tests/parted compares the
+//! two). Status 3 says that they don't.
 //!
 //! usage: bm_parts CAPTURE SCRIPT
 #![tactic(auto)]
