@@ -86,8 +86,8 @@ pub(crate) fn ethernet(alloc: Global) -> Result<Vec<u8>, AllocError> {
     Ok(octets)
 }
 
-/// A capture of the pcapng form: one interface of raw IP with these options, and these packets, whose
-/// times are their parts of a second.
+/// A capture of the pcapng form: one interface of raw IP with these options, and these packets,
+/// whose times are their parts of a second.
 pub(crate) fn blocks(
     alloc: Global,
     options: &[u8],

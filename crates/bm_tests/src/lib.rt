@@ -1,5 +1,5 @@
-//! Tests of `bm_script`, `bm_server` and `bm_cli`, in a crate of their own: a run of tests proves its
-//! crate again.
+//! Tests of `bm_script`, `bm_server` and `bm_cli`, in a crate of their own: a run of tests proves
+//! its crate again.
 #![tactic(auto)]
 
 #[cfg(test)]
