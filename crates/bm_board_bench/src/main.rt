@@ -1,9 +1,9 @@
-//! Looks at a board while changes are posted, or steers batches of packets, so that `bench/board` can
-//! time it. What it writes is the same on every schedule.
+//! Looks at a board while changes are posted, or steers batches of packets, so that `bench/board`
+//! can time it. What it writes is the same on every schedule.
 //!
-//! usage: bm_board_bench looks READERS LOOKS BUCKETS, where each reader looks LOOKS times while 4,096
-//! changes are posted, or bm_board_bench batches BATCHES OCTETS, where a mux steers BATCHES batches of
-//! 256 packets of OCTETS octets each.
+//! usage: bm_board_bench looks READERS LOOKS BUCKETS, where each reader looks LOOKS times while
+//! 4,096 changes are posted, or bm_board_bench batches BATCHES OCTETS, where a mux steers BATCHES
+//! batches of 256 packets of OCTETS octets each.
 #![tactic(auto)]
 
 mod batches;
