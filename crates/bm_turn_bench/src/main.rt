@@ -1,7 +1,8 @@
-//! Makes turns at turnstiles from several threads, so that `bench/turnstile` can time them. What it writes is the same
-//! on every schedule.
+//! Makes turns at turnstiles from several threads, so that `bench/turnstile` can time them. What it
+//! writes is the same on every schedule.
 //!
-//! usage: bm_turn_bench THREADS TURNSTILES TURNS, where each thread makes TURNS turns, at each turnstile in turn.
+//! usage: bm_turn_bench THREADS TURNSTILES TURNS, where each thread makes TURNS turns, at each
+//! turnstile in turn.
 #![tactic(auto)]
 
 mod chair;

@@ -22,7 +22,8 @@ invariant_of-push c =
     let seat = c.front-seat.result.0 in
     let table = arc_value c.args.turnstile.now in
     record {
-      own = all_first (λ s. s.table ≡ table) rest others seat c.front-seat.ensures i.own ∙ sym c.in_ok-turnstile.ensures;
+      own = all_first (λ s. s.table ≡ table) rest others seat c.front-seat.ensures i.own
+          ∙ sym c.in_ok-turnstile.ensures;
       counted = all_first (λ s. s.turns ≡ 0) rest others seat c.front-seat.ensures i.new;
     }
 
