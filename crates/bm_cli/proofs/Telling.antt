@@ -47,18 +47,6 @@ pub tells_report : (mode : Mode) (stage : Stage) (h : History) (sink : SinkDid) 
 tells_report mode stage h sink result about made writes =
     tells_due (Shown (IsReportOf mode stage)) (text h) sink result (report_of mode stage h about made) writes
 
--- memory was refused before the text was written
-pub writes_none : (text : List ℕ) (before : Option (List ℕ)) (faults : ℕ) →
-    Writes Done text (untouched before faults) Memory
-writes_none text before faults = record {
-  count = omega arith;
-  ends = inr (inr refl);
-  whole = λ e. absurd (cc);
-  part = λ e. (0, appends_nothing before);
-  cause = λ e. absurd (cc);
-  kept = λ n. refl;
-}
-
 pub writes_nothing : (before : Option (List ℕ)) (faults : ℕ) → Writes Memory [] (untouched before faults) Memory
 writes_nothing before faults = record {
   count = omega arith;

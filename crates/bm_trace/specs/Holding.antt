@@ -19,4 +19,5 @@ HoldsAfter stage past h =
 abbrev pub HoldsFlow : Stage → List Event → Flow → HeldBy → Type 0
 HoldsFlow stage past f h =
     IsHoldingFlow stage past f h.holders.now
-    (λ s. tree.get (key_order.ghosts).cmp h.retired.now.places (record { server = s.0; shard = h.shard }))
+    (λ s. tree.get (key_order.ghosts).cmp h.retired.now.places
+    (record { server = s.0; shard = h.shard }))

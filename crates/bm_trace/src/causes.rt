@@ -71,7 +71,8 @@ impl Arrival {
     /// owner's server.
     pub(crate) fn is_stray(&self) -> bool
         ensures { result ≡ (causes.is_process self.now.verdict
-            && causes.wants_cause self.now.verdict (owner_from self.now.sent) self.now.server self.now.segment) }
+            && causes.wants_cause self.now.verdict (owner_from self.now.sent) self.now.server
+            self.now.segment) }
     {
         matches!(self.verdict, Verdict::Process(_)) && self.wants_cause()
     }
@@ -87,8 +88,8 @@ impl Arrival {
         requires ranges { HasRanges stage.now }
         requires newest { newest ≡ past.newest (reverse events.now) }
         ensures { result ≡ causes.cause_at stage.now (reverse events.now) clock.0 self.now.server
-            self.now.verdict
-            (owner_from self.now.sent) self.now.segment (label_from stage.now self.now.segment self.now.sent) }
+            self.now.verdict (owner_from self.now.sent) self.now.segment
+            (label_from stage.now self.now.segment self.now.sent) }
     {
         if !self.wants_cause() {
             return None;

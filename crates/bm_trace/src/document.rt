@@ -1,4 +1,5 @@
-//! The whole report. Its lines are put together in one buffer, which is handed on whenever it is full.
+//! The whole report. Its lines are put together in one buffer, which is handed on whenever it is
+//! full.
 ghost use Rattle.std.specs.Prelude.{◌≡◌, ◌+◌, ◌<◌, ◌≤◌, ◌++◌, List, length, reverse, OnOk, OnErr};
 ghost use Rattle.std.specs.Prelude.{string_bytes, []};
 ghost use Rattle.std.specs.Io.KnownBytes.{Appends};
@@ -133,8 +134,8 @@ pub(crate) fn put_rest<K: Sink>(
     put_end(h, sums, lines, out)
 }
 
-/// Writes the report of the history, with these causes of its events. The report is never held whole.
-/// Where it is refused, a first part of it was written.
+/// Writes the report of the history, with these causes of its events. The report is never held
+/// whole. Where it is refused, a first part of it was written.
 #[tactic(auto, using(crate::proofs::Ranged::ranges_of))]
 pub fn report_to<K: Sink>(h: &History, causes: &CauseList, out: &mut K) -> Result<(), IoFault>
     requires run { IsRun h.now }

@@ -131,8 +131,8 @@ impl Known {
         requires ranges { HasRanges stage.now }
         requires knows { Knows stage.now (reverse events.now) self.now }
         ensures { result ≡ causes.cause_at stage.now (reverse events.now) clock.0 arrival.now.server
-            arrival.now.verdict
-            (owner_from arrival.now.sent) arrival.now.segment (label_from stage.now arrival.now.segment arrival.now.sent) }
+            arrival.now.verdict (owner_from arrival.now.sent) arrival.now.segment
+            (label_from stage.now arrival.now.segment arrival.now.sent) }
     {
         if !arrival.wants_cause() {
             return None;

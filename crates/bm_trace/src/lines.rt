@@ -29,7 +29,8 @@ fn write_arrival(
 ) -> Result<(), AllocError>
     ensures { OnOk result
         (string_bytes line.new ≡ string_bytes line.old ++ words.line (decimal clock)
-        ((codes "arrive" ∷ decimal packet ∷ words.hop_word hop ∷ decimal server.0 ∷ []) ++ words.verdict_words verdict ++ words.because_words cause)) }
+        ((codes "arrive" ∷ decimal packet ∷ words.hop_word hop ∷ decimal server.0 ∷ [])
+        ++ words.verdict_words verdict ++ words.because_words cause)) }
 {
     push_digits(line, clock)?;
     push_named(line, " arrive ", u64::from(packet))?;
@@ -47,7 +48,8 @@ fn write_close(
 ) -> Result<(), AllocError>
     ensures { OnOk result
         (string_bytes line.new ≡ string_bytes line.old ++ words.line (decimal clock)
-        (codes "close" ∷ decimal server.0 ∷ words.endpoint flow.now.src flow.now.sport ∷ words.endpoint flow.now.dst flow.now.dport
+        (codes "close" ∷ decimal server.0 ∷ words.endpoint flow.now.src flow.now.sport
+        ∷ words.endpoint flow.now.dst flow.now.dport
         ∷ (if closed then codes "closed" else codes "none") ∷ [])) }
 {
     let server = server.0;
@@ -73,7 +75,8 @@ fn write_retirement(
 ) -> Result<(), AllocError>
     ensures { OnOk result
         (string_bytes line.new ≡ string_bytes line.old ++ words.line (decimal clock)
-        ((codes "retire" ∷ decimal server.0 ∷ decimal shard ∷ codes "at" ∷ decimal at ∷ []) ++ words.retirement_words answer)) }
+        ((codes "retire" ∷ decimal server.0 ∷ decimal shard ∷ codes "at" ∷ decimal at ∷ [])
+        ++ words.retirement_words answer)) }
 {
     let server = server.0;
     let answer = RetirementWords(answer);
@@ -104,7 +107,8 @@ fn write_steer(
     requires kept { AreVersions (reverse events.now) versions.now }
     ensures { OnOk result
         (string_bytes line.new ≡ string_bytes line.old ++ words.line (decimal clock)
-        (codes "steer" ∷ decimal packet ∷ decimal mux.0 ∷ decimal (past.version_at (reverse events.now) mux).0
+        (codes "steer" ∷ decimal packet ∷ decimal mux.0
+        ∷ decimal (past.version_at (reverse events.now) mux).0
         ∷ decimal (report.bucket_of_packet stage.now (past.segment_of stage.now packet)) ∷ [])) }
 {
     let version = version_in(versions, events, mux).0;

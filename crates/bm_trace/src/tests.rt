@@ -22,7 +22,8 @@ enum Seen {
     Unsteered(Reason),
 }
 
-/// What happens, by the numbers of packets, muxes, versions and servers, in the order of the report.
+/// What happens, by the numbers of packets, muxes, versions and servers, in the order of the
+/// report.
 #[derive(Clone, Copy)]
 enum Happening {
     Publish(u32),

@@ -17,8 +17,10 @@ pub returns-in_err-put_full-clause-err : goal.returns-in_err-put_full-clause-err
 returns-in_err-put_full-clause-err g c =
     on_err _ _
     (records_refused (reverse c.args.h.now.events) c.items-records.result.now c.args.h.now.stage.capture.records
-    c.loop-place.place _ (with_later c.first.result c.later.result.now) _ _ _ _ _ _ (omega arith) c.items-records.ensures
-    (ends_there c.args.h.now.events c.items.result.now c.loop-place.place (ends_at c.in_ok-ends.ends c.loop-place.place) _
+    c.loop-place.place _ (with_later c.first.result c.later.result.now) _ _ _ _ _ _ (omega arith)
+    c.items-records.ensures
+    (ends_there c.args.h.now.events c.items.result.now c.loop-place.place
+    (ends_at c.in_ok-ends.ends c.loop-place.place) _
     (c.in_ok-ends.ensures.ends c.loop-place.place (omega arith)) c.items.ensures
     (both_same c.first.ensures c.later.ensures))
     c.loop-place.invariant.written c.in_ok-write_record.ensures c.in_err-put_full.ensures.err)
@@ -27,7 +29,8 @@ pub loop-place-preserved : goal.loop-place-preserved
 loop-place-preserved g c = record {
   written = records_more (reverse c.args.h.now.events) c.items-records.result.now c.loop-place.place _
       (with_later c.first.result c.later.result.now) _ _ _ _ _ _ _ (omega arith)
-      (ends_there c.args.h.now.events c.items.result.now c.loop-place.place (ends_at c.in_ok-ends.ends c.loop-place.place)
+      (ends_there c.args.h.now.events c.items.result.now c.loop-place.place
+      (ends_at c.in_ok-ends.ends c.loop-place.place)
       _ (c.in_ok-ends.ensures.ends c.loop-place.place (omega arith)) c.items.ensures
       (both_same c.first.ensures c.later.ensures))
       c.loop-place.invariant.written c.in_ok-write_record.ensures c.in_ok-put_full.ensures.ok;
