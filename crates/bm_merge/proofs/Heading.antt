@@ -1,6 +1,6 @@
 -- Logs merged by their next events.
 use Rattle.std.proofs.Common.{◌≡◌, ℕ, zero, suc, ◌+◌, ◌<◌, ◌≤◌, Bool, true, false, cond, List, [], ◌∷◌, ◌++◌, length}
-use Rattle.std.proofs.Common.{Some, None, Option, unwrap_or, drop, take, map, refl, sym, ap, subst, ◌∙◌, arith, leb, set}
+use Rattle.std.proofs.Common.{Some, None, Option, unwrap_or, drop, take, map, min, refl, sym, ap, subst, ◌∙◌, arith, leb, set}
 use Rattle.std.specs.Prelude.{reverse, slice_get, slice_index_or}
 use Rattle.std.specs.List.{AllByRecursion, remove}
 use Rattle.std.proofs.lemmas.Bool.{le-leb, lt-leb}
@@ -403,3 +403,16 @@ log_more events logs i old new item was lt is at =
     taken_log events (x ∷ logs) (suc i) d lt =
         ap (λ (r : List Event). events x ++ r) (taken_log events logs i d (omega arith))
         ∙ associated (events x) (joined (map events (take i logs))) (events (slice_index_or logs i d))
+
+-- and their number, up to the greatest that there is
+pub room_more : {L : Type 0} (events : L → List Event) (logs : List L) (i most old new count : ℕ) (item : L)
+    → old ≡ min (length (joined (map events (take i logs)))) most → i < length logs → count ≡ length (events item)
+    → item ≡ slice_index_or logs i item → new ≡ min (old + count) most
+    → new ≡ min (length (joined (map events (take (i + 1) logs)))) most
+room_more events logs i most old new count item was lt size at is =
+    let before = joined (map events (take i logs)) in
+    let next : before ++ events item ≡ joined (map events (take (i + 1) logs)) =
+    log_more events logs i before (before ++ events item) item refl lt refl at in
+    let more : length (joined (map events (take (i + 1) logs))) ≡ length before + length (events item) =
+    ap (λ (l : List Event). length l) (sym next) ∙ length-append before (events item) in
+    rw more (omega arith)

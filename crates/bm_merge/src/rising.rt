@@ -1,5 +1,6 @@
 //! Logs whose clocks don't fall, merged event by event.
-ghost use Rattle.std.specs.Prelude.{◌≡◌, ◌<◌, ◌++◌, List, length, map, slice_get, Some, IfOk, OnOk};
+ghost use Rattle.std.specs.Prelude.{◌≡◌, ◌<◌, ◌^◌, ◌-◌, ◌++◌, List, length, map, min, slice_get, Some};
+ghost use Rattle.std.specs.Prelude.{IfOk, OnOk};
 ghost use Rattle.std.specs.List.{AllByRecursion};
 ghost use Rattle.bm_core.specs.declared.events.Event.{Event};
 ghost use Rattle.bm_merge.specs.Merges.{joined};
@@ -88,8 +89,10 @@ fn earliest(heads: &[Head]) -> usize
     least
 }
 
-/// How many events the logs have.
-fn room_of<L: EventLog>(logs: &[L]) -> usize {
+/// How many events the logs have, or the greatest number there is.
+fn room_of<L: EventLog>(logs: &[L]) -> usize
+    ensures { result ≡ min (length (joined (map L.events logs.now))) (2 ^ 64 - 1) }
+{
     let mut room: usize = 0;
     for log in logs {
         room = room.saturating_add(log.count());
