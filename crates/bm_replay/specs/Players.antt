@@ -1,7 +1,7 @@
 -- The state of a replay on its way, and what each step does to it.
 use Rattle.std.specs.Prelude.{◌≡◌, ◌≢◌, ℕ, suc, ◌+◌, ◌-◌, ◌*◌, ◌^◌, ◌<◌, ◌≤◌, ◌==◌, true, All}
 use Rattle.std.specs.Prelude.{if◌then◌else◌, List, [], ◌∷◌, ◌++◌, length, Option, Some, None}
-use Rattle.std.specs.Prelude.{is_some, slice_get, slice_index_or}
+use Rattle.std.specs.Prelude.{Bool, ◌&&◌, nat_le, not, is_some, slice_get, slice_index_or}
 use Rattle.bm_base.specs.declared.ids.Moment.{Moment}
 use Rattle.bm_base.specs.declared.ids.MuxId.{MuxId}
 use Rattle.bm_base.specs.declared.ids.ServerId.{ServerId}
@@ -12,6 +12,7 @@ use Rattle.bm_base.specs.declared.label.Label.{Label}
 use Rattle.bm_base.specs.declared.label.Tag.{Tag}
 use Rattle.bm_base.specs.declared.fate.Fate.{Fate}
 use Rattle.bm_base.specs.Labels.{tag_of}
+use Rattle.bm_base.specs.Pieces.{cleared as cleared_first}
 use Rattle.bm_base.specs.Tags.{IsTag}
 use Rattle.bm_base.specs.declared.capture.Body.TheVariants.{Steerable}
 use Rattle.bm_fault.specs.declared.wire.Flight.{Flight}
@@ -27,7 +28,8 @@ use Rattle.bm_core.specs.declared.events.What.{What}
 use Rattle.bm_core.specs.declared.events.What.TheVariants.{Publish, Switch, Steer, Lose, Arrive}
 use Rattle.bm_core.specs.declared.events.What.TheVariants.{Close, Retire, Sync}
 use Rattle.bm_core.specs.declared.events.Stage.{Stage}
-use Rattle.bm_core.specs.declared.schedule.Call.TheVariants.{Publishes}
+use Rattle.bm_core.specs.declared.schedule.Call.{Call}
+use Rattle.bm_core.specs.declared.schedule.Call.TheVariants.{Publishes, Steers}
 use Rattle.bm_core.specs.declared.schedule.Due.{Due}
 use Rattle.bm_core.specs.Accounts.{Routes, Rules}
 use Rattle.bm_core.specs.Past.{bucket, segment_of, shard}
@@ -268,8 +270,40 @@ pub record HasArrived (F : Rules) (clock : Moment) (p q : Player) : Type 0 where
 abbrev pub KeepsPackets : Player → Type 0
 KeepsPackets p = HoldsPackets p.stage.capture.records p.cleared p.packets p.wire p.packet
 
+-- to let so many packets go is worth its time, where so many are let go already: they are at least
+-- 16,384, and no fewer than those behind them
+abbrev pub is_worth : ℕ → ℕ → ℕ → Bool
+is_worth done cleared count =
+    nat_le 16384 (done - cleared) && nat_le (count - done) (done - cleared)
+
+-- before the packet that is steered next, if one is, so many come no more
+abbrev pub before_call : Call → Option ℕ
+before_call (Steers k) = Some (k - 1)
+before_call _ = None
+
+abbrev pub before_head : Option Due → Option ℕ
+before_head None = None
+before_head (Some d) = before_call d.call
+
+-- so many, where no copy is under way and it is worth its time
+abbrev pub worth_of : Player → Option ℕ → Option ℕ
+worth_of p None = None
+worth_of p (Some done) =
+    if is_worth done p.cleared (length p.packets) && not (is_some (first_due p.wire)) then Some done
+    else None
+
+-- how many packets in front are let go
+abbrev pub done_for : Player → Option ℕ
+done_for p = worth_of p (before_head p.packet.head)
+
+-- so many packets in front were let go
+abbrev pub let_go_first : Option ℕ → Player → Player
+let_go_first None p = p
+let_go_first (Some done) p = record p { packets = cleared_first done p.packets; cleared = done }
+
 -- packets were let go that come no more, or none
 pub record HasLetGo (p q : Player) : Type 0 where
+  pub gone : q ≡ let_go_first (done_for p) p
   pub packets : List (List ℕ)
   pub cleared : ℕ
   pub holds : HoldsPackets p.stage.capture.records cleared packets p.wire p.packet

@@ -19,7 +19,7 @@ ghost use Rattle.bm_replay.specs.Players.{HasClosed, HasGone, HasLetGo, HasPlace
 ghost use Rattle.bm_replay.specs.Players.{HasSent, KeepsPackets};
 ghost use Rattle.bm_replay.specs.Players.{HasSteered, HasSwitched, HasSynced, IsNew, after_loss};
 ghost use Rattle.bm_replay.specs.Players.{after_publish, chained, coming_for, forwards, happened};
-ghost use Rattle.bm_replay.specs.Players.{publish_after, what_for};
+ghost use Rattle.bm_replay.specs.Players.{done_for, publish_after, what_for};
 ghost use Rattle.bm_replay.specs.Playing.{HasPlayed, HasStepped, IsComing, IsPlaying};
 ghost use Rattle.bm_shard.specs.Books.{IsTaken};
 ghost use Rattle.bm_replay.specs.Shards.{place_of};
@@ -221,6 +221,7 @@ impl Player {
     /// or less than half of all packets, are still held.
     fn done(&self) -> Option<u32>
         requires { KeepsPackets self.now }
+        ensures exact { result ≡ done_for self.now }
         ensures within { IfSome result (λ done. done ≤ length self.now.packets) }
         ensures holds { IfSome result (λ done. HoldsPackets self.now.stage.capture.records done
             (cleared done self.now.packets) self.now.wire self.now.packet) }
