@@ -1,7 +1,7 @@
 -- Lines of events and records that are written side by side.
 use Rattle.std.proofs.Common.{◌≡◌, ℕ, ◌+◌, ◌*◌, ◌^◌, ◌-◌, ◌<◌, ◌≤◌, List, [], ◌∷◌, ◌++◌, length, take, drop, get_or, set}
 use Rattle.std.proofs.Common.{refl, ap, ◌∙◌, sym, arith, append_assoc, Option, Some, subst}
-use Rattle.std.proofs.Common.{inl, inr, length-append, Bool, true, false}
+use Rattle.std.proofs.Common.{Global, Vec, inl, inr, length-append, Bool, true, false}
 use Rattle.std.proofs.lemmas.Bool.{cases_lt}
 use Rattle.std.specs.Prelude.{codes, decimal, reverse, min, slice_get, string_bytes, MatchBool}
 use Rattle.std.specs.Io.KnownBytes.{Appends}
@@ -14,11 +14,14 @@ use Rattle.bm_base.specs.declared.ids.Version.{Version}
 use Rattle.bm_table.proofs.Gets.{slice_get-append_left, slice_get-push}
 use Rattle.bm_core.specs.declared.events.History.{History}
 use Rattle.bm_trace.specs.Ends.{words_of_ends, words_of_record}
-use Rattle.bm_trace.specs.Pieces.{AreInRow, AreLines, CanWrite, HasWritten, PutsLines, PutsPart, first_lines}
-use Rattle.bm_trace.specs.Pieces.{line_count, place_of}
-use Rattle.bm_trace.specs.Running.{AreVersions}
+use Rattle.bm_trace.specs.Pieces.{AreInRow, AreLines, AreWritten, HasDealt, HaveWritten, IsRound, IsWritten, PutsLines, PutsPart}
+use Rattle.bm_trace.specs.Pieces.{first_lines, line_count, place_of}
+use Rattle.bm_trace.specs.Swept.{HasSwept}
+use Rattle.bm_trace.specs.Totals.{strays}
 use Rattle.bm_trace.specs.Words.{line}
 use Rattle.bm_trace.specs.declared.beside.Piece.{Piece}
+use Rattle.bm_trace.specs.declared.beside.Round.{Round}
+use Rattle.bm_trace.specs.declared.swept.Sweeper.{Sweeper}
 use Rattle.bm_trace.specs.declared.records.End.{End}
 use Rattle.bm_trace.specs.Parts.{HandsOn, HandsPart, WritesPart}
 use Rattle.bm_trace.specs.Report.{ends_of, event_lines, record_lines}
@@ -125,6 +128,11 @@ puts_more h i j k a b c lines before are put = record {
   lines = lines_both h i j k before.sent lines before.lines are;
 }
 
+pub puts_both : (h : History) (i j k : ℕ) (a b c : Option (List ℕ)) → PutsLines h i j a b → PutsLines h j k b c
+    → PutsLines h i k a c
+puts_both h i j k a b c first second =
+    puts_more h i j k a b c second.sent first second.lines second.appended
+
 -- WHERE IT ENDS EARLY
 
 pub puts_left : (h : History) (i j : ℕ) (a b : Option (List ℕ)) → PutsLines h i j a b → PutsPart h i a b
@@ -194,16 +202,6 @@ place_next n from k at step here is = omega (arith, here, is)
 pub step_within : (n at step : ℕ) → at ≤ n → step ≡ min (2 ^ 14) (n - at) → at + step ≤ n
 step_within n at step here is = omega (arith, here, is)
 
-pub can_write : (h : History) (p : Piece) (at to : ℕ) (versions : List Version) → p.from ≡ at → p.to ≡ to
-    → p.versions.items ≡ versions → string_bytes p.lines ≡ [] → at ≤ to → to ≤ line_count h
-    → AreVersions (reverse (take at h.events)) versions → CanWrite h p
-can_write h p at to versions from_is to_is versions_are empty order there known = record {
-  order = omega (arith, from_is, to_is, order);
-  there = omega (arith, to_is, there);
-  known = rw (from_is, versions_are) known;
-  empty = empty;
-}
-
 pub row_more : (h : History) (from k : ℕ) (pieces new : List Piece) (p : Piece) → new ≡ pieces ++ p ∷ []
     → length pieces ≡ k → p.from ≡ place_of h from k → p.to ≡ place_of h from (k + 1) → AreInRow h from pieces
     → AreInRow h from new
@@ -228,49 +226,86 @@ pub begun_take : {X : Type 0} (xs : List X) (k : ℕ) (x : X) → k < length xs
     → take (k + 1) (set xs k x) ≡ take k xs ++ x ∷ []
 begun_take xs k x below = grind (arith, common_steps)
 
--- the piece of this number was written, but where memory was refused
-abbrev pub IsWritten : History → ℕ → ℕ → Piece → Type 0
-IsWritten h from k p =
-    (p.from ≡ place_of h from k) × (p.to ≡ place_of h from (k + 1))
-    × (p.refused ≡ false → AreLines h p.from p.to (string_bytes p.lines))
+-- THE LINES OF A ROW
 
-written_there : (h : History) (from k : ℕ) (old new : List Piece) (d : Piece) → length new ≡ length old
-    → AreInRow h from old
-    → ((k : ℕ) (p q : Piece) → slice_get old k ≡ Some p → slice_get new k ≡ Some q → HasWritten h p q)
-    → k < length new → IsWritten h from k (get_or new k d)
-written_there h from k old new d count row each below =
-    let p = get_or old k d
-    in let q = get_or new k d
-    in let there : slice_get old k ≡ Some p = slice_get-get_or old k d (omega (arith, count, below))
+pub all_written : (h : History) (from : ℕ) (old new : List Piece) → length new ≡ length old → AreInRow h from old
+    → HaveWritten h old new → AreWritten h from new
+all_written h from old new count row each k q at =
+    let below = slice_get_within new k q at
+    in let p = get_or old k q
+    in let there : slice_get old k ≡ Some p = slice_get-get_or old k q (omega (arith, count, below))
     in let place = row k p there
-    in let wrote = each k p q there (slice_get-get_or new k d below)
-    in (
-      wrote.begins ∙ place.0,
-      wrote.ends ∙ place.1,
-      λ fine. rw (wrote.begins, wrote.ends) (wrote.lines fine),
-    )
+    in let wrote = each.each k p q there at
+    in record {
+      begins = wrote.begins ∙ place.0;
+      ends = wrote.ends ∙ place.1;
+      lines = λ fine.
+          subst (λ x. AreLines h x q.to (string_bytes q.lines)) (sym wrote.begins)
+          (subst (λ x. AreLines h p.from x (string_bytes q.lines)) (sym wrote.ends) (wrote.lines fine));
+    }
 
-pub piece_there : (h : History) (from k : ℕ) (old new : List Piece) (p : Piece) → length new ≡ length old
-    → AreInRow h from old
-    → ((k : ℕ) (p q : Piece) → slice_get old k ≡ Some p → slice_get new k ≡ Some q → HasWritten h p q)
-    → k < length new → p ≡ get_or new k p → IsWritten h from k p
-piece_there h from k old new p count row each below is =
-    subst (λ x. IsWritten h from k x) (sym is) (written_there h from k old new p count row each below)
+pub written_at : (h : History) (from k : ℕ) (pieces : List Piece) (p : Piece) → AreWritten h from pieces
+    → k < length pieces → p ≡ get_or pieces k p → IsWritten h from k p
+written_at h from k pieces p all below is =
+    subst (λ x. IsWritten h from k x) (sym is) (all k (get_or pieces k p) (slice_get-get_or pieces k p below))
 
-pub piece_put : (h : History) (from k at : ℕ) (a b c : Option (List ℕ)) (p : Piece) → at ≡ place_of h from k
-    → IsWritten h from k p → PutsLines h from at a b → (p.refused ≡ false) × Appends b c (string_bytes p.lines)
-    → PutsLines h from p.to a c
-piece_put h from k at a b c p here is before put =
-    puts_more h from at p.to a b c (string_bytes p.lines) before
-    (subst (λ x. AreLines h x p.to (string_bytes p.lines)) (is.0 ∙ sym here) (is.2 put.0)) put.1
+pub puts_begun : (h : History) (from : ℕ) (a : Option (List ℕ)) → from ≤ line_count h
+    → PutsLines h from (place_of h from 0) a a
+puts_begun h from a within =
+    let at : from ≡ place_of h from 0 = omega (arith, within)
+    in subst (λ x. PutsLines h from x a a) at (puts_none h from a)
 
-pub piece_refused : (h : History) (from k at : ℕ) (a b c : Option (List ℕ)) (p : Piece) → at ≡ place_of h from k
-    → IsWritten h from k p → PutsLines h from at a b
+-- the lines of the piece of this number
+lines_at : (h : History) (from k : ℕ) (p : Piece) → IsWritten h from k p → p.refused ≡ false
+    → AreLines h (place_of h from k) (place_of h from (k + 1)) (string_bytes p.lines)
+lines_at h from k p is fine =
+    subst (λ x. AreLines h x (place_of h from (k + 1)) (string_bytes p.lines)) is.begins
+    (subst (λ x. AreLines h p.from x (string_bytes p.lines)) is.ends (is.lines fine))
+
+pub piece_put : (h : History) (from k : ℕ) (a b c : Option (List ℕ)) (p : Piece) → IsWritten h from k p
+    → PutsLines h from (place_of h from k) a b → (p.refused ≡ false) × Appends b c (string_bytes p.lines)
+    → PutsLines h from (place_of h from (k + 1)) a c
+piece_put h from k a b c p is before put =
+    puts_more h from (place_of h from k) (place_of h from (k + 1)) a b c (string_bytes p.lines) before
+    (lines_at h from k p is put.0) put.1
+
+pub piece_refused : (h : History) (from k : ℕ) (a b c : Option (List ℕ)) (p : Piece) → IsWritten h from k p
+    → PutsLines h from (place_of h from k) a b
     → MatchBool p.refused (c ≡ b) (WritesPart b c (string_bytes p.lines)) → PutsPart h from a c
-piece_refused h from k at a b c p here is before put = go p.refused refl put where
+piece_refused h from k a b c p is before put = go p.refused refl put where
   go : (r : Bool) → p.refused ≡ r → MatchBool r (c ≡ b) (WritesPart b c (string_bytes p.lines)) → PutsPart h from a c
-  go true refused same = subst (λ x. PutsPart h from a x) (sym same) (puts_left h from at a b before)
+  go true refused same =
+      subst (λ x. PutsPart h from a x) (sym same) (puts_left h from (place_of h from k) a b before)
   go false fine part =
-      puts_after h from at a b c before
-      (piece_left h at p.to b c (string_bytes p.lines)
-      (subst (λ x. AreLines h x p.to (string_bytes p.lines)) (is.0 ∙ sym here) (is.2 fine)) part)
+      puts_after h from (place_of h from k) a b c before
+      (piece_left h (place_of h from k) (place_of h from (k + 1)) b c (string_bytes p.lines) (lines_at h from k p is fine)
+      part)
+
+-- ROUNDS
+
+pub round_of : (h : History) (from to : ℕ) (sweeper : Sweeper) (dealt : List Piece) (pieces spare : Vec Piece Global)
+    → pieces.items ≡ dealt → from ≤ line_count h → HasDealt h from dealt sweeper to → 0 < length dealt
+    → length spare.items ≡ length dealt
+    → IsRound h record { sweeper = sweeper; pieces = pieces; spare = spare; from = from; to = to }
+round_of h from to sweeper dealt pieces spare is within all some same = record {
+  from = within;
+  dealt = subst (λ ps. HasDealt h from ps sweeper to) (sym is) all;
+  some = rw is some;
+  spare = rw is same;
+}
+
+-- a round goes on
+pub place_behind : (n from k : ℕ) → from < n → 0 < k → from < min (from + k * 2 ^ 14) n
+place_behind n from k before some = omega (arith, before, some)
+
+pub round_over : (h : History) (round : Round) → IsRound h round → line_count h ≤ round.from
+    → HasSwept h (line_count h) round.sweeper
+round_over h round is over =
+    let within = is.from
+    in let place = is.dealt.place
+    in let at : round.to ≡ line_count h = omega (arith, within, over, place)
+    in subst (λ n. HasSwept h n round.sweeper) at is.dealt.swept
+
+-- the strays of all events
+pub strays_all : (h : History) → strays h.stage (reverse (take (line_count h) h.events)) ≡ strays h.stage (reverse h.events)
+strays_all h = ap (λ es. strays h.stage (reverse es)) (take_over h.events (line_count h) (omega arith))

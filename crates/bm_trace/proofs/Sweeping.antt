@@ -1,6 +1,6 @@
 -- One cause for each event, in their order.
-use Rattle.std.proofs.Common.{◌≡◌, ℕ, zero, suc, ◌+◌, ◌<◌, ◌≤◌, Bool, ◌&&◌, inl, inr, List, [], ◌∷◌, ◌++◌, length, take}
-use Rattle.std.proofs.Common.{get_or, Option, Some, None, is_some, refl, sym, ap, ◌∙◌, arith, subst}
+use Rattle.std.proofs.Common.{◌≡◌, ℕ, zero, suc, ◌+◌, ◌<◌, ◌≤◌, Bool, true, false, ◌&&◌, inl, inr, List, [], ◌∷◌, ◌++◌, length, take}
+use Rattle.std.proofs.Common.{◌-◌, get_or, length-append, min, Option, Some, None, is_some, refl, sym, ap, ◌∙◌, arith, subst}
 use Rattle.std.specs.Prelude.{reverse, slice_get, if◌then◌else◌}
 use Rattle.std.proofs.lemmas.Bool.{cases_lt}
 use Rattle.std.proofs.lemmas.Grind.{common_steps}
@@ -15,7 +15,8 @@ use Rattle.bm_core.specs.Runs.{IsRun, past_at}
 use Rattle.bm_trace.specs.CauseOf.{cause_after, cause_of, is_fault, is_fault_after}
 use Rattle.bm_trace.specs.declared.known.Known.{Known}
 use Rattle.bm_trace.specs.Known.{Knows}
-use Rattle.bm_trace.specs.Swept.{AreCauses, AreFirst, cause_in}
+use Rattle.bm_trace.specs.Swept.{AreCauses, AreCausesOf, HasSwept, cause_in}
+use Rattle.bm_trace.specs.declared.swept.Sweeper.{Sweeper}
 use Rattle.bm_trace.specs.Totals.{arrives, is_stray, strays}
 use Rattle.bm_base.specs.declared.ids.Version.{Version}
 use Rattle.bm_trace.specs.Running.{AreVersions, versions_after}
@@ -53,29 +54,35 @@ versions_next shown n d versions new below is k =
     rw (reverse_take shown n d below, is)
     (versions_more (reverse (take n shown)) versions (get_or shown n d) k)
 
--- one event more
-pub one_more : (h : History) (n : ℕ) (d : Event) (shown : List Event) (causes new : List (Option Cause))
-    (found : Option Cause)
-    → shown ≡ h.events → n < length shown
+-- the cause that was found is the event's
+pub cause_found : (h : History) (shown : List Event) (n : ℕ) (d : Event) (found : Option Cause)
+    → shown ≡ h.events → n < length h.events
     → found ≡ cause h.stage (reverse (take n shown)) (get_or shown n d).clock.0 (get_or shown n d).what
-    → new ≡ causes ++ found ∷ [] → AreFirst h n causes → AreFirst h (n + 1) new
-one_more h n d shown causes new found same below is e first = record {
-  count = let c = first.count in rw e (grind (arith, common_steps));
-  each = λ place few.
+    → found ≡ cause_of h n
+cause_found h shown n d found same below is =
+    let is' : found ≡ cause h.stage (reverse (take n h.events)) (get_or h.events n d).clock.0
+    (get_or h.events n d).what = rw same at is
+    in is' ∙ sym (here h n d below)
+
+-- one cause more
+pub causes_more : (h : History) (from n : ℕ) (causes new : List (Option Cause)) (found : Option Cause)
+    → min from (length h.events) ≤ n → n < length h.events → found ≡ cause_of h n → new ≡ causes ++ found ∷ []
+    → AreCausesOf h from n causes → AreCausesOf h from (n + 1) new
+causes_more h from n causes new found order below is e first = record {
+  count = let c = first.count in rw e (omega (arith, length-append causes (found ∷ []), c, order, below));
+  each = λ k few.
       let c = first.count
-      in elim (cases_lt place n) [
+      in let few' : k < length (causes ++ found ∷ []) = rw e at few
+      in elim (cases_lt k (length causes)) [
         | inl before ↦
-            let old : cause_in (causes ++ found ∷ []) place ≡ cause_in causes place = grind (arith, common_steps)
-            in rw e (old ∙ first.each place before)
+            let old : cause_in (causes ++ found ∷ []) k ≡ cause_in causes k = grind (arith, common_steps)
+            in rw e (old ∙ first.each k before)
         | inr last ↦
-            let at : place ≡ n = omega (arith, few, last)
-            in let new' : cause_in (causes ++ found ∷ []) n ≡ found = grind (arith, common_steps)
-            in let below' : n < length h.events = rw same at below
-            in let is' : found ≡ cause h.stage (reverse (take n h.events)) (get_or h.events n d).clock.0
-            (get_or h.events n d).what = rw same at is
-            in let end : cause_in (causes ++ found ∷ []) n ≡ cause_of h n = new' ∙ is' ∙ sym (here h n d below')
-            in ap (λ xs. cause_in xs place) e ∙ ap (λ k. cause_in (causes ++ found ∷ []) k) at ∙ end
-            ∙ ap (λ k. cause_of h k) (sym at)
+            let at : k ≡ length causes = omega (arith, few', last, length-append causes (found ∷ []))
+            in let place : from + k ≡ n = omega (arith, at, c, order, below)
+            in let new' : cause_in (causes ++ found ∷ []) (length causes) ≡ found = grind (arith, common_steps)
+            in ap (λ xs. cause_in xs k) e ∙ ap (λ j. cause_in (causes ++ found ∷ []) j) at ∙ new' ∙ is
+            ∙ ap (λ j. cause_of h j) (sym place)
       ];
 }
 
@@ -84,15 +91,26 @@ get_beyond [] i d h = refl
 get_beyond (x ∷ xs) zero d h = absurd (omega arith)
 get_beyond (x ∷ xs) (suc i) d h = get_beyond xs i d (omega arith)
 
-pub all_causes : (h : History) (causes : List (Option Cause)) → AreFirst h (length h.events) causes → AreCauses h causes
-all_causes h causes first place =
-    elim (cases_lt place (length h.events)) [
-      | inl within ↦ first.each place within
+pub all_causes : (h : History) (causes : List (Option Cause)) → AreCausesOf h 0 (length h.events) causes
+    → AreCauses h causes
+all_causes h causes all place =
+    let c = all.count
+    in elim (cases_lt place (length h.events)) [
+      | inl within ↦
+          let at : 0 + place ≡ place = omega arith
+          in all.each place (omega (arith, c, within)) ∙ ap (λ j. cause_of h j) at
       | inr beyond ↦
-          let c = first.count
-          in get_beyond causes place None (omega (arith, c, beyond))
+          get_beyond causes place None (omega (arith, c, beyond))
           ∙ sym (ap (λ o. cause_after h.stage (past_at h place) o) (get_past h.events place beyond))
     ]
+
+-- the cause of an event among those of a part
+pub cause_of_part : (h : History) (from to place : ℕ) (causes : List (Option Cause)) → AreCausesOf h from to causes
+    → from ≤ place → place < to → place < length h.events → cause_in causes (place - from) ≡ cause_of h place
+cause_of_part h from to place causes all order below there =
+    let c = all.count
+    in let at : from + (place - from) ≡ place = omega (arith, order)
+    in all.each (place - from) (omega (arith, c, order, below, there)) ∙ ap (λ j. cause_of h j) at
 
 -- STRAYS
 
@@ -136,6 +154,45 @@ stray_counted h n count new d shown found stray run same below is was s e =
     in e ∙ ap (λ b. if b then suc count else count) (s' ∙ sym (stray_by_cause h n d found run below' is))
     ∙ sym (strays_more h n count d below' was)
 
-pub known_more : (stage : Stage) (shown : List Event) (n : ℕ) (d : Event) (k : Known) → n < length shown
-    → Knows stage (get_or shown n d ∷ reverse (take n shown)) k → Knows stage (reverse (take (n + 1) shown)) k
-known_more stage shown n d k below knows = subst (λ past. Knows stage past k) (sym (reverse_take shown n d below)) knows
+known_more : (h : History) (shown : List Event) (n : ℕ) (d : Event) (k : Known) → shown ≡ h.events
+    → n < length h.events → Knows h.stage (get_or shown n d ∷ reverse (take n shown)) k
+    → Knows h.stage (reverse (take (n + 1) h.events)) k
+known_more h shown n d k same below knows =
+    subst (λ past. Knows h.stage past k) (sym (reverse_take h.events n d below))
+    (subst (λ es. Knows h.stage (get_or es n d ∷ reverse (take n es)) k) same knows)
+
+-- THE SWEEP
+
+few_more : (stray : Bool) (count new n len : ℕ) → new ≡ (if stray then suc count else count) → count ≤ min n len
+    → n < len → new ≤ min (n + 1) len
+few_more true count new n len is few below = omega (arith, is, few, below)
+few_more false count new n len is few below = omega (arith, is, few, below)
+
+-- one event more
+pub swept_more : (h : History) (shown : List Event) (n : ℕ) (d : Event) (old new : Sweeper) (found : Option Cause)
+    (stray : Bool)
+    → IsRun h → shown ≡ h.events → n < length h.events
+    → found ≡ cause h.stage (reverse (take n shown)) (get_or shown n d).clock.0 (get_or shown n d).what
+    → Knows h.stage (get_or shown n d ∷ reverse (take n shown)) new.known
+    → stray ≡ (arrives is_process (get_or shown n d).what && is_some found)
+    → new.strays ≡ (if stray then suc old.strays else old.strays) → HasSwept h n old → HasSwept h (n + 1) new
+swept_more h shown n d old new found stray run same below is knows stray_is count before = record {
+  known = known_more h shown n d new.known same below knows;
+  counted = stray_counted h n old.strays new.strays d shown found stray run same
+      (omega (arith, below, ap length same)) (cause_found h shown n d found same below is) before.counted stray_is count;
+  few = few_more stray old.strays new.strays n (length h.events) count before.few below;
+}
+
+take_min : {X : Type 0} (n : ℕ) (xs : List X) → take (min n (length xs)) xs ≡ take n xs
+take_min n xs = grind (arith, common_steps)
+
+-- behind the events nothing changes
+pub swept_to : (h : History) (n to : ℕ) (sweeper : Sweeper) → n ≡ min to (length h.events) → HasSwept h n sweeper
+    → HasSwept h to sweeper
+swept_to h n to sweeper at swept =
+    let same : take n h.events ≡ take to h.events = ap (λ k. take k h.events) at ∙ take_min to h.events
+    in record {
+      known = subst (λ es. Knows h.stage (reverse es) sweeper.known) same swept.known;
+      counted = swept.counted ∙ ap (λ es. strays h.stage (reverse es)) same;
+      few = let f = swept.few in omega (arith, f, at);
+    }

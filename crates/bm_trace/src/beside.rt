@@ -5,59 +5,64 @@ ghost use Rattle.std.specs.Prelude.{vec_len, ◌^◌, ◌-◌};
 ghost use Rattle.std.specs.Io.KnownBytes.{Appends};
 ghost use Rattle.bm_core.specs.Runs.{IsRun};
 ghost use Rattle.bm_io.specs.Causes.{HasIoCause};
-ghost use Rattle.bm_trace.specs.Pieces.{AreEnds, AreInRow, AreLines, AreRight, CanWrite};
-ghost use Rattle.bm_trace.specs.Pieces.{HasWritten, PutsLines, PutsPart, line_count, place_of};
+ghost use Rattle.bm_trace.specs.CauseOf.{cause_of};
+ghost use Rattle.bm_trace.specs.Pieces.{AreEnds, AreInRow, AreLines, AreRight, AreWritten, CanWrite};
+ghost use Rattle.bm_trace.specs.Pieces.{HasDealt, HasWritten, HaveWritten, IsRound, PutsLines};
+ghost use Rattle.bm_trace.specs.Pieces.{PutsPart, line_count, place_of};
 ghost use Rattle.bm_trace.specs.Parts.{WritesPart};
-ghost use Rattle.bm_trace.specs.Ranges.{HasRanges};
 ghost use Rattle.bm_trace.specs.Report as report;
 ghost use Rattle.bm_trace.specs.Running.{AreVersions};
-ghost use Rattle.bm_trace.specs.Swept.{AreCauses};
-ghost use Rattle.bm_trace.specs.declared.beside.Piece.{Piece as PieceOf};
+ghost use Rattle.bm_trace.specs.Swept.{AreCausesOf, HasSwept};
+ghost use Rattle.std.specs.Thread.{IsSync};
 
+use crate::counts::totals_with;
 use crate::document::put_end;
 use crate::endings::{EndTable, ends_of_packets};
 use crate::lines::write_event;
 use crate::records::write_record;
-use crate::swept::{CauseList, causes_of, totals_of};
-use crate::versions::{no_versions, note_version};
-use bm_base::{Memory, Version};
-use bm_core::{Event, History};
+use crate::swept::{Sweeper, cause_in};
+use crate::versions::note_version;
+use bm_base::Version;
+use bm_core::{Cause, History};
 use bm_io::{IoFault, Sink, put_all};
 use std::alloc::{AllocError, Global};
+use std::mem::swap;
 use std::thread;
-use std::thread::Threads;
+use std::thread::{Threads, join_mut};
 
 /// How many lines a piece has, but for the last one.
 const PIECE: usize = 16_384;
 
-/// What the lines of the events and the records are written from.
+/// How many events and records there are.
+fn line_count(h: &History) -> usize
+    requires { IsRun h.now }
+    ensures { result ≡ line_count h.now }
+{
+    h.events.items().len() + h.stage.capture.records.items().len()
+}
+
+/// What the lines of the events and the records are written from, but for the causes of the events.
 #[derive(Clone, Copy)]
 pub(crate) struct Facts<'a> {
     history: &'a History,
-    causes: &'a CauseList,
     /// The ends of each record's packet.
     ends: &'a EndTable,
 }
 
 impl<'a> Facts<'a> {
-    /// How many events and records there are.
-    fn line_count(&self) -> usize
-        requires { AreRight self.now }
-        ensures { result ≡ line_count self.now.history.now }
-    {
-        self.history.events.items().len() + self.history.stage.capture.records.items().len()
-    }
-
-    /// Writes the line at a place, before which the versions are these. The lines of the records
-    /// stand behind those of the events.
+    /// Writes the line at a place, before which the versions are these. An event there has this
+    /// cause. The lines of the records stand behind those of the events.
     fn write_line(
         &self,
         lines: &mut String,
         versions: &mut Vec<Version>,
         place: usize,
+        cause: Option<Cause>,
     ) -> Result<(), AllocError>
         requires right { AreRight self.now }
         requires place { place < line_count self.now.history.now }
+        requires cause { place < length self.now.history.now.events
+            → cause ≡ cause_of self.now.history.now place }
         requires known { AreVersions (reverse (take place self.now.history.now.events))
             versions.old.items }
         ensures line { OnOk result ((from : ℕ)
@@ -70,7 +75,6 @@ impl<'a> Facts<'a> {
         let events = self.history.events.items();
         if place < events.len() {
             let event = &events[place];
-            let cause = self.causes.at(place);
             let stage = &self.history.stage;
             write_event(lines, versions, stage, &events[..place], event, cause)?;
             note_version(versions, &event.what);
@@ -97,15 +101,19 @@ pub(crate) struct Piece {
     to: usize,
     /// The versions of the muxes before the piece's next line.
     versions: Vec<Version>,
+    /// The causes of the piece's events.
+    causes: Vec<Option<Cause>>,
     lines: String,
     /// Whether memory was refused for the lines.
     refused: bool,
 }
 
-/// Writes the lines from one place to another, before which the versions are these.
+/// Writes the lines from one place to another, before which the versions are these. The events
+/// among them have these causes.
 fn write_lines(
     lines: &mut String,
     versions: &mut Vec<Version>,
+    causes: &[Option<Cause>],
     facts: &Facts<'_>,
     from: usize,
     to: usize,
@@ -114,24 +122,14 @@ fn write_lines(
     requires order { (from ≤ to) × (to ≤ line_count facts.now.history.now) }
     requires known { AreVersions (reverse (take from facts.now.history.now.events))
         versions.old.items }
+    requires causes { AreCausesOf facts.now.history.now from to causes.now }
     requires empty { string_bytes lines.old ≡ [] }
     ensures { OnOk result (AreLines facts.now.history.now from to (string_bytes lines.new)) }
 {
     for place in from..to {
-        facts.write_line(lines, versions, place)?;
+        facts.write_line(lines, versions, place, cause_in(causes, place - from))?;
     }
     Ok(())
-}
-
-/// Takes note of the events from one place to another, as far as there are events.
-fn note_versions(versions: &mut Vec<Version>, events: &[Event], from: usize, to: usize)
-    requires order { from ≤ to }
-    requires known { AreVersions (reverse (take from events.now)) versions.old.items }
-    ensures { AreVersions (reverse (take to events.now)) versions.new.items }
-{
-    for place in from.min(events.len())..to.min(events.len()) {
-        note_version(versions, &events[place].what);
-    }
 }
 
 impl Piece {
@@ -141,23 +139,36 @@ impl Piece {
             from: 0,
             to: 0,
             versions: Vec::new(alloc),
+            causes: Vec::new(alloc),
             lines: String::new(alloc),
             refused: false,
         }
     }
 
-    /// Takes the lines from one place to another, before which the versions are these. What memory
-    /// it has for lines it keeps.
-    fn begin(&mut self, from: usize, to: usize, versions: &[Version]) -> Result<(), AllocError>
-        ensures { OnOk result ((self.new.from ≡ from) × (self.new.to ≡ to)
-            × (self.new.versions.items ≡ versions.now) × (string_bytes self.new.lines ≡ [])) }
+    /// Takes the lines from one place to another, up to which the sweep goes on. What memory it has
+    /// it keeps.
+    fn begin(
+        &mut self,
+        alloc: Global,
+        h: &History,
+        sweeper: &mut Sweeper,
+        from: usize,
+        to: usize,
+    ) -> Result<(), AllocError>
+        requires run { IsRun h.now }
+        requires order { (from ≤ to) × (to ≤ line_count h.now) }
+        requires swept { HasSwept h.now from sweeper.old }
+        ensures place { OnOk result ((self.new.from ≡ from) × (self.new.to ≡ to)) }
+        ensures can { OnOk result (CanWrite h.now self.new) }
+        ensures swept { OnOk result (HasSwept h.now to sweeper.new) }
     {
         self.from = from;
         self.to = to;
-        self.versions.clear();
-        self.versions.extend_from_slice(versions)?;
         self.lines.clear();
-        Ok(())
+        self.versions.clear();
+        self.versions.extend_from_slice(sweeper.versions())?;
+        self.causes.clear();
+        sweeper.advance(alloc, h, from, to, &mut self.causes)
     }
 
     /// Writes the piece's lines.
@@ -169,6 +180,7 @@ impl Piece {
         let written = write_lines(
             &mut self.lines,
             &mut self.versions,
+            &self.causes,
             facts,
             self.from,
             self.to,
@@ -203,35 +215,29 @@ fn no_pieces(alloc: Global, count: usize) -> Result<Vec<Piece>, AllocError>
     Ok(pieces)
 }
 
-/// Gives the pieces the lines from this place on, before which the versions are these. Then the
-/// versions are those behind the pieces.
+/// Gives the pieces the lines from this place on, up to the place that it answers, where the sweep
+/// then stands.
 fn deal_out(
+    alloc: Global,
+    h: &History,
+    sweeper: &mut Sweeper,
     pieces: &mut [Piece],
-    facts: &Facts<'_>,
     from: usize,
-    versions: &mut Vec<Version>,
-) -> Result<(), AllocError>
-    requires right { AreRight facts.now }
-    requires from { from ≤ line_count facts.now.history.now }
-    requires known { AreVersions (reverse (take from facts.now.history.now.events))
-        versions.old.items }
+) -> Result<usize, AllocError>
+    requires run { IsRun h.now }
+    requires from { from ≤ line_count h.now }
+    requires swept { HasSwept h.now from sweeper.old }
     ensures count { length pieces.new ≡ length pieces.old }
-    ensures can { OnOk result (All (CanWrite facts.now.history.now) pieces.new) }
-    ensures row { OnOk result (AreInRow facts.now.history.now from pieces.new) }
-    ensures known { OnOk result (AreVersions
-        (reverse (take (place_of facts.now.history.now from (length pieces.old))
-        facts.now.history.now.events)) versions.new.items) }
+    ensures dealt { IfOk result (HasDealt h.now from pieces.new sweeper.new) }
 {
-    let events = facts.history.events.items();
-    let end = facts.line_count();
+    let end = line_count(h);
     let mut at = from;
     for number in 0..pieces.len() {
         let to = at + PIECE.min(end - at);
-        pieces[number].begin(at, to, versions)?;
-        note_versions(versions, events, at, to);
+        pieces[number].begin(alloc, h, sweeper, at, to)?;
         at = to;
     }
-    Ok(())
+    Ok(at)
 }
 
 /// Writes the lines of all pieces at once, and waits for all of them.
@@ -239,8 +245,7 @@ fn write_all<R: Threads + Sync>(rt: &R, facts: &Facts<'_>, pieces: &mut [Piece])
     requires right { AreRight facts.now }
     requires can { All (CanWrite facts.now.history.now) pieces.old }
     ensures count { length pieces.new ≡ length pieces.old }
-    ensures each { (k : ℕ) (old new : PieceOf) → slice_get pieces.old k ≡ Some old
-        → slice_get pieces.new k ≡ Some new → HasWritten facts.now.history.now old new }
+    ensures each { HaveWritten facts.now.history.now pieces.old pieces.new }
 {
     let threads = pieces.len().max(1);
     thread::for_each_mut(
@@ -254,106 +259,172 @@ fn write_all<R: Threads + Sync>(rt: &R, facts: &Facts<'_>, pieces: &mut [Piece])
     );
 }
 
-/// Writes the next lines from this place on, before which the versions are these, and answers where
-/// the lines behind them begin.
-fn put_next<R: Threads + Sync, K: Sink>(
+/// Writes the lines of all pieces. Beside that the spare pieces get the lines from this place on: the
+/// answer is where they end.
+fn write_beside<R: Threads + Sync>(
     rt: &R,
-    pieces: &mut [Piece],
     facts: &Facts<'_>,
-    from: usize,
-    versions: &mut Vec<Version>,
-    out: &mut K,
-) -> Result<usize, IoFault>
+    pieces: &mut [Piece],
+    sweeper: &mut Sweeper,
+    spare: &mut [Piece],
+    to: usize,
+) -> Result<usize, AllocError>
     requires right { AreRight facts.now }
-    requires from { from < line_count facts.now.history.now }
-    requires known { AreVersions (reverse (take from facts.now.history.now.events))
-        versions.old.items }
+    requires can { All (CanWrite facts.now.history.now) pieces.old }
+    requires to { to ≤ line_count facts.now.history.now }
+    requires swept { HasSwept facts.now.history.now to sweeper.old }
     ensures count { length pieces.new ≡ length pieces.old }
-    ensures place { IfOk result
-        (λ to. to ≡ place_of facts.now.history.now from (length pieces.old)) }
-    ensures known { IfOk result
-        (λ to. AreVersions (reverse (take to facts.now.history.now.events)) versions.new.items) }
-    ensures lines { IfOk result (λ to. PutsLines facts.now.history.now from to
-        (K.written out.old) (K.written out.new)) }
-    ensures err { OnErr result
-        (PutsPart facts.now.history.now from (K.written out.old) (K.written out.new)) }
-    ensures cause { HasIoCause (K.faults out.old) (K.faults out.new) result }
+    ensures each { HaveWritten facts.now.history.now pieces.old pieces.new }
+    ensures spare { length spare.new ≡ length spare.old }
+    ensures dealt { IfOk result (HasDealt facts.now.history.now to spare.new sweeper.new) }
 {
-    deal_out(pieces, facts, from, versions)?;
-    write_all(rt, facts, pieces);
-    let mut at = from;
-    for piece in pieces.iter() {
-        piece.put(out)?;
-        at = piece.to;
-    }
-    Ok(at)
+    let h = facts.history;
+    let alloc = facts.ends.allocator();
+    let ((), dealt) = join_mut(
+        rt,
+        &mut ||
+            requires { IsSync R.row × AreRight facts.now
+                × All (CanWrite facts.now.history.now) pieces.now }
+            ensures { (length pieces.exit.now ≡ length pieces.entry.now)
+                × HaveWritten facts.entry.now.history.now pieces.entry.now pieces.exit.now }
+        { write_all(rt, facts, pieces) },
+        &mut || -> Result<usize, AllocError>
+            requires { IsRun h.now × (to ≤ line_count h.now) × HasSwept h.now to sweeper.now }
+            ensures { (length spare.exit.now ≡ length spare.entry.now)
+                × IfOk result (HasDealt h.entry.now to spare.exit.now sweeper.exit.now) }
+        { deal_out(alloc, h, sweeper, spare, to) },
+    );
+    dealt
 }
 
-/// Writes all lines, a piece in each thread at once.
-fn put_pieces<R: Threads + Sync, K: Sink>(
-    rt: &R,
-    threads: usize,
-    facts: &Facts<'_>,
+/// Hands the lines of the pieces on, the first of which begins at this place.
+fn put_pieces<K: Sink>(
+    h: &History,
+    pieces: &[Piece],
+    from: usize,
     out: &mut K,
 ) -> Result<(), IoFault>
-    requires threads { 0 < threads }
-    requires right { AreRight facts.now }
-    ensures ok { OnOk result (PutsLines facts.now.history.now 0
-        (line_count facts.now.history.now) (K.written out.old) (K.written out.new)) }
-    ensures err { OnErr result
-        (PutsPart facts.now.history.now 0 (K.written out.old) (K.written out.new)) }
+    requires from { from ≤ line_count h.now }
+    requires written { AreWritten h.now from pieces.now }
+    ensures ok { OnOk result (PutsLines h.now from (place_of h.now from (length pieces.now))
+        (K.written out.old) (K.written out.new)) }
+    ensures err { OnErr result (PutsPart h.now from (K.written out.old) (K.written out.new)) }
     ensures cause { HasIoCause (K.faults out.old) (K.faults out.new) result }
 {
-    let alloc = facts.causes.allocator();
-    let muxes = usize::from(facts.history.stage.script.setting.muxes);
-    let mut versions = no_versions(alloc, muxes)?;
-    let mut pieces = no_pieces(alloc, threads)?;
-    let end = facts.line_count();
-    let mut from = 0;
-    while from < end {
-        from = put_next(rt, pieces.as_mut_slice(), facts, from, &mut versions, out)?;
+    for piece in pieces {
+        piece.put(out)?;
     }
     Ok(())
 }
 
-/// Writes the lines of the events and the records, by so many threads. The packets have these ends.
-pub(crate) fn put_lines<R: Threads + Sync, K: Sink>(
-    rt: &R,
-    threads: usize,
-    h: &History,
-    causes: &CauseList,
-    ends: &EndTable,
-    out: &mut K,
-) -> Result<(), IoFault>
-    requires threads { 0 < threads }
-    requires ranges { HasRanges h.now.stage }
-    requires causes { AreCauses h.now causes.now }
-    requires ends { AreEnds h.now ends.now }
-    ensures ok { OnOk result
-        (PutsLines h.now 0 (line_count h.now) (K.written out.old) (K.written out.new)) }
-    ensures err { OnErr result (PutsPart h.now 0 (K.written out.old) (K.written out.new)) }
-    ensures cause { HasIoCause (K.faults out.old) (K.faults out.new) result }
-{
-    let facts = Facts {
-        history: h,
-        causes,
-        ends,
-    };
-    put_pieces(rt, threads, &facts, out)
+/// What is written next, and how far the sweep is.
+#[derive(Drop)]
+struct Round {
+    sweeper: Sweeper,
+    pieces: Vec<Piece>,
+    /// As many pieces, which get the lines behind those meanwhile.
+    spare: Vec<Piece>,
+    /// Where the pieces begin.
+    from: usize,
+    /// Where they end, and the sweep stands.
+    to: usize,
 }
 
-/// The cause of each event and the ends of each record's packet, found side by side: the causes,
-/// which take longer, in the caller's own thread, and the ends in one that is started for them.
-fn causes_and_ends<R: Threads + Sync>(
+impl Round {
+    ghost use Rattle.bm_trace.specs.Pieces.{IsRound};
+
+    /// The first round, with so many pieces.
+    fn first(alloc: Global, h: &History, count: usize) -> Result<Round, AllocError>
+        requires run { IsRun h.now }
+        requires count { 0 < count }
+        ensures round { IfOk result (IsRound h.now) }
+        ensures from { IfOk result (λ round. round.from ≡ 0) }
+    {
+        let mut sweeper = Sweeper::new(alloc, h)?;
+        let mut pieces = no_pieces(alloc, count)?;
+        let spare = no_pieces(alloc, count)?;
+        let to = deal_out(alloc, h, &mut sweeper, pieces.as_mut_slice(), 0)?;
+        Ok(Round {
+            sweeper,
+            pieces,
+            spare,
+            from: 0,
+            to,
+        })
+    }
+
+    /// Writes the lines of a round, and hands them on. Then the next round is there.
+    fn put<R: Threads + Sync, K: Sink>(
+        &mut self,
+        rt: &R,
+        facts: &Facts<'_>,
+        out: &mut K,
+    ) -> Result<(), IoFault>
+        requires right { AreRight facts.now }
+        requires round { IsRound facts.now.history.now self.old }
+        ensures round { OnOk result (IsRound facts.now.history.now self.new) }
+        ensures from { OnOk result (self.new.from ≡ self.old.to) }
+        ensures lines { OnOk result (PutsLines facts.now.history.now self.old.from self.old.to
+            (K.written out.old) (K.written out.new)) }
+        ensures err { OnErr result (PutsPart facts.now.history.now self.old.from
+            (K.written out.old) (K.written out.new)) }
+        ensures cause { HasIoCause (K.faults out.old) (K.faults out.new) result }
+    {
+        let behind = write_beside(
+            rt,
+            facts,
+            self.pieces.as_mut_slice(),
+            &mut self.sweeper,
+            self.spare.as_mut_slice(),
+            self.to,
+        )?;
+        put_pieces(facts.history, &self.pieces, self.from, out)?;
+        swap(&mut self.pieces, &mut self.spare);
+        self.from = self.to;
+        self.to = behind;
+        Ok(())
+    }
+}
+
+/// Writes the lines of all events and records, round after round.
+fn put_lines<R: Threads + Sync, K: Sink>(
+    rt: &R,
+    facts: &Facts<'_>,
+    round: &mut Round,
+    out: &mut K,
+) -> Result<(), IoFault>
+    requires right { AreRight facts.now }
+    requires first { round.old.from ≡ 0 }
+    requires round { IsRound facts.now.history.now round.old }
+    ensures ok { OnOk result (PutsLines facts.now.history.now 0
+        (line_count facts.now.history.now) (K.written out.old) (K.written out.new)) }
+    ensures swept { OnOk result
+        (HasSwept facts.now.history.now (line_count facts.now.history.now) round.new.sweeper) }
+    ensures err { OnErr result
+        (PutsPart facts.now.history.now 0 (K.written out.old) (K.written out.new)) }
+    ensures cause { HasIoCause (K.faults out.old) (K.faults out.new) result }
+{
+    let end = line_count(facts.history);
+    while round.from < end {
+        round.put(rt, facts, out)?;
+    }
+    Ok(())
+}
+
+/// The ends of each record's packet, and beside them the first round.
+fn ends_and_round<R: Threads + Sync>(
     rt: &R,
     alloc: Global,
     h: &History,
-) -> Result<(CauseList, EndTable), Memory>
-    requires { HasRanges h.now.stage }
-    ensures causes { IfOk result (λ found. AreCauses h.now found.0) }
-    ensures ends { IfOk result (λ found. AreEnds h.now found.1) }
+    count: usize,
+) -> Result<(EndTable, Round), AllocError>
+    requires run { IsRun h.now }
+    requires count { 0 < count }
+    ensures ends { IfOk result (λ made. AreEnds h.now made.0) }
+    ensures round { IfOk result (λ made. IsRound h.now made.1) }
+    ensures from { IfOk result (λ made. made.1.from ≡ 0) }
 {
-    let (ends, causes) = thread::join(
+    let (ends, round) = thread::join(
         rt,
         || -> Result<EndTable, AllocError>
             ensures { IfOk result (λ table. AreEnds h.entry.now table) }
@@ -364,19 +435,17 @@ fn causes_and_ends<R: Threads + Sync>(
                 h.events.items(),
             )
         },
-        || -> Result<CauseList, Memory>
-            requires { HasRanges h.now.stage }
-            ensures { IfOk result (λ causes. AreCauses h.entry.now causes) }
-        { causes_of(alloc, h) },
+        || -> Result<Round, AllocError>
+            requires { IsRun h.now × (0 < count) }
+            ensures { IfOk result (λ round. IsRound h.entry.now round × (round.from ≡ 0)) }
+        { Round::first(alloc, h, count) },
     );
-    Ok((causes?, ends?))
+    Ok((ends?, round?))
 }
 
-/// Writes the report of the history by as many threads, of which 0 count as 1. The causes of its
-/// events are found first, beside what the lines of the records need. The report is never held
-/// whole. Where it is refused, a first part of it was written: nothing, where memory was refused
-/// for the causes.
-#[tactic(auto, using(crate::proofs::Ranged::ranges_of))]
+/// Writes the report of the history by as many threads, of which 0 count as 1. One more finds the
+/// causes of its events, as far ahead as the lines of a round. The report is never held whole. Where
+/// it is refused, a first part of it was written.
 pub fn report_beside<R: Threads + Sync, K: Sink>(
     rt: &R,
     alloc: Global,
@@ -390,10 +459,12 @@ pub fn report_beside<R: Threads + Sync, K: Sink>(
         (report.text h.now)) }
     ensures cause { HasIoCause (K.faults out.old) (K.faults out.new) result }
 {
-    let Ok((causes, ends)) = causes_and_ends(rt, alloc, h) else {
-        return Err(IoFault::Memory);
+    let (ends, mut round) = ends_and_round(rt, alloc, h, threads.max(1))?;
+    let facts = Facts {
+        history: h,
+        ends: &ends,
     };
-    let sums = totals_of(h, &causes);
-    put_lines(rt, threads.max(1), h, &causes, &ends, out)?;
+    put_lines(rt, &facts, &mut round, out)?;
+    let sums = totals_with(h, round.sweeper.strays());
     put_end(h, &sums, String::new(alloc), out)
 }

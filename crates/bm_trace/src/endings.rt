@@ -38,6 +38,11 @@ impl EndTable {
         })
     }
 
+    /// What its memory is taken from.
+    pub(crate) fn allocator(&self) -> Global {
+        *self.firsts.allocator()
+    }
+
     /// The first end of the packet at a place.
     pub(crate) fn first(&self, place: usize) -> Option<End>
         requires { place < vec_len self.now.firsts }

@@ -2,11 +2,14 @@
 ghost use Rattle.std.specs.Prelude.{◌≡◌, List, length, reverse, OnOk, IfOk, Some, None, option_map};
 ghost use Rattle.std.specs.Prelude.{[], ◌∷◌, ◌≤◌, nat_le};
 ghost use Rattle.bm_table.specs.Tables as tables;
+ghost use Rattle.bm_core.specs.declared.events.Event.{Event};
+ghost use Rattle.bm_core.specs.declared.events.Stage.{Stage};
 ghost use Rattle.bm_core.specs.Past as past;
 ghost use Rattle.bm_core.specs.Causes as causes;
 ghost use Rattle.bm_trace.specs.Holding.{HoldsAfter};
 ghost use Rattle.bm_trace.specs.PlanMovers.{AreMovers};
 ghost use Rattle.bm_trace.specs.Ranges.{HasRanges};
+ghost use Rattle.bm_trace.specs.Running.{AreVersions};
 ghost use Rattle.bm_trace.specs.Seen.{as_accepted};
 ghost use Rattle.bm_trace.specs.Sent.{label_from, label_sent, owner_from};
 
@@ -15,7 +18,7 @@ use crate::holders::Holders;
 use crate::movers::Movers;
 use crate::past::Sent;
 use crate::running::Running;
-use bm_base::{Flow, Moment, ServerId, is_opening};
+use bm_base::{Flow, Moment, ServerId, Version, is_opening};
 use bm_core::{Cause, Event, Stage, What};
 use bm_hash::bucket_of;
 use std::alloc::{AllocError, Global};
@@ -69,6 +72,14 @@ impl Known {
             holders: Holders::new(alloc),
             movers: Movers::new(alloc, &stage.script.plan)?,
         })
+    }
+
+    /// The versions of the muxes after the events that are known.
+    pub(crate) fn versions(&self) -> &[Version]
+        ensures { (stage : Stage) (past : List Event) → Knows stage past self.now
+            → AreVersions past result.now }
+    {
+        self.running.versions()
     }
 
     /// Takes note of the event that comes after these.

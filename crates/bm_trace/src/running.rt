@@ -6,7 +6,9 @@ ghost use Rattle.bm_base.specs.declared.flow.Flow.{Flow};
 ghost use Rattle.bm_base.specs.Segments.{same_flow};
 ghost use Rattle.bm_core.specs.declared.events.Event.{Event};
 ghost use Rattle.bm_core.specs.Past as past;
+ghost use Rattle.bm_core.specs.declared.events.Stage.{Stage};
 ghost use Rattle.bm_trace.specs.Ranges.{HasRanges};
+ghost use Rattle.bm_trace.specs.Running.{AreVersions};
 ghost use Rattle.bm_trace.specs.Accepts.{owner_before};
 
 use crate::flow_key::FlowKey;
@@ -105,6 +107,14 @@ impl Running {
             accepts: Accepts::new(alloc),
             packets: vec![in alloc; Packed::new(None); packets]?,
         })
+    }
+
+    /// The versions of the muxes after the events that are known.
+    pub(crate) fn versions(&self) -> &[Version]
+        ensures { (stage : Stage) (past : List Event) → Keeps stage past self.now
+            → AreVersions past result.now }
+    {
+        self.versions.as_slice()
     }
 
     /// The newest version after these events.

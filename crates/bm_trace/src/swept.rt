@@ -1,16 +1,19 @@
 //! One sweep over a history, for the causes of all its events.
 ghost use Rattle.std.specs.Prelude.{suc, ◌^◌, if◌then◌else◌, ◌≡◌, ◌&&◌, ◌<◌, ℕ, List, length};
-ghost use Rattle.std.specs.Prelude.{reverse, OnOk, IfOk, Some, None, is_some, [], ◌∷◌};
+ghost use Rattle.std.specs.Prelude.{reverse, OnOk, IfOk, Some, None, is_some, [], ◌∷◌, ◌+◌, ◌≤◌};
+ghost use Rattle.std.specs.Prelude.{take};
 ghost use Rattle.bm_core.specs.Causes as causes;
 ghost use Rattle.bm_core.specs.Runs.{IsRun};
-ghost use Rattle.bm_trace.specs.Ranges.{HasRanges};
-ghost use Rattle.bm_trace.specs.Swept.{AreCauses, AreFirst, cause_in};
+ghost use Rattle.bm_core.specs.declared.events.History.{History};
+ghost use Rattle.bm_trace.specs.CauseOf.{cause_of};
+ghost use Rattle.bm_trace.specs.Running.{AreVersions};
+ghost use Rattle.bm_trace.specs.Swept.{AreCauses, AreCausesOf, cause_in};
 ghost use Rattle.bm_trace.specs.Totals as totals;
 
 use crate::counts::totals_with;
 use crate::known::Known;
 use crate::sums::Totals;
-use bm_base::Memory;
+use bm_base::{Memory, Version};
 use bm_core::{Cause, History, Verdict, What};
 use std::alloc::{AllocError, Global};
 use std::marker::Model;
@@ -30,7 +33,7 @@ impl Model for CauseList {
     ghost view = { λ a. a.causes.items };
 }
 
-fn cause_in(causes: &[Option<Cause>], place: usize) -> Option<Cause>
+pub(crate) fn cause_in(causes: &[Option<Cause>], place: usize) -> Option<Cause>
     ensures { result ≡ cause_in causes.now place }
 {
     if place < causes.len() {
@@ -60,39 +63,6 @@ impl CauseList {
     }
 }
 
-fn sweep_events(alloc: Global, h: &History) -> Result<Vec<Option<Cause>>, AllocError>
-    requires { HasRanges h.now.stage }
-    ensures { IfOk result (λ causes. AreFirst h.now (length h.now.events) causes.items) }
-{
-    let events = h.events.items();
-    let mut known = Known::new(alloc, &h.stage)?;
-    let mut causes = Vec::new(alloc);
-    for (place, event) in events.iter().enumerate() {
-        let before = &events[..place];
-        causes.push(known.cause(&h.stage, before, event))?;
-        known.note(alloc, &h.stage, before, event)?;
-    }
-    Ok(causes)
-}
-
-/// The cause of each event of a history whose numbers are in their ranges.
-#[tactic(auto, using(crate::proofs::Sweeping::all_causes))]
-pub(crate) fn causes_of(alloc: Global, h: &History) -> Result<CauseList, Memory>
-    requires { HasRanges h.now.stage }
-    ensures { IfOk result (λ causes. AreCauses h.now causes) }
-{
-    Ok(CauseList::of(sweep_events(alloc, h)?))
-}
-
-/// The cause of each event, in one sweep over the history.
-#[tactic(auto, using(crate::proofs::Ranged::ranges_of))]
-pub fn sweep(alloc: Global, h: &History) -> Result<CauseList, Memory>
-    requires { IsRun h.now }
-    ensures { IfOk result (λ causes. AreCauses h.now causes) }
-{
-    causes_of(alloc, h)
-}
-
 /// Whether an event with this cause is a stray.
 fn is_stray(what: &What, cause: Option<Cause>) -> bool
     ensures { result ≡ (totals.arrives causes.is_process what.now && is_some cause) }
@@ -112,6 +82,100 @@ fn counted(count: u64, stray: bool) -> u64
     ensures { result ≡ (if stray then suc count else count) }
 {
     if stray { count + 1 } else { count }
+}
+
+/// What is known before the next event of a history, and how many strays came before it.
+#[derive(Drop)]
+pub(crate) struct Sweeper {
+    known: Known,
+    strays: u64,
+}
+
+impl Sweeper {
+    ghost use Rattle.bm_trace.specs.Swept.{HasSwept};
+
+    /// Before the first event.
+    pub(crate) fn new(alloc: Global, h: &History) -> Result<Sweeper, AllocError>
+        ensures { IfOk result (HasSwept h.now 0) }
+    {
+        Ok(Sweeper {
+            known: Known::new(alloc, &h.stage)?,
+            strays: 0,
+        })
+    }
+
+    /// The versions of the muxes before the next event.
+    pub(crate) fn versions(&self) -> &[Version]
+        ensures { (h : History) (place : ℕ) → HasSwept h place self.now
+            → AreVersions (reverse (take place h.events)) result.now }
+    {
+        self.known.versions()
+    }
+
+    /// How many strays came before the next event.
+    pub(crate) fn strays(&self) -> u64
+        ensures { (h : History) (place : ℕ) → HasSwept h place self.now
+            → result ≡ totals.strays h.stage (reverse (take place h.events)) }
+    {
+        self.strays
+    }
+
+    /// The cause of the next event, which stands at this place.
+    fn pass(
+        &mut self,
+        alloc: Global,
+        h: &History,
+        place: usize,
+    ) -> Result<Option<Cause>, AllocError>
+        requires run { IsRun h.now }
+        requires place { place < length h.now.events }
+        requires swept { HasSwept h.now place self.old }
+        ensures cause { IfOk result (λ cause. cause ≡ cause_of h.now place) }
+        ensures swept { OnOk result (HasSwept h.now (place + 1) self.new) }
+    {
+        let events = h.events.items();
+        let before = &events[..place];
+        let event = &events[place];
+        let cause = self.known.cause(&h.stage, before, event);
+        self.known.note(alloc, &h.stage, before, event)?;
+        self.strays = counted(self.strays, is_stray(&event.what, cause));
+        Ok(cause)
+    }
+
+    /// The causes of the events from one place to another, as far as there are events.
+    pub(crate) fn advance(
+        &mut self,
+        alloc: Global,
+        h: &History,
+        from: usize,
+        to: usize,
+        causes: &mut Vec<Option<Cause>>,
+    ) -> Result<(), AllocError>
+        requires run { IsRun h.now }
+        requires order { from ≤ to }
+        requires swept { HasSwept h.now from self.old }
+        requires empty { causes.old.items ≡ [] }
+        ensures swept { OnOk result (HasSwept h.now to self.new) }
+        ensures causes { OnOk result (AreCausesOf h.now from to causes.new.items) }
+    {
+        let end = h.events.items().len();
+        for place in from.min(end)..to.min(end) {
+            causes.push(self.pass(alloc, h, place)?)?;
+        }
+        Ok(())
+    }
+}
+
+/// The cause of each event, in one sweep over the history.
+#[tactic(auto, using(crate::proofs::Sweeping::all_causes))]
+pub fn sweep(alloc: Global, h: &History) -> Result<CauseList, Memory>
+    requires { IsRun h.now }
+    ensures { IfOk result (λ causes. AreCauses h.now causes) }
+{
+    let mut causes = Vec::new(alloc);
+    let mut sweeper = Sweeper::new(alloc, h)?;
+    sweeper.advance(alloc, h, 0, h.events.items().len(), &mut causes)?;
+    Ok(CauseList::of(causes))
 }
 
 fn stray_count(h: &History, causes: &CauseList) -> u64

@@ -1,14 +1,14 @@
-use Rattle.std.proofs.Common.{◌≡◌, ◌≤◌, All, length, take, reverse}
+use Rattle.std.proofs.Common.{◌≡◌, ◌≤◌, All, length, take}
 use Rattle.bm_trace.specs.Pieces.{AreInRow, CanWrite, line_count, place_of}
-use Rattle.bm_trace.specs.Running.{AreVersions}
+use Rattle.bm_trace.specs.Swept.{HasSwept}
 use Rattle.bm_trace.proofs.beside.deal_out.Given as goal
 
 abbrev pub invariant-loop-number : goal.invariant-loop-number
 invariant-loop-number l = record {
-  within : l.at ≤ line_count l.facts.history.now;
-  place : l.at ≡ place_of l.facts.history.now l.from l.number;
-  known : AreVersions (reverse (take l.at l.facts.history.now.events)) l.versions.items;
+  within : l.at ≤ line_count l.h;
+  place : l.at ≡ place_of l.h l.from l.number;
+  swept : HasSwept l.h l.at l.sweeper;
   count : length l.pieces ≡ length l.initial.pieces;
-  can : All (CanWrite l.facts.history.now) (take l.number l.pieces);
-  row : AreInRow l.facts.history.now l.from (take l.number l.pieces);
+  can : All (CanWrite l.h) (take l.number l.pieces);
+  row : AreInRow l.h l.from (take l.number l.pieces);
 }

@@ -1,17 +1,24 @@
+use Rattle.std.proofs.Common.{◌∙◌}
 use Rattle.bm_trace.proofs.Parted.{on_err}
-use Rattle.bm_trace.proofs.Pieces.{puts_after, puts_left, puts_none}
+use Rattle.bm_trace.proofs.Pieces.{piece_put, piece_refused, puts_begun, written_at}
 use Rattle.bm_trace.proofs.beside.put_pieces.Goals as goal
 
-pub returns-in_err-versions-clause-err : goal.returns-in_err-versions-clause-err
-returns-in_err-versions-clause-err g c =
-    let h = c.args.facts.now.history.now in on_err _ _ (puts_left h 0 0 _ _ (puts_none h 0 _))
+pub returns-in_err-put-clause-err : goal.returns-in_err-put-clause-err
+returns-in_err-put-clause-err g c =
+    let h = c.args.h.now
+    in let there = written_at h c.args.from c.loop-piece.piece-index c.args.pieces.now c.piece-item.result
+    c.requires.written c.loop-piece-test.true c.piece-item.is
+    in on_err _ _
+    (piece_refused h c.args.from c.loop-piece.piece-index _ _ _ c.piece-item.result there
+    c.loop-piece.invariant.written c.in_err-put.ensures.err)
 
-pub returns-in_err-pieces-clause-err : goal.returns-in_err-pieces-clause-err
-returns-in_err-pieces-clause-err g c =
-    let h = c.args.facts.now.history.now in on_err _ _ (puts_left h 0 0 _ _ (puts_none h 0 _))
-
-pub returns-in_err-from-clause-err : goal.returns-in_err-from-clause-err
-returns-in_err-from-clause-err g c =
-    on_err _ _
-    (puts_after c.args.facts.now.history.now 0 c.loop-from.from _ _ _ c.loop-from.invariant.written
-    c.in_err-from.ensures.err)
+pub loop-piece-preserved : goal.loop-piece-preserved
+loop-piece-preserved g c =
+    let h = c.args.h.now
+    in let there = written_at h c.args.from c.loop-piece.piece-index c.args.pieces.now c.piece-item.result
+    c.requires.written c.loop-piece-test.true c.piece-item.is
+    in record {
+      written = piece_put h c.args.from c.loop-piece.piece-index _ _ _ c.piece-item.result there
+          c.loop-piece.invariant.written c.in_ok-put.ensures.ok;
+      later = c.in_ok-put.ensures.cause.kept ∙ c.loop-piece.invariant.later;
+    }

@@ -1,0 +1,22 @@
+use Rattle.std.proofs.Common.{subst, sym, ◌∙◌}
+use Rattle.std.proofs.lemmas.List.{with_items_is}
+use Rattle.bm_trace.specs.Pieces.{AreInRow, AreWritten}
+use Rattle.bm_trace.proofs.Parted.{on_err}
+use Rattle.bm_trace.proofs.Pieces.{all_written, puts_left, puts_none}
+use Rattle.bm_trace.proofs.beside.Round.put.Goals as goal
+
+pub returns-in_err-behind-clause-err : goal.returns-in_err-behind-clause-err
+returns-in_err-behind-clause-err g c =
+    let h = c.args.facts.now.history.now
+    in let from = c.args.self.now.from
+    in on_err _ _ (puts_left h from from _ _ (puts_none h from _))
+
+pub put_pieces-requires-clause-written : goal.put_pieces-requires-clause-written
+put_pieces-requires-clause-written g c =
+    let h = c.args.facts.now.history.now
+    in let from = c.args.self.now.from
+    in let row = subst (AreInRow h from) (sym c.as_mut_slice.ensures.value) c.requires.round.dealt.row
+    in let is = c.deref.ensures.value
+    ∙ with_items_is c.args.self.now.pieces c.write_beside.new.pieces (c.in_ok-behind.ensures.count ∙ c.as_mut_slice.ensures.len)
+    in subst (AreWritten h from) (sym is)
+    (all_written h from _ _ c.in_ok-behind.ensures.count row c.in_ok-behind.ensures.each)
