@@ -1,5 +1,6 @@
 -- Lines of events and records that are written side by side.
-use Rattle.std.proofs.Common.{◌≡◌, ℕ, ◌+◌, ◌*◌, ◌^◌, ◌-◌, ◌<◌, ◌≤◌, List, [], ◌∷◌, ◌++◌, length, take, drop, get_or, set}
+use Rattle.std.proofs.Common.{◌≡◌, ℕ, ◌+◌, ◌*◌, ◌^◌, ◌-◌, ◌<◌, ◌≤◌, List, [], ◌∷◌, ◌++◌, length}
+use Rattle.std.proofs.Common.{take, drop, get_or, set}
 use Rattle.std.proofs.Common.{refl, ap, ◌∙◌, sym, arith, append_assoc, Option, Some, subst}
 use Rattle.std.proofs.Common.{Global, Vec, inl, inr, length-append, Bool, true, false}
 use Rattle.std.proofs.lemmas.Bool.{cases_lt}
@@ -10,12 +11,11 @@ use Rattle.std.proofs.lemmas.List.{append-nil, take-append-drop}
 use Rattle.std.proofs.lemmas.Grind.{common_steps}
 use Rattle.std.proofs.lemmas.Option.{same_Some, slice_get-get_or, slice_get_within}
 use Rattle.bm_base.specs.declared.capture.Record.{Record}
-use Rattle.bm_base.specs.declared.ids.Version.{Version}
 use Rattle.bm_table.proofs.Gets.{slice_get-append_left, slice_get-push}
 use Rattle.bm_core.specs.declared.events.History.{History}
 use Rattle.bm_trace.specs.Ends.{words_of_ends, words_of_record}
-use Rattle.bm_trace.specs.Pieces.{AreInRow, AreLines, AreWritten, HasDealt, HaveWritten, IsRound, IsWritten, PutsLines, PutsPart}
-use Rattle.bm_trace.specs.Pieces.{first_lines, line_count, place_of}
+use Rattle.bm_trace.specs.Pieces.{AreInRow, AreLines, AreWritten, HasDealt, HaveWritten, IsRound, IsWritten}
+use Rattle.bm_trace.specs.Pieces.{PutsLines, PutsPart, first_lines, line_count, place_of}
 use Rattle.bm_trace.specs.Swept.{HasSwept}
 use Rattle.bm_trace.specs.Totals.{strays}
 use Rattle.bm_trace.specs.Words.{line}
@@ -249,12 +249,6 @@ pub written_at : (h : History) (from k : ℕ) (pieces : List Piece) (p : Piece) 
 written_at h from k pieces p all below is =
     subst (λ x. IsWritten h from k x) (sym is) (all k (get_or pieces k p) (slice_get-get_or pieces k p below))
 
-pub puts_begun : (h : History) (from : ℕ) (a : Option (List ℕ)) → from ≤ line_count h
-    → PutsLines h from (place_of h from 0) a a
-puts_begun h from a within =
-    let at : from ≡ place_of h from 0 = omega (arith, within)
-    in subst (λ x. PutsLines h from x a a) at (puts_none h from a)
-
 -- the lines of the piece of this number
 lines_at : (h : History) (from k : ℕ) (p : Piece) → IsWritten h from k p → p.refused ≡ false
     → AreLines h (place_of h from k) (place_of h from (k + 1)) (string_bytes p.lines)
@@ -278,8 +272,8 @@ piece_refused h from k a b c p is before put = go p.refused refl put where
       subst (λ x. PutsPart h from a x) (sym same) (puts_left h from (place_of h from k) a b before)
   go false fine part =
       puts_after h from (place_of h from k) a b c before
-      (piece_left h (place_of h from k) (place_of h from (k + 1)) b c (string_bytes p.lines) (lines_at h from k p is fine)
-      part)
+      (piece_left h (place_of h from k) (place_of h from (k + 1)) b c (string_bytes p.lines)
+      (lines_at h from k p is fine) part)
 
 -- ROUNDS
 
@@ -307,5 +301,6 @@ round_over h round is over =
     in subst (λ n. HasSwept h n round.sweeper) at is.dealt.swept
 
 -- the strays of all events
-pub strays_all : (h : History) → strays h.stage (reverse (take (line_count h) h.events)) ≡ strays h.stage (reverse h.events)
+pub strays_all : (h : History)
+    → strays h.stage (reverse (take (line_count h) h.events)) ≡ strays h.stage (reverse h.events)
 strays_all h = ap (λ es. strays h.stage (reverse es)) (take_over h.events (line_count h) (omega arith))

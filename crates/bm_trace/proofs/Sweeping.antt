@@ -1,6 +1,7 @@
 -- One cause for each event, in their order.
-use Rattle.std.proofs.Common.{◌≡◌, ℕ, zero, suc, ◌+◌, ◌<◌, ◌≤◌, Bool, true, false, ◌&&◌, inl, inr, List, [], ◌∷◌, ◌++◌, length, take}
-use Rattle.std.proofs.Common.{◌-◌, get_or, length-append, min, Option, Some, None, is_some, refl, sym, ap, ◌∙◌, arith, subst}
+use Rattle.std.proofs.Common.{◌≡◌, ℕ, zero, suc, ◌+◌, ◌<◌, ◌≤◌, Bool, true, false, ◌&&◌, inl, inr, List, [], ◌∷◌, ◌++◌}
+use Rattle.std.proofs.Common.{◌-◌, get_or, length, length-append, min, take}
+use Rattle.std.proofs.Common.{Option, Some, None, is_some, refl, sym, ap, ◌∙◌, arith, subst}
 use Rattle.std.specs.Prelude.{reverse, slice_get, if◌then◌else◌}
 use Rattle.std.proofs.lemmas.Bool.{cases_lt}
 use Rattle.std.proofs.lemmas.Grind.{common_steps}
@@ -179,7 +180,8 @@ pub swept_more : (h : History) (shown : List Event) (n : ℕ) (d : Event) (old n
 swept_more h shown n d old new found stray run same below is knows stray_is count before = record {
   known = known_more h shown n d new.known same below knows;
   counted = stray_counted h n old.strays new.strays d shown found stray run same
-      (omega (arith, below, ap length same)) (cause_found h shown n d found same below is) before.counted stray_is count;
+      (omega (arith, below, ap length same)) (cause_found h shown n d found same below is) before.counted stray_is
+      count;
   few = few_more stray old.strays new.strays n (length h.events) count before.few below;
 }
 

@@ -72,12 +72,12 @@ pub record HaveWritten (h : History) (before now : List Piece) : Type 0 where
       → slice_get before k ≡ Some old → slice_get now k ≡ Some new → HasWritten h old new
 
 -- the pieces have the lines from a place on, behind which they and the sweep end
-pub record HasDealt (h : History) (from : ℕ) (pieces : List Piece) (sweeper : Sweeper) (to : ℕ) : Type 0
-  where
-    pub place : to ≡ place_of h from (length pieces)
-    pub can : All (CanWrite h) pieces
-    pub row : AreInRow h from pieces
-    pub swept : HasSwept h to sweeper
+pub record HasDealt (h : History) (from : ℕ) (pieces : List Piece) (sweeper : Sweeper)
+    (to : ℕ) : Type 0 where
+  pub place : to ≡ place_of h from (length pieces)
+  pub can : All (CanWrite h) pieces
+  pub row : AreInRow h from pieces
+  pub swept : HasSwept h to sweeper
 
 -- what is written next can be written
 pub record IsRound (h : History) (round : Round) : Type 0 where

@@ -1,14 +1,14 @@
 //! The whole report, with the lines of events and records written by several threads side by side.
-ghost use Rattle.std.specs.Prelude.{◌≡◌, ◌+◌, ◌<◌, ◌≤◌, ℕ, All, IfOk, MatchBool, OnErr, OnOk, Some};
-ghost use Rattle.std.specs.Prelude.{[], false, length, min, reverse, slice_get, string_bytes, take};
-ghost use Rattle.std.specs.Prelude.{vec_len, ◌^◌, ◌-◌};
+ghost use Rattle.std.specs.Prelude.{◌≡◌, ◌+◌, ◌<◌, ◌≤◌, ℕ, All, IfOk, MatchBool, OnErr, OnOk};
+ghost use Rattle.std.specs.Prelude.{[], false, length, min, reverse, string_bytes, take};
+ghost use Rattle.std.specs.Prelude.{vec_len, ◌-◌};
 ghost use Rattle.std.specs.Io.KnownBytes.{Appends};
 ghost use Rattle.bm_core.specs.Runs.{IsRun};
 ghost use Rattle.bm_io.specs.Causes.{HasIoCause};
 ghost use Rattle.bm_trace.specs.CauseOf.{cause_of};
-ghost use Rattle.bm_trace.specs.Pieces.{AreEnds, AreInRow, AreLines, AreRight, AreWritten, CanWrite};
-ghost use Rattle.bm_trace.specs.Pieces.{HasDealt, HasWritten, HaveWritten, IsRound, PutsLines};
-ghost use Rattle.bm_trace.specs.Pieces.{PutsPart, line_count, place_of};
+ghost use Rattle.bm_trace.specs.Pieces.{AreEnds, AreLines, AreRight, AreWritten};
+ghost use Rattle.bm_trace.specs.Pieces.{CanWrite, HasDealt, HasWritten, HaveWritten, IsRound};
+ghost use Rattle.bm_trace.specs.Pieces.{PutsLines, PutsPart, line_count, place_of};
 ghost use Rattle.bm_trace.specs.Parts.{WritesPart};
 ghost use Rattle.bm_trace.specs.Report as report;
 ghost use Rattle.bm_trace.specs.Running.{AreVersions};
@@ -259,8 +259,8 @@ fn write_all<R: Threads + Sync>(rt: &R, facts: &Facts<'_>, pieces: &mut [Piece])
     );
 }
 
-/// Writes the lines of all pieces. Beside that the spare pieces get the lines from this place on: the
-/// answer is where they end.
+/// Writes the lines of all pieces. Beside that the spare pieces get the lines from this place on:
+/// the answer is where they end.
 fn write_beside<R: Threads + Sync>(
     rt: &R,
     facts: &Facts<'_>,
@@ -443,9 +443,9 @@ fn ends_and_round<R: Threads + Sync>(
     Ok((ends?, round?))
 }
 
-/// Writes the report of the history by as many threads, of which 0 count as 1. One more finds the
-/// causes of its events, as far ahead as the lines of a round. The report is never held whole. Where
-/// it is refused, a first part of it was written.
+/// Writes the report of the history by as many threads, of which 0 count as 1, beside the caller's
+/// own, which finds the causes of the events meanwhile, a round ahead. The report is never held
+/// whole. Where it is refused, a first part of it was written.
 pub fn report_beside<R: Threads + Sync, K: Sink>(
     rt: &R,
     alloc: Global,

@@ -1,12 +1,11 @@
 //! What is known after some events, for the causes of those that follow.
-ghost use Rattle.std.specs.Prelude.{◌≡◌, List, length, reverse, OnOk, IfOk, Some, None, option_map};
+ghost use Rattle.std.specs.Prelude.{◌≡◌, List, reverse, OnOk, IfOk, Some, None, option_map};
 ghost use Rattle.std.specs.Prelude.{[], ◌∷◌, ◌≤◌, nat_le};
 ghost use Rattle.bm_table.specs.Tables as tables;
 ghost use Rattle.bm_core.specs.declared.events.Event.{Event};
 ghost use Rattle.bm_core.specs.declared.events.Stage.{Stage};
 ghost use Rattle.bm_core.specs.Past as past;
 ghost use Rattle.bm_core.specs.Causes as causes;
-ghost use Rattle.bm_trace.specs.Holding.{HoldsAfter};
 ghost use Rattle.bm_trace.specs.PlanMovers.{AreMovers};
 ghost use Rattle.bm_trace.specs.Ranges.{HasRanges};
 ghost use Rattle.bm_trace.specs.Running.{AreVersions};

@@ -1,13 +1,12 @@
 //! What is kept of the events while their causes are found.
-ghost use Rattle.std.specs.Prelude.{◌≡◌, ℕ, ◌+◌, ◌-◌, ◌<◌, ◌≤◌, ◌==◌, List, length, reverse, OnOk};
-ghost use Rattle.std.specs.Prelude.{IfOk, Some, None, if◌then◌else◌, slice_set, slice_index_or, []};
+ghost use Rattle.std.specs.Prelude.{◌≡◌, ◌-◌, ◌<◌, ◌==◌, List, reverse, OnOk};
+ghost use Rattle.std.specs.Prelude.{IfOk, Some, None, if◌then◌else◌, slice_set, []};
 ghost use Rattle.std.specs.Prelude.{◌∷◌};
 ghost use Rattle.bm_base.specs.declared.flow.Flow.{Flow};
 ghost use Rattle.bm_base.specs.Segments.{same_flow};
 ghost use Rattle.bm_core.specs.declared.events.Event.{Event};
 ghost use Rattle.bm_core.specs.Past as past;
 ghost use Rattle.bm_core.specs.declared.events.Stage.{Stage};
-ghost use Rattle.bm_trace.specs.Ranges.{HasRanges};
 ghost use Rattle.bm_trace.specs.Running.{AreVersions};
 ghost use Rattle.bm_trace.specs.Accepts.{owner_before};
 

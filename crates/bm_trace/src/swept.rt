@@ -1,6 +1,6 @@
 //! One sweep over a history, for the causes of all its events.
 ghost use Rattle.std.specs.Prelude.{suc, ◌^◌, if◌then◌else◌, ◌≡◌, ◌&&◌, ◌<◌, ℕ, List, length};
-ghost use Rattle.std.specs.Prelude.{reverse, OnOk, IfOk, Some, None, is_some, [], ◌∷◌, ◌+◌, ◌≤◌};
+ghost use Rattle.std.specs.Prelude.{reverse, OnOk, IfOk, None, is_some, [], ◌+◌, ◌≤◌};
 ghost use Rattle.std.specs.Prelude.{take};
 ghost use Rattle.bm_core.specs.Causes as causes;
 ghost use Rattle.bm_core.specs.Runs.{IsRun};

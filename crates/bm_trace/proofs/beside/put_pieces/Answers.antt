@@ -1,6 +1,6 @@
 use Rattle.std.proofs.Common.{◌∙◌}
 use Rattle.bm_trace.proofs.Parted.{on_err}
-use Rattle.bm_trace.proofs.Pieces.{piece_put, piece_refused, puts_begun, written_at}
+use Rattle.bm_trace.proofs.Pieces.{piece_put, piece_refused, written_at}
 use Rattle.bm_trace.proofs.beside.put_pieces.Goals as goal
 
 pub returns-in_err-put-clause-err : goal.returns-in_err-put-clause-err

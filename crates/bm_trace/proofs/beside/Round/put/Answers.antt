@@ -17,6 +17,7 @@ put_pieces-requires-clause-written g c =
     in let from = c.args.self.now.from
     in let row = subst (AreInRow h from) (sym c.as_mut_slice.ensures.value) c.requires.round.dealt.row
     in let is = c.deref.ensures.value
-    ∙ with_items_is c.args.self.now.pieces c.write_beside.new.pieces (c.in_ok-behind.ensures.count ∙ c.as_mut_slice.ensures.len)
+    ∙ with_items_is c.args.self.now.pieces c.write_beside.new.pieces
+    (c.in_ok-behind.ensures.count ∙ c.as_mut_slice.ensures.len)
     in subst (AreWritten h from) (sym is)
     (all_written h from _ _ c.in_ok-behind.ensures.count row c.in_ok-behind.ensures.each)
