@@ -1,5 +1,5 @@
 -- The logs of the books, and those that are merged. Only the proofs of bodies use this.
-use Rattle.std.specs.Prelude.{◌≡◌, List, [], ◌∷◌, ◌++◌, map, Bool, false, ◌||◌}
+use Rattle.std.specs.Prelude.{◌≡◌, ℕ, List, [], ◌∷◌, ◌++◌, length, map, Bool, false, ◌||◌}
 use Rattle.bm_core.specs.declared.events.Event.{Event}
 use Rattle.bm_merge.specs.Merges.{joined}
 use Rattle.bm_merge.specs.Rising.{in_order}
@@ -26,6 +26,11 @@ log_events log = log.events.items
 abbrev pub source_logs : Source → List (List Event)
 source_logs (Workers logs) = logs.items
 source_logs (Servers all) = books_logs all.items
+
+-- how many workers or servers these are the logs of
+abbrev pub source_size : Source → ℕ
+source_size (Workers logs) = length logs.items
+source_size (Servers all) = length all.items
 
 abbrev pub group_logs : Group → List (List Event)
 group_logs group = source_logs group.source
