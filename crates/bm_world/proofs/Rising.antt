@@ -190,7 +190,7 @@ merged_all (o ∷ old) (n ∷ new) count each fine =
           → group_events n ∷ map group_events new ≡ in_order (joined (group_logs o)) ∷ orders (map group_logs old)
       go true refused fails rest = absurd (cc)
       go false one others rest =
-          ap (λ (l : List Event). l ∷ map group_events new) (each 0 o n refl refl one)
+          ap (λ (l : List Event). l ∷ map group_events new) ((each 0 o n refl refl).events one)
           ∙ ap (λ (l : List (List Event)). in_order (joined (group_logs o)) ∷ l) (rest others)
 
 pub merged_back : (groups given wrote tested seen : List Group) (n : ℕ) (refused : Bool) → given ≡ groups

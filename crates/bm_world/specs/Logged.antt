@@ -39,10 +39,10 @@ group_logs group = source_logs group.source
 abbrev pub group_events : Group → List Event
 group_events group = group.events.items
 
--- the group's logs were merged, but where memory was refused
-abbrev pub HasMerged : Group → Group → Type 0
-HasMerged old new =
-    new.refused ≡ false → new.events.items ≡ in_order (joined (group_logs old))
+-- the group's logs were merged, but where memory was refused, and are let go
+pub record HasMerged (old new : Group) : Type 0 where
+  pub events : new.refused ≡ false → new.events.items ≡ in_order (joined (group_logs old))
+  pub let_go : group_logs new ≡ []
 
 -- memory was refused for one of the groups
 abbrev pub one_refused : List Group → Bool

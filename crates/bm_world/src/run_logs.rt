@@ -1,5 +1,6 @@
 //! The logs of a run, merged by threads.
-ghost use Rattle.std.specs.Prelude.{◌≡◌, ◌<◌, ◌≤◌, ◌-◌, ◌++◌, ℕ, length, map, slice_get, Some, IfOk, OnOk};
+ghost use Rattle.std.specs.Prelude.{◌≡◌, ◌<◌, ◌≤◌, ◌-◌, [], ◌++◌, ℕ, length, map, slice_get};
+ghost use Rattle.std.specs.Prelude.{Some, false, IfOk, OnOk};
 ghost use Rattle.std.specs.List.{AllByRecursion};
 ghost use Rattle.bm_merge.specs.Merges.{joined};
 ghost use Rattle.bm_merge.specs.Rising.{IsRising, all_logs, in_order as by_order};
@@ -149,7 +150,9 @@ impl EventLog for Group {
 impl Group {
     /// These logs, not yet merged.
     fn new(alloc: Global, source: Source) -> Group
-        ensures { result.source ≡ source }
+        ensures source { result.source ≡ source }
+        ensures events { result.events.items ≡ [] }
+        ensures refused { result.refused ≡ false }
     {
         Group {
             source,
