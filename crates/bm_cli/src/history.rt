@@ -50,6 +50,6 @@ pub(crate) fn history_of<R: Threads + Wait + Sync, G: Gate>(
     );
     match mode {
         Mode::Replay => replay(alloc, stage, packets, &route, &faults),
-        Mode::Run => run_threads(rt, alloc, stage, &packets, &route, &faults, gate),
+        Mode::Run => run_threads(rt, alloc, stage, packets, &route, &faults, gate),
     }
 }

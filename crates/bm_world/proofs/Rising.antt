@@ -133,12 +133,13 @@ books_rising all item was one = rw (books_then all item) (all_and (books_logs al
 
 -- GROUPS
 
-books_cut : (all part rest : List (List Book)) (n : ℕ) → part ≡ take n all → rest ≡ drop n all
-    → books_logs all ≡ books_logs part ++ books_logs rest
+-- the books of servers that are cut in two
+pub books_cut : (all part rest : List (List Book)) (n : ℕ) → part ≡ take n all → rest ≡ drop n all
+    → books_logs part ++ books_logs rest ≡ books_logs all
 books_cut all part rest n first last =
-    ap books_logs (sym (take-append-drop n all)) ∙ books_append (take n all) (drop n all)
-    ∙ ap (λ (l : List (List Event)). l ++ books_logs (drop n all)) (ap books_logs (sym first))
-    ∙ ap (λ (l : List (List Event)). books_logs part ++ l) (ap books_logs (sym last))
+    ap (λ (l : List (List Book)). books_logs l ++ books_logs rest) first
+    ∙ ap (λ (l : List (List Book)). books_logs (take n all) ++ books_logs l) last
+    ∙ sym (books_append (take n all) (drop n all)) ∙ ap books_logs (take-append-drop n all)
 
 group_then : (groups : List Group) (group : Group)
     → all_logs (map group_logs (groups ++ group ∷ [])) ≡ all_logs (map group_logs groups) ++ group_logs group
@@ -147,47 +148,22 @@ group_then (g ∷ groups) group =
     ap (λ (l : List (List Event)). group_logs g ++ l) (group_then groups group)
     ∙ sym (append_assoc (group_logs g) (all_logs (map group_logs groups)) (group_logs group))
 
--- one group more, of the first of the books that are left
-pub group_more : (groups new : List Group) (group : Group) (all part rest : List (List Book)) (n : ℕ)
-    (whole : List (List Event)) → all_logs (map group_logs groups) ++ books_logs all ≡ whole → part ≡ take n all
-    → rest ≡ drop n all → new ≡ groups ++ group ∷ [] → group_logs group ≡ books_logs part
-    → all_logs (map group_logs new) ++ books_logs rest ≡ whole
-group_more groups new group all part rest n whole was first last is same =
-    let done = all_logs (map group_logs groups) in
-    ap (λ (l : List Group). all_logs (map group_logs l) ++ books_logs rest) is
-    ∙ ap (λ (l : List (List Event)). l ++ books_logs rest)
-    (group_then groups group ∙ ap (λ (l : List (List Event)). done ++ l) same)
-    ∙ append_assoc done (books_logs part) (books_logs rest)
-    ∙ ap (λ (l : List (List Event)). done ++ l) (sym (books_cut all part rest n first last)) ∙ was
-
--- the last group, of all of them
-pub group_last : (groups new : List Group) (group : Group) (all : List (List Book)) (whole : List (List Event))
-    → all_logs (map group_logs groups) ++ books_logs all ≡ whole → new ≡ groups ++ group ∷ []
-    → group_logs group ≡ books_logs all → all_logs (map group_logs new) ≡ whole
-group_last groups new group all whole was is same =
-    ap (λ (l : List Group). all_logs (map group_logs l)) is ∙ group_then groups group
-    ∙ ap (λ (l : List (List Event)). all_logs (map group_logs groups) ++ l) same ∙ was
-
 -- one group more, of the first of the logs that are left
-pub logs_more : (groups new : List Group) (group : Group) (all part rest : List (List Event)) (n : ℕ)
-    (whole : List (List Event)) → all_logs (map group_logs groups) ++ all ≡ whole → part ≡ take n all
-    → rest ≡ drop n all → new ≡ groups ++ group ∷ [] → group_logs group ≡ part
-    → all_logs (map group_logs new) ++ rest ≡ whole
-logs_more groups new group all part rest n whole was first last is same =
+pub group_more : (groups new : List Group) (group : Group) (all part rest whole : List (List Event))
+    → all_logs (map group_logs groups) ++ all ≡ whole → part ++ rest ≡ all → new ≡ groups ++ group ∷ []
+    → group_logs group ≡ part → all_logs (map group_logs new) ++ rest ≡ whole
+group_more groups new group all part rest whole was cut is same =
     let done = all_logs (map group_logs groups) in
     ap (λ (l : List Group). all_logs (map group_logs l) ++ rest) is
     ∙ ap (λ (l : List (List Event)). l ++ rest)
     (group_then groups group ∙ ap (λ (l : List (List Event)). done ++ l) same)
-    ∙ append_assoc done part rest
-    ∙ ap (λ (l : List (List Event)). done ++ (l ++ rest)) first
-    ∙ ap (λ (l : List (List Event)). done ++ (take n all ++ l)) last
-    ∙ ap (λ (l : List (List Event)). done ++ l) (take-append-drop n all) ∙ was
+    ∙ append_assoc done part rest ∙ ap (λ (l : List (List Event)). done ++ l) cut ∙ was
 
--- the last of them
-pub logs_last : (groups new : List Group) (group : Group) (all whole : List (List Event))
+-- the last group, of all of them
+pub group_last : (groups new : List Group) (group : Group) (all whole : List (List Event))
     → all_logs (map group_logs groups) ++ all ≡ whole → new ≡ groups ++ group ∷ [] → group_logs group ≡ all
     → all_logs (map group_logs new) ≡ whole
-logs_last groups new group all whole was is same =
+group_last groups new group all whole was is same =
     ap (λ (l : List Group). all_logs (map group_logs l)) is ∙ group_then groups group
     ∙ ap (λ (l : List (List Event)). all_logs (map group_logs groups) ++ l) same ∙ was
 
@@ -214,7 +190,7 @@ merged_all (o ∷ old) (n ∷ new) count each fine =
           → group_events n ∷ map group_events new ≡ in_order (joined (group_logs o)) ∷ orders (map group_logs old)
       go true refused fails rest = absurd (cc)
       go false one others rest =
-          ap (λ (l : List Event). l ∷ map group_events new) (each 0 o n refl refl one)
+          ap (λ (l : List Event). l ∷ map group_events new) ((each 0 o n refl refl).events one)
           ∙ ap (λ (l : List (List Event)). in_order (joined (group_logs o)) ∷ l) (rest others)
 
 pub merged_back : (groups given wrote tested seen : List Group) (n : ℕ) (refused : Bool) → given ≡ groups

@@ -1,5 +1,5 @@
 -- The logs of the books, and those that are merged. Only the proofs of bodies use this.
-use Rattle.std.specs.Prelude.{◌≡◌, List, [], ◌∷◌, ◌++◌, map, Bool, false, ◌||◌}
+use Rattle.std.specs.Prelude.{◌≡◌, ℕ, List, [], ◌∷◌, ◌++◌, length, map, Bool, false, ◌||◌}
 use Rattle.bm_core.specs.declared.events.Event.{Event}
 use Rattle.bm_merge.specs.Merges.{joined}
 use Rattle.bm_merge.specs.Rising.{in_order}
@@ -27,6 +27,11 @@ abbrev pub source_logs : Source → List (List Event)
 source_logs (Workers logs) = logs.items
 source_logs (Servers all) = books_logs all.items
 
+-- how many workers or servers these are the logs of
+abbrev pub source_size : Source → ℕ
+source_size (Workers logs) = length logs.items
+source_size (Servers all) = length all.items
+
 abbrev pub group_logs : Group → List (List Event)
 group_logs group = source_logs group.source
 
@@ -34,10 +39,10 @@ group_logs group = source_logs group.source
 abbrev pub group_events : Group → List Event
 group_events group = group.events.items
 
--- the group's logs were merged, but where memory was refused
-abbrev pub HasMerged : Group → Group → Type 0
-HasMerged old new =
-    new.refused ≡ false → new.events.items ≡ in_order (joined (group_logs old))
+-- the group's logs were merged, but where memory was refused, and are let go
+pub record HasMerged (old new : Group) : Type 0 where
+  pub events : new.refused ≡ false → new.events.items ≡ in_order (joined (group_logs old))
+  pub let_go : group_logs new ≡ []
 
 -- memory was refused for one of the groups
 abbrev pub one_refused : List Group → Bool

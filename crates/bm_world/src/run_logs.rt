@@ -1,5 +1,6 @@
 //! The logs of a run, merged by threads.
-ghost use Rattle.std.specs.Prelude.{◌≡◌, ◌<◌, ◌++◌, ℕ, length, map, slice_get, Some, IfOk, OnOk};
+ghost use Rattle.std.specs.Prelude.{◌≡◌, ◌<◌, ◌≤◌, ◌-◌, [], ◌++◌, ℕ, length, map, slice_get};
+ghost use Rattle.std.specs.Prelude.{Some, false, IfOk, OnOk};
 ghost use Rattle.std.specs.List.{AllByRecursion};
 ghost use Rattle.bm_merge.specs.Merges.{joined};
 ghost use Rattle.bm_merge.specs.Rising.{IsRising, all_logs, in_order as by_order};
@@ -86,6 +87,30 @@ enum Source {
 }
 
 impl Source {
+    /// How many workers or servers these are the logs of.
+    fn len(&self) -> usize
+        ensures { result ≡ logged.source_size self.now }
+    {
+        match self {
+            Source::Workers(logs) => logs.len(),
+            Source::Servers(all) => all.len(),
+        }
+    }
+
+    /// Splits off the logs behind those of the first so many workers or servers.
+    fn split_off(&mut self, size: usize) -> Result<Source, Memory>
+        requires { size ≤ logged.source_size self.old }
+        ensures logs { IfOk result (λ rest. logged.source_logs self.new ++ logged.source_logs rest
+            ≡ logged.source_logs self.old) }
+        ensures size { IfOk result
+            (λ rest. logged.source_size rest ≡ logged.source_size self.old - size) }
+    {
+        match self {
+            Source::Workers(logs) => Ok(Source::Workers(logs.split_off(size)?)),
+            Source::Servers(all) => Ok(Source::Servers(all.split_off(size)?)),
+        }
+    }
+
     /// All events of these logs, by clock.
     fn merged(self, alloc: Global) -> Result<Vec<Event>, Memory>
         ensures { IfOk result
@@ -125,7 +150,9 @@ impl EventLog for Group {
 impl Group {
     /// These logs, not yet merged.
     fn new(alloc: Global, source: Source) -> Group
-        ensures { result.source ≡ source }
+        ensures source { result.source ≡ source }
+        ensures events { result.events.items ≡ [] }
+        ensures refused { result.refused ≡ false }
     {
         Group {
             source,
@@ -146,44 +173,42 @@ impl Group {
     }
 }
 
-/// The workers' logs in groups, so many in each.
-fn worker_groups(alloc: Global, workers: Vec<Log>, size: usize) -> Result<Vec<Group>, Memory>
-    requires { 0 < size }
-    ensures { IfOk result
-        (λ groups. all_logs (map logged.group_logs groups.items) ≡ workers.items) }
+/// Adds these logs in so many groups at most, all but the last of as many workers or servers.
+fn add_groups(
+    alloc: Global,
+    source: Source,
+    most: usize,
+    groups: &mut Vec<Group>,
+) -> Result<(), Memory>
+    requires { 0 < most }
+    ensures { OnOk result (all_logs (map logged.group_logs groups.new.items)
+        ≡ all_logs (map logged.group_logs groups.old.items) ++ logged.source_logs source) }
 {
-    let mut groups = Vec::new(alloc);
-    let mut all = workers;
+    let size = source.len().div_ceil(most).max(1);
+    let mut all = source;
     while all.len() > size {
         let rest = all.split_off(size)?;
-        groups.push(Group::new(alloc, Source::Workers(all)))?;
+        groups.push(Group::new(alloc, all))?;
         all = rest;
     }
-    groups.push(Group::new(alloc, Source::Workers(all)))?;
-    Ok(groups)
+    groups.push(Group::new(alloc, all))?;
+    Ok(())
 }
 
-/// The logs in groups: so many of the workers' in each, and behind them the books of so many
-/// servers in each.
+/// The logs in groups: the workers' in so many at most, and behind them the servers' in so many.
 fn grouped(
     alloc: Global,
     workers: Vec<Log>,
-    logs: usize,
     all: Vec<Books>,
-    servers: usize,
+    most: usize,
 ) -> Result<Vec<Group>, Memory>
-    requires { (0 < logs) × (0 < servers) }
+    requires { 0 < most }
     ensures { IfOk result (λ groups. all_logs (map logged.group_logs groups.items)
         ≡ workers.items ++ books_logs all.items) }
 {
-    let mut groups = worker_groups(alloc, workers, logs)?;
-    let mut all = all;
-    while all.len() > servers {
-        let rest = all.split_off(servers)?;
-        groups.push(Group::new(alloc, Source::Servers(all)))?;
-        all = rest;
-    }
-    groups.push(Group::new(alloc, Source::Servers(all)))?;
+    let mut groups = Vec::new(alloc);
+    add_groups(alloc, Source::Workers(workers), most, &mut groups)?;
+    add_groups(alloc, Source::Servers(all), most, &mut groups)?;
     Ok(groups)
 }
 
@@ -229,10 +254,7 @@ pub(crate) fn merge_beside<R: Threads + Sync>(
     ensures { IfOk result
         (λ events. events.items ≡ by_order (joined (workers.items ++ books_logs all.items))) }
 {
-    let threads = threads.max(1);
-    let logs = workers.len().div_ceil(threads).max(1);
-    let servers = all.len().div_ceil(threads).max(1);
-    let mut groups = grouped(alloc, workers, logs, all, servers)?;
+    let mut groups = grouped(alloc, workers, all, threads.max(1))?;
     merge_each(rt, alloc, groups.as_mut_slice());
     if is_one_refused(groups.as_slice()) {
         return Err(Memory);

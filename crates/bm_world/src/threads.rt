@@ -130,17 +130,17 @@ fn run_stage<W: Threads + Wait + Sync, F: Fn(u32, Hop) -> Fate + Sync, G: Gate>(
     rt: &W,
     alloc: Global,
     stage: &Stage,
-    octets: &Octets,
-    routes: &[Option<MuxId>],
+    octets: Octets,
+    routes: Vec<Option<MuxId>>,
     faults: &Faults<F>,
     gate: &G,
 ) -> Result<Vec<Event>, Memory>
     requires sound { IsSound stage.now }
-    requires packets { ArePackets stage.now.capture.records octets.now }
-    requires count { length routes.now ≡ length stage.now.capture.records }
-    requires routed { AreRouted stage.now routes.now }
+    requires packets { ArePackets stage.now.capture.records octets }
+    requires count { length routes.items ≡ length stage.now.capture.records }
+    requires routed { AreRouted stage.now routes.items }
     requires faults { IsRule F.Fn faults.now.rule }
-    ensures { IfOk result (λ events. MakeRun (RoutedBy routes.now) (Gives F.Fn faults.now.rule)
+    ensures { IfOk result (λ events. MakeRun (RoutedBy routes.items) (Gives F.Fn faults.now.rule)
         stage.now events.items) }
 {
     let setting = &stage.script.setting;
@@ -149,8 +149,8 @@ fn run_stage<W: Threads + Wait + Sync, F: Fn(u32, Hop) -> Fate + Sync, G: Gate>(
     let shared = Shared {
         alloc,
         stage,
-        octets,
-        routes,
+        octets: &octets,
+        routes: routes.as_slice(),
         servers: servers.as_slice(),
         faults,
         gate,
@@ -165,6 +165,9 @@ fn run_stage<W: Threads + Wait + Sync, F: Fn(u32, Hop) -> Fate + Sync, G: Gate>(
         faults: _faults,
         gate: _gate,
     } = shared;
+    // Only the workers read these, and the merge wants their memory.
+    drop(octets);
+    drop(routes);
     let Back { late, logs, rows } = back?;
     let books = finish_all(alloc, servers, rows)?;
     if late {
@@ -177,8 +180,8 @@ fn run_stage<W: Threads + Wait + Sync, F: Fn(u32, Hop) -> Fate + Sync, G: Gate>(
 /// Carries the packets of a stage through its muxes and servers, the packets of each mux in a
 /// thread of its own and the commands in another, and gives the history of what they did: a run
 /// that follows the script as such threads do, and in which every packet, copy and command is
-/// accounted for. `octets` has the packet of each record. `Memory` where memory was refused. It may
-/// wait.
+/// accounted for. `octets` has the packet of each record, and is let go once all are carried.
+/// `Memory` where memory was refused. It may wait.
 pub fn run_threads<
     W: Threads + Wait + Sync,
     R: Fn(u32, &Flow) -> u16,
@@ -188,13 +191,13 @@ pub fn run_threads<
     rt: &W,
     alloc: Global,
     stage: Stage,
-    octets: &Octets,
+    octets: Octets,
     route: &Route<R>,
     faults: &Faults<F>,
     gate: &G,
 ) -> Result<History, Memory>
     requires sound { IsSound stage }
-    requires packets { ArePackets stage.capture.records octets.now }
+    requires packets { ArePackets stage.capture.records octets }
     requires route { IsRoute R.Fn route.now.rule route.now.muxes }
     requires muxes { route.now.muxes ≡ stage.script.setting.muxes }
     requires faults { IsRule F.Fn faults.now.rule }
@@ -203,7 +206,7 @@ pub fn run_threads<
         (IsThreadedRun (Answers R.Fn route.now.rule) (Gives F.Fn faults.now.rule)) }
 {
     let routes = route_all(alloc, &stage, route)?;
-    let events = run_stage(rt, alloc, &stage, octets, routes.as_slice(), faults, gate)?;
+    let events = run_stage(rt, alloc, &stage, octets, routes, faults, gate)?;
     Ok(History {
         stage,
         events: List::of(events),

@@ -33,8 +33,8 @@ returns-in-Replay-clause-made g c =
     (λ h made. replay_more _ (setting_route setting) _ (setting_rule setting) (λ k f m is. search rules)
     (λ k hop f is. search rules) h made) c.replay.ensures.replay)
 
-pub returns-in-Run-clause-made : goal.returns-in-Run-clause-made
-returns-in-Run-clause-made g c =
+pub returns-clause-made : goal.returns-clause-made
+returns-clause-made g c =
     let setting = c.args.stage.script.setting in
     rw c.in-Run.is (IfOk-weaker c.run_threads.result _ _
     (λ h made. threaded_more _ (setting_route setting) _ (setting_rule setting) (λ k f m is. search rules)

@@ -1,14 +1,16 @@
-use Rattle.std.proofs.Common.{◌≡◌, ◌∙◌, ℕ, suc, ◌+◌, ◌++◌, Bool, List, Some, length, sym, ap, subst, arith}
+use Rattle.std.proofs.Common.{◌≡◌, ◌∙◌, ℕ, suc, ◌+◌, ◌++◌, Bool, List, Option, Some, length, sym, ap, subst, arith}
 use Rattle.std.specs.Prelude.{slice_get, true}
 use Rattle.std.proofs.lemmas.List.{length-map}
 use Rattle.std.proofs.lemmas.Result.{IfOk-weaker}
+use Rattle.bm_base.specs.declared.ids.MuxId.{MuxId}
 use Rattle.bm_base.specs.declared.ids.ServerId.{ServerId}
 use Rattle.bm_table.specs.Settings.{IsWithin, RiseFrom}
 use Rattle.bm_table.specs.Tables.{is_among, is_known}
 use Rattle.bm_core.specs.declared.events.Event.{Event}
+use Rattle.bm_core.specs.declared.events.Stage.{Stage}
+use Rattle.bm_core.specs.Accounts.{Rules}
 use Rattle.bm_shard.specs.Books.{Book}
 use Rattle.bm_fault.specs.Faults.{Gives}
-use Rattle.bm_rows.specs.Rows.{items_of}
 use Rattle.bm_server.specs.Seats.{Seated}
 use Rattle.bm_server.specs.Servings.{Serving}
 use Rattle.bm_worker.specs.Phases.{IsRunnable}
@@ -21,6 +23,14 @@ use Rattle.bm_world.proofs.Making.{suits_made}
 use Rattle.bm_world.proofs.Through.{merge_to_run}
 use Rattle.bm_world.proofs.threads.run_stage.Goals as goal
 
+-- what the workers hand back, where they were lent all servers and all routes
+back_of : (F : Rules) (stage : Stage) (lent servers : List Serving) (shown routes : List (Option MuxId)) (late : Bool)
+    (logs : List (List Event)) (rows : List (List (List Seated))) → shown ≡ routes → lent ≡ servers
+    → IsBack F stage lent shown late logs rows → IsBack F stage servers routes late logs rows
+back_of F stage lent servers shown routes late logs rows same all back =
+    subst (λ (l : List Serving). IsBack F stage l routes late logs rows) all
+    (subst (λ (l : List (Option MuxId)). IsBack F stage lent l late logs rows) same back)
+
 pub run_workers-back-requires-clause-run : goal.run_workers-back-requires-clause-run
 run_workers-back-requires-clause-run g c κs within =
     let stage = c.args.stage.now in
@@ -31,23 +41,25 @@ run_workers-back-requires-clause-run g c κs within =
     → is_known stage.script.plan (length stage.script.plan.changes) id ≡ true → is_among l id ≡ true)
     (sym c.as_slice.ensures.value) c.in_ok-ids.ensures.known)
     c.in_ok-servers.ensures.servers c.in_ok-servers.ensures.each_server in
-    subst (λ (l : List Serving). IsRunnable stage c.args.octets.now c.args.routes.now l)
+    subst (λ (l : List Serving). IsRunnable stage c.args.octets c.as_slice-2.result.now l)
+    (sym c.as_slice-3.ensures.value)
+    (subst (λ (l : List (Option MuxId)). IsRunnable stage c.args.octets l c.in_ok-servers.servers.items)
     (sym c.as_slice-2.ensures.value) (record {
       sound = c.requires.sound;
       packets = c.requires.packets;
       suits = suits;
       count = c.requires.count;
       steerable = c.requires.routed.steerable;
-    })
+    }))
 
 pub finish_all-requires-clause-count : goal.finish_all-requires-clause-count
 finish_all-requires-clause-count g c = λ s server here.
     let stage = c.args.stage.now in
-    let servers = c.as_slice-2.result.now in
+    let servers = c.as_slice-3.result.now in
     let back = c.in_ok-late.ensures in
     let late = c.in_ok-late.field-0.late in
     let F = Gives g.F.Fn c.args.faults.now.rule in
-    let sits = sitting F stage servers c.args.routes.now late back.posted back.head back.workers back.stood in
+    let sits = sitting F stage servers c.as_slice-2.result.now late back.posted back.head back.workers back.stood in
     let long = rows_long stage servers back.head.porter back.workers sits in
     let size = length-map c.in_ok-late.field-0.rows.items (λ row. row.items) in
     let rows = ap (λ (l : List (List (List Seated))). length l) back.rows_are in
@@ -60,9 +72,9 @@ finish_all-requires-clause-each g c = λ w seats here.
     let late = c.in_ok-late.field-0.late in
     let F = Gives g.F.Fn c.args.faults.now.rule in
     let servers = c.in_ok-servers.servers.items in
-    let back = subst (λ (l : List Serving). IsBack F stage l c.args.routes.now late c.in_ok-late.field-0.logs.items
-    (items_of c.in_ok-late.field-0.rows.items)) c.as_slice-2.ensures.value c.in_ok-late.ensures in
-    let sits = sitting F stage servers c.args.routes.now late back.posted back.head back.workers back.stood in
+    let back = back_of F stage _ servers _ c.args.routes.items late _ _ c.as_slice-2.ensures.value
+    c.as_slice-3.ensures.value c.in_ok-late.ensures in
+    let sits = sitting F stage servers c.args.routes.items late back.posted back.head back.workers back.stood in
     row_sits stage servers back.head.porter back.workers sits w seats
     (ap (λ (l : List (List (List Seated))). slice_get l w) (sym back.rows_are) ∙ here)
 
@@ -72,7 +84,6 @@ unreachable-requires g c =
     let late = c.in_ok-late.field-0.late in
     let F = Gives g.F.Fn c.args.faults.now.rule in
     let servers = c.in_ok-servers.servers.items in
-    let rows = items_of c.in_ok-late.field-0.rows.items in
     let ids = c.as_slice.result.now in
     let suits = suits_made stage servers ids (stage.script.setting.muxes + 1) c.requires.sound
     (subst (λ (l : List ServerId). RiseFrom 1 l) (sym c.as_slice.ensures.value) c.in_ok-ids.ensures.rise)
@@ -80,9 +91,9 @@ unreachable-requires g c =
     → is_known stage.script.plan (length stage.script.plan.changes) id ≡ true → is_among l id ≡ true)
     (sym c.as_slice.ensures.value) c.in_ok-ids.ensures.known)
     c.in_ok-servers.ensures.servers c.in_ok-servers.ensures.each_server in
-    let back = subst (λ (l : List Serving). IsBack F stage l c.args.routes.now late
-    c.in_ok-late.field-0.logs.items rows) c.as_slice-2.ensures.value c.in_ok-late.ensures in
-    let sits = sitting F stage servers c.args.routes.now late back.posted back.head back.workers back.stood in
+    let back = back_of F stage _ servers _ c.args.routes.items late _ _ c.as_slice-2.ensures.value
+    c.as_slice-3.ensures.value c.in_ok-late.ensures in
+    let sits = sitting F stage servers c.args.routes.items late back.posted back.head back.workers back.stood in
     let seats : (s : ℕ) (server : Serving) → slice_get servers s ≡ Some server
     → server.seats ≡ suc (length back.workers) =
     λ s server here.
@@ -91,7 +102,7 @@ unreachable-requires g c =
     → AreBooksThere servers (rows_of back.head.porter.seats back.workers) s books =
     λ s books here. subst (λ (x : List (List (List Seated))). AreBooksThere servers x s books) back.rows_are
     (c.in_ok-books.ensures.books s books here) in
-    let rest = subst (λ (b : Bool). Stood F stage servers c.args.routes.now b back.posted back.head back.workers)
+    let rest = subst (λ (b : Bool). Stood F stage servers c.args.routes.items b back.posted back.head back.workers)
     c.if-late.true back.stood in
     none_late F stage servers rest.before back.posted rest.start back.head back.workers rest.rest
     c.in_ok-books.books.items c.requires.sound suits seats c.requires.faults.delay rest.given_up rest.added rest.all
@@ -103,7 +114,6 @@ returns g c =
     let late = c.in_ok-late.field-0.late in
     let F = Gives g.F.Fn c.args.faults.now.rule in
     let servers = c.in_ok-servers.servers.items in
-    let rows = items_of c.in_ok-late.field-0.rows.items in
     let ids = c.as_slice.result.now in
     let suits = suits_made stage servers ids (stage.script.setting.muxes + 1) c.requires.sound
     (subst (λ (l : List ServerId). RiseFrom 1 l) (sym c.as_slice.ensures.value) c.in_ok-ids.ensures.rise)
@@ -111,9 +121,9 @@ returns g c =
     → is_known stage.script.plan (length stage.script.plan.changes) id ≡ true → is_among l id ≡ true)
     (sym c.as_slice.ensures.value) c.in_ok-ids.ensures.known)
     c.in_ok-servers.ensures.servers c.in_ok-servers.ensures.each_server in
-    let back = subst (λ (l : List Serving). IsBack F stage l c.args.routes.now late
-    c.in_ok-late.field-0.logs.items rows) c.as_slice-2.ensures.value c.in_ok-late.ensures in
-    let sits = sitting F stage servers c.args.routes.now late back.posted back.head back.workers back.stood in
+    let back = back_of F stage _ servers _ c.args.routes.items late _ _ c.as_slice-2.ensures.value
+    c.as_slice-3.ensures.value c.in_ok-late.ensures in
+    let sits = sitting F stage servers c.args.routes.items late back.posted back.head back.workers back.stood in
     let seats : (s : ℕ) (server : Serving) → slice_get servers s ≡ Some server
     → server.seats ≡ suc (length back.workers) =
     λ s server here.
@@ -122,11 +132,11 @@ returns g c =
     → AreBooksThere servers (rows_of back.head.porter.seats back.workers) s books =
     λ s books here. subst (λ (x : List (List (List Seated))). AreBooksThere servers x s books) back.rows_are
     (c.in_ok-books.ensures.books s books here) in
-    let through = subst (λ (b : Bool). Stood F stage servers c.args.routes.now b back.posted back.head back.workers)
+    let through = subst (λ (b : Bool). Stood F stage servers c.args.routes.items b back.posted back.head back.workers)
     c.if-late.false back.stood in
     let all = c.in_ok-books.books.items in
     let lists = c.in_ok-late.field-0.logs.items ++ books_logs all in
-    let merged = merge_to_run F stage servers c.args.routes.now back.posted back.head back.workers all lists
+    let merged = merge_to_run F stage servers c.args.routes.items back.posted back.head back.workers all lists
     c.requires.sound suits seats c.requires.routed back.shown through c.in_ok-books.ensures.count books
     (ap (λ (l : List (List Event)). l ++ books_logs all) back.logs_are) in
     IfOk-weaker c.merge_beside.result _ _ (λ events is h about made. merged h about (made ∙ is)) c.merge_beside.ensures
