@@ -172,16 +172,16 @@ few_more false count new n len is few below = omega (arith, is, few, below)
 -- one event more
 pub swept_more : (h : History) (shown : List Event) (n : ℕ) (d : Event) (old new : Sweeper) (found : Option Cause)
     (stray : Bool)
-    → IsRun h → shown ≡ h.events → n < length h.events
+    → shown ≡ h.events → n < length h.events
     → found ≡ cause h.stage (reverse (take n shown)) (get_or shown n d).clock.0 (get_or shown n d).what
     → Knows h.stage (get_or shown n d ∷ reverse (take n shown)) new.known
     → stray ≡ (arrives is_process (get_or shown n d).what && is_some found)
     → new.strays ≡ (if stray then suc old.strays else old.strays) → HasSwept h n old → HasSwept h (n + 1) new
-swept_more h shown n d old new found stray run same below is knows stray_is count before = record {
+swept_more h shown n d old new found stray same below is knows stray_is count before = record {
   known = known_more h shown n d new.known same below knows;
-  counted = stray_counted h n old.strays new.strays d shown found stray run same
-      (omega (arith, below, ap length same)) (cause_found h shown n d found same below is) before.counted stray_is
-      count;
+  counted = λ run.
+      stray_counted h n old.strays new.strays d shown found stray run same (omega (arith, below, ap length same))
+      (cause_found h shown n d found same below is) (before.counted run) stray_is count;
   few = few_more stray old.strays new.strays n (length h.events) count before.few below;
 }
 
@@ -195,6 +195,6 @@ swept_to h n to sweeper at swept =
     let same : take n h.events ≡ take to h.events = ap (λ k. take k h.events) at ∙ take_min to h.events
     in record {
       known = subst (λ es. Knows h.stage (reverse es) sweeper.known) same swept.known;
-      counted = swept.counted ∙ ap (λ es. strays h.stage (reverse es)) same;
+      counted = λ run. swept.counted run ∙ ap (λ es. strays h.stage (reverse es)) same;
       few = let f = swept.few in omega (arith, f, at);
     }

@@ -4,9 +4,9 @@ use Rattle.std.specs.Prelude.{All, false, length, take, reverse, min, slice_get}
 use Rattle.std.specs.Prelude.{string_bytes}
 use Rattle.std.specs.Io.KnownBytes.{Appends}
 use Rattle.bm_core.specs.declared.events.History.{History}
-use Rattle.bm_core.specs.Runs.{IsRun}
 use Rattle.bm_trace.specs.Ends.{words_of_ends}
 use Rattle.bm_trace.specs.EndTables.{ends_at}
+use Rattle.bm_trace.specs.Ranges.{HasRanges}
 use Rattle.bm_trace.specs.Report.{ends_of, event_lines, record_lines}
 use Rattle.bm_trace.specs.Running.{AreVersions}
 use Rattle.bm_trace.specs.Swept.{AreCausesOf, HasSwept}
@@ -22,9 +22,9 @@ pub record AreEnds (h : History) (table : EndTable) : Type 0 where
   pub each : (k : ℕ) → k < length h.stage.capture.records
       → words_of_ends (ends_at table k) ≡ ends_of (reverse h.events) (k + 1)
 
--- the history is a run, and the ends are its
+-- the ends are those of the history, whose numbers are in their ranges
 pub record AreRight (facts : Facts) : Type 0 where
-  pub run : IsRun facts.history.now
+  pub ranges : HasRanges facts.history.now.stage
   pub ends : AreEnds facts.history.now facts.ends.now
 
 -- each event and each record has a line

@@ -10,9 +10,11 @@ ghost use Rattle.bm_trace.specs.Pieces.{AreEnds, AreLines, AreRight, AreWritten}
 ghost use Rattle.bm_trace.specs.Pieces.{CanWrite, HasDealt, HasWritten, HaveWritten, IsRound};
 ghost use Rattle.bm_trace.specs.Pieces.{PutsLines, PutsPart, line_count, place_of};
 ghost use Rattle.bm_trace.specs.Parts.{WritesPart};
+ghost use Rattle.bm_trace.specs.Ranges.{HasRanges};
 ghost use Rattle.bm_trace.specs.Report as report;
 ghost use Rattle.bm_trace.specs.Running.{AreVersions};
 ghost use Rattle.bm_trace.specs.Swept.{AreCausesOf, HasSwept};
+ghost use Rattle.bm_trace.specs.Totals as totals;
 ghost use Rattle.std.specs.Thread.{IsSync};
 
 use crate::counts::totals_with;
@@ -35,7 +37,7 @@ const PIECE: usize = 16_384;
 
 /// How many events and records there are.
 fn line_count(h: &History) -> usize
-    requires { IsRun h.now }
+    requires { HasRanges h.now.stage }
     ensures { result ≡ line_count h.now }
 {
     h.events.items().len() + h.stage.capture.records.items().len()
@@ -155,7 +157,7 @@ impl Piece {
         from: usize,
         to: usize,
     ) -> Result<(), AllocError>
-        requires run { IsRun h.now }
+        requires ranges { HasRanges h.now.stage }
         requires order { (from ≤ to) × (to ≤ line_count h.now) }
         requires swept { HasSwept h.now from sweeper.old }
         ensures place { OnOk result ((self.new.from ≡ from) × (self.new.to ≡ to)) }
@@ -224,7 +226,7 @@ fn deal_out(
     pieces: &mut [Piece],
     from: usize,
 ) -> Result<usize, AllocError>
-    requires run { IsRun h.now }
+    requires ranges { HasRanges h.now.stage }
     requires from { from ≤ line_count h.now }
     requires swept { HasSwept h.now from sweeper.old }
     ensures count { length pieces.new ≡ length pieces.old }
@@ -289,7 +291,8 @@ fn write_beside<R: Threads + Sync>(
                 × HaveWritten facts.entry.now.history.now pieces.entry.now pieces.exit.now }
         { write_all(rt, facts, pieces) },
         &mut || -> Result<usize, AllocError>
-            requires { IsRun h.now × (to ≤ line_count h.now) × HasSwept h.now to sweeper.now }
+            requires { HasRanges h.now.stage × (to ≤ line_count h.now)
+                × HasSwept h.now to sweeper.now }
             ensures { (length spare.exit.now ≡ length spare.entry.now)
                 × IfOk result (HasDealt h.entry.now to spare.exit.now sweeper.exit.now) }
         { deal_out(alloc, h, sweeper, spare, to) },
@@ -335,7 +338,7 @@ impl Round {
 
     /// The first round, with so many pieces.
     fn first(alloc: Global, h: &History, count: usize) -> Result<Round, AllocError>
-        requires run { IsRun h.now }
+        requires ranges { HasRanges h.now.stage }
         requires count { 0 < count }
         ensures round { IfOk result (IsRound h.now) }
         ensures from { IfOk result (λ round. round.from ≡ 0) }
@@ -387,7 +390,7 @@ impl Round {
 }
 
 /// Writes the lines of all events and records, round after round.
-fn put_lines<R: Threads + Sync, K: Sink>(
+fn put_rounds<R: Threads + Sync, K: Sink>(
     rt: &R,
     facts: &Facts<'_>,
     round: &mut Round,
@@ -418,7 +421,7 @@ fn ends_and_round<R: Threads + Sync>(
     h: &History,
     count: usize,
 ) -> Result<(EndTable, Round), AllocError>
-    requires run { IsRun h.now }
+    requires ranges { HasRanges h.now.stage }
     requires count { 0 < count }
     ensures ends { IfOk result (λ made. AreEnds h.now made.0) }
     ensures round { IfOk result (λ made. IsRound h.now made.1) }
@@ -436,16 +439,44 @@ fn ends_and_round<R: Threads + Sync>(
             )
         },
         || -> Result<Round, AllocError>
-            requires { IsRun h.now × (0 < count) }
+            requires { HasRanges h.now.stage × (0 < count) }
             ensures { IfOk result (λ round. IsRound h.entry.now round × (round.from ≡ 0)) }
         { Round::first(alloc, h, count) },
     );
     Ok((ends?, round?))
 }
 
+/// Writes the lines of the events and the records, by so many threads. How many strays there are
+/// among the events of a run.
+pub(crate) fn put_lines<R: Threads + Sync, K: Sink>(
+    rt: &R,
+    alloc: Global,
+    threads: usize,
+    h: &History,
+    out: &mut K,
+) -> Result<u64, IoFault>
+    requires threads { 0 < threads }
+    requires ranges { HasRanges h.now.stage }
+    ensures ok { OnOk result
+        (PutsLines h.now 0 (line_count h.now) (K.written out.old) (K.written out.new)) }
+    ensures strays { IfOk result (λ count. IsRun h.now
+        → count ≡ totals.strays h.now.stage (reverse h.now.events)) }
+    ensures err { OnErr result (PutsPart h.now 0 (K.written out.old) (K.written out.new)) }
+    ensures cause { HasIoCause (K.faults out.old) (K.faults out.new) result }
+{
+    let (ends, mut round) = ends_and_round(rt, alloc, h, threads)?;
+    let facts = Facts {
+        history: h,
+        ends: &ends,
+    };
+    put_rounds(rt, &facts, &mut round, out)?;
+    Ok(round.sweeper.strays())
+}
+
 /// Writes the report of the history by as many threads, of which 0 count as 1, beside the caller's
 /// own, which finds the causes of the events meanwhile, a round ahead. The report is never held
 /// whole. Where it is refused, a first part of it was written.
+#[tactic(auto, using(crate::proofs::Ranged::ranges_of))]
 pub fn report_beside<R: Threads + Sync, K: Sink>(
     rt: &R,
     alloc: Global,
@@ -459,12 +490,6 @@ pub fn report_beside<R: Threads + Sync, K: Sink>(
         (report.text h.now)) }
     ensures cause { HasIoCause (K.faults out.old) (K.faults out.new) result }
 {
-    let (ends, mut round) = ends_and_round(rt, alloc, h, threads.max(1))?;
-    let facts = Facts {
-        history: h,
-        ends: &ends,
-    };
-    put_lines(rt, &facts, &mut round, out)?;
-    let sums = totals_with(h, round.sweeper.strays());
-    put_end(h, &sums, String::new(alloc), out)
+    let strays = put_lines(rt, alloc, threads.max(1), h, out)?;
+    put_end(h, &totals_with(h, strays), String::new(alloc), out)
 }

@@ -6,6 +6,7 @@ ghost use Rattle.bm_core.specs.Causes as causes;
 ghost use Rattle.bm_core.specs.Runs.{IsRun};
 ghost use Rattle.bm_core.specs.declared.events.History.{History};
 ghost use Rattle.bm_trace.specs.CauseOf.{cause_of};
+ghost use Rattle.bm_trace.specs.Ranges.{HasRanges};
 ghost use Rattle.bm_trace.specs.Running.{AreVersions};
 ghost use Rattle.bm_trace.specs.Swept.{AreCauses, AreCausesOf, cause_in};
 ghost use Rattle.bm_trace.specs.Totals as totals;
@@ -112,9 +113,9 @@ impl Sweeper {
         self.known.versions()
     }
 
-    /// How many strays came before the next event.
+    /// How many strays came before the next event of a run.
     pub(crate) fn strays(&self) -> u64
-        ensures { (h : History) (place : ℕ) → HasSwept h place self.now
+        ensures { (h : History) (place : ℕ) → HasSwept h place self.now → IsRun h
             → result ≡ totals.strays h.stage (reverse (take place h.events)) }
     {
         self.strays
@@ -127,7 +128,7 @@ impl Sweeper {
         h: &History,
         place: usize,
     ) -> Result<Option<Cause>, AllocError>
-        requires run { IsRun h.now }
+        requires ranges { HasRanges h.now.stage }
         requires place { place < length h.now.events }
         requires swept { HasSwept h.now place self.old }
         ensures cause { IfOk result (λ cause. cause ≡ cause_of h.now place) }
@@ -151,7 +152,7 @@ impl Sweeper {
         to: usize,
         causes: &mut Vec<Option<Cause>>,
     ) -> Result<(), AllocError>
-        requires run { IsRun h.now }
+        requires ranges { HasRanges h.now.stage }
         requires order { from ≤ to }
         requires swept { HasSwept h.now from self.old }
         requires empty { causes.old.items ≡ [] }
@@ -166,16 +167,25 @@ impl Sweeper {
     }
 }
 
-/// The cause of each event, in one sweep over the history.
+/// The cause of each event of a history whose numbers are in their ranges.
 #[tactic(auto, using(crate::proofs::Sweeping::all_causes))]
-pub fn sweep(alloc: Global, h: &History) -> Result<CauseList, Memory>
-    requires { IsRun h.now }
+pub(crate) fn causes_of(alloc: Global, h: &History) -> Result<CauseList, Memory>
+    requires { HasRanges h.now.stage }
     ensures { IfOk result (λ causes. AreCauses h.now causes) }
 {
     let mut causes = Vec::new(alloc);
     let mut sweeper = Sweeper::new(alloc, h)?;
     sweeper.advance(alloc, h, 0, h.events.items().len(), &mut causes)?;
     Ok(CauseList::of(causes))
+}
+
+/// The cause of each event, in one sweep over the history.
+#[tactic(auto, using(crate::proofs::Ranged::ranges_of))]
+pub fn sweep(alloc: Global, h: &History) -> Result<CauseList, Memory>
+    requires { IsRun h.now }
+    ensures { IfOk result (λ causes. AreCauses h.now causes) }
+{
+    causes_of(alloc, h)
 }
 
 fn stray_count(h: &History, causes: &CauseList) -> u64

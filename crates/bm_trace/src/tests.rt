@@ -1,7 +1,6 @@
 ghost use Rattle.std.specs.Prelude.{◌<◌};
 
 use crate::document::{put_end, put_events, put_rest};
-use crate::endings::ends_of_packets;
 use crate::swept::causes_of;
 use crate::{beside, totals};
 use Happening::*;
@@ -195,10 +194,7 @@ fn report_beside<R: Abort + Threads + std::marker::Sync>(
     assert!(rt; 1 <= script.setting.shards && script.setting.shards <= 64);
     assert!(rt; h.stage.capture.records.items().len() <= 100);
     let mut out = MemSink::new(alloc, Vec::new(alloc));
-    let causes = causes_of(alloc, h)?;
-    let records = h.stage.capture.records.items().len();
-    let ends = ends_of_packets(alloc, records, h.events.items())?;
-    beside::put_lines(rt, threads, h, &causes, &ends, &mut out).map_err(|_| "the sink failed")?;
+    beside::put_lines(rt, alloc, threads, h, &mut out).map_err(|_| "the sink failed")?;
     put_end(h, &totals(h), String::new(alloc), &mut out).map_err(|_| "the sink failed")?;
     Ok(out)
 }

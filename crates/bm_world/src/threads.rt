@@ -1,6 +1,6 @@
 //! A run of a stage in threads.
-ghost use Rattle.std.specs.Prelude.{◌≡◌, [], ℕ, ◌+◌, ◌*◌, ◌^◌, ◌≤◌, length, slice_get, Some, All, MatchBool};
-ghost use Rattle.std.specs.Prelude.{IfOk, OnOk};
+ghost use Rattle.std.specs.Prelude.{◌≡◌, [], ℕ, ◌+◌, ◌*◌, ◌^◌, ◌≤◌, length, slice_get, Some};
+ghost use Rattle.std.specs.Prelude.{All, IfOk, MatchBool, OnOk};
 ghost use Rattle.bm_core.specs.Stages.{IsSound};
 ghost use Rattle.bm_core.specs.Threads.{IsThreadedRun};
 ghost use Rattle.bm_fault.specs.Faults.{Gives, IsRule};

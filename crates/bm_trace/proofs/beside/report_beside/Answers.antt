@@ -1,28 +1,23 @@
-use Rattle.std.proofs.Common.{refl, rules, ◌∙◌}
+use Rattle.std.proofs.Common.{refl, rules}
 use Rattle.bm_trace.proofs.Parted.{behind_records, err_more, first_refused, ok_more, on_err, report_written}
 use Rattle.bm_trace.proofs.Parted.{rest_refused}
-use Rattle.bm_trace.specs.Pieces.{line_count}
-use Rattle.bm_trace.proofs.Pieces.{puts_all, puts_first, strays_all}
+use Rattle.bm_trace.proofs.Pieces.{puts_all, puts_first}
 use Rattle.bm_trace.proofs.beside.report_beside.Goals as goal
 
-pub returns-in_err-put_lines-clause-err : goal.returns-in_err-put_lines-clause-err
-returns-in_err-put_lines-clause-err g c =
+pub returns-in_err-strays-clause-err : goal.returns-in_err-strays-clause-err
+returns-in_err-strays-clause-err g c =
     on_err _ _
     (first_refused _ _ _ _ _ _ (behind_records c.args.h.now) refl
-    (puts_first c.args.h.now _ _ c.in_err-put_lines.ensures.err))
-
-pub totals_with-sums-requires : goal.totals_with-sums-requires
-totals_with-sums-requires g c =
-    c.strays.ensures c.args.h.now (line_count c.args.h.now) c.in_ok-put_lines.ensures.swept ∙ strays_all c.args.h.now
+    (puts_first c.args.h.now _ _ c.in_err-strays.ensures.err))
 
 pub returns-clause-ok : goal.returns-clause-ok
 returns-clause-ok g c =
     ok_more c.put_end.result _ _
     (report_written _ _ _ _ _ _ _ _ (behind_records c.args.h.now) (search rules)
-    (puts_all c.args.h.now _ _ _ (search rules) c.in_ok-put_lines.ensures.ok)) c.put_end.ensures.ok
+    (puts_all c.args.h.now _ _ _ (search rules) c.in_ok-strays.ensures.ok)) c.put_end.ensures.ok
 
 pub returns-clause-err : goal.returns-clause-err
 returns-clause-err g c =
     err_more c.put_end.result _ _
     (rest_refused _ _ _ _ _ _ _ _ (behind_records c.args.h.now) (search rules)
-    (puts_all c.args.h.now _ _ _ (search rules) c.in_ok-put_lines.ensures.ok)) c.put_end.ensures.err
+    (puts_all c.args.h.now _ _ _ (search rules) c.in_ok-strays.ensures.ok)) c.put_end.ensures.err

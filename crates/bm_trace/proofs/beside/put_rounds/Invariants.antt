@@ -1,6 +1,6 @@
 use Rattle.std.proofs.Common.{◌≡◌, ◌-◌}
 use Rattle.bm_trace.specs.Pieces.{IsRound, PutsLines, line_count}
-use Rattle.bm_trace.proofs.beside.put_lines.Given as goal
+use Rattle.bm_trace.proofs.beside.put_rounds.Given as goal
 
 abbrev pub invariant-loop-round : goal.invariant-loop-round
 invariant-loop-round g l = record {
