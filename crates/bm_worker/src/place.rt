@@ -1,5 +1,5 @@
 //! Where a server lies among those of a run.
-ghost use Rattle.std.specs.Prelude.{◌≡◌, ◌≢◌, ℕ, ◌<◌, Some, None, length, slice_get};
+ghost use Rattle.std.specs.Prelude.{◌≡◌, ◌≢◌, ℕ, Some, None, slice_get};
 ghost use Rattle.std.specs.Bool.{OnTrue};
 ghost use Rattle.bm_server.specs.Servings.{Serving};
 
