@@ -1,5 +1,5 @@
 //! The changes of the table.
-ghost use Rattle.std.specs.Prelude.{◌≡◌, ◌++◌, ◌<◌, ◌^◌, Some, IfOk, OnOk, string_bytes};
+ghost use Rattle.std.specs.Prelude.{◌≡◌, ◌++◌, Some, IfOk, OnOk, string_bytes};
 ghost use Rattle.bm_drawing.specs.Drawing as spec;
 
 use crate::plot::Plot;

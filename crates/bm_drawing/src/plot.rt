@@ -1,5 +1,5 @@
 //! What is drawn, and where.
-ghost use Rattle.std.specs.Prelude.{◌≡◌, ◌<◌, ◌^◌, [], IfOk, OnOk, length};
+ghost use Rattle.std.specs.Prelude.{◌≡◌, ◌<◌, ◌^◌, [], IfOk, OnOk};
 ghost use Rattle.bm_drawing.specs.Drawing as spec;
 
 use crate::changes::Published;

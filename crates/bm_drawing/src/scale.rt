@@ -1,5 +1,5 @@
 //! Where moments are drawn, and the ticks of the axis.
-ghost use Rattle.std.specs.Prelude.{◌≡◌, ◌<◌, ◌≤◌, ◌^◌, Some};
+ghost use Rattle.std.specs.Prelude.{◌≡◌, ◌<◌, ◌^◌, Some};
 ghost use Rattle.bm_drawing.specs.Scales as spec;
 
 use std::fmt;

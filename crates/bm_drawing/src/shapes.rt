@@ -1,5 +1,5 @@
 //! The elements of SVG 1.1 (W3C, Scalable Vector Graphics) that a drawing is made of.
-ghost use Rattle.std.specs.Prelude.{◌≡◌, Some};
+ghost use Rattle.std.specs.Prelude.{Some};
 ghost use Rattle.bm_drawing.specs.Shapes as spec;
 
 use std::fmt;
