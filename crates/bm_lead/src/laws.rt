@@ -1,6 +1,6 @@
 //! What worker 0 has done in the end. The law is a function that does nothing: its contract is the
 //! law.
-ghost use Rattle.std.specs.Prelude.{◌≡◌, ℕ, List, length};
+ghost use Rattle.std.specs.Prelude.{◌≡◌, List, length};
 ghost use Rattle.bm_core.specs.Past.{newest};
 ghost use Rattle.bm_merge.specs.Notes.{Note};
 ghost use Rattle.bm_merge.specs.Workers.{IsController};

@@ -1,5 +1,5 @@
 //! The commands of a phase, and the Sync behind it.
-ghost use Rattle.std.specs.Prelude.{◌≡◌, ℕ, ◌+◌, ◌-◌, ◌*◌, ◌^◌, ◌<◌, ◌≤◌, length, List};
+ghost use Rattle.std.specs.Prelude.{◌≡◌, ◌+◌, ◌-◌, ◌*◌, ◌^◌, ◌<◌, ◌≤◌, length, List};
 ghost use Rattle.std.specs.Prelude.{slice_get, Some, IfErr, OnOk};
 ghost use Rattle.bm_table.specs.declared.script.Command.TheVariants.{Sync};
 ghost use Rattle.bm_core.specs.Stages.{IsSound};
