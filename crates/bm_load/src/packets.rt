@@ -1,5 +1,5 @@
 //! The packets of the load.
-ghost use Rattle.std.specs.Prelude.{◌≡◌, ◌≤◌, ◌<◌, ◌+◌, ◌*◌, IfOk};
+ghost use Rattle.std.specs.Prelude.{◌≡◌, ◌≤◌, IfOk};
 ghost use Rattle.bm_tcp.specs.Header.{count_of};
 ghost use Rattle.bm_load.specs.Load as load;
 
