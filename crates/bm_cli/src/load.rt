@@ -1,5 +1,5 @@
 //! The run of a generated load.
-ghost use Rattle.std.specs.Prelude.{◌≡◌, ◌≤◌, IfOk, string_bytes};
+ghost use Rattle.std.specs.Prelude.{◌≤◌, IfOk, string_bytes};
 ghost use Rattle.bm_cli.specs.Dues.{Shown};
 ghost use Rattle.bm_cli.specs.Inside.Telling.{Tells};
 ghost use Rattle.bm_cli.specs.Loads.{IsSummaryOf};
