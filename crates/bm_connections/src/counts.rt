@@ -1,6 +1,5 @@
 //! How many packets have a cause, and how many connections it broke.
 ghost use Rattle.std.specs.Prelude.{◌≡◌, count_by, reverse};
-ghost use Rattle.bm_core.specs.Runs.{IsRun};
 ghost use Rattle.bm_trace.specs.Swept.{AreCauses};
 ghost use Rattle.bm_connections.specs.Connections.{connections};
 ghost use Rattle.bm_connections.specs.Counts as spec;

@@ -1,11 +1,9 @@
 //! How many connections each shard of a server holds, and the most that it held at once.
 ghost use Rattle.std.specs.Prelude.{◌≡◌, ℕ, max, ◌&&◌, ◌||◌, ◌+◌, not, false, List, length};
 ghost use Rattle.std.specs.Prelude.{reverse, Some, None, OnOk, IfOk, if◌then◌else◌, [], ◌∷◌};
-ghost use Rattle.std.specs.BTreeMap as tree;
 ghost use Rattle.std.specs.BTreeSet as set;
 ghost use Rattle.bm_base.specs.declared.flow.Flow.{Flow};
 ghost use Rattle.bm_base.specs.Segments.{same_flow};
-ghost use Rattle.bm_core.specs.declared.events.Event.{Event};
 ghost use Rattle.bm_core.specs.Books.{AreDistinct};
 ghost use Rattle.bm_core.specs.Past as past;
 ghost use Rattle.bm_trace.specs.Ranges.{HasRanges};

@@ -1,5 +1,5 @@
 //! The packets that came too late, and the least timeout under which none of them would have.
-ghost use Rattle.std.specs.Prelude.{◌≡◌, Some, None, IfOk, if◌then◌else◌, option_map, reverse};
+ghost use Rattle.std.specs.Prelude.{◌≡◌, Some, IfOk, if◌then◌else◌, reverse};
 ghost use Rattle.bm_core.specs.declared.events.Cause.TheVariants.{ChainLate as chain_late};
 ghost use Rattle.bm_core.specs.Runs.{IsRun};
 ghost use Rattle.bm_trace.specs.Swept.{AreCauses};

@@ -1,5 +1,5 @@
 //! The pass over the events: what became of each connection's packets.
-ghost use Rattle.std.specs.Prelude.{◌≡◌, ◌<◌, ◌^◌, ◌&&◌, suc, ℕ, Some, is_some, reverse};
+ghost use Rattle.std.specs.Prelude.{◌≡◌, ◌<◌, ◌^◌, ◌&&◌, suc, Some, is_some, reverse};
 ghost use Rattle.std.specs.Prelude.{if◌then◌else◌, length, None, [], ◌∷◌};
 ghost use Rattle.bm_core.specs.Causes as causes;
 ghost use Rattle.bm_core.specs.Past as past;

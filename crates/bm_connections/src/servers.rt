@@ -1,7 +1,7 @@
 //! By server: how many arrivals it accepted and processed, and the most connections that one of its
 //! shards held at once.
-ghost use Rattle.std.specs.Prelude.{◌≡◌, ◌<◌, ◌^◌, ◌∷◌, [], suc, Option, Some, None, OnOk, IfOk};
-ghost use Rattle.std.specs.Prelude.{if◌then◌else◌, length, map, reverse};
+ghost use Rattle.std.specs.Prelude.{◌≡◌, ◌<◌, ◌^◌, ◌∷◌, [], suc, Some, OnOk, IfOk};
+ghost use Rattle.std.specs.Prelude.{if◌then◌else◌, length, reverse};
 ghost use Rattle.bm_base.specs.declared.ids.ServerId.{ServerId};
 ghost use Rattle.bm_table.specs.Tables.{same_server};
 ghost use Rattle.bm_core.specs.Runs.{IsRun};

@@ -1,5 +1,5 @@
 //! The stamp of each packet's label, kept along the events.
-ghost use Rattle.std.specs.Prelude.{◌≡◌, ◌+◌, ◌<◌, ◌≤◌, ◌==◌, ℕ, List, reverse, Some, None};
+ghost use Rattle.std.specs.Prelude.{◌≡◌, ◌+◌, ◌<◌, ◌≤◌, ◌==◌, ℕ, reverse, Some, None};
 ghost use Rattle.std.specs.Prelude.{OnOk, IfOk, IfSome, false, if◌then◌else◌, [], ◌∷◌, length};
 ghost use Rattle.std.specs.Prelude.{slice_index_or};
 ghost use Rattle.std.specs.BTreeMap as tree;

@@ -1,5 +1,5 @@
 //! The lines of servers and of causes.
-ghost use Rattle.std.specs.Prelude.{◌≡◌, ◌++◌, ◌∷◌, [], OnOk, IfOk, flat_map, string_bytes};
+ghost use Rattle.std.specs.Prelude.{◌≡◌, ◌++◌, OnOk, IfOk, flat_map, string_bytes};
 ghost use Rattle.bm_connections.specs.Text as spec;
 
 use crate::counts::CauseCount;

@@ -1,5 +1,5 @@
 //! The text of a table: a line for each connection.
-ghost use Rattle.std.specs.Prelude.{◌≡◌, ◌++◌, ◌∷◌, [], Some, OnOk, IfOk, string_bytes};
+ghost use Rattle.std.specs.Prelude.{◌≡◌, ◌++◌, Some, OnOk, IfOk, string_bytes};
 ghost use Rattle.bm_trace.specs.Words.{spaced};
 ghost use Rattle.bm_connections.specs.Text as spec;
 

@@ -1,5 +1,5 @@
 //! The pass over the events that finds how long after their buckets' moves packets arrive.
-ghost use Rattle.std.specs.Prelude.{◌≡◌, length, IfOk};
+ghost use Rattle.std.specs.Prelude.{◌≡◌, IfOk};
 ghost use Rattle.bm_core.specs.Runs.{IsRun};
 ghost use Rattle.bm_connections.specs.Inside.Stamps.{AreWaits, wait_in};
 
