@@ -1,14 +1,14 @@
 -- The date of a day by its number, and the text of an instant.
-use Rattle.std.proofs.Common.{◌≡◌, ℕ, zero, suc, ◌+◌, ◌-◌, ◌*◌, ◌/◌, ◌%◌, ◌^◌, ◌<◌, ◌≤◌, List, [], ◌∷◌, ◌++◌}
-use Rattle.std.proofs.Common.{inl, inr, refl, sym, ap, ap₂, ◌∙◌, arith, false, true, Some, Option, Bool, rules}
+use Rattle.std.proofs.Common.{◌≡◌, ℕ, zero, suc, ◌+◌, ◌*◌, ◌/◌, ◌%◌, ◌^◌, ◌<◌, ◌≤◌, List, [], ◌∷◌, ◌++◌}
+use Rattle.std.proofs.Common.{inl, inr, refl, sym, ap, ap₂, ◌∙◌, arith, false, Some, Option, Bool}
 use Rattle.std.proofs.Common.{append_assoc}
-use Rattle.std.proofs.Common.{ℤ, pos, ◌+ℤ◌, ◌≤ℤ◌, ◌<ℤ◌, neg_ℤ}
+use Rattle.std.proofs.Common.{ℤ, pos, ◌≤ℤ◌, neg_ℤ}
 use Rattle.std.specs.Prelude.{codes}
 use Rattle.std.proofs.lemmas.Bool.{cases_lt, lt-ltb, le-ltb}
 use Rattle.jiff_core.specs.declared.civil.date.Date.{Date}
 use Rattle.jiff_core.specs.declared.civil.time.Time.{Time}
 use Rattle.jiff_core.specs.declared.civil.datetime.DateTime.{DateTime}
-use Rattle.jiff_core.specs.Calendar.{IsCivilDate, IsYear, days_from_civil, days_in_month}
+use Rattle.jiff_core.specs.Calendar.{IsCivilDate, days_from_civil, days_in_month}
 use Rattle.jiff_core.specs.Date.{epoch_day}
 use Rattle.jiff_core.specs.DateTime.{civil_nanos}
 use Rattle.jiff_core.specs.Time.{time_nanos}

@@ -1,5 +1,5 @@
 -- Numbers with zeros in front.
-use Rattle.std.proofs.Common.{◌≡◌, ℕ, zero, suc, ◌+◌, ◌-◌, ◌*◌, ◌/◌, ◌%◌, ◌^◌, ◌<◌, ◌≤◌, List, [], ◌∷◌, ◌++◌}
+use Rattle.std.proofs.Common.{◌≡◌, ℕ, zero, suc, ◌+◌, ◌-◌, ◌*◌, ◌/◌, ◌%◌, ◌^◌, ◌<◌, ◌≤◌, [], ◌∷◌, ◌++◌}
 use Rattle.std.proofs.Common.{length, inl, inr, refl, sym, ap, ap₂, ◌∙◌, arith, false}
 use Rattle.std.specs.Prelude.{decimal, replicate}
 use Rattle.std.specs.Fmt.{char_count, format_spec, number_padding, padded_integral}

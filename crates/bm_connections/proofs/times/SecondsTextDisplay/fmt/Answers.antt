@@ -1,6 +1,6 @@
-use Rattle.std.proofs.Common.{ℕ, ◌≡◌, ◌∷◌, ◌++◌, ◌/◌, ◌%◌, ap, ◌∙◌, arith, subst, sym, append_assoc, []}
+use Rattle.std.proofs.Common.{◌∷◌, ◌++◌, ◌/◌, ◌%◌, ap, ◌∙◌, arith, subst, sym, append_assoc, []}
 use Rattle.std.specs.Prelude.{decimal}
-use Rattle.std.specs.Fmt.{HasWritten, padded_integral, styled_decimal}
+use Rattle.std.specs.Fmt.{HasWritten, styled_decimal}
 use Rattle.bm_connections.specs.Times.{last_digits, seconds_text}
 use Rattle.bm_connections.proofs.Digits.{low_digits, nine_digits}
 use Rattle.bm_connections.proofs.times.SecondsTextDisplay.fmt.Goals as goal
