@@ -1,6 +1,6 @@
 use Rattle.bm_cli.specs.declared.fault.StageFault.TheVariants.{Memory as WantsMemory}
 use Rattle.bm_cli.specs.declared.mode.Mode.TheVariants.{Replay}
-use Rattle.std.proofs.Common.{◌≡◌, Ok, Err}
+use Rattle.std.proofs.Common.{Err}
 use Rattle.bm_words.specs.Form.{named}
 use Rattle.bm_cli.proofs.Playing.{fault_through, made_of, stage_lost, stage_played}
 use Rattle.bm_cli.proofs.Stages.{stage_alone}

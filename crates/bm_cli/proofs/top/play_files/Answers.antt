@@ -1,4 +1,4 @@
-use Rattle.std.proofs.Common.{◌≡◌, Ok, Err}
+use Rattle.std.proofs.Common.{Ok, Err}
 use Rattle.bm_words.specs.Form.{named}
 use Rattle.bm_cli.proofs.Ending.{play_ends}
 use Rattle.bm_cli.proofs.Stages.{stage_alone}
