@@ -5,7 +5,7 @@ use Rattle.std.proofs.Common.{length, reverse, Option, Some, None, refl, sym, ap
 use Rattle.std.proofs.Common.{arith, ltb, leb}
 use Rattle.std.specs.Prelude.{IfSome, MatchBool}
 use Rattle.std.specs.List.{AllByRecursion}
-use Rattle.std.proofs.lemmas.Bool.{eq-eqb, le-leb, lt-leb, leb-true, ltb-true, and_from, and_parts}
+use Rattle.std.proofs.lemmas.Bool.{eq-eqb, le-leb, lt-leb, and_from, and_parts}
 use Rattle.std.proofs.lemmas.List.{reverse-append, length-append}
 use Rattle.bm_base.specs.declared.flow.Segment.{Segment}
 use Rattle.bm_base.specs.declared.ids.MuxId.{MuxId}
@@ -15,7 +15,6 @@ use Rattle.bm_core.specs.declared.events.What.{What}
 use Rattle.bm_core.specs.declared.events.What.TheVariants.{Publish, Switch, Steer, Lose, Arrive, Close, Retire, Sync}
 use Rattle.bm_core.specs.Accounts.{IsRouted, Rules, steers_packet}
 use Rattle.bm_core.specs.Past.{is_switch_of, label_of, segment_of, version_at}
-use Rattle.bm_core.specs.Runs.Actor.{MuxOf}
 use Rattle.bm_core.specs.Threads.{packet_of}
 use Rattle.bm_merge.specs.Notes.{Note, events_of, many, switched_since}
 use Rattle.bm_merge.specs.Workers.{IsAnswer, IsOwed, carries}
@@ -29,8 +28,8 @@ use Rattle.bm_worker.specs.declared.stop.Stop.{Stop}
 use Rattle.bm_worker.specs.declared.stop.Stop.TheVariants.{Memory}
 use Rattle.bm_worker.specs.declared.worker.MuxWorker.{MuxWorker}
 use Rattle.bm_worker.specs.Batches.{HasOnlyLooked, HasSeen, IsDoneTo, IsLogged, IsSteerTo, switch_note}
-use Rattle.bm_worker.specs.Phases.{AreCopies, HasEnded, IsDeed, IsOlder, IsReady, IsRunnable, IsStopOf, IsTurn, Kept}
-use Rattle.bm_worker.specs.Phases.{Phase, Stint, mux_log, mux_of}
+use Rattle.bm_worker.specs.Phases.{AreCopies, HasEnded, IsDeed, IsOlder, IsReady, IsStopOf, IsTurn, Kept}
+use Rattle.bm_worker.specs.Phases.{Stint, mux_log, mux_of}
 use Rattle.bm_worker.specs.Turns.{RoutedBy, is_mux, is_turn, mux_at}
 use Rattle.bm_worker.proofs.Collecting.{turn_none, turn_of}
 use Rattle.bm_worker.proofs.Copying.{copies_as}
