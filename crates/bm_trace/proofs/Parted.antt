@@ -15,7 +15,7 @@ use Rattle.bm_trace.specs.declared.records.End.{End}
 use Rattle.bm_trace.specs.declared.sums.Totals.{Totals}
 use Rattle.bm_trace.specs.Ends.{words_of_ends, words_of_record}
 use Rattle.bm_trace.specs.EndTables.{with_later}
-use Rattle.bm_trace.specs.Parts.{AppendsPart, HandsOn, HandsPart, WritesPart, last_lines, lines_behind}
+use Rattle.bm_trace.specs.Parts.{AppendsPart, HandsOn, HandsPart, WritesPart, all_lines, last_lines, lines_behind}
 use Rattle.bm_trace.specs.Report.{end_words, event_line, event_lines, ends_of, note_line, record_lines}
 use Rattle.bm_trace.specs.Report.{record_words, text, totals_line}
 use Rattle.bm_trace.specs.Totals.{totals_of}
@@ -123,7 +123,7 @@ records_append past k (r ∷ a) b =
     ∙ sym (append_assoc (line (codes "packet") (decimal k ∷ record_words past k r.body)) (record_lines past (suc k) a)
     _)
 
-pub records_all : (past : List Event) (shown records : List Record) (i : ℕ) → shown ≡ records
+records_all : (past : List Event) (shown records : List Record) (i : ℕ) → shown ≡ records
     → record_lines past 1 (take i shown) ++ record_lines past (1 + length (take i shown)) (drop i shown)
     ≡ record_lines past 1 records
 records_all past shown records i same =
@@ -135,7 +135,7 @@ same_words : (past : List Event) (k : ℕ) (body : Body) (ends : List End) → w
 same_words past k (Unsteered reason) ends e = refl
 same_words past k (Steerable s) ends e = e
 
-pub records_step : (past : List Event) (records : List Record) (i : ℕ) (d : Record) (ends : List End)
+records_step : (past : List Event) (records : List Record) (i : ℕ) (d : Record) (ends : List End)
     → i < length records → words_of_ends ends ≡ ends_of past (i + 1)
     → record_lines past 1 (take i records)
     ++ line (codes "packet") (decimal (i + 1) ∷ words_of_record (get_or records i d).body ends)
@@ -150,6 +150,18 @@ records_step past records i d ends below same =
     ∙ ap (λ x. record_lines past 1 (take i records) ++ record_lines past x (r ∷ [])) (sym n)
     ∙ sym (records_append past 1 (take i records) (r ∷ []))
     ∙ ap (λ x. record_lines past 1 x) (sym e)
+
+-- the line of a record more, where the lines before it stand
+pub record_put : (past : List Event) (records : List Record) (i : ℕ) (d : Record) (ends : List End)
+    (old new : List ℕ)
+    → i < length records → words_of_ends ends ≡ ends_of past (i + 1)
+    → old ≡ record_lines past 1 (take i records)
+    → new ≡ old ++ line (codes "packet") (decimal (i + 1) ∷ words_of_record (get_or records i d).body ends)
+    → new ≡ record_lines past 1 (take (i + 1) records)
+record_put past records i d ends old new below same before is =
+    is
+    ∙ ap (λ x. x ++ line (codes "packet") (decimal (i + 1) ∷ words_of_record (get_or records i d).body ends)) before
+    ∙ records_step past records i d ends below same
 
 -- the same first end and the same later ones
 pub both_same : {first kept : Option End} {later rest : List End} → first ≡ kept → later ≡ rest
@@ -221,14 +233,10 @@ behind_events h =
     in sym (append_assoc events records (note ++ total)) ∙ sym (append_assoc (events ++ records) note total)
 
 -- the same, with the lines of the records in the first part
-pub behind_records : (h : History)
-    → (event_lines h.stage (reverse h.events) ++ record_lines (reverse h.events) 1 h.stage.capture.records)
-    ++ last_lines h ≡ text h
+pub behind_records : (h : History) → all_lines h ++ last_lines h ≡ text h
 unfolding text
 behind_records h =
-    sym (append_assoc
-    (event_lines h.stage (reverse h.events) ++ record_lines (reverse h.events) 1 h.stage.capture.records)
-    (note_line h.stage.capture.cut) (totals_line (totals_of h)))
+    sym (append_assoc (all_lines h) (note_line h.stage.capture.cut) (totals_line (totals_of h)))
 
 pub report_written : (first rest whole : List ℕ) (a b c : Option (List ℕ)) (p q : List ℕ) → first ++ rest ≡ whole
     → p ≡ [] → HandsOn a p b q first → HandsOn b q c [] rest → Appends a c whole

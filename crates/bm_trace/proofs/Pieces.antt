@@ -1,119 +1,51 @@
--- Lines of events and records that are written side by side.
+-- Lines of events that are written side by side.
 use Rattle.std.proofs.Common.{◌≡◌, ℕ, ◌+◌, ◌*◌, ◌^◌, ◌-◌, ◌<◌, ◌≤◌, List, [], ◌∷◌, ◌++◌, length}
 use Rattle.std.proofs.Common.{take, drop, get_or, set}
 use Rattle.std.proofs.Common.{refl, ap, ◌∙◌, sym, arith, append_assoc, Option, Some, subst}
 use Rattle.std.proofs.Common.{Global, Vec, inl, inr, length-append, Bool, true, false}
 use Rattle.std.proofs.lemmas.Bool.{cases_lt}
-use Rattle.std.specs.Prelude.{codes, decimal, reverse, min, slice_get, string_bytes, MatchBool}
+use Rattle.std.specs.Prelude.{reverse, min, slice_get, string_bytes, MatchBool}
 use Rattle.std.specs.Io.KnownBytes.{Appends}
 use Rattle.std.proofs.KnownBytes.{Appends-nil, Appends-trans}
 use Rattle.std.proofs.lemmas.List.{append-nil, take-append-drop}
 use Rattle.std.proofs.lemmas.Grind.{common_steps}
 use Rattle.std.proofs.lemmas.Option.{same_Some, slice_get-get_or, slice_get_within}
-use Rattle.bm_base.specs.declared.capture.Record.{Record}
 use Rattle.bm_table.proofs.Gets.{slice_get-append_left, slice_get-push}
 use Rattle.bm_core.specs.declared.events.History.{History}
-use Rattle.bm_trace.specs.Ends.{words_of_ends, words_of_record}
 use Rattle.bm_trace.specs.Pieces.{AreInRow, AreLines, AreWritten, HasDealt, HaveWritten, IsRound, IsWritten}
-use Rattle.bm_trace.specs.Pieces.{PutsLines, PutsPart, first_lines, line_count, place_of}
+use Rattle.bm_trace.specs.Pieces.{PutsLines, PutsPart, first_lines, place_of}
 use Rattle.bm_trace.specs.Swept.{HasSwept}
 use Rattle.bm_trace.specs.Totals.{strays}
-use Rattle.bm_trace.specs.Words.{line}
 use Rattle.bm_trace.specs.declared.beside.Piece.{Piece}
 use Rattle.bm_trace.specs.declared.beside.Round.{Round}
 use Rattle.bm_trace.specs.declared.swept.Sweeper.{Sweeper}
-use Rattle.bm_trace.specs.declared.records.End.{End}
-use Rattle.bm_trace.specs.Parts.{HandsOn, HandsPart, WritesPart}
-use Rattle.bm_trace.specs.Report.{ends_of, event_lines, record_lines}
-use Rattle.bm_trace.proofs.Parted.{events_whole, later_lines, records_all, records_step}
+use Rattle.bm_trace.specs.Parts.{HandsOn, HandsPart, WritesPart, all_lines}
+use Rattle.bm_trace.specs.Report.{event_lines, record_lines}
+use Rattle.bm_trace.proofs.Parted.{events_whole, later_lines}
 
 -- THE LINES
 
 pub take_over : {X : Type 0} (xs : List X) (n : ℕ) → length xs ≤ n → take n xs ≡ xs
 take_over xs n over = grind (arith, common_steps)
 
--- the lines of all events, and of the first records
-abbrev event_part : History → List ℕ
-event_part h = event_lines h.stage (reverse h.events)
-
-abbrev record_part : History → ℕ → List ℕ
-record_part h j = record_lines (reverse h.events) 1 (take j h.stage.capture.records)
-
--- as far as there are events
-among_events : (h : History) (i : ℕ) → i ≤ length h.events
-    → first_lines h i ≡ event_lines h.stage (reverse (take i h.events))
-among_events h i within =
-    let none : i - length h.events ≡ 0 = omega (arith, within)
-    in ap (λ j. event_lines h.stage (reverse (take i h.events)) ++ record_part h j) none ∙ append-nil _
-
--- behind the events
-among_records : (h : History) (i j : ℕ) → i ≡ length h.events + j → first_lines h i ≡ event_part h ++ record_part h j
-among_records h i j is =
-    let place : i - length h.events ≡ j = omega (arith, is)
-    in ap (λ k. event_lines h.stage (reverse (take i h.events)) ++ record_part h k) place
-    ∙ ap (λ es. event_lines h.stage (reverse es) ++ record_part h j) (take_over h.events i (omega (arith, is)))
-
--- the line of a record more
-pub record_next : (h : History) (shown : List Record) (from i j : ℕ) (d : Record) (ends : List End) (lines new : List ℕ)
-    → shown ≡ h.stage.capture.records → i ≡ length h.events + j → j < length shown
-    → words_of_ends ends ≡ ends_of (reverse h.events) (j + 1)
-    → new ≡ lines ++ line (codes "packet") (decimal (j + 1) ∷ words_of_record (get_or shown j d).body ends)
-    → AreLines h from i lines → AreLines h from (i + 1) new
-record_next h shown from i j d ends lines new same place below listed is before =
-    let next = line (codes "packet")
-    (decimal (j + 1) ∷ words_of_record (get_or h.stage.capture.records j d).body ends)
-    in let within : j < length h.stage.capture.records = omega (arith, below, ap length same)
-    in ap (λ x. first_lines h from ++ x)
-    (is
-    ∙ ap (λ rs. lines ++ line (codes "packet") (decimal (j + 1) ∷ words_of_record (get_or rs j d).body ends)) same)
-    ∙ sym (append_assoc (first_lines h from) lines next)
-    ∙ ap (λ x. x ++ next) (before ∙ among_records h i j place)
-    ∙ append_assoc (event_part h) (record_part h j) next
-    ∙ ap (λ x. event_part h ++ x) (records_step (reverse h.events) h.stage.capture.records j d ends within listed)
-    ∙ sym (among_records h (i + 1) (j + 1) (omega (arith, place)))
-
 lines_both : (h : History) (i j k : ℕ) (x y : List ℕ) → AreLines h i j x → AreLines h j k y → AreLines h i k (x ++ y)
 lines_both h i j k x y first second =
     sym (append_assoc (first_lines h i) x y) ∙ ap (λ z. z ++ y) first ∙ second
 
--- the lines of all events and records
-abbrev pub all_lines : History → List ℕ
-all_lines h = event_part h ++ record_lines (reverse h.events) 1 h.stage.capture.records
+-- the lines of all events
+abbrev lines_of_events : History → List ℕ
+lines_of_events h = event_lines h.stage (reverse h.events)
 
-lines_whole : (h : History) → first_lines h (line_count h) ≡ all_lines h
+lines_whole : (h : History) → first_lines h (length h.events) ≡ lines_of_events h
 lines_whole h =
-    among_records h (line_count h) (length h.stage.capture.records) refl
-    ∙ ap (λ rs. event_part h ++ record_lines (reverse h.events) 1 rs)
-    (take_over h.stage.capture.records (length h.stage.capture.records) (omega arith))
+    ap (λ es. event_lines h.stage (reverse es)) (take_over h.events (length h.events) (omega arith))
 
--- there are lines behind each place
-abbrev LinesFrom : History → ℕ → Type 0
-LinesFrom h i = (rest : List ℕ) × AreLines h i (line_count h) rest
+-- the lines of the events behind a place
+abbrev lines_from : History → ℕ → List ℕ
+lines_from h i = later_lines h.stage (reverse (drop i h.events)) (reverse (take i h.events))
 
-lines_rest : (h : History) (i : ℕ) → LinesFrom h i
-lines_rest h i = elim (cases_lt i (length h.events)) [
-  | inl before ↦
-      let later = later_lines h.stage (reverse (drop i h.events)) (reverse (take i h.events))
-      in let records = record_lines (reverse h.events) 1 h.stage.capture.records
-      in (
-        later ++ records,
-        ap (λ x. x ++ (later ++ records)) (among_events h i (omega (arith, before)))
-            ∙ sym (append_assoc (event_lines h.stage (reverse (take i h.events))) later records)
-            ∙ ap (λ x. x ++ records) (events_whole h.stage h.events i)
-            ∙ sym (lines_whole h),
-      )
-  | inr behind ↦
-      let j = i - length h.events
-      in let records = h.stage.capture.records
-      in let rest = record_lines (reverse h.events) (1 + length (take j records)) (drop j records)
-      in (
-        rest,
-        ap (λ x. x ++ rest) (among_records h i j (omega (arith, behind)))
-            ∙ append_assoc (event_part h) (record_part h j) rest
-            ∙ ap (λ x. event_part h ++ x) (records_all (reverse h.events) records records j refl)
-            ∙ sym (lines_whole h),
-      )
-]
+lines_rest : (h : History) (i : ℕ) → AreLines h i (length h.events) (lines_from h i)
+lines_rest h i = events_whole h.stage h.events i ∙ sym (lines_whole h)
 
 -- WHAT IS WRITTEN
 
@@ -138,9 +70,9 @@ puts_both h i j k a b c first second =
 pub puts_left : (h : History) (i j : ℕ) (a b : Option (List ℕ)) → PutsLines h i j a b → PutsPart h i a b
 puts_left h i j a b before = record {
   sent = before.sent;
-  rest = (lines_rest h j).0;
+  rest = lines_from h j;
   appended = before.appended;
-  lines = lines_both h i j (line_count h) before.sent (lines_rest h j).0 before.lines (lines_rest h j).1;
+  lines = lines_both h i j (length h.events) before.sent (lines_from h j) before.lines (lines_rest h j);
 }
 
 pub puts_after : (h : History) (i j : ℕ) (a b c : Option (List ℕ)) → PutsLines h i j a b → PutsPart h j b c
@@ -151,7 +83,7 @@ puts_after h i j a b c first part = record {
   appended = Appends-trans a b c first.sent part.sent first.appended part.appended;
   lines =
       ap (λ x. first_lines h i ++ x) (append_assoc first.sent part.sent part.rest)
-      ∙ lines_both h i j (line_count h) first.sent (part.sent ++ part.rest) first.lines part.lines;
+      ∙ lines_both h i j (length h.events) first.sent (part.sent ++ part.rest) first.lines part.lines;
 }
 
 -- a first part of a piece
@@ -159,39 +91,44 @@ pub piece_left : (h : History) (i j : ℕ) (a b : Option (List ℕ)) (lines : Li
     → WritesPart a b lines → PutsPart h i a b
 piece_left h i j a b lines are part = record {
   sent = take part.0 lines;
-  rest = drop part.0 lines ++ (lines_rest h j).0;
+  rest = drop part.0 lines ++ lines_from h j;
   appended = part.2;
   lines =
       ap (λ x. first_lines h i ++ x)
-      (sym (append_assoc (take part.0 lines) (drop part.0 lines) (lines_rest h j).0)
-      ∙ ap (λ x. x ++ (lines_rest h j).0) (take-append-drop part.0 lines))
-      ∙ lines_both h i j (line_count h) lines (lines_rest h j).0 are (lines_rest h j).1;
+      (sym (append_assoc (take part.0 lines) (drop part.0 lines) (lines_from h j))
+      ∙ ap (λ x. x ++ lines_from h j) (take-append-drop part.0 lines))
+      ∙ lines_both h i j (length h.events) lines (lines_from h j) are (lines_rest h j);
 }
 
 -- ALL LINES
 
-lines_are : (h : History) (lines : List ℕ) → AreLines h 0 (line_count h) lines → lines ≡ all_lines h
-lines_are h lines are = ap (λ x. x ++ lines) (sym (among_events h 0 (omega arith))) ∙ are ∙ lines_whole h
+lines_are : (h : History) (lines : List ℕ) → AreLines h 0 (length h.events) lines → lines ≡ lines_of_events h
+lines_are h lines are = are ∙ lines_whole h
 
-pub puts_all : (h : History) (a b : Option (List ℕ)) (p : List ℕ) → p ≡ [] → PutsLines h 0 (line_count h) a b
-    → HandsOn a p b p (all_lines h)
-puts_all h a b p empty puts = record {
+-- the lines of the records wait
+pub puts_all : (h : History) (a b : Option (List ℕ)) (records : List ℕ) → PutsLines h 0 (length h.events) a b
+    → records ≡ record_lines (reverse h.events) 1 h.stage.capture.records → HandsOn a [] b records (all_lines h)
+puts_all h a b records puts are = record {
   sent = puts.sent;
   appended = puts.appended;
   whole =
-      ap (λ x. puts.sent ++ x) empty ∙ append-nil puts.sent ∙ lines_are h puts.sent puts.lines
-      ∙ ap (λ x. x ++ all_lines h) (sym empty);
+      ap (λ x. x ++ records) (lines_are h puts.sent puts.lines) ∙ ap (λ x. lines_of_events h ++ x) are;
 }
 
+-- they are lost
 pub puts_first : (h : History) (a b : Option (List ℕ)) → PutsPart h 0 a b → HandsPart a [] b (all_lines h)
-puts_first h a b puts = record {
-  lost = puts.rest;
-  on = record {
-    sent = puts.sent;
-    appended = puts.appended;
-    whole = lines_are h (puts.sent ++ puts.rest) puts.lines;
-  };
-}
+puts_first h a b puts =
+    let records = record_lines (reverse h.events) 1 h.stage.capture.records
+    in record {
+      lost = puts.rest ++ records;
+      on = record {
+        sent = puts.sent;
+        appended = puts.appended;
+        whole =
+            sym (append_assoc puts.sent puts.rest records)
+            ∙ ap (λ x. x ++ records) (lines_are h (puts.sent ++ puts.rest) puts.lines);
+      };
+    }
 
 -- THE PIECES
 
@@ -278,7 +215,7 @@ piece_refused h from k a b c p is before put = go p.refused refl put where
 -- ROUNDS
 
 pub round_of : (h : History) (from to : ℕ) (sweeper : Sweeper) (dealt : List Piece) (pieces spare : Vec Piece Global)
-    → pieces.items ≡ dealt → from ≤ line_count h → HasDealt h from dealt sweeper to → 0 < length dealt
+    → pieces.items ≡ dealt → from ≤ length h.events → HasDealt h from dealt sweeper to → 0 < length dealt
     → length spare.items ≡ length dealt
     → IsRound h record { sweeper = sweeper; pieces = pieces; spare = spare; from = from; to = to }
 round_of h from to sweeper dealt pieces spare is within all some same = record {
@@ -292,15 +229,16 @@ round_of h from to sweeper dealt pieces spare is within all some same = record {
 pub place_behind : (n from k : ℕ) → from < n → 0 < k → from < min (from + k * 2 ^ 14) n
 place_behind n from k before some = omega (arith, before, some)
 
-pub round_over : (h : History) (round : Round) → IsRound h round → line_count h ≤ round.from
-    → HasSwept h (line_count h) round.sweeper
+pub round_over : (h : History) (round : Round) → IsRound h round → length h.events ≤ round.from
+    → HasSwept h (length h.events) round.sweeper
 round_over h round is over =
     let within = is.from
     in let place = is.dealt.place
-    in let at : round.to ≡ line_count h = omega (arith, within, over, place)
+    in let at : round.to ≡ length h.events = omega (arith, within, over, place)
     in subst (λ n. HasSwept h n round.sweeper) at is.dealt.swept
 
 -- the strays of all events
 pub strays_all : (h : History)
-    → strays h.stage (reverse (take (line_count h) h.events)) ≡ strays h.stage (reverse h.events)
-strays_all h = ap (λ es. strays h.stage (reverse es)) (take_over h.events (line_count h) (omega arith))
+    → strays h.stage (reverse (take (length h.events) h.events)) ≡ strays h.stage (reverse h.events)
+strays_all h =
+    ap (λ es. strays h.stage (reverse es)) (take_over h.events (length h.events) (omega arith))

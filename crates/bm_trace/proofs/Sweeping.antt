@@ -169,6 +169,11 @@ few_more : (stray : Bool) (count new n len : ℕ) → new ≡ (if stray then suc
 few_more true count new n len is few below = omega (arith, is, few, below)
 few_more false count new n len is few below = omega (arith, is, few, below)
 
+-- where a sweep ends
+pub events_end : (h : History) (shown : List Event) (to end : ℕ) → shown ≡ h.events → end ≡ min to (length shown)
+    → end ≡ min to (length h.events)
+events_end h shown to end same is = is ∙ ap (λ es. min to (length es)) same
+
 -- one event more
 pub swept_more : (h : History) (shown : List Event) (n : ℕ) (d : Event) (old new : Sweeper) (found : Option Cause)
     (stray : Bool)

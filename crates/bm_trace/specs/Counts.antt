@@ -5,6 +5,7 @@ use Rattle.bm_core.specs.declared.events.What.{What}
 use Rattle.bm_core.specs.Causes.{is_process}
 use Rattle.bm_core.specs.Past.{is_accept, is_forward}
 use Rattle.bm_trace.specs.declared.counts.Counts.{Counts}
+use Rattle.bm_trace.specs.declared.sums.Totals.{Totals}
 use Rattle.bm_trace.specs.Totals.{arrives, is_drop, is_lost, is_reset}
 
 abbrev pub counts_of : List Event → Counts
@@ -39,3 +40,7 @@ pub record HasRoom (c : Counts) : Type 0 where
   pub reset : c.reset + 1 < 2 ^ 64
   pub dropped : c.dropped + 1 < 2 ^ 64
   pub lost : c.lost + 1 < 2 ^ 64
+
+-- the same numbers, as if no event were a stray
+abbrev pub without_strays : Totals → Totals
+without_strays t = record t { stray = 0 }

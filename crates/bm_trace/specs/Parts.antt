@@ -2,7 +2,7 @@
 use Rattle.std.specs.Prelude.{◌≡◌, ℕ, ◌≤◌, List, ◌++◌, length, reverse, take, Option}
 use Rattle.std.specs.Io.KnownBytes.{Appends}
 use Rattle.bm_core.specs.declared.events.History.{History}
-use Rattle.bm_trace.specs.Report.{note_line, record_lines, totals_line}
+use Rattle.bm_trace.specs.Report.{event_lines, note_line, record_lines, totals_line}
 use Rattle.bm_trace.specs.Totals.{totals_of}
 
 -- a first part of the text was appended
@@ -28,6 +28,12 @@ pub record HandsPart (before : Option (List ℕ)) (waited : List ℕ) (now : Opt
     (text : List ℕ) : Type 0 where
   pub lost : List ℕ
   pub on : HandsOn before waited now lost text
+
+-- the lines of all events, and behind them those of all records
+abbrev pub all_lines : History → List ℕ
+all_lines h =
+    event_lines h.stage (reverse h.events)
+    ++ record_lines (reverse h.events) 1 h.stage.capture.records
 
 -- the last lines: the note and the totals
 abbrev pub last_lines : History → List ℕ

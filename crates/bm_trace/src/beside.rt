@@ -1,27 +1,28 @@
-//! The whole report, with the lines of events and records written by several threads side by side.
+//! The whole report, with the lines of its events and of its records written by several threads side
+//! by side.
 ghost use Rattle.std.specs.Prelude.{◌≡◌, ◌+◌, ◌<◌, ◌≤◌, ℕ, All, IfOk, MatchBool, OnErr, OnOk};
-ghost use Rattle.std.specs.Prelude.{[], false, length, min, reverse, string_bytes, take};
+ghost use Rattle.std.specs.Prelude.{[], false, length, reverse, string_bytes, take};
 ghost use Rattle.std.specs.Prelude.{vec_len, ◌-◌};
 ghost use Rattle.std.specs.Io.KnownBytes.{Appends};
 ghost use Rattle.bm_core.specs.Runs.{IsRun};
 ghost use Rattle.bm_io.specs.Causes.{HasIoCause};
 ghost use Rattle.bm_trace.specs.CauseOf.{cause_of};
-ghost use Rattle.bm_trace.specs.Pieces.{AreEnds, AreLines, AreRight, AreWritten};
-ghost use Rattle.bm_trace.specs.Pieces.{CanWrite, HasDealt, HasWritten, HaveWritten, IsRound};
-ghost use Rattle.bm_trace.specs.Pieces.{PutsLines, PutsPart, line_count, place_of};
-ghost use Rattle.bm_trace.specs.Parts.{WritesPart};
+ghost use Rattle.bm_trace.specs.Parts.{HandsOn, HandsPart, WritesPart, all_lines};
+ghost use Rattle.bm_trace.specs.Pieces.{AreLines, AreWritten, CanWrite, HasDealt, HasPut};
+ghost use Rattle.bm_trace.specs.Pieces.{HasWritten, HaveWritten, IsRound, PutsLines, PutsPart};
+ghost use Rattle.bm_trace.specs.Pieces.{place_of};
 ghost use Rattle.bm_trace.specs.Ranges.{HasRanges};
 ghost use Rattle.bm_trace.specs.Report as report;
+ghost use Rattle.bm_trace.specs.Rests.{IsRest};
 ghost use Rattle.bm_trace.specs.Running.{AreVersions};
 ghost use Rattle.bm_trace.specs.Swept.{AreCausesOf, HasSwept};
 ghost use Rattle.bm_trace.specs.Totals as totals;
 ghost use Rattle.std.specs.Thread.{IsSync};
 
-use crate::counts::totals_with;
 use crate::document::put_end;
-use crate::endings::{EndTable, ends_of_packets};
 use crate::lines::write_event;
-use crate::records::write_record;
+use crate::rest::{Rest, rest_but_strays};
+use crate::sums::Totals;
 use crate::swept::{Sweeper, cause_in};
 use crate::versions::note_version;
 use bm_base::Version;
@@ -35,68 +36,32 @@ use std::thread::{Threads, join_mut};
 /// How many lines a piece has, but for the last one.
 const PIECE: usize = 16_384;
 
-/// How many events and records there are.
-fn line_count(h: &History) -> usize
-    requires { HasRanges h.now.stage }
-    ensures { result ≡ line_count h.now }
+/// Writes the line of the event at a place, before which the versions are these. It has this cause.
+fn write_line(
+    lines: &mut String,
+    versions: &mut Vec<Version>,
+    h: &History,
+    place: usize,
+    cause: Option<Cause>,
+) -> Result<(), AllocError>
+    requires ranges { HasRanges h.now.stage }
+    requires place { place < length h.now.events }
+    requires cause { cause ≡ cause_of h.now place }
+    requires known { AreVersions (reverse (take place h.now.events)) versions.old.items }
+    ensures line { OnOk result ((from : ℕ)
+        → AreLines h.now from place (string_bytes lines.old)
+        → AreLines h.now from (place + 1) (string_bytes lines.new)) }
+    ensures known { OnOk result
+        (AreVersions (reverse (take (place + 1) h.now.events)) versions.new.items) }
 {
-    h.events.items().len() + h.stage.capture.records.items().len()
+    let events = h.events.items();
+    let event = &events[place];
+    write_event(lines, versions, &h.stage, &events[..place], event, cause)?;
+    note_version(versions, &event.what);
+    Ok(())
 }
 
-/// What the lines of the events and the records are written from, but for the causes of the events.
-#[derive(Clone, Copy)]
-pub(crate) struct Facts<'a> {
-    history: &'a History,
-    /// The ends of each record's packet.
-    ends: &'a EndTable,
-}
-
-impl<'a> Facts<'a> {
-    /// Writes the line at a place, before which the versions are these. An event there has this
-    /// cause. The lines of the records stand behind those of the events.
-    fn write_line(
-        &self,
-        lines: &mut String,
-        versions: &mut Vec<Version>,
-        place: usize,
-        cause: Option<Cause>,
-    ) -> Result<(), AllocError>
-        requires right { AreRight self.now }
-        requires place { place < line_count self.now.history.now }
-        requires cause { place < length self.now.history.now.events
-            → cause ≡ cause_of self.now.history.now place }
-        requires known { AreVersions (reverse (take place self.now.history.now.events))
-            versions.old.items }
-        ensures line { OnOk result ((from : ℕ)
-            → AreLines self.now.history.now from place (string_bytes lines.old)
-            → AreLines self.now.history.now from (place + 1) (string_bytes lines.new)) }
-        ensures known { OnOk result
-            (AreVersions (reverse (take (place + 1) self.now.history.now.events))
-            versions.new.items) }
-    {
-        let events = self.history.events.items();
-        if place < events.len() {
-            let event = &events[place];
-            let stage = &self.history.stage;
-            write_event(lines, versions, stage, &events[..place], event, cause)?;
-            note_version(versions, &event.what);
-            return Ok(());
-        }
-        let record = place - events.len();
-        let body = &self.history.stage.capture.records.items()[record].body;
-        let first = self.ends.first(record);
-        write_record(
-            lines,
-            record as u32 + 1,
-            body,
-            first,
-            self.ends.later(record),
-        )?;
-        Ok(())
-    }
-}
-
-/// The lines of some events and records in a row.
+/// The lines of some events in a row.
 #[derive(Drop)]
 pub(crate) struct Piece {
     from: usize,
@@ -110,26 +75,25 @@ pub(crate) struct Piece {
     refused: bool,
 }
 
-/// Writes the lines from one place to another, before which the versions are these. The events
-/// among them have these causes.
+/// Writes the lines of the events from one place to another, before which the versions are these.
+/// They have these causes.
 fn write_lines(
     lines: &mut String,
     versions: &mut Vec<Version>,
     causes: &[Option<Cause>],
-    facts: &Facts<'_>,
+    h: &History,
     from: usize,
     to: usize,
 ) -> Result<(), AllocError>
-    requires right { AreRight facts.now }
-    requires order { (from ≤ to) × (to ≤ line_count facts.now.history.now) }
-    requires known { AreVersions (reverse (take from facts.now.history.now.events))
-        versions.old.items }
-    requires causes { AreCausesOf facts.now.history.now from to causes.now }
+    requires ranges { HasRanges h.now.stage }
+    requires order { (from ≤ to) × (to ≤ length h.now.events) }
+    requires known { AreVersions (reverse (take from h.now.events)) versions.old.items }
+    requires causes { AreCausesOf h.now from to causes.now }
     requires empty { string_bytes lines.old ≡ [] }
-    ensures { OnOk result (AreLines facts.now.history.now from to (string_bytes lines.new)) }
+    ensures { OnOk result (AreLines h.now from to (string_bytes lines.new)) }
 {
     for place in from..to {
-        facts.write_line(lines, versions, place, cause_in(causes, place - from))?;
+        write_line(lines, versions, h, place, cause_in(causes, place - from))?;
     }
     Ok(())
 }
@@ -147,8 +111,8 @@ impl Piece {
         }
     }
 
-    /// Takes the lines from one place to another, up to which the sweep goes on. What memory it has
-    /// it keeps.
+    /// Takes the events from one place to another, up to which the sweep goes on. What memory it
+    /// has it keeps.
     fn begin(
         &mut self,
         alloc: Global,
@@ -158,7 +122,7 @@ impl Piece {
         to: usize,
     ) -> Result<(), AllocError>
         requires ranges { HasRanges h.now.stage }
-        requires order { (from ≤ to) × (to ≤ line_count h.now) }
+        requires order { (from ≤ to) × (to ≤ length h.now.events) }
         requires swept { HasSwept h.now from sweeper.old }
         ensures place { OnOk result ((self.new.from ≡ from) × (self.new.to ≡ to)) }
         ensures can { OnOk result (CanWrite h.now self.new) }
@@ -174,16 +138,16 @@ impl Piece {
     }
 
     /// Writes the piece's lines.
-    fn write(&mut self, facts: &Facts<'_>)
-        requires right { AreRight facts.now }
-        requires can { CanWrite facts.now.history.now self.old }
-        ensures { HasWritten facts.now.history.now self.old self.new }
+    fn write(&mut self, h: &History)
+        requires ranges { HasRanges h.now.stage }
+        requires can { CanWrite h.now self.old }
+        ensures { HasWritten h.now self.old self.new }
     {
         let written = write_lines(
             &mut self.lines,
             &mut self.versions,
             &self.causes,
-            facts,
+            h,
             self.from,
             self.to,
         );
@@ -217,7 +181,7 @@ fn no_pieces(alloc: Global, count: usize) -> Result<Vec<Piece>, AllocError>
     Ok(pieces)
 }
 
-/// Gives the pieces the lines from this place on, up to the place that it answers, where the sweep
+/// Gives the pieces the events from this place on, up to the place that it answers, where the sweep
 /// then stands.
 fn deal_out(
     alloc: Global,
@@ -227,12 +191,12 @@ fn deal_out(
     from: usize,
 ) -> Result<usize, AllocError>
     requires ranges { HasRanges h.now.stage }
-    requires from { from ≤ line_count h.now }
+    requires from { from ≤ length h.now.events }
     requires swept { HasSwept h.now from sweeper.old }
     ensures count { length pieces.new ≡ length pieces.old }
     ensures dealt { IfOk result (HasDealt h.now from pieces.new sweeper.new) }
 {
-    let end = line_count(h);
+    let end = h.events.items().len();
     let mut at = from;
     for number in 0..pieces.len() {
         let to = at + PIECE.min(end - at);
@@ -243,11 +207,11 @@ fn deal_out(
 }
 
 /// Writes the lines of all pieces at once, and waits for all of them.
-fn write_all<R: Threads + Sync>(rt: &R, facts: &Facts<'_>, pieces: &mut [Piece])
-    requires right { AreRight facts.now }
-    requires can { All (CanWrite facts.now.history.now) pieces.old }
+fn write_all<R: Threads + Sync>(rt: &R, h: &History, pieces: &mut [Piece])
+    requires ranges { HasRanges h.now.stage }
+    requires can { All (CanWrite h.now) pieces.old }
     ensures count { length pieces.new ≡ length pieces.old }
-    ensures each { HaveWritten facts.now.history.now pieces.old pieces.new }
+    ensures each { HaveWritten h.now pieces.old pieces.new }
 {
     let threads = pieces.len().max(1);
     thread::for_each_mut(
@@ -255,43 +219,41 @@ fn write_all<R: Threads + Sync>(rt: &R, facts: &Facts<'_>, pieces: &mut [Piece])
         pieces,
         threads,
         &|_, piece: &mut Piece|
-            requires { AreRight facts.now × CanWrite facts.now.history.now piece.now }
-            ensures { HasWritten facts.entry.now.history.now piece.entry.now piece.exit.now }
-        { piece.write(facts) },
+            requires { HasRanges h.now.stage × CanWrite h.now piece.now }
+            ensures { HasWritten h.entry.now piece.entry.now piece.exit.now }
+        { piece.write(h) },
     );
 }
 
-/// Writes the lines of all pieces. Beside that the spare pieces get the lines from this place on:
+/// Writes the lines of all pieces. Beside that the spare pieces get the events from this place on:
 /// the answer is where they end.
 fn write_beside<R: Threads + Sync>(
     rt: &R,
-    facts: &Facts<'_>,
+    alloc: Global,
+    h: &History,
     pieces: &mut [Piece],
     sweeper: &mut Sweeper,
     spare: &mut [Piece],
     to: usize,
 ) -> Result<usize, AllocError>
-    requires right { AreRight facts.now }
-    requires can { All (CanWrite facts.now.history.now) pieces.old }
-    requires to { to ≤ line_count facts.now.history.now }
-    requires swept { HasSwept facts.now.history.now to sweeper.old }
+    requires ranges { HasRanges h.now.stage }
+    requires can { All (CanWrite h.now) pieces.old }
+    requires to { to ≤ length h.now.events }
+    requires swept { HasSwept h.now to sweeper.old }
     ensures count { length pieces.new ≡ length pieces.old }
-    ensures each { HaveWritten facts.now.history.now pieces.old pieces.new }
+    ensures each { HaveWritten h.now pieces.old pieces.new }
     ensures spare { length spare.new ≡ length spare.old }
-    ensures dealt { IfOk result (HasDealt facts.now.history.now to spare.new sweeper.new) }
+    ensures dealt { IfOk result (HasDealt h.now to spare.new sweeper.new) }
 {
-    let h = facts.history;
-    let alloc = facts.ends.allocator();
     let ((), dealt) = join_mut(
         rt,
         &mut ||
-            requires { IsSync R.row × AreRight facts.now
-                × All (CanWrite facts.now.history.now) pieces.now }
+            requires { IsSync R.row × HasRanges h.now.stage × All (CanWrite h.now) pieces.now }
             ensures { (length pieces.exit.now ≡ length pieces.entry.now)
-                × HaveWritten facts.entry.now.history.now pieces.entry.now pieces.exit.now }
-        { write_all(rt, facts, pieces) },
+                × HaveWritten h.entry.now pieces.entry.now pieces.exit.now }
+        { write_all(rt, h, pieces) },
         &mut || -> Result<usize, AllocError>
-            requires { HasRanges h.now.stage × (to ≤ line_count h.now)
+            requires { HasRanges h.now.stage × (to ≤ length h.now.events)
                 × HasSwept h.now to sweeper.now }
             ensures { (length spare.exit.now ≡ length spare.entry.now)
                 × IfOk result (HasDealt h.entry.now to spare.exit.now sweeper.exit.now) }
@@ -307,7 +269,7 @@ fn put_pieces<K: Sink>(
     from: usize,
     out: &mut K,
 ) -> Result<(), IoFault>
-    requires from { from ≤ line_count h.now }
+    requires from { from ≤ length h.now.events }
     requires written { AreWritten h.now from pieces.now }
     ensures ok { OnOk result (PutsLines h.now from (place_of h.now from (length pieces.now))
         (K.written out.old) (K.written out.new)) }
@@ -360,28 +322,30 @@ impl Round {
     fn put<R: Threads + Sync, K: Sink>(
         &mut self,
         rt: &R,
-        facts: &Facts<'_>,
+        alloc: Global,
+        h: &History,
         out: &mut K,
     ) -> Result<(), IoFault>
-        requires right { AreRight facts.now }
-        requires round { IsRound facts.now.history.now self.old }
-        ensures round { OnOk result (IsRound facts.now.history.now self.new) }
+        requires ranges { HasRanges h.now.stage }
+        requires round { IsRound h.now self.old }
+        ensures round { OnOk result (IsRound h.now self.new) }
         ensures from { OnOk result (self.new.from ≡ self.old.to) }
-        ensures lines { OnOk result (PutsLines facts.now.history.now self.old.from self.old.to
+        ensures lines { OnOk result (PutsLines h.now self.old.from self.old.to
             (K.written out.old) (K.written out.new)) }
-        ensures err { OnErr result (PutsPart facts.now.history.now self.old.from
+        ensures err { OnErr result (PutsPart h.now self.old.from
             (K.written out.old) (K.written out.new)) }
         ensures cause { HasIoCause (K.faults out.old) (K.faults out.new) result }
     {
         let behind = write_beside(
             rt,
-            facts,
+            alloc,
+            h,
             self.pieces.as_mut_slice(),
             &mut self.sweeper,
             self.spare.as_mut_slice(),
             self.to,
         )?;
-        put_pieces(facts.history, &self.pieces, self.from, out)?;
+        put_pieces(h, &self.pieces, self.from, out)?;
         swap(&mut self.pieces, &mut self.spare);
         self.from = self.to;
         self.to = behind;
@@ -389,66 +353,33 @@ impl Round {
     }
 }
 
-/// Writes the lines of all events and records, round after round.
+/// Writes the lines of the events, round after round.
 fn put_rounds<R: Threads + Sync, K: Sink>(
     rt: &R,
-    facts: &Facts<'_>,
+    alloc: Global,
+    h: &History,
     round: &mut Round,
     out: &mut K,
 ) -> Result<(), IoFault>
-    requires right { AreRight facts.now }
+    requires ranges { HasRanges h.now.stage }
     requires first { round.old.from ≡ 0 }
-    requires round { IsRound facts.now.history.now round.old }
-    ensures ok { OnOk result (PutsLines facts.now.history.now 0
-        (line_count facts.now.history.now) (K.written out.old) (K.written out.new)) }
-    ensures swept { OnOk result
-        (HasSwept facts.now.history.now (line_count facts.now.history.now) round.new.sweeper) }
-    ensures err { OnErr result
-        (PutsPart facts.now.history.now 0 (K.written out.old) (K.written out.new)) }
+    requires round { IsRound h.now round.old }
+    ensures ok { OnOk result
+        (PutsLines h.now 0 (length h.now.events) (K.written out.old) (K.written out.new)) }
+    ensures swept { OnOk result (HasSwept h.now (length h.now.events) round.new.sweeper) }
+    ensures err { OnErr result (PutsPart h.now 0 (K.written out.old) (K.written out.new)) }
     ensures cause { HasIoCause (K.faults out.old) (K.faults out.new) result }
 {
-    let end = line_count(facts.history);
+    let end = h.events.items().len();
     while round.from < end {
-        round.put(rt, facts, out)?;
+        round.put(rt, alloc, h, out)?;
     }
     Ok(())
 }
 
-/// The ends of each record's packet, and beside them the first round.
-fn ends_and_round<R: Threads + Sync>(
-    rt: &R,
-    alloc: Global,
-    h: &History,
-    count: usize,
-) -> Result<(EndTable, Round), AllocError>
-    requires ranges { HasRanges h.now.stage }
-    requires count { 0 < count }
-    ensures ends { IfOk result (λ made. AreEnds h.now made.0) }
-    ensures round { IfOk result (λ made. IsRound h.now made.1) }
-    ensures from { IfOk result (λ made. made.1.from ≡ 0) }
-{
-    let (ends, round) = thread::join(
-        rt,
-        || -> Result<EndTable, AllocError>
-            ensures { IfOk result (λ table. AreEnds h.entry.now table) }
-        {
-            ends_of_packets(
-                alloc,
-                h.stage.capture.records.items().len(),
-                h.events.items(),
-            )
-        },
-        || -> Result<Round, AllocError>
-            requires { HasRanges h.now.stage × (0 < count) }
-            ensures { IfOk result (λ round. IsRound h.entry.now round × (round.from ≡ 0)) }
-        { Round::first(alloc, h, count) },
-    );
-    Ok((ends?, round?))
-}
-
-/// Writes the lines of the events and the records, by so many threads. How many strays there are
-/// among the events of a run.
-pub(crate) fn put_lines<R: Threads + Sync, K: Sink>(
+/// Writes the lines of the events by so many threads. How many strays there are among the events of
+/// a run.
+fn put_lines_of_events<R: Threads + Sync, K: Sink>(
     rt: &R,
     alloc: Global,
     threads: usize,
@@ -458,24 +389,59 @@ pub(crate) fn put_lines<R: Threads + Sync, K: Sink>(
     requires threads { 0 < threads }
     requires ranges { HasRanges h.now.stage }
     ensures ok { OnOk result
-        (PutsLines h.now 0 (line_count h.now) (K.written out.old) (K.written out.new)) }
+        (PutsLines h.now 0 (length h.now.events) (K.written out.old) (K.written out.new)) }
     ensures strays { IfOk result (λ count. IsRun h.now
         → count ≡ totals.strays h.now.stage (reverse h.now.events)) }
     ensures err { OnErr result (PutsPart h.now 0 (K.written out.old) (K.written out.new)) }
     ensures cause { HasIoCause (K.faults out.old) (K.faults out.new) result }
 {
-    let (ends, mut round) = ends_and_round(rt, alloc, h, threads)?;
-    let facts = Facts {
-        history: h,
-        ends: &ends,
-    };
-    put_rounds(rt, &facts, &mut round, out)?;
+    let mut round = Round::first(alloc, h, threads)?;
+    put_rounds(rt, alloc, h, &mut round, out)?;
     Ok(round.sweeper.strays())
 }
 
+/// Writes the lines of the events by so many threads. Meanwhile one thread more puts together what
+/// stands behind them: that is the answer.
+pub(crate) fn put_lines<R: Threads + Sync, K: Sink>(
+    rt: &R,
+    alloc: Global,
+    threads: usize,
+    h: &History,
+    out: &mut K,
+) -> Result<Rest, IoFault>
+    requires threads { 0 < threads }
+    requires ranges { HasRanges h.now.stage }
+    ensures ok { IfOk result (λ rest. HandsOn (K.written out.old) [] (K.written out.new)
+        (string_bytes rest.lines) (all_lines h.now)) }
+    ensures sums { IfOk result (λ rest. IsRun h.now → rest.sums ≡ totals.totals_of h.now) }
+    ensures err { OnErr result
+        (HandsPart (K.written out.old) [] (K.written out.new) (all_lines h.now)) }
+    ensures cause { HasIoCause (K.faults out.old) (K.faults out.new) result }
+{
+    let (rest, strays) = join_mut(
+        rt,
+        &mut || -> Result<Rest, AllocError>
+            requires { HasRanges h.now.stage }
+            ensures { IfOk result (IsRest h.entry.now) }
+        { rest_but_strays(alloc, h) },
+        &mut || -> Result<u64, IoFault>
+            requires { IsSync R.row × (0 < threads) × HasRanges h.now.stage }
+            ensures { HasPut h.entry.now (K.written out.entry.now) (K.written out.exit.now) result
+                × HasIoCause (K.faults out.entry.now) (K.faults out.exit.now) result }
+        { put_lines_of_events(rt, alloc, threads, h, out) },
+    );
+    let stray = strays?;
+    let Rest { lines, sums } = rest?;
+    Ok(Rest {
+        lines,
+        sums: Totals { stray, ..sums },
+    })
+}
+
 /// Writes the report of the history by as many threads, of which 0 count as 1, beside the caller's
-/// own, which finds the causes of the events meanwhile, a round ahead. The report is never held
-/// whole. Where it is refused, a first part of it was written.
+/// own, which finds the causes of the events meanwhile, a round ahead, and beside one that puts the
+/// lines of the records together and counts the totals. Of the report these lines are held whole,
+/// those of the events never. Where it is refused, a first part of it was written.
 #[tactic(auto, using(crate::proofs::Ranged::ranges_of))]
 pub fn report_beside<R: Threads + Sync, K: Sink>(
     rt: &R,
@@ -490,6 +456,6 @@ pub fn report_beside<R: Threads + Sync, K: Sink>(
         (report.text h.now)) }
     ensures cause { HasIoCause (K.faults out.old) (K.faults out.new) result }
 {
-    let strays = put_lines(rt, alloc, threads.max(1), h, out)?;
-    put_end(h, &totals_with(h, strays), String::new(alloc), out)
+    let Rest { lines, sums } = put_lines(rt, alloc, threads.max(1), h, out)?;
+    put_end(h, &sums, lines, out)
 }

@@ -1,8 +1,8 @@
 //! The ten numbers of a history's last line.
 #![tactic(auto, using(crate::proofs::Newest::reverse_last))]
 
-ghost use Rattle.std.specs.Prelude.{◌≡◌, ◌+◌, ◌<◌, List, length, reverse, count_by};
-ghost use Rattle.bm_trace.specs.Counts.{HasRoom, counts_of, with_event};
+ghost use Rattle.std.specs.Prelude.{◌≡◌, reverse, count_by};
+ghost use Rattle.bm_trace.specs.Counts.{HasRoom, counts_of, with_event, without_strays};
 ghost use Rattle.bm_trace.specs.Totals as totals;
 
 use crate::causes::Arrival;
@@ -97,11 +97,10 @@ fn steered(records: &[Record]) -> u64
     records.iter().filter(|r| is_steered(r)).count() as u64
 }
 
-/// The ten numbers of a history with so many strays.
+/// The ten numbers of a history's last line, as if no event were a stray.
 #[tactic(auto, using(crate::proofs::Counting::steered_or_not))]
-pub(crate) fn totals_with(h: &History, stray: u64) -> Totals
-    requires { stray ≡ totals.strays h.now.stage (reverse h.now.events) }
-    ensures { result ≡ totals.totals_of h.now }
+pub(crate) fn totals_but_strays(h: &History) -> Totals
+    ensures { result ≡ without_strays (totals.totals_of h.now) }
 {
     let records = h.stage.capture.records.items();
     let events = h.events.items();
@@ -118,7 +117,7 @@ pub(crate) fn totals_with(h: &History, stray: u64) -> Totals
         reset: counts.reset,
         dropped: counts.dropped,
         lost: counts.lost,
-        stray,
+        stray: 0,
     }
 }
 
@@ -126,5 +125,8 @@ pub(crate) fn totals_with(h: &History, stray: u64) -> Totals
 pub fn totals(h: &History) -> Totals
     ensures { result ≡ totals.totals_of h.now }
 {
-    totals_with(h, strays(&h.stage, h.events.items()))
+    Totals {
+        stray: strays(&h.stage, h.events.items()),
+        ..totals_but_strays(h)
+    }
 }

@@ -1,5 +1,5 @@
 //! The ends of each packet's copies, in the order of the events.
-ghost use Rattle.std.specs.Prelude.{◌≡◌, ℕ, ◌+◌, ◌<◌, ◌≤◌, ◌==◌, ◌∷◌, ◌++◌, [], List, length};
+ghost use Rattle.std.specs.Prelude.{◌≡◌, ℕ, ◌+◌, ◌<◌, ◌==◌, ◌∷◌, ◌++◌, []};
 ghost use Rattle.std.specs.Prelude.{reverse, OnOk, IfOk, false, if◌then◌else◌, vec_len};
 ghost use Rattle.bm_trace.specs.Ends.{words_of_end, words_of_ends};
 ghost use Rattle.bm_trace.specs.EndTables.{ends_at, first_at, later_at, listed_at};
@@ -36,11 +36,6 @@ impl EndTable {
             firsts: vec![in alloc; First::Missing; packets]?,
             laters: HashMap::new(alloc),
         })
-    }
-
-    /// What its memory is taken from.
-    pub(crate) fn allocator(&self) -> Global {
-        *self.firsts.allocator()
     }
 
     /// The first end of the packet at a place.

@@ -1,5 +1,5 @@
 //! Entries of a table, by looking through the changes of a plan.
-ghost use Rattle.std.specs.Prelude.{◌≡◌, ◌+◌, ◌<◌, ◌≤◌, Some, None, find, ◌==◌};
+ghost use Rattle.std.specs.Prelude.{◌≡◌, ◌<◌, Some, None, find, ◌==◌};
 ghost use Rattle.std.specs.Option.{option_copied};
 ghost use Rattle.bm_table.specs.Tables as tables;
 

@@ -1,7 +1,7 @@
 //! Which connections servers hold.
 #![tactic(auto, using(crate::proofs::Newest::reverse_last))]
 
-ghost use Rattle.std.specs.Prelude.{◌≡◌, ◌+◌, ◌<◌, ◌≤◌, List, length, reverse, Some, None};
+ghost use Rattle.std.specs.Prelude.{◌≡◌, reverse, Some, None};
 ghost use Rattle.std.specs.Prelude.{option_map, true, false};
 ghost use Rattle.bm_core.specs.Past as past;
 ghost use Rattle.bm_core.specs.Causes as causes;

@@ -1,5 +1,5 @@
 //! Which servers hold which flows, kept along the events.
-ghost use Rattle.std.specs.Prelude.{◌≡◌, ◌&&◌, ◌||◌, List, length, reverse, OnOk, OnErr, IfOk};
+ghost use Rattle.std.specs.Prelude.{◌≡◌, ◌&&◌, List, length, OnOk, IfOk};
 ghost use Rattle.std.specs.Prelude.{Option, Some, None, option_map, find, if◌then◌else◌, [], ◌∷◌};
 ghost use Rattle.std.specs.BTreeMap as tree;
 ghost use Rattle.std.specs.HashMap as table;

@@ -1,6 +1,6 @@
 //! The lines of a report.
-ghost use Rattle.std.specs.Prelude.{◌≡◌, ◌+◌, ◌<◌, ◌≤◌, ◌∷◌, ◌++◌, [], List, length, reverse, OnOk};
-ghost use Rattle.std.specs.Prelude.{OnErr, codes, decimal, string_bytes, if◌then◌else◌};
+ghost use Rattle.std.specs.Prelude.{◌≡◌, ◌∷◌, ◌++◌, [], reverse, OnOk};
+ghost use Rattle.std.specs.Prelude.{codes, decimal, string_bytes, if◌then◌else◌};
 ghost use Rattle.bm_core.specs.Causes as causes;
 ghost use Rattle.bm_core.specs.Past as past;
 ghost use Rattle.bm_trace.specs.Ranges.{HasRanges};

@@ -1,11 +1,11 @@
 //! Which changes of a plan move which buckets.
-ghost use Rattle.std.specs.Prelude.{◌≡◌, ℕ, ◌<◌, ◌≤◌, List, length, OnOk, IfOk, Option, Some, None};
-ghost use Rattle.std.specs.Prelude.{if◌then◌else◌, [], ◌∷◌, false, ◌==◌, suc, ◌-◌, nat_le};
+ghost use Rattle.std.specs.Prelude.{◌≡◌, ℕ, ◌<◌, ◌≤◌, List, length, OnOk, IfOk, Some, None};
+ghost use Rattle.std.specs.Prelude.{if◌then◌else◌, [], false, ◌==◌, suc, ◌-◌, nat_le};
 ghost use Rattle.std.specs.BTreeMap as tree;
 ghost use Rattle.std.specs.Ordering.{nat_cmp};
 ghost use Rattle.bm_table.specs.Planned.{Planned};
 ghost use Rattle.bm_table.specs.Tables as tables;
-ghost use Rattle.bm_trace.specs.Movers.{IsSplit, add_once, is_last, last_stamp, movers, numbers};
+ghost use Rattle.bm_trace.specs.Movers.{IsSplit, add_once, is_last, movers, numbers};
 ghost use Rattle.bm_trace.specs.Movers.{with_moves};
 
 use crate::entries::moment_of;

@@ -1,7 +1,7 @@
 //! What the events before a place of a history say. A past is a slice with its newest event last.
 #![tactic(auto, using(crate::proofs::Newest::reverse_last))]
 
-ghost use Rattle.std.specs.Prelude.{◌≡◌, ◌+◌, ◌<◌, ◌≤◌, List, length, reverse, MatchOption, Some};
+ghost use Rattle.std.specs.Prelude.{◌≡◌, length, reverse, MatchOption, Some};
 ghost use Rattle.std.specs.Prelude.{None, option_map};
 ghost use Rattle.bm_core.specs.declared.events.Stage.{Stage};
 ghost use Rattle.bm_core.specs.Past as past;

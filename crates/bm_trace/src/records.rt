@@ -1,8 +1,8 @@
 //! The lines of records.
 #![tactic(auto, using(crate::proofs::Newest::reverse_take))]
 
-ghost use Rattle.std.specs.Prelude.{◌≡◌, ℕ, ◌+◌, ◌<◌, ◌≤◌, ◌==◌, ◌∷◌, ◌++◌, [], List, length};
-ghost use Rattle.std.specs.Prelude.{reverse, OnOk, MatchOption, codes, decimal, string_bytes};
+ghost use Rattle.std.specs.Prelude.{◌≡◌, ℕ, ◌==◌, ◌∷◌, ◌++◌, []};
+ghost use Rattle.std.specs.Prelude.{OnOk, MatchOption, codes, decimal, string_bytes};
 ghost use Rattle.std.specs.Prelude.{if◌then◌else◌};
 ghost use Rattle.bm_trace.specs.Ends.{words_of_end, words_of_ends, words_of_option};
 ghost use Rattle.bm_trace.specs.Ends.{words_of_record};

@@ -11,7 +11,7 @@ ghost use Rattle.bm_trace.specs.Running.{AreVersions};
 ghost use Rattle.bm_trace.specs.Swept.{AreCauses, AreCausesOf, cause_in};
 ghost use Rattle.bm_trace.specs.Totals as totals;
 
-use crate::counts::totals_with;
+use crate::counts::totals_but_strays;
 use crate::known::Known;
 use crate::sums::Totals;
 use bm_base::{Memory, Version};
@@ -26,7 +26,7 @@ pub struct CauseList {
 }
 
 impl Model for CauseList {
-    ghost use Rattle.std.specs.Prelude.{suc, ◌^◌, if◌then◌else◌, List, Option};
+    ghost use Rattle.std.specs.Prelude.{List, Option};
     ghost use Rattle.bm_core.specs.declared.events.Cause.{Cause};
 
     ghost Value = { List (Option Cause) };
@@ -206,5 +206,8 @@ pub fn totals_of(h: &History, causes: &CauseList) -> Totals
     requires causes { AreCauses h.now causes.now }
     ensures { result ≡ totals.totals_of h.now }
 {
-    totals_with(h, stray_count(h, causes))
+    Totals {
+        stray: stray_count(h, causes),
+        ..totals_but_strays(h)
+    }
 }

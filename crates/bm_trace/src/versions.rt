@@ -1,6 +1,5 @@
 //! The versions of the muxes after some events.
-ghost use Rattle.std.specs.Prelude.{◌≡◌, ◌<◌, ◌≤◌, List, length, reverse, [], IfOk, slice_set};
-ghost use Rattle.std.specs.Prelude.{slice_index_or, if◌then◌else◌};
+ghost use Rattle.std.specs.Prelude.{◌≡◌, ◌<◌, reverse, [], IfOk, slice_set};
 ghost use Rattle.bm_core.specs.Past as past;
 ghost use Rattle.bm_trace.specs.Running.{AreVersions, versions_after};
 

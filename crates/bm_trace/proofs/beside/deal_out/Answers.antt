@@ -1,7 +1,7 @@
 use Rattle.std.proofs.Common.{◌∷◌, ◌++◌, ◌≡◌, ◌<◌, [], min, ◌^◌, ◌-◌, arith, subst, sym, take, ◌∙◌, ◌+◌, ap, All}
 use Rattle.std.proofs.Common.{length, length-set, length-take-le, set}
 use Rattle.std.proofs.lemmas.List.Elements.{All-push}
-use Rattle.bm_trace.specs.Pieces.{AreInRow, CanWrite, line_count, place_of}
+use Rattle.bm_trace.specs.Pieces.{AreInRow, CanWrite, place_of}
 use Rattle.bm_trace.proofs.Pieces.{begun_take, place_next, row_more, step_within, take_over}
 use Rattle.bm_trace.proofs.beside.deal_out.Goals as goal
 
@@ -10,8 +10,8 @@ loop-number-preserved c =
     let h = c.args.h.now
     in let pieces = c.loop-number.pieces
     in let number = c.loop-number.number
-    in let step = c.min.ensures ∙ ap (λ end. min (2 ^ 14) (end - c.loop-number.at)) c.line_count-end.ensures
-    in let next = place_next (line_count h) c.args.from number c.loop-number.at c.min.result
+    in let step = c.min.ensures ∙ ap (λ es. min (2 ^ 14) (length es - c.loop-number.at)) c.items-end.ensures
+    in let next = place_next (length h.events) c.args.from number c.loop-number.at c.min.result
     c.loop-number.invariant.place step
     in let piece = c.begin.new.self
     in let made = c.in_ok-begin.ensures
@@ -19,7 +19,7 @@ loop-number-preserved c =
     in let first : take (number + 1) (set pieces number piece) ≡ take number pieces ++ piece ∷ [] =
     begun_take pieces number piece below
     in record {
-      within = step_within (line_count h) c.loop-number.at c.min.result c.loop-number.invariant.within step;
+      within = step_within (length h.events) c.loop-number.at c.min.result c.loop-number.invariant.within step;
       place = next;
       swept = made.swept;
       count = length-set pieces number piece ∙ c.loop-number.invariant.count;

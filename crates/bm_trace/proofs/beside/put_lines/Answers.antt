@@ -1,14 +1,7 @@
-use Rattle.std.proofs.Common.{◌∙◌}
-use Rattle.bm_trace.specs.Pieces.{line_count}
+use Rattle.std.proofs.Common.{rules}
 use Rattle.bm_trace.proofs.Parted.{on_err}
-use Rattle.bm_trace.proofs.Pieces.{puts_left, puts_none, strays_all}
+use Rattle.bm_trace.proofs.Pieces.{puts_first}
 use Rattle.bm_trace.proofs.beside.put_lines.Goals as goal
 
-pub returns-in_err-ends-clause-err : goal.returns-in_err-ends-clause-err
-returns-in_err-ends-clause-err g c =
-    let h = c.args.h.now in on_err _ _ (puts_left h 0 0 _ _ (puts_none h 0 _))
-
-pub returns-clause-strays : goal.returns-clause-strays
-returns-clause-strays g c = λ run.
-    c.strays.ensures c.args.h.now (line_count c.args.h.now) c.in_ok-put_rounds.ensures.swept run
-    ∙ strays_all c.args.h.now
+pub returns-in_err-stray-clause-err : goal.returns-in_err-stray-clause-err
+returns-in_err-stray-clause-err g c = on_err _ _ (puts_first c.args.h.now _ _ (search rules))

@@ -6,7 +6,7 @@ use Rattle.bm_trace.proofs.beside.put_rounds.Goals as goal
 
 pub loop-round-preserved : goal.loop-round-preserved
 loop-round-preserved g c =
-    let h = c.args.facts.now.history.now
+    let h = c.args.h.now
     in let from = c.loop-round.round.from
     in let to = c.loop-round.round.to
     in record {
@@ -21,5 +21,5 @@ loop-round-preserved g c =
 pub returns-in_err-put-clause-err : goal.returns-in_err-put-clause-err
 returns-in_err-put-clause-err g c =
     on_err _ _
-    (puts_after c.args.facts.now.history.now 0 c.loop-round.round.from _ _ _ c.loop-round.invariant.written
+    (puts_after c.args.h.now 0 c.loop-round.round.from _ _ _ c.loop-round.invariant.written
     c.in_err-put.ensures.err)

@@ -5,6 +5,6 @@ use Rattle.bm_trace.proofs.beside.write_lines.Given as goal
 
 abbrev pub invariant-loop-place : goal.invariant-loop-place
 invariant-loop-place l = record {
-  lines : AreLines l.facts.history.now l.from l.place (string_bytes l.lines);
-  known : AreVersions (reverse (take l.place l.facts.history.now.events)) l.versions.items;
+  lines : AreLines l.h l.from l.place (string_bytes l.lines);
+  known : AreVersions (reverse (take l.place l.h.events)) l.versions.items;
 }

@@ -7,13 +7,13 @@ use Rattle.bm_trace.proofs.beside.Round.put.Goals as goal
 
 pub returns-in_err-behind-clause-err : goal.returns-in_err-behind-clause-err
 returns-in_err-behind-clause-err g c =
-    let h = c.args.facts.now.history.now
+    let h = c.args.h.now
     in let from = c.args.self.now.from
     in on_err _ _ (puts_left h from from _ _ (puts_none h from _))
 
 pub put_pieces-requires-clause-written : goal.put_pieces-requires-clause-written
 put_pieces-requires-clause-written g c =
-    let h = c.args.facts.now.history.now
+    let h = c.args.h.now
     in let from = c.args.self.now.from
     in let row = subst (AreInRow h from) (sym c.as_mut_slice.ensures.value) c.requires.round.dealt.row
     in let is = c.deref.ensures.value
