@@ -6,7 +6,7 @@ use Rattle.std.specs.List.{AllByRecursion, remove}
 use Rattle.std.proofs.lemmas.Bool.{le-leb, lt-leb}
 use mathlib.Core.List.{reverse_aux}
 use Rattle.std.proofs.lemmas.Option.{slice_get-get_or}
-use Rattle.std.proofs.lemmas.List.{reverse-append, reverse-reverse, length-append}
+use Rattle.std.proofs.lemmas.List.{reverse-append, reverse-reverse, length-append, length-reverse}
 use Rattle.bm_core.specs.declared.events.Event.{Event}
 use Rattle.bm_merge.specs.declared.rising.Head.{Head}
 use Rattle.bm_merge.specs.Merges.{place_in, by_clock, joined}
@@ -17,12 +17,12 @@ use Rattle.bm_merge.proofs.Sorting.{clock_falls, of_append, of_by_clock, of_cloc
 
 -- ALL OF TWO LISTS
 
-all_append : (P : Event → Type 0) (x y : List Event) → AllByRecursion P x → AllByRecursion P y
+pub all_append : (P : Event → Type 0) (x y : List Event) → AllByRecursion P x → AllByRecursion P y
     → AllByRecursion P (x ++ y)
 all_append P [] y p q = q
 all_append P (e ∷ x) y p q = (p.0, all_append P x y p.1 q)
 
-all_reverse : (P : Event → Type 0) (x : List Event) → AllByRecursion P x → AllByRecursion P (reverse x)
+pub all_reverse : (P : Event → Type 0) (x : List Event) → AllByRecursion P x → AllByRecursion P (reverse x)
 all_reverse P [] p = tt
 all_reverse P (e ∷ x) p =
     let rest : AllByRecursion P (reverse x ++ e ∷ []) =
@@ -177,26 +177,34 @@ taken logs heads at h s =
     ∙ takes_first s.a (behind_of logs h ++ s.b) h.event s.over
     (all_append (λ x. h.event.clock.0 ≤ x.clock.0) (behind_of logs h) s.b s.stands.rising.0 s.up)
 
-onto : (done more all rest : List Event) (e : Event) → more ≡ done ++ e ∷ [] → done ++ e ∷ rest ≡ all
-    → more ++ rest ≡ all
-onto done more all rest e is was =
-    ap (λ (l : List Event). l ++ rest) is ∙ sym (associated done (e ∷ []) rest) ∙ was
+-- it was the last of its log
+pub took_last : (logs : List (List Event)) (heads : List Head) (at : ℕ) (h : Head) → Split logs heads at h
+    → behind_of logs h ≡ []
+    → in_order (joined (lefts logs heads)) ≡ h.event ∷ in_order (joined (lefts logs (remove heads at)))
+took_last logs heads at h s none =
+    taken logs heads at h s
+    ∙ ap (λ (l : List Event). h.event ∷ in_order l)
+    (ap (λ (l : List Event). s.a ++ (l ++ s.b)) none ∙ sym s.without)
 
-pub ended : (logs : List (List Event)) (heads : List Head) (at : ℕ) (h : Head) (done more all : List Event)
-    → Split logs heads at h → done ++ in_order (joined (lefts logs heads)) ≡ all → more ≡ done ++ h.event ∷ []
-    → behind_of logs h ≡ [] → more ++ in_order (joined (lefts logs (remove heads at))) ≡ all
-ended logs heads at h done more all s was is none =
-    ap (λ (l : List Event). more ++ in_order l) (s.without ∙ ap (λ (l : List Event). s.a ++ (l ++ s.b)) (sym none))
-    ∙ onto done more all (in_order (s.a ++ (behind_of logs h ++ s.b))) h.event is
-    (ap (λ (l : List Event). done ++ l) (sym (taken logs heads at h s)) ∙ was)
+-- there is one behind it
+pub took_one : (logs : List (List Event)) (heads : List Head) (at : ℕ) (h x : Head) → Split logs heads at h
+    → behind_of logs h ≡ left_of logs x
+    → in_order (joined (lefts logs heads)) ≡ h.event ∷ in_order (joined (lefts logs (set heads at x)))
+took_one logs heads at h x s next =
+    taken logs heads at h s
+    ∙ ap (λ (l : List Event). h.event ∷ in_order l)
+    (ap (λ (l : List Event). s.a ++ (l ++ s.b)) next ∙ sym (s.with x))
 
-pub went_on : (logs : List (List Event)) (heads : List Head) (at : ℕ) (h x : Head) (done more all : List Event)
-    → Split logs heads at h → done ++ in_order (joined (lefts logs heads)) ≡ all → more ≡ done ++ h.event ∷ []
-    → behind_of logs h ≡ left_of logs x → more ++ in_order (joined (lefts logs (set heads at x))) ≡ all
-went_on logs heads at h x done more all s was is next =
-    ap (λ (l : List Event). more ++ in_order l) (s.with x ∙ ap (λ (l : List Event). s.a ++ (l ++ s.b)) (sym next))
-    ∙ onto done more all (in_order (s.a ++ (behind_of logs h ++ s.b))) h.event is
-    (ap (λ (l : List Event). done ++ l) (sym (taken logs heads at h s)) ∙ was)
+-- what was taken stands behind what was taken before
+pub onto : (done more all rest left : List Event) (e : Event) → more ≡ done ++ e ∷ [] → done ++ left ≡ all
+    → left ≡ e ∷ rest → more ++ rest ≡ all
+onto done more all rest left e is was next =
+    ap (λ (l : List Event). l ++ rest) is ∙ sym (associated done (e ∷ []) rest)
+    ∙ ap (λ (l : List Event). done ++ l) (sym next) ∙ was
+
+-- so fewer are left
+pub fewer : (left rest : List Event) (e : Event) → left ≡ e ∷ rest → length rest < length left
+fewer left rest e next = let h = ap (λ (l : List Event). length l) next in omega arith
 
 pub next_stands : (logs : List (List Event)) (h x : Head) → Stands logs h → x.log ≡ h.log
     → behind_of logs h ≡ left_of logs x → Stands logs x
@@ -282,7 +290,7 @@ of_order c events =
     ∙ reverse-reverse (of_clock c events)
 
 -- so events are put in one order by those of each clock
-orders_alike : (x y : List Event) → ((c : ℕ) → of_clock c x ≡ of_clock c y) → in_order x ≡ in_order y
+pub orders_alike : (x y : List Event) → ((c : ℕ) → of_clock c x ≡ of_clock c y) → in_order x ≡ in_order y
 orders_alike x y same =
     ap (λ (l : List Event). reverse l)
     (one_order (by_clock (reverse x)) (by_clock (reverse y)) (clock_falls (reverse x)) (clock_falls (reverse y))
@@ -319,7 +327,7 @@ from_place [] i e h = absurd (cc)
 from_place (x ∷ l) zero e h = let is : x ≡ e = ap (λ (o : Option Event). unwrap_or o x) h in rw is refl
 from_place (x ∷ l) (suc i) e h = from_place l i e h
 
-mapped : {L : Type 0} (events : L → List Event) (logs : List L) (i : ℕ) (d : L) → i < length logs
+pub mapped : {L : Type 0} (events : L → List Event) (logs : List L) (i : ℕ) (d : L) → i < length logs
     → slice_index_or (map events logs) i [] ≡ events (slice_index_or logs i d)
 mapped events [] i d lt = absurd (omega arith)
 mapped events (x ∷ logs) zero d lt = refl
@@ -347,28 +355,51 @@ none_at events logs log place item lt there le =
     ap (λ (l : List Event). drop place l) (mapped events logs log item lt ∙ ap events (sym there))
     ∙ past_end (events item) place le
 
--- HOW MANY ARE LEFT
+-- AS MANY AS BEFORE
 
-long : (a x b : List Event) → length (a ++ (x ++ b)) ≡ length a + (length x + length b)
-long a x b = length-append a (x ++ b) ∙ ap (λ (n : ℕ). length a + n) (length-append x b)
+length_place : (e : Event) (s : List Event) → length (place_in e s) ≡ suc (length s)
+length_place e [] = refl
+length_place e (x ∷ s) = step (leb x.clock.0 e.clock.0) (length_place e s) where
+  step : (t : Bool) → length (place_in e s) ≡ suc (length s)
+      → length (cond t (e ∷ x ∷ s) (x ∷ place_in e s)) ≡ suc (suc (length s))
+  step true old = refl
+  step false old = ap (λ (n : ℕ). suc n) old
 
-pub fewer_ended : (logs : List (List Event)) (heads : List Head) (at : ℕ) (h : Head) → Split logs heads at h
-    → length (joined (lefts logs (remove heads at))) < length (joined (lefts logs heads))
-fewer_ended logs heads at h s =
-    let now = ap (λ (l : List Event). length l) s.without ∙ length-append s.a s.b in
-    let was = ap (λ (l : List Event). length l) s.whole ∙ long s.a (left_of logs h) s.b in
-    let left : length (left_of logs h) ≡ suc (length (behind_of logs h)) = refl in
-    omega arith
+length_by_clock : (es : List Event) → length (by_clock es) ≡ length es
+length_by_clock [] = refl
+length_by_clock (e ∷ es) = length_place e (by_clock es) ∙ ap (λ (n : ℕ). suc n) (length_by_clock es)
 
-pub fewer_on : (logs : List (List Event)) (heads : List Head) (at : ℕ) (h x : Head) → Split logs heads at h
-    → behind_of logs h ≡ left_of logs x
-    → length (joined (lefts logs (set heads at x))) < length (joined (lefts logs heads))
-fewer_on logs heads at h x s next =
-    let now = ap (λ (l : List Event). length l) (s.with x) ∙ long s.a (left_of logs x) s.b in
-    let was = ap (λ (l : List Event). length l) s.whole ∙ long s.a (left_of logs h) s.b in
-    let left : length (left_of logs h) ≡ suc (length (behind_of logs h)) = refl in
-    let same = ap (λ (l : List Event). length l) next in
-    omega arith
+pub length_in_order : (es : List Event) → length (in_order es) ≡ length es
+length_in_order es =
+    length-reverse (by_clock (reverse es)) ∙ length_by_clock (reverse es) ∙ length-reverse es
+
+-- PLACE BY PLACE
+
+-- one place more is filled
+pub filled_one : (out : List Event) (i : ℕ) (e : Event) → i < length out
+    → take (i + 1) (set out i e) ≡ take i out ++ e ∷ []
+filled_one out i e lt = let one : i + 1 ≡ suc i = omega arith in rw one (filled out i e lt) where
+  filled : (out : List Event) (i : ℕ) (e : Event) → i < length out → take (suc i) (set out i e) ≡ take i out ++ e ∷ []
+  filled [] i e lt = absurd (omega arith)
+  filled (x ∷ out) zero e lt = refl
+  filled (x ∷ out) (suc i) e lt = ap (λ (l : List Event). x ∷ l) (filled out i e (omega arith))
+
+-- some log has an event, where a place is left
+pub some_left : (logs : List (List Event)) (heads : List Head) (done : List Event) (place n : ℕ) → length done ≡ place
+    → length (done ++ in_order (joined (lefts logs heads))) ≡ n → place < n → 0 < length heads
+some_left logs [] done place n at size lt =
+    let h = length-append done [] in absurd (omega arith)
+some_left logs (h ∷ heads) done place n at size lt = omega arith
+
+-- none has one, where none is left
+pub none_behind : (done rest all : List Event) → done ++ rest ≡ all → length done ≡ length all → done ≡ all
+none_behind done rest all is size =
+    let sum = length-append done rest in
+    let same = ap (λ (l : List Event). length l) is in
+    sym (none_more done) ∙ ap (λ (l : List Event). done ++ l) (sym (empty rest (omega arith))) ∙ is where
+      empty : (l : List Event) → length l ≡ 0 → l ≡ []
+      empty [] h = refl
+      empty (x ∷ l) h = absurd (omega arith)
 
 -- LOG BY LOG
 

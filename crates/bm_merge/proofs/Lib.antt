@@ -6,6 +6,7 @@ pub mod Merging
 pub mod Sorting
 pub mod Joined
 pub mod Heading
+pub mod Halving
 pub mod Bounded
 pub mod Noting
 pub mod Telling

@@ -1,3 +1,4 @@
+pub mod Halves
 pub mod Merges
 pub mod Notes
 pub mod Rising

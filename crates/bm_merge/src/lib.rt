@@ -1,10 +1,12 @@
 //! The logs of a threaded run, put together.
 #![tactic(auto)]
 
+mod beside;
 pub mod laws;
 mod logs;
 mod rising;
 
+pub use beside::{merge_rising_beside, room_for};
 pub use logs::{join_in_order, merge};
 pub use rising::{EventLog, merge_rising};
 

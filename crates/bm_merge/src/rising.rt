@@ -1,5 +1,6 @@
 //! Logs whose clocks don't fall, merged event by event.
-ghost use Rattle.std.specs.Prelude.{◌≡◌, ◌<◌, ◌^◌, ◌-◌, ◌++◌, List, length, map, min, slice_get, Some};
+ghost use Rattle.std.specs.Prelude.{◌≡◌, ◌<◌, ◌^◌, ◌-◌, ◌++◌, ◌∷◌, List, length, map, min, slice_get};
+ghost use Rattle.std.specs.Prelude.{Some};
 ghost use Rattle.std.specs.Prelude.{IfOk, OnOk};
 ghost use Rattle.std.specs.List.{AllByRecursion};
 ghost use Rattle.bm_core.specs.declared.events.Event.{Event};
@@ -90,7 +91,7 @@ fn earliest(heads: &[Head]) -> usize
 }
 
 /// How many events the logs have, or the greatest number there is.
-fn room_of<L: EventLog>(logs: &[L]) -> usize
+pub(crate) fn room_of<L: EventLog>(logs: &[L]) -> usize
     ensures { result ≡ min (length (joined (map L.events logs.now))) (2 ^ 64 - 1) }
 {
     let mut room: usize = 0;
@@ -121,7 +122,26 @@ fn join_all<L: EventLog>(alloc: Global, logs: &[L]) -> Result<Vec<Event>, AllocE
     Ok(events)
 }
 
-/// Takes the event of the least clock, again and again, until no log has one.
+/// Takes the event of the least clock, of which the log's next event takes the place.
+fn take_next<L: EventLog>(logs: &[L], heads: &mut Vec<Head>) -> Event
+    requires standing { AreStanding (map L.events logs.now) heads.old.items }
+    requires some { 0 < length heads.old.items }
+    ensures standing { AreStanding (map L.events logs.now) heads.new.items }
+    ensures next { by_order (joined (lefts (map L.events logs.now) heads.old.items))
+        ≡ result ∷ by_order (joined (lefts (map L.events logs.now) heads.new.items)) }
+{
+    let at = earliest(heads);
+    let Head { log, event, behind } = heads[at];
+    match head_at(logs, log, behind) {
+        Some(head) => heads[at] = head,
+        None => {
+            heads.remove(at);
+        }
+    }
+    event
+}
+
+/// Takes all events by clock.
 fn take_all<L: EventLog>(
     alloc: Global,
     logs: &[L],
@@ -134,17 +154,27 @@ fn take_all<L: EventLog>(
     let mut heads = heads;
     let mut events = Vec::with_capacity(alloc, room_of(logs))?;
     while !heads.is_empty() {
-        let at = earliest(&heads);
-        let Head { log, event, behind } = heads[at];
-        events.push(event)?;
-        match head_at(logs, log, behind) {
-            Some(head) => heads[at] = head,
-            None => {
-                heads.remove(at);
-            }
-        }
+        events.push(take_next(logs, &mut heads))?;
     }
     Ok(events)
+}
+
+/// Puts all events of the logs, whose clocks don't fall, by clock in the places of `out`, of which
+/// there are as many. Those of one clock stand in the order of the logs.
+pub(crate) fn fill<L: EventLog>(
+    alloc: Global,
+    logs: &[L],
+    out: &mut [Event],
+) -> Result<(), AllocError>
+    requires rising { AllByRecursion IsRising (map L.events logs.now) }
+    requires count { length out.old ≡ length (joined (map L.events logs.now)) }
+    ensures { OnOk result (out.new ≡ by_order (joined (map L.events logs.now))) }
+{
+    let mut heads = first_heads(alloc, logs)?;
+    for place in 0..out.len() {
+        out[place] = take_next(logs, &mut heads);
+    }
+    Ok(())
 }
 
 /// All events of the logs, whose clocks don't fall, by clock. Those of one clock stand in the order

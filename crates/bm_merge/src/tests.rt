@@ -196,3 +196,27 @@ fn the_events_of_65_logs_keep_their_order(rt: HostRuntime) -> Result<(), Fail> {
     assert!(rt; events.last() == Some(&switch(8, 64)));
     Ok(())
 }
+
+/// So many events as a log, with each second clock from this one on.
+fn make_long_row(alloc: Global, first: u64, count: u32) -> Result<Row, Memory>
+    requires { first < 2 ^ 32 }
+    ensures { IfOk result (λ row. IsRising row.events.items) }
+{
+    let mut events = Vec::new(alloc);
+    for packet in 0..count {
+        events.push(steer(first + 2 * u64::from(packet), packet))?;
+    }
+    make_row(alloc, events.as_slice())
+}
+
+#[test]
+fn four_threads_merge_as_one_does(rt: HostRuntime) -> Result<(), Fail> {
+    let alloc = rt.alloc();
+    let odd = make_long_row(alloc, 1, 5_000)?;
+    let even = make_long_row(alloc, 2, 5_000)?;
+    let logs = [odd.events.as_slice(), even.events.as_slice()];
+    let merged = merge_rising_beside(&rt, alloc, 4, &logs, room_for(alloc, 10_000)?)?;
+    let clocks = merged.as_slice().iter().map(|event| event.clock.0);
+    assert!(rt; clocks.eq(1..10_001u64));
+    Ok(())
+}

@@ -2,6 +2,7 @@
 ghost use Rattle.std.specs.Prelude.{◌≡◌, ◌<◌, ◌≤◌, ◌-◌, [], ◌++◌, ℕ, length, map, slice_get};
 ghost use Rattle.std.specs.Prelude.{Some, false, IfOk, OnOk};
 ghost use Rattle.std.specs.List.{AllByRecursion};
+ghost use Rattle.std.specs.Thread.{IsSync};
 ghost use Rattle.bm_merge.specs.Merges.{joined};
 ghost use Rattle.bm_merge.specs.Rising.{IsRising, all_logs, in_order as by_order};
 ghost use Rattle.bm_world.specs.declared.run_logs.Group.{Group as GroupOf};
@@ -10,7 +11,7 @@ ghost use Rattle.bm_world.specs.Logged.{HasMerged, books_logs, one_refused};
 
 use bm_base::Memory;
 use bm_core::{Event, Log};
-use bm_merge::{EventLog, join_in_order, merge_rising};
+use bm_merge::{EventLog, join_in_order, merge_rising, merge_rising_beside, room_for};
 use bm_server::Books;
 use bm_shard::ShardBook;
 use core::mem::replace;
@@ -135,18 +136,6 @@ struct Group {
     refused: bool,
 }
 
-impl EventLog for Group {
-    ghost events = { logged.group_events };
-
-    fn count(&self) -> usize {
-        self.events.len()
-    }
-
-    fn event(&self, place: usize) -> Event {
-        self.events[place]
-    }
-}
-
 impl Group {
     /// These logs, not yet merged.
     fn new(alloc: Global, source: Source) -> Group
@@ -229,6 +218,42 @@ fn merge_each<R: Threads + Sync>(rt: &R, alloc: Global, groups: &mut [Group])
     );
 }
 
+/// Merges the logs of each group. Beside that it makes room for so many events.
+fn merge_and_make_room<R: Threads + Sync>(
+    rt: &R,
+    alloc: Global,
+    groups: &mut [Group],
+    count: usize,
+) -> Result<Vec<Event>, Memory>
+    ensures count { length groups.new ≡ length groups.old }
+    ensures each { (k : ℕ) (old new : GroupOf) → slice_get groups.old k ≡ Some old
+        → slice_get groups.new k ≡ Some new → HasMerged old new }
+{
+    let ((), room) = thread::join_mut(
+        rt,
+        &mut ||
+            requires { IsSync R.row }
+            ensures { (length groups.exit.now ≡ length groups.entry.now)
+                × ((k : ℕ) (old new : GroupOf) → slice_get groups.entry.now k ≡ Some old
+                → slice_get groups.exit.now k ≡ Some new → HasMerged old new) }
+        { merge_each(rt, alloc, groups) },
+        &mut || -> Result<Vec<Event>, Memory> { room_for(alloc, count) },
+    );
+    room
+}
+
+/// The events of each group.
+fn merged_logs<'a>(alloc: Global, groups: &'a [Group]) -> Result<Vec<&'a [Event]>, Memory>
+    ensures { IfOk result
+        (λ logs. map (λ log. log.now) logs.items ≡ map logged.group_events groups.now) }
+{
+    let mut logs = Vec::with_capacity(alloc, groups.len())?;
+    for group in groups {
+        logs.push(group.events.as_slice())?;
+    }
+    Ok(logs)
+}
+
 /// Whether memory was refused for one of the groups.
 fn is_one_refused(groups: &[Group]) -> bool
     ensures { result ≡ one_refused groups.now }
@@ -241,9 +266,30 @@ fn is_one_refused(groups: &[Group]) -> bool
     false
 }
 
+/// How many events the workers wrote down.
+fn count_of_workers(workers: &[Log]) -> usize {
+    workers.iter().fold(0usize, |count, log| count.saturating_add(log.items().len()))
+}
+
+/// How many events happened at the shards of a server.
+fn count_of_books(books: &Books) -> usize {
+    books.items().iter().fold(0usize, |count, book| {
+        count.saturating_add(book.history().len())
+    })
+}
+
+/// How many events happened at the shards of all servers.
+fn count_of_servers(all: &[Books]) -> usize {
+    all.iter().fold(
+        0usize,
+        |count, books| count.saturating_add(count_of_books(books)),
+    )
+}
+
 /// What the workers wrote down and what happened at the shards of all servers, by clock. Those of
-/// one clock stand in the order of the logs. The workers' logs are put in order in as many threads
-/// as that at most, and the servers' books in as many beside them.
+/// one clock stand in the order of the logs. The workers' logs are put in order in groups, twice
+/// as many as these threads at most, and the servers' books in as many beside them; what comes of
+/// the groups is merged by these threads.
 pub(crate) fn merge_beside<R: Threads + Sync>(
     rt: &R,
     alloc: Global,
@@ -254,10 +300,14 @@ pub(crate) fn merge_beside<R: Threads + Sync>(
     ensures { IfOk result
         (λ events. events.items ≡ by_order (joined (workers.items ++ books_logs all.items))) }
 {
-    let mut groups = grouped(alloc, workers, all, threads.max(1))?;
-    merge_each(rt, alloc, groups.as_mut_slice());
+    let count = count_of_workers(&workers).saturating_add(count_of_servers(&all));
+    // A thread with much to do has the others wait, so there are more groups than threads.
+    let most = threads.max(1).saturating_mul(2);
+    let mut groups = grouped(alloc, workers, all, most)?;
+    let room = merge_and_make_room(rt, alloc, groups.as_mut_slice(), count)?;
     if is_one_refused(groups.as_slice()) {
         return Err(Memory);
     }
-    merge_rising(alloc, groups.as_slice())
+    let logs = merged_logs(alloc, groups.as_slice())?;
+    merge_rising_beside(rt, alloc, threads, logs.as_slice(), room)
 }

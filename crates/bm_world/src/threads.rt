@@ -35,7 +35,7 @@ use std::alloc::Global;
 use std::sync::Wait;
 use std::thread::Threads;
 
-/// By more threads than these the logs aren't merged.
+/// By more threads than these what comes of the groups of logs isn't merged.
 const MOST_MERGING: usize = 8;
 
 /// What the workers hand back.
