@@ -198,13 +198,13 @@ fn the_events_of_65_logs_keep_their_order(rt: HostRuntime) -> Result<(), Fail> {
 }
 
 /// So many events as a log, with each second clock from this one on.
-fn make_long_row(alloc: Global, first: u64, count: u32) -> Result<Row, Memory>
-    requires { first < 2 ^ 32 }
+fn make_long_row(alloc: Global, first: u32, count: u32) -> Result<Row, Memory>
     ensures { IfOk result (λ row. IsRising row.events.items) }
 {
     let mut events = Vec::new(alloc);
     for packet in 0..count {
-        events.push(steer(first + 2 * u64::from(packet), packet))?;
+        let clock = u64::from(first) + 2 * u64::from(packet);
+        events.push(steer(clock, packet))?;
     }
     make_row(alloc, events.as_slice())
 }

@@ -1,4 +1,4 @@
-use Rattle.std.proofs.Common.{◌<◌, ◌∙◌, ◌∷◌, [], List, Bor, ap, arith, length, map, slice_index_or, subst, sym}
+use Rattle.std.proofs.Common.{◌<◌, ◌∙◌, ◌∷◌, [], List, Bor, ap, arith, length, map, subst, sym}
 use Rattle.std.proofs.lemmas.List.{length-map, map-append}
 use Rattle.bm_core.specs.declared.events.Event.{Event}
 use Rattle.bm_merge.specs.Rising.{IsRising}

@@ -1,4 +1,4 @@
-use Rattle.std.proofs.Common.{map, take, ◌≤◌, length}
+use Rattle.std.proofs.Common.{map, take}
 use Rattle.bm_merge.specs.Halves.{AreHalves}
 use Rattle.bm_merge.proofs.beside.cut.Given as goal
 
