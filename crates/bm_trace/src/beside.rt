@@ -1,5 +1,4 @@
-//! The whole report, with the lines of its events and of its records written by several threads side
-//! by side.
+//! The whole report, with the lines of events and records written by several threads side by side.
 ghost use Rattle.std.specs.Prelude.{◌≡◌, ◌+◌, ◌<◌, ◌≤◌, ℕ, All, IfOk, MatchBool, OnErr, OnOk};
 ghost use Rattle.std.specs.Prelude.{[], false, length, reverse, string_bytes, take};
 ghost use Rattle.std.specs.Prelude.{vec_len, ◌-◌};
