@@ -1,5 +1,6 @@
 -- The logs of the books, and those that are merged. Only the proofs of bodies use this.
-use Rattle.std.specs.Prelude.{◌≡◌, ℕ, List, [], ◌∷◌, ◌++◌, length, map, Bool, false, ◌||◌}
+use Rattle.std.specs.Prelude.{◌≡◌, ℕ, List, [], ◌∷◌, ◌++◌, length, map, slice_get, Bool, false, ◌||◌}
+use Rattle.std.specs.Prelude.{Some}
 use Rattle.bm_core.specs.declared.events.Event.{Event}
 use Rattle.bm_merge.specs.Merges.{joined}
 use Rattle.bm_merge.specs.Rising.{in_order}
@@ -43,6 +44,11 @@ group_events group = group.events.items
 pub record HasMerged (old new : Group) : Type 0 where
   pub events : new.refused ≡ false → new.events.items ≡ in_order (joined (group_logs old))
   pub let_go : group_logs new ≡ []
+
+-- so were the logs of each of these groups
+pub record HaveMerged (before now : List Group) : Type 0 where
+  pub each : (k : ℕ) (old new : Group)
+      → slice_get before k ≡ Some old → slice_get now k ≡ Some new → HasMerged old new
 
 -- memory was refused for one of the groups
 abbrev pub one_refused : List Group → Bool

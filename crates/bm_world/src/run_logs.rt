@@ -1,13 +1,12 @@
 //! The logs of a run, merged by threads.
-ghost use Rattle.std.specs.Prelude.{◌≡◌, ◌<◌, ◌≤◌, ◌-◌, [], ◌++◌, ℕ, length, map, slice_get};
-ghost use Rattle.std.specs.Prelude.{Some, false, IfOk, OnOk};
+ghost use Rattle.std.specs.Prelude.{◌≡◌, ◌<◌, ◌≤◌, ◌-◌, [], ◌++◌, length, map};
+ghost use Rattle.std.specs.Prelude.{false, IfOk, OnOk};
 ghost use Rattle.std.specs.List.{AllByRecursion};
 ghost use Rattle.std.specs.Thread.{IsSync};
 ghost use Rattle.bm_merge.specs.Merges.{joined};
 ghost use Rattle.bm_merge.specs.Rising.{IsRising, all_logs, in_order as by_order};
-ghost use Rattle.bm_world.specs.declared.run_logs.Group.{Group as GroupOf};
 ghost use Rattle.bm_world.specs.Logged as logged;
-ghost use Rattle.bm_world.specs.Logged.{HasMerged, books_logs, one_refused};
+ghost use Rattle.bm_world.specs.Logged.{HasMerged, HaveMerged, books_logs, one_refused};
 
 use bm_base::Memory;
 use bm_core::{Event, Log};
@@ -204,8 +203,7 @@ fn grouped(
 /// Merges the logs of each group, all at once, and waits for all of them.
 fn merge_each<R: Threads + Sync>(rt: &R, alloc: Global, groups: &mut [Group])
     ensures count { length groups.new ≡ length groups.old }
-    ensures each { (k : ℕ) (old new : GroupOf) → slice_get groups.old k ≡ Some old
-        → slice_get groups.new k ≡ Some new → HasMerged old new }
+    ensures each { HaveMerged groups.old groups.new }
 {
     let threads = groups.len().max(1);
     thread::for_each_mut(
@@ -226,18 +224,16 @@ fn merge_and_make_room<R: Threads + Sync>(
     count: usize,
 ) -> Result<Vec<Event>, Memory>
     ensures count { length groups.new ≡ length groups.old }
-    ensures each { (k : ℕ) (old new : GroupOf) → slice_get groups.old k ≡ Some old
-        → slice_get groups.new k ≡ Some new → HasMerged old new }
+    ensures each { HaveMerged groups.old groups.new }
 {
     let ((), room) = thread::join_mut(
         rt,
         &mut ||
             requires { IsSync R.row }
             ensures { (length groups.exit.now ≡ length groups.entry.now)
-                × ((k : ℕ) (old new : GroupOf) → slice_get groups.entry.now k ≡ Some old
-                → slice_get groups.exit.now k ≡ Some new → HasMerged old new) }
+                × HaveMerged groups.entry.now groups.exit.now }
         { merge_each(rt, alloc, groups) },
-        &mut || -> Result<Vec<Event>, Memory> { room_for(alloc, count) },
+        &mut move || -> Result<Vec<Event>, Memory> { room_for(alloc, count) },
     );
     room
 }
