@@ -23,7 +23,7 @@ use std::alloc::Global;
 use std::sync::Wait;
 use std::thread::Threads;
 
-/// At most so many threads write a report.
+/// At most so many threads make a report.
 const MOST_THREADS: usize = 8;
 
 /// Plays the stage, and writes the report of its history. `packets` has the packet of each record,
@@ -48,9 +48,11 @@ pub(crate) fn show<R: Threads + Wait + Sync, K: Sink, G: Gate>(
     }
 }
 
-/// How many threads write the report of a run: one for each mux, but not many.
-fn threads_of(history: &History) -> usize {
-    usize::from(history.stage.script.setting.muxes).min(MOST_THREADS)
+/// How many threads write the lines of a run's events: as many as there are muxes, but not many,
+/// less the one that finds the causes meanwhile.
+fn writers_of(history: &History) -> usize {
+    let muxes = usize::from(history.stage.script.setting.muxes);
+    muxes.min(MOST_THREADS).saturating_sub(1)
 }
 
 /// Writes the report of the history, in pieces: of a run by several threads.
@@ -75,7 +77,7 @@ fn write_report<R: Threads + Sync, K: Sink>(
             };
             report_to(history, &causes, out)
         }
-        Mode::Run => report_beside(rt, alloc, threads_of(history), history, out),
+        Mode::Run => report_beside(rt, alloc, writers_of(history), history, out),
     }
 }
 
