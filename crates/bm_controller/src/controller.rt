@@ -1,11 +1,11 @@
 //! The controller.
-ghost use Rattle.std.specs.Prelude.{◌≡◌, ◌≢◌, ◌<◌, ◌≤◌, ℕ, [], ◌∷◌, length, Bool, false, vec_len};
+ghost use Rattle.std.specs.Prelude.{◌≡◌, ◌≢◌, ◌<◌, ℕ, [], ◌∷◌, length, false, vec_len};
 ghost use Rattle.std.specs.Prelude.{slice_index_or, Some, None, IfOk, IfErr, OnOk, OnErr};
 ghost use Rattle.bm_base.specs.declared.ids.ServerId.{ServerId};
 ghost use Rattle.bm_controller.specs.Commands as commands;
 ghost use Rattle.bm_controller.specs.Membership as members;
 ghost use Rattle.bm_quota.specs.declared.refusal.Refusal.TheVariants.{Memory as memory};
-ghost use Rattle.bm_table.specs.Plans.{IsPlan, owners_now, with_change};
+ghost use Rattle.bm_table.specs.Plans.{IsPlan, with_change};
 ghost use Rattle.bm_table.specs.Settings.{IsWithin, RiseFrom};
 ghost use Rattle.bm_table.specs.Tables as tables;
 

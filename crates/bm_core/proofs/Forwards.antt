@@ -1,5 +1,5 @@
 -- A copy that is forwarded was a direct one, and goes to the previous server.
-use Rattle.std.proofs.Common.{◌≡◌, ℕ, true, Option, Some, None, is_some, refl, ap, arith}
+use Rattle.std.proofs.Common.{◌≡◌, ℕ, true, Option, Some, None, is_some, refl, ap, arith, option_map}
 use Rattle.bm_base.specs.declared.ids.ServerId.{ServerId}
 use Rattle.bm_base.specs.declared.flow.Segment.{Segment}
 use Rattle.bm_base.specs.declared.label.Entry.{Entry}
@@ -8,7 +8,7 @@ use Rattle.bm_base.specs.declared.label.Hop.TheVariants.{Direct, Chained}
 use Rattle.bm_core.specs.declared.events.Verdict.TheVariants.{Forward}
 use Rattle.bm_core.specs.declared.events.Local.{Local}
 use Rattle.bm_core.specs.Past.{is_forward}
-use Rattle.bm_core.specs.Verdicts.{Onward, onward_with, onward, verdict_of}
+use Rattle.bm_core.specs.Verdicts.{Onward, onward, verdict_of}
 
 -- what is forwarded has somewhere to go on to
 pub forward_onward : (local : Local) (timeout clock : ℕ) (hop : Hop) (onto : Option Onward) (s : Segment)
@@ -26,7 +26,8 @@ forward_none local timeout clock hop s to is =
     let onto = forward_onward local timeout clock hop None s (ap is_forward is) in absurd (cc)
 
 forward_prev : (local : Local) (timeout clock stamp : ℕ) (prev : Option ServerId) (s : Segment) (to : ServerId)
-    → verdict_of local timeout clock Direct (onward_with stamp prev) s ≡ Forward to → prev ≡ Some to
+    → verdict_of local timeout clock Direct (option_map (λ p. record { server = p; stamp = stamp }) prev) s ≡ Forward to
+    → prev ≡ Some to
 forward_prev local timeout clock stamp None s to is = absurd (forward_none local timeout clock Direct s to is)
 forward_prev local timeout clock stamp (Some server) s to is =
     ap (λ (x : ServerId). Some x)

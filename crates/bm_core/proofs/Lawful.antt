@@ -26,9 +26,9 @@ use Rattle.bm_core.specs.Verdicts.{Onward, onward, local_at, verdict_of, verdict
 use Rattle.bm_core.specs.Causes.{first_broken, is_process, is_fault, is_refusal, opening_cause, cause}
 use Rattle.bm_core.specs.Stages.{IsSound}
 use Rattle.bm_core.specs.Runs.{last_clock, IsArrival, MayCome, Run, IsRun, event_at, past_at}
-use Rattle.bm_core.specs.Laws.{IsUnbrokenPacket, IsServedPacket, IsUnbrokenArrival, IsServedBy, IsServed, IsRetiredDrop}
+use Rattle.bm_core.specs.Laws.{IsUnbrokenPacket, IsServedPacket, IsUnbrokenArrival, IsServed, IsRetiredDrop}
 use Rattle.bm_core.specs.Laws.{IsLate, IsFault, At}
-use Rattle.bm_core.proofs.Owned.{safe, late, false_from_not}
+use Rattle.bm_core.proofs.Owned.{IsServedBy, safe, late, false_from_not}
 use Rattle.bm_core.proofs.Pasts.{arrival_sends, hop_before, steer_sends}
 
 -- what is left of a run after its newest events
@@ -73,7 +73,8 @@ safe_step stage sound past clock (Arrive k hop server verdict) run later may unb
       premises = rw (may.is_segment, may.is_label) at unbroken
 
       go : (o : Option Accepted) → owner stage past k ≡ o → (is_opening may.segment ≡ false)
-          × (first_broken stage past clock may.label may.segment.flow server o ≡ None) → IsServedBy o hop server verdict
+          × (first_broken stage past clock may.label may.segment.flow server o ≡ None)
+          → IsSomeAnd o (λ a. IsServedBy a hop server verdict)
       go None own p = absurd (cc)
       go (Some a) own p = safe stage sound past run clock k server later a hop verdict may p.0 own p.1
 safe_step stage sound past clock (Steer k m) run later may unbroken = absurd unbroken
@@ -189,7 +190,7 @@ opening_caused stage sound past clock k Direct server verdict run later may open
     ]
 
 served_no_fault : (a : Accepted) (hop : Hop) (server : ServerId) (verdict : Verdict)
-    → IsServedBy (Some a) hop server verdict → is_fault verdict (Some a) server ≡ false
+    → IsServedBy a hop server verdict → is_fault verdict (Some a) server ≡ false
 served_no_fault a hop server verdict (inl here) = rw here.1 (process_no_fault verdict here.0) where
   process_no_fault : (verdict : Verdict) → is_process verdict ≡ true → is_fault verdict (Some a) a.server ≡ false
   process_no_fault verdict p = grind (arith, nat_tests)

@@ -22,7 +22,7 @@ use Rattle.bm_core.specs.declared.schedule.Due.{Due}
 use Rattle.bm_core.specs.declared.schedule.Underway.{Underway}
 use Rattle.bm_core.specs.Past.{is_switch_of, steerable, newest, Sending, sending_of}
 use Rattle.bm_core.specs.Stages.{AreRising, NamesVersions, moment_of_command, IsSound}
-use Rattle.bm_core.specs.Runs.{last_clock, next_clock}
+use Rattle.bm_core.specs.Runs.{last_clock}
 use Rattle.bm_core.specs.Accounts.{counts, fate_now, before}
 use Rattle.bm_core.specs.Schedule.{call_of, least, put, put_all, put_sent, rest, after_arrive, wire, due_loss}
 use Rattle.bm_core.specs.Schedule.{publish_due, switch_due, switches_due, close_commands, retire_dues, retire_commands}

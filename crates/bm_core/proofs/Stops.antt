@@ -1,6 +1,6 @@
 -- Each copy that was sent has a server to arrive at.
 use Rattle.std.proofs.Common.{◌≡◌, ℕ, true, inl, inr, List, [], ◌∷◌, Option, Some, None, is_some, refl, sym, ◌∙◌, ap}
-use Rattle.std.proofs.Common.{subst, eqb, arith}
+use Rattle.std.proofs.Common.{subst, eqb, arith, option_map}
 use Rattle.std.proofs.lemmas.Bool.{or_cases, eqb-true}
 use Rattle.std.proofs.lemmas.Bool.Decides.{nat_tests}
 use Rattle.bm_base.specs.declared.ids.ServerId.{ServerId}
@@ -18,7 +18,7 @@ use Rattle.bm_core.specs.declared.events.Event.{Event}
 use Rattle.bm_core.specs.declared.events.Stage.{Stage}
 use Rattle.bm_core.specs.Past.{segment_of, timeout, labelled, label_after, label_of, sends, is_sent, is_forward}
 use Rattle.bm_core.specs.Past.{hop_after}
-use Rattle.bm_core.specs.Verdicts.{onward_with, onward, local_at, verdict_at}
+use Rattle.bm_core.specs.Verdicts.{Onward, onward, local_at, verdict_at}
 use Rattle.bm_core.specs.Runs.{MayCome, IsStep, Run}
 use Rattle.bm_core.proofs.Forwards.{forward_onward}
 use Rattle.bm_core.proofs.Pasts.{label_stays, arrival_sends}
@@ -43,16 +43,16 @@ steered_stop stage past e m k None is there l = absurd (cc)
 steered_stop stage past e m k (Some s) is there l =
     record { segment = s; is_segment = is; label = _; is_label = l; server = _; place = refl }
 
-onward_stop : (stamp : ℕ) (prev : Option ServerId) → is_some (onward_with stamp prev) ≡ true → (server : ServerId)
-    × (prev ≡ Some server)
-onward_stop stamp None e = absurd (cc)
-onward_stop stamp (Some s) e = (s, refl)
+onward_stop : (onto : ServerId → Onward) (prev : Option ServerId) → is_some (option_map onto prev) ≡ true
+    → (server : ServerId) × (prev ≡ Some server)
+onward_stop onto None e = absurd (cc)
+onward_stop onto (Some s) e = (s, refl)
 
 next_stop : (entry : Entry) (came next : Hop) → is_some (onward entry came) ≡ true → hop_after came ≡ Some next
     → (server : ServerId) × (arrives_at entry next ≡ Some server)
 next_stop entry Chained next is h = absurd (cc)
 next_stop entry Direct Direct is h = absurd (cc)
-next_stop entry Direct Chained is h = onward_stop entry.stamp.0 entry.prev is
+next_stop entry Direct Chained is h = onward_stop _ entry.prev is
 
 stop_stays : (stage : Stage) (past : List Event) (e : Event) (k : ℕ) (hop : Hop) → IsStep stage past e
     → HasStop stage past k hop → HasStop stage (e ∷ past) k hop

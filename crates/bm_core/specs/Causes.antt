@@ -2,13 +2,14 @@
 -- one order, and the first broken one is the cause.
 use Rattle.std.specs.Prelude.{ℕ, ◌+◌, Bool, true, false, ◌&&◌, ◌||◌, not, ◌==◌, nat_lt, nat_le}
 use Rattle.std.specs.Prelude.{if◌then◌else◌, List, [], ◌∷◌, Option, Some, None, is_some}
+use Rattle.std.specs.Option.{option_map_or}
 use Rattle.bm_base.specs.declared.ids.ServerId.{ServerId}
 use Rattle.bm_base.specs.declared.flow.Flow.{Flow}
 use Rattle.bm_base.specs.declared.flow.Segment.{Segment}
 use Rattle.bm_base.specs.declared.label.Label.{Label}
 use Rattle.bm_core.specs.declared.events.Why.TheVariants.{Full as FullShard, Retired}
 use Rattle.bm_core.specs.declared.events.Verdict.{Verdict}
-use Rattle.bm_core.specs.declared.events.Verdict.TheVariants.{Accept, Process, Forward, Reset, Drop}
+use Rattle.bm_core.specs.declared.events.Verdict.TheVariants.{Process, Reset, Drop}
 use Rattle.bm_core.specs.declared.events.Cause.{Cause}
 use Rattle.bm_core.specs.declared.events.Cause.TheVariants.{NeverAccepted, NotHeld, StaleMux}
 use Rattle.bm_core.specs.declared.events.Cause.TheVariants.{MovedTwice, ChainLate, SynElsewhere}
@@ -63,18 +64,16 @@ abbrev pub is_process : Verdict → Bool
 is_process (Process t) = true
 is_process _ = false
 
--- the owner's server is this
-abbrev pub is_owned_by : Option Accepted → ServerId → Bool
-is_owned_by None s = false
-is_owned_by (Some a) s = same_server s a.server
+-- the packet is reset or dropped
+abbrev pub is_refusal : Verdict → Bool
+is_refusal (Reset why) = true
+is_refusal (Drop why) = true
+is_refusal _ = false
 
--- a verdict that wants a cause
+-- the packet is reset or dropped, or processed elsewhere than at its owner's server
 abbrev pub is_fault : Verdict → Option Accepted → ServerId → Bool
-is_fault Accept a s = false
-is_fault (Process t) a s = not (is_owned_by a s)
-is_fault (Forward to) a s = false
-is_fault (Reset why) a s = true
-is_fault (Drop why) a s = true
+is_fault (Process t) a s = not (option_map_or (λ owner. same_server s owner.server) a false)
+is_fault verdict a s = is_refusal verdict
 
 -- why an opening packet is dropped: the shard is full, or its mux had an old table
 abbrev pub opening_cause : Verdict → ℕ → ℕ → Option Cause
@@ -90,12 +89,6 @@ cause_at stage past clock server verdict a (Some s) (Some label) =
     else if is_fault verdict a server then first_broken stage past clock label s.flow server a
     else None
 cause_at stage past clock server verdict a _ _ = None
-
--- the packet is reset or dropped
-abbrev pub is_refusal : Verdict → Bool
-is_refusal (Reset why) = true
-is_refusal (Drop why) = true
-is_refusal _ = false
 
 -- the packet is dropped, reset or processed elsewhere
 abbrev pub wants_cause : Verdict → Option Accepted → ServerId → Option Segment → Bool

@@ -5,10 +5,8 @@ use Rattle.std.specs.Prelude.{Option, Some, None, IsSomeAnd}
 use Rattle.bm_base.specs.declared.ids.ServerId.{ServerId}
 use Rattle.bm_base.specs.declared.flow.Segment.{Segment}
 use Rattle.bm_base.specs.declared.label.Label.{Label}
-use Rattle.bm_base.specs.declared.label.Hop.{Hop}
 use Rattle.bm_base.specs.declared.label.Hop.TheVariants.{Direct}
 use Rattle.bm_core.specs.declared.events.Why.TheVariants.{Retired}
-use Rattle.bm_core.specs.declared.events.Verdict.{Verdict}
 use Rattle.bm_core.specs.declared.events.Verdict.TheVariants.{Forward, Drop}
 use Rattle.bm_core.specs.declared.events.What.{What}
 use Rattle.bm_core.specs.declared.events.What.TheVariants.{Arrive}
@@ -21,32 +19,20 @@ use Rattle.bm_core.specs.Past.{segment_of, bucket, timeout, label_of, Accepted, 
 use Rattle.bm_core.specs.Runs.{AtEach, event_at, past_at}
 use Rattle.bm_core.specs.Causes.{first_broken, is_process, wants_cause}
 
--- the packet is not opening, and no premise is broken
-abbrev pub PremisesHold : Stage → List Event → ℕ → ServerId → Option Accepted → Option Segment
-    → Option Label → Type 0
-PremisesHold stage past clock server a (Some s) (Some l) =
-    (is_opening s ≡ false) × (first_broken stage past clock l s.flow server a ≡ None)
-PremisesHold stage past clock server a _ _ = ⊥
-
 -- a packet arrives that is not opening, and no premise is broken
 abbrev pub IsUnbrokenArrival : Stage → List Event → ℕ → What → Type 0
 IsUnbrokenArrival stage past clock (Arrive k hop server verdict) =
-    PremisesHold stage past clock server (owner stage past k) (segment_of stage k)
-    (label_of stage past k)
+    IsSomeAnd (segment_of stage k) (λ s. IsSomeAnd (label_of stage past k) (λ l.
+    (is_opening s ≡ false)
+    × (first_broken stage past clock l s.flow server (owner stage past k) ≡ None)))
 IsUnbrokenArrival stage past clock _ = ⊥
-
--- processed by the owner's server, or, where it is a direct copy, forwarded to it
-abbrev pub IsServedBy : Option Accepted → Hop → ServerId → Verdict → Type 0
-IsServedBy None hop server verdict = ⊥
-IsServedBy (Some a) hop server verdict =
-    ((is_process verdict ≡ true) × (server ≡ a.server))
-    ⊎ ((hop ≡ Direct) × (verdict ≡ Forward a.server))
 
 -- the arriving copy is processed by its owner's server, or, where it is a direct one, forwarded to
 -- it
 abbrev pub IsServed : Stage → List Event → What → Type 0
-IsServed stage past (Arrive k hop server verdict) =
-    IsServedBy (owner stage past k) hop server verdict
+IsServed stage past (Arrive k hop server verdict) = IsSomeAnd (owner stage past k) (λ a.
+    ((is_process verdict ≡ true) × (server ≡ a.server))
+    ⊎ ((hop ≡ Direct) × (verdict ≡ Forward a.server)))
 IsServed stage past _ = ⊥
 
 -- a packet is dropped, reset or processed elsewhere

@@ -12,10 +12,9 @@ use Rattle.bm_seq.specs.declared.receiver.Receiver.{Receiver}
 use Rattle.bm_base.specs.declared.label.Label.{Label}
 use Rattle.bm_base.specs.declared.label.Hop.{Hop}
 use Rattle.bm_base.specs.declared.label.Hop.TheVariants.{Direct, Chained}
-use Rattle.bm_base.specs.declared.receive.Taken.{Taken}
 use Rattle.bm_base.specs.declared.receive.Taken.TheVariants.{Ended}
 use Rattle.bm_table.specs.declared.plan.Retirement.{Retirement}
-use Rattle.bm_table.specs.declared.plan.Retirement.TheVariants.{Done, NotDrained, TooEarly}
+use Rattle.bm_table.specs.declared.plan.Retirement.TheVariants.{Done}
 use Rattle.bm_core.specs.declared.events.Verdict.{Verdict}
 use Rattle.bm_core.specs.declared.events.Verdict.TheVariants.{Accept, Process, Forward}
 use Rattle.bm_core.specs.declared.events.What.{What}
@@ -160,16 +159,12 @@ pub record Holding : Type 0 where
   pub place : ℕ
   pub receiver : Receiver
 
--- what a server holds of a flow after it processed a segment of it
-abbrev pub after_process : Taken → Segment → Option Holding → Option Holding
-after_process Ended s before = None
-after_process _ s before =
-    option_map (λ h. record { place = h.place; receiver = receiver_after h.receiver s }) before
-
 -- what a server holds of a flow after a segment of it had this verdict
 abbrev pub after_verdict : ℕ → Verdict → Segment → Option Holding → Option Holding
 after_verdict place Accept s before = Some (record { place = place; receiver = opened s })
-after_verdict place (Process t) s before = after_process t s before
+after_verdict place (Process Ended) s before = None
+after_verdict place (Process t) s before =
+    option_map (λ h. record { place = h.place; receiver = receiver_after h.receiver s }) before
 after_verdict place _ s before = before
 
 -- what a server holds of a flow after an arrival, here or elsewhere
@@ -182,8 +177,7 @@ after_arrival place here verdict (Some s) f before =
 -- the answer is Done
 abbrev pub is_done : Retirement → Bool
 is_done Done = true
-is_done NotDrained = false
-is_done (TooEarly b) = false
+is_done _ = false
 
 -- the event retires the shard
 abbrev pub retires : What → ServerId → ℕ → Bool
@@ -260,17 +254,16 @@ pub record Accepted : Type 0 where
   pub version : ℕ
   pub place : ℕ
 
+-- an Accept of a packet with this label, after these events
+abbrev pub accepted : ServerId → Option Label → List Event → Accepted
+accepted server label past =
+    record { server = server; version = version_of label; place = length past }
+
 -- the last Accept of the flow after the event
 abbrev pub accept_after : Stage → List Event → What → Flow → Option Accepted → Option Accepted
 accept_after stage past (Arrive k hop server verdict) f before =
     if is_accept verdict && is_of (segment_of stage k) f
-    then Some
-    (record {
-      server = server;
-      version = version_of (label_of stage past k);
-      place =
-          length past;
-    })
+    then Some (accepted server (label_of stage past k) past)
     else before
 accept_after stage past _ f before = before
 

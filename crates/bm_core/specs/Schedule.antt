@@ -99,23 +99,21 @@ wire fates (e ∷ past) =
 
 -- WHAT CAN COME
 
+-- a call that is due at a moment, with the rank of its kind and its number
+abbrev pub due_at : ℕ → ℕ → ℕ → Call → Due
+due_at moment rank number call =
+    record { moment = moment; rank = rank; number = number; call = call }
+
 -- the publication of a change, which leads from version v to the next
 abbrev pub publish_due : ℕ → Option Change → List Due
 publish_due v None = []
-publish_due v (Some c) =
-    record { moment = c.moment.0; rank = 0; number = v; call = Publishes (suc v) } ∷ []
+publish_due v (Some c) = due_at c.moment.0 0 v (Publishes (suc v)) ∷ []
 
 -- the mux's Switch to the version after v, as late after its change as the mux lags
 abbrev pub switch_due : ℕ → ℕ → ℕ → ℕ → Option Change → List Due
 switch_due muxes lag m v None = []
 switch_due muxes lag m v (Some c) =
-    record {
-      moment = c.moment.0 + lag;
-      rank = 1;
-      number = v * muxes + m;
-      call =
-          Switches m (suc v);
-    } ∷ []
+    due_at (c.moment.0 + lag) 1 (v * muxes + m) (Switches m (suc v)) ∷ []
 
 -- the next Switch of each of the first n muxes
 abbrev pub switches_due : Stage → List Event → ℕ → List Due
@@ -130,15 +128,14 @@ switches_due stage past (suc m) =
 abbrev pub close_commands : List Command → List Due
 close_commands [] = []
 close_commands (CloseCommand at server flow ∷ rest) =
-    record { moment = at.0; rank = 2; number = 0; call = Closes server flow } ∷ close_commands rest
+    due_at at.0 2 0 (Closes server flow) ∷ close_commands rest
 close_commands (_ ∷ rest) = close_commands rest
 
 -- a retire for each of the first n shards
 abbrev pub retire_dues : ServerId → ℕ → ℕ → List Due
 retire_dues server at zero = []
 retire_dues server at (suc h) =
-    retire_dues server at h
-    ++ record { moment = at; rank = 3; number = h; call = Retires server h at } ∷ []
+    retire_dues server at h ++ due_at at 3 h (Retires server h at) ∷ []
 
 -- the retires of the script, for each shard
 abbrev pub retire_commands : ℕ → List Command → List Due
@@ -150,8 +147,7 @@ retire_commands shards (_ ∷ rest) = retire_commands shards rest
 -- the syncs of the script
 abbrev pub sync_commands : List Command → List Due
 sync_commands [] = []
-sync_commands (SyncCommand at ∷ rest) =
-    record { moment = at.0; rank = 4; number = 0; call = Syncs } ∷ sync_commands rest
+sync_commands (SyncCommand at ∷ rest) = due_at at.0 4 0 Syncs ∷ sync_commands rest
 sync_commands (_ ∷ rest) = sync_commands rest
 
 -- the steerable records, the first of which has this number
@@ -159,13 +155,7 @@ abbrev pub packets_from : ℕ → List Record → List Due
 packets_from k [] = []
 packets_from k (r ∷ records) =
     if is_some (steerable (Some r))
-    then record {
-      moment =
-          r.moment.0;
-      rank = 6;
-      number = k;
-      call = Steers k;
-    } ∷ packets_from (suc k) records
+    then due_at r.moment.0 6 k (Steers k) ∷ packets_from (suc k) records
     else packets_from (suc k) records
 
 -- without the first n
@@ -182,8 +172,7 @@ first_of (d ∷ dues) = d ∷ []
 -- the first copy under way arrives
 abbrev pub arrival_due : List Underway → List Due
 arrival_due [] = []
-arrival_due (u ∷ dues) =
-    record { moment = u.moment; rank = 5; number = u.place; call = Arrives u.packet u.hop } ∷ []
+arrival_due (u ∷ dues) = due_at u.moment 5 u.place (Arrives u.packet u.hop) ∷ []
 
 -- those of the list that haven't come, since they come in its order
 abbrev pub left : List Due → List Event → (Call → Bool) → List Due

@@ -1,7 +1,7 @@
 -- What a server does with a copy of a packet (Olteanu et al., NSDI 2018, daisy chaining;
 -- docs/DEFINITIONS.md): the first row of a table that applies.
 use Rattle.std.specs.Prelude.{ℕ, ◌+◌, Bool, ◌&&◌, not, ◌==◌, nat_le, if◌then◌else◌, List, Option}
-use Rattle.std.specs.Prelude.{Some, None}
+use Rattle.std.specs.Prelude.{Some, None, option_map}
 use Rattle.bm_base.specs.declared.ids.ServerId.{ServerId}
 use Rattle.bm_base.specs.declared.flow.Flow.{Flow}
 use Rattle.bm_base.specs.declared.flow.Segment.{Segment}
@@ -28,14 +28,10 @@ pub record Onward : Type 0 where
   pub server : ServerId
   pub stamp : ℕ
 
--- to the previous server, if there is one
-abbrev pub onward_with : ℕ → Option ServerId → Option Onward
-onward_with stamp None = None
-onward_with stamp (Some s) = Some (record { server = s; stamp = stamp })
-
--- where a copy of this hop may go on to: a direct one to the previous server, a chained one nowhere
+-- where a copy of this hop may go on to: a direct one to the previous server, if there is one, a
+-- chained one nowhere
 abbrev pub onward : Entry → Hop → Option Onward
-onward e Direct = onward_with e.stamp.0 e.prev
+onward e Direct = option_map (λ s. record { server = s; stamp = e.stamp.0 }) e.prev
 onward e Chained = None
 
 -- what a tag says of the entry of its label

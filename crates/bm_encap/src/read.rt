@@ -2,7 +2,7 @@
 ghost use Rattle.std.specs.Prelude.{◌≡◌, ◌≤◌, ◌<◌, ◌+◌, ℕ, nat_lt, ◌^◌, length, All, IfOk};
 ghost use Rattle.std.specs.Prelude.{MatchResult, Ok as ok, Err as err, Some, None};
 ghost use Rattle.std.specs.Option.{option_map};
-ghost use Rattle.bm_ipv4.specs.Fields.{octet_at, u16_at, u32_at};
+ghost use Rattle.bm_ipv4.specs.Fields.{octet_at, u32_at};
 ghost use Rattle.bm_encap.specs.Faults as faults;
 ghost use Rattle.bm_encap.specs.Faults.{fault_when, hop_of, option_fault, outer_fault, prev_fault};
 ghost use Rattle.bm_encap.specs.Faults.{prev_in, server_of_address, tag_in, u64_at, unwrapped};

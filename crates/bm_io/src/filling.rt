@@ -1,5 +1,5 @@
 //! Filling a buffer.
-ghost use Rattle.std.specs.Prelude.{◌≡◌, ◌≤◌, length, IfOk};
+ghost use Rattle.std.specs.Prelude.{◌≤◌, length, IfOk};
 ghost use Rattle.bm_io.specs.Causes.{HasCause};
 ghost use Rattle.bm_io.specs.Fill.{Fills};
 

@@ -1,5 +1,5 @@
 //! A packet whose header was read.
-ghost use Rattle.std.specs.Prelude.{◌≡◌, ◌≤◌, ◌<◌, ◌^◌, ◌+◌, ◌/◌, ◌%◌, ◌||◌, ◌==◌, not};
+ghost use Rattle.std.specs.Prelude.{◌≡◌, ◌≤◌, ◌<◌, ◌^◌, ◌/◌, ◌%◌, ◌||◌, ◌==◌, not};
 ghost use Rattle.std.specs.Prelude.{if◌then◌else◌, max, length, take};
 ghost use Rattle.bm_ipv4.specs.Header.{ipv4_of};
 

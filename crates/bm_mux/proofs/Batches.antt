@@ -1,5 +1,5 @@
 -- What a mux has done once it has its look back.
-use Rattle.std.proofs.Common.{◌≡◌, ℕ, ◌≤◌, List, reverse, Ok, Err, ap, sym, ◌∙◌, subst, arith}
+use Rattle.std.proofs.Common.{◌≡◌, ℕ, List, reverse, Ok, Err, ap, sym, ◌∙◌, subst, arith}
 use Rattle.std.specs.Prelude.{Result, OnOk, OnErr}
 use Rattle.bm_base.specs.declared.ids.MuxId.{MuxId}
 use Rattle.bm_core.specs.declared.events.Event.{Event}

@@ -1,6 +1,6 @@
 -- What a mux keeps, from event to event.
-use Rattle.std.proofs.Common.{◌≡◌, ℕ, zero, suc, ◌+◌, ◌*◌, ◌^◌, ◌<◌, ◌≤◌, true, false, eqb, List, [], ◌∷◌, ◌++◌, length}
-use Rattle.std.proofs.Common.{reverse, Option, Some, slice_get, refl, ap, sym, ◌∙◌, subst, arith, max, length-append}
+use Rattle.std.proofs.Common.{◌≡◌, ℕ, zero, suc, ◌+◌, ◌*◌, ◌^◌, ◌<◌, ◌≤◌, true, eqb, List, [], ◌∷◌, ◌++◌, length}
+use Rattle.std.proofs.Common.{reverse, Some, slice_get, refl, ap, sym, ◌∙◌, subst, arith, length-append}
 use Rattle.std.specs.List.{AllByRecursion}
 use Rattle.std.proofs.lemmas.Bool.{eq-eqb}
 use Rattle.std.proofs.lemmas.List.{reverse-append}
@@ -16,7 +16,7 @@ use Rattle.bm_core.specs.Runs.{next_clock}
 use Rattle.bm_table.specs.Planned.{Planned}
 use Rattle.bm_publish.specs.Posts.{Continues, Posted, last_or, last_post, last_version}
 use Rattle.bm_publish.proofs.Prefixes.{prefix_get, prefix_length}
-use Rattle.bm_mux.specs.Steers.{at_clock, steering_clock, switch_to}
+use Rattle.bm_mux.specs.Steers.{at_clock, steering_clock}
 use Rattle.bm_mux.specs.Muxes.{AreShown, HasServers, IsOwn, IsShown, post_clock}
 use Rattle.bm_mux.specs.Keeping.{IsKept}
 

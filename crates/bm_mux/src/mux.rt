@@ -1,5 +1,5 @@
 //! A mux: a look at the board, and a log.
-ghost use Rattle.std.specs.Prelude.{◌≡◌, ◌+◌, ◌*◌, ◌^◌, ◌<◌, ◌≤◌, [], ◌∷◌, ◌++◌, All, IfOk, IsSome};
+ghost use Rattle.std.specs.Prelude.{◌≡◌, ◌+◌, ◌*◌, ◌^◌, ◌<◌, ◌≤◌, [], All, IfOk, IsSome};
 ghost use Rattle.std.specs.Prelude.{OnErr, OnOk, length, reverse};
 ghost use Rattle.bm_core.specs.declared.events.What.TheVariants.{Lose};
 ghost use Rattle.bm_publish.specs.Posts.{Continues};

@@ -1,4 +1,4 @@
-ghost use Rattle.std.specs.Prelude.{◌≡◌, ◌+◌, ◌<◌, ◌≤◌, [], Some, All, IfOk, OnOk, length};
+ghost use Rattle.std.specs.Prelude.{◌≡◌, ◌<◌, ◌≤◌, [], Some, All, IfOk, length};
 ghost use Rattle.bm_table.specs.Tables.{next_change};
 ghost use Rattle.bm_publish.specs.Posts.{last_post, last_version};
 ghost use Rattle.bm_mux.specs.Muxes.{HasServers, IsItem};

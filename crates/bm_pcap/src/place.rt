@@ -1,6 +1,6 @@
 //! Where a reader stands in a capture.
 ghost use Rattle.std.specs.Prelude.{◌≡◌, ◌≤◌, ◌<◌, ◌+◌, ◌^◌};
-ghost use Rattle.bm_pcap.specs.Records.{first_place, moment_at, behind_record};
+ghost use Rattle.bm_pcap.specs.Records.{first_place, behind_record};
 
 use bm_base::Moment;
 

@@ -1,5 +1,5 @@
 //! A reader of captures.
-ghost use Rattle.std.specs.Prelude.{◌≡◌, ◌≤◌, ◌+◌, length, IfOk, IfErr, IfSome, IsErrOf, IsTrue};
+ghost use Rattle.std.specs.Prelude.{◌≡◌, ◌≤◌, length, IfOk, IfErr, IfSome, IsErrOf, IsTrue};
 ghost use Rattle.std.specs.Prelude.{None};
 ghost use Rattle.bm_base.specs.Captures.{IsReplayable};
 ghost use Rattle.bm_link.specs.Fits.{ArePackets};

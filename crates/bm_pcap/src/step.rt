@@ -1,5 +1,5 @@
 //! What stands next in a capture.
-ghost use Rattle.std.specs.Prelude.{◌≡◌, ◌≤◌, ◌<◌, length, nat_lt, if◌then◌else◌, IfOk, IfErr};
+ghost use Rattle.std.specs.Prelude.{◌≡◌, ◌≤◌, ◌<◌, length, if◌then◌else◌, IfOk, IfErr};
 ghost use Rattle.std.specs.Prelude.{IsErrOf, Ok, Err};
 ghost use Rattle.bm_pcap.specs.Causes.{HasStepCause, IsRecordFault};
 ghost use Rattle.std.specs.Io.KnownBytes.{Keeps};

@@ -1,5 +1,5 @@
 //! The heads of blocks.
-ghost use Rattle.std.specs.Prelude.{◌≡◌, ◌≤◌, ◌+◌, length, take};
+ghost use Rattle.std.specs.Prelude.{◌≡◌, ◌≤◌, length};
 ghost use Rattle.bm_pcapng.specs.Blocks.{head_size, is_length, is_packet, is_section};
 ghost use Rattle.bm_pcapng.specs.Blocks.{kind_in, kind_of, least_length, magic_of, order_of};
 

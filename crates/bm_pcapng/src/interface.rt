@@ -1,6 +1,5 @@
 //! Interfaces of a section.
-ghost use Rattle.std.specs.Prelude.{◌≡◌, ◌≤◌, ◌+◌, ◌-◌, ◌%◌, length, drop};
-ghost use Rattle.bm_pcap.specs.declared.form.Order.{Order as OctetOrder};
+ghost use Rattle.std.specs.Prelude.{◌≡◌, ◌≤◌, ◌+◌, ◌-◌, length, drop};
 ghost use Rattle.bm_pcapng.specs.Contents.{interface_of};
 ghost use Rattle.bm_pcapng.specs.Options.{is_over, is_resolution, padded, resolution_by};
 

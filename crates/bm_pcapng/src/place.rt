@@ -1,7 +1,6 @@
 //! Where a reader stands in a capture.
 ghost use Rattle.std.specs.Prelude.{◌≡◌, ◌≤◌, ◌<◌, ◌+◌, ◌^◌};
-ghost use Rattle.bm_pcap.specs.Limits.{latest};
-ghost use Rattle.bm_pcapng.specs.Places.{first_place, first_behind, moment_at, place_behind};
+ghost use Rattle.bm_pcapng.specs.Places.{first_place, moment_at, place_behind};
 
 use crate::Content;
 use bm_base::Moment;

@@ -1,5 +1,5 @@
 -- The steps of a board keep its rule.
-use Rattle.std.proofs.Common.{◌≡◌, ◌≢◌, ℕ, zero, suc, ◌+◌, ◌<◌, ◌≤◌, List, [], ◌∷◌, ◌++◌, length, set, Option, Some}
+use Rattle.std.proofs.Common.{◌≡◌, ◌≢◌, ℕ, zero, suc, ◌+◌, List, [], ◌∷◌, ◌++◌, length, set, Option, Some}
 use Rattle.std.proofs.Common.{None, refl, sym, ap, ◌∙◌, subst, arith, length-append, ⊎_elim, inl, inr}
 use Rattle.std.specs.Prelude.{option_map}
 use Rattle.std.proofs.lemmas.Bool.{cases_lt}
@@ -11,7 +11,6 @@ use Rattle.atomic_table.proofs.Lists.{at_set, at_snoc}
 use Rattle.logbook.specs.Pages.{Book}
 use Rattle.bm_base.specs.declared.label.Entry.{Entry}
 use Rattle.bm_table.specs.declared.plan.Change.{Change}
-use Rattle.bm_table.specs.declared.plan.Move.{Move}
 use Rattle.bm_table.specs.Planned.{Planned}
 use Rattle.bm_table.specs.Entries.{IsTable, after_moves}
 use Rattle.bm_table.specs.Plans.{IsPlan}

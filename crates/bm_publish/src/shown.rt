@@ -1,5 +1,4 @@
 //! What a board shows: the table, with the history that leads to it.
-ghost use Rattle.std.specs.Prelude.{◌≡◌, IfSome};
 ghost use Rattle.bm_publish.specs.Boards.{changed_from};
 
 use crate::told::Told;

@@ -2,11 +2,9 @@
 ghost use Rattle.std.specs.Prelude.{◌≡◌, ◌≢◌, ℕ, ◌*◌, ◌^◌, ◌<◌, ◌≤◌, All, IfOk, Some, length};
 ghost use Rattle.std.specs.Prelude.{slice_get};
 ghost use Rattle.bm_core.specs.Schedule.{least};
-ghost use Rattle.bm_table.specs.Planned.{Planned};
 ghost use Rattle.bm_table.specs.Tables.{change_moment, next_change};
 ghost use Rattle.bm_replay.specs.declared.mux.Mux.{Mux};
 ghost use Rattle.bm_replay.specs.Muxes.{HasTable, IsMoved, IsWritten, switch_after, switches_of};
-ghost use Rattle.bm_replay.specs.Muxes.{version_in};
 
 use crate::coming::sooner;
 use bm_base::{Label, Memory, MuxId, Version};

@@ -1,6 +1,6 @@
 //! A replay on its way: its state, what comes next, and the steps.
 ghost use Rattle.std.specs.Prelude.{◌≡◌, ◌*◌, ◌^◌, ◌<◌, ◌≤◌, IfOk, IfSome, OnOk, Some};
-ghost use Rattle.std.specs.Prelude.{length, suc};
+ghost use Rattle.std.specs.Prelude.{length};
 ghost use Rattle.bm_base.specs.declared.ids.ServerId.{ServerId};
 ghost use Rattle.bm_base.specs.Pieces.{cleared};
 ghost use Rattle.bm_link.specs.Fits.{ArePackets};

@@ -1,5 +1,5 @@
 //! The fault tables of a script.
-ghost use Rattle.std.specs.Prelude.{◌≡◌, ◌≤◌, length};
+ghost use Rattle.std.specs.Prelude.{◌≤◌, length};
 ghost use Rattle.bm_script.specs.Commands as commands;
 ghost use Rattle.bm_script.specs.Faults as faults;
 ghost use Rattle.toml.specs.View.{items_view, table_view};

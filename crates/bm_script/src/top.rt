@@ -1,10 +1,9 @@
 //! The setting that the top keys of a script state.
-ghost use Rattle.std.specs.Prelude.{◌≡◌, ◌≢◌, ◌≤◌, ◌<◌, Ok, Err, IfOk, IfErr, length, replicate};
+ghost use Rattle.std.specs.Prelude.{◌≡◌, ◌≤◌, ◌<◌, Ok, Err, IfOk, IfErr, length, replicate};
 ghost use Rattle.bm_script.specs.Faults as faults;
 ghost use Rattle.bm_script.specs.Scripts as scripts;
 ghost use Rattle.bm_script.specs.Values as values;
 ghost use Rattle.bm_script.specs.declared.fault.Place.TheVariants.{Top};
-ghost use Rattle.bm_script.specs.declared.fault.ScriptFault.TheVariants.{Memory as memory};
 ghost use Rattle.bm_script.specs.declared.key.Key.TheVariants as key_;
 ghost use Rattle.bm_table.specs.Settings.{IsWithin, plain_setting};
 ghost use Rattle.toml.specs.Data.{no_items};

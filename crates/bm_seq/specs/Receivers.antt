@@ -55,11 +55,7 @@ taken r s =
 unfoldable pub after_taken : Taken → Receiver → Segment → Receiver
 after_taken Advance r s =
     record r { next = (s.seq + s.len) % 2 ^ 32; finished = r.finished || has_flag FIN s }
-after_taken Duplicate r s = r
-after_taken Ahead r s = r
-after_taken Outside r s = r
-after_taken Challenge r s = r
-after_taken Ended r s = r
+after_taken _ r s = r
 
 -- the receiver that an accepted segment opens
 unfoldable pub opened : Segment → Receiver

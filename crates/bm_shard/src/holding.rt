@@ -1,7 +1,7 @@
 //! What a shard holds.
 ghost use Rattle.std.specs.Prelude.{◌≡◌, ◌==◌, ◌<◌, ◌≤◌, length, is_some};
 ghost use Rattle.std.specs.Bool.{OnFalse};
-ghost use Rattle.bm_conn.specs.Connections.{HasRoom, IsMap, receiver_in};
+ghost use Rattle.bm_conn.specs.Connections.{HasRoom, receiver_in};
 ghost use Rattle.bm_conn.specs.Layouts.{IsFound};
 ghost use Rattle.bm_core.specs.Books.{Closed, RetiredAs, Took};
 ghost use Rattle.bm_core.specs.Verdicts.{verdict_on};

@@ -12,7 +12,7 @@ ghost use Rattle.bm_core.specs.Verdicts.{verdict_at};
 ghost use Rattle.bm_core.specs.declared.events.Event.{Event};
 ghost use Rattle.bm_core.specs.declared.events.Verdict.TheVariants.{Drop};
 ghost use Rattle.bm_core.specs.declared.events.Why.TheVariants.{Retired};
-ghost use Rattle.bm_shard.specs.Books.{clock_after, knows_after};
+ghost use Rattle.bm_shard.specs.Books.{knows_after};
 ghost use Rattle.bm_shard.specs.Laws.{AreOf, IsOf, IsRetired};
 ghost use Rattle.bm_shard.specs.Replies.{is_held_by, verdict_by};
 

@@ -5,7 +5,7 @@ use Rattle.std.specs.List.{AllByRecursion}
 use Rattle.bm_base.specs.Captures.{AreRising}
 use Rattle.bm_table.specs.Planned.{Planned}
 use Rattle.bm_table.specs.declared.plan.Kind.{Kind}
-use Rattle.bm_table.specs.declared.plan.Kind.TheVariants.{Add, Drain, Shift}
+use Rattle.bm_table.specs.declared.plan.Kind.TheVariants.{Add}
 use Rattle.bm_table.specs.declared.script.Command.{Command}
 use Rattle.bm_table.specs.declared.script.Command.TheVariants.{Change as ChangeCommand}
 use Rattle.bm_table.specs.declared.script.Command.TheVariants.{Close as CloseCommand}
@@ -37,8 +37,7 @@ IsOfKnown plan _ = Unit {0}
 -- a change that adds a server names a server number
 abbrev pub NamesServer : Kind → Type 0
 NamesServer (Add s) = IsWithin 1 1024 s.0
-NamesServer (Drain s) = Unit {0}
-NamesServer Shift = Unit {0}
+NamesServer _ = Unit {0}
 
 -- what a replay may be asked to carry out
 pub record IsSoundScript (script : Script) : Type 0 where

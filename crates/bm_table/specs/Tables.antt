@@ -8,7 +8,7 @@ use Rattle.bm_table.specs.declared.plan.Move.{Move}
 use Rattle.bm_table.specs.declared.plan.Change.{Change}
 use Rattle.bm_table.specs.Planned.{Planned}
 use Rattle.bm_table.specs.declared.plan.Kind.{Kind}
-use Rattle.bm_table.specs.declared.plan.Kind.TheVariants.{Add, Drain, Shift}
+use Rattle.bm_table.specs.declared.plan.Kind.TheVariants.{Add, Drain}
 use Rattle.bm_table.specs.declared.plan.Retirement.{Retirement}
 use Rattle.bm_table.specs.declared.plan.Retirement.TheVariants.{Done, NotDrained, TooEarly}
 
@@ -64,8 +64,7 @@ moves plan b w (suc v) =
 
 abbrev pub is_drain : Kind → ServerId → Bool
 is_drain (Drain t) s = same_server t s
-is_drain (Add t) s = false
-is_drain Shift s = false
+is_drain _ s = false
 
 abbrev pub drains : Option Change → ServerId → Bool
 drains None s = false
@@ -97,8 +96,7 @@ IsRetirement plan timeout n s at Done =
 
 abbrev pub is_add : Kind → ServerId → Bool
 is_add (Add t) s = same_server t s
-is_add (Drain t) s = false
-is_add Shift s = false
+is_add _ s = false
 
 abbrev pub adds : Option Change → ServerId → Bool
 adds None s = false

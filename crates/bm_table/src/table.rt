@@ -1,7 +1,6 @@
 //! The table of one version: an array of entries that each change alters in place.
-ghost use Rattle.std.specs.Prelude.{◌≡◌, ◌≤◌, ◌<◌, ◌+◌, ◌%◌, ℕ, [], ◌∷◌, length, map, All, IfOk};
-ghost use Rattle.std.specs.Prelude.{if◌then◌else◌, ◌==◌, Some, None, slice_get, slice_set};
-ghost use Rattle.std.specs.Prelude.{slice_index_or};
+ghost use Rattle.std.specs.Prelude.{◌≡◌, ◌<◌, ◌+◌, ◌%◌, ℕ, [], ◌∷◌, length, All, IfOk};
+ghost use Rattle.std.specs.Prelude.{if◌then◌else◌, ◌==◌, Some, None, slice_get};
 ghost use Rattle.std.specs.Option.{option_map, option_or};
 ghost use Rattle.bm_table.specs.Entries.{IsTable, after_moves, server_in};
 ghost use Rattle.bm_table.specs.Planned.{Planned};
@@ -9,7 +8,7 @@ ghost use Rattle.std.specs.BTreeMap.{get};
 ghost use Rattle.std.specs.Ordering.{nat_cmp};
 ghost use Rattle.bm_table.specs.Leaves.{first_left};
 ghost use Rattle.bm_table.specs.Plans.{IsPlan, bucket_already_there};
-ghost use Rattle.bm_table.specs.Tables.{moved, next_change, opening};
+ghost use Rattle.bm_table.specs.Tables.{next_change, opening};
 
 use crate::{Change, Move, Plan};
 use bm_base::{Entry, Memory, Moment, ServerId};

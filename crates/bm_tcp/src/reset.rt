@@ -1,5 +1,5 @@
 //! The reset that answers a segment.
-ghost use Rattle.std.specs.Prelude.{◌≡◌, ◌+◌, ◌++◌, length, option_map};
+ghost use Rattle.std.specs.Prelude.{◌≡◌, ◌+◌, ◌++◌, length};
 ghost use Rattle.bm_tcp.specs.Resets as resets;
 
 use bm_base::flags::{ACK, RST};

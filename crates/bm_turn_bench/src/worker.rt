@@ -1,5 +1,5 @@
 //! The threads.
-ghost use Rattle.std.specs.Prelude.{◌≡◌, ◌<◌, length, IfOk};
+ghost use Rattle.std.specs.Prelude.{◌<◌};
 
 use crate::chair::{Chair, make_chairs};
 use bm_base::Memory;

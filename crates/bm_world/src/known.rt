@@ -1,5 +1,5 @@
 //! The servers that a script knows.
-ghost use Rattle.std.specs.Prelude.{◌≡◌, true, false, ◌≤◌, length, IfOk};
+ghost use Rattle.std.specs.Prelude.{◌≡◌, true, false, length, IfOk};
 ghost use Rattle.bm_table.specs.Settings.{IsWithin, RiseFrom};
 ghost use Rattle.bm_table.specs.Tables as tables;
 ghost use Rattle.bm_table.specs.Tables.{is_add, is_among, is_known, next_change};

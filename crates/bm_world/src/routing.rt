@@ -1,5 +1,5 @@
 //! The mux of each packet.
-ghost use Rattle.std.specs.Prelude.{◌≡◌, ◌≤◌, length, IfOk};
+ghost use Rattle.std.specs.Prelude.{◌≤◌, length, IfOk};
 ghost use Rattle.bm_route.specs.Routes.{Answers, IsRoute};
 ghost use Rattle.bm_world.specs.Routed.{AreGiven, IsGivenTo};
 

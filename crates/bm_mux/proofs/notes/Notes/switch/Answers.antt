@@ -1,4 +1,3 @@
-use Rattle.std.proofs.Common.{ap, sym}
 use Rattle.bm_mux.proofs.Kept.{kept_switch}
 use Rattle.bm_mux.proofs.notes.Notes.switch.Goals as goal
 

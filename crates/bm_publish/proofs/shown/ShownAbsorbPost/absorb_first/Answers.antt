@@ -1,4 +1,3 @@
-use Rattle.std.proofs.Common.{◌≡◌}
 use Rattle.bm_publish.proofs.BoardLemmas.{changed_all}
 use Rattle.bm_publish.proofs.shown.ShownAbsorbPost.absorb_first.Goals as goal
 
