@@ -7,7 +7,8 @@ use Rattle.std.proofs.Math.Seq.{drop-drop}
 use Rattle.std.proofs.lemmas.Bool.{cases_lt}
 use Rattle.std.proofs.lemmas.Bool.Decides.{nat_tests}
 use Rattle.std.proofs.lemmas.List.{take_all, take-append-le, drop_at, drop-append-le}
-use Rattle.bm_base.specs.Pieces.{AreEnds, begin_of, cleared, pieces}
+use Rattle.bm_base.specs.Pieces.{cleared}
+use Rattle.bm_base.specs.Inside.Pieces.{AreEnds, begin_of, pieces}
 
 pub length_pieces : (from : ℕ) (ends octets : List ℕ) → length (pieces from ends octets) ≡ length ends
 length_pieces from [] octets = refl

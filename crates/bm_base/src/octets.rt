@@ -1,7 +1,8 @@
 //! The packets of a capture.
 ghost use Rattle.std.specs.Prelude.{◌≡◌, ◌<◌, ◌≤◌, ◌-◌, [], ◌∷◌, ◌++◌, drop, length, map};
 ghost use Rattle.std.specs.Prelude.{slice_index_or, OnOk, OnErr};
-ghost use Rattle.bm_base.specs.Pieces.{AreEnds, begin_of, cleared, pieces};
+ghost use Rattle.bm_base.specs.Pieces.{cleared};
+ghost use Rattle.bm_base.specs.Inside.Pieces.{AreEnds, begin_of, pieces};
 
 use crate::Memory;
 use std::alloc::Global;
@@ -20,7 +21,7 @@ pub struct Octets {
 
 impl Model for Octets {
     ghost use Rattle.std.specs.Prelude.{List as Lists, ℕ, ◌^◌, ◌<◌, length};
-    ghost use Rattle.bm_base.specs.Pieces.{AreEnds, pieces};
+    ghost use Rattle.bm_base.specs.Inside.Pieces.{AreEnds, pieces};
 
     ghost Value = { Lists (Lists ℕ) };
 

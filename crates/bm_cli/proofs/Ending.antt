@@ -13,9 +13,9 @@ use Rattle.bm_cli.specs.declared.mode.Mode.{Mode}
 use Rattle.bm_cli.specs.Headline.{IsReportOf}
 use Rattle.bm_cli.specs.Dues.{status_of}
 use Rattle.bm_cli.specs.Ends.{AsksFor, Ends, IsOf, IsSaid}
-use Rattle.bm_cli.specs.Inside.Scripts.{IsOutside, IsRead}
-use Rattle.bm_cli.specs.Inside.Stages.{ReadsStage, status_by}
-use Rattle.bm_cli.specs.Inside.Telling.{Tells}
+use Rattle.bm_cli.specs.Stages.{IsOutside, IsRead}
+use Rattle.bm_cli.specs.Stages.{ReadsStage, status_by}
+use Rattle.bm_cli.specs.Telling.{Tells}
 use Rattle.bm_cli.specs.Loads.{IsSummaryOf}
 use Rattle.bm_cli.specs.Reading.{Holds, Octets, Reading, Reads, reading, reads_of, script_by}
 use Rattle.bm_cli.specs.Statuses.{FilesDid, SinkDid}

@@ -9,7 +9,7 @@ use Rattle.bm_cli.specs.declared.fault.StageFault.TheVariants.{Memory as WantsMe
 use Rattle.bm_cli.specs.declared.mode.Mode.{Mode}
 use Rattle.bm_cli.specs.declared.replay.Replayed.{Replayed}
 use Rattle.bm_cli.specs.Headline.{IsMadeBy}
-use Rattle.bm_cli.specs.Inside.Stages.{ReadsStage}
+use Rattle.bm_cli.specs.Stages.{ReadsStage}
 use Rattle.bm_cli.specs.Reading.{Holds, Octets, Reads}
 use Rattle.bm_cli.specs.Statuses.{FilesDid}
 use Rattle.bm_cli.proofs.Ending.{holds_more}

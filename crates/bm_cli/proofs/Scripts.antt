@@ -14,7 +14,8 @@ use Rattle.bm_table.specs.declared.script.Script.{Script}
 use Rattle.bm_cli.specs.declared.fault.StageFault.{StageFault}
 use Rattle.bm_cli.specs.declared.fault.StageFault.TheVariants.{LongScript, Script as OfScript}
 use Rattle.bm_cli.specs.Plain.{plain_script}
-use Rattle.bm_cli.specs.Inside.Scripts.{HasFront, IsOutside, IsRead, ReadsScript}
+use Rattle.bm_cli.specs.Inside.Scripts.{HasFront, ReadsScript}
+use Rattle.bm_cli.specs.Stages.{IsOutside, IsRead}
 use Rattle.bm_cli.specs.Reading.{Octets, script_in, with_script_fault}
 
 -- a source that was opened and closed leaves the files' count no lower

@@ -21,8 +21,9 @@ use Rattle.bm_cli.specs.declared.status.Status.TheVariants.{ReadFault, Memory}
 use Rattle.bm_cli.specs.Dues.{names_behind}
 use Rattle.bm_cli.specs.Ends.{AsksFor}
 use Rattle.bm_cli.specs.Inside.Captures.{Captures, FileBegan, HasReadCause, ReadsFile}
-use Rattle.bm_cli.specs.Inside.Scripts.{IsOutside, IsRead, ReadsScript}
-use Rattle.bm_cli.specs.Inside.Stages.{ReadsStage, status_by}
+use Rattle.bm_cli.specs.Inside.Scripts.{ReadsScript}
+use Rattle.bm_cli.specs.Stages.{IsOutside, IsRead}
+use Rattle.bm_cli.specs.Stages.{ReadsStage, status_by}
 use Rattle.bm_cli.specs.Lines.{capture_status, fault_status}
 use Rattle.bm_cli.specs.Names.{AsksAll, AsksPrefix, names_in, script_names}
 use Rattle.bm_cli.specs.Reading.{Holds, Octets, Reading, Reads, if_taken, reading, reads_of, script_by, script_for}

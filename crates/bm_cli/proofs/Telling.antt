@@ -9,7 +9,7 @@ use Rattle.bm_cli.specs.declared.status.Status.{Status}
 use Rattle.bm_cli.specs.declared.status.Status.TheVariants.{Done, Memory}
 use Rattle.bm_cli.specs.Dues.{Answer, Shown, status_of, text_of}
 use Rattle.bm_cli.specs.Headline.{IsMadeBy, IsReportOf}
-use Rattle.bm_cli.specs.Inside.Telling.{Tells}
+use Rattle.bm_cli.specs.Telling.{Tells}
 use Rattle.bm_cli.specs.Statuses.{Did, Writes, SinkDid}
 use Rattle.bm_cli.proofs.Statuses.{appends_nothing}
 use Rattle.bm_cli.proofs.Wider.{is_run}

@@ -1,6 +1,3 @@
--- Only the proofs of bodies use these.
+-- Only the contracts of private calls and the proofs of bodies use these.
 pub mod Captures
-pub mod Faults
 pub mod Scripts
-pub mod Stages
-pub mod Telling

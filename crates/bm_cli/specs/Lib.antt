@@ -9,4 +9,7 @@ pub mod Lines
 pub mod Names
 pub mod Ends
 pub mod Statuses
+pub mod Telling
+pub mod Stages
+pub mod Faults
 pub mod Inside

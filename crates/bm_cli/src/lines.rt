@@ -2,7 +2,7 @@
 ghost use Rattle.std.specs.Prelude.{◌≡◌, ◌≢◌, IfOk, string_bytes};
 ghost use Rattle.bm_cli.specs.Lines as lines;
 ghost use Rattle.bm_cli.specs.Dues.{Refused};
-ghost use Rattle.bm_cli.specs.Inside.Telling.{Tells};
+ghost use Rattle.bm_cli.specs.Telling.{Tells};
 ghost use Rattle.bm_cli.specs.Statuses.{did};
 
 use crate::fault::{CaptureFault, StageFault};

@@ -1,7 +1,7 @@
 //! The run of a generated load.
 ghost use Rattle.std.specs.Prelude.{◌≤◌, IfOk, string_bytes};
 ghost use Rattle.bm_cli.specs.Dues.{Shown};
-ghost use Rattle.bm_cli.specs.Inside.Telling.{Tells};
+ghost use Rattle.bm_cli.specs.Telling.{Tells};
 ghost use Rattle.bm_cli.specs.Loads.{IsSummaryOf};
 ghost use Rattle.bm_cli.specs.Statuses.{did};
 

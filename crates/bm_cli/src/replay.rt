@@ -4,7 +4,7 @@ ghost use Rattle.std.specs.Result.{result_map_both};
 ghost use Rattle.bm_pcap.specs.Limits.{latest};
 ghost use Rattle.bm_words.specs.Form.{named};
 ghost use Rattle.bm_cli.specs.Headline.{IsMadeBy};
-ghost use Rattle.bm_cli.specs.Inside.Stages.{ReadsStage};
+ghost use Rattle.bm_cli.specs.Stages.{ReadsStage};
 ghost use Rattle.bm_cli.specs.Reading.{Holds};
 ghost use Rattle.bm_cli.specs.Statuses.{did};
 

@@ -9,7 +9,7 @@ ghost use Rattle.bm_trace.specs.Parts.{WritesPart};
 ghost use Rattle.bm_trace.specs.Report as report;
 ghost use Rattle.bm_cli.specs.Dues.{Shown};
 ghost use Rattle.bm_cli.specs.Headline.{IsReportOf};
-ghost use Rattle.bm_cli.specs.Inside.Telling.{Tells};
+ghost use Rattle.bm_cli.specs.Telling.{Tells};
 ghost use Rattle.bm_cli.specs.Statuses.{Writes, did};
 
 use crate::history::history_of;

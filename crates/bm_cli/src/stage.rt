@@ -5,7 +5,7 @@ ghost use Rattle.bm_core.specs.Stages.{IsSound};
 ghost use Rattle.bm_link.specs.Fits.{ArePackets};
 ghost use Rattle.bm_pcap.specs.Limits.{latest};
 ghost use Rattle.bm_words.specs.Form.{named};
-ghost use Rattle.bm_cli.specs.Inside.Stages.{ReadsStage};
+ghost use Rattle.bm_cli.specs.Stages.{ReadsStage};
 ghost use Rattle.bm_cli.specs.Reading.{Holds};
 ghost use Rattle.bm_cli.specs.Statuses.{did};
 

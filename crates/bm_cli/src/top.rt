@@ -6,7 +6,7 @@ ghost use Rattle.bm_words.specs.Form.{HasCount, asked, form_in, named};
 ghost use Rattle.bm_cli.specs.declared.fault.StageFault.TheVariants.{Files as files_failed};
 ghost use Rattle.bm_cli.specs.Dues.{Misused, due, due_of_stage};
 ghost use Rattle.bm_cli.specs.Ends.{Ends, EndsWith};
-ghost use Rattle.bm_cli.specs.Inside.Telling.{Tells};
+ghost use Rattle.bm_cli.specs.Telling.{Tells};
 ghost use Rattle.bm_cli.specs.Lines.{fault_line, usage_line};
 ghost use Rattle.bm_cli.specs.Names.{AsksAll, AsksPrefix};
 ghost use Rattle.bm_cli.specs.Reading.{Holds};

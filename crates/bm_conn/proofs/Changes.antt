@@ -12,8 +12,10 @@ use Rattle.bm_conn.specs.declared.table.Connection.{Connection}
 use Rattle.bm_conn.specs.declared.slot.Slot.{Slot}
 use Rattle.bm_conn.specs.declared.slot.Slot.TheVariants.{Free, Used}
 use Rattle.bm_conn.specs.Connections.{receiver_in, AreOnce}
-use Rattle.bm_conn.specs.Slots.{used, slot_at, is_of, AreReached, HoldsSame, IsPlaced, IsPutInto, AreMoved, Stops}
-use Rattle.bm_conn.specs.Slots.{IsPlaceOf, receiver_of}
+use Rattle.bm_conn.specs.Slots.{slot_at, is_of, AreReached, Stops}
+use Rattle.bm_conn.specs.Inside.Slots.{used, HoldsSame, IsPlaced, IsPutInto, AreMoved}
+use Rattle.bm_conn.specs.Slots.{IsPlaceOf}
+use Rattle.bm_conn.specs.Inside.Slots.{receiver_of}
 use Rattle.bm_conn.proofs.Flows.{same_flow-true, same_flow_refl}
 use Rattle.bm_conn.proofs.Maps.{receiver-put}
 use Rattle.bm_conn.proofs.Filled.{absent_at, receiver_filled, receiver_freed, length_filled, length_freed, once_filled}

@@ -8,7 +8,8 @@ use Rattle.bm_seq.specs.declared.receiver.Receiver.{Receiver}
 use Rattle.bm_conn.specs.declared.slot.Slot.{Slot}
 use Rattle.bm_conn.specs.declared.slot.Slot.TheVariants.{Free, Used}
 use Rattle.bm_conn.specs.Connections.{receiver_in, AreOnce}
-use Rattle.bm_conn.specs.Slots.{used, slot_at, is_free, is_of}
+use Rattle.bm_conn.specs.Slots.{slot_at, is_free, is_of}
+use Rattle.bm_conn.specs.Inside.Slots.{used}
 use Rattle.bm_conn.proofs.Flows.{same_flow-true, same_flow_refl, same_flow_sym, apart_from}
 
 not_used : (f : Flow) (r : Receiver) → Used f r ≡ Free → ⊥

@@ -9,8 +9,9 @@ use Rattle.bm_seq.specs.declared.receiver.Receiver.{Receiver}
 use Rattle.bm_conn.specs.declared.slot.Slot.{Slot}
 use Rattle.bm_conn.specs.declared.slot.Slot.TheVariants.{Free, Used}
 use Rattle.bm_conn.specs.Connections.{receiver_in, AreOnce}
-use Rattle.bm_conn.specs.Slots.{used, slot_at, is_free, distance, home, after, AreReached, HasHole, HoldsSame}
-use Rattle.bm_conn.specs.Slots.{IsShifting, Shifts}
+use Rattle.bm_conn.specs.Slots.{slot_at, is_free, distance, home, AreReached}
+use Rattle.bm_conn.specs.Inside.Slots.{used, after, HasHole, HoldsSame}
+use Rattle.bm_conn.specs.Inside.Slots.{IsShifting, Shifts}
 use Rattle.bm_conn.proofs.Flows.{same_flow-true, same_flow_refl}
 use Rattle.bm_conn.proofs.Places.{distance_same, distance_none, distance_positive, distance_from, distance-lt}
 use Rattle.bm_conn.proofs.Places.{distance-after, after-lt, further, home-lt}

@@ -5,7 +5,8 @@ use Rattle.std.proofs.lemmas.Bool.{cases_Bool}
 use Rattle.bm_base.specs.declared.flow.Flow.{Flow}
 use Rattle.bm_base.specs.Segments.{same_flow}
 use Rattle.bm_conn.specs.declared.table.Connection.{Connection}
-use Rattle.bm_conn.specs.Connections.{receiver_in, AreOnce, without}
+use Rattle.bm_conn.specs.Connections.{receiver_in, AreOnce}
+use Rattle.bm_conn.specs.Inside.Connections.{without}
 use Rattle.bm_conn.proofs.Flows.{same_flow-true, same_flow_sym, apart, apart_from}
 
 same_for : (g x f : Flow) → same_flow g x ≡ true → same_flow x f ≡ same_flow g f

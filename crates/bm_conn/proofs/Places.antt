@@ -2,7 +2,8 @@
 use Rattle.std.proofs.Common.{◌≡◌, ℕ, ◌+◌, ◌<◌, ◌≤◌, arith}
 use Rattle.std.proofs.lemmas.Bool.Decides.{nat_tests}
 use Rattle.bm_base.specs.declared.flow.Flow.{Flow}
-use Rattle.bm_conn.specs.Slots.{distance, after, home}
+use Rattle.bm_conn.specs.Slots.{distance, home}
+use Rattle.bm_conn.specs.Inside.Slots.{after}
 
 pub distance-lt : (n a b : ℕ) → a < n → b < n → distance n a b < n
 unfolding distance

@@ -7,7 +7,8 @@ use Rattle.bm_seq.specs.declared.receiver.Receiver.{Receiver}
 use Rattle.bm_conn.specs.declared.slot.Slot.{Slot}
 use Rattle.bm_conn.specs.declared.slot.Slot.TheVariants.{Free, Used}
 use Rattle.bm_conn.specs.Connections.{receiver_in}
-use Rattle.bm_conn.specs.Slots.{used, slot_at, is_free, is_of, distance, home, AreReached}
+use Rattle.bm_conn.specs.Slots.{slot_at, is_free, is_of, distance, home, AreReached}
+use Rattle.bm_conn.specs.Inside.Slots.{used}
 use Rattle.bm_conn.proofs.Flows.{same_flow-true}
 use Rattle.bm_conn.proofs.Places.{distance_same, home-lt}
 use Rattle.bm_conn.proofs.Filled.{absent}

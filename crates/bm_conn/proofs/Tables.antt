@@ -14,7 +14,8 @@ use Rattle.bm_conn.specs.declared.slot.Slot.{Slot}
 use Rattle.bm_conn.specs.declared.slot.Slot.TheVariants.{Free, Used}
 use Rattle.bm_conn.specs.Connections.{IsSame, HasRoom, receiver_in, AreOnce}
 use Rattle.bm_conn.specs.Layouts.{IsLaidOut}
-use Rattle.bm_conn.specs.Slots.{used, slot_at, is_free, is_of, AreMoved}
+use Rattle.bm_conn.specs.Slots.{slot_at, is_free, is_of}
+use Rattle.bm_conn.specs.Inside.Slots.{used, AreMoved}
 use Rattle.bm_conn.specs.Views.{IsTable, table_of}
 use Rattle.bm_conn.proofs.Flows.{same_flow-true, same_flow_refl}
 use Rattle.bm_conn.proofs.Filled.{some_free, absent_at, receiver_at, receiver_freed}

@@ -3,7 +3,8 @@ use Rattle.std.proofs.Common.{◌≡◌, ℕ, ◌+◌, ◌<◌, ◌≤◌, true,
 use Rattle.std.proofs.lemmas.Bool.{cases_eq, both_ways}
 use Rattle.bm_base.specs.declared.flow.Flow.{Flow}
 use Rattle.bm_conn.specs.declared.slot.Slot.{Slot}
-use Rattle.bm_conn.specs.Slots.{IsWalked, slot_at, is_free, is_of, distance, home, after}
+use Rattle.bm_conn.specs.Slots.{slot_at, is_free, is_of, distance, home}
+use Rattle.bm_conn.specs.Inside.Slots.{IsWalked, after}
 use Rattle.bm_conn.proofs.Places.{distance-lt, distance_none, distance_same, after-lt, distance-after, home-lt}
 
 pub walked_none : (s : List Slot) (f : Flow) → 1 ≤ length s → IsWalked s f (home (length s) f) 0

@@ -1,5 +1,5 @@
 -- A finite map from flows to receivers, of bounded size.
-use Rattle.std.specs.Prelude.{◌≡◌, ◌⊎◌, ℕ, ◌≤◌, not, if◌then◌else◌, List, [], ◌∷◌, length, filter}
+use Rattle.std.specs.Prelude.{◌≡◌, ◌⊎◌, ℕ, ◌≤◌, if◌then◌else◌, List, [], ◌∷◌, length}
 use Rattle.std.specs.Prelude.{Option, Some, None}
 use Rattle.bm_base.specs.declared.flow.Flow.{Flow}
 use Rattle.bm_base.specs.Segments.{same_flow}
@@ -52,7 +52,3 @@ pub record IsSame (old new : Connections) : Type 0 where
 -- one more flow needs no memory, or there may be no more
 abbrev pub HasRoom : Connections → Type 0
 HasRoom table = (1 ≤ table.room) ⊎ (length table.connections ≡ table.capacity)
-
--- the connections but the flow's
-abbrev pub without : Flow → List Connection → List Connection
-without f connections = filter (λ c. not (same_flow f c.flow)) connections

@@ -3,8 +3,10 @@ ghost use Rattle.std.specs.Prelude.{if◌then◌else◌, is_some, IfOk, Some, No
 ghost use Rattle.std.specs.Prelude.{◌≡◌, ◌<◌, ◌≤◌, ◌+◌, ◌^◌, ℕ, length, true};
 ghost use Rattle.bm_conn.specs.Connections.{AreOnce, receiver_in};
 ghost use Rattle.bm_conn.specs.Layouts.{IsFound};
-ghost use Rattle.bm_conn.specs.Slots.{slot_at, is_free, used};
+ghost use Rattle.bm_conn.specs.Slots.{slot_at, is_free};
+ghost use Rattle.bm_conn.specs.Inside.Slots.{used};
 ghost use Rattle.bm_conn.specs.Slots as slots;
+ghost use Rattle.bm_conn.specs.Inside.Slots as inside;
 
 use bm_base::{Flow, Memory};
 use bm_hash::{flow_hash, remainder};
@@ -56,7 +58,7 @@ pub(crate) fn home(count: usize, flow: &Flow) -> usize
 pub(crate) fn after(count: usize, place: usize) -> usize
     requires few { count ≤ 2 ^ 32 }
     requires within { place < count }
-    ensures { result ≡ slots.after count place }
+    ensures { result ≡ inside.after count place }
 {
     if place + 1 == count { 0 } else { place + 1 }
 }
@@ -90,7 +92,7 @@ fn shift(places: &mut [Slot], hole: usize, place: usize, flow: &Flow) -> usize
     requires few { length places.old ≤ 2 ^ 32 }
     requires hole { hole < length places.old }
     requires place { place < length places.old }
-    ensures { slots.Shifts (length places.old) flow.now places.old places.new hole place result }
+    ensures { inside.Shifts (length places.old) flow.now places.old places.new hole place result }
 {
     let count = places.len();
     let home = home(count, flow);
@@ -109,9 +111,9 @@ pub(crate) fn close_up(places: &mut [Slot], start: usize)
     requires few { length places.old ≤ 2 ^ 32 }
     requires spare { length (used places.old) + 2 ≤ length places.old }
     requires once { AreOnce (used places.old) }
-    requires hole { slots.HasHole places.old (length places.old) start }
+    requires hole { inside.HasHole places.old (length places.old) start }
     ensures reached { slots.AreReached places.new (length places.old) }
-    ensures same { slots.HoldsSame places.old places.new }
+    ensures same { inside.HoldsSame places.old places.new }
 {
     let count = places.len();
     let mut hole = start;
@@ -137,7 +139,7 @@ pub(crate) fn free_slots(alloc: Global, count: usize) -> Result<Vec<Slot>, Memor
 
 /// The receiver in a slot.
 fn receiver_of(slot: Slot) -> Option<Receiver>
-    ensures { result ≡ slots.receiver_of slot }
+    ensures { result ≡ inside.receiver_of slot }
 {
     match slot {
         Slot::Free => None,
@@ -149,7 +151,7 @@ fn receiver_of(slot: Slot) -> Option<Receiver>
 pub(crate) fn look(places: &[Slot], flow: &Flow) -> Found
     requires few { length places.now ≤ 2 ^ 32 }
     requires spare { length (used places.now) < length places.now }
-    requires placed { slots.IsPlaced places.now }
+    requires placed { inside.IsPlaced places.now }
     ensures flow { result.flow ≡ flow.now }
     ensures found { IsFound (used places.now) places.now result }
 {
@@ -163,9 +165,9 @@ pub(crate) fn look(places: &[Slot], flow: &Flow) -> Found
 
 /// Puts a receiver where the flow was found, or into the free slot that was found for it.
 pub(crate) fn fill(places: &mut [Slot], found: Found, receiver: Receiver)
-    requires placed { slots.IsPlaced places.old }
+    requires placed { inside.IsPlaced places.old }
     requires found { IsFound (used places.old) places.old found }
-    ensures puts { slots.IsPutInto found.flow (Some receiver) places.old places.new }
+    ensures puts { inside.IsPutInto found.flow (Some receiver) places.old places.new }
     ensures count { length (used places.new)
         ≡ length (used places.old) + (if is_some found.receiver then 0 else 1) }
 {
@@ -176,9 +178,9 @@ pub(crate) fn fill(places: &mut [Slot], found: Found, receiver: Receiver)
 fn put(places: &mut [Slot], flow: Flow, receiver: Receiver)
     requires few { length places.old ≤ 2 ^ 32 }
     requires spare { length (used places.old) < length places.old }
-    requires placed { slots.IsPlaced places.old }
+    requires placed { inside.IsPlaced places.old }
     requires absent { receiver_in (used places.old) flow ≡ None }
-    ensures puts { slots.IsPutInto flow (Some receiver) places.old places.new }
+    ensures puts { inside.IsPutInto flow (Some receiver) places.old places.new }
     ensures count { length (used places.new) ≡ length (used places.old) + 1 }
 {
     let found = look(places, &flow);
@@ -189,10 +191,10 @@ fn put(places: &mut [Slot], flow: Flow, receiver: Receiver)
 pub(crate) fn take(places: &mut [Slot], found: Found) -> bool
     requires few { length places.old ≤ 2 ^ 32 }
     requires spare { length (used places.old) < length places.old }
-    requires placed { slots.IsPlaced places.old }
+    requires placed { inside.IsPlaced places.old }
     requires found { IsFound (used places.old) places.old found }
     ensures there { result ≡ is_some found.receiver }
-    ensures puts { slots.IsPutInto found.flow None places.old places.new }
+    ensures puts { inside.IsPutInto found.flow None places.old places.new }
     ensures count { length (used places.new) + (if result then 1 else 0)
         ≡ length (used places.old) }
 {
@@ -212,7 +214,7 @@ pub(crate) fn move_all(old: &[Slot], places: &mut [Slot])
     requires spare { length (used old.now) < length places.old }
     requires once { AreOnce (used old.now) }
     requires free { places.old ≡ replicate (length places.old) Slot.Free }
-    ensures { slots.AreMoved old.now places.new (length places.old) }
+    ensures { inside.AreMoved old.now places.new (length places.old) }
 {
     for place in old {
         match *place {

@@ -11,7 +11,8 @@ use Rattle.bm_core.specs.Runs.{past_at}
 use Rattle.bm_trace.proofs.Newest.{reverse_take}
 use Rattle.bm_connections.specs.declared.stamps.Stamps.{Stamps}
 use Rattle.bm_connections.specs.Inside.Stamps.{AreFirstWaits, AreWaits, KnowsStamps, wait_in}
-use Rattle.bm_connections.specs.Waits.{wait_after, wait_at, wait_of}
+use Rattle.bm_connections.specs.Waits.{wait_of}
+use Rattle.bm_connections.specs.Inside.Waits.{wait_after, wait_at}
 
 -- THE PASS
 

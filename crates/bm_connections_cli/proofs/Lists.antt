@@ -7,7 +7,8 @@ use Rattle.std.proofs.lemmas.List.{append-nil, map-append}
 use Rattle.std.proofs.lemmas.List.Elements.{filter-append}
 use Rattle.bm_base.specs.declared.ids.ServerId.{ServerId}
 use Rattle.bm_table.specs.declared.plan.Change.{Change}
-use Rattle.bm_connections_cli.specs.Servers.{added, added_by}
+use Rattle.bm_connections_cli.specs.Servers.{added}
+use Rattle.bm_connections_cli.specs.Inside.Servers.{added_by}
 
 -- the servers that these changes add
 abbrev pub all_added : List Change → List ServerId

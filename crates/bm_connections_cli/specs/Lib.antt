@@ -8,3 +8,4 @@ pub mod Json
 pub mod Advice
 pub mod Servers
 pub mod Words
+pub mod Inside

@@ -1,5 +1,5 @@
 -- The servers of a script.
-use Rattle.std.specs.Prelude.{List, [], ◌∷◌, ◌++◌, Option, Some, None, flat_map}
+use Rattle.std.specs.Prelude.{List, [], ◌∷◌, ◌++◌, flat_map}
 use Rattle.bm_base.specs.declared.ids.ServerId.{ServerId}
 use Rattle.bm_table.specs.declared.plan.Change.{Change}
 use Rattle.bm_table.specs.declared.plan.Kind.{Kind}
@@ -11,11 +11,6 @@ abbrev pub added : Kind → List ServerId
 added (Add server) = server ∷ []
 added (Drain server) = []
 added Shift = []
-
--- the server that the change adds
-abbrev pub added_by : Option Change → List ServerId
-added_by None = []
-added_by (Some change) = added change.kind
 
 -- the servers that are there at the beginning, and then those that its changes add, in their order
 abbrev pub servers_of : Script → List ServerId

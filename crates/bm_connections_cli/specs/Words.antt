@@ -3,8 +3,7 @@
 use Rattle.std.specs.Prelude.{ℕ, List, [], ◌∷◌, ◌&&◌, if◌then◌else◌, Option, Some, None, codes, map}
 use Rattle.std.specs.Prelude.{Bool, true, false, String, option_and_then, option_map, string_bytes}
 use Rattle.std.specs.Str.{bytes_eq}
-use Rattle.bm_words.specs.Form.{Named, is_name, named}
-use Rattle.bm_connections_cli.specs.declared.words.Asked.{Asked as Answered}
+use Rattle.bm_words.specs.Form.{Named, is_name}
 use Rattle.bm_connections_cli.specs.declared.words.Format.{Format}
 use Rattle.bm_connections_cli.specs.declared.words.Format.TheVariants.{Lines, Csv, Json, Svg}
 use Rattle.bm_connections_cli.specs.declared.words.Manner.{Manner}
@@ -63,7 +62,3 @@ form_of _ = None
 -- the same, of the words as they are given
 abbrev pub form_in : {A : Type 0} → List (String A) → Option Asked
 form_in words = form_of (map string_bytes words)
-
--- what the code answers, without where its texts lie
-abbrev pub asked : Answered → Asked
-asked a = record { format = a.manner.format; clock = a.manner.clock; names = named a.names }

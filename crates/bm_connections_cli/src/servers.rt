@@ -2,6 +2,7 @@
 ghost use Rattle.std.specs.Prelude.{◌≡◌, ◌++◌, IfOk, OnOk};
 ghost use Rattle.bm_table.specs.Tables.{next_change};
 ghost use Rattle.bm_connections_cli.specs.Servers as spec;
+ghost use Rattle.bm_connections_cli.specs.Inside.Servers as inside;
 
 use bm_base::{ServerId, Version};
 use bm_table::{Kind, Plan, Script};
@@ -22,7 +23,7 @@ pub(crate) fn servers_of(alloc: Global, script: &Script) -> Result<Vec<ServerId>
 /// Appends the server that the change behind this version adds, where there is one.
 fn push_added(servers: &mut Vec<ServerId>, plan: &Plan, v: Version) -> Result<(), AllocError>
     ensures { OnOk result (servers.new.items
-        ≡ servers.old.items ++ spec.added_by (next_change plan.now v.0)) }
+        ≡ servers.old.items ++ inside.added_by (next_change plan.now v.0)) }
 {
     if let Some(change) = plan.next_change(v) {
         push_kind(servers, change.kind)?;

@@ -11,7 +11,8 @@ ghost use Rattle.bm_cli.specs.Statuses.{Writes, did};
 ghost use Rattle.bm_connections_cli.specs.Dues.{EndsAs, EndsWith, due_of, usage_line};
 ghost use Rattle.bm_connections_cli.specs.Top.{IsAccepted, IsStatusFor, Refuses, Tells};
 ghost use Rattle.bm_connections_cli.specs.Top.{WritesSomeFor, names_due, scripts_in};
-ghost use Rattle.bm_connections_cli.specs.Words.{asked, form_in};
+ghost use Rattle.bm_connections_cli.specs.Words.{form_in};
+ghost use Rattle.bm_connections_cli.specs.Inside.Words.{asked};
 
 use crate::tell::tell;
 use crate::words::{Asked, Manner, read_words};

@@ -2,6 +2,7 @@
 ghost use Rattle.std.specs.Prelude.{◌≡◌, ◌∷◌, [], true, map, option_map, string_bytes};
 ghost use Rattle.bm_words.specs.Form as forms;
 ghost use Rattle.bm_connections_cli.specs.Words as spec;
+ghost use Rattle.bm_connections_cli.specs.Inside.Words.{asked};
 
 use bm_words::Names;
 
@@ -36,7 +37,7 @@ pub(crate) struct Asked<'a> {
 /// What the words ask for, or nothing where they are of no form. The words are without the
 /// program's own name.
 pub(crate) fn read_words<'a>(words: &'a [String]) -> Option<Asked<'a>>
-    ensures { option_map spec.asked result ≡ spec.form_in words.entry.now }
+    ensures { option_map asked result ≡ spec.form_in words.entry.now }
 {
     match words {
         [capture, script, options @ ..] => {
@@ -115,7 +116,7 @@ fn read_format(word: &str) -> Option<Format>
 
 /// What is asked for where these are names of a capture and a script.
 fn with_names<'a>(capture: &'a str, script: &'a str, manner: Manner) -> Option<Asked<'a>>
-    ensures { option_map spec.asked result
+    ensures { option_map asked result
         ≡ spec.with_names capture.entry.now script.entry.now manner }
 {
     if is_name(capture) && is_name(script) {

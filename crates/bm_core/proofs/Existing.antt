@@ -18,7 +18,7 @@ use Rattle.bm_core.specs.Stages.{IsSound}
 use Rattle.bm_core.specs.Accounts.{Routes, fate_now, before, AreAnswered}
 use Rattle.bm_core.specs.Rules.{setting_mux, fate_in, setting_fate, RouteBy, RuleBy}
 use Rattle.bm_core.specs.Histories.{IsReplay}
-use Rattle.bm_core.specs.Weights.{IsSoon, AreSoon}
+use Rattle.bm_core.specs.Soon.{IsSoon, AreSoon}
 use Rattle.bm_core.proofs.Ended.{played_replay}
 use Rattle.bm_core.proofs.Playing.{next_event, play, play_told, fates_by, IsToldBy, mux_within}
 use Rattle.bm_core.proofs.Weighing.{few_events}

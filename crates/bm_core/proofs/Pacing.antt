@@ -28,7 +28,7 @@ use Rattle.bm_core.specs.Schedule.{call_of, least, put, put_all, put_sent, rest,
 use Rattle.bm_core.specs.Schedule.{publish_due, switch_due, switches_due, close_commands, retire_dues, retire_commands}
 use Rattle.bm_core.specs.Schedule.{sync_commands, packets_from, arrival_due, dropped, first_of, closes, retires, syncs}
 use Rattle.bm_core.specs.Schedule.{steers, can_come, ComesNext, IsLeast, Follows}
-use Rattle.bm_core.specs.Weights.{IsSoon, AreSoon}
+use Rattle.bm_core.specs.Soon.{IsSoon, AreSoon}
 use Rattle.bm_core.proofs.Schedules.{Each, each_append, each_dropped, least_is}
 
 -- THE STATED MOMENTS

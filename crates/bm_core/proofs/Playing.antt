@@ -27,7 +27,8 @@ use Rattle.bm_table.specs.declared.setting.RouteKind.{RouteKind}
 use Rattle.bm_table.specs.declared.setting.RouteKind.TheVariants.{Port, Turn}
 use Rattle.bm_core.specs.Stages.{IsSound}
 use Rattle.bm_core.specs.Rules.{mux_of_kind, setting_mux, RouteBy, RuleBy}
-use Rattle.bm_core.specs.Schedule.{call_of, least, wire, can_come, due_loss, ComesNext, IsAnswered}
+use Rattle.bm_core.specs.Schedule.{call_of, least, wire, can_come, due_loss, ComesNext}
+use Rattle.bm_core.specs.Inside.Schedule.{IsAnswered}
 use Rattle.bm_core.proofs.Determined.{IsTold}
 use Rattle.bm_core.proofs.Retiring.{retirement_of, retirement_is}
 use Rattle.bm_core.proofs.Stepping.{step}

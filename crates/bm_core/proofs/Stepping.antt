@@ -27,7 +27,8 @@ use Rattle.bm_core.specs.declared.schedule.Call.TheVariants.{Retires, Arrives, S
 use Rattle.bm_core.specs.declared.schedule.Due.{Due}
 use Rattle.bm_core.specs.Schedule.{call_of, packets_from, retire_dues, retire_commands, retires}
 use Rattle.bm_core.specs.Schedule.{put, put_all, put_sent, rest, after_arrive, wire, first_of, arrival_due, left}
-use Rattle.bm_core.specs.Schedule.{steers, loss_of_fate, due_loss, IsNextBy, Follows, IsAnswered}
+use Rattle.bm_core.specs.Schedule.{steers, loss_of_fate, due_loss, IsNextBy, Follows}
+use Rattle.bm_core.specs.Inside.Schedule.{IsAnswered}
 use Rattle.bm_core.proofs.Schedules.{Each, each_append, each_dropped, IsFrom, IsTaken, taken, taken_kind, counted}
 use Rattle.bm_core.proofs.Schedules.{balance, class_of_steers, loss_call, no_loss_taken}
 use Rattle.bm_core.proofs.Switching.{published, publish_first}

@@ -34,8 +34,9 @@ use Rattle.bm_table.specs.declared.script.Command.TheVariants.{Retire as RetireC
 use Rattle.bm_core.specs.Past.{steerable}
 use Rattle.bm_core.specs.Schedule.{retire_dues}
 use Rattle.bm_core.specs.Stages.{NamesVersions, IsSound}
-use Rattle.bm_core.specs.Weights.{IsSoon, AreSoon, hop_weight, wire_weight, loss_weight, packets_weight}
-use Rattle.bm_core.specs.Weights.{switches_weight, commands_weight, changes_weight, weight}
+use Rattle.bm_core.specs.Soon.{IsSoon, AreSoon}
+use Rattle.bm_core.specs.Inside.Weights.{hop_weight, wire_weight, loss_weight, packets_weight}
+use Rattle.bm_core.specs.Inside.Weights.{switches_weight, commands_weight, changes_weight, weight}
 use Rattle.bm_core.proofs.Schedules.{taken, taken_kind}
 use Rattle.bm_core.proofs.Stepping.{may_publish}
 

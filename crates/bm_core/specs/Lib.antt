@@ -12,4 +12,5 @@ pub mod Schedule
 pub mod Threads
 pub mod Rules
 pub mod Histories
-pub mod Weights
+pub mod Soon
+pub mod Inside

@@ -1,13 +1,10 @@
 -- The history of a replay, event by event: of what can come and hasn't, the least by moment, then
 -- kind, then number comes next (docs/DEFINITIONS.md). A past has its newest event first, and so
 -- have the fates, one for each event.
-use Rattle.std.specs.Prelude.{◌≡◌, ℕ, zero, suc, ◌+◌, ◌*◌, ◌<◌, Bool, true, false, ◌&&◌, ◌||◌, ◌==◌}
+use Rattle.std.specs.Prelude.{◌≡◌, ℕ, zero, suc, ◌+◌, ◌*◌, Bool, true, false, ◌&&◌, ◌||◌, ◌==◌}
 use Rattle.std.specs.Prelude.{nat_lt, if◌then◌else◌, List, [], ◌∷◌, ◌++◌, length, slice_index_or}
 use Rattle.std.specs.Prelude.{Option, Some, None, is_some, fold}
 use Rattle.bm_base.specs.declared.ids.ServerId.{ServerId}
-use Rattle.bm_base.specs.declared.flow.Segment.{Segment}
-use Rattle.bm_base.specs.declared.label.Hop.{Hop}
-use Rattle.bm_base.specs.declared.label.Label.{Label}
 use Rattle.bm_base.specs.declared.capture.Record.{Record}
 use Rattle.bm_base.specs.declared.fate.Fate.{Fate}
 use Rattle.bm_table.specs.declared.plan.Change.{Change}
@@ -15,8 +12,7 @@ use Rattle.bm_table.specs.declared.script.Command.{Command}
 use Rattle.bm_table.specs.declared.script.Command.TheVariants.{Close as CloseCommand}
 use Rattle.bm_table.specs.declared.script.Command.TheVariants.{Retire as RetireCommand}
 use Rattle.bm_table.specs.declared.script.Command.TheVariants.{Sync as SyncCommand}
-use Rattle.bm_table.specs.Tables.{next_change, IsRetirement}
-use Rattle.bm_core.specs.declared.events.Verdict.{Verdict}
+use Rattle.bm_table.specs.Tables.{next_change}
 use Rattle.bm_core.specs.declared.events.What.{What}
 use Rattle.bm_core.specs.declared.events.What.TheVariants.{Publish, Switch, Steer, Lose, Arrive}
 use Rattle.bm_core.specs.declared.events.What.TheVariants.{Close, Retire, Sync}
@@ -27,10 +23,7 @@ use Rattle.bm_core.specs.declared.schedule.Call.TheVariants.{Publishes, Switches
 use Rattle.bm_core.specs.declared.schedule.Call.TheVariants.{Syncs, Arrives, Steers, Loses}
 use Rattle.bm_core.specs.declared.schedule.Due.{Due}
 use Rattle.bm_core.specs.declared.schedule.Underway.{Underway}
-use Rattle.bm_core.specs.Past.{is_switch_of, steerable, newest, Sending, sending_of, segment_of}
-use Rattle.bm_core.specs.Past.{label_of, held, timeout}
-use Rattle.bm_base.specs.Labels.{arrives_at}
-use Rattle.bm_core.specs.Verdicts.{verdict_at}
+use Rattle.bm_core.specs.Past.{is_switch_of, steerable, newest, Sending, sending_of}
 use Rattle.bm_core.specs.Runs.{last_clock, next_clock}
 use Rattle.bm_core.specs.Accounts.{counts, fate_now, before}
 
@@ -247,25 +240,3 @@ Follows fates stage (e ∷ past) =
 pub record IsOver (fates : List Fate) (stage : Stage) (past : List Event) : Type 0 where
   pub none : can_come (wire fates past) stage past ≡ []
   pub no_loss_due : due_loss fates past ≡ None
-
--- the arrival is where the packet's label sends it, and has the verdict that the server's shard
--- gives it
-pub record IsServing (stage : Stage) (past : List Event) (clock k : ℕ) (hop : Hop)
-    (server : ServerId) (verdict : Verdict) : Type 0 where
-  pub segment : Segment
-  pub is_segment : segment_of stage k ≡ Some segment
-  pub label : Label
-  pub is_label : label_of stage past k ≡ Some label
-  pub place : arrives_at label.entry hop ≡ Some server
-  pub verdict_is : verdict ≡ verdict_at stage past clock label hop server segment
-
--- what is answered where the event comes: by the route, the tables and the shards
-abbrev pub IsAnswered : Stage → List Event → ℕ → What → Type 0
-IsAnswered stage past clock (Steer k m) = m.0 < stage.script.setting.muxes
-IsAnswered stage past clock (Arrive k hop server verdict) =
-    IsServing stage past clock k hop server verdict
-IsAnswered stage past clock (Close server flow closed) =
-    closed ≡ is_some (held stage past server flow)
-IsAnswered stage past clock (Retire server h at result) =
-    IsRetirement stage.script.plan (timeout stage) (newest past) server at.0 result
-IsAnswered stage past clock _ = Unit {0}

@@ -24,7 +24,7 @@ ghost use Rattle.bm_core.specs.Runs.{IsRun, last_clock};
 ghost use Rattle.bm_core.specs.Schedule.{Follows};
 ghost use Rattle.bm_core.specs.Stages.{IsSound};
 ghost use Rattle.bm_core.specs.Verdicts.{local_at};
-ghost use Rattle.bm_core.specs.Weights.{AreSoon};
+ghost use Rattle.bm_core.specs.Soon.{AreSoon};
 
 use crate::{History, Stage};
 

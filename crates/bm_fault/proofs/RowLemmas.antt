@@ -15,7 +15,8 @@ use Rattle.bm_base.specs.declared.label.Hop.TheVariants.{Direct, Chained}
 use Rattle.bm_base.specs.declared.fate.Fate.{Fate}
 use Rattle.bm_table.specs.declared.setting.FaultRow.{FaultRow}
 use Rattle.bm_table.specs.Settings.{IsFaultRow}
-use Rattle.bm_fault.specs.Rows.{plain_fate, same_hop, fate_in, fate_or, row_fate, found_in}
+use Rattle.bm_fault.specs.Rows.{plain_fate, same_hop, fate_in}
+use Rattle.bm_fault.specs.Inside.Rows.{fate_or, row_fate, found_in}
 use Rattle.bm_fault.specs.declared.rows.FaultRows.TheInside.{Inside}
 use Rattle.bm_fault.specs.Views.{row_of, rows_of}
 

@@ -3,3 +3,4 @@ pub mod Flying
 pub mod Rows
 pub mod Views
 pub mod Wires
+pub mod Inside

@@ -2,7 +2,8 @@
 ghost use Rattle.std.specs.Prelude.{◌≡◌, ◌==◌, ℕ, IfOk, Some, None, if◌then◌else◌, unwrap_or};
 ghost use Rattle.std.specs.BTreeMap.{get};
 ghost use Rattle.std.specs.Ordering.{nat_cmp};
-ghost use Rattle.bm_fault.specs.Rows.{fate_in, fate_or, found_in, plain_fate, row_fate};
+ghost use Rattle.bm_fault.specs.Rows.{fate_in, plain_fate};
+ghost use Rattle.bm_fault.specs.Inside.Rows.{fate_or, found_in, row_fate};
 
 use bm_base::{Fate, Hop, Memory};
 use bm_table::FaultRow;

@@ -4,7 +4,7 @@ use Rattle.std.proofs.Common.{subst, ◌∙◌, arith, append_assoc, length-appe
 use Rattle.std.proofs.Math.Seq.{take-add, take-append-add, take-append_seam, drop-append_seam}
 use Rattle.std.proofs.lemmas.List.{length-take-le, take-append-le, take-append-drop, take_rest}
 use Rattle.std.specs.Io.KnownBytes.{Consumes}
-use Rattle.bm_io.specs.Fill.{FilledSoFar}
+use Rattle.bm_io.specs.Inside.Fill.{FilledSoFar}
 use borrow.Rule.Slice.PartMut.{put_mid, same_len_mid}
 
 -- a list that begins with xs, of length n

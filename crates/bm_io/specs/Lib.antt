@@ -5,3 +5,4 @@ pub mod MemNames
 pub mod SureNames
 pub mod Calls
 pub mod Fill
+pub mod Inside

@@ -21,11 +21,6 @@ octets_of files name = octets_in (file_of files name)
 abbrev pub IsSourceOf : MemFile → MemSource → Type 0
 IsSourceOf file src = (src.step ≡ file.step) × (src.fails.items ≡ file.fails) × (src.calls ≡ 0)
 
--- The same, where there is a file.
-abbrev pub IsSourceOfFound : Option MemFile → MemSource → Type 0
-IsSourceOfFound None src = Unit {0}
-IsSourceOfFound (Some file) src = IsSourceOf file src
-
 -- A file that is there gives a source of it, or memory is wanted. One that isn't is refused.
 abbrev pub Opens : Option MemFile → Result MemSource IoFault → Type 0
 Opens None (Ok src) = ⊥

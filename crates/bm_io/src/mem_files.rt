@@ -1,6 +1,7 @@
 //! Files in memory that fail where they are asked to.
 ghost use Rattle.std.specs.Prelude.{◌≡◌, [], Some, IfOk, option_map};
-ghost use Rattle.bm_io.specs.MemNames.{IsSourceOfFound, octets_in, octets_of};
+ghost use Rattle.bm_io.specs.MemNames.{octets_in, octets_of};
+ghost use Rattle.bm_io.specs.Inside.MemNames.{IsSourceOfFound};
 
 use crate::named::{Named, find};
 use crate::{Files, IoFault, MemFile, MemSource, Source};

@@ -5,7 +5,7 @@ use Rattle.std.proofs.lemmas.Bool.{cases_Bool}
 use Rattle.std.proofs.lemmas.Bool.Decides.{nat_tests}
 use Rattle.std.proofs.lemmas.List.{take_rest, length-drop}
 use Rattle.bm_ipv4.specs.Checksum.{add_ones, ones_from}
-use Rattle.bm_ipv4.specs.Folding.{folded}
+use Rattle.bm_ipv4.specs.Inside.Folding.{folded}
 
 -- without a carry
 add_small : (a b : ℕ) → nat_lt (a + b) 65536 ≡ true → add_ones a b ≡ a + b

@@ -1,4 +1,4 @@
 pub mod Fields
 pub mod Header
 pub mod Checksum
-pub mod Folding
+pub mod Inside

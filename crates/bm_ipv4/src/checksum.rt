@@ -1,7 +1,7 @@
 //! The Internet checksum (RFC 1071).
 ghost use Rattle.std.specs.Prelude.{◌≡◌, ◌+◌, ◌*◌, ◌≤◌, ◌%◌, length};
 ghost use Rattle.bm_ipv4.specs.Checksum.{checksum_of};
-ghost use Rattle.bm_ipv4.specs.Folding.{folded};
+ghost use Rattle.bm_ipv4.specs.Inside.Folding.{folded};
 
 /// The one's complement of the one's complement sum of the big-endian 16-bit words. Over a header
 /// whose checksum stands in it, this is 0.

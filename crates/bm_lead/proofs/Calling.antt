@@ -21,7 +21,7 @@ use Rattle.bm_worker.proofs.Hearing.{hears_more, hears_none}
 use Rattle.bm_publish.specs.Posts.{Posted}
 use Rattle.bm_lead.specs.declared.head.Head.{Head}
 use Rattle.bm_lead.specs.Commands.{control_log}
-use Rattle.bm_lead.specs.Steps.{AreRetirings, HasCalled, HasDone}
+use Rattle.bm_lead.specs.Inside.Steps.{AreRetirings, HasCalled, HasDone}
 
 -- the moment of a change of a sound script
 pub change_early : (stage : Stage) (v : ℕ) (change : Change) → IsSound stage

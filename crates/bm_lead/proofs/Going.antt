@@ -17,7 +17,7 @@ use Rattle.bm_lead.specs.declared.head.Head.{Head}
 use Rattle.bm_lead.specs.Commands.{control_log, posted_clocks}
 use Rattle.bm_lead.specs.Heads.{IsReady, IsSyncCommand}
 use Rattle.bm_lead.specs.Leads.{HasLed, HaveNoSync, Leads}
-use Rattle.bm_lead.specs.Steps.{AreOf, AreRetirings, HasDone, published_after}
+use Rattle.bm_lead.specs.Inside.Steps.{AreOf, AreRetirings, HasDone, published_after}
 use Rattle.bm_lead.proofs.Calling.{retirings_elsewhere, sits_kept}
 use Rattle.bm_lead.proofs.Leading.{gone_on, leads_more, leads_none, leads_step}
 use Rattle.bm_lead.proofs.Scripted.{command_known, drop_at, fewer_published, next_version}

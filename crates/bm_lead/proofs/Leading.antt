@@ -30,7 +30,7 @@ use Rattle.bm_lead.specs.declared.head.Head.{Head}
 use Rattle.bm_lead.specs.Commands.{AreDone, IsControlStep, IsJudgedBy, control_log, posted_clocks}
 use Rattle.bm_worker.proofs.Hearing.{hears_more, hears_none}
 use Rattle.bm_lead.specs.Leads.{IsLed, IsPlaced, Leads}
-use Rattle.bm_lead.specs.Steps.{HasDone, published_after}
+use Rattle.bm_lead.specs.Inside.Steps.{HasDone, published_after}
 use Rattle.bm_lead.proofs.Calling.{same_porter}
 use Rattle.bm_lead.proofs.Scripted.{count_at}
 use Rattle.bm_lead.proofs.Steps.{IsStep, Stands}

@@ -15,9 +15,11 @@ use Rattle.bm_merge.specs.Notes.{Note, events_of, top_clock}
 use Rattle.bm_merge.specs.Workers.{IsCommanded, IsUnderway, home_of, is_home, is_publish}
 use Rattle.bm_publish.specs.Posts.{Posted, last_or, last_post, with_post}
 use Rattle.bm_lead.specs.declared.head.Head.{Head}
-use Rattle.bm_lead.specs.Commands.{IsControlStep, control_log, posted_clocks, publishing}
+use Rattle.bm_lead.specs.Commands.{IsControlStep, control_log, posted_clocks}
+use Rattle.bm_lead.specs.Inside.Commands.{publishing}
 use Rattle.bm_lead.specs.Heads.{HasPosted}
-use Rattle.bm_lead.specs.Rests.{Adds, HasAdded}
+use Rattle.bm_lead.specs.Rests.{Adds}
+use Rattle.bm_lead.specs.Inside.Rests.{HasAdded}
 use Rattle.bm_lead.proofs.Going.{last_snoc}
 
 -- THE LAST POST

@@ -28,9 +28,10 @@ use Rattle.bm_merge.proofs.Noting.{each_append, each_so, each_two, greatest_appe
 use Rattle.bm_merge.proofs.Noting.{total_append, total_none}
 use Rattle.bm_server.specs.Servings.{Serving}
 use Rattle.bm_worker.specs.Deeds.{HasServer, closing, retiring}
-use Rattle.bm_lead.specs.Commands.{IsControlStep, IsJudgedBy, control_log, publishing, syncing}
+use Rattle.bm_lead.specs.Commands.{IsControlStep, IsJudgedBy, control_log, syncing}
+use Rattle.bm_lead.specs.Inside.Commands.{publishing}
 use Rattle.bm_lead.specs.Leads.{IsPlaced}
-use Rattle.bm_lead.specs.Steps.{AreOf, AreRetirings}
+use Rattle.bm_lead.specs.Inside.Steps.{AreOf, AreRetirings}
 use Rattle.bm_lead.proofs.Calling.{retirings_elsewhere}
 
 -- WORLD BEFORE: the deeds of earlier commands

@@ -6,12 +6,11 @@ use Rattle.std.specs.List.{AllByRecursion}
 use Rattle.bm_base.specs.declared.flow.Flow.{Flow}
 use Rattle.bm_base.specs.declared.ids.Moment.{Moment}
 use Rattle.bm_base.specs.declared.ids.ServerId.{ServerId}
-use Rattle.bm_base.specs.declared.ids.Version.{Version}
 use Rattle.bm_table.specs.Tables.{IsRetirement}
 use Rattle.bm_core.specs.declared.events.Event.{Event}
 use Rattle.bm_core.specs.declared.events.Stage.{Stage}
 use Rattle.bm_core.specs.declared.events.What.{What}
-use Rattle.bm_core.specs.declared.events.What.TheVariants.{Publish, Retire, Sync}
+use Rattle.bm_core.specs.declared.events.What.TheVariants.{Retire, Sync}
 use Rattle.bm_core.specs.Accounts.{closes_flow, count_of, is_sync, retires_shard}
 use Rattle.bm_core.specs.Accounts.{wants_close, wants_retire, wants_sync}
 use Rattle.bm_core.specs.Past.{timeout}
@@ -21,10 +20,6 @@ use Rattle.bm_merge.specs.Merges.{IsNextVersion, newest_until}
 use Rattle.bm_merge.specs.Notes.{Note, events_of, many, size_of}
 use Rattle.bm_merge.specs.Workers.{home_part, is_publish}
 use Rattle.bm_worker.specs.Deeds.{deed, no_fate}
-
--- a version is published, by the command of this number
-abbrev pub publishing : Moment → Version → ℕ → Note
-publishing clock version command = deed clock (Publish version) no_fate command 0 0
 
 -- all workers have met, by the command of this number
 abbrev pub syncing : Moment → ℕ → Note

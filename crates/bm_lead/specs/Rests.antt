@@ -1,15 +1,12 @@
 -- The changes that worker 0 posts once a worker has given up (docs/DEFINITIONS.md). Deeds have the
 -- newest first.
-use Rattle.std.specs.Prelude.{◌≡◌, true, ◌+◌, List, [], ◌∷◌, ◌++◌, reverse}
+use Rattle.std.specs.Prelude.{◌≡◌, true, ◌+◌, List, ◌++◌, reverse}
 use Rattle.std.specs.List.{AllByRecursion}
-use Rattle.bm_base.specs.declared.ids.Moment.{Moment}
-use Rattle.bm_base.specs.declared.ids.Version.{Version}
 use Rattle.bm_core.specs.declared.events.Stage.{Stage}
-use Rattle.bm_core.specs.declared.events.What.TheVariants.{Publish}
 use Rattle.bm_core.specs.Runs.{AtEach}
 use Rattle.bm_merge.specs.Notes.{Note, events_of, top_clock}
 use Rattle.bm_merge.specs.Workers.{IsUnderway, is_publish}
-use Rattle.bm_publish.specs.Posts.{Posted, with_post}
+use Rattle.bm_publish.specs.Posts.{Posted}
 use Rattle.bm_lead.specs.declared.head.Head.{Head}
 use Rattle.bm_lead.specs.Commands.{posted_clocks}
 use Rattle.bm_lead.specs.Leads.{IsLed}
@@ -26,16 +23,4 @@ pub record Adds (stage : Stage) (p q : Posted) (a b : Head) (deeds : List Note) 
   pub log : reverse b.log.items ≡ events_of deeds ++ reverse a.log.items
   pub posted : q ≡ record p { clocks = p.clocks ++ posted_clocks (events_of deeds) }
   -- its seats are as they were
-  pub porter : b.porter ≡ a.porter
-
--- one change more
-pub record HasAdded (p q : Posted) (a b : Head) : Type 0 where
-  pub version : Version
-  pub clock : Moment
-  pub next : version.0 ≡ a.published.0 + 1
-  pub after : clock.0 ≡ a.last_post.0 + 1
-  pub posted : q ≡ with_post p clock.0
-  pub log : b.log.items ≡ a.log.items ++ record { clock = clock; what = Publish version } ∷ []
-  pub published : b.published ≡ version
-  pub last_post : b.last_post ≡ clock
   pub porter : b.porter ≡ a.porter

@@ -9,7 +9,7 @@ ghost use Rattle.bm_publish.specs.Posts.{Posted};
 ghost use Rattle.bm_worker.specs.Deeds.{Sits, Suits};
 ghost use Rattle.bm_worker.specs.declared.stop.Stop.TheVariants.{Memory as stopped};
 ghost use Rattle.bm_lead.specs.Heads.{IsReady, IsStopFrom, IsSyncCommand, OnLate};
-ghost use Rattle.bm_lead.specs.Steps.{AreRetirings, CarriesOut, HasCalled, IsKnown};
+ghost use Rattle.bm_lead.specs.Inside.Steps.{AreRetirings, CarriesOut, HasCalled, IsKnown};
 
 use crate::Head;
 use crate::clock::{clock_up_to, due_moment};

@@ -2,7 +2,8 @@
 ghost use Rattle.std.specs.Prelude.{◌≡◌, ◌+◌, ◌*◌, ◌^◌, ◌≤◌, ◌<◌, length, List, OnOk};
 ghost use Rattle.bm_merge.specs.Notes.{Note};
 ghost use Rattle.bm_lead.specs.Heads.{HasPosted};
-ghost use Rattle.bm_lead.specs.Rests.{Adds, HasAdded};
+ghost use Rattle.bm_lead.specs.Rests.{Adds};
+ghost use Rattle.bm_lead.specs.Inside.Rests.{HasAdded};
 
 use crate::Head;
 use crate::command::write_down;

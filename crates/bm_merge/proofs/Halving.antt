@@ -7,7 +7,7 @@ use Rattle.std.specs.List.Sorted.{IsNonDecreasingBy}
 use Rattle.std.proofs.lemmas.Bool.{eqb-true, le-leb, leb-false, leb-true}
 use Rattle.std.proofs.lemmas.List.{length-append, reverse-append}
 use Rattle.bm_core.specs.declared.events.Event.{Event}
-use Rattle.bm_merge.specs.Halves.{AreHalves, IsCutAt}
+use Rattle.bm_merge.specs.Inside.Halves.{AreHalves, IsCutAt}
 use Rattle.bm_merge.specs.Merges.{by_clock, joined, place_in}
 use Rattle.bm_merge.specs.Rising.{IsRising, in_order}
 use Rattle.bm_merge.proofs.Heading.{all_append, all_reverse, orders_alike}

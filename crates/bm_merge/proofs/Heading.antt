@@ -10,7 +10,8 @@ use Rattle.std.proofs.lemmas.List.{reverse-append, reverse-reverse, length-appen
 use Rattle.bm_core.specs.declared.events.Event.{Event}
 use Rattle.bm_merge.specs.declared.rising.Head.{Head}
 use Rattle.bm_merge.specs.Merges.{place_in, by_clock, joined}
-use Rattle.bm_merge.specs.Rising.{AreStanding, IsEarliest, IsNextOf, IsRising, Stands, all_logs, in_order, left_of, lefts}
+use Rattle.bm_merge.specs.Rising.{IsRising, in_order}
+use Rattle.bm_merge.specs.Inside.Rising.{AreStanding, IsEarliest, IsNextOf, Stands, all_logs, left_of, lefts}
 use Rattle.bm_merge.proofs.Joined.{joined_append, joined_next, none_more}
 use Rattle.bm_merge.proofs.Placed.{IsFalling, all_by_clock, all_so}
 use Rattle.bm_merge.proofs.Sorting.{clock_falls, of_append, of_by_clock, of_clock, of_reverse, one_order}

@@ -1,5 +1,5 @@
-pub mod Halves
 pub mod Merges
 pub mod Notes
 pub mod Rising
 pub mod Workers
+pub mod Inside

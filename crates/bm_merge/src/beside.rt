@@ -2,7 +2,7 @@
 ghost use Rattle.std.specs.Prelude.{◌≡◌, ◌<◌, ◌≤◌, length, map, take, drop, IfOk, OnOk};
 ghost use Rattle.std.specs.List.{AllByRecursion};
 ghost use Rattle.std.specs.Thread.{IsSync};
-ghost use Rattle.bm_merge.specs.Halves.{AreHalves, IsCutAt};
+ghost use Rattle.bm_merge.specs.Inside.Halves.{AreHalves, IsCutAt};
 ghost use Rattle.bm_merge.specs.Merges.{joined};
 ghost use Rattle.bm_merge.specs.Rising.{IsRising, in_order as by_order};
 

@@ -5,7 +5,8 @@ ghost use Rattle.std.specs.Prelude.{IfOk, OnOk};
 ghost use Rattle.std.specs.List.{AllByRecursion};
 ghost use Rattle.bm_core.specs.declared.events.Event.{Event};
 ghost use Rattle.bm_merge.specs.Merges.{joined};
-ghost use Rattle.bm_merge.specs.Rising.{AreStanding, IsEarliest, IsRising, IsNextOf, in_order as by_order, lefts};
+ghost use Rattle.bm_merge.specs.Rising.{IsRising, in_order as by_order};
+ghost use Rattle.bm_merge.specs.Inside.Rising.{AreStanding, IsEarliest, IsNextOf, lefts};
 
 use crate::logs::in_order;
 use bm_base::Memory;

@@ -6,7 +6,7 @@ use Rattle.bm_core.specs.declared.events.Event.{Event}
 use Rattle.bm_core.specs.Past.{version_at}
 use Rattle.bm_publish.specs.Posts.{Continues, IsPosted, Posted, last_version}
 use Rattle.bm_mux.specs.Muxes.{HasLooked}
-use Rattle.bm_mux.specs.Keeping.{IsKept}
+use Rattle.bm_mux.specs.Inside.Keeping.{IsKept}
 use Rattle.bm_mux.proofs.Kept.{kept_later}
 
 pub on_ok_both : {T E : Type 0} (r : Result T E) (P Q R : Type 0) → (P → Q → R) → OnOk r P → OnOk r Q → OnOk r R

@@ -18,7 +18,7 @@ use Rattle.bm_publish.specs.Posts.{Continues, Posted, last_or, last_post, last_v
 use Rattle.bm_publish.proofs.Prefixes.{prefix_get, prefix_length}
 use Rattle.bm_mux.specs.Steers.{at_clock, steering_clock}
 use Rattle.bm_mux.specs.Muxes.{AreShown, HasServers, IsOwn, IsShown, post_clock}
-use Rattle.bm_mux.specs.Keeping.{IsKept}
+use Rattle.bm_mux.specs.Inside.Keeping.{IsKept}
 
 pub reverse-snoc : (log : List Event) (e : Event) → reverse (log ++ e ∷ []) ≡ e ∷ reverse log
 reverse-snoc log e = reverse-append log (e ∷ [])

@@ -1,4 +1,3 @@
 pub mod Steers
 pub mod Muxes
-pub mod Keeping
-pub mod Noting
+pub mod Inside

@@ -6,7 +6,7 @@ ghost use Rattle.bm_publish.specs.Posts.{Continues};
 ghost use Rattle.bm_mux.specs.Steers.{at_clock, steering_clock};
 ghost use Rattle.bm_mux.specs.Muxes.{HasBegun, HasServers, HasSteered, IsItem};
 ghost use Rattle.bm_mux.specs.Muxes.{IsLogOf, IsSameMux, with_event};
-ghost use Rattle.bm_mux.specs.Keeping.{seen_by};
+ghost use Rattle.bm_mux.specs.Inside.Keeping.{seen_by};
 
 use crate::notes::Notes;
 use crate::{MuxItem, Steered};
@@ -27,8 +27,8 @@ pub struct Mux {
 impl Model for Mux {
     ghost use Rattle.std.specs.Prelude.{IsSome};
     ghost use Rattle.bm_mux.specs.Muxes.{MuxState};
-    ghost use Rattle.bm_mux.specs.Keeping.{seen_by};
-    ghost use Rattle.bm_mux.specs.Noting.{AreKept};
+    ghost use Rattle.bm_mux.specs.Inside.Keeping.{seen_by};
+    ghost use Rattle.bm_mux.specs.Inside.Noting.{AreKept};
 
     ghost Value = { MuxState };
 

@@ -6,7 +6,7 @@ ghost use Rattle.bm_base.specs.Tags.{IsTag};
 ghost use Rattle.bm_publish.specs.Posts.{last_post, last_version};
 ghost use Rattle.bm_mux.specs.Steers.{sent, steers, switch_to, switches, tag_by};
 ghost use Rattle.bm_mux.specs.Muxes.{IsBatch, IsItem};
-ghost use Rattle.bm_mux.specs.Noting.{AreKept, HasSteeredOne, IsSame, IsSameVersion};
+ghost use Rattle.bm_mux.specs.Inside.Noting.{AreKept, HasSteeredOne, IsSame, IsSameVersion};
 
 use crate::{MuxItem, Steered};
 use bm_base::{Hop, Label, List, Memory, Moment, MuxId, Segment, Tag, Version, tag_of};

@@ -16,8 +16,8 @@ use Rattle.bm_parts.specs.declared.parting.Author.{Author}
 use Rattle.bm_parts.specs.declared.parting.Author.TheVariants.{Controller as by_controller}
 use Rattle.bm_parts.specs.declared.parting.Author.TheVariants.{Mux as by_mux, Shard as by_shard}
 use Rattle.bm_parts.specs.declared.parting.Logs.{Logs}
-use Rattle.bm_parts.specs.Actors.{actor}
-use Rattle.bm_parts.specs.Inside.{AreListed}
+use Rattle.bm_parts.specs.Inside.Actors.{actor}
+use Rattle.bm_parts.specs.Inside.Logs.{AreListed}
 use Rattle.bm_parts.specs.Parts.{AreInOrder, Precedes, is_among}
 
 abbrev by_order : Author → Author → Ordering

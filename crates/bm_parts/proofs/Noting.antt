@@ -11,8 +11,8 @@ use Rattle.bm_parts.specs.declared.parting.Author.{Author}
 use Rattle.bm_parts.specs.declared.parting.Author.TheVariants.{Controller as by_controller}
 use Rattle.bm_parts.specs.declared.parting.Author.TheVariants.{Mux as by_mux, Shard as by_shard}
 use Rattle.bm_parts.specs.declared.parting.Logs.{Logs}
-use Rattle.bm_parts.specs.Actors.{actor}
-use Rattle.bm_parts.specs.Inside.{AreListed, AreLogsOf, if_any, log, noted}
+use Rattle.bm_parts.specs.Inside.Actors.{actor}
+use Rattle.bm_parts.specs.Inside.Logs.{AreListed, AreLogsOf, if_any, log, noted}
 use Rattle.bm_parts.specs.Parts.{ArePartsOf, is_among, writer, written_by}
 
 -- ONE EVENT MORE

@@ -4,12 +4,9 @@ use Rattle.std.specs.Prelude.{map}
 use Rattle.std.specs.Prelude.{reverse, unwrap_or}
 use Rattle.std.specs.List.{AllByRecursion}
 use Rattle.bm_core.specs.declared.events.Event.{Event}
-use Rattle.bm_core.specs.declared.events.History.{History}
 use Rattle.bm_core.specs.declared.events.Stage.{Stage}
 use Rattle.bm_core.specs.Runs.{Actor, actor_of, same_actor}
 use Rattle.bm_core.specs.Runs.Actor.{Controller, MuxOf, ShardOf}
-use Rattle.bm_merge.specs.Merges.{joined}
-use Rattle.bm_merge.specs.Rising.{in_order}
 
 -- Who wrote the newest of these events down: its actor, and of a loss, which has none, who wrote
 -- the event before it down, which in a replay is its sending.
@@ -56,15 +53,3 @@ pub record ArePartsOf (stage : Stage) (events : List Event) (logs : List (List E
   pub some : AllByRecursion (λ a. written_by stage a (reverse events) ≢ []) actors
   -- who isn't among them wrote nothing down
   pub all : (a : Actor) → is_among actors a ≡ false → written_by stage a (reverse events) ≡ []
-
--- the history's events part into logs that merge to these events again
-abbrev pub MergesAgain : History → Type 0
-MergesAgain h =
-    (logs : List (List Event)) × ArePartsOf h.stage h.events logs
-    × (in_order (joined logs) ≡ h.events)
-
--- they part into logs that merge to other events
-abbrev pub MergesOtherwise : History → Type 0
-MergesOtherwise h =
-    (logs : List (List Event)) × ArePartsOf h.stage h.events logs
-    × (in_order (joined logs) ≢ h.events)

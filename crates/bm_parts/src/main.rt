@@ -8,7 +8,7 @@
 
 ghost use Rattle.std.specs.Prelude.{◌≡◌, IfNone, IfOk, IfSome};
 ghost use Rattle.bm_core.specs.Runs.{IsRun};
-ghost use Rattle.bm_parts.specs.Parts.{MergesAgain, MergesOtherwise};
+ghost use Rattle.bm_parts.specs.Inside.Parts.{MergesAgain, MergesOtherwise};
 ghost use Rattle.bm_trace.specs.Report as told;
 
 mod parting;

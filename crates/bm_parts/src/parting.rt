@@ -2,7 +2,7 @@
 ghost use Rattle.std.specs.Prelude.{◌≡◌, IfOk, OnOk, None, option_map};
 ghost use Rattle.bm_core.specs.Runs.{actor_of};
 ghost use Rattle.bm_core.specs.Stages.{IsSound};
-ghost use Rattle.bm_parts.specs.Actors.{actor};
+ghost use Rattle.bm_parts.specs.Inside.Actors.{actor};
 ghost use Rattle.bm_parts.specs.Parts.{ArePartsOf};
 ghost use Rattle.bm_parts.specs.declared.parting.Author.{Author};
 ghost use Rattle.bm_table.specs.Settings.{IsWithin};
@@ -47,7 +47,7 @@ struct Logs {
 }
 
 impl Logs {
-    ghost use Rattle.bm_parts.specs.Inside.{AreListed, log, noted};
+    ghost use Rattle.bm_parts.specs.Inside.Logs.{AreListed, log, noted};
 
     fn new(alloc: Global) -> Logs
         ensures { (q : Author) → log result q ≡ None }

@@ -17,7 +17,7 @@ use Rattle.bm_pcap.specs.declared.step.Head.TheVariants as head
 use Rattle.bm_pcap.specs.declared.step.Step.TheVariants as step
 use Rattle.std.specs.Io.KnownBytes.{Keeps, prepend_known}
 use Rattle.bm_pcap.specs.Window.{Ahead}
-use Rattle.bm_pcap.specs.Parts.{HeadGives, HeadFits, HeadIn, stated}
+use Rattle.bm_pcap.specs.Inside.Parts.{HeadGives, HeadFits, HeadIn, stated}
 use Rattle.bm_pcap.specs.Reader.{StepGives}
 use Rattle.bm_pcap.specs.Records.{IsOpen, whole, cut, end, next_of, behind_header, captured_length, short}
 

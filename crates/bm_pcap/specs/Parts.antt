@@ -1,18 +1,14 @@
--- The parts of a capture, as they are read.
-use Rattle.std.specs.Prelude.{◌≡◌, ℕ, ◌+◌, ◌≤◌, List, length, take, drop, Option, Some, None}
-use Rattle.std.specs.Prelude.{Result, Ok, Err, nat_lt, if◌then◌else◌}
+-- What reading a header or a step of a capture gives.
+use Rattle.std.specs.Prelude.{◌≡◌, ℕ, ◌+◌, ◌≤◌, List, drop, Option, Some, None}
+use Rattle.std.specs.Prelude.{Result, Ok, Err}
 use Rattle.bm_pcap.specs.declared.fault.PcapFault.{PcapFault}
-use Rattle.bm_pcap.specs.declared.fault.PcapFault.TheVariants.{BadLength, Memory, ReadFault}
-use Rattle.bm_pcap.specs.declared.fault.PcapFault.TheVariants.{TooLarge}
+use Rattle.bm_pcap.specs.declared.fault.PcapFault.TheVariants.{Memory, ReadFault}
 use Rattle.bm_pcap.specs.declared.form.Form.{Form}
 use Rattle.bm_pcap.specs.declared.place.Place.{Place}
 use Rattle.bm_pcap.specs.Limits.{latest, longest, most_records}
-use Rattle.bm_pcap.specs.declared.step.Head.{Head}
-use Rattle.bm_pcap.specs.declared.step.Head.TheVariants as head
 use Rattle.bm_pcap.specs.declared.step.Step.{Step}
 use Rattle.bm_pcap.specs.declared.step.Step.TheVariants as step
 use Rattle.bm_pcap.specs.Header.{form_of}
-use Rattle.bm_pcap.specs.Records.{cut, end, next_of, behind_header, time_of, captured_length}
 
 -- What was read is what the capture's header says, and the source has the rest left. A failed read
 -- says nothing.
@@ -23,46 +19,8 @@ FormGives (Some left) new (Err ReadFault) = Unit {0}
 FormGives (Some left) new (Err Memory) = Unit {0}
 FormGives (Some left) new (Err e) = form_of left ≡ Err e
 
--- Where a record's header states a time and a length, the rest of the definition asks what stands
--- behind it; elsewhere the header decides. A failed read says nothing.
-abbrev pub HeadGives : Option (List ℕ) → Form → Place → Result Head PcapFault → Type 0
-HeadGives None form place result = Unit {0}
-HeadGives (Some octets) form place (Ok head.End) = next_of form place octets ≡ Ok end
-HeadGives (Some octets) form place (Ok head.Cut) = next_of form place octets ≡ Ok cut
-HeadGives (Some octets) form place (Ok (head.States time len)) =
-    (next_of form place octets ≡ behind_header form place.number place.room len octets)
-    × (time ≡ time_of form (take 16 octets))
-    × (16 ≤ length octets)
-HeadGives (Some octets) form place (Err ReadFault) = Unit {0}
-HeadGives (Some octets) form place (Err e) = next_of form place octets ≡ Err e
-
--- The header that states this is held.
-abbrev pub HeadIn : Form → List ℕ → Head → Type 0
-HeadIn form ahead (head.States time len) =
-    (16 ≤ length ahead) × (len ≡ captured_length form (take 16 ahead))
-HeadIn form ahead other = Unit {0}
-
--- the time that a header states is no later
-abbrev pub IsEarly : Head → Type 0
-IsEarly (head.States time len) = time ≤ latest
-IsEarly other = Unit {0}
-
--- a header that is read on fits its place
-abbrev pub HeadFits : Place → Head → Type 0
-HeadFits place (head.States time len) =
-    (place.number ≤ most_records) × (16 ≤ place.room) × (len ≤ longest) × (time ≤ latest)
-HeadFits place other = Unit {0}
-
 -- a record fits its place
 abbrev pub StepFits : Place → Step → Type 0
 StepFits place (step.Record time len) =
     (place.number ≤ most_records) × (16 + len ≤ place.room) × (len ≤ longest) × (time ≤ latest)
 StepFits place other = Unit {0}
-
--- what a whole header of a record says at its place
-abbrev pub stated : Form → Place → List ℕ → Result Head PcapFault
-stated form place header =
-    if nat_lt longest (captured_length form header) then Err
-    (BadLength place.number (captured_length form header))
-    else if nat_lt place.room 16 then Err TooLarge
-    else Ok (head.States (time_of form header) (captured_length form header))

@@ -14,7 +14,7 @@ use Rattle.bm_pcap.specs.declared.step.Step.TheVariants as step
 use Rattle.bm_base.specs.declared.capture.Vip.{Vip}
 use Rattle.bm_pcap.specs.Began.{began}
 use Rattle.bm_pcap.specs.Capture.{Captured, capture}
-use Rattle.bm_pcap.specs.Causes.{HasStepCause, IsRecordFault}
+use Rattle.bm_pcap.specs.Causes.{HasStepCause}
 use Rattle.bm_pcap.specs.Header.{form_of}
 use Rattle.bm_pcap.specs.Parts.{FormGives, StepFits}
 use Rattle.bm_pcap.specs.Records.{Found, IsOpen, whole, cut, end, next_of, first_place}
@@ -40,20 +40,6 @@ to_come left reader = prepend_known reader.held (left reader.source)
 -- what was taken from the source and is not answered yet
 abbrev pub IsBounded : {S : Type 0} → Reader S → Type 0
 IsBounded reader = length reader.held ≤ widest
-
--- a record's octets are the last that were answered
-abbrev pub IsLast : List ℕ → Step → Type 0
-IsLast passed (step.Record time len) = len ≤ length passed
-IsLast passed step.Cut = Unit {0}
-IsLast passed step.End = Unit {0}
-
--- the answer that a reader gives from now on is no record, and its faults are those of records
-abbrev pub EndsWell : Option (Result Step PcapFault) → Type 0
-EndsWell None = Unit {0}
-EndsWell (Some (Ok (step.Record time len))) = ⊥
-EndsWell (Some (Ok step.Cut)) = Unit {0}
-EndsWell (Some (Ok step.End)) = Unit {0}
-EndsWell (Some (Err e)) = IsRecordFault e
 
 -- no record was asked for yet, and nothing is read ahead
 abbrev pub IsFresh : {S : Type 0} → Reader S → Type 0

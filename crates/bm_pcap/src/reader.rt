@@ -7,7 +7,8 @@ ghost use Rattle.bm_link.specs.Links.{is_link};
 ghost use Rattle.bm_pcap.specs.Causes.{HasStepCause, IsCaptureFault, IsHeaderFault, IsRecordFault};
 ghost use Rattle.bm_pcap.specs.Reader.{Advances, GivesNext, EndsWith, HasEnded, IsBounded, IsFresh};
 ghost use Rattle.bm_pcap.specs.Limits.{latest};
-ghost use Rattle.bm_pcap.specs.Reader.{IsLast, KnowsBegan, ReadsCapture, StartLeaves, Starts};
+ghost use Rattle.bm_pcap.specs.Reader.{KnowsBegan, ReadsCapture, StartLeaves, Starts};
+ghost use Rattle.bm_pcap.specs.Inside.Reader.{IsLast};
 ghost use Rattle.bm_pcap.specs.Reader.{StartsWithCause, time_began};
 
 use crate::PcapFault;
@@ -36,7 +37,8 @@ impl<S> Model for PcapReader<S> {
     ghost use Rattle.std.specs.Prelude.{◌≡◌, ◌≤◌, length, IsTrue};
     ghost use Rattle.bm_link.specs.Links.{is_link};
     ghost use Rattle.bm_pcap.specs.Limits.{widest};
-    ghost use Rattle.bm_pcap.specs.Reader.{Reader, EndsWell};
+    ghost use Rattle.bm_pcap.specs.Reader.{Reader};
+    ghost use Rattle.bm_pcap.specs.Inside.Reader.{EndsWell};
     ghost use Rattle.bm_pcap.specs.Window.{held, passed, width};
 
     ghost Value = { Reader S };

@@ -3,9 +3,11 @@ ghost use Rattle.std.specs.Prelude.{◌≡◌, ◌≤◌, ◌<◌, length, if◌
 ghost use Rattle.std.specs.Prelude.{IsErrOf, Ok, Err};
 ghost use Rattle.bm_pcap.specs.Causes.{HasStepCause, IsRecordFault};
 ghost use Rattle.std.specs.Io.KnownBytes.{Keeps};
-ghost use Rattle.bm_pcap.specs.Parts.{HeadGives, HeadFits, HeadIn, IsEarly, StepFits, stated};
+ghost use Rattle.bm_pcap.specs.Parts.{StepFits};
+ghost use Rattle.bm_pcap.specs.Inside.Parts.{HeadGives, HeadFits, HeadIn, IsEarly, stated};
 ghost use Rattle.bm_pcap.specs.Limits.{latest, widest};
-ghost use Rattle.bm_pcap.specs.Reader.{FailsOpen, IsLast, StepGives};
+ghost use Rattle.bm_pcap.specs.Reader.{FailsOpen, StepGives};
+ghost use Rattle.bm_pcap.specs.Inside.Reader.{IsLast};
 ghost use Rattle.bm_pcap.specs.Records.{IsOpen, next_of, time_of};
 ghost use Rattle.bm_pcap.specs.Window.{held, passed, rest, width};
 

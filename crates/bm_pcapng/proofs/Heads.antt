@@ -23,7 +23,8 @@ use Rattle.bm_pcapng.specs.declared.step.Step.{Step}
 use Rattle.bm_pcapng.specs.declared.step.Step.TheVariants as step
 use Rattle.bm_pcapng.specs.Blocks.{behind_head, head_size, is_length, is_packet, kind_in, lacks, least_length}
 use Rattle.bm_pcapng.specs.Blocks.{next_of, order_of, ordered, short, sized}
-use Rattle.bm_pcapng.specs.Parts.{Begins, HeadGives, HeadIn, HeadSays, IsOpen, stated, stated_in}
+use Rattle.bm_pcapng.specs.Parts.{IsOpen}
+use Rattle.bm_pcapng.specs.Inside.Parts.{Begins, HeadGives, HeadIn, HeadSays, stated, stated_in}
 
 -- the kind of the block at the front
 abbrev pub kind_at : Order → List ℕ → Kind

@@ -24,9 +24,11 @@ use Rattle.bm_pcapng.specs.Blocks.{next_of}
 use Rattle.bm_pcapng.specs.Capture.{Captured, after_found, capture, classified_by, packet_octets, records_from}
 use Rattle.bm_pcapng.specs.Causes.{HasStepCause}
 use Rattle.bm_pcapng.specs.Parts.{BlockGives, last_of}
-use Rattle.bm_pcapng.specs.Places.{first_place, interfaces_behind, moment_at, order_behind, packet_in}
+use Rattle.bm_pcapng.specs.Places.{first_place, interfaces_behind, moment_at, order_behind}
+use Rattle.bm_pcapng.specs.Inside.Places.{packet_in}
 use Rattle.bm_pcapng.specs.Places.{place_behind}
-use Rattle.bm_pcapng.specs.Reader.{Reader, Advances, AdvancesFrom, Captures, EndsWith, IsPassedOver, Keeps, StandsIn}
+use Rattle.bm_pcapng.specs.Reader.{Reader, Advances, AdvancesFrom, Captures, EndsWith, Keeps, StandsIn}
+use Rattle.bm_pcapng.specs.Inside.Reader.{IsPassedOver}
 use Rattle.bm_pcapng.specs.Reader.{octets_in, to_come}
 
 -- how many blocks may be left to come

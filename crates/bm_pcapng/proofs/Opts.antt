@@ -5,7 +5,8 @@ use Rattle.std.proofs.lemmas.Bool.Decides.{nat_tests}
 use Rattle.std.proofs.lemmas.List.{get_or-drop, get_or-take, length-take-le}
 use Rattle.bm_pcap.specs.declared.form.Order.{Order}
 use Rattle.bm_pcapng.specs.declared.time.Resolution.{Resolution}
-use Rattle.bm_pcapng.specs.Options.{code_of, is_over, is_resolution, length_of, options_in, padded, resolution_in}
+use Rattle.bm_pcapng.specs.Options.{code_of, is_over, length_of, options_in, padded, resolution_in}
+use Rattle.bm_pcapng.specs.Inside.Options.{is_resolution}
 use Rattle.bm_pcapng.specs.Times.{microseconds, resolution_of}
 
 -- the options that are left tell this resolution

@@ -8,7 +8,7 @@ use Rattle.bm_pcap.specs.Window.{Ahead}
 use Rattle.bm_pcapng.specs.declared.fault.NgFault.TheVariants as fault
 use Rattle.bm_pcapng.specs.Blocks.{is_section, magic_of}
 use Rattle.bm_pcapng.specs.Capture.{first_order}
-use Rattle.bm_pcapng.specs.Parts.{OrderGives}
+use Rattle.bm_pcapng.specs.Inside.Parts.{OrderGives}
 use Rattle.bm_pcapng.proofs.Heads.{known}
 
 few : (octets : List ℕ) → length octets < 12 → first_order octets ≡ None

@@ -10,8 +10,8 @@ use Rattle.bm_pcapng.specs.declared.interface.Interface.{Interface}
 use Rattle.bm_pcapng.specs.declared.place.Place.{Place}
 use Rattle.bm_pcapng.specs.Blocks.{next_of}
 use Rattle.bm_pcapng.specs.Capture.{after_found, begun, capture, first_order}
-use Rattle.bm_pcapng.specs.Causes.{IsOrderFault}
-use Rattle.bm_pcapng.specs.Parts.{OrderGives, StepGives}
+use Rattle.bm_pcapng.specs.Inside.Causes.{IsOrderFault}
+use Rattle.bm_pcapng.specs.Inside.Parts.{OrderGives, StepGives}
 use Rattle.bm_pcapng.specs.Places.{first_place}
 use Rattle.bm_pcapng.specs.Reader.{Captures, Refuses}
 use Rattle.bm_pcapng.proofs.Heads.{known}

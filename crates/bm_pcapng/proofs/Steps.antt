@@ -18,7 +18,8 @@ use Rattle.bm_pcapng.specs.declared.step.Head.TheVariants as head
 use Rattle.bm_pcapng.specs.declared.step.Step.{Step}
 use Rattle.bm_pcapng.specs.declared.step.Step.TheVariants as step
 use Rattle.bm_pcapng.specs.Blocks.{behind_head, framed, next_of, short}
-use Rattle.bm_pcapng.specs.Parts.{BlockGives, HeadGives, HeadIn, IsOpen, StepGives, last_of}
+use Rattle.bm_pcapng.specs.Parts.{BlockGives, IsOpen, last_of}
+use Rattle.bm_pcapng.specs.Inside.Parts.{HeadGives, HeadIn, StepGives}
 use Rattle.bm_pcapng.proofs.Heads.{known, short_cut, short_large}
 
 -- a block of which not all octets are there, or more than may be

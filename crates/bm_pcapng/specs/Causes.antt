@@ -23,17 +23,6 @@ IsStartFault TooLarge = ⊥
 IsStartFault (BadLength number n) = ⊥
 IsStartFault TooManyPackets = ⊥
 
--- the faults of a capture's first twelve octets
-abbrev pub IsOrderFault : NgFault → Type 0
-IsOrderFault NotACapture = Unit {0}
-IsOrderFault ReadFault = Unit {0}
-IsOrderFault BadVersion = ⊥
-IsOrderFault (BadBlock block) = ⊥
-IsOrderFault TooLarge = ⊥
-IsOrderFault (BadLength number n) = ⊥
-IsOrderFault TooManyPackets = ⊥
-IsOrderFault Memory = ⊥
-
 -- the faults of a capture's blocks, none of which takes memory
 abbrev pub IsBlockFault : NgFault → Type 0
 IsBlockFault BadVersion = Unit {0}
@@ -44,17 +33,6 @@ IsBlockFault (BadLength number n) = Unit {0}
 IsBlockFault TooManyPackets = Unit {0}
 IsBlockFault Memory = ⊥
 IsBlockFault NotACapture = ⊥
-
--- the faults of what a whole block says
-abbrev pub IsContentFault : NgFault → Type 0
-IsContentFault BadVersion = Unit {0}
-IsContentFault (BadBlock block) = Unit {0}
-IsContentFault (BadLength number n) = Unit {0}
-IsContentFault ReadFault = ⊥
-IsContentFault TooLarge = ⊥
-IsContentFault TooManyPackets = ⊥
-IsContentFault Memory = ⊥
-IsContentFault NotACapture = ⊥
 
 -- what the reading of all records may end with: one of these, or want of memory
 abbrev pub IsCaptureFault : NgFault → Type 0

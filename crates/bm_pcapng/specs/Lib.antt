@@ -10,3 +10,4 @@ pub mod Causes
 pub mod Parts
 pub mod Reader
 pub mod Front
+pub mod Inside

@@ -32,10 +32,6 @@ options_in (suc more) order octets =
     else (code_of order octets, take (length_of order octets) (drop 4 octets))
     ∷ options_in more order (drop (4 + padded (length_of order octets)) octets)
 
--- the option at the front is of code 9 (if_tsresol) and has one octet
-abbrev pub is_resolution : Order → List ℕ → Bool
-is_resolution order octets = code_of order octets == 9 && length_of order octets == 1
-
 -- the first option 9 of one octet tells the resolution
 unfoldable pub resolution_in : List (ℕ × List ℕ) → Resolution
 resolution_in [] = microseconds

@@ -5,15 +5,9 @@ use Rattle.bm_base.specs.declared.ids.Moment.{Moment}
 use Rattle.bm_pcap.specs.declared.form.Order.{Order}
 use Rattle.bm_pcap.specs.Limits.{latest, most_octets}
 use Rattle.bm_pcapng.specs.declared.content.Content.{Content}
-use Rattle.bm_pcapng.specs.declared.content.Packet.{Packet}
 use Rattle.bm_pcapng.specs.declared.content.Content.TheVariants.{Begins, Describes, Holds, Nothing}
 use Rattle.bm_pcapng.specs.declared.interface.Interface.{Interface}
 use Rattle.bm_pcapng.specs.declared.place.Place.{Place}
-
--- the packet of a block that holds one
-abbrev pub packet_in : Content → Option Packet
-packet_in (Holds packet) = Some packet
-packet_in other = None
 
 -- the order of the numbers behind a block
 abbrev pub order_behind : Order → Content → Order

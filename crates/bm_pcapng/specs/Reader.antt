@@ -1,11 +1,10 @@
 -- A reader of a capture, and what its calls do.
-use Rattle.std.specs.Prelude.{◌≡◌, ℕ, ◌+◌, ◌≤◌, ◌-◌, List, [], length, take, drop, Option, Some}
+use Rattle.std.specs.Prelude.{◌≡◌, ℕ, ◌≤◌, List, [], length, take, drop, Option, Some}
 use Rattle.std.specs.Prelude.{None, Result, Ok, Err}
 use Rattle.std.specs.Io.KnownBytes.{prepend_known, Keeps as Keeps_octets}
 use Rattle.bm_base.specs.declared.capture.Vip.{Vip}
 use Rattle.bm_pcap.specs.declared.form.Order.{Order}
-use Rattle.bm_pcapng.specs.declared.content.Content.{Content}
-use Rattle.bm_pcapng.specs.declared.content.Content.TheVariants.{Begins, Describes, Holds, Nothing}
+use Rattle.bm_pcapng.specs.declared.content.Content.TheVariants.{Holds}
 use Rattle.bm_pcapng.specs.declared.content.Packet.{Packet}
 use Rattle.bm_pcapng.specs.declared.fault.NgFault.{NgFault}
 use Rattle.bm_pcapng.specs.declared.fault.NgFault.TheVariants.{Memory, ReadFault}
@@ -13,15 +12,12 @@ use Rattle.bm_pcapng.specs.declared.interface.Interface.{Interface}
 use Rattle.bm_pcapng.specs.declared.item.NgItem.{NgItem}
 use Rattle.bm_pcapng.specs.declared.item.NgItem.TheVariants as item
 use Rattle.bm_pcapng.specs.declared.place.Place.{Place}
-use Rattle.bm_pcapng.specs.declared.reader.Stop.{Stop}
-use Rattle.bm_pcapng.specs.declared.reader.Stop.TheVariants as stop
-use Rattle.bm_pcapng.specs.declared.section.Section.{Section}
 use Rattle.bm_pcapng.specs.declared.step.Step.{Step}
 use Rattle.bm_pcapng.specs.declared.step.Step.TheVariants.{Block, Cut, End}
 use Rattle.bm_pcapng.specs.Began.{began, time_or_zero}
 use Rattle.bm_pcapng.specs.Blocks.{next_of}
 use Rattle.bm_pcapng.specs.Capture.{Captured, capture, first_order}
-use Rattle.bm_pcapng.specs.Causes.{HasStepCause, IsBlockFault}
+use Rattle.bm_pcapng.specs.Causes.{HasStepCause}
 use Rattle.bm_pcapng.specs.Limits.{longest_block}
 use Rattle.bm_pcapng.specs.Parts.{BlockGives, FailsOpen, StepFits, last_of}
 use Rattle.bm_pcapng.specs.Places.{first_place, interfaces_behind, order_behind, place_behind}
@@ -51,20 +47,6 @@ IsBounded reader = length reader.held ≤ longest_block
 abbrev pub octets_in : Packet → List ℕ → List ℕ
 octets_in packet block = take packet.len (drop packet.at block)
 
--- a packet's block is the last that was answered
-abbrev pub IsStopLast : List ℕ → Stop → Type 0
-IsStopLast passed (stop.Packet number n packet) =
-    (n ≤ length passed) × (packet.at + packet.len ≤ n)
-IsStopLast passed other = Unit {0}
-
--- the answer that a reader gives from now on is no block, and its faults are those of blocks
-abbrev pub EndsWell : Option (Result Step NgFault) → Type 0
-EndsWell None = Unit {0}
-EndsWell (Some (Ok (Block n content))) = ⊥
-EndsWell (Some (Ok Cut)) = Unit {0}
-EndsWell (Some (Ok End)) = Unit {0}
-EndsWell (Some (Err e)) = IsBlockFault e
-
 -- nothing was answered yet
 abbrev pub IsFresh : {S : Type 0} → Reader S → Type 0
 IsFresh reader = (reader.place ≡ first_place) × (reader.ended ≡ None) × (reader.interfaces ≡ [])
@@ -93,11 +75,6 @@ IsOpened None order = Unit {0}
 IsOpened (Some octets) order =
     (first_order octets ≡ Some order)
     × ((found : Step) × (next_of order [] first_place octets ≡ Ok found))
-
--- The first block of the capture is read.
-abbrev pub OpensIn : Option (List ℕ) → Result Section NgFault → Type 0
-OpensIn old (Ok section) = IsOpened old section.order
-OpensIn old (Err e) = Refuses old e
 
 -- What was answered is a reader at the front of a capture, or the fault of its first block. The
 -- source comes back with a fault.
@@ -144,19 +121,6 @@ abbrev pub Advances : {S : Type 0} → (S → Option (List ℕ)) → (S → ℕ)
     → Result Step NgFault → Type 0
 Advances left faults old new result = AdvancesFrom left faults old.ended old new result
 
--- a block without a packet
-abbrev pub IsPassedOver : Content → Type 0
-IsPassedOver (Holds packet) = ⊥
-IsPassedOver other = Unit {0}
-
--- One reader comes to be the other by passing over blocks without a packet.
-pub data Passes {S : Type 0} (left : S → Option (List ℕ)) (faults : S → ℕ) (from : Reader S)
-    : Reader S → Type 0 where
-  here : Passes left faults from from
-  over : (mid new : Reader S) (n : ℕ) (content : Content) → Passes left faults from mid
-      → IsPassedOver content → Advances left faults mid new (Ok (Block n content))
-      → Passes left faults from new
-
 -- Behind blocks without a packet the reader answers this.
 abbrev pub Stops : {S : Type 0} → (S → Option (List ℕ)) → (S → ℕ) → Reader S → Reader S → ℕ
     → Result Step NgFault → Type 0
@@ -164,17 +128,6 @@ Stops {S} left faults old new number result =
     (mid : Reader S)
     × (Passes left faults old mid × Advances left faults mid new result
     × (number ≡ mid.place.number))
-
--- What was come to: a packet, with its number, and so many octets in its block.
-abbrev pub GivesStop : {S : Type 0} → (S → Option (List ℕ)) → (S → ℕ) → Reader S → Reader S
-    → Result Stop NgFault → Type 0
-GivesStop left faults old new (Ok (stop.Packet number n packet)) =
-    Stops left faults old new number (Ok (Block n (Holds packet)))
-GivesStop left faults old new (Ok (stop.Cut number)) = Stops left faults old new number (Ok Cut)
-GivesStop {S} left faults old new (Ok stop.End) =
-    (number : ℕ) × Stops left faults old new number (Ok End)
-GivesStop {S} left faults old new (Err e) =
-    (number : ℕ) × Stops left faults old new number (Err e)
 
 -- What `next` answers and leaves. A record has the number of its place, its moment, the link type
 -- of its interface, and its octets.

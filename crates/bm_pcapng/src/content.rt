@@ -4,9 +4,10 @@ ghost use Rattle.bm_pcap.specs.Limits.{longest};
 ghost use Rattle.bm_pcapng.specs.declared.block.Kind.TheVariants.{SectionHeader};
 ghost use Rattle.bm_pcapng.specs.declared.block.Kind.TheVariants.{InterfaceDescription};
 ghost use Rattle.bm_pcapng.specs.Blocks.{least_length};
-ghost use Rattle.bm_pcapng.specs.Places.{packet_in};
-ghost use Rattle.bm_pcapng.specs.Causes.{IsContentFault, IsStartFault};
-ghost use Rattle.bm_pcapng.specs.Parts.{IsContentOf, IsPacketIn};
+ghost use Rattle.bm_pcapng.specs.Inside.Places.{packet_in};
+ghost use Rattle.bm_pcapng.specs.Causes.{IsStartFault};
+ghost use Rattle.bm_pcapng.specs.Inside.Causes.{IsContentFault};
+ghost use Rattle.bm_pcapng.specs.Inside.Parts.{IsContentOf, IsPacketIn};
 ghost use Rattle.bm_pcapng.specs.Contents.{content, section_content, interface_content};
 ghost use Rattle.bm_pcapng.specs.Contents.{enhanced_content, simple_content, packet_at, captured_of};
 

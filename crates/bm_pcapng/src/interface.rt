@@ -1,7 +1,8 @@
 //! Interfaces of a section.
 ghost use Rattle.std.specs.Prelude.{◌≡◌, ◌≤◌, ◌+◌, ◌-◌, length, drop};
 ghost use Rattle.bm_pcapng.specs.Contents.{interface_of};
-ghost use Rattle.bm_pcapng.specs.Options.{is_over, is_resolution, padded, resolution_by};
+ghost use Rattle.bm_pcapng.specs.Options.{is_over, padded, resolution_by};
+ghost use Rattle.bm_pcapng.specs.Inside.Options.{is_resolution};
 
 use crate::Resolution;
 use bm_pcap::Order;

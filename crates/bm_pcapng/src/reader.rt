@@ -8,10 +8,13 @@ ghost use Rattle.bm_pcap.specs.Window.{rest, source_of, width};
 ghost use Rattle.bm_pcapng.specs.Limits.{longest_block};
 ghost use Rattle.bm_pcapng.specs.Capture.{classified_by};
 ghost use Rattle.bm_pcapng.specs.Causes.{HasStepCause, IsBlockFault, IsCaptureFault, IsStartFault};
-ghost use Rattle.bm_pcapng.specs.Reader.{Advances, EndsWith, GivesNext, GivesStop, HasEnded};
-ghost use Rattle.bm_pcapng.specs.Reader.{IsBounded, IsFresh, IsStopLast, KnowsBegan, OpensIn};
+ghost use Rattle.bm_pcapng.specs.Reader.{Advances, EndsWith, GivesNext, HasEnded};
+ghost use Rattle.bm_pcapng.specs.Inside.Reader.{GivesStop};
+ghost use Rattle.bm_pcapng.specs.Reader.{IsBounded, IsFresh, KnowsBegan};
+ghost use Rattle.bm_pcapng.specs.Inside.Reader.{IsStopLast, OpensIn};
 ghost use Rattle.bm_pcapng.specs.Reader.{ReadsCapture, Starts, StartsWithCause, octets_in, time_began};
-ghost use Rattle.bm_pcapng.specs.Parts.{IsLast, last_of};
+ghost use Rattle.bm_pcapng.specs.Parts.{last_of};
+ghost use Rattle.bm_pcapng.specs.Inside.Parts.{IsLast};
 
 use crate::item::NgItem;
 use crate::place::{LATEST, LONGEST_BLOCK};
@@ -40,7 +43,8 @@ impl<S> Model for NgReader<S> {
     ghost use Rattle.bm_pcap.specs.Limits.{latest, most_octets, most_records};
     ghost use Rattle.bm_pcap.specs.Window.{held, passed, source_of, width};
     ghost use Rattle.bm_pcapng.specs.Limits.{longest_block};
-    ghost use Rattle.bm_pcapng.specs.Reader.{Reader, EndsWell};
+    ghost use Rattle.bm_pcapng.specs.Reader.{Reader};
+    ghost use Rattle.bm_pcapng.specs.Inside.Reader.{EndsWell};
 
     ghost Value = { Reader S };
 

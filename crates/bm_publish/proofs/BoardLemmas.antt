@@ -18,7 +18,7 @@ use Rattle.bm_table.specs.Tables.{next_change}
 use Rattle.bm_table.proofs.EntryLemmas.{next_table}
 use Rattle.bm_publish.specs.declared.shown.Shown.{Shown}
 use Rattle.bm_publish.specs.Posts.{Posted, last_version, with_post}
-use Rattle.bm_publish.specs.Boards.{changed_from, IsRight, IsOn, Keeps, Sees, Knows}
+use Rattle.bm_publish.specs.Inside.Boards.{changed_from, IsRight, IsOn, Keeps, Sees, Knows}
 
 -- A CHANGE IN PLACE
 

@@ -10,7 +10,7 @@ use Rattle.bm_base.specs.declared.ids.Moment.{Moment}
 use Rattle.logbook.specs.Pages.{Book, Cell, cell, keeps, no_nib, step, Moves, Goes}
 use Rattle.bm_publish.specs.declared.told.Line.{Line}
 use Rattle.bm_publish.specs.declared.told.Line.TheVariants.{Opens, Posts}
-use Rattle.bm_publish.specs.Histories.{plan_in, clocks_in, posted_in, IsOpened, IsCounted, Adds}
+use Rattle.bm_publish.specs.Inside.Histories.{plan_in, clocks_in, posted_in, IsOpened, IsCounted, Adds}
 use Rattle.bm_publish.specs.Posts.{Posted, Continues, IsPosted, RiseAbove, last_or, last_post, last_version, with_post}
 use Rattle.bm_publish.proofs.Prefixes.{prefix_shorter, prefix_trans, prefix_whole}
 

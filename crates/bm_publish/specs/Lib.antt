@@ -1,3 +1,2 @@
 pub mod Posts
-pub mod Histories
-pub mod Boards
+pub mod Inside

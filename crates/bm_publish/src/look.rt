@@ -1,7 +1,7 @@
 //! The ends that read.
 ghost use Rattle.std.specs.Prelude.{◌≡◌, ◌*◌, ◌^◌, ◌<◌, ◌≤◌, ◌⊎◌, MatchResult};
 ghost use Rattle.bm_table.specs.Tables.{table};
-ghost use Rattle.bm_publish.specs.Boards.{Knows};
+ghost use Rattle.bm_publish.specs.Inside.Boards.{Knows};
 ghost use Rattle.bm_publish.specs.Posts.{Continues, IsPosted, last_post, last_version};
 ghost use Rattle.left_right.specs.Sides.{view as seat_view};
 
@@ -20,7 +20,7 @@ pub struct Look {
 
 impl Model for Look {
     ghost use Rattle.left_right.specs.Sides.{view as seat_view};
-    ghost use Rattle.bm_publish.specs.Boards.{Knows};
+    ghost use Rattle.bm_publish.specs.Inside.Boards.{Knows};
     ghost use Rattle.bm_publish.specs.Posts.{Posted};
 
     ghost Value = { Posted };
@@ -38,7 +38,7 @@ pub struct Guard {
 
 impl Model for Guard {
     ghost use Rattle.left_right.specs.Sides.{view as seat_view};
-    ghost use Rattle.bm_publish.specs.Boards.{IsRight, Knows};
+    ghost use Rattle.bm_publish.specs.Inside.Boards.{IsRight, Knows};
     ghost use Rattle.bm_publish.specs.Posts.{Posted};
 
     ghost Value = { Posted };

@@ -3,7 +3,7 @@ ghost use Rattle.std.specs.Prelude.{◌≡◌, ◌*◌, ◌^◌, ◌<◌, ◌≤
 ghost use Rattle.std.specs.Prelude.{drop, length};
 ghost use Rattle.bm_table.specs.Tables.{next_change};
 ghost use Rattle.left_right.specs.Sides.{view as seat_view};
-ghost use Rattle.bm_publish.specs.Boards.{IsRight, changed_from};
+ghost use Rattle.bm_publish.specs.Inside.Boards.{IsRight, changed_from};
 ghost use Rattle.bm_publish.specs.Posts.{last_post, last_version, with_post};
 
 use crate::look::Look;
@@ -28,8 +28,8 @@ pub struct Poster {
 impl Model for Poster {
     ghost use Rattle.std.specs.Prelude.{◌≡◌, [], Some, drop};
     ghost use Rattle.left_right.specs.Sides.{view as seat_view};
-    ghost use Rattle.bm_publish.specs.Boards.{IsRight};
-    ghost use Rattle.bm_publish.specs.Histories.{head_of};
+    ghost use Rattle.bm_publish.specs.Inside.Boards.{IsRight};
+    ghost use Rattle.bm_publish.specs.Inside.Histories.{head_of};
     ghost use Rattle.bm_publish.specs.Posts.{Posted};
 
     ghost Value = { Posted };

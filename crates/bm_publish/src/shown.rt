@@ -1,5 +1,5 @@
 //! What a board shows: the table, with the history that leads to it.
-ghost use Rattle.bm_publish.specs.Boards.{changed_from};
+ghost use Rattle.bm_publish.specs.Inside.Boards.{changed_from};
 
 use crate::told::Told;
 use atomic_table::{Join, Split};
@@ -43,7 +43,7 @@ pub struct Kept;
 
 impl Protocol<Shown, Option<Told>> for Kept {
     ghost use Rattle.std.specs.Prelude.{None};
-    ghost use Rattle.bm_publish.specs.Boards.{Keeps};
+    ghost use Rattle.bm_publish.specs.Inside.Boards.{Keeps};
 
     ghost holds = { λ x views. Keeps x.table x.told views };
 
@@ -54,7 +54,7 @@ impl Protocol<Shown, Option<Told>> for Kept {
 pub(crate) struct Seeing;
 
 impl Outcome<Shown, Option<Told>> for Seeing {
-    ghost use Rattle.bm_publish.specs.Boards.{Sees};
+    ghost use Rattle.bm_publish.specs.Inside.Boards.{Sees};
 
     ghost then = { λ v x y w. Sees y.table y.told v w };
 }

@@ -1,7 +1,7 @@
 //! What was posted on a board, as far as it is known. The history of a board is ghost state that
 //! all threads share; a thread knows a beginning of it.
 ghost use Rattle.std.specs.Prelude.{◌≡◌, ◌*◌, ◌^◌, ◌<◌, ◌≤◌, ◌⊎◌, [], length, IfSome, IsTrue};
-ghost use Rattle.bm_publish.specs.Histories.{head_of};
+ghost use Rattle.bm_publish.specs.Inside.Histories.{head_of};
 ghost use Rattle.bm_publish.specs.Posts.{Continues, IsPosted, last_post, last_version, with_post};
 
 use bm_base::{Moment, Version};
@@ -22,7 +22,7 @@ pub struct Counted;
 impl Rule<Line, u64> for Counted {
     ghost use Rattle.std.specs.Prelude.{[]};
     ghost use base.Fml.{ftrue};
-    ghost use Rattle.bm_publish.specs.Histories.{IsCounted};
+    ghost use Rattle.bm_publish.specs.Inside.Histories.{IsCounted};
 
     ghost holds = { λ cells log. IsCounted cells log };
 
@@ -60,7 +60,7 @@ impl Gain<Line, u64> for Nothing {
 struct Add;
 
 impl Play<Line, u64> for Add {
-    ghost use Rattle.bm_publish.specs.Histories.{Adds};
+    ghost use Rattle.bm_publish.specs.Inside.Histories.{Adds};
 
     ghost then = { Adds };
 }
@@ -88,7 +88,7 @@ pub struct Told {
 
 impl Model for Told {
     ghost use Rattle.std.specs.Prelude.{◌≡◌};
-    ghost use Rattle.bm_publish.specs.Histories.{IsOpened, posted_in};
+    ghost use Rattle.bm_publish.specs.Inside.Histories.{IsOpened, posted_in};
     ghost use Rattle.bm_publish.specs.Posts.{IsPosted, Posted, last_post, last_version};
 
     ghost Value = { Posted };

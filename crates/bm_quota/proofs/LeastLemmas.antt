@@ -5,7 +5,7 @@ use Rattle.std.proofs.lemmas.Bool.{cases_eq, ne_eqb, lt-ltb}
 use Rattle.bm_base.specs.declared.ids.ServerId.{ServerId}
 use Rattle.bm_quota.proofs.RoomLemmas.{cases_room, cases_server, owned-cons, owners_after-later, same_server-refl}
 use Rattle.bm_quota.specs.Rebalancing.{owned, owners_after}
-use Rattle.bm_quota.specs.Rooms.{given, kept}
+use Rattle.bm_quota.specs.Inside.Rooms.{given, kept}
 use Rattle.bm_table.specs.Tables.{same_server, target}
 use Rattle.bm_table.specs.declared.plan.Move.{Move}
 

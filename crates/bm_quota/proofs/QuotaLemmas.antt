@@ -13,7 +13,7 @@ use Rattle.bm_base.specs.declared.ids.ServerId.{ServerId}
 use Rattle.bm_quota.proofs.LeastLemmas.{gives}
 use Rattle.bm_quota.proofs.RoomLemmas.{cases_room, cases_server, owned-cons, same_server-refl, total}
 use Rattle.bm_quota.specs.Rebalancing.{highest, owned, quota_at, quota_of, quotas_of, sum_below, takers}
-use Rattle.bm_quota.specs.Rooms.{given, kept, left}
+use Rattle.bm_quota.specs.Inside.Rooms.{given, kept, left}
 use Rattle.bm_table.specs.Settings.{RiseFrom}
 use Rattle.bm_table.specs.Tables.{is_among, same_server}
 

@@ -12,7 +12,7 @@ use Rattle.bm_quota.proofs.RoomLemmas.{cases_room, cases_server, handed, left-le
 use Rattle.bm_quota.proofs.RoomLemmas.{owners_after-handed, same_server-refl}
 use Rattle.bm_quota.specs.Rebalancing.{moves_to, owned, owners_after, quota_of, rebalancing, sum_below, surplus, takers}
 use Rattle.bm_quota.specs.Rebalancing.{ReachQuotas}
-use Rattle.bm_quota.specs.Rooms.{given, kept, left}
+use Rattle.bm_quota.specs.Inside.Rooms.{given, kept, left}
 use Rattle.bm_table.specs.Plans.{bucket_already_there, MovesRise}
 use Rattle.bm_table.specs.Settings.{RiseFrom}
 use Rattle.bm_table.specs.Tables.{is_among, same_server, target}

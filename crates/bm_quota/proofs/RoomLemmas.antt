@@ -5,7 +5,7 @@ use Rattle.std.proofs.Common.{unwrap_or}
 use Rattle.std.proofs.lemmas.Bool.{cases_Bool, eq-eqb, ne_eqb, lt-ltb}
 use Rattle.bm_base.specs.declared.ids.ServerId.{ServerId}
 use Rattle.bm_quota.specs.Rebalancing.{moves_to, owned, owners_after, takers}
-use Rattle.bm_quota.specs.Rooms.{given, kept, left}
+use Rattle.bm_quota.specs.Inside.Rooms.{given, kept, left}
 use Rattle.bm_table.proofs.Tables.{same_server-true, eq-same_server}
 use Rattle.bm_table.specs.Tables.{same_server, target}
 use Rattle.bm_table.specs.declared.plan.Move.{Move}

@@ -12,7 +12,7 @@ use Rattle.bm_quota.proofs.QuotaLemmas.{first_not_among, quota_of-outside}
 use Rattle.bm_quota.proofs.Rebalanced.{rebalancing-rooms}
 use Rattle.bm_quota.proofs.RoomLemmas.{cases_server}
 use Rattle.bm_quota.specs.Rebalancing.{moves_to, quota_at, quota_of, rebalancing, takers}
-use Rattle.bm_quota.specs.Rooms.{given, kept, left, room_in}
+use Rattle.bm_quota.specs.Inside.Rooms.{given, kept, left, room_in}
 use Rattle.bm_table.specs.Settings.{RiseFrom}
 use Rattle.bm_table.specs.Tables.{same_server}
 use Rattle.bm_table.specs.declared.plan.Move.{Move}

@@ -1,3 +1,3 @@
 pub mod Rebalancing
 pub mod Refusals
-pub mod Rooms
+pub mod Inside

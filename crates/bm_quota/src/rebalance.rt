@@ -4,7 +4,7 @@ ghost use Rattle.std.specs.Prelude.{slice_index, slice_set, vec_len, All, IfOk, 
 ghost use Rattle.std.specs.List.{zip};
 ghost use Rattle.bm_base.specs.declared.ids.ServerId.{ServerId};
 ghost use Rattle.bm_quota.specs.Rebalancing as rule;
-ghost use Rattle.bm_quota.specs.Rooms.{room_in, given, left};
+ghost use Rattle.bm_quota.specs.Inside.Rooms.{room_in, given, left};
 ghost use Rattle.bm_table.specs.Settings.{RiseFrom};
 ghost use Rattle.bm_table.specs.declared.plan.Move.{Move};
 

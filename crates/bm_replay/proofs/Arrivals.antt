@@ -30,23 +30,24 @@ use Rattle.bm_core.specs.Accounts.{Routes, Rules}
 use Rattle.bm_core.specs.Books.{Took}
 use Rattle.bm_core.specs.Past.{Sending, label_of, segment_of, sending_of, shard, timeout, steerable}
 use Rattle.bm_core.specs.Runs.{last_clock}
-use Rattle.bm_core.specs.Schedule.{loss_of_fate, put_sent, rest, wire, IsAnswered}
+use Rattle.bm_core.specs.Schedule.{loss_of_fate, put_sent, rest, wire}
+use Rattle.bm_core.specs.Inside.Schedule.{IsAnswered}
 use Rattle.bm_core.specs.Stages.{IsFit, IsService}
 use Rattle.bm_core.specs.Verdicts.{local_at, verdict_at}
-use Rattle.bm_core.specs.Weights.{IsSoon}
+use Rattle.bm_core.specs.Soon.{IsSoon}
 use Rattle.bm_core.proofs.Forwards.{forwarded}
 use Rattle.bm_core.proofs.Pasts.{label_stays}
 use Rattle.bm_core.proofs.Stops.{HasStop, first_stop}
 use Rattle.bm_replay.specs.declared.player.Loss.{Loss}
 use Rattle.bm_replay.specs.declared.player.Player.{Player}
 use Rattle.bm_replay.specs.declared.queue.Queue.{Queue}
-use Rattle.bm_replay.specs.Flights.{AreFlying, IsFlying}
-use Rattle.bm_replay.specs.Packets.{AreBehind, HoldsPackets}
-use Rattle.bm_replay.specs.Players.{CanArrive, HasArrived, HasGone, passes_to, HasSent, after_arrival, chained}
-use Rattle.bm_replay.specs.Players.{KeepsPackets, place_for, sent, verdict_for}
-use Rattle.bm_replay.specs.Playing.{HasPlayed, IsPlayed, KeepsState, lost_call, past_of}
+use Rattle.bm_replay.specs.Inside.Flights.{AreFlying, IsFlying}
+use Rattle.bm_replay.specs.Inside.Packets.{AreBehind, HoldsPackets}
+use Rattle.bm_replay.specs.Inside.Players.{CanArrive, HasArrived, HasGone, passes_to, HasSent, after_arrival, chained}
+use Rattle.bm_replay.specs.Inside.Players.{KeepsPackets, place_for, sent, verdict_for}
+use Rattle.bm_replay.specs.Inside.Playing.{HasPlayed, IsPlayed, KeepsState, lost_call, past_of}
 use Rattle.bm_shard.specs.States.{State}
-use Rattle.bm_replay.specs.Shards.{IsCalled, KeepsShards, arrival, state_at}
+use Rattle.bm_replay.specs.Inside.Shards.{IsCalled, KeepsShards, arrival, state_at}
 use Rattle.bm_replay.proofs.ShardStates.{places_of, shard_below, verdict_as}
 use Rattle.bm_replay.proofs.NextEvents.{copy_due}
 use Rattle.bm_replay.proofs.Flights.{HasStopAt, all_stay, copies_fly, first_flies, others_fly, tag_stop}

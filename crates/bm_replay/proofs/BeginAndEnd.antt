@@ -15,12 +15,12 @@ use Rattle.bm_replay.specs.declared.player.Loss.{Loss}
 use Rattle.bm_replay.specs.declared.player.Player.{Player}
 use Rattle.bm_replay.specs.declared.coming.Coming.{Coming}
 use Rattle.bm_replay.specs.declared.coming.Coming.TheVariants.{Over}
-use Rattle.bm_replay.specs.Players.{IsNew, soonest_command, coming_for}
-use Rattle.bm_replay.specs.Playing.{IsPlaying, KeepsState, lost_call, past_of}
-use Rattle.bm_replay.specs.Shards.{IsShardOf, KeepsShards, all_shards}
+use Rattle.bm_replay.specs.Inside.Players.{IsNew, soonest_command, coming_for}
+use Rattle.bm_replay.specs.Inside.Playing.{IsPlaying, KeepsState, lost_call, past_of}
+use Rattle.bm_replay.specs.Inside.Shards.{IsShardOf, KeepsShards, all_shards}
 use Rattle.bm_shard.specs.States.{State}
 use Rattle.bm_replay.proofs.ShardStates.{first_at, length_all}
-use Rattle.bm_replay.specs.Comings.{sooner_of}
+use Rattle.bm_replay.specs.Inside.Comings.{sooner_of}
 use Rattle.bm_replay.proofs.NextEvents.{IsComingOf}
 use Rattle.bm_replay.proofs.Unchanged.{switches_are}
 use Rattle.bm_replay.proofs.LeastOfTwo.{least_none}

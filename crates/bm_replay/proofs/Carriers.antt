@@ -26,7 +26,7 @@ use Rattle.bm_encap.proofs.NumberLemmas.{AreOctets, octets_from, u16_below}
 use Rattle.bm_encap.proofs.Says.{says}
 use Rattle.bm_encap.proofs.Spelled.{spelling_read}
 use Rattle.bm_encap.proofs.Valid.{valid}
-use Rattle.bm_replay.specs.Carriers.{carried, carried_by, next_by, next_tag, with_tag}
+use Rattle.bm_replay.specs.Inside.Carriers.{carried, carried_by, next_by, next_tag, with_tag}
 
 -- A CARRIER THAT SPELLS A TAG
 

@@ -30,9 +30,9 @@ use Rattle.bm_core.proofs.Schedules.{Each, IsFrom, each_append, each_dropped}
 use Rattle.bm_replay.specs.declared.player.Player.{Player}
 use Rattle.bm_shard.specs.States.{State}
 use Rattle.bm_shard.specs.declared.calls.ShardCall.TheVariants.{Close as AsksClose, Retire as AsksRetire}
-use Rattle.bm_replay.specs.Players.{HasClosed, HasPlaces, HasRetired, HasSynced, happened}
-use Rattle.bm_replay.specs.Playing.{HasPlayed, IsPlayed, KeepsState, past_of}
-use Rattle.bm_replay.specs.Shards.{IsCalled, KeepsShards, before, holds, place_of, state_at}
+use Rattle.bm_replay.specs.Inside.Players.{HasClosed, HasPlaces, HasRetired, HasSynced, happened}
+use Rattle.bm_replay.specs.Inside.Playing.{HasPlayed, IsPlayed, KeepsState, past_of}
+use Rattle.bm_replay.specs.Inside.Shards.{IsCalled, KeepsShards, before, holds, place_of, state_at}
 use Rattle.bm_replay.proofs.ShardStates.{holds_same, places_of, shard_below}
 use Rattle.bm_replay.proofs.Flights.{all_stay}
 use Rattle.bm_replay.proofs.Unchanged.{shards_more, shards_stay, muxes_stay, part_next, part_stays}

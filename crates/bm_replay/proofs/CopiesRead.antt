@@ -23,10 +23,11 @@ use Rattle.bm_shard.specs.States.{State, clock_at, known_in}
 use Rattle.bm_fault.specs.Flying.{Flying}
 use Rattle.bm_shard.specs.declared.calls.ShardCall.TheVariants.{Arrive as AsksArrive}
 use Rattle.bm_replay.specs.declared.player.Player.{Player}
-use Rattle.bm_replay.specs.Carriers.{carried, next_tag}
-use Rattle.bm_replay.specs.Players.{CanArrive, HasArrived, HasGone, passes_to, after_arrival, place_for, verdict_for}
-use Rattle.bm_replay.specs.Players.{HasCalled, forwards, what_for}
-use Rattle.bm_replay.specs.Shards.{IsCalled, arrival, before, state_at}
+use Rattle.bm_replay.specs.Inside.Carriers.{carried, next_tag}
+use Rattle.bm_replay.specs.Inside.Players.{CanArrive, HasArrived, HasGone, passes_to, after_arrival, place_for}
+use Rattle.bm_replay.specs.Inside.Players.{verdict_for}
+use Rattle.bm_replay.specs.Inside.Players.{HasCalled, forwards, what_for}
+use Rattle.bm_replay.specs.Inside.Shards.{IsCalled, arrival, before, state_at}
 use Rattle.bm_replay.proofs.Carriers.{carries, goes_on}
 
 -- the copy that comes first, with a valid tag, and the packet within

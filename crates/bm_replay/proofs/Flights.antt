@@ -17,7 +17,7 @@ use Rattle.bm_core.specs.declared.schedule.Underway.{Underway}
 use Rattle.bm_core.specs.Runs.{IsStep}
 use Rattle.bm_core.specs.Schedule.{put, put_all, rest}
 use Rattle.bm_core.proofs.Pasts.{label_stays}
-use Rattle.bm_replay.specs.Flights.{AreFlying, IsFlying, copies_put}
+use Rattle.bm_replay.specs.Inside.Flights.{AreFlying, IsFlying, copies_put}
 use Rattle.bm_replay.proofs.NextEvents.{IsFirstDue}
 
 -- a label stays, so a copy does

@@ -14,9 +14,9 @@ use Rattle.bm_core.specs.declared.schedule.Call.{Call as Calls}
 use Rattle.bm_core.specs.declared.schedule.Call.TheVariants.{Steers}
 use Rattle.bm_core.specs.declared.schedule.Due.{Due}
 use Rattle.bm_replay.specs.declared.queue.Queue.{Queue}
-use Rattle.bm_replay.specs.Flights.{copies_put}
-use Rattle.bm_replay.specs.Packets.{AreBehind, HoldsPackets}
-use Rattle.bm_replay.specs.Queues.{IsBehind}
+use Rattle.bm_replay.specs.Inside.Flights.{copies_put}
+use Rattle.bm_replay.specs.Inside.Packets.{AreBehind, HoldsPackets}
+use Rattle.bm_replay.specs.Inside.Queues.{IsBehind}
 
 -- COPIES UNDER WAY
 

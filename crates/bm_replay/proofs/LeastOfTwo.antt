@@ -5,7 +5,7 @@ use Rattle.std.proofs.lemmas.Bool.{cases_Bool}
 use Rattle.std.proofs.lemmas.Bool.Decides.{nat_tests}
 use Rattle.bm_core.specs.declared.schedule.Due.{Due}
 use Rattle.bm_core.specs.Schedule.{comes_first, least, sooner}
-use Rattle.bm_replay.specs.Comings.{sooner_of}
+use Rattle.bm_replay.specs.Inside.Comings.{sooner_of}
 
 three : (a x z : Due) → sooner_of (sooner (Some a) x) (Some z) ≡ sooner_of (Some a) (sooner (Some x) z)
 three a x z = grind (arith, nat_tests)

@@ -7,8 +7,8 @@ use Rattle.bm_table.specs.Tables.{next_change}
 use Rattle.bm_core.specs.declared.schedule.Due.{Due}
 use Rattle.bm_core.specs.Schedule.{least, switch_due}
 use Rattle.bm_replay.specs.declared.mux.Mux.{Mux}
-use Rattle.bm_replay.specs.Muxes.{switch_after, switches_of, version_in}
-use Rattle.bm_replay.specs.Comings.{sooner_of}
+use Rattle.bm_replay.specs.Inside.Muxes.{switch_after, switches_of, version_in}
+use Rattle.bm_replay.specs.Inside.Comings.{sooner_of}
 use Rattle.bm_replay.proofs.LeastOfTwo.{least_append}
 
 switch_least : (muxes lag m v : ℕ) (o : Option Change)

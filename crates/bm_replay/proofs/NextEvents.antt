@@ -27,8 +27,8 @@ use Rattle.bm_core.specs.Schedule.{switches_due, sync_commands, syncs}
 use Rattle.bm_core.proofs.Schedules.{Each, each_append, each_dropped}
 use Rattle.bm_replay.specs.declared.coming.Coming.{Coming}
 use Rattle.bm_replay.specs.declared.coming.Coming.TheVariants.{Arrive, Call, Over}
-use Rattle.bm_replay.specs.Queues.{IsHead}
-use Rattle.bm_replay.specs.Comings.{is_before, is_no_later, first_coming, sooner_of, coming_of}
+use Rattle.bm_replay.specs.Inside.Queues.{IsHead}
+use Rattle.bm_replay.specs.Inside.Comings.{is_before, is_no_later, first_coming, sooner_of, coming_of}
 
 -- RANKS
 

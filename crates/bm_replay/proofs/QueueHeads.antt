@@ -12,7 +12,7 @@ use Rattle.bm_table.proofs.Gets.{slice_get-append_left, slice_get-push}
 use Rattle.bm_core.specs.declared.schedule.Call.{Call}
 use Rattle.bm_core.specs.declared.schedule.Call.TheVariants.{Retires}
 use Rattle.bm_core.specs.declared.schedule.Due.{Due}
-use Rattle.bm_replay.specs.Queues.{later_shards, retire_at, retires_from}
+use Rattle.bm_replay.specs.Inside.Queues.{later_shards, retire_at, retires_from}
 use Rattle.bm_core.specs.Schedule.{dropped, retire_commands, retire_dues}
 
 pub dropped_at : {X : Type 0} (xs : List X) (i : ℕ) (x : X) → slice_get xs i ≡ Some x

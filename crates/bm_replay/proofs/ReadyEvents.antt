@@ -24,8 +24,9 @@ use Rattle.bm_core.specs.Past.{Sending, sending_of, newest}
 use Rattle.bm_core.specs.Runs.{last_clock, next_clock}
 use Rattle.bm_core.specs.Schedule.{arrival_due, call_of, can_come, close_commands, closes, first_of, least, left}
 use Rattle.bm_core.specs.Schedule.{due_loss, packets_from, publish_due, retire_commands, retires, steers, switches_due}
-use Rattle.bm_core.specs.Schedule.{sync_commands, syncs, wire, IsAnswered, IsNextBy}
-use Rattle.bm_core.specs.Weights.{IsSoon}
+use Rattle.bm_core.specs.Schedule.{sync_commands, syncs, wire, IsNextBy}
+use Rattle.bm_core.specs.Inside.Schedule.{IsAnswered}
+use Rattle.bm_core.specs.Soon.{IsSoon}
 use Rattle.bm_core.proofs.Existing.{clock_law}
 use Rattle.bm_core.proofs.Schedules.{IsFrom, each_from, least_is}
 use Rattle.bm_core.proofs.Stepping.{step}
@@ -34,9 +35,9 @@ use Rattle.bm_replay.specs.declared.player.Loss.{Loss}
 use Rattle.bm_replay.specs.declared.player.Player.{Player}
 use Rattle.bm_replay.specs.declared.coming.Coming.{Coming}
 use Rattle.bm_replay.specs.declared.coming.Coming.TheVariants.{Arrive, Call}
-use Rattle.bm_replay.specs.Players.{publish_after, soonest_command, coming_for}
-use Rattle.bm_replay.specs.Playing.{HasPlayed, IsComing, IsPlayed, IsPlaying, KeepsState, lost_call, past_of}
-use Rattle.bm_replay.specs.Comings.{sooner_of}
+use Rattle.bm_replay.specs.Inside.Players.{publish_after, soonest_command, coming_for}
+use Rattle.bm_replay.specs.Inside.Playing.{HasPlayed, IsComing, IsPlayed, IsPlaying, KeepsState, lost_call, past_of}
+use Rattle.bm_replay.specs.Inside.Comings.{sooner_of}
 use Rattle.bm_replay.proofs.NextEvents.{HasRank, IsCommand, IsComingOf, commands_are, commands_due, copy_due}
 use Rattle.bm_replay.proofs.NextEvents.{head_least, left_rank, packets_rank, rank_of, coming_is}
 use Rattle.bm_replay.proofs.Flights.{first_due_is}

@@ -30,10 +30,10 @@ use Rattle.bm_core.proofs.Stepping.{new_packet}
 use Rattle.bm_replay.specs.declared.mux.Mux.{Mux}
 use Rattle.bm_replay.specs.declared.player.Loss.{Loss}
 use Rattle.bm_replay.specs.declared.player.Player.{Player}
-use Rattle.bm_replay.specs.Muxes.{HasTable, IsWritten}
-use Rattle.bm_replay.specs.Flights.{IsFlying}
-use Rattle.bm_replay.specs.Players.{CanSteer, HasSteered, after_loss, happened, loss_of, sent}
-use Rattle.bm_replay.specs.Playing.{HasPlayed, IsPlayed, IsPlaying, KeepsState, lost_call, past_of}
+use Rattle.bm_replay.specs.Inside.Muxes.{HasTable, IsWritten}
+use Rattle.bm_replay.specs.Inside.Flights.{IsFlying}
+use Rattle.bm_replay.specs.Inside.Players.{CanSteer, HasSteered, after_loss, happened, loss_of, sent}
+use Rattle.bm_replay.specs.Inside.Playing.{HasPlayed, IsPlayed, IsPlaying, KeepsState, lost_call, past_of}
 use Rattle.bm_replay.proofs.Flights.{HasStopAt, all_stay, copies_fly, tag_stop}
 use Rattle.bm_replay.proofs.HeldPackets.{steered_packets}
 use Rattle.bm_replay.proofs.NextEvents.{head_first}

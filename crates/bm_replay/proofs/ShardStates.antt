@@ -14,7 +14,8 @@ use Rattle.bm_core.specs.declared.events.Stage.{Stage}
 use Rattle.bm_core.specs.Books.{Turn, add_turn, book_of, turn_of}
 use Rattle.bm_core.specs.Runs.{last_clock}
 use Rattle.bm_shard.specs.Replies.{is_held_by, verdict_by, what_of}
-use Rattle.bm_shard.specs.States.{IsAfter, IsLeft, State, clock_at, known_in, turn_at}
+use Rattle.bm_shard.specs.States.{IsAfter, State, clock_at, known_in, turn_at}
+use Rattle.bm_shard.specs.Inside.States.{IsLeft}
 use Rattle.bm_shard.specs.Turns.{call_moment}
 use Rattle.bm_shard.specs.declared.calls.ShardCall.{ShardCall}
 use Rattle.bm_shard.proofs.Keeping.{knows_same, left_after}
@@ -32,10 +33,11 @@ use Rattle.bm_core.specs.Accounts.{Routes, Rules}
 use Rattle.bm_core.proofs.Existing.{clock_law}
 use Rattle.bm_base.specs.declared.fate.Fate.{Fate}
 use Rattle.bm_replay.specs.declared.player.Player.{Player}
-use Rattle.bm_replay.specs.Players.{HasPlaces, what_for}
-use Rattle.bm_replay.specs.Playing.{IsPlayed, KeepsState}
-use Rattle.bm_replay.specs.Shards.{IsReady, IsShardOf, all_shards, arrival, first_shard, holds, no_state, place_of}
-use Rattle.bm_replay.specs.Shards.{server_shards, state_at, verdict_in, what_in}
+use Rattle.bm_replay.specs.Inside.Players.{HasPlaces, what_for}
+use Rattle.bm_replay.specs.Inside.Playing.{IsPlayed, KeepsState}
+use Rattle.bm_replay.specs.Inside.Shards.{IsReady, IsShardOf, all_shards, arrival, first_shard, holds, no_state}
+use Rattle.bm_replay.specs.Inside.Shards.{place_of}
+use Rattle.bm_replay.specs.Inside.Shards.{server_shards, state_at, verdict_in, what_in}
 
 -- AT THE BEGINNING
 

@@ -11,8 +11,8 @@ use Rattle.bm_core.specs.Schedule.{wire}
 use Rattle.bm_core.proofs.Schedules.{IsFrom}
 use Rattle.bm_replay.specs.declared.player.Player.{Player}
 use Rattle.bm_replay.specs.declared.coming.Coming.TheVariants.{Arrive, Call}
-use Rattle.bm_replay.specs.Players.{coming_for}
-use Rattle.bm_replay.specs.Playing.{IsPlaying, past_of}
+use Rattle.bm_replay.specs.Inside.Players.{coming_for}
+use Rattle.bm_replay.specs.Inside.Playing.{IsPlaying, past_of}
 use Rattle.bm_replay.proofs.NextEvents.{copy_due, rank_of}
 use Rattle.bm_replay.proofs.ReadyEvents.{IsReadyCall, clock_low, ready_call, ready_copy}
 

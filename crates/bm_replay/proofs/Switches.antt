@@ -19,9 +19,9 @@ use Rattle.bm_core.specs.Schedule.{least, wire}
 use Rattle.bm_core.proofs.Schedules.{IsFrom}
 use Rattle.bm_replay.specs.declared.mux.Mux.{Mux}
 use Rattle.bm_replay.specs.declared.player.Player.{Player}
-use Rattle.bm_replay.specs.Muxes.{HasTable, IsMoved}
-use Rattle.bm_replay.specs.Players.{CanSwitch, HasLags, HasSwitched, after_publish, happened, switch_for}
-use Rattle.bm_replay.specs.Playing.{HasPlayed, IsPlayed, KeepsMuxes, KeepsState, past_of}
+use Rattle.bm_replay.specs.Inside.Muxes.{HasTable, IsMoved}
+use Rattle.bm_replay.specs.Inside.Players.{CanSwitch, HasLags, HasSwitched, after_publish, happened, switch_for}
+use Rattle.bm_replay.specs.Inside.Playing.{HasPlayed, IsPlayed, KeepsMuxes, KeepsState, past_of}
 use Rattle.bm_replay.proofs.Flights.{all_stay}
 use Rattle.bm_replay.proofs.Unchanged.{shards_stay, count_grows, count_stays, muxes_stay, queues_stay, switches_are}
 use Rattle.bm_core.proofs.Moments.{change_early}

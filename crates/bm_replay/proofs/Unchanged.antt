@@ -22,11 +22,12 @@ use Rattle.bm_core.specs.Schedule.{call_of, closes, dropped, first_of, least, le
 use Rattle.bm_core.specs.Schedule.{switches_due, syncs}
 use Rattle.bm_replay.specs.declared.mux.Mux.{Mux}
 use Rattle.bm_replay.specs.declared.queue.Queue.{Queue}
-use Rattle.bm_replay.specs.Muxes.{HasTable, switches_of, version_in}
-use Rattle.bm_replay.specs.Playing.{KeepsMuxes, KeepsQueues}
-use Rattle.bm_replay.specs.Queues.{IsHead}
-use Rattle.bm_replay.specs.Shards.{IsCalled, IsShardOf, KeepsShards, no_state, place_of, state_at}
-use Rattle.bm_shard.specs.States.{IsLeft, State, turn_at}
+use Rattle.bm_replay.specs.Inside.Muxes.{HasTable, switches_of, version_in}
+use Rattle.bm_replay.specs.Inside.Playing.{KeepsMuxes, KeepsQueues}
+use Rattle.bm_replay.specs.Inside.Queues.{IsHead}
+use Rattle.bm_replay.specs.Inside.Shards.{IsCalled, IsShardOf, KeepsShards, no_state, place_of, state_at}
+use Rattle.bm_shard.specs.States.{State, turn_at}
+use Rattle.bm_shard.specs.Inside.States.{IsLeft}
 use Rattle.bm_shard.specs.Turns.{call_moment}
 use Rattle.bm_shard.specs.declared.calls.ShardCall.{ShardCall}
 use Rattle.bm_core.specs.Runs.{last_clock}

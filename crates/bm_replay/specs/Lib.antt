@@ -1,11 +1,2 @@
-pub mod Carriers
-pub mod Muxes
-pub mod Flights
-pub mod Players
-pub mod Playing
-pub mod Packets
-pub mod Queues
 pub mod Replays
-pub mod Shards
-pub mod Slots
-pub mod Comings
+pub mod Inside

@@ -3,7 +3,7 @@ ghost use Rattle.std.specs.Prelude.{◌≡◌, ◌≤◌, length, IfSome, OnOk, 
 ghost use Rattle.bm_base.specs.Tags.{IsTag};
 ghost use Rattle.bm_encap.specs.Faults.{chained};
 ghost use Rattle.bm_encap.specs.Spellings.{spelling};
-ghost use Rattle.bm_replay.specs.Carriers.{carried, next_tag};
+ghost use Rattle.bm_replay.specs.Inside.Carriers.{carried, next_tag};
 
 use bm_base::{Memory, Segment, Tag};
 use bm_encap::{set_chained, unwrap, wrap};

@@ -1,7 +1,7 @@
 //! What comes first of what can come.
 ghost use Rattle.std.specs.Prelude.{◌≡◌};
 ghost use Rattle.bm_core.specs.Schedule.{comes_first};
-ghost use Rattle.bm_replay.specs.Comings.{is_before, is_no_later, first_coming, sooner_of};
+ghost use Rattle.bm_replay.specs.Inside.Comings.{is_before, is_no_later, first_coming, sooner_of};
 
 use bm_base::Moment;
 use bm_core::Due;

@@ -4,7 +4,8 @@ ghost use Rattle.std.specs.Prelude.{slice_get};
 ghost use Rattle.bm_core.specs.Schedule.{least};
 ghost use Rattle.bm_table.specs.Tables.{change_moment, next_change};
 ghost use Rattle.bm_replay.specs.declared.mux.Mux.{Mux};
-ghost use Rattle.bm_replay.specs.Muxes.{HasTable, IsMoved, IsWritten, switch_after, switches_of};
+ghost use Rattle.bm_replay.specs.Inside.Muxes.{HasTable, IsMoved, IsWritten, switch_after};
+ghost use Rattle.bm_replay.specs.Inside.Muxes.{switches_of};
 
 use crate::coming::sooner;
 use bm_base::{Label, Memory, MuxId, Version};

@@ -1,7 +1,8 @@
 //! The commands of each kind and the packets, each in their order.
 ghost use Rattle.std.specs.Prelude.{◌≡◌, ℕ, ◌<◌, ◌≤◌, length};
-ghost use Rattle.bm_replay.specs.Queues.{IsBehind, IsHead, behind, retire_at, closes_from};
-ghost use Rattle.bm_replay.specs.Queues.{packets_after, retires_after, retires_from, syncs_from};
+ghost use Rattle.bm_replay.specs.Inside.Queues.{IsBehind, IsHead, behind, retire_at, closes_from};
+ghost use Rattle.bm_replay.specs.Inside.Queues.{packets_after, retires_after, retires_from};
+ghost use Rattle.bm_replay.specs.Inside.Queues.{syncs_from};
 
 use bm_base::{Body, Record, ServerId};
 use bm_core::{Call, Due};

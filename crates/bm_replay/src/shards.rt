@@ -2,8 +2,9 @@
 ghost use Rattle.std.specs.Prelude.{◌≡◌, ◌++◌, ◌<◌, ◌^◌, IfOk, OnOk, length};
 ghost use Rattle.bm_shard.specs.Books.{IsTaken};
 ghost use Rattle.bm_table.specs.Settings.{IsWithin};
-ghost use Rattle.bm_replay.specs.Shards.{IsCalled, all_shards, before, server_shards, state_at};
-ghost use Rattle.bm_replay.specs.Shards.{what_in};
+ghost use Rattle.bm_replay.specs.Inside.Shards.{IsCalled, all_shards, before, server_shards};
+ghost use Rattle.bm_replay.specs.Inside.Shards.{state_at};
+ghost use Rattle.bm_replay.specs.Inside.Shards.{what_in};
 
 use crate::slot::Slot;
 use bm_base::{Memory, Moment, ServerId};

@@ -3,7 +3,7 @@ ghost use Rattle.std.specs.Prelude.{◌≡◌, ◌<◌, ◌^◌, IfOk, OnOk};
 ghost use Rattle.bm_shard.specs.Books.{IsTaken};
 ghost use Rattle.bm_shard.specs.States.{IsAfter, first_state};
 ghost use Rattle.bm_table.specs.Settings.{IsWithin};
-ghost use Rattle.bm_replay.specs.Shards.{what_in};
+ghost use Rattle.bm_replay.specs.Inside.Shards.{what_in};
 
 use bm_base::Memory;
 use bm_core::What;
@@ -21,7 +21,7 @@ pub(crate) struct Slot {
 impl Model for Slot {
     ghost use Rattle.bm_shard.specs.States.{State};
     ghost use Rattle.bm_table.specs.Settings.{IsWithin};
-    ghost use Rattle.bm_replay.specs.Slots.{state_in};
+    ghost use Rattle.bm_replay.specs.Inside.Slots.{state_in};
 
     ghost Value = { State };
 

@@ -1,6 +1,6 @@
 pub mod Commands
 pub mod Faults
 pub mod Keys
-pub mod Readings
 pub mod Scripts
 pub mod Values
+pub mod Inside

@@ -1,5 +1,5 @@
 -- A server as contracts see it.
-use Rattle.std.specs.Prelude.{ℕ, ◌<◌, ◌≤◌, List, length}
+use Rattle.std.specs.Prelude.{ℕ, List, length}
 use Rattle.atomic_table.specs.Seated.{TableId}
 use Rattle.bm_base.specs.declared.flow.Flow.{Flow}
 use Rattle.bm_base.specs.declared.ids.ServerId.{ServerId}
@@ -24,11 +24,6 @@ serving id capacity timeout seats tables = record {
   seats = seats;
   tables = tables;
 }
-
-pub record IsServing (server : Serving) : Type 0 where
-  pub some : 1 ≤ length server.tables
-  pub most : length server.tables ≤ 64
-  pub seated : 0 < server.seats
 
 -- the shard h
 abbrev pub shard_at : Serving → ℕ → Shard

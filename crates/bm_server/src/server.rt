@@ -36,7 +36,8 @@ pub struct Server {
 }
 
 impl Model for Server {
-    ghost use Rattle.bm_server.specs.Servings.{IsServing, Serving, serving};
+    ghost use Rattle.bm_server.specs.Servings.{Serving, serving};
+    ghost use Rattle.bm_server.specs.Inside.Servings.{IsServing};
 
     ghost Value = { Serving };
 

@@ -6,7 +6,8 @@ use Rattle.bm_base.specs.declared.flow.Flow.{Flow}
 use Rattle.bm_base.specs.Segments.{same_flow}
 use Rattle.bm_seq.specs.declared.receiver.Receiver.{Receiver}
 use Rattle.bm_conn.specs.declared.table.Connection.{Connection}
-use Rattle.bm_conn.specs.Connections.{AreOnce, receiver_in, without}
+use Rattle.bm_conn.specs.Connections.{AreOnce, receiver_in}
+use Rattle.bm_conn.specs.Inside.Connections.{without}
 use Rattle.bm_conn.proofs.Flows.{same_flow-true, same_flow_refl}
 use Rattle.bm_conn.proofs.Maps.{length-without, once_without, receiver-without}
 use Rattle.bm_core.specs.Books.{Turn, book_flows, book_held, is_listed, AreDistinct}

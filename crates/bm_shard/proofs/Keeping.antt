@@ -13,9 +13,11 @@ use Rattle.bm_shard.specs.declared.calls.ShardCall.TheVariants.{Arrive, Close, R
 use Rattle.bm_shard.specs.declared.calls.ShardEntry.{ShardEntry}
 use Rattle.bm_shard.specs.declared.holding.Holding.{Holding}
 use Rattle.bm_shard.specs.Books.{clock_of, clock_after, event_after, reply_after}
-use Rattle.bm_shard.specs.Holdings.{IsLeftBy, TakesTurn}
+use Rattle.bm_shard.specs.Holdings.{TakesTurn}
+use Rattle.bm_shard.specs.Inside.Holdings.{IsLeftBy}
 use Rattle.bm_shard.specs.Replies.{what_of, reply_of, turn_of}
-use Rattle.bm_shard.specs.States.{IsAfter, IsLeft, State, clock_at, event_at, holding_in, known_in, reply_at, turn_at}
+use Rattle.bm_shard.specs.States.{IsAfter, State, clock_at, event_at, holding_in, known_in, reply_at, turn_at}
+use Rattle.bm_shard.specs.Inside.States.{IsLeft}
 use Rattle.bm_shard.specs.Turns.{call_moment, turn_kept, turns}
 use Rattle.bm_shard.proofs.Counting.{held_count}
 

@@ -1,17 +1,10 @@
--- What a shard holds, and how a turn changes it.
-use Rattle.std.specs.Prelude.{◌≡◌, ◌<◌, ◌||◌, ◌==◌, if◌then◌else◌, List, length, None, option_map}
+-- What a shard knows of a flow, and how a turn changes what it holds.
+use Rattle.std.specs.Prelude.{◌≡◌, ◌||◌, ◌==◌, length}
 use Rattle.bm_base.specs.declared.flow.Flow.{Flow}
-use Rattle.bm_base.specs.declared.flow.Segment.{Segment}
-use Rattle.bm_base.specs.Segments.{same_flow}
-use Rattle.bm_seq.specs.Receivers.{receiver_after}
-use Rattle.bm_conn.specs.Connections.{HasRoom, receiver_in}
+use Rattle.bm_conn.specs.Connections.{receiver_in}
 use Rattle.bm_core.specs.declared.events.Local.{Local}
-use Rattle.bm_core.specs.declared.events.Verdict.{Verdict}
-use Rattle.bm_core.specs.declared.events.Verdict.TheVariants.{Accept}
-use Rattle.bm_core.specs.Books.{Turn, turn_held, turn_retires, book_held, book_retired}
-use Rattle.bm_shard.specs.declared.calls.ShardCall.{ShardCall}
+use Rattle.bm_core.specs.Books.{Turn, turn_held, turn_retires}
 use Rattle.bm_shard.specs.declared.holding.Holding.{Holding}
-use Rattle.bm_shard.specs.Books.{IsShort}
 
 -- what a shard that holds this knows of a flow
 abbrev pub local_in : Holding → Flow → Local
@@ -27,32 +20,3 @@ pub record TakesTurn (turn : Turn) (old new : Holding) : Type 0 where
       → receiver_in new.table.connections f ≡ turn_held turn f (receiver_in old.table.connections f)
   pub retired : new.retired ≡ (turn_retires turn || old.retired)
   pub capacity : new.table.capacity ≡ old.table.capacity
-
--- what is held after a segment was taken that ends no connection
-pub record Takes (s : Segment) (old new : Holding) : Type 0 where
-  pub held : (f : Flow) → receiver_in new.table.connections f
-      ≡ (if same_flow s.flow f then option_map (λ r. receiver_after r s)
-      (receiver_in old.table.connections f) else receiver_in old.table.connections f)
-  pub retired : new.retired ≡ old.retired
-  pub capacity : new.table.capacity ≡ old.table.capacity
-
--- the flow is held, or there is a place for it that needs no memory
-abbrev pub CanOpen : Flow → Holding → Type 0
-CanOpen f h =
-    receiver_in h.table.connections f ≡ None → (length h.table.connections < h.table.capacity)
-    × HasRoom h.table
-
--- an Accept has its place
-abbrev pub CanTake : Verdict → Segment → Holding → Type 0
-CanTake Accept s h = CanOpen s.flow h
-CanTake _ s h = Unit {0}
-
--- a call may be served without memory
-pub record CanServe (call : ShardCall) (h : Holding) : Type 0 where
-  pub room : HasRoom h.table
-  pub short : IsShort call
-
--- what the turns of a shard left
-pub record IsLeftBy (book : List Turn) (h : Holding) : Type 0 where
-  pub held : (f : Flow) → receiver_in h.table.connections f ≡ book_held book f
-  pub retired : h.retired ≡ book_retired book

@@ -5,3 +5,4 @@ pub mod Holdings
 pub mod States
 pub mod Views
 pub mod Laws
+pub mod Inside

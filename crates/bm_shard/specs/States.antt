@@ -12,7 +12,7 @@ use Rattle.bm_shard.specs.declared.book.Shard.{Shard}
 use Rattle.bm_shard.specs.declared.calls.ShardCall.{ShardCall}
 use Rattle.bm_shard.specs.declared.calls.ShardReply.{ShardReply}
 use Rattle.bm_shard.specs.declared.holding.Holding.{Holding}
-use Rattle.bm_shard.specs.Holdings.{IsLeftBy, TakesTurn, local_in}
+use Rattle.bm_shard.specs.Holdings.{TakesTurn, local_in}
 use Rattle.bm_shard.specs.Replies.{reply_of, turn_of, what_of}
 use Rattle.bm_shard.specs.Turns.{call_moment}
 
@@ -72,8 +72,3 @@ pub record IsAfter (call : ShardCall) (old new : State) : Type 0 where
   pub takes : TakesTurn (turn_at old call) (holding_in old) (holding_in new)
   pub once : AreOnce new.connections
   pub clock : new.clock ≡ clock_at old call
-
--- these turns left the state
-pub record IsLeft (turns : List Turn) (state : State) : Type 0 where
-  pub left : IsLeftBy turns (holding_in state)
-  pub once : AreOnce state.connections

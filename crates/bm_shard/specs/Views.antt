@@ -1,7 +1,8 @@
 -- How contracts see a shard's state and its book, and what these keep.
 use Rattle.std.specs.Prelude.{◌≡◌, ◌+◌, ◌*◌, ◌^◌, ◌≤◌, length, reverse}
 use Rattle.bm_shard.specs.Books.{Book, Replays, clock_of}
-use Rattle.bm_shard.specs.States.{IsLeft, State}
+use Rattle.bm_shard.specs.States.{State}
+use Rattle.bm_shard.specs.Inside.States.{IsLeft}
 use Rattle.bm_shard.specs.Turns.{turns}
 use Rattle.bm_shard.specs.declared.book.ShardBook.TheInside.{Inside as BookInside}
 use Rattle.bm_shard.specs.declared.state.ShardState.TheInside.{Inside as StateInside}

@@ -12,7 +12,8 @@ use Rattle.bm_base.specs.declared.ids.ServerId.{ServerId}
 use Rattle.bm_base.specs.declared.label.Entry.{Entry}
 use Rattle.bm_table.proofs.Gets.{slice_get-set_same, slice_get-set_other, slice_get-append_left, slice_get-push}
 use Rattle.bm_table.proofs.Gets.{length_from_gets}
-use Rattle.bm_table.specs.Entries.{after_moves, server_in, IsTable}
+use Rattle.bm_table.specs.Entries.{after_moves, IsTable}
+use Rattle.bm_table.specs.Inside.Entries.{server_in}
 use Rattle.bm_table.specs.Planned.{Planned}
 use Rattle.bm_table.specs.Plans.{MovesRise, IsPlan}
 use Rattle.bm_table.specs.Tables.{moved, next_change, opening, table, target}

@@ -17,10 +17,11 @@ use Rattle.bm_table.proofs.LeafLemmas.{IsLeast-first_left, IsLeast-or, IsLeast-s
 use Rattle.bm_table.proofs.LeafLemmas.{least_since-push, leaves}
 use Rattle.bm_table.proofs.PlanLemmas.{next_change-last, table-before, IsAdmitted, IsPlan-with_change}
 use Rattle.bm_table.proofs.PlanLemmas.{MovesRise-from_none, MovesRise-range, bucket_already_there-agree}
-use Rattle.bm_table.specs.Entries.{after_moves, server_in, IsTable}
+use Rattle.bm_table.specs.Entries.{after_moves, IsTable}
+use Rattle.bm_table.specs.Inside.Entries.{server_in}
 use Rattle.std.specs.BTreeMap.{get}
 use Rattle.std.specs.Ordering.{nat_cmp}
-use Rattle.bm_table.specs.Leaves.{first_left, has_drain, least_since, step_left, IsLeast}
+use Rattle.bm_table.specs.Inside.Leaves.{first_left, has_drain, least_since, step_left, IsLeast}
 use Rattle.bm_table.specs.Planned.{Planned}
 use Rattle.bm_table.specs.Plans.{bad_bucket, bucket_already_there, server_now, total_moves, with_change, MovesRise}
 use Rattle.bm_table.specs.Plans.{IsPlan}

@@ -6,7 +6,7 @@ use Rattle.std.proofs.lemmas.Bool.{cases_Bool, cases_eq, cases_lt, eq-eqb, ne_eq
 use Rattle.std.proofs.lemmas.Bool.{and_right}
 use Rattle.bm_base.specs.declared.ids.ServerId.{ServerId}
 use Rattle.std.specs.Option.{option_or}
-use Rattle.bm_table.specs.Leaves.{first_left, least_since, lesser_of, step_left, IsLeast}
+use Rattle.bm_table.specs.Inside.Leaves.{first_left, least_since, lesser_of, step_left, IsLeast}
 use Rattle.bm_table.specs.Plans.{MovesRise}
 use Rattle.bm_table.specs.Tables.{same_server, target}
 use Rattle.bm_table.specs.declared.plan.Move.{Move}

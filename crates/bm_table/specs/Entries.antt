@@ -1,7 +1,6 @@
 -- The table of a version as an array of entries, and what the moves of a change do to it.
-use Rattle.std.specs.Prelude.{◌≡◌, ℕ, ◌<◌, if◌then◌else◌, ◌==◌, List, [], ◌∷◌, length, Some, None}
-use Rattle.std.specs.Prelude.{slice_get, slice_index_or}
-use Rattle.bm_base.specs.declared.ids.ServerId.{ServerId}
+use Rattle.std.specs.Prelude.{◌≡◌, ℕ, ◌<◌, if◌then◌else◌, ◌==◌, List, [], ◌∷◌, length, Some}
+use Rattle.std.specs.Prelude.{slice_get}
 use Rattle.bm_base.specs.declared.label.Entry.{Entry}
 use Rattle.bm_table.specs.declared.plan.Move.{Move}
 use Rattle.bm_table.specs.Planned.{Planned}
@@ -17,9 +16,3 @@ after_moves at (m ∷ moves) b entry =
 pub record IsTable (plan : Planned) (v : ℕ) (entries : List Entry) : Type 0 where
   pub count : length entries ≡ plan.buckets
   pub each : (b : ℕ) → b < plan.buckets → slice_get entries b ≡ Some (table plan v b)
-
--- the server of bucket b
-abbrev pub server_in : List Entry → ℕ → ServerId
-server_in entries b =
-    (slice_index_or entries b
-    (record { cur = record { 0 = 0 }; prev = None; stamp = record { 0 = 0 } })).cur

@@ -1,5 +1,4 @@
 pub mod Entries
-pub mod Leaves
 pub mod Limits
 pub mod Planned
 pub mod Plans
@@ -7,3 +6,4 @@ pub mod Scripts
 pub mod Settings
 pub mod Tables
 pub mod Views
+pub mod Inside

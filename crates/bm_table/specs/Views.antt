@@ -6,7 +6,7 @@ use Rattle.bm_table.specs.declared.plan.Change.{Change}
 use Rattle.bm_table.specs.declared.plan.Plan.TheInside.{Inside}
 use Rattle.bm_table.specs.declared.plan.Step.{Step}
 use Rattle.bm_table.specs.Entries.{IsTable}
-use Rattle.bm_table.specs.Leaves.{first_left}
+use Rattle.bm_table.specs.Inside.Leaves.{first_left}
 use Rattle.bm_table.specs.Planned.{Planned}
 use Rattle.bm_table.specs.Plans.{IsPlan, total_moves}
 use Rattle.bm_table.specs.Tables.{table}

@@ -1,7 +1,7 @@
 //! The plan: where the buckets open, and the changes in their order.
 ghost use Rattle.std.specs.Prelude.{◌≡◌, ◌≤◌, ◌<◌, ◌+◌, ◌-◌, [], length, map, IfOk};
 ghost use Rattle.std.specs.Prelude.{IfErr, OnOk, OnErr, MatchResult, Some, None};
-ghost use Rattle.bm_table.specs.Leaves.{has_drain, least_since, lesser_of, step_left};
+ghost use Rattle.bm_table.specs.Inside.Leaves.{has_drain, least_since, lesser_of, step_left};
 ghost use Rattle.bm_table.specs.Limits.{limit_word};
 ghost use Rattle.bm_table.specs.Plans.{bad_bucket};
 ghost use Rattle.bm_table.specs.Settings.{IsWithin, RiseFrom};

@@ -2,11 +2,12 @@
 ghost use Rattle.std.specs.Prelude.{◌≡◌, ◌<◌, ◌+◌, ◌%◌, ℕ, [], ◌∷◌, length, All, IfOk};
 ghost use Rattle.std.specs.Prelude.{if◌then◌else◌, ◌==◌, Some, None, slice_get};
 ghost use Rattle.std.specs.Option.{option_map, option_or};
-ghost use Rattle.bm_table.specs.Entries.{IsTable, after_moves, server_in};
+ghost use Rattle.bm_table.specs.Entries.{IsTable, after_moves};
+ghost use Rattle.bm_table.specs.Inside.Entries.{server_in};
 ghost use Rattle.bm_table.specs.Planned.{Planned};
 ghost use Rattle.std.specs.BTreeMap.{get};
 ghost use Rattle.std.specs.Ordering.{nat_cmp};
-ghost use Rattle.bm_table.specs.Leaves.{first_left};
+ghost use Rattle.bm_table.specs.Inside.Leaves.{first_left};
 ghost use Rattle.bm_table.specs.Plans.{IsPlan, bucket_already_there};
 ghost use Rattle.bm_table.specs.Tables.{next_change, opening};
 

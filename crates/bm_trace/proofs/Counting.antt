@@ -9,7 +9,7 @@ use Rattle.bm_core.specs.declared.events.Event.{Event}
 use Rattle.bm_core.specs.Causes.{is_process}
 use Rattle.bm_core.specs.Past.{is_accept, is_forward}
 use Rattle.bm_trace.specs.declared.counts.Counts.{Counts}
-use Rattle.bm_trace.specs.Counts.{HasRoom, counts_of, one_if, with_event}
+use Rattle.bm_trace.specs.Inside.Counts.{HasRoom, counts_of, one_if, with_event}
 use Rattle.bm_trace.specs.Totals.{arrives, is_drop, is_lost, is_reset, is_steered}
 
 pub counts_more : (events : List Event) (i : ℕ) (d : Event) → i < length events

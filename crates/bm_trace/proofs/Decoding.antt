@@ -33,7 +33,7 @@ use Rattle.bm_trace.specs.Words.{verdict_words, why_word}
 use Rattle.std.proofs.lemmas.Bool.Decides.{nat_tests}
 use Rattle.bm_trace.proofs.Reading.{AreWords, both_true, decimal_runs, ends_word, is_word, is_word_decimal, runs_on}
 use Rattle.bm_trace.proofs.Reading.{split, word_append}
-use Rattle.bm_trace.specs.Types.{IsFlow, IsVerdict, IsAnswer, IsWhat}
+use Rattle.bm_trace.specs.Inside.Types.{IsFlow, IsVerdict, IsAnswer, IsWhat}
 
 abbrev same_text : List ℕ → List ℕ → Bool
 same_text [] [] = true

@@ -5,7 +5,8 @@ use Rattle.std.specs.Io.KnownBytes.{Appends}
 use Rattle.std.proofs.KnownBytes.{Appends-nil, Appends-trans}
 use Rattle.std.proofs.lemmas.List.{append-nil, take-append-drop}
 use Rattle.std.proofs.Math.Seq.{take-append_seam}
-use Rattle.bm_trace.specs.Parts.{HandsOn, HandsPart, WritesPart}
+use Rattle.bm_trace.specs.Parts.{WritesPart}
+use Rattle.bm_trace.specs.Inside.Parts.{HandsOn, HandsPart}
 
 -- WHAT IS HANDED ON
 

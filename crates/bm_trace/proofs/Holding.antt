@@ -30,9 +30,9 @@ use Rattle.bm_table.proofs.Tables.{same_server-true, eq-same_server}
 use Rattle.bm_trace.specs.declared.holders.Holder.{Holder}
 use Rattle.bm_trace.specs.contracts.holders.ShardKeyOrd.TheImpl as key_order
 use Rattle.bm_trace.specs.declared.holders.ShardKey.{ShardKey}
-use Rattle.bm_trace.specs.HolderLists.{alive_place, is_alive, other_alive, place_in, put_holder, same_key}
-use Rattle.bm_trace.specs.HolderLists.{without_server}
-use Rattle.bm_trace.specs.Holders.{IsHolding, IsHoldingFlow, holders, holders_after, last_retired, ruled, ruling}
+use Rattle.bm_trace.specs.Inside.HolderLists.{alive_place, is_alive, other_alive, place_in, put_holder, same_key}
+use Rattle.bm_trace.specs.Inside.HolderLists.{without_server}
+use Rattle.bm_trace.specs.Inside.Holders.{IsHolding, IsHoldingFlow, holders, holders_after, last_retired, ruled, ruling}
 
 pub cond_same : {X : Type 0} (b : Bool) (x : X) → x ≡ (if b then x else x)
 cond_same true x = refl

@@ -21,10 +21,10 @@ use Rattle.bm_core.specs.Past.{Accepted, accept_after, accept_before, accept_of,
 use Rattle.bm_core.specs.Past.{label_of, labelled, owner, owner_after, segment_of, switched, version_at, version_of}
 use Rattle.bm_trace.specs.declared.past.Owner.{Owner}
 use Rattle.bm_trace.specs.declared.past.Sent.{Sent}
-use Rattle.bm_trace.specs.Accepts.{owner_before}
-use Rattle.bm_trace.specs.Running.{AreVersions, IsKept, versions_after}
-use Rattle.bm_trace.specs.Seen.{as_accepted}
-use Rattle.bm_trace.specs.Sent.{label_from, owner_from}
+use Rattle.bm_trace.specs.Inside.Accepts.{owner_before}
+use Rattle.bm_trace.specs.Inside.Running.{AreVersions, IsKept, versions_after}
+use Rattle.bm_trace.specs.Inside.Seen.{as_accepted}
+use Rattle.bm_trace.specs.Inside.Sent.{label_from, owner_from}
 
 pub kept_publish : (stage : Stage) (past : List Event) (newest : Version) (versions : List Version)
     (accepts : Flow → Option Owner) (packets : List (Option Sent)) (e : Event) (v : Version)

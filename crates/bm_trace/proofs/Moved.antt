@@ -14,7 +14,7 @@ use Rattle.bm_table.specs.declared.plan.Move.{Move}
 use Rattle.bm_table.specs.Planned.{Planned}
 use Rattle.bm_table.specs.Tables.{brings, change_moment, moved, moves, moves_next, next_change, table, target}
 use Rattle.bm_table.proofs.Tables.{moves_before}
-use Rattle.bm_trace.specs.Movers.{AreBelow, AreFrom, IsSplit, is_last, last_stamp, movers, with_moves}
+use Rattle.bm_trace.specs.Inside.Movers.{AreBelow, AreFrom, IsSplit, is_last, last_stamp, movers, with_moves}
 
 low_at : (v : ℕ) (low rest : List ℕ) (i d : ℕ) → AreBelow v low → i < length low → get_or (low ++ rest) i d < v
 low_at v [] rest i d b h = absurd (omega arith)

@@ -10,7 +10,7 @@ use Rattle.bm_core.specs.declared.events.Stage.{Stage}
 use Rattle.bm_trace.specs.Report.{event_line, event_lines, event_words, note_line, record_lines, text, totals_line}
 use Rattle.bm_trace.specs.Totals.{totals_of}
 use Rattle.bm_trace.specs.declared.sums.Totals.{Totals}
-use Rattle.bm_trace.specs.Types.{AreEvents}
+use Rattle.bm_trace.specs.Inside.Types.{AreEvents}
 use Rattle.bm_trace.proofs.Decoding.{event_are, same_what}
 use Rattle.bm_trace.proofs.Reading.{decimal_starts_low, is_word_decimal, read_line, starts_low}
 

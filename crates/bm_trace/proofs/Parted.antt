@@ -13,9 +13,10 @@ use Rattle.bm_core.specs.declared.events.History.{History}
 use Rattle.bm_core.specs.declared.events.Stage.{Stage}
 use Rattle.bm_trace.specs.declared.records.End.{End}
 use Rattle.bm_trace.specs.declared.sums.Totals.{Totals}
-use Rattle.bm_trace.specs.Ends.{words_of_ends, words_of_record}
-use Rattle.bm_trace.specs.EndTables.{with_later}
-use Rattle.bm_trace.specs.Parts.{AppendsPart, HandsOn, HandsPart, WritesPart, all_lines, last_lines, lines_behind}
+use Rattle.bm_trace.specs.Inside.Ends.{words_of_ends, words_of_record}
+use Rattle.bm_trace.specs.Inside.EndTables.{with_later}
+use Rattle.bm_trace.specs.Parts.{AppendsPart, WritesPart}
+use Rattle.bm_trace.specs.Inside.Parts.{HandsOn, HandsPart, all_lines, last_lines, lines_behind}
 use Rattle.bm_trace.specs.Report.{end_words, event_line, event_lines, ends_of, note_line, record_lines}
 use Rattle.bm_trace.specs.Report.{record_words, text, totals_line}
 use Rattle.bm_trace.specs.Totals.{totals_of}

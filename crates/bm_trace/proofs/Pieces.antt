@@ -12,14 +12,15 @@ use Rattle.std.proofs.lemmas.Grind.{common_steps}
 use Rattle.std.proofs.lemmas.Option.{same_Some, slice_get-get_or, slice_get_within}
 use Rattle.bm_table.proofs.Gets.{slice_get-append_left, slice_get-push}
 use Rattle.bm_core.specs.declared.events.History.{History}
-use Rattle.bm_trace.specs.Pieces.{AreInRow, AreLines, AreWritten, HasDealt, HaveWritten, IsRound, IsWritten}
-use Rattle.bm_trace.specs.Pieces.{PutsLines, PutsPart, first_lines, place_of}
-use Rattle.bm_trace.specs.Swept.{HasSwept}
+use Rattle.bm_trace.specs.Inside.Pieces.{AreInRow, AreLines, AreWritten, HasDealt, HaveWritten, IsRound, IsWritten}
+use Rattle.bm_trace.specs.Inside.Pieces.{PutsLines, PutsPart, first_lines, place_of}
+use Rattle.bm_trace.specs.Inside.Swept.{HasSwept}
 use Rattle.bm_trace.specs.Totals.{strays}
 use Rattle.bm_trace.specs.declared.beside.Piece.{Piece}
 use Rattle.bm_trace.specs.declared.beside.Round.{Round}
 use Rattle.bm_trace.specs.declared.swept.Sweeper.{Sweeper}
-use Rattle.bm_trace.specs.Parts.{HandsOn, HandsPart, WritesPart, all_lines}
+use Rattle.bm_trace.specs.Parts.{WritesPart}
+use Rattle.bm_trace.specs.Inside.Parts.{HandsOn, HandsPart, all_lines}
 use Rattle.bm_trace.specs.Report.{event_lines, record_lines}
 use Rattle.bm_trace.proofs.Parted.{events_whole, later_lines}
 

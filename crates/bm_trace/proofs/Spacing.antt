@@ -6,8 +6,8 @@ use Rattle.std.proofs.lemmas.Bool.{cases_eq, eq-eqb, ne_eqb}
 use Rattle.std.proofs.lemmas.List.{append-nil}
 use Rattle.std.proofs.lemmas.Grind.{common_steps}
 use Rattle.bm_trace.specs.declared.records.End.{End}
-use Rattle.bm_trace.specs.Ends.{words_of_end, words_of_ends, words_of_option}
-use Rattle.bm_trace.specs.EndTables.{with_later}
+use Rattle.bm_trace.specs.Inside.Ends.{words_of_end, words_of_ends, words_of_option}
+use Rattle.bm_trace.specs.Inside.EndTables.{with_later}
 use Rattle.bm_trace.specs.Words.{line, spaced}
 
 pub spaced_append : (a b : List (List ℕ)) → spaced (a ++ b) ≡ spaced a ++ spaced b

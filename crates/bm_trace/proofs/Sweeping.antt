@@ -15,12 +15,13 @@ use Rattle.bm_core.specs.Causes.{cause, is_process}
 use Rattle.bm_core.specs.Runs.{IsRun, past_at}
 use Rattle.bm_trace.specs.CauseOf.{cause_after, cause_of, is_fault, is_fault_after}
 use Rattle.bm_trace.specs.declared.known.Known.{Known}
-use Rattle.bm_trace.specs.Known.{Knows}
-use Rattle.bm_trace.specs.Swept.{AreCauses, AreCausesOf, HasSwept, cause_in}
+use Rattle.bm_trace.specs.Inside.Known.{Knows}
+use Rattle.bm_trace.specs.Swept.{AreCauses, cause_in}
+use Rattle.bm_trace.specs.Inside.Swept.{AreCausesOf, HasSwept}
 use Rattle.bm_trace.specs.declared.swept.Sweeper.{Sweeper}
 use Rattle.bm_trace.specs.Totals.{arrives, is_stray, strays}
 use Rattle.bm_base.specs.declared.ids.Version.{Version}
-use Rattle.bm_trace.specs.Running.{AreVersions, versions_after}
+use Rattle.bm_trace.specs.Inside.Running.{AreVersions, versions_after}
 use Rattle.bm_trace.proofs.Caused.{cause_there}
 use Rattle.bm_trace.proofs.Keeping.{versions_more}
 use Rattle.bm_trace.proofs.Moved.{get_past}

@@ -6,15 +6,17 @@ ghost use Rattle.std.specs.Io.KnownBytes.{Appends};
 ghost use Rattle.bm_core.specs.Runs.{IsRun};
 ghost use Rattle.bm_io.specs.Causes.{HasIoCause};
 ghost use Rattle.bm_trace.specs.CauseOf.{cause_of};
-ghost use Rattle.bm_trace.specs.Parts.{HandsOn, HandsPart, WritesPart, all_lines};
-ghost use Rattle.bm_trace.specs.Pieces.{AreLines, AreWritten, CanWrite, HasDealt, HasPut};
-ghost use Rattle.bm_trace.specs.Pieces.{HasWritten, HaveWritten, IsRound, PutsLines, PutsPart};
-ghost use Rattle.bm_trace.specs.Pieces.{place_of};
-ghost use Rattle.bm_trace.specs.Ranges.{HasRanges};
+ghost use Rattle.bm_trace.specs.Parts.{WritesPart};
+ghost use Rattle.bm_trace.specs.Inside.Parts.{HandsOn, HandsPart, all_lines};
+ghost use Rattle.bm_trace.specs.Inside.Pieces.{AreLines, AreWritten, CanWrite, HasDealt, HasPut};
+ghost use Rattle.bm_trace.specs.Inside.Pieces.{HasWritten, HaveWritten, IsRound, PutsLines};
+ghost use Rattle.bm_trace.specs.Inside.Pieces.{PutsPart};
+ghost use Rattle.bm_trace.specs.Inside.Pieces.{place_of};
+ghost use Rattle.bm_trace.specs.Inside.Ranges.{HasRanges};
 ghost use Rattle.bm_trace.specs.Report as report;
-ghost use Rattle.bm_trace.specs.Rests.{IsRest};
-ghost use Rattle.bm_trace.specs.Running.{AreVersions};
-ghost use Rattle.bm_trace.specs.Swept.{AreCausesOf, HasSwept};
+ghost use Rattle.bm_trace.specs.Inside.Rests.{IsRest};
+ghost use Rattle.bm_trace.specs.Inside.Running.{AreVersions};
+ghost use Rattle.bm_trace.specs.Inside.Swept.{AreCausesOf, HasSwept};
 ghost use Rattle.bm_trace.specs.Totals as totals;
 ghost use Rattle.std.specs.Thread.{IsSync};
 
@@ -295,7 +297,7 @@ struct Round {
 }
 
 impl Round {
-    ghost use Rattle.bm_trace.specs.Pieces.{IsRound};
+    ghost use Rattle.bm_trace.specs.Inside.Pieces.{IsRound};
 
     /// The first round, with so many pieces.
     fn first(alloc: Global, h: &History, count: usize) -> Result<Round, AllocError>

@@ -2,7 +2,7 @@
 #![tactic(auto, using(crate::proofs::Newest::reverse_last))]
 
 ghost use Rattle.std.specs.Prelude.{◌≡◌, reverse, count_by};
-ghost use Rattle.bm_trace.specs.Counts.{HasRoom, counts_of, with_event, without_strays};
+ghost use Rattle.bm_trace.specs.Inside.Counts.{HasRoom, counts_of, with_event, without_strays};
 ghost use Rattle.bm_trace.specs.Totals as totals;
 
 use crate::causes::Arrival;

@@ -1,8 +1,8 @@
 //! The ends of each packet's copies, in the order of the events.
 ghost use Rattle.std.specs.Prelude.{◌≡◌, ℕ, ◌+◌, ◌<◌, ◌==◌, ◌∷◌, ◌++◌, []};
 ghost use Rattle.std.specs.Prelude.{reverse, OnOk, IfOk, false, if◌then◌else◌, vec_len};
-ghost use Rattle.bm_trace.specs.Ends.{words_of_end, words_of_ends};
-ghost use Rattle.bm_trace.specs.EndTables.{ends_at, first_at, later_at, listed_at};
+ghost use Rattle.bm_trace.specs.Inside.Ends.{words_of_end, words_of_ends};
+ghost use Rattle.bm_trace.specs.Inside.EndTables.{ends_at, first_at, later_at, listed_at};
 ghost use Rattle.bm_trace.specs.Report as report;
 
 use crate::records::{End, Ending, ending_of};

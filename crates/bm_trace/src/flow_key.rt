@@ -1,6 +1,6 @@
 //! Flows as the keys of maps.
 ghost use Rattle.std.specs.Prelude.{◌≡◌};
-ghost use Rattle.bm_trace.specs.FlowKeys.{key_of};
+ghost use Rattle.bm_trace.specs.Inside.FlowKeys.{key_of};
 
 use bm_base::Flow;
 

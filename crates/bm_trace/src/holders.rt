@@ -12,11 +12,11 @@ ghost use Rattle.bm_core.specs.declared.events.Event.{Event};
 ghost use Rattle.bm_core.specs.declared.events.Stage.{Stage};
 ghost use Rattle.bm_core.specs.Past as past;
 ghost use Rattle.bm_core.specs.Causes as causes;
-ghost use Rattle.bm_trace.specs.FlowKeys.{key_of};
-ghost use Rattle.bm_trace.specs.HolderLists.{put_holder, without_server, listed, place_in};
-ghost use Rattle.bm_trace.specs.HolderLists.{is_alive, other_alive, alive_place};
-ghost use Rattle.bm_trace.specs.Holders.{ruling, ruled};
-ghost use Rattle.bm_trace.specs.Ranges.{HasRanges};
+ghost use Rattle.bm_trace.specs.Inside.FlowKeys.{key_of};
+ghost use Rattle.bm_trace.specs.Inside.HolderLists.{put_holder, without_server, listed, place_in};
+ghost use Rattle.bm_trace.specs.Inside.HolderLists.{is_alive, other_alive, alive_place};
+ghost use Rattle.bm_trace.specs.Inside.Holders.{ruling, ruled};
+ghost use Rattle.bm_trace.specs.Inside.Ranges.{HasRanges};
 
 use crate::flow_key::FlowKey;
 use bm_base::{Flow, Hop, Moment, ServerId, Taken};
@@ -114,7 +114,7 @@ pub(crate) struct Lists {
 }
 
 impl Lists {
-    ghost use Rattle.bm_trace.specs.ByFlow.{holders_in};
+    ghost use Rattle.bm_trace.specs.Inside.ByFlow.{holders_in};
 
     fn new(alloc: Global) -> Lists
         ensures { (q : Flow) → holders_in result q ≡ [] }
@@ -233,7 +233,7 @@ pub(crate) struct Retirements {
 
 impl Retirements {
     ghost use Rattle.bm_trace.specs.declared.holders.ShardKey.{ShardKey};
-    ghost use Rattle.bm_trace.specs.HolderLists.{same_key};
+    ghost use Rattle.bm_trace.specs.Inside.HolderLists.{same_key};
 
     fn new(alloc: Global) -> Retirements
         ensures { (q : ShardKey) → tree.get ⟦<ShardKey as Ord>⟧.cmp result.places q ≡ None }
@@ -336,7 +336,7 @@ pub(crate) struct Holders {
 }
 
 impl Holders {
-    ghost use Rattle.bm_trace.specs.Holding.{HoldsAfter, HoldsFlow};
+    ghost use Rattle.bm_trace.specs.Inside.Holding.{HoldsAfter, HoldsFlow};
 
     pub(crate) fn new(alloc: Global) -> Holders
         ensures { (stage : Stage) → HoldsAfter stage [] result }
@@ -468,7 +468,7 @@ pub(crate) struct HeldBy<'a> {
 }
 
 impl<'a> HeldBy<'a> {
-    ghost use Rattle.bm_trace.specs.Holding.{HoldsFlow};
+    ghost use Rattle.bm_trace.specs.Inside.Holding.{HoldsFlow};
 
     /// The place of the Accept of the flow that the server holds.
     pub(crate) fn place(&self, server: ServerId) -> Option<usize>

@@ -6,11 +6,11 @@ ghost use Rattle.bm_core.specs.declared.events.Event.{Event};
 ghost use Rattle.bm_core.specs.declared.events.Stage.{Stage};
 ghost use Rattle.bm_core.specs.Past as past;
 ghost use Rattle.bm_core.specs.Causes as causes;
-ghost use Rattle.bm_trace.specs.PlanMovers.{AreMovers};
-ghost use Rattle.bm_trace.specs.Ranges.{HasRanges};
-ghost use Rattle.bm_trace.specs.Running.{AreVersions};
-ghost use Rattle.bm_trace.specs.Seen.{as_accepted};
-ghost use Rattle.bm_trace.specs.Sent.{label_from, label_sent, owner_from};
+ghost use Rattle.bm_trace.specs.Inside.PlanMovers.{AreMovers};
+ghost use Rattle.bm_trace.specs.Inside.Ranges.{HasRanges};
+ghost use Rattle.bm_trace.specs.Inside.Running.{AreVersions};
+ghost use Rattle.bm_trace.specs.Inside.Seen.{as_accepted};
+ghost use Rattle.bm_trace.specs.Inside.Sent.{label_from, label_sent, owner_from};
 
 use crate::causes::{Arrival, opening_cause};
 use crate::holders::Holders;
@@ -59,7 +59,7 @@ fn is_late(movers: &Movers, stage: &Stage, flow: &Flow, sent: &Sent, clock: Mome
 }
 
 impl Known {
-    ghost use Rattle.bm_trace.specs.Known.{Knows};
+    ghost use Rattle.bm_trace.specs.Inside.Known.{Knows};
 
     /// Before the first event.
     pub(crate) fn new(alloc: Global, stage: &Stage) -> Result<Known, AllocError>

@@ -1,7 +1,8 @@
 //! What a report says of its history.
 ghost use Rattle.std.specs.Prelude.{◌≡◌, ◌<◌, ◌^◌};
 ghost use Rattle.bm_trace.specs.Report.{text};
-ghost use Rattle.bm_trace.specs.Types.{AreEvents, IsAnswer, IsEvent, IsFlow, IsVerdict, IsWhat};
+ghost use Rattle.bm_trace.specs.Inside.Types.{AreEvents, IsAnswer, IsEvent, IsFlow, IsVerdict};
+ghost use Rattle.bm_trace.specs.Inside.Types.{IsWhat};
 
 use bm_base::Flow;
 use bm_core::{Event, History, Verdict, What};

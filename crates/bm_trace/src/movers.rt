@@ -5,8 +5,8 @@ ghost use Rattle.std.specs.BTreeMap as tree;
 ghost use Rattle.std.specs.Ordering.{nat_cmp};
 ghost use Rattle.bm_table.specs.Planned.{Planned};
 ghost use Rattle.bm_table.specs.Tables as tables;
-ghost use Rattle.bm_trace.specs.Movers.{IsSplit, add_once, is_last, movers, numbers};
-ghost use Rattle.bm_trace.specs.Movers.{with_moves};
+ghost use Rattle.bm_trace.specs.Inside.Movers.{IsSplit, add_once, is_last, movers, numbers};
+ghost use Rattle.bm_trace.specs.Inside.Movers.{with_moves};
 
 use crate::entries::moment_of;
 use bm_base::{Moment, Version};
@@ -54,7 +54,7 @@ pub(crate) struct Movers {
 }
 
 impl Movers {
-    ghost use Rattle.bm_trace.specs.PlanMovers.{AreMovers};
+    ghost use Rattle.bm_trace.specs.Inside.PlanMovers.{AreMovers};
 
     fn empty(alloc: Global) -> Movers
         ensures { (q : ℕ) → numbers (tree.get nat_cmp result.lists q) ≡ [] }

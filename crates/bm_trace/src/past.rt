@@ -6,8 +6,8 @@ ghost use Rattle.std.specs.Prelude.{None, option_map};
 ghost use Rattle.bm_core.specs.declared.events.Stage.{Stage};
 ghost use Rattle.bm_core.specs.Past as past;
 ghost use Rattle.bm_base.specs.Segments.{same_flow};
-ghost use Rattle.bm_trace.specs.Seen.{as_accepted};
-ghost use Rattle.bm_trace.specs.Sent.{IsSent, owner_from};
+ghost use Rattle.bm_trace.specs.Inside.Seen.{as_accepted};
+ghost use Rattle.bm_trace.specs.Inside.Sent.{IsSent, owner_from};
 
 use bm_base::{Flow, MuxId, ServerId, Version};
 use bm_core::{Event, Stage, Verdict, What};

@@ -4,9 +4,9 @@
 ghost use Rattle.std.specs.Prelude.{◌≡◌, ℕ, ◌==◌, ◌∷◌, ◌++◌, []};
 ghost use Rattle.std.specs.Prelude.{OnOk, MatchOption, codes, decimal, string_bytes};
 ghost use Rattle.std.specs.Prelude.{if◌then◌else◌};
-ghost use Rattle.bm_trace.specs.Ends.{words_of_end, words_of_ends, words_of_option};
-ghost use Rattle.bm_trace.specs.Ends.{words_of_record};
-ghost use Rattle.bm_trace.specs.EndTables.{with_later};
+ghost use Rattle.bm_trace.specs.Inside.Ends.{words_of_end, words_of_ends, words_of_option};
+ghost use Rattle.bm_trace.specs.Inside.Ends.{words_of_record};
+ghost use Rattle.bm_trace.specs.Inside.EndTables.{with_later};
 ghost use Rattle.bm_trace.specs.Words as words;
 ghost use Rattle.bm_trace.specs.Report as report;
 

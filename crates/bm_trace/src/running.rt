@@ -7,8 +7,8 @@ ghost use Rattle.bm_base.specs.Segments.{same_flow};
 ghost use Rattle.bm_core.specs.declared.events.Event.{Event};
 ghost use Rattle.bm_core.specs.Past as past;
 ghost use Rattle.bm_core.specs.declared.events.Stage.{Stage};
-ghost use Rattle.bm_trace.specs.Running.{AreVersions};
-ghost use Rattle.bm_trace.specs.Accepts.{owner_before};
+ghost use Rattle.bm_trace.specs.Inside.Running.{AreVersions};
+ghost use Rattle.bm_trace.specs.Inside.Accepts.{owner_before};
 
 use crate::flow_key::FlowKey;
 use crate::past::{Owner, Sent, sent_of};
@@ -26,7 +26,7 @@ pub(crate) struct Accepts {
 }
 
 impl Accepts {
-    ghost use Rattle.bm_trace.specs.ByFlow.{owner_in};
+    ghost use Rattle.bm_trace.specs.Inside.ByFlow.{owner_in};
 
     fn new(alloc: Global) -> Accepts
         ensures { (f : Flow) → owner_in result f ≡ None }
@@ -93,8 +93,8 @@ pub(crate) struct Running {
 }
 
 impl Running {
-    ghost use Rattle.bm_trace.specs.Running.{Keeps};
-    ghost use Rattle.bm_trace.specs.Sent.{IsSent};
+    ghost use Rattle.bm_trace.specs.Inside.Running.{Keeps};
+    ghost use Rattle.bm_trace.specs.Inside.Sent.{IsSent};
 
     /// Before the first event, with so many muxes and packets.
     pub(crate) fn new(alloc: Global, muxes: usize, packets: usize) -> Result<Running, AllocError>

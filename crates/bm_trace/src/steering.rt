@@ -23,7 +23,7 @@ pub(crate) struct Packed {
 impl Model for Packed {
     ghost use Rattle.std.specs.Prelude.{Option};
     ghost use Rattle.bm_trace.specs.declared.past.Sent.{Sent};
-    ghost use Rattle.bm_trace.specs.Steering.{unpacked};
+    ghost use Rattle.bm_trace.specs.Inside.Steering.{unpacked};
 
     ghost Value = { Option Sent };
 

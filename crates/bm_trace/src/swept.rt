@@ -6,9 +6,10 @@ ghost use Rattle.bm_core.specs.Causes as causes;
 ghost use Rattle.bm_core.specs.Runs.{IsRun};
 ghost use Rattle.bm_core.specs.declared.events.History.{History};
 ghost use Rattle.bm_trace.specs.CauseOf.{cause_of};
-ghost use Rattle.bm_trace.specs.Ranges.{HasRanges};
-ghost use Rattle.bm_trace.specs.Running.{AreVersions};
-ghost use Rattle.bm_trace.specs.Swept.{AreCauses, AreCausesOf, cause_in};
+ghost use Rattle.bm_trace.specs.Inside.Ranges.{HasRanges};
+ghost use Rattle.bm_trace.specs.Inside.Running.{AreVersions};
+ghost use Rattle.bm_trace.specs.Swept.{AreCauses, cause_in};
+ghost use Rattle.bm_trace.specs.Inside.Swept.{AreCausesOf};
 ghost use Rattle.bm_trace.specs.Totals as totals;
 
 use crate::counts::totals_but_strays;
@@ -93,7 +94,7 @@ pub(crate) struct Sweeper {
 }
 
 impl Sweeper {
-    ghost use Rattle.bm_trace.specs.Swept.{HasSwept};
+    ghost use Rattle.bm_trace.specs.Inside.Swept.{HasSwept};
 
     /// Before the first event.
     pub(crate) fn new(alloc: Global, h: &History) -> Result<Sweeper, AllocError>

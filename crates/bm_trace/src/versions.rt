@@ -1,7 +1,7 @@
 //! The versions of the muxes after some events.
 ghost use Rattle.std.specs.Prelude.{◌≡◌, ◌<◌, reverse, [], IfOk, slice_set};
 ghost use Rattle.bm_core.specs.Past as past;
-ghost use Rattle.bm_trace.specs.Running.{AreVersions, versions_after};
+ghost use Rattle.bm_trace.specs.Inside.Running.{AreVersions, versions_after};
 
 use crate::past::version_at;
 use bm_base::{MuxId, Version};

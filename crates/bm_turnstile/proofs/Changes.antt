@@ -13,7 +13,7 @@ use Rattle.bm_turnstile.specs.declared.view.Old.{Old}
 use Rattle.bm_turnstile.specs.declared.view.Stage.TheVariants.{Idle}
 use Rattle.bm_turnstile.specs.Seen.{Covers, AllBelow}
 use Rattle.bm_turnstile.specs.Views.{IsIdle, gave, new_view, joined, spent_view, first_view}
-use Rattle.bm_turnstile.specs.Rule.{updated, OldsFit, IsServed, Fits, Kept, NumberedFrom, OldsCover, Closes}
+use Rattle.bm_turnstile.specs.Inside.Rule.{updated, OldsFit, IsServed, Fits, Kept, NumberedFrom, OldsCover, Closes}
 use Rattle.bm_turnstile.proofs.Sums.{sum_next, snoc_each, updated_here, updated_else, at_inside, set_each, sum_same}
 use Rattle.bm_turnstile.proofs.Entries.{own_none, below_wider}
 use Rattle.bm_turnstile.proofs.Steps.{live_or_spent, idle_is_not_served, still}

@@ -6,7 +6,7 @@ use mathlib.Core.Logic.{dite}
 use native.Mathlib.Decide.{ℕ_discrete}
 use Rattle.bm_turnstile.specs.declared.view.Old.{Old}
 use Rattle.bm_turnstile.specs.Seen.{own, Covers, AllBelow}
-use Rattle.bm_turnstile.specs.Rule.{Grows, OldsFit}
+use Rattle.bm_turnstile.specs.Inside.Rule.{Grows, OldsFit}
 
 module _ {E : Type 0} (seat_of : E → ℕ) where
   pub own-append : (n : ℕ) (xs ys : List E) → own seat_of n (xs ++ ys) ≡ own seat_of n xs ++ own seat_of n ys

@@ -1,7 +1,7 @@
 -- The seats of a turnstile, as lists.
 use Rattle.std.proofs.Common.{◌≡◌, ℕ, suc, ◌+◌, List, [], ◌∷◌, ◌++◌, length, map, Some, refl, ap, arith}
 use Rattle.bm_turnstile.specs.Sittings.{Sitting}
-use Rattle.bm_turnstile.specs.Rule.{NumberedFrom, OldsCover}
+use Rattle.bm_turnstile.specs.Inside.Rule.{NumberedFrom, OldsCover}
 use Rattle.bm_turnstile.specs.Views.{SeatsFrom, NewFrom, SeatsCover, old_of, AllIn}
 
 pub all_front : {S : Type 0} (P : S → Type 0) (xs : List S) (x : S) → AllIn P (xs ++ x ∷ []) → AllIn P xs × P x

@@ -14,8 +14,8 @@ use Rattle.bm_turnstile.specs.declared.view.View.{View}
 use Rattle.bm_turnstile.specs.declared.view.Stage.{Stage}
 use Rattle.bm_turnstile.specs.declared.view.Stage.TheVariants.{Idle, Waiting, Served}
 use Rattle.bm_turnstile.specs.Seen.{Adds, Covers}
-use Rattle.bm_turnstile.specs.Rule.{sum_below, updated, most, Stands, IsServed, Fits, Kept, Finds, Grows}
-use Rattle.bm_turnstile.specs.Rule.{Hands, Draws, Looks, Takes, Advances, has_drawn, has_handed_on}
+use Rattle.bm_turnstile.specs.Inside.Rule.{sum_below, updated, most, Stands, IsServed, Fits, Kept, Finds, Grows}
+use Rattle.bm_turnstile.specs.Inside.Rule.{Hands, Draws, Looks, Takes, Advances, has_drawn, has_handed_on}
 use Rattle.bm_turnstile.proofs.Sums.{updated_here, updated_else, at_inside, set_each}
 use Rattle.bm_turnstile.proofs.Sums.{sum_updated, sum_bound, counted_more}
 use Rattle.bm_turnstile.proofs.Entries.{below_grows, covers_self, covers_grows, olds_grow, length_grows}

@@ -6,7 +6,7 @@ use mathlib.Core.Option.{some, some-injective, some-ne-none}
 use native.Mathlib.Decide.{ℕ_discrete}
 use lib.ListN.{get_elem?}
 use Rattle.atomic_table.proofs.Lists.{at_set}
-use Rattle.bm_turnstile.specs.Rule.{sum_below, updated, most}
+use Rattle.bm_turnstile.specs.Inside.Rule.{sum_below, updated, most}
 
 module _ {A : Type 0} where
   pub updated_here : (f : ℕ → A) (n : ℕ) (x : A) → updated f n x n ≡ x

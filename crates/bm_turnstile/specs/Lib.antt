@@ -2,4 +2,4 @@ pub mod Sittings
 pub mod Seen
 pub mod Told
 pub mod Views
-pub mod Rule
+pub mod Inside

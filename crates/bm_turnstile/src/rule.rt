@@ -1,5 +1,5 @@
 //! The rule of the tickets, and what each step on the table tells its seat.
-ghost use Rattle.bm_turnstile.specs.Rule.{Kept, Advances, Draws, Looks};
+ghost use Rattle.bm_turnstile.specs.Inside.Rule.{Kept, Advances, Draws, Looks};
 ghost use Rattle.bm_turnstile.specs.Views.{first_view, gave, joined, new_view, spent_view};
 
 use crate::booked::Booked;

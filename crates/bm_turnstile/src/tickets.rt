@@ -2,8 +2,8 @@
 ghost use Rattle.std.specs.Prelude.{◌≡◌, ◌+◌, ◌^◌, ◌<◌, true, false, Some, None, [], ◌∷◌, length};
 ghost use Rattle.std.specs.Prelude.{IfOk, OnErr};
 ghost use Rattle.bm_turnstile.specs.declared.view.Stage.TheVariants.{Waiting};
-ghost use Rattle.bm_turnstile.specs.Rule.{Closes, Hands, NumberedFrom, Takes};
-ghost use Rattle.bm_turnstile.specs.Rule.{has_drawn, has_handed_on};
+ghost use Rattle.bm_turnstile.specs.Inside.Rule.{Closes, Hands, NumberedFrom, Takes};
+ghost use Rattle.bm_turnstile.specs.Inside.Rule.{has_drawn, has_handed_on};
 ghost use Rattle.bm_turnstile.specs.Seen.{SeesMore, Turned};
 ghost use Rattle.bm_turnstile.specs.Views.{IsIdle, IsResting, IsSameSeat};
 ghost use Rattle.bm_turnstile.specs.Views.{first_view, gave, joined, new_view, sitting};

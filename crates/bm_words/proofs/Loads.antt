@@ -6,7 +6,7 @@ use Rattle.std.proofs.lemmas.Slice.Eq.{bytes_eq-Decides}
 use Rattle.std.specs.Str.{bytes_eq}
 use Rattle.clap.specs.Words.{Row, Text, first_of, subcommand_of, takes}
 use Rattle.clap.proofs.OnLiterals.{clap_on_literals}
-use Rattle.bm_words.specs.Command.{beamer}
+use Rattle.bm_words.specs.Inside.Command.{beamer}
 use Rattle.bm_words.specs.Form.{connections_of, count_of}
 
 -- the number that a subcommand's rows give

@@ -7,7 +7,7 @@ use Rattle.std.proofs.lemmas.Slice.Eq.{bytes_eq-Decides}
 use Rattle.std.specs.Str.{bytes_eq}
 use Rattle.clap.specs.Words.{Row, Text, first_of, is_simple, subcommand_of, takes}
 use Rattle.clap.proofs.OnLiterals.{clap_on_literals}
-use Rattle.bm_words.specs.Command.{beamer}
+use Rattle.bm_words.specs.Inside.Command.{beamer}
 use Rattle.bm_words.specs.Form.{Named, asked_by, names_of, play_of, verb_of}
 use Rattle.bm_words.specs.declared.form.Verb.{Verb}
 use Rattle.bm_words.specs.declared.form.Verb.TheVariants.{Replay, Run}

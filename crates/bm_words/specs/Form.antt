@@ -1,8 +1,8 @@
 -- What the words ask for: `replay CAPTURE`, `replay CAPTURE SCRIPT`, `run CAPTURE SCRIPT` or
 -- `load N`. A word that is empty or begins with `-` makes them no form.
 use Rattle.std.specs.Prelude.{ℕ, List, [], ◌∷◌, Bool, false, not, ◌&&◌, ◌==◌, if◌then◌else◌}
-use Rattle.std.specs.Prelude.{Option, Some, None, is_some, codes, drop, map, option_and_then, option_map}
-use Rattle.std.specs.Prelude.{◌≡◌, ◌≤◌, string_bytes, true}
+use Rattle.std.specs.Prelude.{Option, Some, None, codes, map, option_and_then, option_map}
+use Rattle.std.specs.Prelude.{◌≤◌, string_bytes}
 use Rattle.std.specs.Char.{is_ascii_digit}
 use Rattle.std.specs.Int.{is_in_range}
 use Rattle.std.specs.List.{list_all}
@@ -107,11 +107,6 @@ named names = record {
   script =
       option_map (λ s. s.now) names.script;
 }
-
--- the words play a capture by this command
-pub record IsVerbIn (words : List (List ℕ)) (verb : Verb) : Type 0 where
-  pub form : play_of words ≡ option_and_then (asked_by verb) (names_of (drop 1 words))
-  pub some : is_some (play_of words) ≡ true
 
 abbrev pub asked : Form → Asked
 asked (in_replay names) = Replay (named names)

@@ -1,6 +1,7 @@
 //! The command that the words begin with, where they are of a form.
 ghost use Rattle.std.specs.Prelude.{◌≡◌, IfSome, None, is_some, map, string_bytes};
-ghost use Rattle.bm_words.specs.Form.{IsVerbIn, connections_of, is_name, play_of, verb_of};
+ghost use Rattle.bm_words.specs.Form.{connections_of, is_name, play_of, verb_of};
+ghost use Rattle.bm_words.specs.Inside.Form.{IsVerbIn};
 
 use crate::count::count_in;
 

@@ -35,10 +35,10 @@ use Rattle.bm_mux.specs.Muxes.{MuxState}
 use Rattle.bm_mux.specs.Steers.{at_clock, label_by, sent, sent_for, steer_clock, steering_clock, steers, switch_to}
 use Rattle.bm_mux.specs.Steers.{switches, tag_by}
 use Rattle.bm_server.specs.Servings.{Serving}
-use Rattle.bm_worker.specs.Batches.{AreDrawn, AreOwed, IsItemOf, IsSent, Rise, last_packet}
-use Rattle.bm_worker.specs.Batches.{sent_notes, steering, switch_note, switch_notes}
+use Rattle.bm_worker.specs.Inside.Batches.{AreDrawn, AreOwed, IsItemOf, IsSent, Rise, last_packet}
+use Rattle.bm_worker.specs.Inside.Batches.{sent_notes, steering, switch_note, switch_notes}
 use Rattle.bm_worker.specs.Deeds.{Suits}
-use Rattle.bm_worker.specs.Debts.{IsAmong}
+use Rattle.bm_worker.specs.Inside.Debts.{IsAmong}
 use Rattle.bm_worker.specs.Phases.{IsDeed, Stint, mux_of}
 use Rattle.bm_worker.specs.Turns.{is_mux, is_turn, mux_at}
 use Rattle.bm_worker.proofs.Known.{known_server, table_entry}

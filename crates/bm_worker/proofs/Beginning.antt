@@ -27,7 +27,7 @@ use Rattle.bm_server.specs.Seats.{Seated}
 use Rattle.bm_worker.specs.declared.stop.Stop.{Stop}
 use Rattle.bm_worker.specs.declared.stop.Stop.TheVariants.{Memory}
 use Rattle.bm_worker.specs.declared.worker.MuxWorker.{MuxWorker}
-use Rattle.bm_worker.specs.Batches.{HasOnlyLooked, HasSeen, IsDoneTo, IsLogged, IsSteerTo, switch_note}
+use Rattle.bm_worker.specs.Inside.Batches.{HasOnlyLooked, HasSeen, IsDoneTo, IsLogged, IsSteerTo, switch_note}
 use Rattle.bm_worker.specs.Phases.{AreCopies, HasEnded, IsDeed, IsOlder, IsReady, IsStopOf, IsTurn, Kept}
 use Rattle.bm_worker.specs.Phases.{Stint, mux_log, mux_of}
 use Rattle.bm_worker.specs.Turns.{RoutedBy, is_mux, is_turn, mux_at}

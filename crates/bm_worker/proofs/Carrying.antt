@@ -26,11 +26,12 @@ use Rattle.bm_worker.specs.declared.stop.Stop.{Stop}
 use Rattle.bm_worker.specs.declared.stop.Stop.TheVariants.{Memory, Late}
 use Rattle.bm_worker.specs.declared.worker.MuxWorker.{MuxWorker}
 use Rattle.bm_worker.specs.Arrivals.{HasCome, IsCopy}
-use Rattle.bm_worker.specs.Deeds.{IsSamePorter, Sits, Suits, arrival, loss, no_fate}
-use Rattle.bm_worker.specs.Debts.{Carries, Debt, GrowsByLosses, HasCarried, IsCopyOf, IsLateFrom}
-use Rattle.bm_worker.specs.Debts.{IsSameWorker, Owes, Pays}
-use Rattle.bm_worker.specs.Debts.{with_copies}
-use Rattle.bm_worker.specs.Lost.{with_loss}
+use Rattle.bm_worker.specs.Deeds.{IsSamePorter, Sits, Suits, no_fate}
+use Rattle.bm_worker.specs.Inside.Deeds.{arrival, loss}
+use Rattle.bm_worker.specs.Inside.Debts.{Carries, Debt, GrowsByLosses, HasCarried, IsCopyOf, IsLateFrom}
+use Rattle.bm_worker.specs.Inside.Debts.{IsSameWorker, Owes, Pays}
+use Rattle.bm_worker.specs.Inside.Debts.{with_copies}
+use Rattle.bm_worker.specs.Inside.Lost.{with_loss}
 use Rattle.bm_worker.specs.Phases.{IsStopOf, Kept, Stint, mux_of}
 use Rattle.bm_worker.specs.Portings.{Porting}
 use Rattle.bm_worker.specs.Told.{Stays}

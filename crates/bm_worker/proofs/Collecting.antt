@@ -21,7 +21,7 @@ use Rattle.bm_link.specs.Fits.{ArePackets, IsPacketOf, ReadsAs}
 use Rattle.bm_core.specs.Past.{segment_of}
 use Rattle.bm_core.specs.Accounts.{Rules, count_of}
 use Rattle.bm_mux.specs.declared.item.MuxItem.{MuxItem}
-use Rattle.bm_worker.specs.Batches.{AreCollected, AreDrawn, IsItemOf, Rise, last_packet}
+use Rattle.bm_worker.specs.Inside.Batches.{AreCollected, AreDrawn, IsItemOf, Rise, last_packet}
 use Rattle.bm_worker.specs.Turns.{is_mux, is_turn, mux_at}
 
 -- TURNS

@@ -28,7 +28,7 @@ use Rattle.bm_server.specs.Servings.{Serving, shard_for}
 use Rattle.bm_server.specs.declared.fault.HandleFault.TheVariants.{NotMine}
 use Rattle.bm_worker.specs.Arrivals.{HasCome, IsCopy}
 use Rattle.bm_worker.specs.Deeds.{Suits}
-use Rattle.bm_worker.specs.Debts.{IsCopyOf}
+use Rattle.bm_worker.specs.Inside.Debts.{IsCopyOf}
 use Rattle.bm_worker.specs.Phases.{AreCopies, IsCopyCall}
 use Rattle.bm_worker.specs.Told.{Stays, told_there}
 use Rattle.bm_worker.proofs.Hearing.{same_shard}

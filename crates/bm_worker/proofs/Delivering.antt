@@ -23,11 +23,13 @@ use Rattle.bm_mux.specs.Muxes.{MuxState}
 use Rattle.bm_server.specs.Servings.{Serving}
 use Rattle.bm_worker.specs.declared.stop.Stop.{Stop}
 use Rattle.bm_worker.specs.declared.worker.MuxWorker.{MuxWorker}
-use Rattle.bm_worker.specs.Batches.{AreOwed, Delivers, IsDelivery, IsOwed, IsSent, PaysFor, last_sent, sent_notes}
-use Rattle.bm_worker.specs.Batches.{steering}
+use Rattle.bm_worker.specs.Inside.Batches.{AreOwed, Delivers, IsDelivery, IsOwed, IsSent, PaysFor, last_sent}
+use Rattle.bm_worker.specs.Inside.Batches.{sent_notes}
+use Rattle.bm_worker.specs.Inside.Batches.{steering}
 use Rattle.bm_worker.specs.Deeds.{HasServer}
-use Rattle.bm_worker.specs.Debts.{Carries, Debt, GrowsByLosses, IsCopyOf, IsOf, IsUpTo, Owes, Pays, comes, comes_by}
-use Rattle.bm_worker.specs.Debts.{copyless_at, debt, gives, gives_by, lost_at}
+use Rattle.bm_worker.specs.Inside.Debts.{Carries, Debt, GrowsByLosses, IsCopyOf, IsOf, IsUpTo, Owes, Pays, comes}
+use Rattle.bm_worker.specs.Inside.Debts.{comes_by}
+use Rattle.bm_worker.specs.Inside.Debts.{copyless_at, debt, gives, gives_by, lost_at}
 use Rattle.bm_worker.specs.Phases.{IsStopOf, Kept, Stint, mux_of}
 use Rattle.bm_worker.specs.Portings.{Porting}
 use Rattle.bm_worker.specs.Told.{told_there}

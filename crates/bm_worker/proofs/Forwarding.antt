@@ -37,10 +37,11 @@ use Rattle.bm_worker.specs.declared.stop.Stop.{Stop}
 use Rattle.bm_worker.specs.declared.stop.Stop.TheVariants.{Memory}
 use Rattle.bm_worker.specs.declared.worker.MuxWorker.{MuxWorker}
 use Rattle.bm_worker.specs.Arrivals.{HasCome, IsCopy}
-use Rattle.bm_worker.specs.Deeds.{HasServer, IsSamePorter, Suits, arrival, no_fate}
-use Rattle.bm_worker.specs.Debts.{Carries, CarriesOne, Debt, HasCarried, IsCopyOf, IsForwarded, IsOf}
-use Rattle.bm_worker.specs.Debts.{Owes, Pays}
-use Rattle.bm_worker.specs.Debts.{debt, with_copies}
+use Rattle.bm_worker.specs.Deeds.{HasServer, IsSamePorter, Suits, no_fate}
+use Rattle.bm_worker.specs.Inside.Deeds.{arrival}
+use Rattle.bm_worker.specs.Inside.Debts.{Carries, CarriesOne, Debt, HasCarried, IsCopyOf, IsForwarded, IsOf}
+use Rattle.bm_worker.specs.Inside.Debts.{Owes, Pays}
+use Rattle.bm_worker.specs.Inside.Debts.{debt, with_copies}
 use Rattle.bm_worker.specs.Phases.{IsStopOf, Kept, Stint, mux_of}
 use Rattle.bm_worker.specs.Told.{Stays}
 use Rattle.bm_worker.proofs.Carrying.{answered, ended, stop_of_memory}

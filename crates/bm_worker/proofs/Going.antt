@@ -32,12 +32,12 @@ use Rattle.bm_turnstile.specs.Sittings.{who}
 use Rattle.bm_worker.specs.declared.stop.Stop.{Stop}
 use Rattle.bm_worker.specs.declared.stop.Stop.TheVariants.{Memory}
 use Rattle.bm_worker.specs.declared.worker.MuxWorker.{MuxWorker}
-use Rattle.bm_worker.specs.Batches.{AreCollected, AreDrawn, AreOwed, AreSettled, CarriesTo, Delivers, GrowsBy}
-use Rattle.bm_worker.specs.Batches.{HasOnlyLooked, HasSeen}
-use Rattle.bm_worker.specs.Batches.{IsDelivery, IsDoneTo, IsItemOf, IsLogged, IsSent, PaysFor}
-use Rattle.bm_worker.specs.Batches.{last_packet, last_sent, sent_notes, switch_note, switch_notes}
+use Rattle.bm_worker.specs.Inside.Batches.{AreCollected, AreDrawn, AreOwed, AreSettled, CarriesTo, Delivers, GrowsBy}
+use Rattle.bm_worker.specs.Inside.Batches.{HasOnlyLooked, HasSeen}
+use Rattle.bm_worker.specs.Inside.Batches.{IsDelivery, IsDoneTo, IsItemOf, IsLogged, IsSent, PaysFor}
+use Rattle.bm_worker.specs.Inside.Batches.{last_packet, last_sent, sent_notes, switch_note, switch_notes}
 use Rattle.bm_worker.specs.Deeds.{Suits}
-use Rattle.bm_worker.specs.Debts.{GrowsByLosses, IsUpTo, comes, comes_by, copyless_at, gives, gives_by, lost_at}
+use Rattle.bm_worker.specs.Inside.Debts.{GrowsByLosses, IsUpTo, comes, comes_by, copyless_at, gives, gives_by, lost_at}
 use Rattle.bm_worker.specs.Phases.{AreCopies, AreFew, HasEnded, IsStopOf, Kept, Stint, is_steer, mux_of}
 use Rattle.bm_worker.specs.Portings.{Porting}
 use Rattle.bm_worker.specs.Told.{told_there}

@@ -27,7 +27,8 @@ use Rattle.bm_shard.specs.declared.calls.ShardReply.TheVariants.{Arrived, Closed
 use Rattle.bm_server.specs.Servings.{Serving}
 use Rattle.bm_server.specs.Seats.{Answered, Seated}
 use Rattle.bm_server.specs.Servings.{shard_at, shard_for}
-use Rattle.bm_worker.specs.Deeds.{Hears, Said, Suits, arrival, closing, noted, retiring, said_of, saying}
+use Rattle.bm_worker.specs.Deeds.{Hears, Said, Suits, closing, noted, retiring, said_of, saying}
+use Rattle.bm_worker.specs.Inside.Deeds.{arrival}
 use Rattle.bm_worker.specs.Told.{Gains, Stays, told_there}
 use Rattle.bm_worker.specs.Arrivals.{HasCome}
 

@@ -14,10 +14,10 @@ use Rattle.bm_core.specs.declared.events.What.TheVariants.{Arrive}
 use Rattle.bm_core.specs.Past.{same_hop, is_forward, sending_of}
 use Rattle.bm_merge.specs.Notes.{Note}
 use Rattle.bm_merge.proofs.Noting.{total_append}
-use Rattle.bm_worker.specs.Deeds.{arrival, loss}
-use Rattle.bm_worker.specs.Debts.{Debt, Pays, comes, comes_by, copyless_at, debt, debt_gives}
-use Rattle.bm_worker.specs.Debts.{debt_gives_by}
-use Rattle.bm_worker.specs.Debts.{gives, gives_by, is_of, lost_at, with_copies}
+use Rattle.bm_worker.specs.Inside.Deeds.{arrival, loss}
+use Rattle.bm_worker.specs.Inside.Debts.{Debt, Pays, comes, comes_by, copyless_at, debt, debt_gives}
+use Rattle.bm_worker.specs.Inside.Debts.{debt_gives_by}
+use Rattle.bm_worker.specs.Inside.Debts.{gives, gives_by, is_of, lost_at, with_copies}
 
 nothing : (b : Bool) → ◌≡◌ {A = ℕ} (cond b 0 0) 0
 nothing true = refl

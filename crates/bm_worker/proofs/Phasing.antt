@@ -27,12 +27,12 @@ use Rattle.bm_mux.specs.Steers.{at_clock, is_lose, sent, steer_clock, steering_c
 use Rattle.bm_server.specs.Servings.{Serving, shard_at}
 use Rattle.bm_server.specs.Seats.{Seated}
 use Rattle.bm_worker.specs.declared.worker.MuxWorker.{MuxWorker}
-use Rattle.bm_worker.specs.Batches.{AreDrawn, HasSeen, IsDelivery, IsItemOf}
-use Rattle.bm_worker.specs.Batches.{IsLogged, Rise}
-use Rattle.bm_worker.specs.Batches.{last_packet, last_sent, sent_notes, steering, switch_note, switch_notes}
+use Rattle.bm_worker.specs.Inside.Batches.{AreDrawn, HasSeen, IsDelivery, IsItemOf}
+use Rattle.bm_worker.specs.Inside.Batches.{IsLogged, Rise}
+use Rattle.bm_worker.specs.Inside.Batches.{last_packet, last_sent, sent_notes, steering, switch_note, switch_notes}
 use Rattle.bm_worker.specs.Deeds.{Hears, Said, clock_of, saying}
 use Rattle.bm_worker.specs.Told.{told_there}
-use Rattle.bm_worker.specs.Debts.{GrowsByLosses}
+use Rattle.bm_worker.specs.Inside.Debts.{GrowsByLosses}
 use Rattle.bm_worker.specs.Phases.{AreCopies, IsDeed, IsMuxGiven}
 use Rattle.bm_worker.specs.Phases.{Stint, is_steer, mux_log, mux_of}
 use Rattle.bm_worker.specs.Turns.{is_mux, is_turn, mux_at}

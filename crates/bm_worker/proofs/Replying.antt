@@ -21,7 +21,7 @@ use Rattle.bm_shard.specs.declared.calls.ShardReply.TheVariants.{Arrived, Closed
 use Rattle.bm_shard.specs.Books.{clock_after, knows_after, reply_after}
 use Rattle.bm_shard.specs.Turns.{call_moment}
 use Rattle.bm_server.specs.Seats.{IsReply}
-use Rattle.bm_worker.specs.Answers.{IsArrived, IsClosed, IsRetired}
+use Rattle.bm_worker.specs.Inside.Answers.{IsArrived, IsClosed, IsRetired}
 
 pub arrives : {M : Type 0} (packet : ℕ) (tag : Tag) (segment : Segment) (due : Moment) (r : Result ShardReply M)
     → IsReply (Arrive packet tag segment due) r → IfOk r IsArrived

@@ -30,9 +30,10 @@ use Rattle.bm_mux.specs.Steers.{at_clock}
 use Rattle.bm_server.specs.Servings.{Serving}
 use Rattle.bm_worker.specs.declared.worker.MuxWorker.{MuxWorker}
 use Rattle.bm_worker.specs.Arrivals.{HasCome}
-use Rattle.bm_worker.specs.Deeds.{Hears, IsSamePorter, Suits, arrival, loss}
-use Rattle.bm_worker.specs.Debts.{Debt, IsAmong, IsCopyOf, IsOf, IsUpTo, Owes}
-use Rattle.bm_worker.specs.Lost.{with_loss}
+use Rattle.bm_worker.specs.Deeds.{Hears, IsSamePorter, Suits}
+use Rattle.bm_worker.specs.Inside.Deeds.{arrival, loss}
+use Rattle.bm_worker.specs.Inside.Debts.{Debt, IsAmong, IsCopyOf, IsOf, IsUpTo, Owes}
+use Rattle.bm_worker.specs.Inside.Lost.{with_loss}
 use Rattle.bm_worker.specs.Phases.{AreCopies, IsMuxGiven, Kept, Stint, mux_log, mux_of}
 use Rattle.bm_worker.specs.Told.{Stays}
 use Rattle.bm_worker.proofs.Copying.{copies_as, copies_come, copies_stay, tag_hop}

@@ -13,7 +13,7 @@ use Rattle.bm_server.specs.Servings.{Serving}
 use Rattle.bm_worker.specs.declared.span.Span.{Span}
 use Rattle.bm_worker.specs.declared.stop.Stop.{Stop}
 use Rattle.bm_worker.specs.declared.worker.MuxWorker.{MuxWorker}
-use Rattle.bm_worker.specs.Batches.{EndsAs}
+use Rattle.bm_worker.specs.Inside.Batches.{EndsAs}
 use Rattle.bm_worker.specs.Phases.{HasEnded, HasGrown, HasWorked, Stint, stint_of}
 use Rattle.bm_worker.specs.Portings.{Porting}
 use Rattle.bm_worker.proofs.Delivering.{kept_steps}

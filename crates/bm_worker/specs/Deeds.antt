@@ -6,14 +6,12 @@ use Rattle.bm_base.specs.declared.fate.Fate.{Fate}
 use Rattle.bm_base.specs.declared.flow.Flow.{Flow}
 use Rattle.bm_base.specs.declared.ids.Moment.{Moment}
 use Rattle.bm_base.specs.declared.ids.ServerId.{ServerId}
-use Rattle.bm_base.specs.declared.label.Hop.{Hop}
 use Rattle.bm_table.specs.declared.plan.Retirement.{Retirement}
 use Rattle.bm_table.specs.Tables.{is_known}
 use Rattle.bm_core.specs.declared.events.Event.{Event}
 use Rattle.bm_core.specs.declared.events.Stage.{Stage}
-use Rattle.bm_core.specs.declared.events.Verdict.{Verdict}
 use Rattle.bm_core.specs.declared.events.What.{What}
-use Rattle.bm_core.specs.declared.events.What.TheVariants.{Arrive, Close, Lose, Retire}
+use Rattle.bm_core.specs.declared.events.What.TheVariants.{Close, Retire}
 use Rattle.bm_core.specs.Runs.{Actor}
 use Rattle.bm_core.specs.Runs.Actor.{ShardOf}
 use Rattle.bm_merge.specs.Notes.{Note}
@@ -99,15 +97,6 @@ deed clock what fate command due seat = record {
 -- the fate of what sends nothing
 abbrev pub no_fate : Fate
 no_fate = record { copies = 1; delay = 0 }
-
--- a copy of the packet arrives, and this fate is drawn for what it sends
-abbrev pub arrival : Moment → ℕ → Hop → ServerId → Verdict → Fate → ℕ → ℕ → Note
-arrival clock k hop server verdict fate due seat =
-    deed clock (Arrive k hop server verdict) fate 0 due seat
-
--- the copies of a sending are lost
-abbrev pub loss : ℕ → ℕ → Hop → ℕ → Note
-loss clock k hop seat = deed (record { 0 = clock }) (Lose k hop) no_fate 0 0 seat
 
 -- a server ends a connection, by the command of this number
 abbrev pub closing : Moment → ServerId → Flow → Bool → ℕ → ℕ → ℕ → Note

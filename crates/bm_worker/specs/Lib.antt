@@ -4,8 +4,5 @@ pub mod Arrivals
 pub mod Deeds
 pub mod Turns
 pub mod Phases
-pub mod Debts
-pub mod Lost
-pub mod Batches
-pub mod Answers
 pub mod Views
+pub mod Inside

@@ -4,7 +4,7 @@ ghost use Rattle.std.specs.Prelude.{IsSome, Some};
 ghost use Rattle.bm_publish.specs.Posts.{Posted};
 ghost use Rattle.bm_fault.specs.Faults.{Gives, IsRule};
 ghost use Rattle.bm_mux.specs.Muxes.{IsSameMux};
-ghost use Rattle.bm_worker.specs.Batches.{CarriesTo, EndsAs, GrowsBy};
+ghost use Rattle.bm_worker.specs.Inside.Batches.{CarriesTo, EndsAs, GrowsBy};
 ghost use Rattle.bm_worker.specs.Deeds.{IsSamePorter, Sits};
 ghost use Rattle.bm_worker.specs.Phases.{HasGrown, IsReady, IsRunnable, stint_of};
 

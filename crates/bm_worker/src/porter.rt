@@ -7,7 +7,7 @@ ghost use Rattle.bm_shard.specs.declared.calls.ShardReply.TheVariants.{Arrived, 
 ghost use Rattle.bm_server.specs.Servings.{Serving};
 ghost use Rattle.bm_server.specs.Copies.{IsMemory};
 ghost use Rattle.bm_server.specs.Seats.{most_turns};
-ghost use Rattle.bm_worker.specs.Answers.{IsArrived, IsClosed, IsRetired};
+ghost use Rattle.bm_worker.specs.Inside.Answers.{IsArrived, IsClosed, IsRetired};
 ghost use Rattle.bm_worker.specs.Arrivals.{HasCome, IsCopy};
 ghost use Rattle.bm_worker.specs.Deeds.{Hears, IsSamePorter, Sits, Suits, closing, retiring};
 ghost use Rattle.bm_worker.specs.Told.{Stays};

@@ -6,9 +6,10 @@ ghost use Rattle.bm_core.specs.Stages.{IsSound};
 ghost use Rattle.bm_fault.specs.Faults.{Gives, IsRule};
 ghost use Rattle.bm_worker.specs.declared.stop.Stop.TheVariants.{Memory as stopped};
 ghost use Rattle.bm_worker.specs.Deeds.{Sits, Suits};
-ghost use Rattle.bm_worker.specs.Debts.{Carries, CarriesOne, GrowsByLosses, IsCopyOf, IsForwarded};
-ghost use Rattle.bm_worker.specs.Debts.{IsLateFrom, IsSameWorker, debt};
-ghost use Rattle.bm_worker.specs.Lost.{with_loss};
+ghost use Rattle.bm_worker.specs.Inside.Debts.{Carries, CarriesOne, GrowsByLosses, IsCopyOf};
+ghost use Rattle.bm_worker.specs.Inside.Debts.{IsForwarded};
+ghost use Rattle.bm_worker.specs.Inside.Debts.{IsLateFrom, IsSameWorker, debt};
+ghost use Rattle.bm_worker.specs.Inside.Lost.{with_loss};
 
 use crate::place::place_of;
 use crate::{MuxWorker, Shared, Stop};

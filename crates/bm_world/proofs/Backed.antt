@@ -20,8 +20,8 @@ use Rattle.bm_worker.specs.declared.worker.MuxWorker.{MuxWorker}
 use Rattle.bm_lead.specs.declared.head.Head.{Head}
 use Rattle.bm_lead.specs.Rests.{Adds}
 use Rattle.bm_lead.proofs.Ending.{all_published}
-use Rattle.bm_world.specs.Crews.{rows_of, HasPostedRest, HasSeenAll, IsThrough}
-use Rattle.bm_world.specs.GivenUp.{HasGivenUp}
+use Rattle.bm_world.specs.Inside.Crews.{rows_of, HasPostedRest, HasSeenAll, IsThrough}
+use Rattle.bm_world.specs.Inside.GivenUp.{HasGivenUp}
 use Rattle.bm_world.proofs.Crewing.{shown_all}
 use Rattle.bm_world.proofs.Ending.{row_of}
 

@@ -34,9 +34,9 @@ use Rattle.bm_merge.proofs.Agreeing.{same_actor-true}
 use Rattle.bm_table.specs.declared.plan.Retirement.{Retirement}
 use Rattle.bm_merge.proofs.Keeping.{no_deeds}
 use Rattle.bm_merge.proofs.Reaching.{one_if}
-use Rattle.bm_world.specs.Shards.{Kept, entries_of, note_of, notes_of, IsAsked, AreAsked}
+use Rattle.bm_world.specs.Inside.Shards.{Kept, entries_of, note_of, notes_of, IsAsked, AreAsked}
 use Rattle.bm_worker.specs.Phases.{mux_log, IsInOrder}
-use Rattle.bm_world.specs.Handed.{control_log, IsJudgedBy, IsCopied, IsBookOfAll, AreHandedBack}
+use Rattle.bm_world.specs.Inside.Handed.{control_log, IsJudgedBy, IsCopied, IsBookOfAll, AreHandedBack}
 use Rattle.bm_world.proofs.Homes.{home_is, home_each}
 use Rattle.bm_world.proofs.Logs.{logs_of, book_notes, named_mux}
 use Rattle.bm_world.proofs.Deeds.{are_workers, all_sent}

@@ -12,7 +12,7 @@ use Rattle.bm_table.specs.Planned.{Planned}
 use Rattle.bm_publish.specs.Posts.{Posted}
 use Rattle.bm_server.specs.Seats.{Seated}
 use Rattle.bm_worker.specs.declared.worker.MuxWorker.{MuxWorker}
-use Rattle.bm_world.specs.Crews.{rows_of, HasSeenAll, IsNewWorker}
+use Rattle.bm_world.specs.Inside.Crews.{rows_of, HasSeenAll, IsNewWorker}
 
 -- MADE
 

@@ -28,7 +28,7 @@ use Rattle.bm_merge.proofs.Noting.{total_append, total_none, total_most, events_
 use Rattle.bm_merge.proofs.Noting.{each_always}
 use Rattle.bm_merge.proofs.Reaching.{one_if}
 use Rattle.bm_merge.proofs.Sharing.{shared, all_by_seat}
-use Rattle.bm_world.specs.Handed.{IsBookOfAll, has_book, IsBooked, AreHandedBack}
+use Rattle.bm_world.specs.Inside.Handed.{IsBookOfAll, has_book, IsBooked, AreHandedBack}
 use Rattle.bm_world.proofs.Logs.{logs_of, AreWorkers, are_seated, own_logs, has_mux, has_book_log}
 
 -- THE WORKERS

@@ -40,12 +40,12 @@ use Rattle.bm_worker.specs.Deeds.{HasServer, Suits}
 use Rattle.bm_worker.specs.Phases.{mux_log, IsPlaced, AreCopies}
 use Rattle.bm_worker.specs.Turns.{is_mux, mux_at}
 use Rattle.bm_worker.specs.declared.worker.MuxWorker.{MuxWorker}
-use Rattle.bm_world.specs.Handed.{control_log, posted_clocks, IsControl, IsBooked, has_book, AreHandedBack}
-use Rattle.bm_world.specs.Running.{HaveHeard, AreAtWork, HaveLooked}
+use Rattle.bm_world.specs.Inside.Handed.{control_log, posted_clocks, IsControl, IsBooked, has_book, AreHandedBack}
+use Rattle.bm_world.specs.Inside.Running.{HaveHeard, AreAtWork, HaveLooked}
 use Rattle.bm_lead.specs.Leads.{IsPlaced as IsLedAt}
-use Rattle.bm_world.specs.Routed.{AreRouted}
-use Rattle.bm_world.specs.Served.{AreBooksThere}
-use Rattle.bm_world.specs.Crews.{rows_of}
+use Rattle.bm_world.specs.Inside.Routed.{AreRouted}
+use Rattle.bm_world.specs.Inside.Served.{AreBooksThere}
+use Rattle.bm_world.specs.Inside.Crews.{rows_of}
 use Rattle.bm_world.proofs.Assembled.{at_change}
 use Rattle.bm_world.proofs.Deeds.{all_carried}
 use Rattle.bm_world.proofs.Finishing.{AreDone, all_books, has_shard, own_books, books_of_all}

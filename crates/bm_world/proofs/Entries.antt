@@ -30,8 +30,8 @@ use Rattle.bm_base.specs.declared.flow.Segment.{Segment}
 use Rattle.bm_merge.proofs.Standing.{entry_of}
 use Rattle.bm_mux.specs.Muxes.{post_clock}
 use Rattle.bm_worker.specs.Phases.{mux_log}
-use Rattle.bm_world.specs.Handed.{posted_clocks, control_log, IsMuxGivenBy, IsControlStep, IsControl}
-use Rattle.bm_world.specs.Handed.{AreHandedBack}
+use Rattle.bm_world.specs.Inside.Handed.{posted_clocks, control_log, IsMuxGivenBy, IsControlStep, IsControl}
+use Rattle.bm_world.specs.Inside.Handed.{AreHandedBack}
 use Rattle.bm_world.proofs.Homes.{home_is, home_each, carried_not_control}
 use Rattle.bm_world.proofs.Logs.{mux_logs, shard_logs, logs_of}
 use Rattle.bm_world.proofs.Deeds.{all_among, IsAmong, steered_known, all_sent}

@@ -34,10 +34,10 @@ use Rattle.bm_turnstile.specs.Seen.{AllBelow}
 use Rattle.bm_worker.specs.Deeds.{saying, noted, Suits}
 use Rattle.bm_worker.specs.Phases.{mux_log, IsCopyCall, AreCopies}
 use Rattle.bm_worker.specs.Told.{told_there}
-use Rattle.bm_world.specs.Shards.{entries_by, AreNoted}
-use Rattle.bm_world.specs.Handed.{IsCopied, IsBookOfAll, has_book, HaveOwnBooks}
-use Rattle.bm_world.specs.Running.{HaveHeard}
-use Rattle.bm_world.specs.Served.{IsBookThere, AreBooksThere}
+use Rattle.bm_world.specs.Inside.Shards.{entries_by, AreNoted}
+use Rattle.bm_world.specs.Inside.Handed.{IsCopied, IsBookOfAll, has_book, HaveOwnBooks}
+use Rattle.bm_world.specs.Inside.Running.{HaveHeard}
+use Rattle.bm_world.specs.Inside.Served.{IsBookThere, AreBooksThere}
 use Rattle.bm_world.proofs.Homes.{home_each}
 use Rattle.bm_world.proofs.Telling.{told_noted, told_one, told_last, reverse_more, reverse_twice}
 

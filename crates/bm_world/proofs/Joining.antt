@@ -37,8 +37,8 @@ use Rattle.std.proofs.Common.{map}
 use Rattle.std.proofs.lemmas.Bool.{le-leb, lt-leb, lt-ltb, le-ltb}
 use Rattle.bm_worker.specs.Turns.{is_mux, is_turn, mux_at, RoutedBy}
 use Rattle.bm_worker.specs.declared.worker.MuxWorker.{MuxWorker}
-use Rattle.bm_world.specs.Handed.{control_log}
-use Rattle.bm_world.specs.Running.{HaveHeard, IsAtWork, add_deeds}
+use Rattle.bm_world.specs.Inside.Handed.{control_log}
+use Rattle.bm_world.specs.Inside.Running.{HaveHeard, IsAtWork, add_deeds}
 use Rattle.bm_world.proofs.Homes.{home_append, home_each}
 use Rattle.bm_world.proofs.Growing.{carriage_later, carriage_more, carrier_routed, log_append}
 

@@ -43,12 +43,12 @@ use Rattle.bm_lead.specs.declared.head.Head.{Head}
 use Rattle.bm_lead.specs.Commands.{control_log, posted_clocks}
 use Rattle.bm_lead.specs.Leads.{IsLed, IsPlaced}
 use Rattle.bm_lead.specs.Rests.{Adds}
-use Rattle.bm_world.specs.Crews.{rows_of}
-use Rattle.bm_world.specs.GivenUp.{HasGivenUp}
-use Rattle.bm_world.specs.Handed.{IsBooked}
-use Rattle.bm_world.specs.Left.{AreLeft, IsLeft, IsMuxClocked, IsSynced}
-use Rattle.bm_world.specs.Running.{HaveHeard}
-use Rattle.bm_world.specs.Served.{AreBooksThere}
+use Rattle.bm_world.specs.Inside.Crews.{rows_of}
+use Rattle.bm_world.specs.Inside.GivenUp.{HasGivenUp}
+use Rattle.bm_world.specs.Inside.Handed.{IsBooked}
+use Rattle.bm_world.specs.Inside.Left.{AreLeft, IsLeft, IsMuxClocked, IsSynced}
+use Rattle.bm_world.specs.Inside.Running.{HaveHeard}
+use Rattle.bm_world.specs.Inside.Served.{AreBooksThere}
 use Rattle.bm_world.proofs.Amounts.{changes_few, total_ones}
 use Rattle.bm_world.proofs.Deeds.{all_carried, deeds_each}
 use Rattle.bm_world.proofs.Ending.{carried_booked, carried_no_command, led_booked, row_of}

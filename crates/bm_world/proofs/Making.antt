@@ -17,8 +17,8 @@ use Rattle.bm_server.specs.Seats.{Seated}
 use Rattle.bm_server.specs.Servings.{Serving}
 use Rattle.bm_worker.specs.Deeds.{Suits}
 use Rattle.bm_worker.proofs.Known.{table_entry}
-use Rattle.bm_world.specs.Crews.{HaveNoTurns}
-use Rattle.bm_world.specs.Served.{IsNewRow, IsServerOf}
+use Rattle.bm_world.specs.Inside.Crews.{HaveNoTurns}
+use Rattle.bm_world.specs.Inside.Served.{IsNewRow, IsServerOf}
 use Rattle.bm_world.proofs.KnownServers.{known_server}
 
 -- NUMBERS THAT RISE

@@ -33,8 +33,8 @@ use Rattle.bm_worker.specs.Phases.{IsDeed, stint_of}
 use Rattle.bm_worker.specs.Turns.{mux_at}
 use Rattle.bm_worker.specs.declared.span.Span.{Span}
 use Rattle.bm_worker.specs.declared.worker.MuxWorker.{MuxWorker}
-use Rattle.bm_world.specs.Handed.{control_log}
-use Rattle.bm_world.specs.Running.{IsAtWork, AreAtWork, AreApart, HaveLooked, add_deeds}
+use Rattle.bm_world.specs.Inside.Handed.{control_log}
+use Rattle.bm_world.specs.Inside.Running.{IsAtWork, AreAtWork, AreApart, HaveLooked, add_deeds}
 use Rattle.bm_world.proofs.Deeds.{all_carried}
 use Rattle.bm_world.proofs.Growing.{carriage_later}
 use Rattle.bm_world.proofs.Homes.{home_each}

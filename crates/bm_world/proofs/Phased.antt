@@ -33,11 +33,12 @@ use Rattle.bm_lead.specs.Heads.{UnlessMemory}
 use Rattle.bm_lead.specs.Leads.{HasLed, HasSynced, IsLed, IsPlaced, Leads}
 use Rattle.bm_world.specs.declared.phase.Next.{Next}
 use Rattle.bm_world.specs.declared.phase.Next.TheVariants.{Phase as Coming, End, Late as TooLate}
-use Rattle.bm_world.specs.GivenUp.{HasGivenUp}
-use Rattle.bm_world.specs.Crews.{left_of, HasMet, IsNext}
-use Rattle.bm_world.specs.Crews.{told_what, latest_in, HaveNotStopped, HaveWorked, IsBetween, IsStanding, IsThrough}
-use Rattle.bm_world.specs.Handed.{control_log}
-use Rattle.bm_world.specs.Running.{AreAtWork, AreApart, HaveLooked, IsAtPhase, add_deeds}
+use Rattle.bm_world.specs.Inside.GivenUp.{HasGivenUp}
+use Rattle.bm_world.specs.Inside.Crews.{left_of, HasMet, IsNext}
+use Rattle.bm_world.specs.Inside.Crews.{told_what, latest_in, HaveNotStopped, HaveWorked, IsBetween, IsStanding}
+use Rattle.bm_world.specs.Inside.Crews.{IsThrough}
+use Rattle.bm_world.specs.Inside.Handed.{control_log}
+use Rattle.bm_world.specs.Inside.Running.{AreAtWork, AreApart, HaveLooked, IsAtPhase, add_deeds}
 use Rattle.bm_world.proofs.Joining.{AreOfPhase, HasDone, heard_more}
 use Rattle.bm_world.proofs.Meeting.{HaveDone, all_at_work_more, all_looked, sync_met}
 use Rattle.bm_world.proofs.Stopping.{too_late_to_sync}

@@ -13,10 +13,12 @@ use Rattle.bm_shard.specs.declared.calls.ShardEntry.{ShardEntry}
 use Rattle.bm_shard.specs.Books.{Book, Replays}
 use Rattle.bm_shard.specs.Turns.{call_moment}
 use Rattle.bm_merge.specs.Merges.{joined}
-use Rattle.bm_merge.specs.Rising.{IsRising, all_logs, in_order}
+use Rattle.bm_merge.specs.Rising.{IsRising, in_order}
+use Rattle.bm_merge.specs.Inside.Rising.{all_logs}
 use Rattle.bm_world.specs.declared.run_logs.Group.{Group}
 use Rattle.bm_world.specs.declared.run_logs.RunLog.{RunLog}
-use Rattle.bm_world.specs.Logged.{HasMerged, book_log, books_logs, group_events, group_logs, log_events, one_refused}
+use Rattle.bm_world.specs.Inside.Logged.{HasMerged, book_log, books_logs, group_events, group_logs, log_events}
+use Rattle.bm_world.specs.Inside.Logged.{one_refused}
 use Rattle.bm_world.proofs.Through.{books_append}
 use Rattle.bm_merge.proofs.Placed.{IsFalling, all_so}
 use Rattle.bm_merge.proofs.Heading.{falling_rises, orders}

@@ -19,7 +19,7 @@ use Rattle.bm_core.specs.declared.events.Stage.{Stage}
 use Rattle.bm_core.specs.Accounts.{count_of, wants_sync}
 use Rattle.bm_core.specs.Threads.{is_sync_by, phase_of, record_moment}
 use Rattle.bm_merge.proofs.Reaching.{one_if}
-use Rattle.bm_world.specs.Running.{IsAtPhase}
+use Rattle.bm_world.specs.Inside.Running.{IsAtPhase}
 
 count_append : (test : Command → Bool) (x y : List Command) → count_of test (x ++ y) ≡ count_of test x + count_of test y
 count_append test [] y = omega arith

@@ -4,7 +4,7 @@ use Rattle.std.proofs.lemmas.Bool.{eq-eqb, eqb-true}
 use Rattle.bm_shard.specs.declared.calls.ShardEntry.{ShardEntry}
 use Rattle.bm_merge.specs.Notes.{Note}
 use Rattle.bm_merge.specs.Workers.{seat_part}
-use Rattle.bm_world.specs.Shards.{Kept, entries_of, note_of, notes_of, entries_by, AreNoted}
+use Rattle.bm_world.specs.Inside.Shards.{Kept, entries_of, note_of, notes_of, entries_by, AreNoted}
 
 -- the notes of all entries, where these are those of each seat
 pub record AreSeatedNotes (entries : List ShardEntry) (parts : ℕ → List Note) : Type 0 where

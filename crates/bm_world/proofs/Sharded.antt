@@ -37,7 +37,7 @@ use Rattle.bm_merge.specs.Merges.{Log, stands_in, IsEntry}
 use Rattle.bm_merge.proofs.Standing.{MayStand, entry_of}
 use Rattle.bm_merge.specs.Notes.{events_of}
 use Rattle.bm_merge.proofs.Agreeing.{same_actor-true}
-use Rattle.bm_world.specs.Shards.{Kept, entries_of, note_of, notes_of, IsAsked, AreAsked}
+use Rattle.bm_world.specs.Inside.Shards.{Kept, entries_of, note_of, notes_of, IsAsked, AreAsked}
 
 -- THE SHARD'S EVENTS
 

@@ -29,10 +29,10 @@ use Rattle.bm_worker.specs.declared.worker.MuxWorker.{MuxWorker}
 use Rattle.bm_lead.specs.declared.head.Head.{Head}
 use Rattle.bm_lead.specs.Heads.{Begins, IsReady}
 use Rattle.bm_lead.specs.Leads.{IsLed}
-use Rattle.bm_world.specs.Crews.{IsBetween, IsNewWorker}
-use Rattle.bm_world.specs.Handed.{IsCarriage}
-use Rattle.bm_world.specs.Running.{HaveHeard, IsAtWork, AreApart, IsAtPhase}
-use Rattle.bm_world.specs.Served.{IsNewRow}
+use Rattle.bm_world.specs.Inside.Crews.{IsBetween, IsNewWorker}
+use Rattle.bm_world.specs.Inside.Handed.{IsCarriage}
+use Rattle.bm_world.specs.Inside.Running.{HaveHeard, IsAtWork, AreApart, IsAtPhase}
+use Rattle.bm_world.specs.Inside.Served.{IsNewRow}
 use Rattle.bm_world.proofs.Meeting.{idle, idle_all, idle_count, idle_deeds, nothing_apart}
 use Rattle.bm_world.proofs.Scripting.{phase_first}
 use Rattle.bm_world.proofs.Crewing.{all_at}

@@ -37,10 +37,10 @@ use Rattle.bm_lead.specs.declared.head.Head.{Head}
 use Rattle.bm_lead.specs.Commands.{AreDone, control_log}
 use Rattle.bm_lead.specs.Heads.{IsStopFrom, UnlessMemory}
 use Rattle.bm_lead.specs.Leads.{HasLed, HaveNoSync, IsLed, IsPlaced, Leads}
-use Rattle.bm_world.specs.Crews.{IsBetween, IsLate, IsStanding, IsTooLate, latest_in, told_what}
-use Rattle.bm_world.specs.GivenUp.{HasGivenUp, HasLeft}
-use Rattle.bm_world.specs.Left.{IsSteerable, IsSyncIn, IsSynced}
-use Rattle.bm_world.specs.Running.{IsAtWork, add_deeds}
+use Rattle.bm_world.specs.Inside.Crews.{IsBetween, IsLate, IsStanding, IsTooLate, latest_in, told_what}
+use Rattle.bm_world.specs.Inside.GivenUp.{HasGivenUp, HasLeft}
+use Rattle.bm_world.specs.Inside.Left.{IsSteerable, IsSyncIn, IsSynced}
+use Rattle.bm_world.specs.Inside.Running.{IsAtWork, add_deeds}
 use Rattle.bm_world.proofs.Amounts.{carried_few, led_few, steered_part, syncs_few}
 use Rattle.bm_world.proofs.GivingUp.{all_synced, left_more, left_of, sync_append, sync_some, turn_steerable, unsynced}
 use Rattle.bm_world.proofs.Growing.{log_append}

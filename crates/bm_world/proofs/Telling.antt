@@ -24,7 +24,7 @@ use Rattle.bm_server.specs.Seats.{Answered, seat_of, call_of, reply_of, telling}
 use Rattle.bm_turnstile.specs.Told.{told_after}
 use Rattle.bm_worker.specs.Deeds.{Said, said_of, saying, noted}
 use Rattle.bm_worker.specs.Told.{event_told}
-use Rattle.bm_world.specs.Shards.{entries_by, AreNoted}
+use Rattle.bm_world.specs.Inside.Shards.{entries_by, AreNoted}
 
 -- ONE MORE ENTRY
 

@@ -24,12 +24,12 @@ use Rattle.bm_worker.specs.Turns.{RoutedBy}
 use Rattle.bm_worker.specs.declared.worker.MuxWorker.{MuxWorker}
 use Rattle.bm_lead.specs.declared.head.Head.{Head}
 use Rattle.bm_lead.proofs.Ending.{all_led, all_published}
-use Rattle.bm_world.specs.Crews.{rows_of, IsThrough, MergeToRun}
-use Rattle.bm_world.specs.Handed.{IsBookOfAll}
-use Rattle.bm_world.specs.Logged.{book_log, books_logs}
-use Rattle.bm_world.specs.Routed.{AreRouted}
-use Rattle.bm_world.specs.Served.{AreBooksThere}
-use Rattle.bm_world.specs.Shards.{Kept, entries_of, notes_of}
+use Rattle.bm_world.specs.Inside.Crews.{rows_of, IsThrough, MergeToRun}
+use Rattle.bm_world.specs.Inside.Handed.{IsBookOfAll}
+use Rattle.bm_world.specs.Inside.Logged.{book_log, books_logs}
+use Rattle.bm_world.specs.Inside.Routed.{AreRouted}
+use Rattle.bm_world.specs.Inside.Served.{AreBooksThere}
+use Rattle.bm_world.specs.Inside.Shards.{Kept, entries_of, notes_of}
 use Rattle.bm_world.proofs.Assembled.{handed_back}
 use Rattle.bm_world.proofs.Ending.{IsEnded, ended}
 use Rattle.bm_world.proofs.Finishing.{all_books}

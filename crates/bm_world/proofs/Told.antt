@@ -31,9 +31,9 @@ use Rattle.bm_worker.specs.Phases.{mux_log, CanWork, IsOlder}
 use Rattle.bm_worker.specs.declared.span.Span.{Span}
 use Rattle.bm_worker.specs.declared.worker.MuxWorker.{MuxWorker}
 use Rattle.bm_lead.specs.declared.head.Head.{Head}
-use Rattle.bm_world.specs.Crews.{told_what, IsBetween}
-use Rattle.bm_world.specs.Handed.{control_log}
-use Rattle.bm_world.specs.Running.{IsAtWork, AreAtWork}
+use Rattle.bm_world.specs.Inside.Crews.{told_what, IsBetween}
+use Rattle.bm_world.specs.Inside.Handed.{control_log}
+use Rattle.bm_world.specs.Inside.Running.{IsAtWork, AreAtWork}
 
 -- WHAT IS TOLD CHANGES NOTHING ELSE
 

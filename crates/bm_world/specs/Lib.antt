@@ -1,10 +1,2 @@
-pub mod Shards
-pub mod Handed
-pub mod Running
-pub mod Served
-pub mod Routed
-pub mod Left
-pub mod GivenUp
-pub mod Crews
 pub mod Seats
-pub mod Logged
+pub mod Inside

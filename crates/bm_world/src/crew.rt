@@ -4,7 +4,7 @@ ghost use Rattle.std.specs.Prelude.{List as Items, IfOk, OnOk};
 ghost use Rattle.bm_mux.specs.Muxes.{HasServers};
 ghost use Rattle.bm_rows.specs.Rows.{items_of};
 ghost use Rattle.bm_server.specs.Seats.{Seated};
-ghost use Rattle.bm_world.specs.Crews.{HasSeenAll, HaveNoTurns, IsNewWorker, rows_of};
+ghost use Rattle.bm_world.specs.Inside.Crews.{HasSeenAll, HaveNoTurns, IsNewWorker, rows_of};
 
 use crate::servers::Rows;
 use bm_base::{List, Memory, MuxId};

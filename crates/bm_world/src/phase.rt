@@ -10,11 +10,13 @@ ghost use Rattle.bm_worker.specs.Deeds.{Suits};
 ghost use Rattle.bm_worker.specs.Phases.{CanWork, IsRunnable};
 ghost use Rattle.bm_lead.specs.Heads.{IsPhase, IsReady, IsStopFrom, IsSyncCommand, UnlessMemory};
 ghost use Rattle.bm_lead.specs.Leads.{HasLed};
-ghost use Rattle.bm_world.specs.Crews.{HasMet, HaveNotStopped, HaveWorked, IsBetween, IsLate};
-ghost use Rattle.bm_world.specs.Crews.{IsNext, IsThrough, latest_in, left_of, one_stopped, stop_in};
-ghost use Rattle.bm_world.specs.Crews.{told_what, wants_memory};
-ghost use Rattle.bm_world.specs.GivenUp.{HasGivenUp};
-ghost use Rattle.bm_world.specs.Running.{IsAtPhase};
+ghost use Rattle.bm_world.specs.Inside.Crews.{HasMet, HaveNotStopped, HaveWorked, IsBetween};
+ghost use Rattle.bm_world.specs.Inside.Crews.{IsLate};
+ghost use Rattle.bm_world.specs.Inside.Crews.{IsNext, IsThrough, latest_in, left_of, one_stopped};
+ghost use Rattle.bm_world.specs.Inside.Crews.{stop_in};
+ghost use Rattle.bm_world.specs.Inside.Crews.{told_what, wants_memory};
+ghost use Rattle.bm_world.specs.Inside.GivenUp.{HasGivenUp};
+ghost use Rattle.bm_world.specs.Inside.Running.{IsAtPhase};
 
 use crate::places::{record_place, sync_at, sync_place};
 use bm_base::{Fate, Hop, Memory, Moment};

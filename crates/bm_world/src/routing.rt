@@ -1,7 +1,7 @@
 //! The mux of each packet.
 ghost use Rattle.std.specs.Prelude.{◌≤◌, length, IfOk};
 ghost use Rattle.bm_route.specs.Routes.{Answers, IsRoute};
-ghost use Rattle.bm_world.specs.Routed.{AreGiven, IsGivenTo};
+ghost use Rattle.bm_world.specs.Inside.Routed.{AreGiven, IsGivenTo};
 
 use bm_base::{Flow, Memory, MuxId};
 use bm_core::Stage;

@@ -4,9 +4,10 @@ ghost use Rattle.std.specs.Prelude.{false, IfOk, OnOk};
 ghost use Rattle.std.specs.List.{AllByRecursion};
 ghost use Rattle.std.specs.Thread.{IsSync};
 ghost use Rattle.bm_merge.specs.Merges.{joined};
-ghost use Rattle.bm_merge.specs.Rising.{IsRising, all_logs, in_order as by_order};
-ghost use Rattle.bm_world.specs.Logged as logged;
-ghost use Rattle.bm_world.specs.Logged.{HasMerged, HaveMerged, books_logs, one_refused};
+ghost use Rattle.bm_merge.specs.Rising.{IsRising, in_order as by_order};
+ghost use Rattle.bm_merge.specs.Inside.Rising.{all_logs};
+ghost use Rattle.bm_world.specs.Inside.Logged as logged;
+ghost use Rattle.bm_world.specs.Inside.Logged.{HasMerged, HaveMerged, books_logs, one_refused};
 
 use bm_base::Memory;
 use bm_core::{Event, Log};

@@ -4,7 +4,7 @@ ghost use Rattle.std.specs.Prelude.{IfOk};
 ghost use Rattle.bm_rows.specs.Rows.{items_of};
 ghost use Rattle.bm_turnstile.specs.Sittings.{who};
 ghost use Rattle.bm_server.specs.Seats.{row};
-ghost use Rattle.bm_world.specs.Served.{AreBooksThere, IsNewRow, IsServerOf};
+ghost use Rattle.bm_world.specs.Inside.Served.{AreBooksThere, IsNewRow, IsServerOf};
 
 use bm_base::{Memory, ServerId};
 use bm_rows::{add_column, last_column};

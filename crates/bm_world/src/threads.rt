@@ -12,9 +12,9 @@ ghost use Rattle.bm_route.specs.Routes.{Answers, IsRoute};
 ghost use Rattle.bm_rows.specs.Rows.{items_of};
 ghost use Rattle.bm_worker.specs.Phases.{IsRunnable};
 ghost use Rattle.bm_worker.specs.Turns.{RoutedBy};
-ghost use Rattle.bm_world.specs.Crews.{IsBack, MakeRun};
-ghost use Rattle.bm_world.specs.Routed.{AreRouted};
-ghost use Rattle.bm_world.specs.Served.{IsNewRow};
+ghost use Rattle.bm_world.specs.Inside.Crews.{IsBack, MakeRun};
+ghost use Rattle.bm_world.specs.Inside.Routed.{AreRouted};
+ghost use Rattle.bm_world.specs.Inside.Served.{IsNewRow};
 
 use crate::crew::{make_workers, take_apart};
 use crate::known::known_servers;

@@ -1,20 +1,10 @@
 -- What was read of a script.
-use Rattle.std.specs.Prelude.{◌≡◌, ◌⊎◌, ℕ, List, take, Option, Some, None, Result, Ok, Err}
+use Rattle.std.specs.Prelude.{◌≡◌, ℕ, List, take, Option, Some, None, Result, Ok}
 use Rattle.bm_table.specs.declared.script.Script.{Script}
 use Rattle.bm_cli.specs.declared.fault.StageFault.{StageFault}
-use Rattle.bm_cli.specs.declared.status.Status.TheVariants.{ReadFault, Memory}
-use Rattle.bm_cli.specs.Lines.{fault_status}
 use Rattle.bm_cli.specs.Plain.{plain_script}
 use Rattle.bm_cli.specs.Reading.{Octets, script_in}
-
--- the files failed, or memory was refused, which may be at any place
-abbrev pub IsOutside : StageFault → Type 0
-IsOutside fault = (fault_status fault ≡ ReadFault) ⊎ (fault_status fault ≡ Memory)
-
--- this was read where that is due
-abbrev pub IsRead : {A : Type 0} → Result A StageFault → Result A StageFault → Type 0
-IsRead due (Ok x) = due ≡ Ok x
-IsRead due (Err fault) = IsOutside fault ⊎ (due ≡ Err fault)
+use Rattle.bm_cli.specs.Stages.{IsRead}
 
 -- where no script is named it is the one that says nothing, whatever the files tell
 abbrev pub ReadsScript : Octets → Option (List ℕ) → Result Script StageFault → Type 0

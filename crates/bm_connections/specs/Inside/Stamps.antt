@@ -10,7 +10,8 @@ use Rattle.bm_table.specs.Entries.{IsTable}
 use Rattle.bm_table.specs.Planned.{Planned}
 use Rattle.bm_connections.specs.declared.stamps.Stamps.{Stamps}
 use Rattle.bm_connections.specs.declared.stamps.View.{View}
-use Rattle.bm_connections.specs.Waits.{stamp_of, wait_at}
+use Rattle.bm_connections.specs.Waits.{stamp_of}
+use Rattle.bm_connections.specs.Inside.Waits.{wait_at}
 
 -- the mux has the table of this version; where nothing is kept of it, that is version 0
 abbrev pub IsView : Planned → ℕ → Option View → Type 0

@@ -3,7 +3,7 @@ use Rattle.std.proofs.lemmas.Result.{IfOk-weaker}
 use Rattle.bm_base.specs.declared.label.Hop.{Hop}
 use Rattle.bm_base.specs.declared.fate.Fate.{Fate}
 use Rattle.bm_core.specs.Rules.{fate_in, setting_fate}
-use Rattle.bm_core.specs.Weights.{IsSoon}
+use Rattle.bm_core.specs.Soon.{IsSoon}
 use Rattle.bm_core.proofs.Existing.{fate_of_soon}
 use Rattle.bm_replay.specs.Replays.{setting_route, setting_rule}
 use Rattle.bm_replay.proofs.WiderRules.{replay_more}

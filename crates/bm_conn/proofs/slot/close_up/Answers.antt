@@ -1,6 +1,7 @@
 use Rattle.std.proofs.Common.{◌≡◌, ℕ, length, refl, subst}
 use Rattle.bm_conn.specs.declared.slot.Slot.TheVariants.{Free}
-use Rattle.bm_conn.specs.Slots.{slot_at, after}
+use Rattle.bm_conn.specs.Slots.{slot_at}
+use Rattle.bm_conn.specs.Inside.Slots.{after}
 use Rattle.bm_conn.proofs.Holes.{shifting_none, shifting_stop, shifting_all, shifted}
 use Rattle.bm_conn.proofs.slot.close_up.Goals as goal
 

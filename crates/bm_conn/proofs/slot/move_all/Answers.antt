@@ -1,6 +1,6 @@
 use Rattle.std.proofs.Common.{◌≡◌, ◌+◌, ◌<◌, ◌≤◌, List, length, take, sym, subst, ◌∙◌, arith}
 use Rattle.bm_conn.specs.declared.slot.Slot.{Slot}
-use Rattle.bm_conn.specs.Slots.{used, AreMoved}
+use Rattle.bm_conn.specs.Inside.Slots.{used, AreMoved}
 use Rattle.bm_conn.proofs.Changes.{moved_none, moved_more, moved_skip, before_few, before_absent}
 use Rattle.bm_conn.proofs.slot.move_all.Goals as goal
 use Rattle.bm_conn.proofs.slot.move_all.Goals.{in-Used, in-Free}

@@ -3,7 +3,8 @@ use Rattle.bm_base.specs.Segments.{same_flow}
 use Rattle.bm_conn.specs.declared.slot.Slot.{Slot}
 use Rattle.bm_conn.specs.declared.slot.Slot.TheVariants.{Used}
 use Rattle.bm_conn.proofs.Flows.{same_as}
-use Rattle.bm_conn.specs.Slots.{slot_at, is_free, is_of, IsWalked}
+use Rattle.bm_conn.specs.Slots.{slot_at, is_free, is_of}
+use Rattle.bm_conn.specs.Inside.Slots.{IsWalked}
 use Rattle.bm_conn.proofs.Walks.{walked_none, walked_more, walked_all}
 use Rattle.bm_conn.proofs.slot.seek.Goals as goal
 

@@ -2,7 +2,8 @@ use Rattle.std.proofs.Common.{◌≡◌, ◌+◌, true, length, set, None, refl,
 use Rattle.bm_conn.specs.declared.slot.Slot.{Slot}
 use Rattle.bm_conn.specs.declared.slot.Slot.TheVariants.{Free, Used}
 use Rattle.bm_conn.specs.Connections.{receiver_in}
-use Rattle.bm_conn.specs.Slots.{slot_at, is_free, used}
+use Rattle.bm_conn.specs.Slots.{slot_at, is_free}
+use Rattle.bm_conn.specs.Inside.Slots.{used}
 use Rattle.bm_conn.proofs.Filled.{length_freed, once_freed, receiver_at}
 use Rattle.bm_conn.proofs.Reached.{found_none}
 use Rattle.bm_conn.proofs.Changes.{stop_used, absent_puts, taken_puts}

@@ -1,5 +1,5 @@
 use Rattle.std.proofs.Common.{ap, sym, ◌∙◌, option_map}
-use Rattle.bm_connections_cli.specs.Words.{asked}
+use Rattle.bm_connections_cli.specs.Inside.Words.{asked}
 use Rattle.bm_connections_cli.proofs.Ending.{unasked_ends, words_end}
 use Rattle.bm_connections_cli.proofs.top.answer.Goals as goal
 

@@ -1,4 +1,4 @@
-use Rattle.bm_connections_cli.specs.Words.{asked}
+use Rattle.bm_connections_cli.specs.Inside.Words.{asked}
 use Rattle.bm_connections_cli.proofs.Ending.{played_ends, refused_ends, tells_table}
 use Rattle.bm_connections_cli.proofs.top.answer_form.Goals as goal
 

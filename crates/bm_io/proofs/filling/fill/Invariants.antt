@@ -1,5 +1,5 @@
 use Rattle.std.proofs.Common.{◌≤◌, ◌≡◌, ◌-◌, length}
-use Rattle.bm_io.specs.Fill.{FilledSoFar}
+use Rattle.bm_io.specs.Inside.Fill.{FilledSoFar}
 use Rattle.bm_io.proofs.filling.fill.Given as goal
 
 abbrev pub invariant-loop-at : goal.invariant-loop-at

@@ -1,6 +1,6 @@
 use Rattle.std.proofs.Common.{◌≡◌, ◌+◌, ◌*◌, ◌≤◌, length}
 use Rattle.bm_ipv4.specs.Checksum.{ones_from}
-use Rattle.bm_ipv4.specs.Folding.{folded}
+use Rattle.bm_ipv4.specs.Inside.Folding.{folded}
 use Rattle.bm_ipv4.proofs.checksum.header_sum.Given as goal
 
 -- what was added, and that what is left doesn't go beyond 32 bits

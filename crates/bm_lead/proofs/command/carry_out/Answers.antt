@@ -1,7 +1,7 @@
 use Rattle.std.proofs.Common.{◌+◌, Some, sym, ap, ◌∙◌, subst, arith, drop, length, OnOk}
 use Rattle.bm_table.specs.declared.script.Command.{Command}
 use Rattle.bm_table.specs.declared.script.Command.TheVariants.{Close, Retire}
-use Rattle.bm_lead.specs.Steps.{CarriesOut}
+use Rattle.bm_lead.specs.Inside.Steps.{CarriesOut}
 use Rattle.bm_lead.proofs.Scripted.{command_early, command_known, fewer_published, next_version}
 use Rattle.bm_lead.proofs.command.carry_out.Goals as goal
 

@@ -2,7 +2,7 @@ use Rattle.std.proofs.Common.{ℕ, ◌-◌, Option, refl, sym, ap, ◌∙◌, ar
 use Rattle.bm_core.specs.Runs.{next_clock}
 use Rattle.bm_table.specs.declared.plan.Change.{Change}
 use Rattle.bm_table.specs.Tables.{change_moment}
-use Rattle.bm_lead.specs.Commands.{publishing}
+use Rattle.bm_lead.specs.Inside.Commands.{publishing}
 use Rattle.bm_lead.proofs.Calling.{change_early, hears_elsewhere}
 use Rattle.bm_lead.proofs.command.publish.Goals as goal
 

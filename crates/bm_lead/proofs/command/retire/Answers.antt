@@ -1,6 +1,6 @@
 use Rattle.std.proofs.Common.{refl, subst, arith}
 use Rattle.bm_base.specs.declared.ids.ServerId.{ServerId}
-use Rattle.bm_lead.specs.Steps.{AreRetirings}
+use Rattle.bm_lead.specs.Inside.Steps.{AreRetirings}
 use Rattle.bm_lead.proofs.Calling.{has_called, retirings_elsewhere}
 use Rattle.bm_lead.proofs.command.retire.Goals as goal
 

@@ -1,5 +1,5 @@
 use Rattle.std.proofs.Common.{◌≡◌, ◌∙◌, ℕ, refl, subst, arith, []}
-use Rattle.bm_lead.specs.Steps.{AreRetirings}
+use Rattle.bm_lead.specs.Inside.Steps.{AreRetirings}
 use Rattle.bm_lead.proofs.Calling.{called_up_to, none_called, retired_more, same_porter, sits_kept}
 use Rattle.bm_lead.proofs.command.retire_shards.Goals as goal
 

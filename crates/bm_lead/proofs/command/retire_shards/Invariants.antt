@@ -2,7 +2,7 @@ use Rattle.std.proofs.Common.{◌≡◌, ℕ, ◌+◌, ◌≤◌, List, slice_ge
 use Rattle.bm_merge.specs.Notes.{Note}
 use Rattle.bm_server.specs.Servings.{Serving}
 use Rattle.bm_worker.specs.Deeds.{IsSamePorter}
-use Rattle.bm_lead.specs.Steps.{AreRetirings, HasCalled}
+use Rattle.bm_lead.specs.Inside.Steps.{AreRetirings, HasCalled}
 use Rattle.bm_lead.proofs.command.retire_shards.Given as goal
 
 abbrev pub invariant-loop-shard : goal.invariant-loop-shard

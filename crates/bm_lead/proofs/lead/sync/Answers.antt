@@ -5,7 +5,7 @@ use Rattle.bm_lead.specs.declared.head.Head.{Head}
 use Rattle.bm_lead.specs.Commands.{syncing}
 use Rattle.bm_core.specs.Runs.{next_clock}
 use Rattle.bm_core.specs.Threads.{moment_at}
-use Rattle.bm_lead.specs.Steps.{AreOf, HasDone}
+use Rattle.bm_lead.specs.Inside.Steps.{AreOf, HasDone}
 use Rattle.bm_lead.proofs.Calling.{hears_elsewhere}
 use Rattle.bm_lead.proofs.Going.{command_leads, ready_more}
 use Rattle.bm_lead.proofs.Scripted.{command_early, is_there}

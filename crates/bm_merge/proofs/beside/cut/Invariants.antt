@@ -1,5 +1,5 @@
 use Rattle.std.proofs.Common.{map, take}
-use Rattle.bm_merge.specs.Halves.{AreHalves}
+use Rattle.bm_merge.specs.Inside.Halves.{AreHalves}
 use Rattle.bm_merge.proofs.beside.cut.Given as goal
 
 abbrev pub invariant-loop-log : goal.invariant-loop-log

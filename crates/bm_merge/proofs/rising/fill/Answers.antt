@@ -2,7 +2,8 @@ use Rattle.std.proofs.Common.{◌≡◌, ◌++◌, ◌<◌, ◌∙◌, List, ap,
 use Rattle.std.proofs.lemmas.List.{length-take-le, take_all}
 use Rattle.bm_core.specs.declared.events.Event.{Event}
 use Rattle.bm_merge.specs.Merges.{joined}
-use Rattle.bm_merge.specs.Rising.{in_order, lefts}
+use Rattle.bm_merge.specs.Rising.{in_order}
+use Rattle.bm_merge.specs.Inside.Rising.{lefts}
 use Rattle.bm_merge.proofs.Heading.{length_in_order, none_behind, some_left}
 use Rattle.bm_merge.proofs.rising.fill.Goals as goal
 

@@ -1,6 +1,7 @@
 use Rattle.std.proofs.Common.{◌≡◌, ◌≤◌, ◌++◌, length, map, take}
 use Rattle.bm_merge.specs.Merges.{joined}
-use Rattle.bm_merge.specs.Rising.{AreStanding, in_order, lefts}
+use Rattle.bm_merge.specs.Rising.{in_order}
+use Rattle.bm_merge.specs.Inside.Rising.{AreStanding, lefts}
 use Rattle.bm_merge.proofs.rising.fill.Given as goal
 
 abbrev pub invariant-loop-place : goal.invariant-loop-place

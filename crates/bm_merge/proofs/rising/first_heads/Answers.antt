@@ -2,7 +2,7 @@ use Rattle.std.proofs.Common.{◌≡◌, ◌<◌, ◌++◌, ◌∷◌, ◌∙◌
 use Rattle.std.proofs.lemmas.List.{length-map}
 use Rattle.bm_merge.specs.declared.rising.Head.{Head}
 use Rattle.bm_merge.specs.Merges.{joined}
-use Rattle.bm_merge.specs.Rising.{AreStanding, lefts}
+use Rattle.bm_merge.specs.Inside.Rising.{AreStanding, lefts}
 use Rattle.bm_merge.proofs.Heading.{more_left, more_stand, none_left}
 use Rattle.bm_merge.proofs.rising.first_heads.Goals as goal
 use Rattle.bm_merge.proofs.rising.first_heads.Goals.{in-Some+in_ok-push, in_default}

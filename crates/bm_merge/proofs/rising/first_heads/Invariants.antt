@@ -1,6 +1,6 @@
 use Rattle.std.proofs.Common.{◌≡◌, ◌≤◌, length, map, take}
 use Rattle.bm_merge.specs.Merges.{joined}
-use Rattle.bm_merge.specs.Rising.{AreStanding, lefts}
+use Rattle.bm_merge.specs.Inside.Rising.{AreStanding, lefts}
 use Rattle.bm_merge.proofs.rising.first_heads.Given as goal
 
 abbrev pub invariant-loop-log : goal.invariant-loop-log

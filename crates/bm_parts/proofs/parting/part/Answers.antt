@@ -2,7 +2,7 @@ use Rattle.std.proofs.Common.{List, reverse, subst}
 use Rattle.std.proofs.lemmas.List.{take_all}
 use Rattle.std.proofs.lemmas.Result.{IfOk-weaker}
 use Rattle.bm_core.specs.declared.events.Event.{Event}
-use Rattle.bm_parts.specs.Inside.{AreLogsOf}
+use Rattle.bm_parts.specs.Inside.Logs.{AreLogsOf}
 use Rattle.bm_parts.proofs.Noting.{parted_all}
 use Rattle.bm_parts.proofs.parting.part.Goals as goal
 

@@ -1,6 +1,6 @@
 use Rattle.std.proofs.Common.{◌≡◌, reverse, take}
-use Rattle.bm_parts.specs.Actors.{actor}
-use Rattle.bm_parts.specs.Inside.{AreLogsOf}
+use Rattle.bm_parts.specs.Inside.Actors.{actor}
+use Rattle.bm_parts.specs.Inside.Logs.{AreLogsOf}
 use Rattle.bm_parts.specs.Parts.{writer}
 use Rattle.bm_parts.proofs.parting.part.Given as goal
 

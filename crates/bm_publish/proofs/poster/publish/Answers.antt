@@ -1,7 +1,7 @@
 use Rattle.std.proofs.Common.{◌≡◌, List, [], ◌∷◌, ◌++◌, fold, sym, ap, ◌∙◌, subst}
 use Rattle.bm_publish.specs.declared.shown.Shown.{Shown}
 use Rattle.bm_publish.specs.declared.shown.Post.{Post}
-use Rattle.bm_publish.specs.Boards.{changed_from, IsRight}
+use Rattle.bm_publish.specs.Inside.Boards.{changed_from, IsRight}
 use Rattle.bm_publish.proofs.BoardLemmas.{turns}
 use Rattle.bm_publish.proofs.poster.publish.Goals as goal
 

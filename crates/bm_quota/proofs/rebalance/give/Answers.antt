@@ -2,7 +2,7 @@ use Rattle.std.proofs.Common.{sym, ◌∙◌, arith, rules}
 use Rattle.bm_quota.proofs.StepLemmas.{Gave-kept, Gave-given}
 use Rattle.bm_quota.proofs.rebalance.give.Goals as goal
 use Rattle.bm_quota.proofs.rebalance.give.Goals.{then-not-has_kept+in_ok-push, else-not-has_kept}
-use Rattle.bm_quota.specs.Rooms.{room_in, given, left}
+use Rattle.bm_quota.specs.Inside.Rooms.{room_in, given, left}
 
 pub loop-bucket-preserved : goal.loop-bucket-preserved
 loop-bucket-preserved c =

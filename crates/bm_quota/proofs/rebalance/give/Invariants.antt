@@ -1,6 +1,6 @@
 use Rattle.std.proofs.Common.{◌≡◌, length}
 use Rattle.bm_quota.proofs.StepLemmas.{Gave}
-use Rattle.bm_quota.specs.Rooms.{room_in, given, left}
+use Rattle.bm_quota.specs.Inside.Rooms.{room_in, given, left}
 use Rattle.bm_quota.proofs.rebalance.give.Given as goal
 
 abbrev pub invariant-loop-bucket : goal.invariant-loop-bucket

@@ -8,7 +8,7 @@ use Rattle.bm_quota.proofs.Rebalanced.{rebalancing-reaches, rebalancing-least, l
 use Rattle.bm_quota.proofs.StepLemmas.{chosen}
 use Rattle.bm_quota.proofs.rebalance.moves.Goals as goal
 use Rattle.bm_quota.specs.Rebalancing as rule
-use Rattle.bm_quota.specs.Rooms.{room_in}
+use Rattle.bm_quota.specs.Inside.Rooms.{room_in}
 
 pub returns-clause-chosen : goal.returns-clause-chosen
 returns-clause-chosen c =

@@ -1,6 +1,6 @@
 use Rattle.std.proofs.Common.{◌≡◌, ◌++◌, drop}
 use Rattle.bm_quota.specs.Rebalancing as rule
-use Rattle.bm_quota.specs.Rooms.{room_in}
+use Rattle.bm_quota.specs.Inside.Rooms.{room_in}
 use Rattle.bm_quota.proofs.rebalance.takers.Given as goal
 
 abbrev pub invariant-loop-s : goal.invariant-loop-s

@@ -1,5 +1,5 @@
 use Rattle.std.proofs.Common.{◌≡◌}
-use Rattle.bm_replay.specs.Flights.{copies_put}
+use Rattle.bm_replay.specs.Inside.Flights.{copies_put}
 use Rattle.bm_replay.proofs.player.put_copies.Given as goal
 
 abbrev pub invariant-loop : goal.invariant-loop

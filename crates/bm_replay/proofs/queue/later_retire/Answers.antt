@@ -1,6 +1,6 @@
 use Rattle.std.proofs.Common.{◌≡◌, ◌++◌, [], List, sym, subst}
 use Rattle.bm_core.specs.declared.schedule.Due.{Due}
-use Rattle.bm_replay.specs.Queues.{IsHead, behind, retires_after, retires_from}
+use Rattle.bm_replay.specs.Inside.Queues.{IsHead, behind, retires_after, retires_from}
 use Rattle.bm_replay.proofs.queue.later_retire.Goals as goal
 
 pub returns-in-None : goal.returns-in-None

@@ -1,6 +1,6 @@
 use Rattle.std.proofs.Common.{◌≡◌, ◌∷◌, [], Some, Option, sym, subst}
 use Rattle.bm_core.specs.declared.schedule.Due.{Due}
-use Rattle.bm_replay.specs.Queues.{behind, later_shards}
+use Rattle.bm_replay.specs.Inside.Queues.{behind, later_shards}
 use Rattle.bm_replay.proofs.QueueHeads.{later_here, later_none}
 use Rattle.bm_replay.proofs.queue.later_shard.Goals as goal
 

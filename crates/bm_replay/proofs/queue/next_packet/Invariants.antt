@@ -1,5 +1,5 @@
 use Rattle.std.proofs.Common.{◌≡◌}
-use Rattle.bm_replay.specs.Queues.{packets_after}
+use Rattle.bm_replay.specs.Inside.Queues.{packets_after}
 use Rattle.bm_replay.proofs.queue.next_packet.Given as goal
 
 abbrev pub invariant-loop-i : goal.invariant-loop-i

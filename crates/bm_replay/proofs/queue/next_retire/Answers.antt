@@ -1,6 +1,6 @@
 use Rattle.std.proofs.Common.{◌≡◌, subst, sym, ◌∙◌, ◌+◌, ◌∷◌, ◌++◌}
 use Rattle.bm_core.specs.declared.schedule.Due.{Due}
-use Rattle.bm_replay.specs.Queues.{later_shards, retires_from}
+use Rattle.bm_replay.specs.Inside.Queues.{later_shards, retires_from}
 use Rattle.bm_replay.proofs.QueueHeads.{retires_head}
 use Rattle.bm_replay.proofs.queue.next_retire.Goals as goal
 

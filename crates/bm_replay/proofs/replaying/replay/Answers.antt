@@ -2,7 +2,7 @@ use Rattle.std.proofs.Common.{◌≡◌, Bool, length, ap, subst, arith}
 use Rattle.bm_fault.specs.Faults.{Gives}
 use Rattle.bm_route.specs.Routes.{Answers}
 use Rattle.bm_replay.specs.declared.player.Player.{Player}
-use Rattle.bm_replay.specs.Playing.{HasPlayed, HasStepped}
+use Rattle.bm_replay.specs.Inside.Playing.{HasPlayed, HasStepped}
 use Rattle.bm_replay.proofs.BeginAndEnd.{begins, few_events}
 use Rattle.bm_replay.proofs.replaying.replay.Goals as goal
 

@@ -1,7 +1,7 @@
 use Rattle.std.proofs.Common.{◌≡◌, ◌-◌, length}
 use Rattle.bm_fault.specs.Faults.{Gives}
 use Rattle.bm_route.specs.Routes.{Answers}
-use Rattle.bm_replay.specs.Playing.{IsPlaying}
+use Rattle.bm_replay.specs.Inside.Playing.{IsPlaying}
 use Rattle.bm_replay.proofs.replaying.replay.Given as goal
 
 abbrev pub invariant-loop-carrier : goal.invariant-loop-carrier

@@ -1,5 +1,5 @@
 use Rattle.std.proofs.Common.{◌≡◌, ◌++◌}
-use Rattle.bm_replay.specs.Shards.{server_shards}
+use Rattle.bm_replay.specs.Inside.Shards.{server_shards}
 use Rattle.bm_replay.proofs.shards.add_server.Given as goal
 
 abbrev pub invariant-loop-number : goal.invariant-loop-number

@@ -1,6 +1,6 @@
 use Rattle.std.proofs.Common.{◌≡◌, drop, length}
 use Rattle.bm_script.specs.Commands.{after_commands}
-use Rattle.bm_script.specs.Readings.{IsCounted, progress}
+use Rattle.bm_script.specs.Inside.Readings.{IsCounted, progress}
 use Rattle.bm_script.specs.Scripts.{opened}
 use Rattle.toml.specs.View.{items_view}
 use Rattle.bm_script.proofs.commands.read_commands.Given as goal

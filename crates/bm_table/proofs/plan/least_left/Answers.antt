@@ -1,7 +1,7 @@
 use Rattle.std.proofs.Common.{ap, ap₂, sym, ◌∙◌}
 use Rattle.std.proofs.lemmas.List.{take_all}
 use Rattle.bm_table.specs.declared.plan.Step.{Step}
-use Rattle.bm_table.specs.Leaves.{lesser_of, step_left}
+use Rattle.bm_table.specs.Inside.Leaves.{lesser_of, step_left}
 use Rattle.bm_table.proofs.LeafLemmas.{least_since-more}
 use Rattle.bm_table.proofs.plan.least_left.Goals as goal
 

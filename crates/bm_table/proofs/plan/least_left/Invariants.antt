@@ -1,5 +1,5 @@
 use Rattle.std.proofs.Common.{◌≡◌, take}
-use Rattle.bm_table.specs.Leaves.{least_since}
+use Rattle.bm_table.specs.Inside.Leaves.{least_since}
 use Rattle.bm_table.proofs.plan.least_left.Given as goal
 
 abbrev pub invariant-loop-step : goal.invariant-loop-step

@@ -1,7 +1,7 @@
 use Rattle.std.proofs.Common.{◌∷◌, ◌++◌, ◌≡◌, ◌<◌, [], min, ◌^◌, ◌-◌, arith, subst, sym, take, ◌∙◌, ◌+◌, ap, All}
 use Rattle.std.proofs.Common.{length, length-set, length-take-le, set}
 use Rattle.std.proofs.lemmas.List.Elements.{All-push}
-use Rattle.bm_trace.specs.Pieces.{AreInRow, CanWrite, place_of}
+use Rattle.bm_trace.specs.Inside.Pieces.{AreInRow, CanWrite, place_of}
 use Rattle.bm_trace.proofs.Pieces.{begun_take, place_next, row_more, step_within, take_over}
 use Rattle.bm_trace.proofs.beside.deal_out.Goals as goal
 

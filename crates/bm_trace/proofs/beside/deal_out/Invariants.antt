@@ -1,6 +1,6 @@
 use Rattle.std.proofs.Common.{◌≡◌, ◌≤◌, All, length, take}
-use Rattle.bm_trace.specs.Pieces.{AreInRow, CanWrite, place_of}
-use Rattle.bm_trace.specs.Swept.{HasSwept}
+use Rattle.bm_trace.specs.Inside.Pieces.{AreInRow, CanWrite, place_of}
+use Rattle.bm_trace.specs.Inside.Swept.{HasSwept}
 use Rattle.bm_trace.proofs.beside.deal_out.Given as goal
 
 abbrev pub invariant-loop-number : goal.invariant-loop-number

@@ -1,5 +1,5 @@
 use Rattle.std.proofs.Common.{◌≡◌}
-use Rattle.bm_trace.specs.Pieces.{PutsLines, place_of}
+use Rattle.bm_trace.specs.Inside.Pieces.{PutsLines, place_of}
 use Rattle.bm_trace.proofs.beside.put_pieces.Given as goal
 
 abbrev pub invariant-loop-piece : goal.invariant-loop-piece

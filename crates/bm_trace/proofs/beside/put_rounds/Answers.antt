@@ -1,5 +1,5 @@
 use Rattle.std.proofs.Common.{subst, sym, ◌∙◌}
-use Rattle.bm_trace.specs.Pieces.{PutsLines}
+use Rattle.bm_trace.specs.Inside.Pieces.{PutsLines}
 use Rattle.bm_trace.proofs.Parted.{on_err}
 use Rattle.bm_trace.proofs.Pieces.{puts_after, puts_both}
 use Rattle.bm_trace.proofs.beside.put_rounds.Goals as goal

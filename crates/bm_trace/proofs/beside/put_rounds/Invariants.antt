@@ -1,5 +1,5 @@
 use Rattle.std.proofs.Common.{◌≡◌, ◌-◌, length}
-use Rattle.bm_trace.specs.Pieces.{IsRound, PutsLines}
+use Rattle.bm_trace.specs.Inside.Pieces.{IsRound, PutsLines}
 use Rattle.bm_trace.proofs.beside.put_rounds.Given as goal
 
 abbrev pub invariant-loop-round : goal.invariant-loop-round

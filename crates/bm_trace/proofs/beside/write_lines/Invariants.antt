@@ -1,6 +1,6 @@
 use Rattle.std.proofs.Common.{take, reverse, string_bytes}
-use Rattle.bm_trace.specs.Pieces.{AreLines}
-use Rattle.bm_trace.specs.Running.{AreVersions}
+use Rattle.bm_trace.specs.Inside.Pieces.{AreLines}
+use Rattle.bm_trace.specs.Inside.Running.{AreVersions}
 use Rattle.bm_trace.proofs.beside.write_lines.Given as goal
 
 abbrev pub invariant-loop-place : goal.invariant-loop-place

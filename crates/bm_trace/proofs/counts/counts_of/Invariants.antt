@@ -1,5 +1,5 @@
 use Rattle.std.proofs.Common.{◌≡◌, take}
-use Rattle.bm_trace.specs.Counts as spec
+use Rattle.bm_trace.specs.Inside.Counts as spec
 use Rattle.bm_trace.proofs.counts.counts_of.Given as goal
 
 abbrev pub invariant-loop-event : goal.invariant-loop-event

@@ -1,6 +1,6 @@
 use Rattle.std.proofs.Common.{◌∙◌, reverse, arith}
 use Rattle.bm_trace.proofs.Handing.{none_sent}
-use Rattle.bm_trace.specs.EndTables.{ends_at, with_later}
+use Rattle.bm_trace.specs.Inside.EndTables.{ends_at, with_later}
 use Rattle.bm_trace.proofs.Parted.{both_same, ends_there, on_err, records_left, records_more, records_refused}
 use Rattle.bm_trace.proofs.document.put_records.Goals as goal
 

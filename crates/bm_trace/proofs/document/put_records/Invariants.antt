@@ -1,5 +1,5 @@
 use Rattle.std.proofs.Common.{◌≡◌, take, reverse, string_bytes}
-use Rattle.bm_trace.specs.Parts.{HandsOn}
+use Rattle.bm_trace.specs.Inside.Parts.{HandsOn}
 use Rattle.bm_trace.specs.Report as report
 use Rattle.bm_trace.proofs.document.put_records.Given as goal
 

@@ -1,6 +1,6 @@
 use Rattle.std.proofs.Common.{◌≡◌, ℕ, ◌+◌, ◌<◌, vec_len, take, reverse}
-use Rattle.bm_trace.specs.Ends.{words_of_ends}
-use Rattle.bm_trace.specs.EndTables.{ends_at}
+use Rattle.bm_trace.specs.Inside.Ends.{words_of_ends}
+use Rattle.bm_trace.specs.Inside.EndTables.{ends_at}
 use Rattle.bm_trace.specs.Report as report
 use Rattle.bm_trace.proofs.endings.ends_of_packets.Given as goal
 

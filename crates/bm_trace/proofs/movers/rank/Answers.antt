@@ -1,7 +1,7 @@
 use Rattle.std.proofs.Common.{◌≡◌, ℕ, List, arith, length, rules, subst, sym}
 use Rattle.std.specs.Prelude.{nat_lt}
 use Rattle.std.proofs.lemmas.List.Sorted.{IsPartitionPoint-from_clause}
-use Rattle.bm_trace.specs.Movers.{IsSplit, movers}
+use Rattle.bm_trace.specs.Inside.Movers.{IsSplit, movers}
 use Rattle.bm_trace.proofs.Moved.{parted, ranked, split_all}
 use Rattle.bm_trace.proofs.movers.rank.Goals as goal
 

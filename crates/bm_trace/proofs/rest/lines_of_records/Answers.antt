@@ -1,5 +1,5 @@
 use Rattle.std.proofs.Common.{arith, reverse}
-use Rattle.bm_trace.specs.EndTables.{ends_at, with_later}
+use Rattle.bm_trace.specs.Inside.EndTables.{ends_at, with_later}
 use Rattle.bm_trace.proofs.Parted.{both_same, ends_there, record_put}
 use Rattle.bm_trace.proofs.rest.lines_of_records.Goals as goal
 

@@ -1,6 +1,6 @@
 use Rattle.std.proofs.Common.{◌≤◌}
 use Rattle.bm_fault.specs.Faults.{Gives}
-use Rattle.bm_worker.specs.Batches.{AreCollected}
+use Rattle.bm_worker.specs.Inside.Batches.{AreCollected}
 use Rattle.bm_worker.proofs.batch.collect.Given as goal
 
 abbrev pub invariant-loop-at : goal.invariant-loop-at

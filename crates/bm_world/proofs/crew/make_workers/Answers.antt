@@ -2,7 +2,7 @@ use Rattle.std.proofs.Common.{◌≡◌, ap}
 use Rattle.bm_mux.specs.Muxes.{HasServers}
 use Rattle.bm_publish.specs.Posts.{Posted}
 use Rattle.bm_rows.specs.Rows.{items_of}
-use Rattle.bm_world.specs.Crews.{HaveNoTurns}
+use Rattle.bm_world.specs.Inside.Crews.{HaveNoTurns}
 use Rattle.bm_world.proofs.Crewing.{all_at, first_look, first_row, one_made}
 use Rattle.bm_world.proofs.crew.make_workers.Goals as goal
 

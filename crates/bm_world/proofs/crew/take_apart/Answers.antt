@@ -2,7 +2,7 @@ use Rattle.std.proofs.Common.{◌∙◌, sym, ap, subst, length}
 use Rattle.std.proofs.lemmas.List.{map-append}
 use Rattle.bm_rows.specs.Rows.{items_of}
 use Rattle.bm_publish.specs.Posts.{Posted}
-use Rattle.bm_world.specs.Crews.{HasSeenAll}
+use Rattle.bm_world.specs.Inside.Crews.{HasSeenAll}
 use Rattle.bm_world.proofs.Crewing.{first_left, one_parted}
 use Rattle.bm_world.proofs.crew.take_apart.Goals as goal
 

@@ -1,6 +1,6 @@
 use Rattle.std.proofs.Common.{◌≡◌, drop}
 use Rattle.std.specs.Prelude.{is_some}
-use Rattle.bm_world.specs.Crews.{one_stopped}
+use Rattle.bm_world.specs.Inside.Crews.{one_stopped}
 use Rattle.bm_world.proofs.phase.is_one_stopped.Given as goal
 
 abbrev pub invariant-loop-worker : goal.invariant-loop-worker

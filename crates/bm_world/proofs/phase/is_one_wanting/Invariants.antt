@@ -1,5 +1,5 @@
 use Rattle.std.proofs.Common.{◌≡◌, drop}
-use Rattle.bm_world.specs.Crews.{one_stopped, wants_memory}
+use Rattle.bm_world.specs.Inside.Crews.{one_stopped, wants_memory}
 use Rattle.bm_world.proofs.phase.is_one_wanting.Given as goal
 
 abbrev pub invariant-loop-worker : goal.invariant-loop-worker

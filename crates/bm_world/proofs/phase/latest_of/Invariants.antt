@@ -1,5 +1,5 @@
 use Rattle.std.proofs.Common.{◌≡◌, drop, max}
-use Rattle.bm_world.specs.Crews.{latest_in}
+use Rattle.bm_world.specs.Inside.Crews.{latest_in}
 use Rattle.bm_world.proofs.phase.latest_of.Given as goal
 
 abbrev pub invariant-loop-worker : goal.invariant-loop-worker

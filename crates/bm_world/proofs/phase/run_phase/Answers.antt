@@ -9,7 +9,7 @@ use Rattle.bm_worker.specs.Phases.{CanWork}
 use Rattle.bm_worker.specs.declared.span.Span.{Span}
 use Rattle.bm_worker.specs.declared.worker.MuxWorker.{MuxWorker}
 use Rattle.bm_world.specs.declared.phase.Next.{Next}
-use Rattle.bm_world.specs.Crews.{left_of, told_what, HasMet, HaveNotStopped, IsLate, IsNext}
+use Rattle.bm_world.specs.Inside.Crews.{left_of, told_what, HasMet, HaveNotStopped, IsLate, IsNext}
 use Rattle.bm_world.proofs.Phased.{if_ok_more, led_if_ok, met_fewer, met_next, on_ok, phase_meets, worked_at}
 use Rattle.bm_world.proofs.Stopping.{gives_up}
 use Rattle.bm_world.proofs.Told.{can_work}

@@ -1,6 +1,6 @@
 use Rattle.std.proofs.Common.{◌≡◌, length}
 use Rattle.bm_fault.specs.Faults.{Gives}
-use Rattle.bm_world.specs.Crews.{IsNext, left_of}
+use Rattle.bm_world.specs.Inside.Crews.{IsNext, left_of}
 use Rattle.bm_world.proofs.phase.run_phases.Given as goal
 
 abbrev pub invariant-loop-next : goal.invariant-loop-next

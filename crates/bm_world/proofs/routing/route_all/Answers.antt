@@ -3,7 +3,7 @@ use Rattle.std.proofs.Common.{ap, ◌∙◌, subst, arith, length-append}
 use Rattle.bm_base.specs.declared.ids.MuxId.{MuxId}
 use Rattle.bm_route.specs.Routes.{Answers}
 use Rattle.bm_rows.proofs.Places.{each_more}
-use Rattle.bm_world.specs.Routed.{IsGivenTo}
+use Rattle.bm_world.specs.Inside.Routed.{IsGivenTo}
 use Rattle.bm_world.proofs.routing.route_all.Goals as goal
 
 pub loop-place-preserved : goal.loop-place-preserved

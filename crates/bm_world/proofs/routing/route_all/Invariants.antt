@@ -1,7 +1,7 @@
 use Rattle.std.proofs.Common.{◌≡◌, ℕ, suc, length, slice_get, Option, Some}
 use Rattle.bm_base.specs.declared.ids.MuxId.{MuxId}
 use Rattle.bm_route.specs.Routes.{Answers}
-use Rattle.bm_world.specs.Routed.{IsGivenTo}
+use Rattle.bm_world.specs.Inside.Routed.{IsGivenTo}
 use Rattle.bm_world.proofs.routing.route_all.Given as goal
 
 abbrev pub invariant-loop-place : goal.invariant-loop-place

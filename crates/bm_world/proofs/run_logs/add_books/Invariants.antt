@@ -1,7 +1,7 @@
 use Rattle.std.proofs.Common.{◌≡◌, ◌++◌, map, take}
 use Rattle.std.specs.List.{AllByRecursion}
 use Rattle.bm_merge.specs.Rising.{IsRising}
-use Rattle.bm_world.specs.Logged.{book_log, log_events}
+use Rattle.bm_world.specs.Inside.Logged.{book_log, log_events}
 use Rattle.bm_world.proofs.run_logs.add_books.Given as goal
 
 abbrev pub invariant-loop-book : goal.invariant-loop-book

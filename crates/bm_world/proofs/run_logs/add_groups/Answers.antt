@@ -1,5 +1,5 @@
 use Rattle.std.proofs.Common.{ap}
-use Rattle.bm_world.specs.Logged.{source_logs}
+use Rattle.bm_world.specs.Inside.Logged.{source_logs}
 use Rattle.bm_world.proofs.Rising.{group_last, group_more}
 use Rattle.bm_world.proofs.run_logs.add_groups.Goals as goal
 

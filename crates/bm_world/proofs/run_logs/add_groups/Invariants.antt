@@ -1,6 +1,6 @@
 use Rattle.std.proofs.Common.{◌≡◌, ◌++◌, map}
-use Rattle.bm_merge.specs.Rising.{all_logs}
-use Rattle.bm_world.specs.Logged.{group_logs, source_logs, source_size}
+use Rattle.bm_merge.specs.Inside.Rising.{all_logs}
+use Rattle.bm_world.specs.Inside.Logged.{group_logs, source_logs, source_size}
 use Rattle.bm_world.proofs.run_logs.add_groups.Given as goal
 
 abbrev pub invariant-loop-all : goal.invariant-loop-all

@@ -1,7 +1,7 @@
 use Rattle.std.proofs.Common.{◌≡◌, map}
 use Rattle.std.specs.List.{AllByRecursion}
 use Rattle.bm_merge.specs.Rising.{IsRising}
-use Rattle.bm_world.specs.Logged.{books_logs, log_events}
+use Rattle.bm_world.specs.Inside.Logged.{books_logs, log_events}
 use Rattle.bm_world.proofs.run_logs.book_logs.Given as goal
 
 abbrev pub invariant-loop-books : goal.invariant-loop-books

@@ -5,7 +5,7 @@ use Rattle.bm_core.specs.declared.events.Event.{Event}
 use Rattle.bm_merge.specs.Merges.{joined}
 use Rattle.bm_merge.specs.Rising.{IsRising, in_order}
 use Rattle.bm_merge.proofs.Heading.{in_order_again, orders_rise}
-use Rattle.bm_world.specs.Logged.{group_logs}
+use Rattle.bm_world.specs.Inside.Logged.{group_logs}
 use Rattle.bm_world.proofs.Rising.{merged_back}
 use Rattle.bm_world.proofs.run_logs.merge_beside.Goals as goal
 

@@ -1,5 +1,5 @@
 use Rattle.std.proofs.Common.{◌≡◌, map, take}
-use Rattle.bm_world.specs.Logged.{group_events}
+use Rattle.bm_world.specs.Inside.Logged.{group_events}
 use Rattle.bm_world.proofs.run_logs.merged_logs.Given as goal
 
 abbrev pub invariant-loop-group : goal.invariant-loop-group

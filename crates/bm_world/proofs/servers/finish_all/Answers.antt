@@ -8,7 +8,7 @@ use Rattle.bm_server.specs.Seats.{Seated}
 use Rattle.bm_server.specs.Servings.{Serving}
 use Rattle.bm_server.specs.declared.seat.ServerSeat.{ServerSeat}
 use Rattle.bm_shard.specs.Books.{Book}
-use Rattle.bm_world.specs.Served.{AreBooksThere}
+use Rattle.bm_world.specs.Inside.Served.{AreBooksThere}
 use Rattle.bm_world.proofs.Serving.{as_many, last_server, seat_there, book_there}
 use Rattle.bm_world.proofs.servers.finish_all.Goals as goal
 

@@ -1,6 +1,6 @@
 use Rattle.std.proofs.Common.{◌≡◌, ℕ, ◌+◌, map, take, length, slice_get, Some}
 use Rattle.bm_rows.specs.Rows.{items_of}
-use Rattle.bm_world.specs.Served.{AreBooksThere}
+use Rattle.bm_world.specs.Inside.Served.{AreBooksThere}
 use Rattle.bm_world.proofs.servers.finish_all.Given as goal
 
 abbrev pub invariant-loop-server : goal.invariant-loop-server

@@ -5,7 +5,7 @@ use Rattle.bm_rows.proofs.Glued.{glued_at, length_rows}
 use Rattle.bm_rows.proofs.Places.{all_empty, each_more, subst_two}
 use Rattle.bm_server.specs.Servings.{Serving}
 use Rattle.bm_server.specs.Seats.{Seated}
-use Rattle.bm_world.specs.Served.{IsNewRow, IsServerOf}
+use Rattle.bm_world.specs.Inside.Served.{IsNewRow, IsServerOf}
 use Rattle.bm_world.proofs.Serving.{empty_row, new_row_more}
 use Rattle.bm_world.proofs.servers.make_servers.Goals as goal
 

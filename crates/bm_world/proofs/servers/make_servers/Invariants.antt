@@ -1,6 +1,6 @@
 use Rattle.std.proofs.Common.{◌≡◌, ℕ, length, slice_get, Some}
 use Rattle.bm_rows.specs.Rows.{items_of}
-use Rattle.bm_world.specs.Served.{IsNewRow, IsServerOf}
+use Rattle.bm_world.specs.Inside.Served.{IsNewRow, IsServerOf}
 use Rattle.bm_world.proofs.servers.make_servers.Given as goal
 
 abbrev pub invariant-loop-id : goal.invariant-loop-id

@@ -5,7 +5,7 @@ use Rattle.bm_table.proofs.Gets.{given_back}
 use Rattle.bm_fault.specs.Faults.{Gives}
 use Rattle.bm_rows.specs.Rows.{items_of}
 use Rattle.bm_worker.specs.declared.worker.MuxWorker.{MuxWorker}
-use Rattle.bm_world.specs.Crews.{rows_of}
+use Rattle.bm_world.specs.Inside.Crews.{rows_of}
 use Rattle.bm_world.proofs.Backed.{all_shown, boards, stood}
 use Rattle.bm_world.proofs.Making.{looks_may, no_turns, row_after}
 use Rattle.bm_world.proofs.Starting.{starts_with}

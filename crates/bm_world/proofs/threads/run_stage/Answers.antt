@@ -14,9 +14,9 @@ use Rattle.bm_fault.specs.Faults.{Gives}
 use Rattle.bm_server.specs.Seats.{Seated}
 use Rattle.bm_server.specs.Servings.{Serving}
 use Rattle.bm_worker.specs.Phases.{IsRunnable}
-use Rattle.bm_world.specs.Crews.{rows_of, IsBack}
-use Rattle.bm_world.specs.Logged.{books_logs}
-use Rattle.bm_world.specs.Served.{AreBooksThere}
+use Rattle.bm_world.specs.Inside.Crews.{rows_of, IsBack}
+use Rattle.bm_world.specs.Inside.Logged.{books_logs}
+use Rattle.bm_world.specs.Inside.Served.{AreBooksThere}
 use Rattle.bm_world.proofs.Backed.{row_sits, rows_long, sitting, Stood}
 use Rattle.bm_world.proofs.Late.{none_late}
 use Rattle.bm_world.proofs.Making.{suits_made}

@@ -2,7 +2,7 @@ use Rattle.std.proofs.Common.{ℕ, refl, subst}
 use Rattle.bm_core.specs.declared.events.History.{History}
 use Rattle.bm_fault.specs.Faults.{Gives}
 use Rattle.bm_route.specs.Routes.{Answers}
-use Rattle.bm_world.specs.Routed.{AreGiven}
+use Rattle.bm_world.specs.Inside.Routed.{AreGiven}
 use Rattle.bm_world.proofs.Answered.{are_routed, routes_given, run_routed}
 use Rattle.bm_world.proofs.threads.run_threads.Goals as goal
 

@@ -1,6 +1,7 @@
 use Rattle.std.proofs.Common.{◌≡◌, ◌≤◌, ◌-◌, ◌∙◌, ℕ, List, length, length-drop, drop, map, ap, ap₂, arith}
 use Rattle.std.proofs.lemmas.List.{length-map}
-use Rattle.bm_base.specs.Pieces.{begin_of, cleared, pieces}
+use Rattle.bm_base.specs.Pieces.{cleared}
+use Rattle.bm_base.specs.Inside.Pieces.{begin_of, pieces}
 use Rattle.bm_base.proofs.Pieces.{are_cleared, begins_within, ends_lowered, length_pieces}
 use Rattle.bm_base.proofs.octets.Octets.clear_first.Goals as goal
 

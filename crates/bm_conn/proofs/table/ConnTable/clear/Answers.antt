@@ -5,7 +5,7 @@ use Rattle.bm_conn.specs.declared.table.Connection.{Connection}
 use Rattle.bm_conn.specs.declared.slot.Slot.{Slot}
 use Rattle.bm_conn.specs.declared.slot.Slot.TheVariants.{Free}
 use Rattle.bm_conn.specs.Connections.{Connections}
-use Rattle.bm_conn.specs.Slots.{used}
+use Rattle.bm_conn.specs.Inside.Slots.{used}
 use Rattle.bm_conn.specs.Views.{IsTable}
 use Rattle.bm_conn.proofs.Changes.{free_used}
 use Rattle.bm_conn.proofs.Tables.{wiped, wiped_items}

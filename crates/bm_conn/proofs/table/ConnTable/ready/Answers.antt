@@ -4,7 +4,7 @@ use Rattle.std.proofs.lemmas.List.{length-replicate, with_items_is}
 use Rattle.bm_conn.specs.declared.slot.Slot.{Slot}
 use Rattle.bm_conn.specs.declared.slot.Slot.TheVariants.{Free}
 use Rattle.bm_conn.specs.Connections.{Connections, IsSame, HasRoom}
-use Rattle.bm_conn.specs.Slots.{used, AreMoved}
+use Rattle.bm_conn.specs.Inside.Slots.{used, AreMoved}
 use Rattle.bm_conn.specs.Views.{table_of}
 use Rattle.bm_conn.proofs.Tables.{grown, grown_same, some_slots}
 use Rattle.bm_conn.proofs.table.ConnTable.ready.Goals as goal

@@ -1,4 +1,4 @@
-use Rattle.bm_mux.specs.Keeping.{IsKept, seen_by}
+use Rattle.bm_mux.specs.Inside.Keeping.{IsKept, seen_by}
 use Rattle.bm_mux.proofs.Kept.{kept_later}
 use Rattle.bm_mux.proofs.mux.Mux.batch.Goals as goal
 

@@ -3,7 +3,7 @@ use Rattle.std.specs.Prelude.{OnErr, OnOk}
 use Rattle.std.specs.Option.{IsSome}
 use Rattle.bm_publish.specs.Posts.{Continues, Posted, last_post, last_version}
 use Rattle.bm_publish.proofs.HistoryLemmas.{continues_trans}
-use Rattle.bm_mux.specs.Keeping.{IsKept, seen_by}
+use Rattle.bm_mux.specs.Inside.Keeping.{IsKept, seen_by}
 use Rattle.bm_mux.specs.Muxes.{HasBegun, IsSameMux, MuxState}
 use Rattle.bm_mux.specs.Steers.{switch_to}
 use Rattle.bm_mux.proofs.Kept.{kept_later}

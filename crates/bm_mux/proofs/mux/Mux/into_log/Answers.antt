@@ -1,6 +1,6 @@
 use Rattle.std.proofs.Common.{◌≡◌, subst}
 use Rattle.bm_publish.proofs.HistoryLemmas.{continues_trans}
-use Rattle.bm_mux.specs.Keeping.{seen_by}
+use Rattle.bm_mux.specs.Inside.Keeping.{seen_by}
 use Rattle.bm_mux.specs.Muxes.{IsLogOf, MuxState}
 use Rattle.bm_mux.proofs.Kept.{are_shown_later}
 use Rattle.bm_mux.proofs.mux.Mux.into_log.Goals as goal

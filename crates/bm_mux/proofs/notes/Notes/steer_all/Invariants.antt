@@ -1,7 +1,7 @@
 use Rattle.std.proofs.Common.{◌≡◌, ◌≤◌, ◌+◌, ◌++◌, length, drop}
 use mathlib.Core.List.{IsPrefix}
 use Rattle.bm_mux.specs.Steers.{sent, steers}
-use Rattle.bm_mux.specs.Keeping.{IsKept}
+use Rattle.bm_mux.specs.Inside.Keeping.{IsKept}
 use Rattle.bm_mux.proofs.notes.Notes.steer_all.Given as goal
 
 abbrev pub invariant-loop-item : goal.invariant-loop-item

@@ -1,7 +1,7 @@
 use Rattle.std.proofs.Common.{◌≡◌, sym, ◌∙◌, subst, List}
 use Rattle.bm_base.specs.declared.label.Entry.{Entry}
 use Rattle.bm_publish.specs.declared.shown.Shown.{Shown}
-use Rattle.bm_publish.specs.Boards.{IsRight}
+use Rattle.bm_publish.specs.Inside.Boards.{IsRight}
 use Rattle.bm_publish.proofs.BoardLemmas.{changed-idle, same_shown, same_table}
 use Rattle.bm_publish.proofs.poster.Poster.new.Goals as goal
 

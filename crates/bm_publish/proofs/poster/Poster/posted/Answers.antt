@@ -3,7 +3,7 @@ use Rattle.bm_table.specs.Plans.{IsPlan}
 use Rattle.bm_table.specs.Tables.{next_change}
 use Rattle.bm_publish.specs.declared.shown.Shown.{Shown}
 use Rattle.bm_publish.specs.Posts.{Posted, last_version, with_post}
-use Rattle.bm_publish.specs.Boards.{changed_from, IsRight}
+use Rattle.bm_publish.specs.Inside.Boards.{changed_from, IsRight}
 use Rattle.bm_publish.proofs.BoardLemmas.{next_right}
 use Rattle.bm_publish.proofs.poster.Poster.posted.Goals as goal
 

@@ -1,7 +1,7 @@
 use Rattle.std.proofs.Common.{◌≡◌, ◌≤◌, ◌∙◌, ap, sym, subst, arith, length, List}
 use mathlib.Core.List.{IsPrefix}
 use Rattle.bm_publish.specs.declared.told.Line.{Line}
-use Rattle.bm_publish.specs.Histories.{clocks_in}
+use Rattle.bm_publish.specs.Inside.Histories.{clocks_in}
 use Rattle.bm_publish.specs.Posts.{Posted}
 use Rattle.bm_publish.proofs.HistoryLemmas.{goes_on}
 use Rattle.bm_publish.proofs.told.Told.longer.Goals as goal

@@ -1,7 +1,7 @@
 use Rattle.std.proofs.Common.{◌≡◌, ◌==◌, ◌<◌, ◌∙◌, ◌∷◌, ◌++◌, [], true, ap, sym, subst, eq-eqb, length, List}
 use mathlib.Core.List.{IsPrefix}
 use Rattle.bm_publish.specs.declared.told.Line.{Line}
-use Rattle.bm_publish.specs.Histories.{clocks_in, plan_in, posted_in}
+use Rattle.bm_publish.specs.Inside.Histories.{clocks_in, plan_in, posted_in}
 use Rattle.bm_publish.specs.Posts.{Posted, last_post, last_version}
 use Rattle.bm_publish.proofs.HistoryLemmas.{add_moves, match_true, more_posts}
 use Rattle.bm_publish.proofs.told.Told.with_post.Goals as goal

@@ -4,7 +4,7 @@ use Rattle.std.specs.Option.{option_map}
 use Rattle.std.proofs.lemmas.Grind.{common_steps}
 use denote.Ref.{Bor}
 use Rattle.bm_base.specs.declared.label.Tag.{Tag}
-use Rattle.bm_replay.specs.Carriers.{next_tag}
+use Rattle.bm_replay.specs.Inside.Carriers.{next_tag}
 use Rattle.bm_replay.proofs.Carriers.{IsTurned, all_below, answered, turned_in}
 use Rattle.bm_replay.proofs.carrier.Carrier.go_on.Goals as goal
 

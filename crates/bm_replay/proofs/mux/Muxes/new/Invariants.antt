@@ -1,5 +1,5 @@
 use Rattle.std.proofs.Common.{◌≡◌, ℕ, ◌<◌, length, slice_get}
-use Rattle.bm_replay.specs.Muxes.{HasTable}
+use Rattle.bm_replay.specs.Inside.Muxes.{HasTable}
 use Rattle.bm_replay.proofs.mux.Muxes.new.Given as goal
 
 abbrev pub invariant-loop : goal.invariant-loop

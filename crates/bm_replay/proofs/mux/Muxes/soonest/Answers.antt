@@ -3,8 +3,8 @@ use Rattle.std.proofs.lemmas.List.{get_or_default}
 use Rattle.bm_core.specs.Schedule.{least}
 use Rattle.bm_table.specs.Tables.{next_change}
 use Rattle.bm_replay.specs.declared.mux.Mux.{Mux}
-use Rattle.bm_replay.specs.Muxes.{switch_after, switches_of, version_in}
-use Rattle.bm_replay.specs.Comings.{sooner_of}
+use Rattle.bm_replay.specs.Inside.Muxes.{switch_after, switches_of, version_in}
+use Rattle.bm_replay.specs.Inside.Comings.{sooner_of}
 use Rattle.bm_replay.proofs.Muxes.{switches_more}
 use Rattle.bm_replay.proofs.mux.Muxes.soonest.Goals as goal
 

@@ -1,6 +1,6 @@
 use Rattle.std.proofs.Common.{◌≡◌}
 use Rattle.bm_core.specs.Schedule.{least}
-use Rattle.bm_replay.specs.Muxes.{switches_of}
+use Rattle.bm_replay.specs.Inside.Muxes.{switches_of}
 use Rattle.bm_replay.proofs.mux.Muxes.soonest.Given as goal
 
 abbrev pub invariant-loop-mux : goal.invariant-loop-mux

@@ -2,7 +2,7 @@ use Rattle.std.proofs.Common.{◌≤◌, ap, sym, subst, ◌∙◌, arith}
 use Rattle.bm_base.specs.declared.flow.Segment.{Segment}
 use Rattle.bm_fault.specs.declared.wire.Flight.{Flight}
 use Rattle.bm_fault.specs.Faults.{Gives}
-use Rattle.bm_replay.specs.Players.{forwards}
+use Rattle.bm_replay.specs.Inside.Players.{forwards}
 use Rattle.bm_replay.proofs.CopiesRead.{call_is, comes, is_copy, is_read, next_is, read_as, says, says_next}
 use Rattle.bm_replay.proofs.player.Player.arrive.Goals as goal
 

@@ -2,8 +2,8 @@ use Rattle.std.proofs.Common.{ℕ, ◌≤◌, List, length, refl, ap, ◌∙◌,
 use Rattle.bm_base.specs.declared.capture.Record.{Record}
 use Rattle.bm_table.specs.declared.script.Command.{Command}
 use Rattle.bm_core.specs.Schedule.{least}
-use Rattle.bm_replay.specs.Muxes.{switches_of}
-use Rattle.bm_replay.specs.Queues.{IsHead, closes_from, packets_after, retires_after, retires_from, syncs_from}
+use Rattle.bm_replay.specs.Inside.Muxes.{switches_of}
+use Rattle.bm_replay.specs.Inside.Queues.{IsHead, closes_from, packets_after, retires_after, retires_from, syncs_from}
 use Rattle.bm_core.proofs.Moments.{change_early}
 use Rattle.bm_replay.proofs.player.Player.new.Goals as goal
 

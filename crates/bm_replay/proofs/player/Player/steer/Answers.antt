@@ -3,9 +3,9 @@ use Rattle.bm_base.specs.declared.capture.Record.{Record}
 use Rattle.bm_fault.specs.Faults.{Gives}
 use Rattle.bm_core.specs.Past.{segment_of}
 use Rattle.bm_replay.specs.declared.player.Player.{Player}
-use Rattle.bm_replay.specs.Muxes.{IsWritten}
-use Rattle.bm_replay.specs.Players.{HasSent}
-use Rattle.bm_replay.specs.Queues.{IsHead, packets_after}
+use Rattle.bm_replay.specs.Inside.Muxes.{IsWritten}
+use Rattle.bm_replay.specs.Inside.Players.{HasSent}
+use Rattle.bm_replay.specs.Inside.Queues.{IsHead, packets_after}
 use Rattle.bm_replay.proofs.player.Player.steer.Goals as goal
 
 pub returns : goal.returns

@@ -2,7 +2,7 @@ use Rattle.std.proofs.Common.{◌≡◌, refl, sym, arith}
 use Rattle.bm_fault.specs.Faults.{Gives}
 use Rattle.bm_route.specs.Routes.{Answers}
 use Rattle.bm_replay.specs.declared.coming.Coming.TheVariants.{Arrive, Call, Over}
-use Rattle.bm_replay.specs.Players.{coming_for}
+use Rattle.bm_replay.specs.Inside.Players.{coming_for}
 use Rattle.bm_replay.proofs.Arrivals.{arrived, can_arrive}
 use Rattle.bm_replay.proofs.BeginAndEnd.{ends}
 use Rattle.bm_replay.proofs.ReadyEvents.{ready_copy}

@@ -1,5 +1,5 @@
 use Rattle.std.proofs.Common.{◌≡◌, drop}
-use Rattle.bm_table.specs.Entries.{server_in}
+use Rattle.bm_table.specs.Inside.Entries.{server_in}
 use Rattle.bm_table.specs.Plans.{bucket_already_there}
 use Rattle.bm_table.proofs.table.Table.first_already_there.Given as goal
 

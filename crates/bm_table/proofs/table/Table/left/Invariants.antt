@@ -1,7 +1,7 @@
 use Rattle.std.proofs.Common.{drop}
 use Rattle.std.specs.BTreeMap.{get}
 use Rattle.std.specs.Ordering.{nat_cmp}
-use Rattle.bm_table.specs.Entries.{server_in}
+use Rattle.bm_table.specs.Inside.Entries.{server_in}
 use Rattle.bm_table.proofs.LeafLemmas.{Notes}
 use Rattle.bm_table.proofs.table.Table.left.Given as goal
 

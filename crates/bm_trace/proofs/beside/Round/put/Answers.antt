@@ -1,6 +1,6 @@
 use Rattle.std.proofs.Common.{subst, sym, ◌∙◌}
 use Rattle.std.proofs.lemmas.List.{with_items_is}
-use Rattle.bm_trace.specs.Pieces.{AreInRow, AreWritten}
+use Rattle.bm_trace.specs.Inside.Pieces.{AreInRow, AreWritten}
 use Rattle.bm_trace.proofs.Parted.{on_err}
 use Rattle.bm_trace.proofs.Pieces.{all_written, puts_left, puts_none}
 use Rattle.bm_trace.proofs.beside.Round.put.Goals as goal

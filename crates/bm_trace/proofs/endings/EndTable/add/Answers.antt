@@ -1,5 +1,5 @@
 use Rattle.std.proofs.Common.{arith}
-use Rattle.bm_trace.specs.EndTables.{ends_at}
+use Rattle.bm_trace.specs.Inside.EndTables.{ends_at}
 use Rattle.bm_trace.proofs.Spacing.{end_added}
 use Rattle.bm_trace.proofs.endings.EndTable.add.Goals as goal
 

@@ -2,7 +2,7 @@ use Rattle.std.proofs.Common.{◌≡◌, length}
 use Rattle.std.specs.BTreeMap as tree
 use Rattle.bm_trace.specs.contracts.holders.ShardKeyOrd.TheImpl as key_order
 use Rattle.bm_base.specs.declared.ids.ServerId.{ServerId}
-use Rattle.bm_trace.specs.HolderLists.{other_alive}
+use Rattle.bm_trace.specs.Inside.HolderLists.{other_alive}
 use Rattle.bm_trace.proofs.holders.Retirements.is_other_alive.Given as goal
 
 abbrev pub invariant-loop-holder : goal.invariant-loop-holder

@@ -1,7 +1,7 @@
 use Rattle.std.proofs.Common.{◌≡◌, ℕ, length}
 use Rattle.std.specs.BTreeMap as tree
 use Rattle.std.specs.Ordering.{nat_cmp}
-use Rattle.bm_trace.specs.Movers.{numbers, with_moves}
+use Rattle.bm_trace.specs.Inside.Movers.{numbers, with_moves}
 use Rattle.bm_trace.proofs.movers.Movers.add_moves.Given as goal
 
 abbrev pub invariant-loop-first : goal.invariant-loop-first

@@ -2,7 +2,7 @@ use Rattle.std.proofs.Common.{sym, ap, ◌∙◌}
 use Rattle.std.specs.BTreeMap as tree
 use Rattle.std.specs.Ordering.{nat_cmp}
 use Rattle.std.specs.Option.{option_copied}
-use Rattle.bm_trace.specs.Movers.{numbers, with_moves}
+use Rattle.bm_trace.specs.Inside.Movers.{numbers, with_moves}
 use Rattle.bm_trace.proofs.Moved.{movers_more}
 use Rattle.bm_trace.proofs.movers.Movers.note.Goals as goal
 

@@ -1,5 +1,5 @@
 use Rattle.std.proofs.Common.{◌≤◌, length, min}
-use Rattle.bm_trace.specs.Swept.{AreCausesOf, HasSwept}
+use Rattle.bm_trace.specs.Inside.Swept.{AreCausesOf, HasSwept}
 use Rattle.bm_trace.proofs.swept.Sweeper.advance.Given as goal
 
 abbrev pub invariant-loop-place : goal.invariant-loop-place

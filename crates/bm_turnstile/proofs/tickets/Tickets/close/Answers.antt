@@ -1,7 +1,7 @@
 use Rattle.std.proofs.Common.{◌≡◌, Some, sym, ap, ◌∙◌, subst}
 use mathlib.Core.Option.{some-injective}
 use lib.ListN.{get_elem?}
-use Rattle.bm_turnstile.specs.Rule.{Closes}
+use Rattle.bm_turnstile.specs.Inside.Rule.{Closes}
 use Rattle.bm_turnstile.proofs.Steps.{some_or}
 use Rattle.bm_turnstile.proofs.Changes.{closes}
 use Rattle.bm_turnstile.proofs.tickets.Tickets.close.Goals as goal

@@ -1,7 +1,7 @@
 use Rattle.std.proofs.Common.{◌≡◌, Some, [], ◌∷◌, refl, sym, ap, ◌∙◌, subst, rules}
 use Rattle.atomic_table.specs.Table.{rest}
 use Rattle.bm_turnstile.specs.declared.view.View.{View}
-use Rattle.bm_turnstile.specs.Rule.{Hands}
+use Rattle.bm_turnstile.specs.Inside.Rule.{Hands}
 use Rattle.bm_turnstile.proofs.Steps.{advances_at}
 use Rattle.bm_turnstile.proofs.tickets.Tickets.hand_on.Goals as goal
 

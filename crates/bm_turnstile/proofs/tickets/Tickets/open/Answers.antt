@@ -1,6 +1,6 @@
 use Rattle.std.proofs.Common.{List, Option, [], ◌∷◌, rules, sym, subst}
 use Rattle.atomic_table.specs.Table.{opening}
-use Rattle.bm_turnstile.specs.Rule.{Kept}
+use Rattle.bm_turnstile.specs.Inside.Rule.{Kept}
 use Rattle.bm_turnstile.specs.Views.{first_view}
 use Rattle.bm_turnstile.proofs.Changes.{opens}
 use Rattle.bm_turnstile.proofs.tickets.Tickets.open.Goals as goal

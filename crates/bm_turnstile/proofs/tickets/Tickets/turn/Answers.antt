@@ -1,7 +1,7 @@
 use Rattle.std.proofs.Common.{◌≡◌, ℕ, Some, sym, ap, ◌∙◌, subst, rules}
 use Rattle.bm_turnstile.specs.declared.view.View.{View}
 use Rattle.bm_turnstile.specs.declared.view.Stage.TheVariants.{Served}
-use Rattle.bm_turnstile.specs.Rule.{Finds, Grows}
+use Rattle.bm_turnstile.specs.Inside.Rule.{Finds, Grows}
 use Rattle.bm_turnstile.proofs.Steps.{rest_is, grown, hands, slot_or, some_or}
 use Rattle.bm_turnstile.proofs.tickets.Tickets.turn.Goals as goal
 

@@ -2,7 +2,7 @@ use Rattle.std.proofs.Common.{◌≡◌, ℕ, List, ◌++◌, append-nil, map, s
 use Rattle.bm_turnstile.specs.Sittings.{Sitting}
 use Rattle.bm_turnstile.specs.declared.view.Old.{Old}
 use Rattle.bm_turnstile.specs.Seen.{Covers}
-use Rattle.bm_turnstile.specs.Rule.{NumberedFrom, OldsCover}
+use Rattle.bm_turnstile.specs.Inside.Rule.{NumberedFrom, OldsCover}
 use Rattle.bm_turnstile.specs.Views.{SeatsFrom, SeatsCover, old_of}
 use Rattle.bm_turnstile.proofs.Seats.{numbered, covered}
 use Rattle.bm_turnstile.proofs.turnstile.Turnstile.closed.Goals as goal

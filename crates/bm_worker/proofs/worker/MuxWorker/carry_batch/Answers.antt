@@ -10,7 +10,7 @@ use Rattle.bm_mux.specs.declared.item.MuxItem.{MuxItem}
 use Rattle.bm_mux.specs.declared.item.Steered.{Steered}
 use Rattle.bm_mux.specs.Muxes.{HasSteered, IsItem}
 use Rattle.bm_worker.specs.declared.worker.MuxWorker.{MuxWorker}
-use Rattle.bm_worker.specs.Batches.{AreCollected, Delivers, GrowsBy, HasSeen, IsSent}
+use Rattle.bm_worker.specs.Inside.Batches.{AreCollected, Delivers, GrowsBy, HasSeen, IsSent}
 use Rattle.bm_worker.proofs.Carrying.{ended}
 use Rattle.bm_worker.proofs.Going.{are_items, batch_grows, batch_sent, carries_batch, carries_none, carries_refused}
 use Rattle.bm_worker.proofs.Going.{carries_stopped, drawn_length, drawn_small, grows_less, no_items, sents_length}

@@ -1,7 +1,7 @@
 use Rattle.std.proofs.Common.{refl, arith}
 use Rattle.bm_base.specs.declared.label.Hop.TheVariants.{Direct}
 use Rattle.bm_fault.specs.Faults.{Gives}
-use Rattle.bm_worker.specs.Debts.{debt}
+use Rattle.bm_worker.specs.Inside.Debts.{debt}
 use Rattle.bm_worker.proofs.Carrying.{asks_copy, no_losses_by, same_by_porter, same_worker_on}
 use Rattle.bm_worker.proofs.Copying.{copy_reads}
 use Rattle.bm_worker.proofs.Forwarding.{carries_forward, carries_one, carries_one_stop, not_forward}

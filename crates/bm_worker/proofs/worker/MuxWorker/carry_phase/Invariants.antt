@@ -3,7 +3,7 @@ use Rattle.bm_fault.specs.Faults.{Gives}
 use Rattle.bm_merge.specs.Notes.{Note}
 use Rattle.bm_publish.specs.Posts.{Posted}
 use Rattle.bm_mux.specs.Muxes.{IsSameMux}
-use Rattle.bm_worker.specs.Batches.{IsDoneTo}
+use Rattle.bm_worker.specs.Inside.Batches.{IsDoneTo}
 use Rattle.bm_worker.specs.Deeds.{IsSamePorter}
 use Rattle.bm_worker.specs.Phases.{stint_of}
 use Rattle.bm_worker.proofs.worker.MuxWorker.carry_phase.Given as goal

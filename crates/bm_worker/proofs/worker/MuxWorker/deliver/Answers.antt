@@ -4,8 +4,8 @@ use Rattle.std.proofs.lemmas.Option.{slice_get-get_or}
 use Rattle.bm_base.specs.declared.fate.Fate.{Fate}
 use Rattle.bm_base.specs.declared.label.Hop.TheVariants.{Direct}
 use Rattle.bm_fault.specs.Faults.{Gives}
-use Rattle.bm_worker.specs.Batches.{IsSent}
-use Rattle.bm_worker.specs.Debts.{IsCopyOf}
+use Rattle.bm_worker.specs.Inside.Batches.{IsSent}
+use Rattle.bm_worker.specs.Inside.Debts.{IsCopyOf}
 use Rattle.bm_worker.proofs.Carrying.{losses_on, no_losses, same_porter_on}
 use Rattle.bm_worker.proofs.Delivering.{all_at, delivered_more, delivered_none, delivers_all, delivers_stop, each_at}
 use Rattle.bm_worker.proofs.Delivering.{sent_copy, sent_server}

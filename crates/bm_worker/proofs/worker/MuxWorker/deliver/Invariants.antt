@@ -1,7 +1,7 @@
 use Rattle.std.proofs.Common.{◌≡◌, ◌+◌, ◌*◌, ◌≤◌}
 use Rattle.bm_fault.specs.Faults.{Gives}
 use Rattle.bm_worker.specs.Deeds.{IsSamePorter}
-use Rattle.bm_worker.specs.Debts.{GrowsByLosses}
+use Rattle.bm_worker.specs.Inside.Debts.{GrowsByLosses}
 use Rattle.bm_worker.proofs.Delivering.{HasDelivered}
 use Rattle.bm_worker.proofs.worker.MuxWorker.deliver.Given as goal
 

@@ -2,7 +2,7 @@ use Rattle.std.proofs.Common.{◌≡◌, List, ℕ, Ok, sym, subst}
 use Rattle.bm_base.specs.declared.label.Hop.TheVariants.{Chained}
 use Rattle.bm_encap.specs.Faults.{chained}
 use Rattle.bm_fault.specs.Faults.{Gives}
-use Rattle.bm_worker.specs.Debts.{debt}
+use Rattle.bm_worker.specs.Inside.Debts.{debt}
 use Rattle.bm_worker.proofs.Carrying.{carries_stop}
 use Rattle.bm_worker.proofs.Forwarding.{has_onward, has_place, is_turned, turned_copy}
 use Rattle.bm_worker.proofs.worker.MuxWorker.forward.Goals as goal

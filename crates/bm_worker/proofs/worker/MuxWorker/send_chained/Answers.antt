@@ -1,7 +1,7 @@
 use Rattle.std.proofs.Common.{◌≡◌, ◌≤◌, ℕ, refl, arith}
 use Rattle.bm_base.specs.declared.label.Hop.TheVariants.{Chained}
 use Rattle.bm_fault.specs.Faults.{Gives}
-use Rattle.bm_worker.specs.Debts.{debt}
+use Rattle.bm_worker.specs.Inside.Debts.{debt}
 use Rattle.bm_worker.proofs.Carrying.{asks_copy, carried_arrival, carried_none, carried_stop, carried_whole}
 use Rattle.bm_worker.proofs.Carrying.{carries_late, carries_loss}
 use Rattle.bm_worker.proofs.Carrying.{copy_as, grows_by_loss, no_losses_by, place_inside, same_by_loss, same_by_porter}

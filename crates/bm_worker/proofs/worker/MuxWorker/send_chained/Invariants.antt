@@ -2,7 +2,7 @@ use Rattle.std.proofs.Common.{◌≡◌, ◌+◌, ◌≤◌}
 use Rattle.bm_base.specs.declared.label.Hop.TheVariants.{Chained}
 use Rattle.bm_fault.specs.Faults.{Gives}
 use Rattle.bm_worker.specs.Deeds.{IsSamePorter}
-use Rattle.bm_worker.specs.Debts.{HasCarried, debt}
+use Rattle.bm_worker.specs.Inside.Debts.{HasCarried, debt}
 use Rattle.bm_worker.proofs.worker.MuxWorker.send_chained.Given as goal
 
 abbrev pub invariant-loop : goal.invariant-loop

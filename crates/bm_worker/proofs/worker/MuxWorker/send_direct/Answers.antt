@@ -1,7 +1,7 @@
 use Rattle.std.proofs.Common.{◌≡◌, ◌+◌, ◌*◌, ◌≤◌, ℕ, sym, ap, ◌∙◌, subst, arith}
 use Rattle.bm_base.specs.declared.label.Hop.TheVariants.{Direct}
 use Rattle.bm_fault.specs.Faults.{Gives}
-use Rattle.bm_worker.specs.Debts.{HasCarried, debt}
+use Rattle.bm_worker.specs.Inside.Debts.{HasCarried, debt}
 use Rattle.bm_worker.proofs.Carrying.{carried_none, carried_whole, carries_late, carries_loss, grows_by_loss, losses_on}
 use Rattle.bm_worker.proofs.Carrying.{no_losses, same_by_loss}
 use Rattle.bm_worker.proofs.Carrying.{same_worker, same_worker_on, sits_on}

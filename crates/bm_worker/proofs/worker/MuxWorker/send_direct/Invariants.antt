@@ -1,7 +1,7 @@
 use Rattle.std.proofs.Common.{◌+◌, ◌*◌, ◌≤◌}
 use Rattle.bm_base.specs.declared.label.Hop.TheVariants.{Direct}
 use Rattle.bm_fault.specs.Faults.{Gives}
-use Rattle.bm_worker.specs.Debts.{GrowsByLosses, HasCarried, IsSameWorker, debt}
+use Rattle.bm_worker.specs.Inside.Debts.{GrowsByLosses, HasCarried, IsSameWorker, debt}
 use Rattle.bm_worker.proofs.worker.MuxWorker.send_direct.Given as goal
 
 abbrev pub invariant-loop : goal.invariant-loop

@@ -1,5 +1,5 @@
 use Rattle.std.proofs.Common.{◌∙◌, ap, sym}
-use Rattle.bm_world.specs.Logged.{source_logs}
+use Rattle.bm_world.specs.Inside.Logged.{source_logs}
 use Rattle.bm_world.proofs.Rising.{books_cut}
 use Rattle.bm_world.proofs.run_logs.Source.split_off.Goals as goal
 

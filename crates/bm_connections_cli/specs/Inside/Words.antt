@@ -1,0 +1,8 @@
+-- Beside Words: what the contracts of private calls and the proofs of bodies use.
+use Rattle.bm_words.specs.Form.{named}
+use Rattle.bm_connections_cli.specs.declared.words.Asked.{Asked as Answered}
+use Rattle.bm_connections_cli.specs.Words.{Asked, manner}
+
+-- what the code answers, without where its texts lie
+abbrev pub asked : Answered → Asked
+asked a = record { format = a.manner.format; clock = a.manner.clock; names = named a.names }

@@ -1,0 +1,80 @@
+-- How worker 0 carries out one command. Only the proofs of bodies use this.
+use Rattle.std.specs.Prelude.{◌≡◌, ℕ, suc, ◌+◌, ◌-◌, ◌*◌, ◌^◌, ◌<◌, ◌≤◌, max, Bool, true}
+use Rattle.std.specs.Prelude.{List, [], ◌∷◌, ◌++◌, length}
+use Rattle.bm_base.specs.declared.ids.Moment.{Moment}
+use Rattle.bm_base.specs.declared.ids.ServerId.{ServerId}
+use Rattle.bm_table.specs.declared.plan.Retirement.{Retirement}
+use Rattle.bm_table.specs.declared.script.Command.{Command}
+use Rattle.bm_table.specs.declared.script.Command.TheVariants.{Change, Close, Retire, Sync}
+use Rattle.bm_table.specs.Tables.{IsRetirement, change_moment, is_known, next_change}
+use Rattle.bm_core.specs.declared.events.Event.{Event}
+use Rattle.bm_core.specs.declared.events.Stage.{Stage}
+use Rattle.bm_core.specs.Past.{published_by, timeout}
+use Rattle.bm_core.specs.Runs.{next_clock}
+use Rattle.bm_merge.specs.Notes.{Note, greatest}
+use Rattle.bm_server.specs.Servings.{Serving}
+use Rattle.bm_publish.specs.Posts.{Posted, last_or}
+use Rattle.bm_worker.specs.Deeds.{Hears, IsSamePorter, closing, retiring}
+use Rattle.bm_worker.specs.Portings.{Porting}
+use Rattle.bm_lead.specs.declared.head.Head.{Head}
+use Rattle.bm_lead.specs.Commands.{control_log, posted_clocks, syncing}
+use Rattle.bm_lead.specs.Inside.Commands.{publishing}
+
+-- the shards below h of a server were asked to retire, in their order, by the command i
+abbrev pub AreRetirings : ℕ → ServerId → Moment → Retirement → ℕ → List Note → Type 0
+AreRetirings i server at outcome h [] = h ≡ 0
+AreRetirings i server at outcome h (n ∷ deeds) =
+    (clock : Moment) × (k : ℕ) × (h ≡ suc k) × (n ≡ retiring clock server k at outcome i 0)
+    × (at.0 < clock.0) × AreRetirings i server at outcome k deeds
+
+-- the deeds carry out the command i, where the controller's clock was latest and so many versions
+-- were published
+abbrev pub AreOf : Stage → ℕ → ℕ → ℕ → Command → List Note → Type 0
+AreOf stage latest published i (Change v) deeds =
+    (clock : Moment) × (deeds ≡ publishing clock v i ∷ [])
+    × (clock.0 ≡ next_clock latest (change_moment (next_change stage.script.plan (v.0 - 1))))
+    × (clock.0 + 4096 ≤ 9 * 10 ^ 18)
+AreOf stage latest published i (Close at server flow) deeds =
+    (clock : Moment) × (closed : Bool)
+    × (deeds ≡ closing clock server flow closed i (max at.0 latest) 0 ∷ [])
+    × (max at.0 latest < clock.0)
+AreOf stage latest published i (Retire at server) deeds =
+    (due : Moment) × (outcome : Retirement) × (due.0 ≡ max at.0 latest)
+    × IsRetirement stage.script.plan (timeout stage) published server due.0 outcome
+    × AreRetirings i server due outcome stage.script.setting.shards deeds
+AreOf stage latest published i (Sync at) deeds =
+    (clock : Moment) × (deeds ≡ syncing clock i ∷ []) × (latest < clock.0)
+
+-- what the worker's seats and clock are after these deeds, of which at most so many are calls
+pub record HasCalled (stage : Stage) (servers : List Serving) (calls : ℕ) (a b : Porting)
+    (deeds : List Note) : Type 0 where
+  pub heard : Hears stage servers a.seats b.seats deeds
+  pub same : IsSamePorter a b
+  pub tries : b.tries ≤ a.tries + calls
+  pub latest : b.latest ≡ max a.latest (greatest (λ n. n.event.clock.0) deeds)
+
+-- how many versions are published after the events
+abbrev pub published_after : List Event → ℕ → ℕ
+published_after [] before = before
+published_after (e ∷ past) before = published_by e.what (published_after past before)
+
+-- worker 0 and the board after these deeds, before it goes to the next command
+pub record HasDone (stage : Stage) (servers : List Serving) (p q : Posted) (a b : Head)
+    (deeds : List Note) : Type 0 where
+  pub called : HasCalled stage servers 64 a.porter b.porter deeds
+  pub next : b.next ≡ a.next
+  pub log : b.log.items ≡ a.log.items ++ control_log stage deeds
+  pub posted : q ≡ record p { clocks = p.clocks ++ posted_clocks (control_log stage deeds) }
+  pub last_post : b.last_post.0 ≡ last_or a.last_post.0 (posted_clocks (control_log stage deeds))
+  pub published : b.published.0 ≡ published_after (control_log stage deeds) a.published.0
+
+-- so worker 0 carried out a command, from p and a to q and b
+abbrev pub CarriesOut : Stage → List Serving → Posted → Posted → Head → Head → Command → Type 0
+CarriesOut stage servers p q a b c =
+    (deeds : List Note) × AreOf stage a.porter.latest a.published.0 a.next c deeds
+    × HasDone stage servers p q a b deeds
+
+-- the script knows the server
+abbrev pub IsKnown : Stage → ServerId → Type 0
+IsKnown stage id =
+    is_known stage.script.plan (length stage.script.plan.changes) id ≡ true

@@ -1,0 +1,10 @@
+-- Beside Places: what the contracts of private calls and the proofs of bodies use.
+use Rattle.std.specs.Prelude.{Option, Some, None}
+use Rattle.bm_pcapng.specs.declared.content.Content.{Content}
+use Rattle.bm_pcapng.specs.declared.content.Packet.{Packet}
+use Rattle.bm_pcapng.specs.declared.content.Content.TheVariants.{Holds}
+
+-- the packet of a block that holds one
+abbrev pub packet_in : Content → Option Packet
+packet_in (Holds packet) = Some packet
+packet_in other = None

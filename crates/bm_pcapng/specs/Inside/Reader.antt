@@ -1,0 +1,57 @@
+-- Beside Reader: what the contracts of private calls and the proofs of bodies use.
+use Rattle.std.specs.Prelude.{ℕ, ◌+◌, ◌≤◌, List, length, Option, Some}
+use Rattle.std.specs.Prelude.{None, Result, Ok, Err}
+use Rattle.bm_pcapng.specs.declared.content.Content.{Content}
+use Rattle.bm_pcapng.specs.declared.content.Content.TheVariants.{Holds}
+use Rattle.bm_pcapng.specs.declared.content.Packet.{Packet}
+use Rattle.bm_pcapng.specs.declared.fault.NgFault.{NgFault}
+use Rattle.bm_pcapng.specs.declared.reader.Stop.{Stop}
+use Rattle.bm_pcapng.specs.declared.reader.Stop.TheVariants as stop
+use Rattle.bm_pcapng.specs.declared.section.Section.{Section}
+use Rattle.bm_pcapng.specs.declared.step.Step.{Step}
+use Rattle.bm_pcapng.specs.declared.step.Step.TheVariants.{Block, Cut, End}
+use Rattle.bm_pcapng.specs.Causes.{IsBlockFault}
+use Rattle.bm_pcapng.specs.Reader.{Reader, Refuses, IsOpened, Advances, Stops}
+
+-- a packet's block is the last that was answered
+abbrev pub IsStopLast : List ℕ → Stop → Type 0
+IsStopLast passed (stop.Packet number n packet) =
+    (n ≤ length passed) × (packet.at + packet.len ≤ n)
+IsStopLast passed other = Unit {0}
+
+-- the answer that a reader gives from now on is no block, and its faults are those of blocks
+abbrev pub EndsWell : Option (Result Step NgFault) → Type 0
+EndsWell None = Unit {0}
+EndsWell (Some (Ok (Block n content))) = ⊥
+EndsWell (Some (Ok Cut)) = Unit {0}
+EndsWell (Some (Ok End)) = Unit {0}
+EndsWell (Some (Err e)) = IsBlockFault e
+
+-- The first block of the capture is read.
+abbrev pub OpensIn : Option (List ℕ) → Result Section NgFault → Type 0
+OpensIn old (Ok section) = IsOpened old section.order
+OpensIn old (Err e) = Refuses old e
+
+-- a block without a packet
+abbrev pub IsPassedOver : Content → Type 0
+IsPassedOver (Holds packet) = ⊥
+IsPassedOver other = Unit {0}
+
+-- One reader comes to be the other by passing over blocks without a packet.
+pub data Passes {S : Type 0} (left : S → Option (List ℕ)) (faults : S → ℕ) (from : Reader S)
+    : Reader S → Type 0 where
+  here : Passes left faults from from
+  over : (mid new : Reader S) (n : ℕ) (content : Content) → Passes left faults from mid
+      → IsPassedOver content → Advances left faults mid new (Ok (Block n content))
+      → Passes left faults from new
+
+-- What was come to: a packet, with its number, and so many octets in its block.
+abbrev pub GivesStop : {S : Type 0} → (S → Option (List ℕ)) → (S → ℕ) → Reader S → Reader S
+    → Result Stop NgFault → Type 0
+GivesStop left faults old new (Ok (stop.Packet number n packet)) =
+    Stops left faults old new number (Ok (Block n (Holds packet)))
+GivesStop left faults old new (Ok (stop.Cut number)) = Stops left faults old new number (Ok Cut)
+GivesStop {S} left faults old new (Ok stop.End) =
+    (number : ℕ) × Stops left faults old new number (Ok End)
+GivesStop {S} left faults old new (Err e) =
+    (number : ℕ) × Stops left faults old new number (Err e)

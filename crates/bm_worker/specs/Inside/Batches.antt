@@ -1,0 +1,235 @@
+-- A batch of a mux's packets: what the mux takes, what it logs and sends, and how far a phase then
+-- is. Only the proofs of bodies use this.
+use Rattle.std.specs.Prelude.{◌≡◌, ◌<◌, ◌≤◌, ◌*◌, ◌^◌, ◌+◌, ℕ, true, ◌==◌, if◌then◌else◌, max}
+use Rattle.std.specs.Prelude.{nat_lt}
+use Rattle.std.specs.Prelude.{List, [], ◌∷◌, ◌++◌, length, reverse, Option, Some, None, Result}
+use Rattle.std.specs.Prelude.{MatchResult}
+use Rattle.std.specs.List.{AllByRecursion}
+use Rattle.bm_base.specs.declared.fate.Fate.{Fate}
+use Rattle.bm_base.specs.declared.ids.Moment.{Moment}
+use Rattle.bm_base.specs.declared.ids.MuxId.{MuxId}
+use Rattle.bm_base.specs.declared.label.Hop.{Hop}
+use Rattle.bm_base.specs.declared.label.Hop.TheVariants.{Direct}
+use Rattle.bm_tcp.specs.Packets.{ReadsAs}
+use Rattle.bm_core.specs.declared.events.Event.{Event}
+use Rattle.bm_core.specs.declared.events.Stage.{Stage}
+use Rattle.bm_core.specs.declared.events.What.{What}
+use Rattle.bm_core.specs.declared.events.What.TheVariants.{Arrive, Lose, Steer}
+use Rattle.bm_core.specs.Accounts.{Rules, count_of, steers_packet}
+use Rattle.bm_core.specs.Past.{is_switch_of, segment_of, sends, version_at}
+use Rattle.bm_core.specs.Threads.{record_moment}
+use Rattle.bm_merge.specs.Notes.{Note, many, switched_since, total}
+use Rattle.bm_publish.specs.Posts.{Continues, Posted, last_post, last_version}
+use Rattle.bm_mux.specs.declared.item.MuxItem.{MuxItem}
+use Rattle.bm_mux.specs.declared.item.Steered.{Steered}
+use Rattle.bm_mux.specs.Muxes.{IsOwn, IsSameMux, MuxState}
+use Rattle.bm_mux.specs.Steers.{steering_clock, switch_to}
+use Rattle.bm_server.specs.Servings.{Serving}
+use Rattle.bm_worker.specs.declared.stop.Stop.{Stop}
+use Rattle.bm_worker.specs.declared.worker.MuxWorker.{MuxWorker}
+use Rattle.bm_worker.specs.Deeds.{IsSamePorter, deed, no_fate}
+use Rattle.bm_worker.specs.Inside.Debts.{Debt, IsAmong, IsCopyOf, IsUpTo, comes, comes_by}
+use Rattle.bm_worker.specs.Inside.Debts.{copyless_at}
+use Rattle.bm_worker.specs.Inside.Debts.{debt, gives, gives_by, lost_at}
+use Rattle.bm_worker.specs.Phases.{AreFew, HasEnded, IsStopOf, Kept, Stint, mux_of}
+use Rattle.bm_worker.specs.Turns.{is_turn, mux_at}
+
+-- WHAT THE MUX TAKES
+
+-- the packets' numbers rise above this one
+abbrev pub Rise : ℕ → List MuxItem → Type 0
+Rise low [] = Unit {0}
+Rise low (i ∷ items) = (low < i.packet) × Rise i.packet items
+
+-- the last packet's number, or this one where there is none
+abbrev pub last_packet : ℕ → List MuxItem → ℕ
+last_packet low [] = low
+last_packet low (i ∷ items) = last_packet i.packet items
+
+-- a packet of the mux, as the stage and the octets have it
+pub record IsItemOf (stage : Stage) (routes : List (Option MuxId)) (m : ℕ) (i : MuxItem) : Type
+    0 where
+  pub turn : mux_at routes i.packet ≡ Some m
+  pub moment : i.moment.0 ≡ record_moment stage i.packet
+  pub segment : segment_of stage i.packet ≡ Some i.segment
+  pub reads : ReadsAs i.inner.now i.segment
+  pub short : length i.inner.now ≤ 65491
+
+-- the fates that were drawn for their copies
+abbrev pub AreDrawn : Rules → List MuxItem → List Fate → Type 0
+AreDrawn F [] [] = Unit {0}
+AreDrawn F (i ∷ items) (f ∷ fates) =
+    F i.packet Direct f × (f.copies ≤ 3) × (f.delay ≤ 60 * 10 ^ 9) × AreDrawn F items fates
+AreDrawn F _ _ = ⊥
+
+-- all of the mux's packets among the records at the places from..end, at most 256
+pub record AreCollected (F : Rules) (stage : Stage) (routes : List (Option MuxId)) (m from end : ℕ)
+    (items : List MuxItem) (fates : List Fate) : Type 0 where
+  pub few : length items ≤ 256
+  pub rise : Rise from items
+  pub under : last_packet from items ≤ end
+  pub each : AllByRecursion (IsItemOf stage routes m) items
+  pub drawn : AreDrawn F items fates
+  pub turns : (k : ℕ) → count_of (λ (i : MuxItem). i.packet == k) items
+      ≡ (if is_turn routes m from end k then 1 else 0)
+  -- no more than the places
+  pub count : from + length items ≤ end
+
+-- WHAT IT LOGS AND SENDS, as notes, the newest first
+
+abbrev pub steering : Moment → ℕ → MuxId → Fate → ℕ → Note
+steering clock k m fate seat = deed clock (Steer k m) fate 0 0 seat
+
+abbrev pub sent_notes : MuxId → List Steered → List Fate → List Note
+sent_notes m [] fates = []
+sent_notes m (t ∷ sents) [] = []
+sent_notes m (t ∷ sents) (f ∷ fates) =
+    sent_notes m sents fates ++ steering t.clock t.packet m f (m.0 + 1) ∷ []
+
+abbrev pub switch_note : MuxId → Posted → List Event → ℕ → Note
+switch_note m seen past cause = record {
+  event = switch_to m seen past cause;
+  fate = no_fate;
+  command = 0;
+  due = 0;
+  seat = m.0 + 1;
+}
+
+abbrev pub switch_notes : MuxId → Posted → List Event → List Note
+switch_notes m seen past =
+    if nat_lt (version_at past m).0 (last_version seen)
+    then switch_note m seen past (last_post seen) ∷ [] else []
+
+-- DELIVERED
+
+-- the notes x pay the sendings s
+pub record PaysFor (s x : List Note) : Type 0 where
+  pub lost : (k : ℕ) (hop : Hop) (clock : ℕ) → total (lost_at k hop clock) x
+      ≡ total (copyless_at k hop clock) s + total (copyless_at k hop clock) x
+  pub sent : (k : ℕ) (hop : Hop) (clock : ℕ) → total (comes_by k hop clock) x
+      ≤ total (gives_by k hop clock) s + total (gives_by k hop clock) x
+  pub arrived : (k : ℕ) (hop : Hop) → total (comes k hop) x
+      ≡ total (gives k hop) s + total (gives k hop) x
+
+-- a steered packet among the deeds of a phase
+pub record IsOwed (stint : Stint) (deeds : List Note) (d : Debt) : Type 0 where
+  pub note : Note
+  pub among : IsAmong note deeds
+  pub sending : sends note.event.what d.packet d.hop ≡ true
+  pub clock : note.event.clock.0 ≡ d.clock
+  pub fate : note.fate ≡ d.fate
+  pub steered : 1 ≤ many (λ y. steers_packet y.event.what d.packet) deeds
+  pub later : stint.after < d.clock
+  pub within : (stint.from < d.packet) × (d.packet ≤ stint.until)
+
+-- so is each of these, with its fate, and their numbers rise
+abbrev pub AreOwed : Stint → List Note → ℕ → List Steered → List Fate → Type 0
+AreOwed stint deeds low [] fates = Unit {0}
+AreOwed stint deeds low (t ∷ sents) [] = ⊥
+AreOwed stint deeds low (t ∷ sents) (f ∷ fates) =
+    (low < t.packet) × IsOwed stint deeds (debt t.packet Direct t.clock.0 f)
+    × AreOwed stint deeds t.packet sents fates
+
+-- a copy of the packet for the server of its tag
+abbrev pub IsSent : Stage → List Serving → MuxState → Steered → Type 0
+IsSent stage servers mux t =
+    (place : ℕ) × (copy : IsCopyOf stage servers mux place t.packet Direct t.octets)
+    × (copy.tag ≡ t.tag)
+
+abbrev pub last_sent : ℕ → List Steered → ℕ
+last_sent low [] = low
+last_sent low (t ∷ sents) = last_sent t.packet sents
+
+-- a copy arrives, or a sending is lost
+abbrev pub IsDelivery : What → Type 0
+IsDelivery (Arrive k hop server verdict) = Unit {0}
+IsDelivery (Lose k hop) = Unit {0}
+IsDelivery _ = ⊥
+
+-- every phase goes on with at most so many notes, which pay what was steered, or the worker gave up
+abbrev pub Delivers : Rules → Stage → List Serving → List Steered → List Fate → MuxWorker
+    → MuxWorker
+    → Result (Unit {0}) Stop → Type 0
+Delivers F stage servers sents fates old new result =
+    (stint : Stint) (deeds : List Note) (low : ℕ) → Kept F stage servers stint old deeds
+    → AreOwed stint deeds low sents fates → AllByRecursion (λ y. IsUpTo low y.event.what) deeds
+    → (x : List Note) × Kept F stage servers stint new (x ++ deeds) × (length x ≤ 12 * length sents)
+    × AllByRecursion (λ y. IsDelivery y.event.what) x
+    × MatchResult result
+    (λ _. PaysFor (sent_notes (mux_of stint) sents fates) x
+    × AllByRecursion (λ y. IsUpTo (last_sent low sents) y.event.what) x)
+    (λ stop. IsStopOf (x ++ deeds) stop)
+
+-- HOW FAR A PHASE IS
+
+-- every sending among the deeds is paid
+pub record AreSettled (deeds : List Note) : Type 0 where
+  pub lost : (k : ℕ) (hop : Hop) (clock : ℕ) → total (lost_at k hop clock) deeds
+      ≡ total (copyless_at k hop clock) deeds
+  pub sent : (k : ℕ) (hop : Hop) (clock : ℕ) → total (comes_by k hop clock) deeds
+      ≤ total (gives_by k hop clock) deeds
+  pub arrived : (k : ℕ) (hop : Hop) → total (comes k hop) deeds ≡ total (gives k hop) deeds
+
+-- a Steer is of this packet or an earlier one
+abbrev pub IsSteerTo : ℕ → What → Type 0
+IsSteerTo next (Steer k m) = k ≤ next
+IsSteerTo next _ = Unit {0}
+
+-- an event of the mux's log, of a packet up to this one
+pub record IsLogged (m : MuxId) (next : ℕ) (e : Event) : Type 0 where
+  pub own : IsOwn m e.what
+  pub packet : IsSteerTo next e.what
+
+-- the phase is done up to the place next
+pub record IsDoneTo (F : Rules) (stage : Stage) (servers : List Serving) (stint : Stint)
+    (now : MuxWorker) (next : ℕ)
+    (deeds : List Note) : Type 0 where
+  pub from : stint.from ≤ next
+  pub kept : Kept F stage servers stint now deeds
+  pub settled : AreSettled deeds
+  pub steered : (k : ℕ) → many (λ n. steers_packet n.event.what k) deeds
+      ≡ (if is_turn stint.routes (mux_of stint).0 stint.from next k then 1 else 0)
+  pub looked : 1 ≤ many (λ n. is_switch_of n.event.what (mux_of stint).0) deeds
+  pub heard : Continues stint.told now.mux.seen
+  pub few : AreFew deeds
+  pub first : AllByRecursion (λ y. IsUpTo next y.event.what) deeds
+  pub logged : AllByRecursion (IsLogged (mux_of stint) next) (reverse now.mux.log)
+  pub switched : switched_since stint.after (mux_of stint).0 (reverse now.mux.log) ≡ true
+  pub begun : stint.after < steering_clock (reverse now.mux.log)
+
+-- what the worker did is noted: the porter has the mux's clock, and nothing else changed
+pub record HasSeen (old new : MuxWorker) : Type 0 where
+  pub seats : new.porter.seats ≡ old.porter.seats
+  pub porter : IsSamePorter old.porter new.porter
+  pub tries : new.porter.tries ≡ old.porter.tries
+  pub latest : new.porter.latest ≡ max old.porter.latest (steering_clock (reverse new.mux.log))
+  pub steps : new.steps ≡ old.steps
+
+-- nothing was done; the mux may have seen or heard more
+pub record HasOnlyLooked (old new : MuxWorker) : Type 0 where
+  pub mux : IsSameMux old.mux new.mux
+  pub log : new.mux.log ≡ old.mux.log
+  pub porter : new.porter ≡ old.porter
+  pub steps : new.steps ≡ old.steps
+
+-- the phase goes on from the place to that of the answer, or the worker gave up
+abbrev pub CarriesTo : Rules → Stage → List Serving → List (Option MuxId) → ℕ → ℕ → MuxWorker
+    → MuxWorker → Result ℕ Stop → Type 0
+CarriesTo F stage servers routes from until old new result =
+    (stint : Stint) (deeds : List Note) → stint.routes ≡ routes → until ≤ stint.until
+    → IsDoneTo F stage servers stint old from deeds
+    → MatchResult result (λ end. (d : List Note) × IsDoneTo F stage servers stint new end d)
+    (λ stop. HasEnded F stage servers stint new (Some stop))
+
+-- how far so many places may raise the worker's counts
+pub record GrowsBy (places : ℕ) (old new : MuxWorker) : Type 0 where
+  pub tries : new.porter.tries ≤ old.porter.tries + 12 * places
+  pub steps : new.steps ≤ old.steps + places
+  pub log : length new.mux.log ≤ length old.mux.log + 5 * places
+
+-- the phase is done, or the worker gave up in it and answers why
+abbrev pub EndsAs : Rules → Stage → List Serving → Stint → MuxWorker → Result (Unit {0}) Stop
+    → Type 0
+EndsAs F stage servers stint now result =
+    MatchResult result (λ _. HasEnded F stage servers stint now None)
+    (λ stop. HasEnded F stage servers stint now (Some stop))

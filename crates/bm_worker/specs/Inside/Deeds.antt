@@ -1,0 +1,19 @@
+-- Beside Deeds: what the contracts of private calls and the proofs of bodies use.
+use Rattle.std.specs.Prelude.{ℕ}
+use Rattle.bm_base.specs.declared.fate.Fate.{Fate}
+use Rattle.bm_base.specs.declared.ids.Moment.{Moment}
+use Rattle.bm_base.specs.declared.ids.ServerId.{ServerId}
+use Rattle.bm_base.specs.declared.label.Hop.{Hop}
+use Rattle.bm_core.specs.declared.events.Verdict.{Verdict}
+use Rattle.bm_core.specs.declared.events.What.TheVariants.{Arrive, Lose}
+use Rattle.bm_merge.specs.Notes.{Note}
+use Rattle.bm_worker.specs.Deeds.{deed, no_fate}
+
+-- a copy of the packet arrives, and this fate is drawn for what it sends
+abbrev pub arrival : Moment → ℕ → Hop → ServerId → Verdict → Fate → ℕ → ℕ → Note
+arrival clock k hop server verdict fate due seat =
+    deed clock (Arrive k hop server verdict) fate 0 due seat
+
+-- the copies of a sending are lost
+abbrev pub loss : ℕ → ℕ → Hop → ℕ → Note
+loss clock k hop seat = deed (record { 0 = clock }) (Lose k hop) no_fate 0 0 seat

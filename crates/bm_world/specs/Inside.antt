@@ -1,0 +1,10 @@
+-- Only the contracts of private calls and the proofs of bodies use these.
+pub mod Crews
+pub mod GivenUp
+pub mod Handed
+pub mod Left
+pub mod Logged
+pub mod Routed
+pub mod Running
+pub mod Served
+pub mod Shards

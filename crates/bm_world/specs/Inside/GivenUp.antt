@@ -1,0 +1,56 @@
+-- A run in which a worker has given up for a moment that was too large, as the code has it. Only
+-- the proofs of bodies use this.
+use Rattle.std.specs.Prelude.{◌≡◌, ℕ, ◌+◌, ◌*◌, ◌^◌, ◌≤◌, List, ◌++◌, length, reverse, slice_get}
+use Rattle.std.specs.Prelude.{Some}
+use Rattle.std.specs.List.{AllByRecursion}
+use Rattle.logbook.specs.Pages.{Book as Board}
+use Rattle.bm_core.specs.declared.events.Event.{Event}
+use Rattle.bm_core.specs.declared.events.Stage.{Stage}
+use Rattle.bm_core.specs.Accounts.{Rules}
+use Rattle.bm_merge.specs.Notes.{Note, greatest}
+use Rattle.bm_merge.specs.Workers.{all_deeds, deeds_of}
+use Rattle.bm_server.specs.Servings.{Serving}
+use Rattle.bm_publish.specs.Posts.{Posted}
+use Rattle.bm_worker.specs.Deeds.{clock_of, Sits}
+use Rattle.bm_worker.specs.Phases.{mux_log, AreCopies}
+use Rattle.bm_worker.specs.Phases.{IsPlaced as IsCarriedAt}
+use Rattle.bm_worker.specs.declared.worker.MuxWorker.{MuxWorker}
+use Rattle.bm_lead.specs.declared.head.Head.{Head}
+use Rattle.bm_lead.specs.Commands.{control_log}
+use Rattle.bm_lead.specs.Heads.{IsReady}
+use Rattle.bm_lead.specs.Leads.{IsLed, IsPlaced}
+use Rattle.bm_world.specs.Inside.Left.{IsLeft, IsSynced}
+use Rattle.bm_world.specs.Inside.Running.{HaveHeard}
+
+-- what the worker of mux m did, whether it gave up or not
+pub record HasLeft (F : Rules) (stage : Stage) (servers : List Serving) (control : List Event)
+    (board : Board) (m : ℕ) (w : MuxWorker) (deeds : List Note) : Type 0 where
+  pub left : IsLeft F stage control w.mux.seen.clocks m deeds
+  pub id : w.mux.id.0 ≡ m
+  pub logged : reverse w.mux.log ≡ mux_log stage m deeds
+  pub heard : HaveHeard stage servers w.porter.seats deeds
+  pub copies : AreCopies stage w.mux.id servers (reverse w.mux.log) w.porter.seats
+  pub placed : AllByRecursion (λ n. IsCarriedAt servers n.event.what) deeds
+  pub number : w.porter.number ≡ m + 1
+  pub sits : Sits servers w.porter
+  pub board_is : w.mux.seen.board ≡ board
+
+-- all that was done, and that one of its clocks is large
+pub record HasGivenUp (F : Rules) (stage : Stage) (servers : List Serving) (posted : Posted)
+    (head : Head) (workers : List MuxWorker) : Type 0 where
+  pub controller : List Note
+  pub carriers : List (List Note)
+  pub muxes : length workers ≡ stage.script.setting.muxes
+  pub ready : IsReady stage servers posted head
+  pub led : IsLed stage posted head controller
+  pub heard : HaveHeard stage servers head.porter.seats controller
+  pub placed : AllByRecursion (λ n. IsPlaced stage servers n.event.what) controller
+  pub count : length carriers ≡ length workers
+  pub each : (m : ℕ) (w : MuxWorker) → slice_get workers m ≡ Some w
+      → HasLeft F stage servers (control_log stage controller) posted.board m w
+      (deeds_of carriers m)
+  pub synced : AllByRecursion
+      (λ n. IsSynced stage (controller ++ all_deeds carriers) n n.event.what) controller
+  pub few : length (controller ++ all_deeds carriers) ≤ 25000000
+  pub large : 9 * 10 ^ 18
+      ≤ greatest clock_of (controller ++ all_deeds carriers) + 61 * 10 ^ 9

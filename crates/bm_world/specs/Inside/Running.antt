@@ -1,0 +1,98 @@
+-- A run on its way: what the workers did so far, between two phases and where one was joined. Only
+-- the proofs of bodies use this.
+use Rattle.std.specs.Prelude.{◌≡◌, ℕ, ◌+◌, ◌*◌, ◌<◌, ◌≤◌, if◌then◌else◌, List}
+use Rattle.std.specs.Prelude.{◌∷◌, ◌++◌, length}
+use Rattle.std.specs.Prelude.{reverse, slice_get, Option, Some, None, IfSome, take}
+use Rattle.std.specs.List.{AllByRecursion}
+use Rattle.logbook.specs.Pages.{Book}
+use Rattle.bm_base.specs.declared.ids.MuxId.{MuxId}
+use Rattle.bm_core.specs.declared.events.Event.{Event}
+use Rattle.bm_core.specs.declared.events.Stage.{Stage}
+use Rattle.bm_core.specs.Accounts.{Routes, Rules, count_of, steers_packet}
+use Rattle.bm_core.specs.Accounts.{wants_sync}
+use Rattle.bm_core.specs.Runs.Actor.{Controller, ShardOf}
+use Rattle.bm_core.specs.Threads.{sync_clock, newest_before, packet_of, is_sync_by, record_moment}
+use Rattle.bm_merge.specs.Notes.{Note, many, total, greatest}
+use Rattle.bm_merge.specs.Workers.{home_part, deeds_of, all_deeds, looks_since}
+use Rattle.bm_merge.proofs.Phasing.{IsPhased}
+use Rattle.bm_server.specs.Seats.{Seated}
+use Rattle.bm_server.specs.Servings.{Serving, shard_at}
+use Rattle.bm_worker.specs.Deeds.{clock_of, noted, saying, Sits}
+use Rattle.bm_worker.specs.Phases.{mux_log, AreCopies, IsPlaced, is_steer}
+use Rattle.bm_worker.specs.Told.{told_there}
+use Rattle.bm_worker.specs.Turns.{is_turn}
+use Rattle.bm_worker.specs.declared.worker.MuxWorker.{MuxWorker}
+use Rattle.bm_world.specs.Inside.Handed.{control_log, IsCarriage}
+
+-- what these seats were told is just what was done at each shard, in its order
+abbrev pub HaveHeard : Stage → List Serving → List (List Seated) → List Note → Type 0
+HaveHeard stage servers seats deeds =
+    (s h : ℕ) (server : Serving) → slice_get servers s ≡ Some server
+    → saying (shard_at server h) (told_there seats s h) ≡ noted stage (ShardOf server.id.0 h) deeds
+
+-- the worker of mux m, after so many phases, in which the records before this place were carried
+pub record IsAtWork (R : Routes) (F : Rules) (stage : Stage) (servers : List Serving)
+    (routes : List (Option MuxId))
+    (control : List Event) (board : Book) (phases until m : ℕ) (w : MuxWorker) (deeds : List Note) :
+    Type 0 where
+  pub carriage : IsCarriage R F stage control w.mux.seen.clocks m deeds
+  pub id : w.mux.id.0 ≡ m
+  pub logged : reverse w.mux.log ≡ mux_log stage m deeds
+  pub heard : HaveHeard stage servers w.porter.seats deeds
+  pub copies : AreCopies stage w.mux.id servers (reverse w.mux.log) w.porter.seats
+  pub placed : AllByRecursion (λ n. IsPlaced servers n.event.what) deeds
+  pub latest : w.porter.latest ≡ greatest clock_of deeds
+  pub steered : (k : ℕ) → many (λ n. steers_packet n.event.what k) deeds
+      ≡ (if is_turn routes m 0 until k then 1 else 0)
+  pub within : AllByRecursion (λ n. IfSome (packet_of n.event.what) (λ k. k ≤ until)) deeds
+  pub number : w.porter.number ≡ m + 1
+  pub sits : Sits servers w.porter
+  pub board_is : w.mux.seen.board ≡ board
+  pub plan : w.mux.seen.plan ≡ stage.script.plan
+  pub tries : w.porter.tries ≤ 12 * until
+  pub steps : w.steps ≤ until
+  pub room : length w.mux.log ≤ 5 * until + phases
+  -- besides the first Switch of each phase, at most 14 deeds for each packet
+  pub few : length deeds ≤ 14 * many (λ n. is_steer n.event.what) deeds + phases
+  pub stop : w.stop ≡ None
+
+-- the deeds of a phase before those of the phases that were
+abbrev pub add_deeds : List (List Note) → List (List Note) → List (List Note)
+add_deeds (x ∷ more) (d ∷ carriers) = (x ++ d) ∷ add_deeds more carriers
+add_deeds _ carriers = carriers
+
+-- the muxes' workers, where worker 0 did this, with p Syncs
+pub record AreAtWork (R : Routes) (F : Rules) (stage : Stage) (servers : List Serving)
+    (routes : List (Option MuxId))
+    (board : Book) (p phases until : ℕ) (workers : List MuxWorker) (controller : List Note)
+    (carriers : List (List Note))
+    : Type 0 where
+  pub count : length carriers ≡ length workers
+  pub each : (m : ℕ) (w : MuxWorker) → slice_get workers m ≡ Some w
+      → IsAtWork R F stage servers routes (control_log stage controller) board phases until m w
+      (deeds_of carriers m)
+  -- all that was done, in some order
+  pub all : List Note
+  pub same : (f : Note → ℕ) → total f all ≡ total f (controller ++ all_deeds carriers)
+  pub phased : IsPhased stage p (home_part stage Controller controller) all
+
+-- between two phases: all clocks are below that of the last Sync, which is the greatest
+pub record AreApart (stage : Stage) (after first : ℕ) (controller : List Note)
+    (carriers : List (List Note)) : Type 0 where
+  pub sync : sync_clock (control_log stage controller) ≡ after
+  pub first_is : newest_before (control_log stage controller) ≡ first
+  pub below : (m : ℕ) → AllByRecursion (λ n. clock_of n < after) (deeds_of carriers m)
+  pub top : greatest clock_of controller ≡ after
+
+-- each mux has looked since the last Sync
+abbrev pub HaveLooked : Stage → List Note → List (List Note) → Type 0
+HaveLooked stage controller carriers = (m : ℕ) → m < stage.script.setting.muxes
+    → 1 ≤ many (looks_since m (sync_clock (control_log stage controller)))
+    (controller ++ all_deeds carriers)
+
+-- the commands before this place have p syncs, none of which is later than a record from the place
+-- `before` on
+pub record IsAtPhase (stage : Stage) (next p before : ℕ) : Type 0 where
+  pub syncs : count_of wants_sync (take next stage.script.commands) ≡ p
+  pub earlier : (k : ℕ) → before < k → k ≤ length stage.capture.records
+      → count_of (is_sync_by (record_moment stage k)) (take next stage.script.commands) ≡ p
