@@ -1,6 +1,7 @@
 -- Logs merged by their next events.
 use Rattle.std.proofs.Common.{◌≡◌, ℕ, zero, suc, ◌+◌, ◌<◌, ◌≤◌, Bool, true, false, cond, List, [], ◌∷◌, ◌++◌, length}
-use Rattle.std.proofs.Common.{Some, None, Option, unwrap_or, drop, take, map, min, refl, sym, ap, subst, ◌∙◌, arith, leb, set}
+use Rattle.std.proofs.Common.{Some, None, Option, unwrap_or, drop, take, map, min, refl, sym, ap, subst, ◌∙◌, arith}
+use Rattle.std.proofs.Common.{leb, set}
 use Rattle.std.specs.Prelude.{reverse, slice_get, slice_index_or}
 use Rattle.std.specs.List.{AllByRecursion, remove}
 use Rattle.std.proofs.lemmas.Bool.{le-leb, lt-leb}

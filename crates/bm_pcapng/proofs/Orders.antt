@@ -1,5 +1,6 @@
 -- What the first octets of a capture say of its order.
-use Rattle.std.proofs.Common.{◌≡◌, ℕ, true, false, ◌<◌, ◌≤◌, nat_lt, ◌||◌, not, min, List, length, Option, Some, None, Ok, Err}
+use Rattle.std.proofs.Common.{◌≡◌, ℕ, true, false, ◌<◌, ◌≤◌, nat_lt, ◌||◌, not, min, List, length, Option, Some, None}
+use Rattle.std.proofs.Common.{Ok, Err}
 use Rattle.std.proofs.Common.{take, ap, sym, subst, ◌∙◌, arith, refl, if◌then◌else◌}
 use Rattle.std.proofs.lemmas.Bool.Decides.{nat_tests}
 use Rattle.std.specs.Io.KnownBytes.{Keeps}

@@ -1,6 +1,7 @@
 -- What the octets that were read say of the block that stands next.
 use Rattle.std.proofs.Common.{◌≡◌, ℕ, true, false, ◌+◌, ◌-◌, ◌<◌, ◌≤◌, nat_lt, nat_le, ◌&&◌, min, List, ◌++◌, length}
-use Rattle.std.proofs.Common.{Option, Some, None, unwrap_or, Result, Ok, Err, take, drop, ap, ap₂, sym, subst, ◌∙◌, arith}
+use Rattle.std.proofs.Common.{Option, Some, None, unwrap_or, Result, Ok, Err, take, drop, ap, ap₂, sym, subst, ◌∙◌}
+use Rattle.std.proofs.Common.{arith}
 use Rattle.std.proofs.Common.{length-append, refl}
 use Rattle.std.proofs.lemmas.Bool.Decides.{nat_tests}
 use Rattle.std.proofs.lemmas.List.{drop-append-le, drop_at, length-take-le, take-append-le}

@@ -1,6 +1,7 @@
 -- What a whole block says.
 use Rattle.std.specs.Prelude.{ℕ, ◌+◌, ◌-◌, ◌*◌, ◌^◌, min, List, length, slice_get, slice_range}
-use Rattle.std.specs.Prelude.{Bool, nat_le, nat_lt, ◌==◌, if◌then◌else◌, Option, Some, None, Result, Ok, Err}
+use Rattle.std.specs.Prelude.{Bool, nat_le, nat_lt, ◌==◌, if◌then◌else◌, Option, Some, None, Result}
+use Rattle.std.specs.Prelude.{Ok, Err}
 use Rattle.bm_pcap.specs.declared.form.Order.{Order}
 use Rattle.bm_pcap.specs.Header.{number_at}
 use Rattle.bm_pcap.specs.Limits.{longest}

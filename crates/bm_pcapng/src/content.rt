@@ -9,7 +9,8 @@ ghost use Rattle.bm_pcapng.specs.Causes.{IsStartFault};
 ghost use Rattle.bm_pcapng.specs.Inside.Causes.{IsContentFault};
 ghost use Rattle.bm_pcapng.specs.Inside.Parts.{IsContentOf, IsPacketIn};
 ghost use Rattle.bm_pcapng.specs.Contents.{content, section_content, interface_content};
-ghost use Rattle.bm_pcapng.specs.Contents.{enhanced_content, simple_content, packet_at, captured_of};
+ghost use Rattle.bm_pcapng.specs.Contents.{enhanced_content, simple_content, packet_at};
+ghost use Rattle.bm_pcapng.specs.Contents.{captured_of};
 
 use crate::place::{LONGEST, MOST_INTERFACES};
 use crate::{Interface, Kind, NgFault, Place};

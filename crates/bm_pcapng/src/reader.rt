@@ -1,5 +1,6 @@
 //! A reader of captures of the pcapng form.
-ghost use Rattle.std.specs.Prelude.{◌≡◌, ◌≤◌, ◌<◌, ◌+◌, ◌^◌, ℕ, [], length, None, IfOk, IfErr, IfSome};
+ghost use Rattle.std.specs.Prelude.{◌≡◌, ◌≤◌, ◌<◌, ◌+◌, ◌^◌, ℕ, [], length, None, IfOk, IfErr};
+ghost use Rattle.std.specs.Prelude.{IfSome};
 ghost use Rattle.std.specs.Prelude.{IsErrOf};
 ghost use Rattle.std.specs.Io.KnownBytes.{Keeps};
 ghost use Rattle.bm_base.specs.Captures.{IsFit, IsReplayable};
@@ -12,7 +13,8 @@ ghost use Rattle.bm_pcapng.specs.Reader.{Advances, EndsWith, GivesNext, HasEnded
 ghost use Rattle.bm_pcapng.specs.Inside.Reader.{GivesStop};
 ghost use Rattle.bm_pcapng.specs.Reader.{IsBounded, IsFresh, KnowsBegan};
 ghost use Rattle.bm_pcapng.specs.Inside.Reader.{IsStopLast, OpensIn};
-ghost use Rattle.bm_pcapng.specs.Reader.{ReadsCapture, Starts, StartsWithCause, octets_in, time_began};
+ghost use Rattle.bm_pcapng.specs.Reader.{ReadsCapture, Starts, StartsWithCause, octets_in};
+ghost use Rattle.bm_pcapng.specs.Reader.{time_began};
 ghost use Rattle.bm_pcapng.specs.Parts.{last_of};
 ghost use Rattle.bm_pcapng.specs.Inside.Parts.{IsLast};
 

@@ -31,7 +31,7 @@ impl Model for Shards {
 
 impl Shards {
     /// The shards of the servers below this number, which hold nothing.
-    #[tactic(auto, unfolding(crate::specs::Shards::all_shards))]
+    #[tactic(auto, unfolding(crate::specs::Inside::Shards::all_shards))]
     pub(crate) fn new(alloc: Global, setting: &Setting, servers: u16) -> Result<Shards, Memory>
         requires { IsWithin 1 65536 setting.now.capacity }
         ensures { IfOk result (λ shards. shards ≡ all_shards setting.now servers) }

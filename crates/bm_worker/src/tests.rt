@@ -1,5 +1,6 @@
 //! Two muxes side by side.
-ghost use Rattle.std.specs.Prelude.{◌≡◌, ℕ, ◌+◌, ◌*◌, ◌^◌, ◌<◌, [], ◌∷◌, ◌++◌, List, All, IfOk, OnOk};
+ghost use Rattle.std.specs.Prelude.{◌≡◌, ℕ, ◌+◌, ◌*◌, ◌^◌, ◌<◌, [], ◌∷◌, ◌++◌, List, All, IfOk};
+ghost use Rattle.std.specs.Prelude.{OnOk};
 ghost use Rattle.std.specs.Prelude.{Option, Some, true, is_some, length, slice_get};
 ghost use Rattle.bm_base.specs.declared.ids.MuxId.{MuxId as MuxNumber};
 ghost use Rattle.bm_base.specs.Captures.{IsFit, IsReplayable, steerable};

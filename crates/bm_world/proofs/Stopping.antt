@@ -1,6 +1,7 @@
 -- Where a worker has given up for a moment that was too large: what all workers did up to there.
 use Rattle.std.proofs.Common.{◌≡◌, ℕ, zero, suc, ◌+◌, ◌*◌, ◌<◌, ◌≤◌, max, Bool, true, false, List, [], ◌∷◌, ◌++◌}
-use Rattle.std.proofs.Common.{length, length-append, Option, Some, None, refl, sym, ap, ◌∙◌, subst, arith, eqb, inl, inr}
+use Rattle.std.proofs.Common.{length, length-append, Option, Some, None, refl, sym, ap, ◌∙◌, subst, arith, eqb, inl}
+use Rattle.std.proofs.Common.{inr}
 use Rattle.std.proofs.Common.{append-nil}
 use Rattle.std.specs.Prelude.{reverse, slice_get, is_some, IfErr, Result, Ok, Err, ◌-◌, ◌^◌}
 use Rattle.std.specs.List.{AllByRecursion}

@@ -1,6 +1,7 @@
 -- The workers before a phase: each was told what is posted, and may begin.
 use Rattle.std.proofs.Common.{◌≡◌, ℕ, zero, suc, ◌+◌, ◌<◌, ◌≤◌, Bool, true, false, cond, List, [], ◌∷◌}
-use Rattle.std.proofs.Common.{◌++◌, All, length, map, take, get_or, Option, Some, None, refl, sym, ap, ◌∙◌, subst, arith}
+use Rattle.std.proofs.Common.{◌++◌, All, length, map, take, get_or, Option, Some, None, refl, sym, ap, ◌∙◌, subst}
+use Rattle.std.proofs.Common.{arith}
 use Rattle.std.proofs.Common.{eqb}
 use Rattle.std.specs.Prelude.{reverse, slice_get, IfSome, option_map}
 use Rattle.std.specs.List.{AllByRecursion}

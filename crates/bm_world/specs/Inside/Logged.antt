@@ -1,5 +1,6 @@
 -- The logs of the books, and those that are merged. Only the proofs of bodies use this.
-use Rattle.std.specs.Prelude.{◌≡◌, ℕ, List, [], ◌∷◌, ◌++◌, length, map, slice_get, Bool, false, ◌||◌}
+use Rattle.std.specs.Prelude.{◌≡◌, ℕ, List, [], ◌∷◌, ◌++◌, length, map, slice_get, Bool, false}
+use Rattle.std.specs.Prelude.{◌||◌}
 use Rattle.std.specs.Prelude.{Some}
 use Rattle.bm_core.specs.declared.events.Event.{Event}
 use Rattle.bm_merge.specs.Merges.{joined}

@@ -1,4 +1,5 @@
-use Rattle.std.proofs.Common.{◌≡◌, ◌<◌, ◌++◌, ◌∷◌, ◌∙◌, [], ℕ, suc, ◌+◌, List, Vec, Global, length, map, ap, sym, subst, take, arith}
+use Rattle.std.proofs.Common.{◌≡◌, ◌<◌, ◌++◌, ◌∷◌, ◌∙◌, [], ℕ, suc, ◌+◌, List, Vec, Global, length, map, ap, sym, subst}
+use Rattle.std.proofs.Common.{take, arith}
 use Rattle.std.proofs.lemmas.List.{length-map}
 use Rattle.bm_merge.specs.declared.rising.Head.{Head}
 use Rattle.bm_merge.specs.Merges.{joined}
