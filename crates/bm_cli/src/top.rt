@@ -49,7 +49,7 @@ pub fn beamer<R: Threads + Wait + Sync, F: Files, K: Sink, G: Gate>(
     ensures shown { result ≡ 0 → Holds (F.octets files.old) (λ reads.
         ShowsAnswer (due (form_in words.now) reads).answer
         (K.written out.old) (K.written out.new)) }
-    // How the call ended, by what was due. All other clauses follow from this one.
+    // How the call ended, by what was due. All other clauses but `open` follow from this one.
     ensures ends { Holds (F.octets files.old) (λ reads.
         EndsWith (due (form_in words.now) reads) (did F.asked F.faults files.old files.new)
         (did K.written K.faults out.old out.new) result) }

@@ -42,7 +42,7 @@ pub fn beamer_connections<R: Threads + Wait + Sync, F: Files, K: Sink>(
     // the servers of the named script.
     ensures shown { result ≡ 0 → Holds (F.octets files.old) (λ reads.
         Tells (form_in words.now) reads (K.written out.old) (K.written out.new)) }
-    // How the call ended, by what was due. All other clauses follow from this one.
+    // How the call ended, by what was due. All other clauses but `open` follow from this one.
     ensures ends { Holds (F.octets files.old) (λ reads.
         EndsWith (form_in words.now) reads (did F.asked F.faults files.old files.new)
         (did K.written K.faults out.old out.new) result) }
