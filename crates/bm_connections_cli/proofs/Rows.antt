@@ -5,7 +5,7 @@ use Rattle.csv.specs.Writing.{row_text, default_writer, fields_written, has_writ
 use Rattle.csv.specs.declared.writer.Writer.{Writer}
 use Rattle.csv.specs.declared.writer.WriterBuilder.{WriterBuilder}
 use Rattle.csv.specs.declared.writer.QuoteStyle.TheVariants as style
-use Rattle.bm_connections_cli.specs.Rows.{HasWritten}
+use Rattle.bm_connections_cli.specs.Inside.Rows.{HasWritten}
 
 pub same_octets : (x y : List ℕ) → Some x ≡ Some y → x ≡ y
 same_octets x y e = cc

@@ -3,7 +3,6 @@ pub mod Dues
 pub mod Headline
 pub mod Text
 pub mod Csv
-pub mod Rows
 pub mod Json
 pub mod Advice
 pub mod Servers

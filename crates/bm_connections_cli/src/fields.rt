@@ -4,7 +4,7 @@ ghost use Rattle.csv.specs.Records.{fields_of};
 ghost use Rattle.bm_trace.specs.Words.{endpoint};
 ghost use Rattle.bm_connections.specs.Times as times;
 ghost use Rattle.bm_connections_cli.specs.Csv as spec;
-ghost use Rattle.bm_connections_cli.specs.Rows.{HasWritten};
+ghost use Rattle.bm_connections_cli.specs.Inside.Rows.{HasWritten};
 
 use bm_base::{Memory, ServerId};
 use bm_connections::{Break, Clock, Connection, Forwarding, SecondsText, Sight, Tally, TimeText};

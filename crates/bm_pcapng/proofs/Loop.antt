@@ -28,7 +28,7 @@ use Rattle.bm_pcapng.specs.Places.{first_place, interfaces_behind, moment_at, or
 use Rattle.bm_pcapng.specs.Inside.Places.{packet_in}
 use Rattle.bm_pcapng.specs.Places.{place_behind}
 use Rattle.bm_pcapng.specs.Reader.{Reader, Advances, AdvancesFrom, Captures, EndsWith, Keeps, StandsIn}
-use Rattle.bm_pcapng.specs.Inside.Reader.{IsPassedOver}
+use Rattle.bm_pcapng.specs.Reader.{IsPassedOver}
 use Rattle.bm_pcapng.specs.Reader.{octets_in, to_come}
 
 -- how many blocks may be left to come

@@ -4,6 +4,7 @@ use Rattle.std.specs.Prelude.{None, Result, Ok, Err}
 use Rattle.std.specs.Io.KnownBytes.{prepend_known, Keeps as Keeps_octets}
 use Rattle.bm_base.specs.declared.capture.Vip.{Vip}
 use Rattle.bm_pcap.specs.declared.form.Order.{Order}
+use Rattle.bm_pcapng.specs.declared.content.Content.{Content}
 use Rattle.bm_pcapng.specs.declared.content.Content.TheVariants.{Holds}
 use Rattle.bm_pcapng.specs.declared.content.Packet.{Packet}
 use Rattle.bm_pcapng.specs.declared.fault.NgFault.{NgFault}
@@ -120,6 +121,19 @@ AdvancesFrom left faults None old new result =
 abbrev pub Advances : {S : Type 0} → (S → Option (List ℕ)) → (S → ℕ) → Reader S → Reader S
     → Result Step NgFault → Type 0
 Advances left faults old new result = AdvancesFrom left faults old.ended old new result
+
+-- a block without a packet
+abbrev pub IsPassedOver : Content → Type 0
+IsPassedOver (Holds packet) = ⊥
+IsPassedOver other = Unit {0}
+
+-- One reader comes to be the other by passing over blocks without a packet.
+pub data Passes {S : Type 0} (left : S → Option (List ℕ)) (faults : S → ℕ) (from : Reader S)
+    : Reader S → Type 0 where
+  here : Passes left faults from from
+  over : (mid new : Reader S) (n : ℕ) (content : Content) → Passes left faults from mid
+      → IsPassedOver content → Advances left faults mid new (Ok (Block n content))
+      → Passes left faults from new
 
 -- Behind blocks without a packet the reader answers this.
 abbrev pub Stops : {S : Type 0} → (S → Option (List ℕ)) → (S → ℕ) → Reader S → Reader S → ℕ

@@ -1,7 +1,6 @@
 -- Beside Reader: what the contracts of private calls and the proofs of bodies use.
 use Rattle.std.specs.Prelude.{ℕ, ◌+◌, ◌≤◌, List, length, Option, Some}
 use Rattle.std.specs.Prelude.{None, Result, Ok, Err}
-use Rattle.bm_pcapng.specs.declared.content.Content.{Content}
 use Rattle.bm_pcapng.specs.declared.content.Content.TheVariants.{Holds}
 use Rattle.bm_pcapng.specs.declared.content.Packet.{Packet}
 use Rattle.bm_pcapng.specs.declared.fault.NgFault.{NgFault}
@@ -11,7 +10,7 @@ use Rattle.bm_pcapng.specs.declared.section.Section.{Section}
 use Rattle.bm_pcapng.specs.declared.step.Step.{Step}
 use Rattle.bm_pcapng.specs.declared.step.Step.TheVariants.{Block, Cut, End}
 use Rattle.bm_pcapng.specs.Causes.{IsBlockFault}
-use Rattle.bm_pcapng.specs.Reader.{Reader, Refuses, IsOpened, Advances, Stops}
+use Rattle.bm_pcapng.specs.Reader.{Reader, Refuses, IsOpened, Stops}
 
 -- a packet's block is the last that was answered
 abbrev pub IsStopLast : List ℕ → Stop → Type 0
@@ -31,19 +30,6 @@ EndsWell (Some (Err e)) = IsBlockFault e
 abbrev pub OpensIn : Option (List ℕ) → Result Section NgFault → Type 0
 OpensIn old (Ok section) = IsOpened old section.order
 OpensIn old (Err e) = Refuses old e
-
--- a block without a packet
-abbrev pub IsPassedOver : Content → Type 0
-IsPassedOver (Holds packet) = ⊥
-IsPassedOver other = Unit {0}
-
--- One reader comes to be the other by passing over blocks without a packet.
-pub data Passes {S : Type 0} (left : S → Option (List ℕ)) (faults : S → ℕ) (from : Reader S)
-    : Reader S → Type 0 where
-  here : Passes left faults from from
-  over : (mid new : Reader S) (n : ℕ) (content : Content) → Passes left faults from mid
-      → IsPassedOver content → Advances left faults mid new (Ok (Block n content))
-      → Passes left faults from new
 
 -- What was come to: a packet, with its number, and so many octets in its block.
 abbrev pub GivesStop : {S : Type 0} → (S → Option (List ℕ)) → (S → ℕ) → Reader S → Reader S

@@ -1,7 +1,7 @@
 use Rattle.std.proofs.Common.{◌++◌, subst}
 use Rattle.std.specs.Prelude.{OnOk}
 use Rattle.bm_connections_cli.specs.Csv.{csv_line}
-use Rattle.bm_connections_cli.specs.Rows.{HasWritten}
+use Rattle.bm_connections_cli.specs.Inside.Rows.{HasWritten}
 use Rattle.bm_connections_cli.proofs.fields.write_connection.Goals as goal
 
 pub returns : goal.returns

@@ -1,7 +1,7 @@
 use Rattle.std.proofs.Common.{◌++◌, refl, subst, flat_map, take}
 use Rattle.std.proofs.lemmas.List.{take_all}
 use Rattle.bm_connections_cli.specs.Csv.{connection_record}
-use Rattle.bm_connections_cli.specs.Rows.{HasWritten}
+use Rattle.bm_connections_cli.specs.Inside.Rows.{HasWritten}
 use Rattle.bm_connections.proofs.Lines.{lines_more}
 use Rattle.bm_connections_cli.proofs.fields.write_connections.Goals as goal
 

@@ -1,6 +1,6 @@
 use Rattle.std.proofs.Common.{◌++◌, List, ℕ, flat_map, take}
 use Rattle.bm_connections_cli.specs.Csv.{connection_record}
-use Rattle.bm_connections_cli.specs.Rows.{HasWritten}
+use Rattle.bm_connections_cli.specs.Inside.Rows.{HasWritten}
 use Rattle.bm_connections_cli.proofs.fields.write_connections.Given as goal
 
 abbrev pub invariant-loop-connection : goal.invariant-loop-connection

@@ -1,7 +1,7 @@
 use Rattle.std.proofs.Common.{◌++◌, subst}
 use Rattle.csv.specs.Records.{fields_of}
 use Rattle.bm_connections_cli.specs.Csv.{csv_line}
-use Rattle.bm_connections_cli.specs.Rows.{HasWritten}
+use Rattle.bm_connections_cli.specs.Inside.Rows.{HasWritten}
 use Rattle.bm_connections_cli.proofs.Rows.{record_more}
 use Rattle.bm_connections_cli.proofs.fields.write_fields.Goals.{in-Ok, in-Err}
 use Rattle.bm_connections_cli.proofs.fields.write_fields.Goals as goal
