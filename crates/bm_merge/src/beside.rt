@@ -1,5 +1,6 @@
 //! Logs whose clocks don't fall, merged by several threads.
 ghost use Rattle.std.specs.Prelude.{◌≡◌, ◌<◌, ◌≤◌, length, map, take, drop, IfOk, OnOk};
+ghost use Rattle.std.specs.Prelude.{vec_len};
 ghost use Rattle.std.specs.List.{AllByRecursion};
 ghost use Rattle.std.specs.Thread.{IsSync};
 ghost use Rattle.bm_merge.specs.Inside.Halves.{AreHalves, IsCutAt};
@@ -146,7 +147,9 @@ fn fill_halves<R: Threads + Sync>(
 }
 
 /// Room for so many events to be merged in, whose memory is ready.
-pub fn room_for(alloc: Global, count: usize) -> Result<Vec<Event>, Memory> {
+pub fn room_for(alloc: Global, count: usize) -> Result<Vec<Event>, Memory>
+    ensures { IfOk result (λ room. vec_len room ≡ count) }
+{
     Ok(vec![in alloc; BLANK; count]?)
 }
 
