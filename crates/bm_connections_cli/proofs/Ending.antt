@@ -13,8 +13,8 @@ use Rattle.bm_cli.specs.declared.status.Status.TheVariants.{Done, Usage}
 use Rattle.bm_cli.specs.Dues.{Shown, answer_for, names_behind}
 use Rattle.bm_cli.specs.Ends.{Ends}
 use Rattle.bm_cli.specs.Headline.{IsMadeBy}
-use Rattle.bm_cli.specs.Inside.Stages.{ReadsStage, status_by}
-use Rattle.bm_cli.specs.Inside.Telling.{Tells}
+use Rattle.bm_cli.specs.Stages.{ReadsStage, status_by}
+use Rattle.bm_cli.specs.Telling.{Tells}
 use Rattle.bm_cli.specs.Reading.{Holds, Octets, Reading, Reads, reading, script_by}
 use Rattle.bm_cli.specs.Statuses.{FilesDid, SinkDid, Writes}
 use Rattle.bm_cli.proofs.Ending.{asks_as, holds_any, holds_more, said_stage, says_read}

@@ -124,6 +124,10 @@ command_moment stage past = max (moment_at (command_at stage past)) (controller_
 
 -- PHASES
 
+-- how many Syncs came
+abbrev pub phase : List Event → ℕ
+phase past = counts past is_sync
+
 -- the command is a sync no later than this moment
 abbrev pub is_sync_by : ℕ → Command → Bool
 is_sync_by moment (SyncCommand at) = nat_le at.0 moment

@@ -24,7 +24,7 @@ use Rattle.bm_core.specs.Accounts.{Routes, Rules, IsAccountOf}
 use Rattle.bm_core.specs.Rules.{RouteBy, RuleBy, setting_mux, setting_fate}
 use Rattle.bm_core.specs.Threads.{FollowsInThreads, IsThreadedRun}
 use Rattle.bm_core.specs.Threads.{IsOf, command_at, progress_at, packet_of, phase_of, last_own, IsTimed}
-use Rattle.bm_core.specs.Inside.Threads.{phase}
+use Rattle.bm_core.specs.Threads.{phase}
 use Rattle.bm_core.specs.Threads.{HaveLooked}
 use Rattle.bm_core.proofs.Worked.{server, stage_of}
 

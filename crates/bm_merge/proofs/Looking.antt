@@ -15,7 +15,7 @@ use Rattle.bm_core.specs.Runs.{actor_of, is_by, next_clock}
 use Rattle.bm_core.specs.Runs.Actor.{Controller, ShardOf}
 use Rattle.bm_core.specs.Accounts.{Routes, Rules, counts, is_sync}
 use Rattle.bm_core.specs.Threads.{has_looked, newest_before, sync_clock, publish_clock, is_publish_of}
-use Rattle.bm_core.specs.Inside.Threads.{phase}
+use Rattle.bm_core.specs.Threads.{phase}
 use Rattle.bm_core.specs.Threads.{phase_of, packet_of, IsDueAt}
 use Rattle.bm_core.specs.Logs.{log_of}
 use Rattle.bm_merge.specs.Notes.{Note, NotedLog, events_of, plain, all_notes, many, switched_since, controlled}
