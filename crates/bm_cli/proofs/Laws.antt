@@ -266,7 +266,7 @@ module _ (form : Option Asked) (told : Octets) (files : FilesDid) (sink : SinkDi
       (λ reads s is ends. record {
         text = ends.text;
         is = some_said (due form reads) files sink s ends ends.said;
-        part = ends.writes.part (by s is e);
+        less = ends.writes.less (by s is e);
       })
       all
     where

@@ -52,7 +52,7 @@ writes_nothing before faults = record {
   count = omega arith;
   ends = inl refl;
   whole = λ e. appends_nothing before;
-  part = λ e. (0, appends_nothing before);
+  less = λ e. inl (appends_nothing before);
   cause = λ e. absurd (cc);
   kept = λ n. refl;
 }

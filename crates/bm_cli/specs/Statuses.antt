@@ -1,7 +1,8 @@
 -- How the program ends, and what a call did to its sink and to its files.
-use Rattle.std.specs.Prelude.{◌≡◌, ◌≢◌, ℕ, ◌≤◌, ◌⊎◌, List, take, Option}
+use Rattle.std.specs.Prelude.{◌≡◌, ◌≢◌, ℕ, ◌≤◌, ◌⊎◌, List, [], Option}
 use Rattle.std.specs.Io.KnownBytes.{Appends}
 use Rattle.bm_io.specs.Causes.{Rose}
+use Rattle.bm_io.specs.Written.{WritesPart}
 use Rattle.bm_cli.specs.declared.status.Status.{Status}
 use Rattle.bm_cli.specs.declared.status.Status.TheVariants.{Done, Usage, ReadFault, BadCapture}
 use Rattle.bm_cli.specs.declared.status.Status.TheVariants.{BadScript, WriteFault, Memory, Limit}
@@ -36,16 +37,16 @@ abbrev pub did : {S A : Type 0} → (S → Option A) → (S → ℕ) → S → S
 did told faults old new =
     record { before = told old; now = told new; faults = faults old; later = faults new }
 
--- a first part of the text was written
-abbrev pub WritesPart : Option (List ℕ) → Option (List ℕ) → List ℕ → Type 0
-WritesPart before now text = (n : ℕ) × Appends before now (take n text)
+-- nothing was written, or a first part of the text, and not all
+abbrev pub WritesLess : SinkDid → List ℕ → Type 0
+WritesLess sink text = Appends sink.before sink.now [] ⊎ WritesPart sink.before sink.now text
 
--- The text was written, and the status is this; or a first part of it was, where the sink failed or
+-- The text was written, and the status is this; or less than the text was, where the sink failed or
 -- memory was refused.
 pub record Writes (says : Status) (text : List ℕ) (sink : SinkDid) (result : Status) : Type 0 where
   pub count : sink.faults ≤ sink.later
   pub ends : (result ≡ says) ⊎ (result ≡ WriteFault) ⊎ (result ≡ Memory)
   pub whole : result ≡ says → Appends sink.before sink.now text
-  pub part : (result ≡ WriteFault) ⊎ (result ≡ Memory) → WritesPart sink.before sink.now text
+  pub less : (result ≡ WriteFault) ⊎ (result ≡ Memory) → WritesLess sink text
   pub cause : result ≡ WriteFault → Rose sink.faults sink.later
   pub kept : result ≢ WriteFault → sink.later ≡ sink.faults

@@ -10,7 +10,7 @@ use Rattle.bm_cli.specs.Headline.{Shows}
 use Rattle.bm_cli.specs.Lines.{fault_line, fault_status}
 use Rattle.bm_cli.specs.Names.{script_names}
 use Rattle.bm_cli.specs.Reading.{Octets, reads_of}
-use Rattle.bm_cli.specs.Statuses.{WritesPart, code_of, FilesDid, SinkDid}
+use Rattle.bm_cli.specs.Statuses.{WritesLess, code_of, FilesDid, SinkDid}
 
 -- a text is due that isn't the line of a fault, and it was written
 abbrev pub ShowsAnswer : Answer → Option (List ℕ) → Option (List ℕ) → Type 0
@@ -35,15 +35,15 @@ abbrev pub IsAccepted : Option Asked → Octets → Type 0
 IsAccepted form None = ⊥
 IsAccepted form (Some octets) = status_of (due form (reads_of octets)).answer ≡ Done
 
--- a first part was written of the text that is due, of the line of a read that failed, or of
--- nothing
+-- nothing was written, or a first part, and not all, of the text that is due, or of the line of a
+-- read that failed
 pub record WritesSome (due : Due) (files : FilesDid) (sink : SinkDid) : Type 0 where
   pub text : List ℕ
   pub is :
       (text ≡ []) ⊎
       ((text ≡ fault_line Files) × Rose files.faults files.later × (due.names ≢ [])) ⊎
       text_of due.answer text
-  pub part : WritesPart sink.before sink.now text
+  pub less : WritesLess sink text
 
 -- the script's name alone, where the words have one
 abbrev pub scripts_in : Option Asked → List (List ℕ)

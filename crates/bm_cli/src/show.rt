@@ -4,8 +4,8 @@ ghost use Rattle.std.specs.Io.KnownBytes.{Appends};
 ghost use Rattle.bm_core.specs.Runs.{IsRun};
 ghost use Rattle.bm_core.specs.Stages.{IsSound};
 ghost use Rattle.bm_io.specs.Causes.{HasIoCause};
+ghost use Rattle.bm_io.specs.Written.{WritesPart};
 ghost use Rattle.bm_link.specs.Fits.{ArePackets};
-ghost use Rattle.bm_trace.specs.Parts.{WritesPart};
 ghost use Rattle.bm_trace.specs.Report as report;
 ghost use Rattle.bm_cli.specs.Dues.{Shown};
 ghost use Rattle.bm_cli.specs.Headline.{IsReportOf};
@@ -23,7 +23,7 @@ use std::alloc::Global;
 use std::sync::Wait;
 use std::thread::Threads;
 
-/// At most so many threads make a report.
+/// At most so many threads make the lines of the events.
 const MOST_THREADS: usize = 8;
 
 /// Plays the stage, and writes the report of its history. `packets` has the packet of each record,

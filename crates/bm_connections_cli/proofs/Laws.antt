@@ -109,11 +109,11 @@ module _ (reads : Reads) (files : FilesDid) (sink : SinkDid) (s : Status) where
 
   part_by : (form : Option Asked) → EndsAs form reads files sink s → (s ≡ WriteFault) ⊎ (s ≡ Memory) →
       WritesSomeFor form reads files sink
-  part_by None ends e = ends.writes.part e
+  part_by None ends e = ends.writes.less e
   part_by (Some asked) ends e = record {
     text = ends.text;
     is = some_said (due_of asked reads) files sink s ends ends.said;
-    part = ends.writes.part e;
+    less = ends.writes.less e;
   }
 
   asked_by : (form : Option Asked) → EndsAs form reads files sink s →

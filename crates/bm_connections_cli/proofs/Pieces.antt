@@ -1,13 +1,13 @@
 -- Texts that are written one behind the other.
 use Rattle.std.proofs.Common.{◌≡◌, ℕ, ◌+◌, ◌<◌, List, [], ◌∷◌, ◌++◌, length, take, drop, get_or, Option}
-use Rattle.std.proofs.Common.{flat_map, sym, ap, subst, ◌∙◌, arith, append_assoc}
+use Rattle.std.proofs.Common.{flat_map, sym, ap, subst, ◌∙◌, arith, append_assoc, length-append}
 use Rattle.std.proofs.lemmas.Grind.{common_steps}
 use Rattle.std.proofs.lemmas.List.{append-nil, take-append-drop}
 use Rattle.std.proofs.lemmas.List.Concat.{flat_map-append}
 use Rattle.std.proofs.KnownBytes.{Appends-trans}
 use Rattle.std.proofs.Math.Seq.{take-append_seam}
 use Rattle.std.specs.Io.KnownBytes.{Appends}
-use Rattle.bm_cli.specs.Statuses.{WritesPart}
+use Rattle.bm_io.specs.Written.{WritesPart}
 
 abbrev pub joined : List (List ℕ) → List ℕ
 joined parts = flat_map (λ part. part) parts
@@ -28,18 +28,28 @@ text_more before mid now parts i d piece below is first next =
     (ap (λ l. joined (take i parts) ++ l) is ∙ sym (one_more parts i d below))
     (Appends-trans before mid now (joined (take i parts)) piece first next)
 
-part_of : (before now : Option (List ℕ)) (sent rest text : List ℕ) → sent ++ rest ≡ text →
+part_of : (before now : Option (List ℕ)) (sent rest text : List ℕ) → sent ++ rest ≡ text → 0 < length rest →
     Appends before now sent → WritesPart before now text
-part_of before now sent rest text whole written =
+part_of before now sent rest text whole some written =
     let front : take (length sent) text ≡ sent =
     ap (λ l. take (length sent) l) (sym whole) ∙ take-append_seam sent rest
-    in (length sent, subst (λ l. Appends before now l) (sym front) written)
+    in (
+      length sent,
+      omega (arith, ap length whole, length-append sent rest, some),
+      subst (λ l. Appends before now l) (sym front) written,
+    )
+
+-- something is left behind a first part of a text that isn't all
+some_left : (piece behind : List ℕ) (n : ℕ) → n < length piece → 0 < length (drop n piece ++ behind)
+some_left piece behind n less =
+    let left : 0 < length (drop n piece) = grind (arith, common_steps)
+    in omega (arith, length-append (drop n piece) behind, left)
 
 -- a first part of the next text was written
 pub text_part : (before mid now : Option (List ℕ)) (parts : List (List ℕ)) (i n : ℕ) (d piece : List ℕ) →
-    i < length parts → piece ≡ get_or parts i d → Appends before mid (joined (take i parts)) →
+    i < length parts → piece ≡ get_or parts i d → Appends before mid (joined (take i parts)) → n < length piece →
     Appends mid now (take n piece) → WritesPart before now (joined parts)
-text_part before mid now parts i n d piece below is first next =
+text_part before mid now parts i n d piece below is first less next =
     let a = joined (take i parts) in
     let b = joined (drop (i + 1) parts) in
     let upto : a ++ piece ≡ joined (take (i + 1) parts) =
@@ -52,4 +62,5 @@ text_part before mid now parts i n d piece below is first next =
     ∙ ap (λ l. a ++ l) (sym (append_assoc (take n piece) (drop n piece) b)
     ∙ ap (λ l. l ++ b) (take-append-drop n piece))
     ∙ sym (append_assoc a piece b) ∙ ap (λ l. l ++ b) upto ∙ all)
+    (some_left piece b n less)
     (Appends-trans before mid now a (take n piece) first next)

@@ -4,7 +4,7 @@ use Rattle.bm_cli.specs.declared.status.Status.TheVariants.{Done}
 use Rattle.bm_cli.specs.Dues.{status_of}
 use Rattle.bm_cli.specs.Names.{script_names}
 use Rattle.bm_cli.specs.Reading.{Octets, Reads, reads_of}
-use Rattle.bm_cli.specs.Statuses.{FilesDid, SinkDid, WritesPart}
+use Rattle.bm_cli.specs.Statuses.{FilesDid, SinkDid, WritesLess}
 use Rattle.bm_cli.specs.Top.{IsStatusOf, RefusesAnswer, ShowsAnswer, WritesSome}
 use Rattle.bm_connections_cli.specs.Dues.{due_of, usage_line}
 use Rattle.bm_connections_cli.specs.Words.{Asked}
@@ -32,10 +32,10 @@ IsAccepted None told = ⊥
 IsAccepted (Some asked) None = ⊥
 IsAccepted (Some asked) (Some octets) = status_of (due_of asked (reads_of octets)).answer ≡ Done
 
--- a first part was written of the text that was due, of the line of a read that failed, or of
--- nothing
+-- nothing was written, or a first part, and not all, of the text that was due, or of the line of a
+-- read that failed
 abbrev pub WritesSomeFor : Option Asked → Reads → FilesDid → SinkDid → Type 0
-WritesSomeFor None reads files sink = WritesPart sink.before sink.now usage_line
+WritesSomeFor None reads files sink = WritesLess sink usage_line
 WritesSomeFor (Some asked) reads files sink = WritesSome (due_of asked reads) files sink
 
 -- the names that are due

@@ -5,4 +5,5 @@ pub mod MemNames
 pub mod SureNames
 pub mod Calls
 pub mod Fill
+pub mod Written
 pub mod Inside

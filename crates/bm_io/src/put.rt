@@ -1,16 +1,16 @@
 //! Writing a whole piece.
-ghost use Rattle.std.specs.Prelude.{◌≤◌, length, take, OnOk, OnErr, ℕ};
+ghost use Rattle.std.specs.Prelude.{OnOk, OnErr};
 ghost use Rattle.std.specs.Io.KnownBytes.{Appends};
 ghost use Rattle.bm_io.specs.Causes.{HasIoCause};
+ghost use Rattle.bm_io.specs.Written.{WritesPart};
 
 use crate::{IoFault, Sink};
 
-/// Appends the whole piece. On a refusal a prefix of it was appended.
+/// Appends the whole piece. On a refusal a first part of it was appended, and not all.
 pub fn put_all<K: Sink>(out: &mut K, piece: &[u8]) -> Result<(), IoFault>
     ensures ok { OnOk result (Appends (K.written out.old) (K.written out.new) piece.now) }
     ensures err { OnErr result
-        ((n : ℕ) × (n ≤ length piece.now)
-        × Appends (K.written out.old) (K.written out.new) (take n piece.now)) }
+        (WritesPart (K.written out.old) (K.written out.new) piece.now) }
     ensures cause { HasIoCause (K.faults out.old) (K.faults out.new) result }
 {
     let mut at = 0;

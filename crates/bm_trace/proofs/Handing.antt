@@ -1,12 +1,13 @@
 -- Lines that reach a sink in pieces.
-use Rattle.std.proofs.Common.{◌≡◌, ℕ, ◌≤◌, List, [], ◌++◌, length, take, drop, Option, refl, sym, ap, subst, ◌∙◌}
+use Rattle.std.proofs.Common.{◌≡◌, ℕ, ◌+◌, ◌<◌, List, [], ◌++◌, length, take, drop, Option, refl, sym, ap, subst, ◌∙◌}
 use Rattle.std.proofs.Common.{append_assoc, length-append, arith}
 use Rattle.std.specs.Io.KnownBytes.{Appends}
 use Rattle.std.proofs.KnownBytes.{Appends-nil, Appends-trans}
 use Rattle.std.proofs.lemmas.List.{append-nil, take-append-drop}
+use Rattle.std.proofs.lemmas.Grind.{common_steps}
 use Rattle.std.proofs.Math.Seq.{take-append_seam}
-use Rattle.bm_trace.specs.Parts.{WritesPart}
-use Rattle.bm_trace.specs.Inside.Parts.{HandsOn, HandsPart}
+use Rattle.bm_io.specs.Written.{WritesPart}
+use Rattle.bm_trace.specs.Inside.Parts.{HandsLess, HandsOn, HandsPart}
 
 -- WHAT IS HANDED ON
 
@@ -51,7 +52,7 @@ none_sent told waited text =
 
 -- a first part of the buffer was written
 pub buffer_part : (a b : Option (List ℕ)) (waited piece : List ℕ) → piece ≡ waited
-    → ((n : ℕ) × (n ≤ length piece) × Appends a b (take n piece)) → HandsPart a waited b []
+    → WritesPart a b piece → HandsPart a waited b []
 buffer_part a b waited piece same part = record {
   lost = drop part.0 piece;
   on = record {
@@ -109,15 +110,55 @@ lines_lost a b p q s rest whole all on = subst (λ x. HandsPart a p b x) all (re
 pub end_on : (a b : Option (List ℕ)) (q r t : List ℕ) → r ≡ q ++ t → Appends a b r → HandsOn a q b [] t
 end_on a b q r t more last = record { sent = r; appended = last; whole = append-nil r ∙ more }
 
+-- what is left of a text behind a part that isn't all
+some_left : (n : ℕ) (r : List ℕ) → n < length r → 0 < length (drop n r)
+some_left n r below = grind (arith, common_steps)
+
 -- it was refused
-pub end_part : (a b : Option (List ℕ)) (q r t : List ℕ) → r ≡ q ++ t → WritesPart a b r → HandsPart a q b t
-end_part a b q r t more part = record {
-  lost = drop part.0 r;
-  on = record {
-    sent = take part.0 r;
-    appended = part.2;
-    whole = take-append-drop part.0 r ∙ more;
+pub end_less : (a b : Option (List ℕ)) (q r t : List ℕ) → r ≡ q ++ t → WritesPart a b r → HandsLess a q b t
+end_less a b q r t more part = record {
+  part = record {
+    lost = drop part.0 r;
+    on = record {
+      sent = take part.0 r;
+      appended = part.2;
+      whole = take-append-drop part.0 r ∙ more;
+    };
   };
+  some = some_left part.0 r part.1;
+}
+
+-- nothing of it was written
+pub none_less : (told : Option (List ℕ)) (waited text : List ℕ) → 0 < length text → HandsLess told waited told text
+none_less told waited text some = record {
+  part = record {
+    lost = waited ++ text;
+    on = record { sent = []; appended = Appends-nil told; whole = refl };
+  };
+  some = omega (arith, length-append waited text, some);
+}
+
+-- the text before it was refused
+pub rest_less : (a b : Option (List ℕ)) (p s t : List ℕ) → HandsPart a p b s → 0 < length t → HandsLess a p b (s ++ t)
+rest_less a b p s t part some = record {
+  part = record {
+    lost = part.lost ++ t;
+    on = record {
+      sent = part.on.sent;
+      appended = part.on.appended;
+      whole =
+          sym (append_assoc part.on.sent part.lost t) ∙ ap (λ x. x ++ t) part.on.whole ∙ append_assoc p s t;
+    };
+  };
+  some = omega (arith, length-append part.lost t, some);
+}
+
+-- it is refused behind another text
+pub less_after : (a b c : Option (List ℕ)) (p q s t : List ℕ) → HandsOn a p b q s → HandsLess b q c t
+    → HandsLess a p c (s ++ t)
+less_after a b c p q s t first less = record {
+  part = record { lost = less.part.lost; on = both_on a b c p q less.part.lost s t first less.part.on };
+  some = less.some;
 }
 
 -- THE WHOLE, where nothing waited at first
@@ -126,15 +167,16 @@ pub all_written : (a b : Option (List ℕ)) (p s : List ℕ) → p ≡ [] → Ha
 all_written a b p s empty on =
     subst (λ x. Appends a b x) (sym (append-nil on.sent) ∙ on.whole ∙ ap (λ x. x ++ s) empty) on.appended
 
--- a first part was written
-pub part_written : (a b : Option (List ℕ)) (p s : List ℕ) → p ≡ [] → HandsPart a p b s → WritesPart a b s
-part_written a b p s empty part =
-    let sent = part.on.sent
-    in let whole : sent ++ part.lost ≡ s = part.on.whole ∙ ap (λ x. x ++ s) empty
+-- a first part was written, and not all
+pub part_written : (a b : Option (List ℕ)) (p s : List ℕ) → p ≡ [] → HandsLess a p b s → WritesPart a b s
+part_written a b p s empty less =
+    let sent = less.part.on.sent
+    in let lost = less.part.lost
+    in let whole : sent ++ lost ≡ s = less.part.on.whole ∙ ap (λ x. x ++ s) empty
     in let front : take (length sent) s ≡ sent =
-    ap (λ x. take (length sent) x) (sym whole) ∙ take-append_seam sent part.lost
+    ap (λ x. take (length sent) x) (sym whole) ∙ take-append_seam sent lost
     in (
       length sent,
-      omega (arith, ap length whole, length-append sent part.lost),
-      subst (λ x. Appends a b x) (sym front) part.on.appended,
+      omega (arith, ap length whole, length-append sent lost, less.some),
+      subst (λ x. Appends a b x) (sym front) less.part.on.appended,
     )

@@ -1,6 +1,6 @@
 -- Texts that are written line by line.
 use Rattle.std.proofs.Common.{◌≡◌, ℕ, suc, ◌+◌, ◌<◌, List, [], ◌∷◌, ◌++◌, length, take, drop, get_or, refl, ap, ◌∙◌}
-use Rattle.std.proofs.Common.{sym, arith, append_assoc, Option, Some, subst}
+use Rattle.std.proofs.Common.{sym, arith, append_assoc, length-append, Option, Some, subst}
 use Rattle.std.specs.Prelude.{reverse, codes, decimal, Result, Ok, Err, OnErr, OnOk}
 use Rattle.std.specs.Io.KnownBytes.{Appends}
 use Rattle.std.proofs.lemmas.List.{append-nil, reverse-append, take-append-drop}
@@ -15,19 +15,15 @@ use Rattle.bm_trace.specs.declared.records.End.{End}
 use Rattle.bm_trace.specs.declared.sums.Totals.{Totals}
 use Rattle.bm_trace.specs.Inside.Ends.{words_of_ends, words_of_record}
 use Rattle.bm_trace.specs.Inside.EndTables.{with_later}
-use Rattle.bm_trace.specs.Parts.{AppendsPart, WritesPart}
-use Rattle.bm_trace.specs.Inside.Parts.{HandsOn, HandsPart, all_lines, last_lines, lines_behind}
+use Rattle.bm_io.specs.Written.{WritesPart}
+use Rattle.bm_trace.specs.Inside.Parts.{HandsLess, HandsOn, HandsPart, all_lines, last_lines, lines_behind}
 use Rattle.bm_trace.specs.Report.{end_words, event_line, event_lines, ends_of, note_line, record_lines}
 use Rattle.bm_trace.specs.Report.{record_words, text, totals_line}
 use Rattle.bm_trace.specs.Totals.{totals_of}
 use Rattle.bm_trace.specs.Words.{line}
-use Rattle.bm_trace.proofs.Handing.{all_written, both_on, line_more, line_refused, lines_lost, part_after}
-use Rattle.bm_trace.proofs.Handing.{part_rest, part_written}
+use Rattle.bm_trace.proofs.Handing.{all_written, both_on, less_after, line_more, line_refused, lines_lost}
+use Rattle.bm_trace.proofs.Handing.{part_written, rest_less}
 use Rattle.bm_trace.proofs.Newest.{reverse_take}
-
--- nothing was appended
-pub no_part : (base text : List ℕ) → AppendsPart base base text
-no_part base text = record { part = []; rest = text; whole = refl; appended = sym (append-nil base) }
 
 pub on_err : {T E : Type 0} (r : Result T E) (P : Type 0) → P → OnErr r P
 on_err (Ok x) P p = tt
@@ -223,6 +219,21 @@ last_put piece old noted new note s t is first second same =
     is ∙ second ∙ ap (λ x. x ++ totals_line s) first ∙ append_assoc old note (totals_line s)
     ∙ ap (λ x. old ++ (note ++ totals_line x)) same
 
+more_before : (first rest : List ℕ) → 0 < length rest → 0 < length (first ++ rest)
+more_before first rest some = omega (arith, length-append first rest, some)
+
+more_behind : (first rest : List ℕ) → 0 < length first → 0 < length (first ++ rest)
+more_behind first rest some = omega (arith, length-append first rest, some)
+
+-- neither the last lines nor what stands behind the events is empty
+pub some_last : (h : History) → 0 < length (last_lines h)
+some_last h =
+    let five : length (codes "total") ≡ 5 = refl
+    in more_before (note_line h.stage.capture.cut) _ (more_behind (codes "total") _ (omega (arith, five)))
+
+pub some_behind : (h : History) → 0 < length (lines_behind h)
+some_behind h = more_before (record_lines (reverse h.events) 1 h.stage.capture.records) _ (some_last h)
+
 -- the report in two parts, the lines of the events and what stands behind them
 pub behind_events : (h : History) → event_lines h.stage (reverse h.events) ++ lines_behind h ≡ text h
 unfolding text
@@ -247,13 +258,13 @@ report_written first rest whole a b c p q is empty before behind =
 
 -- the first part was refused
 pub first_refused : (first rest whole : List ℕ) (a b : Option (List ℕ)) (p : List ℕ) → first ++ rest ≡ whole → p ≡ []
-    → HandsPart a p b first → WritesPart a b whole
-first_refused first rest whole a b p is empty part =
-    subst (λ x. WritesPart a b x) is (part_written a b p (first ++ rest) empty (part_rest a b p first rest part))
+    → 0 < length rest → HandsPart a p b first → WritesPart a b whole
+first_refused first rest whole a b p is empty some part =
+    subst (λ x. WritesPart a b x) is (part_written a b p (first ++ rest) empty (rest_less a b p first rest part some))
 
 -- what stands behind it was refused
 pub rest_refused : (first rest whole : List ℕ) (a b c : Option (List ℕ)) (p q : List ℕ) → first ++ rest ≡ whole
-    → p ≡ [] → HandsOn a p b q first → HandsPart b q c rest → WritesPart a c whole
-rest_refused first rest whole a b c p q is empty before part =
+    → p ≡ [] → HandsOn a p b q first → HandsLess b q c rest → WritesPart a c whole
+rest_refused first rest whole a b c p q is empty before less =
     subst (λ x. WritesPart a c x) is
-    (part_written a c p (first ++ rest) empty (part_after a b c p q first rest before part))
+    (part_written a c p (first ++ rest) empty (less_after a b c p q first rest before less))

@@ -19,7 +19,7 @@ use Rattle.bm_trace.specs.Totals.{strays}
 use Rattle.bm_trace.specs.declared.beside.Piece.{Piece}
 use Rattle.bm_trace.specs.declared.beside.Round.{Round}
 use Rattle.bm_trace.specs.declared.swept.Sweeper.{Sweeper}
-use Rattle.bm_trace.specs.Parts.{WritesPart}
+use Rattle.bm_io.specs.Written.{WritesPart}
 use Rattle.bm_trace.specs.Inside.Parts.{HandsOn, HandsPart, all_lines}
 use Rattle.bm_trace.specs.Report.{event_lines, record_lines}
 use Rattle.bm_trace.proofs.Parted.{events_whole, later_lines}

@@ -5,8 +5,8 @@ ghost use Rattle.std.specs.Prelude.{vec_len, ◌-◌};
 ghost use Rattle.std.specs.Io.KnownBytes.{Appends};
 ghost use Rattle.bm_core.specs.Runs.{IsRun};
 ghost use Rattle.bm_io.specs.Causes.{HasIoCause};
+ghost use Rattle.bm_io.specs.Written.{WritesPart};
 ghost use Rattle.bm_trace.specs.CauseOf.{cause_of};
-ghost use Rattle.bm_trace.specs.Parts.{WritesPart};
 ghost use Rattle.bm_trace.specs.Inside.Parts.{HandsOn, HandsPart, all_lines};
 ghost use Rattle.bm_trace.specs.Inside.Pieces.{AreLines, AreWritten, CanWrite, HasDealt, HasPut};
 ghost use Rattle.bm_trace.specs.Inside.Pieces.{HasWritten, HaveWritten, IsRound, PutsLines};
@@ -442,7 +442,7 @@ pub(crate) fn put_lines<R: Threads + Sync, K: Sink>(
 /// Writes the report of the history by as many threads, of which 0 count as 1, beside the caller's
 /// own, which finds the causes of the events meanwhile, a round ahead, and beside one that puts the
 /// lines of the records together and counts the totals. Of the report these lines are held whole,
-/// those of the events never. Where it is refused, a first part of it was written.
+/// those of the events never. Where it is refused, a first part of it was written, and not all.
 #[tactic(auto, using(crate::proofs::Ranged::ranges_of))]
 pub fn report_beside<R: Threads + Sync, K: Sink>(
     rt: &R,

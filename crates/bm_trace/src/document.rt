@@ -5,8 +5,8 @@ ghost use Rattle.std.specs.Prelude.{string_bytes, []};
 ghost use Rattle.std.specs.Io.KnownBytes.{Appends};
 ghost use Rattle.bm_core.specs.Runs.{IsRun};
 ghost use Rattle.bm_io.specs.Causes.{HasIoCause};
-ghost use Rattle.bm_trace.specs.Parts.{AppendsPart, WritesPart};
-ghost use Rattle.bm_trace.specs.Inside.Parts.{HandsOn, HandsPart, last_lines};
+ghost use Rattle.bm_io.specs.Written.{WritesPart};
+ghost use Rattle.bm_trace.specs.Inside.Parts.{HandsLess, HandsOn, HandsPart, last_lines};
 ghost use Rattle.bm_trace.specs.Inside.Parts.{lines_behind};
 ghost use Rattle.bm_trace.specs.Inside.Ranges.{HasRanges};
 ghost use Rattle.bm_trace.specs.Report as report;
@@ -107,7 +107,7 @@ pub(crate) fn put_end<K: Sink>(
     requires { sums.now ≡ totals.totals_of h.now }
     ensures ok { OnOk result (HandsOn (K.written out.old) (string_bytes lines)
         (K.written out.new) [] (last_lines h.now)) }
-    ensures err { OnErr result (HandsPart (K.written out.old) (string_bytes lines)
+    ensures err { OnErr result (HandsLess (K.written out.old) (string_bytes lines)
         (K.written out.new) (last_lines h.now)) }
     ensures cause { HasIoCause (K.faults out.old) (K.faults out.new) result }
 {
@@ -127,7 +127,7 @@ pub(crate) fn put_rest<K: Sink>(
     requires sums { sums.now ≡ totals.totals_of h.now }
     ensures ok { OnOk result (HandsOn (K.written out.old) (string_bytes lines)
         (K.written out.new) [] (lines_behind h.now)) }
-    ensures err { OnErr result (HandsPart (K.written out.old) (string_bytes lines)
+    ensures err { OnErr result (HandsLess (K.written out.old) (string_bytes lines)
         (K.written out.new) (lines_behind h.now)) }
     ensures cause { HasIoCause (K.faults out.old) (K.faults out.new) result }
 {
@@ -136,7 +136,7 @@ pub(crate) fn put_rest<K: Sink>(
 }
 
 /// Writes the report of the history, with these causes of its events. The report is never held
-/// whole. Where it is refused, a first part of it was written.
+/// whole. Where it is refused, a first part of it was written, and not all.
 #[tactic(auto, using(crate::proofs::Ranged::ranges_of))]
 pub fn report_to<K: Sink>(h: &History, causes: &CauseList, out: &mut K) -> Result<(), IoFault>
     requires run { IsRun h.now }
@@ -151,11 +151,11 @@ pub fn report_to<K: Sink>(h: &History, causes: &CauseList, out: &mut K) -> Resul
     put_rest(h, &totals_of(h, causes), lines, out)
 }
 
-/// Appends the report of the history. Where memory is refused, a first part of it was appended.
+/// Appends the report of the history, and nothing where memory is refused.
 pub fn report(h: &History, out: &mut Vec<u8>) -> Result<(), Memory>
     requires { IsRun h.now }
     ensures ok { OnOk result (out.new.items ≡ out.old.items ++ report.text h.now) }
-    ensures err { OnErr result (AppendsPart out.old.items out.new.items (report.text h.now)) }
+    ensures err { OnErr result (out.new.items ≡ out.old.items) }
 {
     let alloc = *out.allocator();
     let causes = sweep(alloc, h)?;

@@ -1,5 +1,5 @@
 -- How lines reach a sink in pieces.
-use Rattle.std.specs.Prelude.{◌≡◌, ℕ, List, ◌++◌, reverse, Option}
+use Rattle.std.specs.Prelude.{◌≡◌, ℕ, ◌<◌, List, ◌++◌, length, reverse, Option}
 use Rattle.std.specs.Io.KnownBytes.{Appends}
 use Rattle.bm_core.specs.declared.events.History.{History}
 use Rattle.bm_trace.specs.Report.{event_lines, note_line, record_lines, totals_line}
@@ -17,6 +17,12 @@ pub record HandsPart (before : Option (List ℕ)) (waited : List ℕ) (now : Opt
     (text : List ℕ) : Type 0 where
   pub lost : List ℕ
   pub on : HandsOn before waited now lost text
+
+-- the same, and the part that is lost isn't empty
+pub record HandsLess (before : Option (List ℕ)) (waited : List ℕ) (now : Option (List ℕ))
+    (text : List ℕ) : Type 0 where
+  pub part : HandsPart before waited now text
+  pub some : 0 < length part.lost
 
 -- the lines of all events, and behind them those of all records
 abbrev pub all_lines : History → List ℕ

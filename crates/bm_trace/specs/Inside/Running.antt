@@ -16,7 +16,7 @@ use Rattle.bm_trace.specs.Inside.ByFlow.{owner_in}
 use Rattle.bm_trace.specs.Inside.Seen.{as_accepted}
 use Rattle.bm_trace.specs.Inside.Sent.{label_from, owner_from}
 
--- these are the versions of the muxes, as many as there are
+-- these are the versions of the first muxes, as many as the list has
 abbrev pub AreVersions : List Event → List Version → Type 0
 AreVersions past versions =
     (m : MuxId) → m.0 < length versions

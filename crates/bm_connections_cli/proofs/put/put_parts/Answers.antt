@@ -8,7 +8,7 @@ returns-in_err-put_all-clause-err g c =
     let part = c.in_err-put_all.ensures.err in
     on_err _ _
     (text_part _ _ _ c.args.parts.now c.loop-part.part-index part.0 _ c.as_bytes.result.now c.loop-part-test.true
-    (c.as_bytes.ensures.value ∙ c.as_str.ensures ∙ c.part-item.is) c.loop-part.invariant.written part.2)
+    (c.as_bytes.ensures.value ∙ c.as_str.ensures ∙ c.part-item.is) c.loop-part.invariant.written part.1 part.2)
 
 pub loop-part-preserved : goal.loop-part-preserved
 loop-part-preserved g c = record {

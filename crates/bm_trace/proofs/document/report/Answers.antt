@@ -1,9 +1,6 @@
 use Rattle.std.proofs.Common.{◌∙◌, ap, ◌++◌}
-use Rattle.bm_trace.proofs.Parted.{in_memory, no_part, on_err}
+use Rattle.bm_trace.proofs.Parted.{in_memory}
 use Rattle.bm_trace.proofs.document.report.Goals as goal
-
-pub returns-in_err-causes-clause-err : goal.returns-in_err-causes-clause-err
-returns-in_err-causes-clause-err c = on_err _ _ (no_part _ _)
 
 pub returns-clause-ok : goal.returns-clause-ok
 returns-clause-ok c =
