@@ -186,6 +186,79 @@ static TEXT: &str =
      </g>\n\
      </svg>\n";
 
+/// A connection that no server accepts, of ten microseconds.
+static SHORT: [Connection; 1] = [Connection {
+    flow: Flow {
+        src: 0x0a00_0001,
+        dst: 0xc000_0201,
+        sport: 1006,
+        dport: 80,
+    },
+    first: Sight {
+        number: 1,
+        moment: Moment(0),
+    },
+    last: Sight {
+        number: 2,
+        moment: Moment(10_000),
+    },
+    server: None,
+    tally: Tally {
+        accepted: 0,
+        processed: 0,
+        forwarded: 0,
+        reset: 0,
+        dropped: 0,
+        stray: 0,
+    },
+    forwarded: None,
+    broken: None,
+    refused: None,
+}];
+
+static UNACCEPTED: &str =
+    "<svg xmlns='http://www.w3.org/2000/svg' version='1.1' width='1080' height='116' \
+     viewBox='0 0 1080 116' font-family='sans-serif' font-size='11'>\n\
+     <title>connections</title>\n\
+     <rect width='1080' height='116' fill='#ffffff'/>\n\
+     <g stroke-width='4' stroke-linecap='round'>\n\
+     <g stroke='#999999'><line x1='40' y1='20' x2='60' y2='20'/>\
+     <text x='68' y='24' stroke='none'>accepted by no server</text></g>\n\
+     <circle cx='300' cy='20' r='3' fill='#000000' stroke='#ffffff' stroke-width='1'/>\
+     <text x='308' y='24' stroke='none'>broken</text>\n\
+     <circle cx='425' cy='20' r='2' fill='#ffffff' stroke='#000000' stroke-width='1'/>\
+     <text x='433' y='24' stroke='none'>refused</text>\n\
+     <g stroke='#000000' stroke-width='1' stroke-dasharray='4 2'>\
+     <line x1='550' y1='12' x2='550' y2='28'/>\
+     <text x='558' y='24' stroke='none'>change of the table, with its version</text></g>\n\
+     </g>\n\
+     <g text-anchor='middle'>\n\
+     <g stroke='#dddddd'><line x1='40' y1='74' x2='40' y2='92'/>\
+     <text x='40' y='54' stroke='none'>0.000000 s</text>\
+     <text x='40' y='104' stroke='none'>0.000000 s</text></g>\n\
+     <g stroke='#dddddd'><line x1='240' y1='74' x2='240' y2='92'/>\
+     <text x='240' y='54' stroke='none'>0.000002 s</text>\
+     <text x='240' y='104' stroke='none'>0.000002 s</text></g>\n\
+     <g stroke='#dddddd'><line x1='440' y1='74' x2='440' y2='92'/>\
+     <text x='440' y='54' stroke='none'>0.000004 s</text>\
+     <text x='440' y='104' stroke='none'>0.000004 s</text></g>\n\
+     <g stroke='#dddddd'><line x1='640' y1='74' x2='640' y2='92'/>\
+     <text x='640' y='54' stroke='none'>0.000006 s</text>\
+     <text x='640' y='104' stroke='none'>0.000006 s</text></g>\n\
+     <g stroke='#dddddd'><line x1='840' y1='74' x2='840' y2='92'/>\
+     <text x='840' y='54' stroke='none'>0.000008 s</text>\
+     <text x='840' y='104' stroke='none'>0.000008 s</text></g>\n\
+     <g stroke='#dddddd'><line x1='1040' y1='74' x2='1040' y2='92'/>\
+     <text x='1040' y='54' stroke='none'>0.000010 s</text>\
+     <text x='1040' y='104' stroke='none'>0.000010 s</text></g>\n\
+     </g>\n\
+     <g stroke-width='4' stroke-linecap='round'>\n\
+     <g stroke='#999999'><title>client 10.0.0.1:1006 service 192.0.2.1:80 \
+     server none unaccepted</title>\
+     <line x1='40' y1='83' x2='1040' y2='83'/></g>\n\
+     </g>\n\
+     </svg>\n";
+
 static EMPTY: &str =
     "<svg xmlns='http://www.w3.org/2000/svg' version='1.1' width='1080' height='110' \
      viewBox='0 0 1080 110' font-family='sans-serif' font-size='11'>\n\
@@ -242,6 +315,11 @@ fn check(
 #[test]
 fn connections_and_changes_are_drawn(rt: HostRuntime) -> Result<(), Fail> {
     check(&rt, rt.alloc(), &EVENTS, &TABLE, TEXT)
+}
+
+#[test]
+fn microseconds_and_an_unaccepted_connection_are_drawn(rt: HostRuntime) -> Result<(), Fail> {
+    check(&rt, rt.alloc(), &[], &SHORT, UNACCEPTED)
 }
 
 #[test]

@@ -154,7 +154,8 @@ pub fn room_for(alloc: Global, count: usize) -> Result<Vec<Event>, Memory>
 }
 
 /// All events of the logs, whose clocks don't fall, by clock, as `merge_rising` gives them, but by
-/// as many threads. It is made for few logs. The room is best made for as many events as there are.
+/// several threads, at most so many. It is made for few logs. The room is best made for as many
+/// events as there are.
 pub fn merge_rising_beside<R: Threads + Sync>(
     rt: &R,
     alloc: Global,

@@ -85,6 +85,15 @@ Starts left old (Ok reader) =
     IsOpened (left old) reader.order × Keeps_octets (left old) (to_come left reader)
 Starts left old (Err refused) = Refuses (left old) refused.1
 
+-- A refused source stands behind some octets that were read ahead, and these aren't more than a
+-- reader holds.
+abbrev pub StartLeaves : {S : Type 0} → (S → Option (List ℕ)) → S → Result (Reader S) (S × NgFault)
+    → Type 0
+StartLeaves left old (Ok reader) = Unit {0}
+StartLeaves left old (Err refused) =
+    (ahead : List ℕ) × (length ahead ≤ longest_block)
+    × Keeps_octets (left old) (prepend_known ahead (left refused.0))
+
 -- the count rises where `ReadFault` is answered, and stays elsewhere
 abbrev pub StartsWithCause : {S : Type 0} → (S → ℕ) → S → Result (Reader S) (S × NgFault) → Type 0
 StartsWithCause {S} faults old (Ok reader) = faults reader.source ≡ faults old

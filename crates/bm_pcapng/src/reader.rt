@@ -13,7 +13,8 @@ ghost use Rattle.bm_pcapng.specs.Reader.{Advances, EndsWith, GivesNext, HasEnded
 ghost use Rattle.bm_pcapng.specs.Inside.Reader.{GivesStop};
 ghost use Rattle.bm_pcapng.specs.Reader.{IsBounded, IsFresh, KnowsBegan};
 ghost use Rattle.bm_pcapng.specs.Inside.Reader.{IsStopLast, OpensIn};
-ghost use Rattle.bm_pcapng.specs.Reader.{ReadsCapture, Starts, StartsWithCause, octets_in};
+ghost use Rattle.bm_pcapng.specs.Reader.{ReadsCapture, StartLeaves, Starts, StartsWithCause};
+ghost use Rattle.bm_pcapng.specs.Reader.{octets_in};
 ghost use Rattle.bm_pcapng.specs.Reader.{time_began};
 ghost use Rattle.bm_pcapng.specs.Parts.{last_of};
 ghost use Rattle.bm_pcapng.specs.Inside.Parts.{IsLast};
@@ -78,9 +79,11 @@ impl<S: Source> NgReader<S> {
     ghost use Rattle.std.specs.Io.BufRead.{Rests};
     ghost use Rattle.bm_pcapng.specs.contracts.reader.NgReader.{the_row};
 
-    /// A reader of a capture, whose first block is read. The source comes back with a fault.
+    /// A reader of a capture, whose first block is read. The source comes back with a fault, behind
+    /// at most 16,777,216 octets that were read ahead.
     pub fn start(alloc: Global, src: S) -> Result<NgReader<S>, (S, NgFault)>
         ensures starts { Starts S.left src result }
+        ensures leaves { StartLeaves S.left src result }
         ensures fresh { IfOk result IsFresh }
         ensures others { IfErr result (λ refused. IsStartFault refused.1) }
         ensures cause { StartsWithCause S.faults src result }
