@@ -23,6 +23,3 @@ pub use place::{LONGEST_BLOCK, MOST_INTERFACES, Place};
 pub use reader::{NgReader, read_ng};
 pub use step::Step;
 pub use time::Resolution;
-
-#[cfg(test)]
-mod tests;

@@ -1,8 +1,10 @@
+//! Captures of the pcapng form.
 ghost use Rattle.std.specs.Prelude.{◌≤◌};
 
-use super::*;
-use bm_base::{Body, Capture, Flow, Moment, Octets, Reason, Record, Segment, Vip};
+use crate::records::{DATA, SYN, VIPS, check, check_cut, opened, record};
+use bm_base::{Body, Capture, Octets, Reason};
 use bm_io::{MemSource, Source, SureSource};
+use bm_pcapng::{Front, NgFault, NgItem, NgReader, read_ng};
 use std::alloc::{AllocError, Global};
 use std::test::Fail;
 
@@ -78,34 +80,6 @@ const MIXED: [u8; 684] = [
     0x65, 0x66, 0x67, 0x68, 0x69, 0x6a, 0, 0, 0, 0, 0, 0x54,
 ];
 
-const VIPS: [Vip; 1] = [Vip {
-    addr: 0xc000_0201,
-    port: 80,
-}];
-
-const FLOW: Flow = Flow {
-    src: 0x0a00_0001,
-    dst: 0xc000_0201,
-    sport: 1000,
-    dport: 80,
-};
-
-const SYN: Segment = Segment {
-    flow: FLOW,
-    seq: 100,
-    ack: 0,
-    len: 1,
-    flags: 0x02,
-};
-
-const DATA: Segment = Segment {
-    flow: FLOW,
-    seq: 101,
-    ack: 501,
-    len: 10,
-    flags: 0x18,
-};
-
 // What reading these octets gives, where the source gives so many at a time.
 fn read(
     alloc: Global,
@@ -121,27 +95,14 @@ fn read(
     }
 }
 
-fn record(moment: u64, body: Body) -> Record {
-    Record {
-        moment: Moment(moment),
-        body,
-    }
-}
-
 #[test]
 fn orders_and_units_give_the_same_records_however_the_source_cuts(
     rt: HostRuntime,
 ) -> Result<(), Fail> {
-    let want = [
-        record(0, Body::Steerable(SYN)),
-        record(1000, Body::Steerable(DATA)),
-    ];
+    let want = opened();
     for octets in [LITTLE.as_slice(), &BIG, &NANO] {
         for step in [1, 30] {
-            let (capture, packets) = read(rt.alloc(), octets, step)??;
-            assert_eq!(rt; capture.records.items(), want.as_slice());
-            assert_eq!(rt; capture.cut, None);
-            assert_eq!(rt; packets.len(), 2);
+            check(&rt, read(rt.alloc(), octets, step)??, &want, None);
         }
     }
     Ok(())
@@ -149,7 +110,6 @@ fn orders_and_units_give_the_same_records_however_the_source_cuts(
 
 #[test]
 fn sections_and_interfaces_are_kept_apart(rt: HostRuntime) -> Result<(), Fail> {
-    let (capture, packets) = read(rt.alloc(), &MIXED, 13)??;
     let want = [
         record(0, Body::Steerable(SYN)),
         record(5, Body::Steerable(DATA)),
@@ -157,9 +117,7 @@ fn sections_and_interfaces_are_kept_apart(rt: HostRuntime) -> Result<(), Fail> {
         record(5, Body::Steerable(DATA)),
         record(7000, Body::Steerable(DATA)),
     ];
-    assert_eq!(rt; capture.records.items(), want.as_slice());
-    assert_eq!(rt; capture.cut, None);
-    assert_eq!(rt; packets.len(), 5);
+    check(&rt, read(rt.alloc(), &MIXED, 13)??, &want, None);
     Ok(())
 }
 
@@ -202,12 +160,9 @@ fn a_cut_capture_keeps_the_records_before_the_cut(rt: HostRuntime) -> Result<(),
         (120, 1, None),
         (203, 1, Some(2)),
     ];
-    for (end, count, cut) in rows {
-        let octets = LITTLE.get(..end).unwrap_or(&[]);
-        let (capture, packets) = read(rt.alloc(), octets, 100)??;
-        assert_eq!(rt; capture.records.items().len(), count, "at {end}");
-        assert_eq!(rt; capture.cut, cut, "at {end}");
-        assert_eq!(rt; packets.len() as usize, count, "at {end}");
+    for row in rows {
+        let octets = LITTLE.get(..row.0).unwrap_or(&[]);
+        check_cut(&rt, read(rt.alloc(), octets, 100)??, row);
     }
     let answer = read(rt.alloc(), &LITTLE[..11], 100)?;
     assert!(rt; matches!(answer, Err(NgFault::NotACapture)));

@@ -1,8 +1,10 @@
+//! Captures of the classic form.
 ghost use Rattle.std.specs.Prelude.{◌≤◌};
 
-use super::*;
-use bm_base::{Body, Capture, Flow, Moment, Octets, Reason, Record, Segment, Vip};
+use crate::records::{DATA, SYN, VIPS, check, check_cut, opened, record};
+use bm_base::{Body, Capture, Octets, Reason};
 use bm_io::{MemSource, SureSource};
+use bm_pcap::{Item, PcapFault, PcapReader, read_capture};
 use std::alloc::{AllocError, Global};
 use std::test::Fail;
 
@@ -49,34 +51,6 @@ const ETHERNET: [u8; 443] = [
     0, 0, 0, 0, 0, 0, 0,
 ];
 
-const VIPS: [Vip; 1] = [Vip {
-    addr: 0xc000_0201,
-    port: 80,
-}];
-
-const FLOW: Flow = Flow {
-    src: 0x0a00_0001,
-    dst: 0xc000_0201,
-    sport: 1000,
-    dport: 80,
-};
-
-const SYN: Segment = Segment {
-    flow: FLOW,
-    seq: 100,
-    ack: 0,
-    len: 1,
-    flags: 0x02,
-};
-
-const DATA: Segment = Segment {
-    flow: FLOW,
-    seq: 101,
-    ack: 501,
-    len: 10,
-    flags: 0x18,
-};
-
 // What reading these octets gives, where the source gives so many at a time.
 fn read(
     alloc: Global,
@@ -92,25 +66,12 @@ fn read(
     }
 }
 
-fn record(moment: u64, body: Body) -> Record {
-    Record {
-        moment: Moment(moment),
-        body,
-    }
-}
-
 #[test]
 fn both_orders_give_the_same_records_however_the_source_cuts(rt: HostRuntime) -> Result<(), Fail> {
-    let want = [
-        record(0, Body::Steerable(SYN)),
-        record(1000, Body::Steerable(DATA)),
-    ];
+    let want = opened();
     for octets in [&LITTLE, &BIG] {
         for step in 1..50 {
-            let (capture, packets) = read(rt.alloc(), octets, step)??;
-            assert_eq!(rt; capture.records.items(), want.as_slice());
-            assert_eq!(rt; capture.cut, None);
-            assert_eq!(rt; packets.len(), 2);
+            check(&rt, read(rt.alloc(), octets, step)??, &want, None);
         }
     }
     Ok(())
@@ -118,7 +79,6 @@ fn both_orders_give_the_same_records_however_the_source_cuts(rt: HostRuntime) ->
 
 #[test]
 fn records_have_their_reasons_and_the_last_is_cut_short(rt: HostRuntime) -> Result<(), Fail> {
-    let (capture, packets) = read(rt.alloc(), &ETHERNET, 7)??;
     let want = [
         record(0, Body::Unsteered(Reason::NotIpv4)),
         record(1000, Body::Unsteered(Reason::NotIpv4)),
@@ -127,9 +87,7 @@ fn records_have_their_reasons_and_the_last_is_cut_short(rt: HostRuntime) -> Resu
         record(4000, Body::Steerable(SYN)),
         record(5000, Body::Steerable(DATA)),
     ];
-    assert_eq!(rt; capture.records.items(), want.as_slice());
-    assert_eq!(rt; capture.cut, Some(7));
-    assert_eq!(rt; packets.len(), 6);
+    check(&rt, read(rt.alloc(), &ETHERNET, 7)??, &want, Some(7));
     Ok(())
 }
 
@@ -168,12 +126,9 @@ fn a_cut_capture_keeps_the_records_before_the_cut(rt: HostRuntime) -> Result<(),
         (145, 1, Some(2)),
         (146, 2, None),
     ];
-    for (end, count, cut) in rows {
-        let octets = LITTLE.get(..end).unwrap_or(&[]);
-        let (capture, packets) = read(rt.alloc(), octets, 100)??;
-        assert_eq!(rt; capture.records.items().len(), count, "at {end}");
-        assert_eq!(rt; capture.cut, cut, "at {end}");
-        assert_eq!(rt; packets.len() as usize, count, "at {end}");
+    for row in rows {
+        let octets = LITTLE.get(..row.0).unwrap_or(&[]);
+        check_cut(&rt, read(rt.alloc(), octets, 100)??, row);
     }
     Ok(())
 }

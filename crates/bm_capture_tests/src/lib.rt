@@ -1,0 +1,10 @@
+//! Tests of `bm_pcap` and `bm_pcapng`, in a crate of their own: a run of tests proves its crate
+//! again.
+#![tactic(auto)]
+
+#[cfg(test)]
+mod pcap;
+#[cfg(test)]
+mod pcapng;
+#[cfg(test)]
+mod records;
