@@ -25,6 +25,3 @@ pub use summary::{causes_text, late_text, servers_text};
 pub use table::connections;
 pub use text::table_text;
 pub use times::{Clock, SecondsText, TimeText};
-
-#[cfg(test)]
-mod tests;

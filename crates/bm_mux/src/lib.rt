@@ -7,6 +7,3 @@ mod notes;
 
 pub use item::{MuxItem, Steered};
 pub use mux::Mux;
-
-#[cfg(test)]
-mod tests;

@@ -9,6 +9,3 @@ mod told;
 pub use look::{Guard, Look};
 pub use poster::{Poster, board};
 pub use told::Told;
-
-#[cfg(test)]
-mod tests;

@@ -12,6 +12,3 @@ mod shards;
 mod slot;
 
 pub use replaying::replay;
-
-#[cfg(test)]
-mod tests;

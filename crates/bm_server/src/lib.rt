@@ -11,6 +11,3 @@ mod server;
 pub use fault::HandleFault;
 pub use seat::ServerSeat;
 pub use server::{Books, Server};
-
-#[cfg(test)]
-mod tests;

@@ -13,6 +13,3 @@ mod view;
 pub use booked::Booked;
 pub use seat::TurnSeat;
 pub use turnstile::Turnstile;
-
-#[cfg(test)]
-mod tests;

@@ -19,6 +19,3 @@ pub use span::Span;
 pub use stop::Stop;
 pub use work::work_all;
 pub use worker::MuxWorker;
-
-#[cfg(test)]
-mod tests;

@@ -1,7 +1,0 @@
-use Rattle.std.proofs.Common.{◌≡◌, length}
-use Rattle.std.specs.Prelude.{All}
-use Rattle.bm_mux.specs.Muxes.{IsItem}
-use Rattle.bm_mux.proofs.tests.full_batch.Given as goal
-
-abbrev pub invariant-loop-packet : goal.invariant-loop-packet
-invariant-loop-packet l = (length l.items.items ≡ l.packet) × All IsItem l.items.items

@@ -1,0 +1,223 @@
+//! Small stages with the packets of their captures, and their replay by one mux.
+ghost use Rattle.std.specs.Prelude.{◌≡◌, ◌<◌, ◌≤◌, ◌^◌, ◌∷◌, [], if◌then◌else◌, IfOk, length};
+ghost use Rattle.bm_base.specs.Captures.{IsReplayable};
+ghost use Rattle.bm_core.specs.Runs.{IsRun};
+ghost use Rattle.bm_core.specs.Stages.{IsSound};
+ghost use Rattle.bm_link.specs.Fits.{ArePackets};
+ghost use Rattle.bm_table.specs.Settings.{IsWithin, plain_setting};
+ghost use Rattle.bm_table.specs.declared.script.Command.TheVariants.{Close as closes};
+ghost use Rattle.bm_table.specs.declared.plan.Kind.TheVariants.{Shift as shift};
+
+use bm_base::{
+    Capture, Fate, Flow, Hop, List, Memory, Moment, Octets, Record, ServerId, Version, Vip,
+};
+use bm_core::{History, Stage};
+use bm_fault::Faults;
+use bm_link::classify;
+use bm_replay::replay;
+use bm_route::Route;
+use bm_table::{Change, Command, Kind, Move, Plan, Script, Setting};
+use std::alloc::Global;
+use std::test::Fail;
+
+const SYN: u8 = 0x02;
+
+pub(crate) const PSH_ACK: u8 = 0x18;
+
+/// A segment: source port, flags, sequence number, length.
+pub(crate) type Row = (u16, u8, u32, u16);
+
+pub(crate) const OPENING: Row = (1000, SYN, 100, 1);
+
+pub(crate) const DATA: Row = (1000, PSH_ACK, 101, 10);
+
+/// The first segment of another connection.
+pub(crate) const OTHER: Row = (1002, SYN, 100, 1);
+
+pub(crate) fn flow(sport: u16) -> Flow
+    ensures { result ≡ record { src = 0x0a00_0001; dst = 0xc000_0201; sport = sport; dport = 80 } }
+{
+    Flow {
+        src: 0x0a00_0001,
+        dst: 0xc000_0201,
+        sport,
+        dport: 80,
+    }
+}
+
+/// The header of a packet from 10.0.0.1 to 192.0.2.1 that has so many octets.
+fn ip_header(total: u16) -> [u8; 20] {
+    let [high, low] = total.to_be_bytes();
+    [
+        0x45, 0, high, low, 0, 0, 0x40, 0, 64, 6, 0, 0, 10, 0, 0, 1, 192, 0, 2, 1,
+    ]
+}
+
+/// The header of a segment to port 80, with 501 as its acknowledgment number.
+fn tcp_header(sport: u16, flags: u8, seq: u32) -> [u8; 20] {
+    let [s0, s1] = sport.to_be_bytes();
+    let [n0, n1, n2, n3] = seq.to_be_bytes();
+    [
+        s0, s1, 0, 80, n0, n1, n2, n3, 0, 0, 1, 0xf5, 0x50, flags, 0, 0, 0, 0, 0, 0,
+    ]
+}
+
+/// The packet of this segment, with zeros as its data.
+fn packet(alloc: Global, row: Row) -> Result<Vec<u8>, Memory>
+    ensures { IfOk result (λ octets. length octets.items < 2 ^ 32) }
+{
+    let (sport, flags, seq, len) = row;
+    let data = len.saturating_sub(u16::from(flags == SYN));
+    let total = data.saturating_add(40);
+    let mut octets = Vec::from_slice(alloc, &ip_header(total))?;
+    octets.extend_from_slice(&tcp_header(sport, flags, seq))?;
+    octets.resize(usize::from(total), 0)?;
+    Ok(octets)
+}
+
+/// These segments, so many nanoseconds apart, and their packets.
+pub(crate) fn capture(alloc: Global, gap: u64, rows: &[Row]) -> Result<(Capture, Octets), Memory>
+    requires gap { gap ≤ 100_000_000_000 }
+    requires few { length rows.now ≤ 20000 }
+    ensures fit { IfOk result (λ read. IsReplayable plain_setting.vips read.0) }
+    ensures packets { IfOk result (λ read. ArePackets read.0.records read.1) }
+{
+    let vip = Vip {
+        addr: 0xc000_0201,
+        port: 80,
+    };
+    let mut records = Vec::new(alloc);
+    let mut packets = Octets::new(alloc);
+    let mut next = 0;
+    for i in 0..rows.len() {
+        let octets = packet(alloc, rows[i])?;
+        let (body, packet) = classify(101, &octets, &[vip]);
+        packets.push(packet)?;
+        let moment = Moment(next);
+        records.push(Record { moment, body })?;
+        next += gap;
+    }
+    let records = List::of(records);
+    Ok((Capture { records, cut: None }, packets))
+}
+
+/// The plain setting with one shard of this capacity.
+fn setting(alloc: Global, capacity: u32) -> Result<Setting, Memory>
+    ensures { IfOk result (λ s. s ≡ record plain_setting { shards = 1; capacity = capacity }) }
+{
+    let mut setting = Setting::plain(alloc)?;
+    setting.shards = 1;
+    setting.capacity = capacity;
+    Ok(setting)
+}
+
+/// Two closes of a flow at server 1, or none.
+fn two_closes(alloc: Global, wanted: bool) -> Result<Vec<Command>, Memory>
+    ensures { IfOk result (λ commands. commands.items ≡ (if wanted
+        then closes (record { 0 = 500 }) (record { 0 = 1 })
+        (record { src = 0x0a00_0001; dst = 0xc000_0201; sport = 1000; dport = 80 })
+        ∷ closes (record { 0 = 600 }) (record { 0 = 1 })
+        (record { src = 0x0a00_0001; dst = 0xc000_0201; sport = 1000; dport = 80 }) ∷ []
+        else [])) }
+{
+    let mut commands = Vec::new(alloc);
+    if wanted {
+        let flow = flow(1000);
+        let server = ServerId(1);
+        commands.push(Command::Close {
+            at: Moment(500),
+            server,
+            flow,
+        })?;
+        commands.push(Command::Close {
+            at: Moment(600),
+            server,
+            flow,
+        })?;
+    }
+    Ok(commands)
+}
+
+/// No changes, and two closes or no command.
+pub(crate) fn bare_stage(
+    alloc: Global,
+    capacity: u32,
+    closing: bool,
+    capture: Capture,
+) -> Result<Stage, Memory>
+    requires capacity { IsWithin 1 65536 capacity }
+    requires capture { IsReplayable plain_setting.vips capture }
+    ensures sound { IfOk result IsSound }
+    ensures capture { IfOk result (λ stage. stage.capture ≡ capture) }
+    ensures muxes { IfOk result (λ stage. stage.script.setting.muxes ≡ 1) }
+{
+    let script = Script {
+        setting: setting(alloc, capacity)?,
+        plan: Plan::new(alloc, 8, &[ServerId(1), ServerId(2)])?,
+        commands: List::of(two_closes(alloc, closing)?),
+    };
+    Ok(Stage { script, capture })
+}
+
+/// Bucket 4 goes to server 2 at 500.
+fn moved_plan(alloc: Global) -> Result<Plan, Fail>
+    ensures { IfOk result (λ plan. plan ≡ record {
+      buckets = 8;
+      servers = record { 0 = 1 } ∷ record { 0 = 2 } ∷ [];
+      changes =
+          record {
+            moment = record { 0 = 500 };
+            kind = shift;
+            moves =
+                record { bucket = 4; to = record { 0 = 2 } } ∷ [];
+          } ∷ [];
+    }) }
+{
+    let mut plan = Plan::new(alloc, 8, &[ServerId(1), ServerId(2)])?;
+    let to = ServerId(2);
+    plan.push(Change {
+        moment: Moment(500),
+        kind: Kind::Shift,
+        moves: List::of(vec![in alloc; Move { bucket: 4, to }]?),
+    })?;
+    Ok(plan)
+}
+
+pub(crate) fn moved_stage(alloc: Global, capture: Capture) -> Result<Stage, Fail>
+    requires { IsReplayable plain_setting.vips capture }
+    ensures sound { IfOk result IsSound }
+    ensures capture { IfOk result (λ stage. stage.capture ≡ capture) }
+    ensures muxes { IfOk result (λ stage. stage.script.setting.muxes ≡ 1) }
+{
+    let script = Script {
+        setting: setting(alloc, 4_096)?,
+        plan: moved_plan(alloc)?,
+        commands: List::of(vec![in alloc; Command::Change(Version(1))]?),
+    };
+    Ok(Stage { script, capture })
+}
+
+/// The history of the stage's replay by one mux: packet 2 is lost and packet 3 comes three times
+/// where `faulty` is set, and each other sending has one copy.
+pub(crate) fn history(
+    alloc: Global,
+    stage: Stage,
+    packets: Octets,
+    faulty: bool,
+) -> Result<History, Memory>
+    requires sound { IsSound stage }
+    requires packets { ArePackets stage.capture.records packets }
+    requires muxes { stage.script.setting.muxes ≡ 1 }
+    ensures { IfOk result IsRun }
+{
+    let route = Route::new(|_packet: u32, _flow: &Flow| -> u16 { 0 }, 1);
+    let faults = Faults::new(|packet: u32, _hop: Hop| -> Fate {
+        let copies = match packet {
+            2 if faulty => 0,
+            3 if faulty => 3,
+            _ => 1,
+        };
+        Fate { copies, delay: 0 }
+    });
+    replay(alloc, stage, packets, &route, &faults)
+}

@@ -1,0 +1,20 @@
+//! Tests of `bm_turnstile`, `bm_publish`, `bm_server`, `bm_mux` and `bm_worker`, in a crate of
+//! their own: a run of tests proves its crate again.
+#![tactic(auto)]
+
+#[cfg(test)]
+mod mux;
+#[cfg(test)]
+mod packets;
+#[cfg(test)]
+mod plans;
+#[cfg(test)]
+mod publish;
+#[cfg(test)]
+mod server;
+#[cfg(test)]
+mod turnstile;
+#[cfg(test)]
+mod vectors;
+#[cfg(test)]
+mod worker;

@@ -1,0 +1,96 @@
+//! Looks beside a post.
+ghost use Rattle.std.specs.Prelude.{◌≡◌, ◌<◌, Some, IfOk};
+ghost use Rattle.bm_table.specs.Tables.{next_change};
+ghost use Rattle.bm_publish.specs.Posts.{last_post, last_version};
+
+use crate::plans::{first_change, one_move};
+use bm_base::{Memory, Moment, Version};
+use bm_publish::{Look, Poster, Told, board};
+use bm_table::Change;
+use std::alloc::Global;
+use std::sync::Wait;
+use std::test::Fail;
+use std::thread::{Threads, join};
+
+/// The version and the clock that the look shows.
+fn shown(look: Look) -> (Look, Option<(Version, Moment)>)
+    ensures { result.0.board ≡ look.board }
+{
+    match look.look() {
+        Ok(guard) => {
+            let seen = (guard.version(), guard.clock());
+            (guard.leave(), Some(seen))
+        }
+        Err((look, _why)) => (look, None),
+    }
+}
+
+/// Whether each of a thousand looks shows version 0 or 1 with its clock, and none falls.
+fn watch(look: Look) -> (Look, bool)
+    ensures { result.0.board ≡ look.board }
+{
+    let mut look = look;
+    let mut last = Version(0);
+    for _ in 0..1_000u32 {
+        let (next, seen) = shown(look);
+        look = next;
+        let (version, clock) = seen.unwrap_or((Version(2), Moment(0)));
+        if version < last || version > Version(1) || clock.0 != u64::from(version.0) * 501 {
+            return (look, false);
+        }
+        last = version;
+    }
+    (look, true)
+}
+
+/// Posts the change, and tells of it.
+fn post<R: Wait>(rt: &R, poster: &mut Poster, change: Change) -> Result<Told, Memory>
+    requires next { next_change poster.old.plan (last_version poster.old) ≡ Some change }
+    requires later { last_post poster.old < 501 }
+    ensures { IfOk result (λ told. told.board ≡ poster.old.board) }
+{
+    poster.post(rt, change, Moment(501))?;
+    Ok(poster.tell())
+}
+
+/// Whether the looks beside the post were right, and what the look shows once it heard of it.
+fn beside_a_post<R: Threads + Wait + Sync>(
+    rt: &R,
+    poster: &mut Poster,
+    look: Look,
+    change: Change,
+) -> Result<(bool, Option<(Version, Moment)>), Memory>
+    requires board { look.board ≡ poster.old.board }
+    requires next { next_change poster.old.plan (last_version poster.old) ≡ Some change }
+    requires later { last_post poster.old < 501 }
+{
+    let (told, (mut look, right)) = join(rt, || post(rt, poster, change), || watch(look));
+    look.hear(told?);
+    let (_look, seen) = shown(look);
+    Ok((right, seen))
+}
+
+fn day<R: Threads + Wait + Sync>(
+    rt: &R,
+    alloc: Global,
+) -> Result<(bool, Option<(Version, Moment)>), Memory> {
+    let plan = one_move(alloc)?;
+    let change = first_change(&plan)?;
+    let (mut poster, mut looks) = board(rt, alloc, &plan, 2)?;
+    let seen = match looks.pop() {
+        Some(look) => beside_a_post(rt, &mut poster, look, change),
+        None => Err(Memory),
+    };
+    poster.end(rt);
+    seen
+}
+
+#[test]
+fn looks_beside_a_post_show_it_or_not_and_one_that_heard_of_it_does(
+    rt: HostRuntime,
+) -> Result<(), Fail> {
+    let (right, seen) = day(&rt, rt.alloc()).map_err(|_| "memory")?;
+    assert!(rt; right);
+    assert_eq!(rt; seen, Some((Version(1), Moment(501))));
+    Ok(())
+}

@@ -1,0 +1,85 @@
+//! One copy at two servers.
+ghost use Rattle.std.specs.Prelude.{◌≡◌, ◌<◌, length, map};
+ghost use Rattle.bm_turnstile.specs.Sittings.{who};
+ghost use Rattle.bm_server.specs.Seats.{most_turns, row};
+
+use crate::packets::{FLOW, syn};
+use crate::vectors::alone;
+use bm_base::{Hop, Memory, Moment, MuxId, ServerId, Tag, Version};
+use bm_encap::wrap;
+use bm_rows::front;
+use bm_server::{HandleFault, Server, ServerSeat};
+use bm_shard::ShardReply;
+use bm_table::Retirement;
+use std::alloc::Global;
+use std::sync::Wait;
+use std::test::Fail;
+
+/// Direct to server 2, where server 1 had the bucket until the moment 500.
+const TAG: Tag = Tag {
+    hop: Hop::Direct,
+    dest: ServerId(2),
+    prev: Some(ServerId(1)),
+    stamp: Moment(500),
+    version: Version(1),
+    mux: MuxId(0),
+};
+
+/// What a server answers to the copy, to a close of its flow and to a retirement of its shard 0.
+#[derive(Drop)]
+struct Answers {
+    arrived: Result<ShardReply, HandleFault>,
+    closed: Result<ShardReply, Memory>,
+    retired: Result<ShardReply, Memory>,
+}
+
+fn ask<R: Wait>(rt: &R, server: &Server, seat: &mut ServerSeat, octets: &[u8]) -> Answers
+    requires shard { 0 < length server.now.tables }
+    requires who { map who seat.old ≡ row server.now 0 }
+    requires new { most_turns seat.old ≡ 0 }
+    ensures who { map who seat.new ≡ row server.now 0 }
+{
+    let arrived = server.handle(rt, seat, 0, octets, Moment(505));
+    let closed = server.close_flow(rt, seat, FLOW, Moment(600));
+    let retired = server.retire(rt, seat, 0, Moment(700), Retirement::Done);
+    Answers {
+        arrived,
+        closed,
+        retired,
+    }
+}
+
+/// What the server of this number answers, and how many entries its books then have.
+fn ask_server<R: Wait>(rt: &R, alloc: Global, id: ServerId) -> Result<(Answers, usize), Memory> {
+    let mut octets = Vec::new(alloc);
+    wrap(&TAG, &syn(1000), &mut octets)?;
+    let (server, seats) = Server::new(alloc, id, 2, 8, 1000, 1)?;
+    let (mut seat, _) = front(seats);
+    let answers = ask(rt, &server, &mut seat, &octets);
+    let back = alone(alloc, seat)?;
+    let books = server.finish(alloc, back)?;
+    let entries = match books.items() {
+        [first, second] => first.history().len().saturating_add(second.history().len()),
+        _ => 0,
+    };
+    Ok((answers, entries))
+}
+
+#[test]
+fn a_copy_is_taken_at_its_destination_alone(rt: HostRuntime) -> Result<(), Fail> {
+    let (there, entries) = ask_server(&rt, rt.alloc(), ServerId(2)).map_err(|_| "memory")?;
+    assert!(rt; matches!(there.arrived, Ok(ShardReply::Arrived { .. })));
+    assert!(rt; matches!(there.closed, Ok(ShardReply::Closed { closed: true, .. })));
+    assert!(rt; matches!(there.retired, Ok(ShardReply::Retired { .. })));
+    assert_eq!(rt; entries, 3);
+    let (elsewhere, entries) = ask_server(&rt, rt.alloc(), ServerId(3)).map_err(|_| "memory")?;
+    assert_eq!(rt; elsewhere.arrived.err(), Some(HandleFault::NotMine));
+    assert!(rt;
+        matches!(
+            elsewhere.closed,
+            Ok(ShardReply::Closed { closed: false, .. })
+        )
+    );
+    assert_eq!(rt; entries, 2);
+    Ok(())
+}

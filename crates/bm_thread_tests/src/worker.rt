@@ -1,0 +1,297 @@
+//! Two muxes side by side.
+ghost use Rattle.std.specs.Prelude.{◌≡◌, ℕ, ◌+◌, ◌*◌, ◌^◌, ◌<◌, [], ◌∷◌, ◌++◌, List, All, IfOk};
+ghost use Rattle.std.specs.Prelude.{OnOk};
+ghost use Rattle.std.specs.Prelude.{Option, Some, true, is_some, length, slice_get};
+ghost use Rattle.bm_base.specs.declared.ids.MuxId.{MuxId as MuxNumber};
+ghost use Rattle.bm_base.specs.Captures.{IsFit, IsReplayable, steerable};
+ghost use Rattle.bm_core.specs.Stages.{IsSound};
+ghost use Rattle.bm_link.specs.Fits.{ArePackets, IsPacketOf};
+ghost use Rattle.bm_server.specs.Seats.{IsNewSeat};
+ghost use Rattle.bm_table.specs.Settings.{plain_setting};
+ghost use Rattle.bm_worker.specs.Deeds.{Suits};
+ghost use Rattle.bm_worker.specs.Phases.{CanWork};
+
+use crate::packets::syn;
+use crate::vectors::alone;
+use bm_base::{
+    Body, Capture, Fate, Hop, List, Memory, Moment, MuxId, Octets, Record, ServerId, Vip,
+};
+use bm_core::Stage;
+use bm_fault::Faults;
+use bm_io::OpenGate;
+use bm_link::classify;
+use bm_mux::Mux;
+use bm_publish::{Look, Poster, board};
+use bm_server::{Server, ServerSeat};
+use bm_table::{Plan, Script, Setting};
+use bm_worker::{MuxWorker, Porter, Shared, Span, work_all};
+use std::alloc::Global;
+use std::sync::Wait;
+use std::test::Fail;
+use std::thread::Threads;
+
+/// The record of a SYN from this port, whose packet is put behind the others.
+fn add_syn(sport: u16, packets: &mut Octets) -> Result<Record, Memory>
+    requires { length packets.old < 2 }
+    ensures fit { IfOk result (λ r. IsFit plain_setting.vips r) }
+    ensures steered { IfOk result (λ r. is_some (steerable (Some r)) ≡ true) }
+    ensures moment { IfOk result (λ r. r.moment.0 ≡ 0) }
+    ensures packet { IfOk result (λ r. (packet : List ℕ)
+        × (packets.new ≡ packets.old ++ packet ∷ []) × IsPacketOf r.body packet) }
+{
+    let vip = Vip {
+        addr: 0xc000_0201,
+        port: 80,
+    };
+    let octets = syn(sport);
+    let (body, packet) = classify(101, &octets, &[vip]);
+    let Body::Steerable(segment) = body else {
+        return Err(Memory);
+    };
+    packets.push(packet)?;
+    Ok(Record {
+        moment: Moment(0),
+        body: Body::Steerable(segment),
+    })
+}
+
+/// Two connections begin.
+fn two_syns(alloc: Global) -> Result<(Capture, Octets), Memory>
+    ensures fit { IfOk result (λ read. IsReplayable plain_setting.vips read.0) }
+    ensures packets { IfOk result (λ read. ArePackets read.0.records read.1) }
+    ensures count { IfOk result (λ read. length read.0.records ≡ 2) }
+    ensures first { IfOk result
+        (λ read. is_some (steerable (slice_get read.0.records 0)) ≡ true) }
+    ensures second { IfOk result
+        (λ read. is_some (steerable (slice_get read.0.records 1)) ≡ true) }
+{
+    let mut packets = Octets::new(alloc);
+    let first = add_syn(1000, &mut packets)?;
+    let second = add_syn(1001, &mut packets)?;
+    let records = List::of(vec![in alloc; first, second]?);
+    Ok((Capture { records, cut: None }, packets))
+}
+
+/// The plain setting with two muxes and one server of one shard.
+fn small_setting(alloc: Global) -> Result<Setting, Memory>
+    ensures { IfOk result (λ s. s ≡ record plain_setting {
+      muxes = 2;
+      shards = 1;
+      servers = record { 0 = 1 } ∷ [];
+      lags = 0 ∷ 0 ∷ [];
+    }) }
+{
+    let mut setting = Setting::plain(alloc)?;
+    setting.muxes = 2;
+    setting.shards = 1;
+    setting.servers = List::of(vec![in alloc; ServerId(1)]?);
+    setting.lags = List::of(vec![in alloc; 0, 0]?);
+    Ok(setting)
+}
+
+/// The capture is played without a command.
+fn small_stage(alloc: Global, capture: Capture) -> Result<Stage, Memory>
+    requires { IsReplayable plain_setting.vips capture }
+    ensures sound { IfOk result IsSound }
+    ensures capture { IfOk result (λ stage. stage.capture ≡ capture) }
+    ensures setting { IfOk result (λ stage. (stage.script.setting.shards ≡ 1)
+        × (stage.script.setting.capacity ≡ 4096)
+        × (stage.script.setting.timeout ≡ 240 * 10 ^ 9)) }
+    ensures plan { IfOk result (λ stage. stage.script.plan
+        ≡ record { buckets = 8; servers = record { 0 = 1 } ∷ []; changes = [] }) }
+{
+    let script = Script {
+        setting: small_setting(alloc)?,
+        plan: Plan::new(alloc, 8, &[ServerId(1)])?,
+        commands: List::of(Vec::new(alloc)),
+    };
+    Ok(Stage { script, capture })
+}
+
+/// The last of the seats, which is that of this number.
+fn last_seat(
+    server: &Server,
+    seats: &mut Vec<ServerSeat>,
+    number: u16,
+) -> Result<ServerSeat, Memory>
+    requires count { length seats.old.items ≡ number + 1 }
+    requires new { (i : ℕ) (seat : _) → slice_get seats.old.items i ≡ Some seat
+        → IsNewSeat server.now i seat }
+    ensures count { OnOk result (length seats.new.items ≡ number) }
+    ensures new { OnOk result ((i : ℕ) (seat : _) → slice_get seats.new.items i ≡ Some seat
+        → IsNewSeat server.now i seat) }
+    ensures seat { IfOk result (λ seat. IsNewSeat server.now number seat) }
+{
+    match seats.pop() {
+        Some(seat) => Ok(seat),
+        None => Err(Memory),
+    }
+}
+
+/// The worker of the mux of this number, which has heard what is posted.
+fn worker(
+    alloc: Global,
+    stage: &Stage,
+    server: &Server,
+    number: u16,
+    look: Look,
+    seat: ServerSeat,
+    poster: &Poster,
+) -> Result<MuxWorker, Memory>
+    requires number { number < 2 }
+    requires sound { IsSound stage.now }
+    requires records { length stage.now.capture.records ≡ 2 }
+    requires plan { poster.now.plan ≡ stage.now.script.plan }
+    requires look { look ≡ poster.now }
+    requires seat { IsNewSeat server.now (number + 1) seat }
+    ensures { IfOk result (λ w. (routes : List (Option MuxNumber))
+        → CanWork stage.now (server.now ∷ []) routes
+        (record { from = 0; until = 2; after = record { 0 = 0 } }) w) }
+{
+    let seats = alone(alloc, seat)?;
+    let mux = Mux::new(alloc, MuxId(number), look, stage.script.setting.buckets);
+    Ok(MuxWorker {
+        mux,
+        porter: Porter::new(number + 1, seats),
+        steps: 0,
+        told: Some(poster.tell()),
+        stop: None,
+    })
+}
+
+/// Two workers.
+fn crew(
+    alloc: Global,
+    stage: &Stage,
+    server: &Server,
+    seats: Vec<ServerSeat>,
+    looks: (Look, Look),
+    poster: &Poster,
+) -> Result<Vec<MuxWorker>, Memory>
+    requires sound { IsSound stage.now }
+    requires records { length stage.now.capture.records ≡ 2 }
+    requires plan { poster.now.plan ≡ stage.now.script.plan }
+    requires looks { (looks.0 ≡ poster.now) × (looks.1 ≡ poster.now) }
+    requires count { length seats.items ≡ 3 }
+    requires new { (i : ℕ) (seat : _) → slice_get seats.items i ≡ Some seat
+        → IsNewSeat server.now i seat }
+    ensures { IfOk result (λ workers. (routes : List (Option MuxNumber))
+        → All (CanWork stage.now (server.now ∷ []) routes
+        (record { from = 0; until = 2; after = record { 0 = 0 } })) workers.items) }
+{
+    let mut seats = seats;
+    let seat = last_seat(server, &mut seats, 2)?;
+    let second = worker(alloc, stage, server, 1, looks.1, seat, poster)?;
+    let seat = last_seat(server, &mut seats, 1)?;
+    let first = worker(alloc, stage, server, 0, looks.0, seat, poster)?;
+    Ok(vec![in alloc; first, second]?)
+}
+
+/// Mux 0 has the first packet, mux 1 the second.
+fn carry<W: Threads + Wait + Sync>(
+    rt: &W,
+    alloc: Global,
+    stage: &Stage,
+    octets: &Octets,
+    servers: &[Server],
+    workers: &mut [MuxWorker],
+)
+    requires sound { IsSound stage.now }
+    requires packets { ArePackets stage.now.capture.records octets.now }
+    requires suits { Suits stage.now servers.now }
+    requires count { length stage.now.capture.records ≡ 2 }
+    requires first { is_some (steerable (slice_get stage.now.capture.records 0)) ≡ true }
+    requires second { is_some (steerable (slice_get stage.now.capture.records 1)) ≡ true }
+    requires can { (routes : List (Option MuxNumber)) → All (CanWork stage.now servers.now routes
+        (record { from = 0; until = 2; after = record { 0 = 0 } })) workers.old }
+{
+    let routes = [Some(MuxId(0)), Some(MuxId(1))];
+    let faults = Faults::new(|_packet: u32, _hop: Hop| -> Fate {
+        Fate {
+            copies: 1,
+            delay: 0,
+        }
+    });
+    let shared = Shared {
+        alloc,
+        stage,
+        octets,
+        routes: &routes,
+        servers,
+        faults: &faults,
+        gate: &OpenGate,
+    };
+    let span = Span {
+        from: 0,
+        until: 2,
+        after: Moment(0),
+    };
+    work_all(rt, &shared, span, workers);
+    let Shared {
+        alloc: _alloc,
+        stage: _stage,
+        octets: _octets,
+        routes: _routes,
+        servers: _servers,
+        faults: _faults,
+        gate: _gate,
+    } = shared;
+}
+
+/// The workers of a run of one server, after its only phase.
+fn carry_beside_a_board<W: Threads + Wait + Sync>(
+    rt: &W,
+    alloc: Global,
+    stage: &Stage,
+    octets: &Octets,
+    looks: (Look, Look),
+    poster: &Poster,
+) -> Result<Vec<MuxWorker>, Memory>
+    requires sound { IsSound stage.now }
+    requires packets { ArePackets stage.now.capture.records octets.now }
+    requires setting { (stage.now.script.setting.shards ≡ 1)
+        × (stage.now.script.setting.capacity ≡ 4096)
+        × (stage.now.script.setting.timeout ≡ 240 * 10 ^ 9) }
+    requires plan { stage.now.script.plan
+        ≡ record { buckets = 8; servers = record { 0 = 1 } ∷ []; changes = [] } }
+    requires count { length stage.now.capture.records ≡ 2 }
+    requires first { is_some (steerable (slice_get stage.now.capture.records 0)) ≡ true }
+    requires second { is_some (steerable (slice_get stage.now.capture.records 1)) ≡ true }
+    requires posted { poster.now.plan ≡ stage.now.script.plan }
+    requires looks { (looks.0 ≡ poster.now) × (looks.1 ≡ poster.now) }
+{
+    let (server, seats) = Server::new(alloc, ServerId(1), 1, 4_096, 240_000_000_000, 3)?;
+    let mut workers = crew(alloc, stage, &server, seats, looks, poster)?;
+    let servers = alone(alloc, server)?;
+    carry(rt, alloc, stage, octets, &servers, &mut workers);
+    Ok(workers)
+}
+
+fn two_workers<W: Threads + Wait + Sync>(rt: &W, alloc: Global) -> Result<Vec<MuxWorker>, Memory> {
+    let (capture, octets) = two_syns(alloc)?;
+    let stage = small_stage(alloc, capture)?;
+    let (poster, mut looks) = board(rt, alloc, &stage.script.plan, 2)?;
+    let workers = match (looks.pop(), looks.pop()) {
+        (Some(second), Some(first)) => {
+            carry_beside_a_board(rt, alloc, &stage, &octets, (first, second), &poster)
+        }
+        _ => Err(Memory),
+    };
+    poster.end(rt);
+    workers
+}
+
+#[test]
+fn each_mux_carries_its_packet(rt: HostRuntime) -> Result<(), Fail> {
+    let workers = two_workers(&rt, rt.alloc()).map_err(|_| "memory")?;
+    assert_eq!(rt; workers.len(), 2);
+    // both packets come to one shard, at the clocks 3 and 4
+    let mut clocks = 0;
+    for worker in workers.iter() {
+        assert!(rt; worker.stop.is_none() && worker.told.is_none());
+        assert_eq!(rt; worker.steps, 1);
+        clocks ^= worker.porter.latest().0;
+    }
+    assert_eq!(rt; clocks, 7);
+    Ok(())
+}
