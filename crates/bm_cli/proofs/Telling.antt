@@ -1,9 +1,12 @@
 -- An answer that was written.
-use Rattle.std.proofs.Common.{inl, inr, ◌≡◌, ℕ, List, [], Option, refl, arith}
+use Rattle.std.proofs.Common.{inl, inr, ◌≡◌, ℕ, ◌<◌, List, [], Option, refl, arith, ap, length, length-append, reverse}
 use Rattle.bm_core.specs.declared.events.History.{History}
 use Rattle.bm_core.specs.declared.events.Stage.{Stage}
 use Rattle.bm_core.proofs.Lawful.{cause_law, safety_law}
-use Rattle.bm_trace.specs.Report.{text}
+use Rattle.bm_io.specs.Written.{WritesPart}
+use Rattle.bm_trace.specs.Inside.Parts.{lines_behind}
+use Rattle.bm_trace.specs.Report.{event_lines, text}
+use Rattle.bm_trace.proofs.Parted.{behind_events, some_behind}
 use Rattle.bm_cli.specs.declared.mode.Mode.{Mode}
 use Rattle.bm_cli.specs.declared.status.Status.{Status}
 use Rattle.bm_cli.specs.declared.status.Status.TheVariants.{Done, Memory}
@@ -26,6 +29,19 @@ tells_due answer text sink result is writes = record {
   is = inl (refl, is);
   writes = writes;
 }
+
+some_text : (h : History) → 0 < length (text h)
+some_text h =
+    omega (
+      arith,
+      ap length (behind_events h),
+      length-append (event_lines h.stage (reverse h.events)) (lines_behind h),
+      some_behind h,
+    )
+
+-- nothing of a report was written
+pub none_written : (h : History) (told : Option (List ℕ)) → WritesPart told told (text h)
+none_written h told = (0, some_text h, appends_nothing told)
 
 -- the report of a history that was made for the stage
 report_of : (mode : Mode) (stage : Stage) (h : History) → h.stage ≡ stage → IsMadeBy mode stage h
