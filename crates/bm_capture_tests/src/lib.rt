@@ -1,7 +1,9 @@
-//! Tests of `bm_pcap` and `bm_pcapng`, in a crate of their own: a run of tests proves its crate
-//! again.
+//! Tests of `bm_io`, `bm_pcap` and `bm_pcapng`, in a crate of their own: a run of tests proves its
+//! crate again.
 #![tactic(auto)]
 
+#[cfg(test)]
+mod io;
 #[cfg(test)]
 mod pcap;
 #[cfg(test)]

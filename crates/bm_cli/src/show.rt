@@ -18,7 +18,7 @@ use crate::status::Status;
 use bm_base::{Memory, Octets};
 use bm_core::{History, Stage};
 use bm_io::{Gate, IoFault, Sink};
-use bm_trace::{report_beside, report_to, sweep};
+use bm_trace::{report_beside, report_to, sweep, totals_of};
 use std::alloc::Global;
 use std::sync::Wait;
 use std::thread::Threads;
@@ -56,6 +56,7 @@ fn writers_of(history: &History) -> usize {
 }
 
 /// Writes the report of the history, in pieces: of a run by several threads.
+#[tactic(auto, using(bm_trace::proofs::Ranged::ranges_of))]
 fn write_report<R: Threads + Sync, K: Sink>(
     rt: &R,
     alloc: Global,
@@ -75,7 +76,7 @@ fn write_report<R: Threads + Sync, K: Sink>(
             let Ok(causes) = sweep(alloc, history) else {
                 return Err(IoFault::Memory);
             };
-            report_to(history, &causes, out)
+            report_to(history, &causes, &totals_of(history, &causes), out)
         }
         Mode::Run => report_beside(rt, alloc, writers_of(history), history, out),
     }

@@ -6,7 +6,7 @@ ghost use Rattle.bm_base.specs.declared.flow.Flow.{Flow};
 ghost use Rattle.bm_base.specs.Segments.{same_flow};
 ghost use Rattle.bm_core.specs.Books.{AreDistinct};
 ghost use Rattle.bm_core.specs.Past as past;
-ghost use Rattle.bm_trace.specs.Inside.Ranges.{HasRanges};
+ghost use Rattle.bm_trace.specs.Ranges.{HasRanges};
 ghost use Rattle.bm_connections.specs.Counts.{most_among};
 ghost use Rattle.bm_connections.specs.Inside.Held as kept;
 

@@ -8,7 +8,7 @@ ghost use Rattle.bm_core.specs.declared.events.Event.{Event};
 ghost use Rattle.bm_core.specs.Past as past;
 ghost use Rattle.bm_table.specs.Entries.{IsTable};
 ghost use Rattle.bm_table.specs.Tables.{table};
-ghost use Rattle.bm_trace.specs.Inside.Ranges.{HasRanges};
+ghost use Rattle.bm_trace.specs.Ranges.{HasRanges};
 ghost use Rattle.bm_connections.specs.Inside.Stamps.{IsView};
 ghost use Rattle.bm_connections.specs.Waits.{stamp_of, wait_of};
 

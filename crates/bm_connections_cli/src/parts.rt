@@ -24,6 +24,7 @@ use std::alloc::Global;
 
 /// The lines of connections, servers and causes, of what came too late, and of advice, part by
 /// part.
+#[tactic(auto, using(bm_trace::proofs::Ranged::ranges_of))]
 pub(crate) fn lines_of(alloc: Global, clock: Clock, h: &History) -> Result<Vec<Text>, Memory>
     requires { IsRun h.now }
     ensures { IfOk result (λ parts. parts.items ≡ spec.parts clock.0 h.now) }
@@ -59,6 +60,7 @@ fn parts_of(
     Ok(parts)
 }
 
+#[tactic(auto, using(bm_trace::proofs::Ranged::ranges_of))]
 fn table_of(alloc: Global, h: &History) -> Result<List<Connection>, Memory>
     requires { IsRun h.now }
     ensures { IfOk result (λ table. table ≡ tables.connections h.now) }

@@ -5,6 +5,3 @@ mod controller;
 mod servers;
 
 pub use controller::Controller;
-
-#[cfg(test)]
-mod tests;

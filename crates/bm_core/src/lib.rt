@@ -11,6 +11,3 @@ pub use clock::next_clock;
 pub use events::{Cause, Event, History, Local, Log, Stage, Verdict, What, Why};
 pub use schedule::{Call, Due, Underway};
 pub use verdict::decide;
-
-#[cfg(test)]
-mod tests;

@@ -11,6 +11,3 @@ mod shapes;
 mod svg;
 
 pub use svg::drawing;
-
-#[cfg(test)]
-mod tests;

@@ -10,6 +10,3 @@ mod read;
 pub use fault::EncapFault;
 pub use header::{set_chained, wrap};
 pub use read::unwrap;
-
-#[cfg(test)]
-mod tests;

@@ -3,8 +3,6 @@
 
 mod faults;
 mod rows;
-#[cfg(test)]
-mod tests;
 mod wire;
 
 pub use faults::Faults;

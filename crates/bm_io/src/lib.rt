@@ -32,6 +32,3 @@ pub use sure::{SureSink, SureSource};
 pub use sure_file::SureFile;
 pub use sure_files::SureFiles;
 pub use system::{StdFiles, StdSink, StdSource};
-
-#[cfg(test)]
-mod tests;

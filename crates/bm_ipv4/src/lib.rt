@@ -9,6 +9,3 @@ mod view;
 pub use checksum::header_sum;
 pub use fault::Ipv4Fault;
 pub use view::{Ipv4View, read_ipv4};
-
-#[cfg(test)]
-mod tests;

@@ -8,6 +8,3 @@ mod record;
 pub use fault::LinkFault;
 pub use network::{is_link, network_part};
 pub use record::classify;
-
-#[cfg(test)]
-mod tests;

@@ -8,6 +8,3 @@ mod stage;
 
 pub use line::summary;
 pub use stage::load_stage;
-
-#[cfg(test)]
-mod tests;

@@ -9,6 +9,3 @@ mod rising;
 pub use beside::{merge_rising_beside, room_for};
 pub use logs::{join_in_order, merge};
 pub use rising::{EventLog, merge_rising};
-
-#[cfg(test)]
-mod tests;

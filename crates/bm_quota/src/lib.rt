@@ -8,6 +8,3 @@ mod share;
 pub use rebalance::moves;
 pub use refusal::Refusal;
 pub use share::quotas;
-
-#[cfg(test)]
-mod tests;

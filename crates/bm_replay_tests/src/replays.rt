@@ -1,4 +1,4 @@
-//! Tests of `bm_replay`: the events of replays.
+//! Tests of `bm_replay`: the events of replays, and their reports by one thread and by several.
 ghost use Rattle.std.specs.Prelude.{◌≡◌, IfOk, length};
 ghost use Rattle.bm_core.specs.Stages.{IsSound};
 ghost use Rattle.bm_link.specs.Fits.{ArePackets};
@@ -6,6 +6,8 @@ ghost use Rattle.bm_link.specs.Fits.{ArePackets};
 use crate::stages::{DATA, OPENING, OTHER, Row, bare_stage, capture, flow, history, moved_stage};
 use bm_base::{Hop, Memory, Moment, MuxId, Octets, ServerId, Taken, Version};
 use bm_core::{Event, Stage, Verdict, What, Why};
+use bm_io::MemSink;
+use bm_trace::{report, report_beside};
 use std::alloc::Global;
 use std::process::Abort;
 use std::test::Fail;
@@ -159,6 +161,22 @@ fn packets_behind_those_let_go_come(rt: HostRuntime) -> Result<(), Fail> {
     let stage = bare_stage(alloc, 4_096, false, capture)?;
     let want = many_events(alloc, count)?;
     check(&rt, alloc, stage, packets, false, &want)
+}
+
+#[test]
+fn threads_write_the_same_report(rt: HostRuntime) -> Result<(), Fail> {
+    let alloc = rt.alloc();
+    // three pieces of lines, of which the last is shorter
+    let rows = many_rows(alloc, 16_400)?;
+    let (capture, packets) = capture(alloc, GAP, &rows)?;
+    let stage = bare_stage(alloc, 4_096, false, capture)?;
+    let history = history(alloc, stage, packets, false)?;
+    let mut one = Vec::new(alloc);
+    report(&history, &mut one)?;
+    let mut many = MemSink::new(alloc, Vec::new(alloc));
+    report_beside(&rt, alloc, 2, &history, &mut many).map_err(|_| "the sink failed")?;
+    assert_eq!(rt; many.written(), one.as_slice());
+    Ok(())
 }
 
 #[test]

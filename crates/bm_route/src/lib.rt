@@ -2,7 +2,5 @@
 #![tactic(auto)]
 
 mod route;
-#[cfg(test)]
-mod tests;
 
 pub use route::{Route, setting_mux};

@@ -5,6 +5,3 @@ pub mod laws;
 mod receiver;
 
 pub use receiver::{Receiver, acceptable};
-
-#[cfg(test)]
-mod tests;

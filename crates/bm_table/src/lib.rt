@@ -10,6 +10,3 @@ pub use plan::{Change, Kind, Limit, Move, Plan, PlanFault, Retirement};
 pub use script::{Command, Script};
 pub use setting::{FaultRow, RouteKind, Setting};
 pub use table::Table;
-
-#[cfg(test)]
-mod tests;

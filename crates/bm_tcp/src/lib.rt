@@ -10,6 +10,3 @@ pub use fault::TcpFault;
 pub use packet::{InnerFault, read_packet};
 pub use reset::reset_for;
 pub use segment::read_tcp;
-
-#[cfg(test)]
-mod tests;

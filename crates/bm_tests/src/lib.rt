@@ -1,5 +1,5 @@
-//! Tests of `bm_script`, `bm_server` and `bm_cli`, in a crate of their own: a run of tests proves
-//! its crate again.
+//! Tests of `bm_server` and `bm_cli`, in a crate of their own: a run of tests proves its crate
+//! again.
 #![tactic(auto)]
 
 #[cfg(test)]
@@ -28,7 +28,5 @@ mod program;
 mod refused;
 #[cfg(test)]
 mod rows;
-#[cfg(test)]
-mod script;
 #[cfg(test)]
 mod sizes;

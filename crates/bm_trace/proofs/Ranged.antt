@@ -1,7 +1,7 @@
 -- A sound stage has its numbers in their ranges.
 use Rattle.bm_core.specs.declared.events.Stage.{Stage}
 use Rattle.bm_core.specs.Stages.{IsSound}
-use Rattle.bm_trace.specs.Inside.Ranges.{HasRanges}
+use Rattle.bm_trace.specs.Ranges.{HasRanges}
 
 pub ranges_of : (stage : Stage) → IsSound stage → HasRanges stage
 ranges_of stage s =

@@ -12,7 +12,7 @@ ghost use Rattle.bm_trace.specs.Inside.Pieces.{AreLines, AreWritten, CanWrite, H
 ghost use Rattle.bm_trace.specs.Inside.Pieces.{HasWritten, HaveWritten, IsRound, PutsLines};
 ghost use Rattle.bm_trace.specs.Inside.Pieces.{PutsPart};
 ghost use Rattle.bm_trace.specs.Inside.Pieces.{place_of};
-ghost use Rattle.bm_trace.specs.Inside.Ranges.{HasRanges};
+ghost use Rattle.bm_trace.specs.Ranges.{HasRanges};
 ghost use Rattle.bm_trace.specs.Report as report;
 ghost use Rattle.bm_trace.specs.Inside.Rests.{IsRest};
 ghost use Rattle.bm_trace.specs.Inside.Running.{AreVersions};
@@ -403,7 +403,7 @@ fn put_lines_of_events<R: Threads + Sync, K: Sink>(
 
 /// Writes the lines of the events by so many threads. Meanwhile one thread more puts together what
 /// stands behind them: that is the answer.
-pub(crate) fn put_lines<R: Threads + Sync, K: Sink>(
+fn put_lines<R: Threads + Sync, K: Sink>(
     rt: &R,
     alloc: Global,
     threads: usize,

@@ -3,7 +3,7 @@ ghost use Rattle.std.specs.Prelude.{◌≡◌, ◌+◌, ◌<◌, ◌&&◌, lengt
 ghost use Rattle.std.specs.Prelude.{option_map, is_some};
 ghost use Rattle.bm_core.specs.Past as past;
 ghost use Rattle.bm_core.specs.Causes as causes;
-ghost use Rattle.bm_trace.specs.Inside.Ranges.{HasRanges};
+ghost use Rattle.bm_trace.specs.Ranges.{HasRanges};
 ghost use Rattle.bm_core.specs.Runs.{IsRun};
 ghost use Rattle.bm_trace.specs.CauseOf.{cause_of, is_fault_at};
 ghost use Rattle.bm_trace.specs.Inside.Seen.{as_accepted};

@@ -8,7 +8,7 @@ ghost use Rattle.bm_io.specs.Causes.{HasIoCause};
 ghost use Rattle.bm_io.specs.Written.{WritesPart};
 ghost use Rattle.bm_trace.specs.Inside.Parts.{HandsLess, HandsOn, HandsPart, last_lines};
 ghost use Rattle.bm_trace.specs.Inside.Parts.{lines_behind};
-ghost use Rattle.bm_trace.specs.Inside.Ranges.{HasRanges};
+ghost use Rattle.bm_trace.specs.Ranges.{HasRanges};
 ghost use Rattle.bm_trace.specs.Report as report;
 ghost use Rattle.bm_trace.specs.Swept.{AreCauses};
 ghost use Rattle.bm_trace.specs.Totals as totals;
@@ -43,7 +43,7 @@ fn put_full<K: Sink>(lines: &mut String, out: &mut K) -> Result<(), IoFault>
 }
 
 /// Writes the lines of the events.
-pub(crate) fn put_events<K: Sink>(
+fn put_events<K: Sink>(
     h: &History,
     causes: &CauseList,
     lines: &mut String,
@@ -117,7 +117,7 @@ pub(crate) fn put_end<K: Sink>(
 }
 
 /// Writes the lines that wait, and behind them what stands behind the lines of the events.
-pub(crate) fn put_rest<K: Sink>(
+fn put_rest<K: Sink>(
     h: &History,
     sums: &Totals,
     mut lines: String,
@@ -135,12 +135,17 @@ pub(crate) fn put_rest<K: Sink>(
     put_end(h, sums, lines, out)
 }
 
-/// Writes the report of the history, with these causes of its events. The report is never held
-/// whole. Where it is refused, a first part of it was written, and not all.
-#[tactic(auto, using(crate::proofs::Ranged::ranges_of))]
-pub fn report_to<K: Sink>(h: &History, causes: &CauseList, out: &mut K) -> Result<(), IoFault>
-    requires run { IsRun h.now }
+/// Writes the report of the history, with these causes of its events and these totals. The report
+/// is never held whole. Where it is refused, a first part of it was written, and not all.
+pub fn report_to<K: Sink>(
+    h: &History,
+    causes: &CauseList,
+    sums: &Totals,
+    out: &mut K,
+) -> Result<(), IoFault>
+    requires ranges { HasRanges h.now.stage }
     requires causes { AreCauses h.now causes.now }
+    requires sums { sums.now ≡ totals.totals_of h.now }
     ensures ok { OnOk result (Appends (K.written out.old) (K.written out.new) (report.text h.now)) }
     ensures err { OnErr result (WritesPart (K.written out.old) (K.written out.new)
         (report.text h.now)) }
@@ -148,10 +153,11 @@ pub fn report_to<K: Sink>(h: &History, causes: &CauseList, out: &mut K) -> Resul
 {
     let mut lines = String::new(causes.allocator());
     put_events(h, causes, &mut lines, out)?;
-    put_rest(h, &totals_of(h, causes), lines, out)
+    put_rest(h, sums, lines, out)
 }
 
 /// Appends the report of the history, and nothing where memory is refused.
+#[tactic(auto, using(crate::proofs::Ranged::ranges_of))]
 pub fn report(h: &History, out: &mut Vec<u8>) -> Result<(), Memory>
     requires { IsRun h.now }
     ensures ok { OnOk result (out.new.items ≡ out.old.items ++ report.text h.now) }
@@ -160,7 +166,7 @@ pub fn report(h: &History, out: &mut Vec<u8>) -> Result<(), Memory>
     let alloc = *out.allocator();
     let causes = sweep(alloc, h)?;
     let mut text = SureSink::new(alloc);
-    let Ok(()) = report_to(h, &causes, &mut text) else {
+    let Ok(()) = report_to(h, &causes, &totals_of(h, &causes), &mut text) else {
         return Err(Memory);
     };
     out.extend_from_slice(text.written())?;

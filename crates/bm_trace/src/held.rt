@@ -5,7 +5,7 @@ ghost use Rattle.std.specs.Prelude.{◌≡◌, reverse, Some, None};
 ghost use Rattle.std.specs.Prelude.{option_map, true, false};
 ghost use Rattle.bm_core.specs.Past as past;
 ghost use Rattle.bm_core.specs.Causes as causes;
-ghost use Rattle.bm_trace.specs.Inside.Ranges.{HasRanges};
+ghost use Rattle.bm_trace.specs.Ranges.{HasRanges};
 ghost use Rattle.bm_trace.specs.Inside.Seen.{HasEffect, verdict_effect};
 
 use crate::past::{is_of, same_flow};

@@ -16,7 +16,7 @@ ghost use Rattle.bm_trace.specs.Inside.FlowKeys.{key_of};
 ghost use Rattle.bm_trace.specs.Inside.HolderLists.{put_holder, without_server, listed, place_in};
 ghost use Rattle.bm_trace.specs.Inside.HolderLists.{is_alive, other_alive, alive_place};
 ghost use Rattle.bm_trace.specs.Inside.Holders.{ruling, ruled};
-ghost use Rattle.bm_trace.specs.Inside.Ranges.{HasRanges};
+ghost use Rattle.bm_trace.specs.Ranges.{HasRanges};
 
 use crate::flow_key::FlowKey;
 use bm_base::{Flow, Hop, Moment, ServerId, Taken};

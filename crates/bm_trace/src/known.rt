@@ -7,7 +7,7 @@ ghost use Rattle.bm_core.specs.declared.events.Stage.{Stage};
 ghost use Rattle.bm_core.specs.Past as past;
 ghost use Rattle.bm_core.specs.Causes as causes;
 ghost use Rattle.bm_trace.specs.Inside.PlanMovers.{AreMovers};
-ghost use Rattle.bm_trace.specs.Inside.Ranges.{HasRanges};
+ghost use Rattle.bm_trace.specs.Ranges.{HasRanges};
 ghost use Rattle.bm_trace.specs.Inside.Running.{AreVersions};
 ghost use Rattle.bm_trace.specs.Inside.Seen.{as_accepted};
 ghost use Rattle.bm_trace.specs.Inside.Sent.{label_from, label_sent, owner_from};

@@ -3,7 +3,7 @@ ghost use Rattle.std.specs.Prelude.{◌≡◌, ◌∷◌, ◌++◌, [], reverse,
 ghost use Rattle.std.specs.Prelude.{codes, decimal, string_bytes, if◌then◌else◌};
 ghost use Rattle.bm_core.specs.Causes as causes;
 ghost use Rattle.bm_core.specs.Past as past;
-ghost use Rattle.bm_trace.specs.Inside.Ranges.{HasRanges};
+ghost use Rattle.bm_trace.specs.Ranges.{HasRanges};
 ghost use Rattle.bm_trace.specs.Words as words;
 ghost use Rattle.bm_trace.specs.Report as report;
 ghost use Rattle.bm_trace.specs.Inside.Running.{AreVersions};

@@ -1,6 +1,6 @@
 //! What stands behind the lines of a report's events.
 ghost use Rattle.std.specs.Prelude.{◌≡◌, ◌+◌, IfOk, reverse, string_bytes};
-ghost use Rattle.bm_trace.specs.Inside.Ranges.{HasRanges};
+ghost use Rattle.bm_trace.specs.Ranges.{HasRanges};
 ghost use Rattle.bm_trace.specs.Report as report;
 ghost use Rattle.bm_trace.specs.Inside.Rests.{IsRest};
 

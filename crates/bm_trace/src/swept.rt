@@ -6,7 +6,7 @@ ghost use Rattle.bm_core.specs.Causes as causes;
 ghost use Rattle.bm_core.specs.Runs.{IsRun};
 ghost use Rattle.bm_core.specs.declared.events.History.{History};
 ghost use Rattle.bm_trace.specs.CauseOf.{cause_of};
-ghost use Rattle.bm_trace.specs.Inside.Ranges.{HasRanges};
+ghost use Rattle.bm_trace.specs.Ranges.{HasRanges};
 ghost use Rattle.bm_trace.specs.Inside.Running.{AreVersions};
 ghost use Rattle.bm_trace.specs.Swept.{AreCauses, cause_in};
 ghost use Rattle.bm_trace.specs.Inside.Swept.{AreCausesOf};
@@ -168,9 +168,9 @@ impl Sweeper {
     }
 }
 
-/// The cause of each event of a history whose numbers are in their ranges.
+/// The cause of each event, in one sweep over the history.
 #[tactic(auto, using(crate::proofs::Sweeping::all_causes))]
-pub(crate) fn causes_of(alloc: Global, h: &History) -> Result<CauseList, Memory>
+pub fn sweep(alloc: Global, h: &History) -> Result<CauseList, Memory>
     requires { HasRanges h.now.stage }
     ensures { IfOk result (λ causes. AreCauses h.now causes) }
 {
@@ -178,15 +178,6 @@ pub(crate) fn causes_of(alloc: Global, h: &History) -> Result<CauseList, Memory>
     let mut sweeper = Sweeper::new(alloc, h)?;
     sweeper.advance(alloc, h, 0, h.events.items().len(), &mut causes)?;
     Ok(CauseList::of(causes))
-}
-
-/// The cause of each event, in one sweep over the history.
-#[tactic(auto, using(crate::proofs::Ranged::ranges_of))]
-pub fn sweep(alloc: Global, h: &History) -> Result<CauseList, Memory>
-    requires { IsRun h.now }
-    ensures { IfOk result (λ causes. AreCauses h.now causes) }
-{
-    causes_of(alloc, h)
 }
 
 fn stray_count(h: &History, causes: &CauseList) -> u64

@@ -1,7 +1,8 @@
+//! Tests of `bm_route`: the mux of a packet.
 ghost use Rattle.std.specs.Prelude.{◌%◌};
 
-use super::*;
 use bm_base::{Flow, MuxId};
+use bm_route::{Route, setting_mux};
 use bm_table::RouteKind;
 
 const FLOW: Flow = Flow {

@@ -1,7 +1,8 @@
-use super::*;
+//! Tests of `bm_drawing`: drawings of connections.
 use bm_base::{Capture, Flow, List, Moment, ServerId, Version};
 use bm_connections::{Break, Connection, Sight, Tally};
 use bm_core::{Cause, Event, History, Stage, Verdict, What, Why};
+use bm_drawing::drawing;
 use bm_table::{Plan, Script, Setting};
 use std::alloc::Global;
 use std::process::Abort;

@@ -1,4 +1,5 @@
-use super::*;
+//! Tests of `bm_ipv4`: captured headers, and checksums.
+use bm_ipv4::{header_sum, read_ipv4};
 use std::test::Fail;
 
 // The first packet of a visit to a web server, as a capture has it. tshark reads: source

@@ -1,18 +1,17 @@
-ghost use Rattle.std.specs.Prelude.{◌<◌};
-
-use crate::document::{put_end, put_events, put_rest};
-use crate::swept::causes_of;
-use crate::{beside, totals};
+//! Tests of `bm_trace`: the lines of a report.
 use Happening::*;
 use Seen::*;
-use bm_base::*;
+use bm_base::{
+    Body, Capture, Flow, Hop, List, Memory, Moment, MuxId, Reason, Record, Segment, ServerId,
+    Taken, Version,
+};
 use bm_core::{Event, History, Stage, Verdict, What, Why};
 use bm_io::MemSink;
 use bm_table::{Change, Kind, Move, Plan, Retirement, Script, Setting};
+use bm_trace::{report_to, sweep, totals};
 use std::alloc::Global;
 use std::process::Abort;
 use std::test::Fail;
-use std::thread::Threads;
 
 /// A record: a packet by its source port, flags, sequence number and length, or why it isn't one.
 #[derive(Clone, Copy)]
@@ -62,14 +61,23 @@ fn body(seen: Seen) -> Body {
     }
 }
 
-fn records(alloc: Global, rows: &[(Seen, &str)]) -> Result<List<Record>, Memory> {
-    let mut list = Vec::new(alloc);
+/// A record, and its line.
+type RecordRow = (Seen, &'static str);
+
+fn put_records(list: &mut Vec<Record>, rows: &[RecordRow]) -> Result<(), Memory> {
     for (seen, _) in rows {
         list.push(Record {
             moment: Moment(0),
             body: body(*seen),
         })?;
     }
+    Ok(())
+}
+
+fn records(alloc: Global) -> Result<List<Record>, Memory> {
+    let mut list = Vec::new(alloc);
+    put_records(&mut list, &PACKETS)?;
+    put_records(&mut list, &OTHERS)?;
     Ok(List::of(list))
 }
 
@@ -114,14 +122,25 @@ fn what(happening: Happening) -> What {
     }
 }
 
-fn events(alloc: Global, rows: &[(u64, Happening, &str)]) -> Result<List<Event>, Memory> {
-    let mut list = Vec::new(alloc);
+/// A clock, what happened, and its line.
+type EventRow = (u64, Happening, &'static str);
+
+fn put_events(list: &mut Vec<Event>, rows: &[EventRow]) -> Result<(), Memory> {
     for (clock, happening, _) in rows {
         list.push(Event {
             clock: Moment(*clock),
             what: what(*happening),
         })?;
     }
+    Ok(())
+}
+
+fn events(alloc: Global) -> Result<List<Event>, Memory> {
+    let mut list = Vec::new(alloc);
+    put_events(&mut list, &PROCESSED)?;
+    put_events(&mut list, &TAKEN)?;
+    put_events(&mut list, &REFUSED)?;
+    put_events(&mut list, &COMMANDED)?;
     Ok(List::of(list))
 }
 
@@ -153,14 +172,13 @@ fn script(alloc: Global) -> Result<Script, Fail> {
 }
 
 fn history(alloc: Global) -> Result<History, Fail> {
-    let events = events(alloc, &EVENTS)?;
-    let records = records(alloc, &RECORDS)?;
     let capture = Capture {
-        records,
+        records: records(alloc)?,
         cut: Some(17),
     };
     let script = script(alloc)?;
     let stage = Stage { script, capture };
+    let events = events(alloc)?;
     Ok(History { stage, events })
 }
 
@@ -172,66 +190,43 @@ fn report(rt: &impl Abort, alloc: Global, h: &History) -> Result<MemSink, Fail> 
     assert!(rt; 1 <= script.setting.shards && script.setting.shards <= 64);
     assert!(rt; h.stage.capture.records.items().len() <= 100);
     let mut out = MemSink::new(alloc, Vec::new(alloc));
-    let causes = causes_of(alloc, h)?;
-    let mut lines = String::new(alloc);
-    put_events(h, &causes, &mut lines, &mut out).map_err(|_| "the sink failed")?;
-    put_rest(h, &totals(h), lines, &mut out).map_err(|_| "the sink failed")?;
+    let causes = sweep(alloc, h)?;
+    report_to(h, &causes, &totals(h), &mut out).map_err(|_| "the sink failed")?;
     Ok(out)
 }
 
-/// The same, written by so many threads.
-fn report_beside<R: Abort + Threads + std::marker::Sync>(
-    rt: &R,
-    alloc: Global,
-    threads: usize,
-    h: &History,
-) -> Result<MemSink, Fail>
-    requires { 0 < threads }
-{
-    let script = &h.stage.script;
-    assert!(rt; script.setting.buckets == 8);
-    assert!(rt; script.plan.buckets() == 8);
-    assert!(rt; 1 <= script.setting.shards && script.setting.shards <= 64);
-    assert!(rt; h.stage.capture.records.items().len() <= 100);
-    let mut out = MemSink::new(alloc, Vec::new(alloc));
-    let rest = beside::put_lines(rt, alloc, threads, h, &mut out).map_err(|_| "the sink failed")?;
-    put_end(h, &totals(h), rest.lines, &mut out).map_err(|_| "the sink failed")?;
-    Ok(out)
-}
-
-/// The same history with so many switches, each with a steering behind it.
-fn long_history(alloc: Global, switches: u32) -> Result<History, Fail> {
-    let History { stage, .. } = history(alloc)?;
-    let mut events = Vec::new(alloc);
-    for version in 0..switches {
-        for happening in [Switch(1, version), Steer(1, 1)] {
-            events.push(Event {
-                clock: Moment(1),
-                what: what(happening),
-            })?;
-        }
-    }
-    let events = List::of(events);
-    Ok(History { stage, events })
-}
-
-fn lines(alloc: Global) -> Result<Vec<u8>, Fail> {
-    let mut text = Vec::new(alloc);
-    for (_, _, line) in &EVENTS {
-        put(&mut text, line)?;
-    }
-    for (_, line) in &RECORDS {
-        put(&mut text, line)?;
-    }
-    put(&mut text, "note record 17 cut short")?;
-    put(&mut text, TOTALS)?;
-    Ok(text)
-}
-
-fn put(text: &mut Vec<u8>, line: &str) -> Result<(), Fail> {
+fn put(text: &mut Vec<u8>, line: &str) -> Result<(), Memory> {
     text.extend_from_slice(line.as_bytes())?;
     text.push(b'\n')?;
     Ok(())
+}
+
+fn put_event_lines(text: &mut Vec<u8>, rows: &[EventRow]) -> Result<(), Memory> {
+    for (_, _, line) in rows {
+        put(text, line)?;
+    }
+    Ok(())
+}
+
+fn put_record_lines(text: &mut Vec<u8>, rows: &[RecordRow]) -> Result<(), Memory> {
+    for (_, line) in rows {
+        put(text, line)?;
+    }
+    Ok(())
+}
+
+/// The lines of all rows, with the note and the totals.
+fn lines(alloc: Global) -> Result<Vec<u8>, Memory> {
+    let mut text = Vec::new(alloc);
+    put_event_lines(&mut text, &PROCESSED)?;
+    put_event_lines(&mut text, &TAKEN)?;
+    put_event_lines(&mut text, &REFUSED)?;
+    put_event_lines(&mut text, &COMMANDED)?;
+    put_record_lines(&mut text, &PACKETS)?;
+    put_record_lines(&mut text, &OTHERS)?;
+    put(&mut text, "note record 17 cut short")?;
+    put(&mut text, TOTALS)?;
+    Ok(text)
 }
 
 #[test]
@@ -245,23 +240,9 @@ fn each_event_and_each_record_has_its_line(rt: HostRuntime) -> Result<(), Fail> 
     Ok(())
 }
 
-#[test]
-fn threads_write_the_same_report(rt: HostRuntime) -> Result<(), Fail> {
-    let alloc = rt.alloc();
-    let h = history(alloc)?;
-    let one = report(&rt, alloc, &h)?;
-    let many = report_beside(&rt, alloc, 3, &h)?;
-    assert_eq!(rt; many.written(), one.written());
-    // the third piece is shorter than those before it
-    let h = long_history(alloc, 24_572)?;
-    let one = report(&rt, alloc, &h)?;
-    let many = report_beside(&rt, alloc, 2, &h)?;
-    assert_eq!(rt; many.written(), one.written());
-    Ok(())
-}
-
-/// A clock, what happened, and its line. No run has these events: they are one of each kind.
-static EVENTS: [(u64, Happening, &str); 27] = [
+/// No run has these events: they are one of each kind. A packet is sent, and is processed where it
+/// arrives.
+static PROCESSED: [EventRow; 7] = [
     (1, Publish(1), "1 publish 1"),
     (2, Switch(0, 1), "2 switch 0 1"),
     (3, Steer(1, 1), "3 steer 1 1 0 4"),
@@ -281,6 +262,10 @@ static EVENTS: [(u64, Happening, &str); 27] = [
         Chained(2, 1, Verdict::Process(Taken::Advance)),
         "7 arrive 2 chained 1 process advance",
     ),
+];
+
+/// What else a server takes, and what it resets.
+static TAKEN: [EventRow; 6] = [
     (
         8,
         Direct(2, 2, Verdict::Process(Taken::Duplicate)),
@@ -311,6 +296,10 @@ static EVENTS: [(u64, Happening, &str); 27] = [
         Chained(2, 1, Verdict::Reset(Why::ChainedUnknown)),
         "13 arrive 2 chained 1 reset chained-unknown",
     ),
+];
+
+/// What is dropped or lost, and what the cause of a reset or drop is.
+static REFUSED: [EventRow; 8] = [
     (
         14,
         Direct(2, 1, Verdict::Drop(Why::Silent)),
@@ -343,6 +332,10 @@ static EVENTS: [(u64, Happening, &str); 27] = [
         Direct(2, 1, Verdict::Drop(Why::Silent)),
         "21 arrive 2 direct 1 drop silent because not-held",
     ),
+];
+
+/// What commands do.
+static COMMANDED: [EventRow; 6] = [
     (
         22,
         Close(1, 1000, true),
@@ -371,8 +364,8 @@ static EVENTS: [(u64, Happening, &str); 27] = [
     (27, Sync, "27 sync"),
 ];
 
-/// A record, and its line.
-static RECORDS: [(Seen, &str); 16] = [
+/// Packets with what becomes of them, and records that aren't sent.
+static PACKETS: [RecordRow; 8] = [
     (Packet(1000, SYN, 100, 1), "packet 1 accepted 1"),
     (
         Packet(1000, PSH_ACK, 101, 10),
@@ -394,6 +387,10 @@ static RECORDS: [(Seen, &str); 16] = [
         Unsteered(Reason::BadHeaderLength),
         "packet 8 unsteered bad-header-length",
     ),
+];
+
+/// More records that aren't sent.
+static OTHERS: [RecordRow; 8] = [
     (
         Unsteered(Reason::BadTotalLength),
         "packet 9 unsteered bad-total-length",

@@ -1,5 +1,6 @@
-use super::*;
+//! Tests of `bm_controller`: the plan that commands make.
 use bm_base::{Moment, ServerId, Version};
+use bm_controller::Controller;
 use bm_quota::Refusal;
 use bm_table::{Kind, Plan};
 use std::process::Abort;

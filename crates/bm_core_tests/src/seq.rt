@@ -1,7 +1,9 @@
+//! Tests of `bm_seq`: what a receiver takes.
 ghost use Rattle.std.specs.Prelude.{◌≡◌};
 
-use super::*;
-use bm_base::{Flow, Segment, Taken};
+use crate::flows::flow;
+use bm_base::{Segment, Taken};
+use bm_seq::{Receiver, acceptable};
 
 const SYN: u8 = 0x02;
 
@@ -16,14 +18,8 @@ const FIN_ACK: u8 = 0x11;
 fn segment(seq: u32, len: u16, flags: u8) -> Segment
     ensures { result.len ≡ len }
 {
-    let flow = Flow {
-        src: 0x0a00_0001,
-        dst: 0xc000_0201,
-        sport: 1000,
-        dport: 80,
-    };
     Segment {
-        flow,
+        flow: flow(1000),
         seq,
         ack: 501,
         len: u32::from(len),

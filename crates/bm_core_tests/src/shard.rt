@@ -1,8 +1,10 @@
+//! Tests of `bm_shard`: what a shard answers.
 ghost use Rattle.bm_shard.specs.Books.{IsTaken};
 
-use super::*;
+use crate::flows::flow;
 use bm_base::{Flow, Hop, Memory, Moment, MuxId, Segment, ServerId, Tag, Taken, Version};
 use bm_core::{Verdict, What, Why};
+use bm_shard::{ShardBook, ShardCall, ShardReply};
 use bm_table::Retirement;
 use std::alloc::Global;
 use std::test::Fail;
@@ -10,15 +12,6 @@ use std::test::Fail;
 const SYN: u8 = 0x02;
 
 const PSH_ACK: u8 = 0x18;
-
-fn flow(sport: u16) -> Flow {
-    Flow {
-        src: 0x0a00_0001,
-        dst: 0xc000_0201,
-        sport,
-        dport: 80,
-    }
-}
 
 /// Makes a call under seat 3.
 fn ask(book: &mut ShardBook, call: ShardCall) -> Option<ShardReply>

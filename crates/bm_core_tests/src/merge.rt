@@ -1,11 +1,12 @@
+//! Tests of `bm_merge`: logs put together.
 ghost use Rattle.std.specs.Prelude.{map, IfOk};
 ghost use Rattle.std.specs.List.{AllByRecursion};
 ghost use Rattle.bm_merge.specs.Rising.{IsRising};
-ghost use Rattle.bm_merge.specs.declared.tests.Row.{Row as RowOf};
+ghost use Rattle.bm_core_tests.specs.declared.merge.Row.{Row as RowOf};
 
-use super::*;
 use bm_base::{Capture, Hop, List, Memory, Moment, MuxId, ServerId, Taken, Version};
 use bm_core::{Event, Log, Stage, Verdict, What};
+use bm_merge::{EventLog, join_in_order, merge, merge_rising, merge_rising_beside, room_for};
 use bm_table::{Plan, Retirement, Script, Setting};
 use std::alloc::Global;
 use std::test::Fail;

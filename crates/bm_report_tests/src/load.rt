@@ -1,5 +1,6 @@
-use super::*;
+//! Tests of `bm_load`: the stage of a load, and its line.
 use bm_base::{Body, Flow, Moment, Record, Segment, ServerId, Version};
+use bm_load::{load_stage, summary};
 use bm_table::{Kind, Plan};
 use bm_trace::Totals;
 use std::process::Abort;

@@ -1,6 +1,7 @@
-use super::*;
+//! Tests of `bm_tcp`: captured segments, and resets.
 use bm_base::{Flow, Segment};
 use bm_ipv4::read_ipv4;
+use bm_tcp::{InnerFault, TcpFault, read_tcp, reset_for};
 use std::test::Fail;
 
 // Packets of a visit to a web server, as a capture has them, each cut behind 52 octets: the first,

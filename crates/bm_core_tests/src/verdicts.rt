@@ -1,5 +1,7 @@
-use super::*;
-use bm_base::{Flow, Hop, Moment, MuxId, Segment, ServerId, Tag, Taken, Version};
+//! Tests of `bm_core`: verdicts and clocks.
+use crate::flows::flow;
+use bm_base::{Hop, Moment, MuxId, Segment, ServerId, Tag, Taken, Version};
+use bm_core::{Local, Verdict, What, Why, decide, next_clock};
 use bm_seq::Receiver;
 use std::process::Abort;
 
@@ -20,15 +22,6 @@ const FINISHED: Receiver = Receiver {
     next: 112,
     finished: true,
 };
-
-fn flow() -> Flow {
-    Flow {
-        src: 0x0a00_0001,
-        dst: 0xc000_0201,
-        sport: 1000,
-        dport: 80,
-    }
-}
 
 /// What a shard knows, the hop and the previous server, the flags, sequence number and length, the
 /// clock, and the verdict.
@@ -70,7 +63,7 @@ fn check(rt: &impl Abort, rows: &[Row]) {
             mux: MuxId(0),
         };
         let segment = Segment {
-            flow: flow(),
+            flow: flow(1000),
             seq,
             ack: 501,
             len: u32::from(len),

@@ -1,8 +1,9 @@
+//! Tests of `bm_encap`: carrier headers, also damaged ones.
 ghost use Rattle.std.specs.Prelude.{◌<◌};
 
-use super::EncapFault::{BadLength, BadOption, BadOuter, BadSum, Short};
-use super::*;
 use bm_base::{Hop, Moment, MuxId, ServerId, Tag, Version};
+use bm_encap::EncapFault::{BadLength, BadOption, BadOuter, BadSum, Short};
+use bm_encap::{EncapFault, set_chained, unwrap, wrap};
 use bm_ipv4::header_sum;
 use std::process::Abort;
 use std::test::Fail;

@@ -1,7 +1,8 @@
+//! Tests of `bm_fault`: copies on their way, and fault rows.
 ghost use Rattle.std.specs.Prelude.{◌*◌};
 
-use super::*;
 use bm_base::{Fate, Hop, Moment, MuxId, ServerId, Tag, Version};
+use bm_fault::{FaultRows, Faults, Flight, Wire};
 use bm_table::FaultRow;
 use std::test::Fail;
 

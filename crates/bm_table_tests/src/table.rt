@@ -1,5 +1,6 @@
-use super::*;
+//! Tests of `bm_table`: plans, tables and settings.
 use bm_base::{Entry, List, Memory, Moment, ServerId, Version, Vip};
+use bm_table::{Change, Kind, Limit, Move, Plan, PlanFault, Retirement, Setting, Table};
 use std::alloc::Global;
 use std::process::Abort;
 use std::test::Fail;

@@ -1,5 +1,6 @@
-use super::*;
+//! Tests of `bm_link`: captured frames.
 use bm_base::{Body, Flow, Reason, Segment, Vip};
+use bm_link::{LinkFault, classify, network_part};
 
 // A SYN on Ethernet with a tag, cut behind the fixed part of its TCP header.
 const TAGGED: [u8; 58] = [

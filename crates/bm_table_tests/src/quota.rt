@@ -1,5 +1,6 @@
-use super::*;
+//! Tests of `bm_quota`: quotas, and the moves to them.
 use bm_base::ServerId;
+use bm_quota::{Refusal, moves, quotas};
 use bm_table::{Limit, Move};
 use std::test::Fail;
 

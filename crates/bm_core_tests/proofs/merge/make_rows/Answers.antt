@@ -1,8 +1,8 @@
 use Rattle.std.proofs.Common.{List, [], ◌∷◌, ◌++◌, map, subst, sym}
 use Rattle.std.specs.List.{AllByRecursion}
 use Rattle.bm_merge.specs.Rising.{IsRising}
-use Rattle.bm_merge.specs.declared.tests.Row.{Row}
-use Rattle.bm_merge.proofs.tests.make_rows.Goals as goal
+use Rattle.bm_core_tests.specs.declared.merge.Row.{Row}
+use Rattle.bm_core_tests.proofs.merge.make_rows.Goals as goal
 
 abbrev AreRising : List Row → Type 0
 AreRising rows = AllByRecursion IsRising (map (λ (row : Row). row.events.items) rows)

@@ -1,0 +1,12 @@
+//! Tests of `bm_ipv4`, `bm_tcp`, `bm_link` and `bm_encap`, in a crate of their own: a run of tests
+//! proves its crate again.
+#![tactic(auto)]
+
+#[cfg(test)]
+mod encap;
+#[cfg(test)]
+mod ipv4;
+#[cfg(test)]
+mod link;
+#[cfg(test)]
+mod tcp;

@@ -1,0 +1,14 @@
+//! Tests of `bm_table`, `bm_quota`, `bm_controller`, `bm_route` and `bm_fault`, in a crate of their
+//! own: a run of tests proves its crate again.
+#![tactic(auto)]
+
+#[cfg(test)]
+mod controller;
+#[cfg(test)]
+mod fault;
+#[cfg(test)]
+mod quota;
+#[cfg(test)]
+mod route;
+#[cfg(test)]
+mod table;
