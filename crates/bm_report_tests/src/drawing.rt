@@ -4,7 +4,7 @@ use bm_connections::{Break, Connection, Sight, Tally};
 use bm_core::{Cause, Event, History, Stage, Verdict, What, Why};
 use bm_drawing::drawing;
 use bm_table::{Plan, Script, Setting};
-use std::alloc::Global;
+use std::alloc::{AllocError, Global};
 use std::process::Abort;
 use std::test::Fail;
 
@@ -128,12 +128,8 @@ static TABLE: [Connection; 3] = [
     },
 ];
 
-static TEXT: &str =
-    "<svg xmlns='http://www.w3.org/2000/svg' version='1.1' width='1080' height='146' \
-     viewBox='0 0 1080 146' font-family='sans-serif' font-size='11'>\n\
-     <title>connections</title>\n\
-     <rect width='1080' height='146' fill='#ffffff'/>\n\
-     <g stroke-width='4' stroke-linecap='round'>\n\
+/// The legend, but for its servers: what grey, the marks and the dashes are.
+static LEGEND: &str = "<g stroke-width='4' stroke-linecap='round'>\n\
      <g stroke='#999999'><line x1='40' y1='20' x2='60' y2='20'/>\
      <text x='68' y='24' stroke='none'>accepted by no server</text></g>\n\
      <circle cx='300' cy='20' r='3' fill='#000000' stroke='#ffffff' stroke-width='1'/>\
@@ -142,8 +138,10 @@ static TEXT: &str =
      <text x='433' y='24' stroke='none'>refused</text>\n\
      <g stroke='#000000' stroke-width='1' stroke-dasharray='4 2'>\
      <line x1='550' y1='12' x2='550' y2='28'/>\
-     <text x='558' y='24' stroke='none'>change of the table, with its version</text></g>\n\
-     <g stroke='#0072b2'><line x1='40' y1='38' x2='60' y2='38'/>\
+     <text x='558' y='24' stroke='none'>change of the table, with its version</text></g>\n";
+
+/// Servers 1 and 9, a tick each half second, the changes and the connections.
+static TEXT: &str = "<g stroke='#0072b2'><line x1='40' y1='38' x2='60' y2='38'/>\
      <text x='68' y='42' stroke='none'>server 1</text></g>\n\
      <g stroke='#0072b2'><line x1='165' y1='38' x2='185' y2='38'/>\
      <text x='193' y='42' stroke='none'>server 9</text></g>\n\
@@ -217,22 +215,8 @@ static SHORT: [Connection; 1] = [Connection {
     refused: None,
 }];
 
-static UNACCEPTED: &str =
-    "<svg xmlns='http://www.w3.org/2000/svg' version='1.1' width='1080' height='116' \
-     viewBox='0 0 1080 116' font-family='sans-serif' font-size='11'>\n\
-     <title>connections</title>\n\
-     <rect width='1080' height='116' fill='#ffffff'/>\n\
-     <g stroke-width='4' stroke-linecap='round'>\n\
-     <g stroke='#999999'><line x1='40' y1='20' x2='60' y2='20'/>\
-     <text x='68' y='24' stroke='none'>accepted by no server</text></g>\n\
-     <circle cx='300' cy='20' r='3' fill='#000000' stroke='#ffffff' stroke-width='1'/>\
-     <text x='308' y='24' stroke='none'>broken</text>\n\
-     <circle cx='425' cy='20' r='2' fill='#ffffff' stroke='#000000' stroke-width='1'/>\
-     <text x='433' y='24' stroke='none'>refused</text>\n\
-     <g stroke='#000000' stroke-width='1' stroke-dasharray='4 2'>\
-     <line x1='550' y1='12' x2='550' y2='28'/>\
-     <text x='558' y='24' stroke='none'>change of the table, with its version</text></g>\n\
-     </g>\n\
+/// Ticks of two microseconds, and the connection.
+static UNACCEPTED: &str = "</g>\n\
      <g text-anchor='middle'>\n\
      <g stroke='#dddddd'><line x1='40' y1='74' x2='40' y2='92'/>\
      <text x='40' y='54' stroke='none'>0.000000 s</text>\
@@ -260,22 +244,8 @@ static UNACCEPTED: &str =
      </g>\n\
      </svg>\n";
 
-static EMPTY: &str =
-    "<svg xmlns='http://www.w3.org/2000/svg' version='1.1' width='1080' height='110' \
-     viewBox='0 0 1080 110' font-family='sans-serif' font-size='11'>\n\
-     <title>connections</title>\n\
-     <rect width='1080' height='110' fill='#ffffff'/>\n\
-     <g stroke-width='4' stroke-linecap='round'>\n\
-     <g stroke='#999999'><line x1='40' y1='20' x2='60' y2='20'/>\
-     <text x='68' y='24' stroke='none'>accepted by no server</text></g>\n\
-     <circle cx='300' cy='20' r='3' fill='#000000' stroke='#ffffff' stroke-width='1'/>\
-     <text x='308' y='24' stroke='none'>broken</text>\n\
-     <circle cx='425' cy='20' r='2' fill='#ffffff' stroke='#000000' stroke-width='1'/>\
-     <text x='433' y='24' stroke='none'>refused</text>\n\
-     <g stroke='#000000' stroke-width='1' stroke-dasharray='4 2'>\
-     <line x1='550' y1='12' x2='550' y2='28'/>\
-     <text x='558' y='24' stroke='none'>change of the table, with its version</text></g>\n\
-     </g>\n\
+/// One tick.
+static EMPTY: &str = "</g>\n\
      <g text-anchor='middle'>\n\
      <g stroke='#dddddd'><line x1='40' y1='74' x2='40' y2='86'/>\
      <text x='40' y='54' stroke='none'>0.000000000 s</text>\
@@ -299,31 +269,47 @@ fn history(alloc: Global, events: &[Event]) -> Result<History, Fail> {
     Ok(History { stage, events })
 }
 
+/// A drawing of this height, with this text behind the legend.
+fn drawn(alloc: Global, height: u32, text: &str) -> Result<String, AllocError> {
+    let mut all = format!(in alloc;
+        "<svg xmlns='http://www.w3.org/2000/svg' version='1.1' width='1080' height='{height}' \
+         viewBox='0 0 1080 {height}' font-family='sans-serif' font-size='11'>\n\
+         <title>connections</title>\n\
+         <rect width='1080' height='{height}' fill='#ffffff'/>\n"
+    )?;
+    all.push_str(LEGEND)?;
+    all.push_str(text)?;
+    Ok(all)
+}
+
 /// Tests the drawing of these connections in a history of these events.
 fn check(
     rt: &impl Abort,
     alloc: Global,
     events: &[Event],
     table: &[Connection],
-    text: &str,
+    want: &str,
 ) -> Result<(), Fail> {
     let h = history(alloc, events)?;
-    let drawn = drawing(alloc, &h, table)?;
-    assert_eq!(rt; drawn.as_str(), text);
+    let text = drawing(alloc, &h, table)?;
+    assert_eq!(rt; text.as_str(), want);
     Ok(())
 }
 
 #[test]
 fn connections_and_changes_are_drawn(rt: HostRuntime) -> Result<(), Fail> {
-    check(&rt, rt.alloc(), &EVENTS, &TABLE, TEXT)
+    let want = drawn(rt.alloc(), 146, TEXT)?;
+    check(&rt, rt.alloc(), &EVENTS, &TABLE, &want)
 }
 
 #[test]
 fn microseconds_and_an_unaccepted_connection_are_drawn(rt: HostRuntime) -> Result<(), Fail> {
-    check(&rt, rt.alloc(), &[], &SHORT, UNACCEPTED)
+    let want = drawn(rt.alloc(), 116, UNACCEPTED)?;
+    check(&rt, rt.alloc(), &[], &SHORT, &want)
 }
 
 #[test]
 fn nothing_is_drawn_where_there_is_nothing(rt: HostRuntime) -> Result<(), Fail> {
-    check(&rt, rt.alloc(), &[], &[], EMPTY)
+    let want = drawn(rt.alloc(), 110, EMPTY)?;
+    check(&rt, rt.alloc(), &[], &[], &want)
 }
