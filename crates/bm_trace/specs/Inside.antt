@@ -13,7 +13,6 @@ pub mod Movers
 pub mod Parts
 pub mod Pieces
 pub mod PlanMovers
-pub mod Ranges
 pub mod Rests
 pub mod Running
 pub mod Seen
