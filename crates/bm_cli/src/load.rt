@@ -35,6 +35,7 @@ pub(crate) fn run_load<R: Threads + Wait + Sync, K: Sink, G: Gate>(
 }
 
 /// The line of the load of n connections, run in threads.
+#[tactic(auto, using(bm_trace::proofs::Ranged::ranges_of))]
 fn line_of<R: Threads + Wait + Sync, G: Gate>(
     rt: &R,
     alloc: Global,

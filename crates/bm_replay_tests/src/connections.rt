@@ -19,6 +19,7 @@ use std::test::Fail;
 const GAP: u64 = 100_000_000_000;
 
 /// Tests the text of the history's connections.
+#[tactic(auto, using(bm_trace::proofs::Ranged::ranges_of))]
 fn check(rt: &impl Abort, alloc: Global, h: &History, text: &str) -> Result<(), Fail>
     requires { IsRun h.now }
 {
@@ -97,6 +98,7 @@ fn what_became_of_connections_is_told(rt: HostRuntime) -> Result<(), Fail> {
 }
 
 /// Tests the lines of servers 2 and 1, and of two causes.
+#[tactic(auto, using(bm_trace::proofs::Ranged::ranges_of))]
 fn check_counts(rt: &impl Abort, alloc: Global, h: &History) -> Result<(), Fail>
     requires { IsRun h.now }
 {
@@ -129,6 +131,7 @@ fn servers_and_causes_are_counted(rt: HostRuntime) -> Result<(), Fail> {
 }
 
 /// Tests the line of the longest wait.
+#[tactic(auto, using(bm_trace::proofs::Ranged::ranges_of))]
 fn check_late(rt: &impl Abort, alloc: Global, h: &History) -> Result<(), Fail>
     requires { IsRun h.now }
 {

@@ -166,15 +166,15 @@ fn packets_behind_those_let_go_come(rt: HostRuntime) -> Result<(), Fail> {
 #[test]
 fn threads_write_the_same_report(rt: HostRuntime) -> Result<(), Fail> {
     let alloc = rt.alloc();
-    // three pieces of lines, of which the last is shorter
+    // four pieces of lines, of which the last is shorter, and in the first the mux gets a version
     let rows = many_rows(alloc, 16_400)?;
     let (capture, packets) = capture(alloc, GAP, &rows)?;
-    let stage = bare_stage(alloc, 4_096, false, capture)?;
+    let stage = moved_stage(alloc, capture)?;
     let history = history(alloc, stage, packets, false)?;
     let mut one = Vec::new(alloc);
     report(&history, &mut one)?;
     let mut many = MemSink::new(alloc, Vec::new(alloc));
-    report_beside(&rt, alloc, 2, &history, &mut many).map_err(|_| "the sink failed")?;
+    report_beside(&rt, alloc, 3, &history, &mut many).map_err(|_| "the sink failed")?;
     assert_eq!(rt; many.written(), one.as_slice());
     Ok(())
 }

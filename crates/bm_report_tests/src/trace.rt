@@ -135,6 +135,7 @@ fn put_events(list: &mut Vec<Event>, rows: &[EventRow]) -> Result<(), Memory> {
     Ok(())
 }
 
+/// One event of each kind. No run has these.
 fn events(alloc: Global) -> Result<List<Event>, Memory> {
     let mut list = Vec::new(alloc);
     put_events(&mut list, &PROCESSED)?;
@@ -240,8 +241,7 @@ fn each_event_and_each_record_has_its_line(rt: HostRuntime) -> Result<(), Fail> 
     Ok(())
 }
 
-/// No run has these events: they are one of each kind. A packet is sent, and is processed where it
-/// arrives.
+/// A packet is sent, and is processed where it arrives.
 static PROCESSED: [EventRow; 7] = [
     (1, Publish(1), "1 publish 1"),
     (2, Switch(0, 1), "2 switch 0 1"),
@@ -298,7 +298,7 @@ static TAKEN: [EventRow; 6] = [
     ),
 ];
 
-/// What is dropped or lost, and what the cause of a reset or drop is.
+/// What is dropped or lost, what comes behind an end, and causes.
 static REFUSED: [EventRow; 8] = [
     (
         14,
