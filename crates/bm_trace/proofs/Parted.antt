@@ -1,9 +1,9 @@
 -- Texts that are written line by line.
-use Rattle.std.proofs.Common.{◌≡◌, ℕ, suc, ◌+◌, ◌<◌, List, [], ◌∷◌, ◌++◌, length, take, drop, get_or, refl, ap, ◌∙◌}
-use Rattle.std.proofs.Common.{sym, arith, append_assoc, length-append, Option, Some, subst}
+use Rattle.std.proofs.Common.{◌≡◌, ℕ, suc, ◌+◌, ◌<◌, ◌≤◌, List, [], ◌∷◌, ◌++◌, length, take, drop, get_or, refl}
+use Rattle.std.proofs.Common.{ap, ◌∙◌, sym, arith, append_assoc, length-append, Option, Some, subst}
 use Rattle.std.specs.Prelude.{reverse, codes, decimal, Result, Ok, Err, OnErr, OnOk}
 use Rattle.std.specs.Io.KnownBytes.{Appends}
-use Rattle.std.proofs.lemmas.List.{append-nil, reverse-append, take-append-drop}
+use Rattle.std.proofs.lemmas.List.{append-nil, reverse-append, take-append-drop, take_all}
 use Rattle.std.proofs.lemmas.Grind.{common_steps}
 use Rattle.bm_base.specs.declared.capture.Body.{Body}
 use Rattle.bm_base.specs.declared.capture.Body.TheVariants.{Steerable, Unsteered}
@@ -108,6 +108,14 @@ events_left stage shown events i a b p q same before =
     lines_lost a b p q _ (later_lines stage (reverse (drop i shown)) (reverse (take i shown))) _
     (events_all stage shown events i same) before
 
+-- every event has its line
+pub events_done : (stage : Stage) (shown events : List Event) (i : ℕ) (a b : Option (List ℕ)) (p q : List ℕ)
+    → shown ≡ events → length shown ≤ i
+    → HandsOn a p b q (event_lines stage (reverse (take i shown)))
+    → HandsOn a p b q (event_lines stage (reverse events))
+events_done stage shown events i a b p q same end =
+    subst (λ xs. HandsOn a p b q (event_lines stage (reverse xs))) (take_all i shown end ∙ same)
+
 -- THE RECORDS
 
 records_append : (past : List Event) (k : ℕ) (a b : List Record)
@@ -131,6 +139,13 @@ same_words : (past : List Event) (k : ℕ) (body : Body) (ends : List End) → w
     → words_of_record body ends ≡ record_words past k body
 same_words past k (Unsteered reason) ends e = refl
 same_words past k (Steerable s) ends e = e
+
+-- every record has its line
+pub records_done : (past : List Event) (shown records : List Record) (i : ℕ) (a b : Option (List ℕ)) (p q : List ℕ)
+    → shown ≡ records → length shown ≤ i
+    → HandsOn a p b q (record_lines past 1 (take i shown)) → HandsOn a p b q (record_lines past 1 records)
+records_done past shown records i a b p q same end =
+    subst (λ xs. HandsOn a p b q (record_lines past 1 xs)) (take_all i shown end ∙ same)
 
 records_step : (past : List Event) (records : List Record) (i : ℕ) (d : Record) (ends : List End)
     → i < length records → words_of_ends ends ≡ ends_of past (i + 1)

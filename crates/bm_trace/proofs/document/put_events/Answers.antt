@@ -1,7 +1,7 @@
 use Rattle.std.proofs.Common.{◌∙◌}
 use Rattle.bm_trace.proofs.Handing.{none_sent}
-use Rattle.bm_trace.proofs.Parted.{events_left, events_more, events_refused, on_err}
-use Rattle.bm_trace.proofs.Sweeping.{versions_next}
+use Rattle.bm_trace.proofs.Parted.{events_done, events_left, events_more, events_refused, on_err}
+use Rattle.bm_trace.proofs.Sweeping.{cause_here, versions_next}
 use Rattle.bm_trace.proofs.document.put_events.Goals as goal
 
 pub returns-in_err-versions-clause-err : goal.returns-in_err-versions-clause-err
@@ -28,3 +28,13 @@ loop-place-preserved g c = record {
       c.note_version.ensures c.loop-place.invariant.known;
   later = c.in_ok-put_full.ensures.cause.kept ∙ c.loop-place.invariant.later;
 }
+
+pub returns-clause-ok : goal.returns-clause-ok
+returns-clause-ok g c =
+    events_done c.args.h.now.stage c.items-events.result.now c.args.h.now.events c.loop-place.place _ _ _ _
+    c.items-events.ensures c.loop-place-test.false c.loop-place.invariant.written
+
+pub write_event-requires-clause-cause : goal.write_event-requires-clause-cause
+write_event-requires-clause-cause g c =
+    cause_here c.args.h.now c.items-events.result.now c.loop-place.place _ c.args.causes.now _ c.items-events.ensures
+    c.loop-place-test.true c.requires.causes c.at-cause.ensures

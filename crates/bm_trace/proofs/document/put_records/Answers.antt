@@ -1,7 +1,8 @@
 use Rattle.std.proofs.Common.{◌∙◌, reverse, arith}
 use Rattle.bm_trace.proofs.Handing.{none_sent}
 use Rattle.bm_trace.specs.Inside.EndTables.{ends_at, with_later}
-use Rattle.bm_trace.proofs.Parted.{both_same, ends_there, on_err, records_left, records_more, records_refused}
+use Rattle.bm_trace.proofs.Parted.{both_same, ends_there, on_err, records_done, records_left, records_more}
+use Rattle.bm_trace.proofs.Parted.{records_refused}
 use Rattle.bm_trace.proofs.document.put_records.Goals as goal
 
 pub returns-in_err-ends-clause-err : goal.returns-in_err-ends-clause-err
@@ -36,3 +37,8 @@ loop-place-preserved g c = record {
       c.loop-place.invariant.written c.in_ok-write_record.ensures c.in_ok-put_full.ensures.ok;
   later = c.in_ok-put_full.ensures.cause.kept ∙ c.loop-place.invariant.later;
 }
+
+pub returns-clause-ok : goal.returns-clause-ok
+returns-clause-ok g c =
+    records_done (reverse c.args.h.now.events) c.items-records.result.now c.args.h.now.stage.capture.records
+    c.loop-place.place _ _ _ _ c.items-records.ensures c.loop-place-test.false c.loop-place.invariant.written

@@ -1,6 +1,6 @@
-use Rattle.std.proofs.Common.{subst, sym, ◌∙◌}
+use Rattle.std.proofs.Common.{◌∙◌, ap, rules, subst, sym}
 use Rattle.std.proofs.lemmas.List.{with_items_is}
-use Rattle.bm_trace.specs.Inside.Pieces.{AreInRow, AreWritten}
+use Rattle.bm_trace.specs.Inside.Pieces.{AreInRow, AreWritten, HasDealt}
 use Rattle.bm_trace.proofs.Parted.{on_err}
 use Rattle.bm_trace.proofs.Pieces.{all_written, puts_left, puts_none}
 use Rattle.bm_trace.proofs.beside.Round.put.Goals as goal
@@ -21,3 +21,17 @@ put_pieces-requires-clause-written g c =
     (c.in_ok-behind.ensures.count ∙ c.as_mut_slice.ensures.len)
     in subst (AreWritten h from) (sym is)
     (all_written h from _ _ c.in_ok-behind.ensures.count row c.in_ok-behind.ensures.each)
+
+pub returns-clause-round : goal.returns-clause-round
+returns-clause-round g c =
+    let h = c.args.h.now
+    in let is = ap (λ (v : _). v.items) c.swap.ensures.x_after
+    ∙ with_items_is c.args.self.now.spare c.write_beside.new.spare
+    (c.in_ok-behind.ensures.spare ∙ c.as_mut_slice-2.ensures.len)
+    in record {
+      from = search rules;
+      dealt = subst (λ pieces. HasDealt h c.args.self.now.to pieces c.write_beside.new.sweeper c.in_ok-behind.behind)
+          (sym is) c.in_ok-behind.ensures.dealt;
+      some = search rules;
+      spare = search rules;
+    }
