@@ -4,6 +4,7 @@ ghost use Rattle.std.specs.Prelude.{length};
 ghost use Rattle.bm_base.specs.declared.ids.ServerId.{ServerId};
 ghost use Rattle.bm_base.specs.Pieces.{cleared};
 ghost use Rattle.bm_link.specs.Fits.{ArePackets};
+ghost use Rattle.bm_table.specs.Plans.{IsPlan};
 ghost use Rattle.bm_table.specs.Tables.{next_change};
 ghost use Rattle.bm_route.specs.Routes.{Answers, IsRoute};
 ghost use Rattle.bm_fault.specs.Faults.{Gives, IsRule};
@@ -17,6 +18,7 @@ ghost use Rattle.bm_replay.specs.Inside.Players as players;
 ghost use Rattle.bm_replay.specs.Inside.Players.{CanArrive, CanSteer, CanSwitch, HasArrived};
 ghost use Rattle.bm_replay.specs.Inside.Players.{HasCalled};
 ghost use Rattle.bm_replay.specs.Inside.Players.{HasClosed, HasGone, HasLetGo, HasPlaces};
+ghost use Rattle.bm_replay.specs.Inside.Players.{HasRoom};
 ghost use Rattle.bm_replay.specs.Inside.Players.{HasRetired};
 ghost use Rattle.bm_replay.specs.Inside.Players.{HasSent, KeepsPackets};
 ghost use Rattle.bm_replay.specs.Inside.Players.{HasSteered, HasSwitched, HasSynced, IsNew};
@@ -89,6 +91,35 @@ pub(crate) struct Player {
     pub(crate) shards: Shards,
 }
 
+/// What a replay has before anything happened.
+#[derive(Drop)]
+struct Room {
+    events: Events,
+    muxes: Muxes,
+    shards: Shards,
+}
+
+impl Room {
+    /// No events, and muxes and shards as they are at first.
+    fn new(alloc: Global, stage: &Stage) -> Result<Room, Memory>
+        requires { IsSound stage.now }
+        ensures plan { IsPlan stage.now.script.plan }
+        ensures room { IfOk result (HasRoom stage.now) }
+    {
+        let setting = &stage.script.setting;
+        let plan = &stage.script.plan;
+        // Each change is published.
+        let events = Events::with_room(alloc, plan.versions() as usize)?;
+        let muxes = Muxes::new(alloc, plan, setting.muxes)?;
+        let shards = Shards::new(alloc, setting, SERVERS)?;
+        Ok(Room {
+            events,
+            muxes,
+            shards,
+        })
+    }
+}
+
 impl Player {
     /// Nothing happened yet.
     pub(crate) fn new(alloc: Global, stage: Stage, packets: Octets) -> Result<Player, Memory>
@@ -96,14 +127,14 @@ impl Player {
         requires packets { ArePackets stage.capture.records packets }
         ensures { IfOk result (IsNew stage) }
     {
+        let Room {
+            events,
+            muxes,
+            shards,
+        } = Room::new(alloc, &stage)?;
         let setting = &stage.script.setting;
-        let plan = &stage.script.plan;
         let commands = stage.script.commands.items();
-        // Each change is published.
-        let events = Events::with_room(alloc, plan.versions() as usize)?;
-        let muxes = Muxes::new(alloc, plan, setting.muxes)?;
-        let switch = muxes.soonest(plan, setting.lags.items(), setting.muxes);
-        let shards = Shards::new(alloc, setting, SERVERS)?;
+        let switch = muxes.soonest(&stage.script.plan, setting.lags.items(), setting.muxes);
         let close = next_close(commands, 0);
         let retire = next_retire(commands, 0);
         let sync = next_sync(commands, 0);

@@ -1,9 +1,10 @@
 //! The replay of a stage.
-ghost use Rattle.std.specs.Prelude.{◌≡◌, IfOk};
+ghost use Rattle.std.specs.Prelude.{◌≡◌, IfOk, OnOk, false};
 ghost use Rattle.bm_core.specs.Histories.{IsReplay};
 ghost use Rattle.bm_core.specs.Stages.{IsSound};
 ghost use Rattle.bm_fault.specs.Faults.{Gives, IsRule};
 ghost use Rattle.bm_link.specs.Fits.{ArePackets};
+ghost use Rattle.bm_replay.specs.Inside.Playing.{HasStepped, IsPlaying};
 ghost use Rattle.bm_route.specs.Routes.{Answers, IsRoute};
 
 use crate::carrier::Carrier;
@@ -35,9 +36,28 @@ pub fn replay<R: Fn(u32, &Flow) -> u16, F: Fn(u32, Hop) -> Fate>(
         (IsReplay (Answers R.Fn route.now.rule) (Gives F.Fn faults.now.rule)) }
 {
     let mut player = Player::new(alloc, stage, octets)?;
+    play(alloc, &mut player, route, faults)?;
+    Ok(player.into_history())
+}
+
+/// Plays on to the end.
+fn play<R: Fn(u32, &Flow) -> u16, F: Fn(u32, Hop) -> Fate>(
+    alloc: Global,
+    player: &mut Player,
+    route: &Route<R>,
+    faults: &Faults<F>,
+) -> Result<(), Memory>
+    requires playing { IsPlaying (Answers R.Fn route.now.rule) (Gives F.Fn faults.now.rule)
+        player.old }
+    requires route { IsRoute R.Fn route.now.rule route.now.muxes }
+    requires muxes { route.now.muxes ≡ player.old.stage.script.setting.muxes }
+    requires faults { IsRule F.Fn faults.now.rule }
+    ensures { OnOk result (HasStepped (Answers R.Fn route.now.rule) (Gives F.Fn faults.now.rule)
+        player.old player.new false) }
+{
     let mut carrier = Carrier::empty(alloc);
     while player.step(&mut carrier, route, faults)? {
         player.let_go();
     }
-    Ok(player.into_history())
+    Ok(())
 }

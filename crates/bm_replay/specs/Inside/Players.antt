@@ -38,6 +38,7 @@ use Rattle.bm_core.specs.Soon.{IsSoon}
 use Rattle.bm_replay.specs.declared.mux.Mux.{Mux}
 use Rattle.bm_replay.specs.declared.player.Loss.{Loss}
 use Rattle.bm_replay.specs.declared.player.Player.{Player}
+use Rattle.bm_replay.specs.declared.player.Room.{Room}
 use Rattle.bm_replay.specs.declared.queue.Queue.{Queue}
 use Rattle.bm_replay.specs.declared.coming.Coming.{Coming}
 use Rattle.bm_link.specs.Fits.{ArePackets, IsPacketOf}
@@ -60,6 +61,14 @@ abbrev pub switch_for : Stage → List Mux → Option Due
 switch_for stage muxes =
     least (switches_of stage.script.plan stage.script.setting.lags stage.script.setting.muxes muxes
     stage.script.setting.muxes)
+
+-- no events, and muxes and shards as they are at first
+pub record HasRoom (stage : Stage) (room : Room) : Type 0 where
+  pub events : room.events ≡ []
+  pub muxes : length room.muxes ≡ stage.script.setting.muxes
+  pub tables : (m : ℕ) → m < stage.script.setting.muxes
+      → HasTable stage.script.plan 0 (slice_get room.muxes m)
+  pub shards : room.shards ≡ all_shards stage.script.setting 1025
 
 -- nothing happened yet
 pub record IsNew (stage : Stage) (p : Player) : Type 0 where

@@ -13,17 +13,17 @@ soonest-switch-requires-clause-moments c = change_early c.args.stage.script c.re
 pub returns : goal.returns
 returns c = record {
   about = refl;
-  plan = c.versions.ensures.kept;
-  events = c.in_ok-events.ensures;
+  plan = c.in_ok-events.ensures.plan;
+  events = c.in_ok-events.ensures.room.events;
   clock = refl;
   loss = refl;
-  wire = c.new-3.ensures;
+  wire = c.new-2.ensures;
   published = refl;
-  muxes = c.in_ok-muxes.ensures.so_many;
-  tables = c.in_ok-muxes.ensures.each;
+  muxes = c.in_ok-events.ensures.room.muxes;
+  tables = c.in_ok-events.ensures.room.tables;
   switch = c.soonest-switch.ensures
       ∙ ap (λ (lags : List ℕ). least
-      (switches_of c.args.stage.script.plan lags c.args.stage.script.setting.muxes c.in_ok-muxes.muxes
+      (switches_of c.args.stage.script.plan lags c.args.stage.script.setting.muxes c.in_ok-events.field-0.muxes
       c.args.stage.script.setting.muxes)) c.items.ensures;
   close = subst
       (λ (l : List Command). IsHead (closes_from l 0) (closes_from l c.next_close-close.result.next)
@@ -44,6 +44,6 @@ returns c = record {
   within = subst (λ (l : List Record). c.next_packet-packet.result.next ≤ length l) c.items-2.ensures
       c.next_packet-packet.ensures.within;
   cleared = refl;
-  shards = c.in_ok-shards.ensures;
+  shards = c.in_ok-events.ensures.room.shards;
   packets = c.requires.packets;
 }
