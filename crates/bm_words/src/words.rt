@@ -1,8 +1,8 @@
 //! Reads the words.
 ghost use Rattle.std.specs.Prelude.{◌≡◌, ◌≤◌, IfErr, IfOk, IfSome, IsSome, Some, drop, is_some};
 ghost use Rattle.std.specs.Prelude.{map, option_map, string_bytes, true};
-ghost use Rattle.clap.specs.Words.{app_of, subcommand_of, subcommand_rows_of, takes};
-ghost use Rattle.bm_words.specs.Inside.Command.{beamer};
+ghost use Rattle.clap.specs.Words.{app_of, subcommand_of, subcommand_rows_of, takes, with_subcommand};
+ghost use Rattle.bm_words.specs.Inside.Command.{beamer, with_connections, with_files};
 ghost use Rattle.bm_words.specs.Form.{HasCount, asked, asked_by, connections_of, form_in, named};
 ghost use Rattle.bm_words.specs.Form.{names_of, play_of};
 
@@ -122,18 +122,36 @@ fn matches_in<'a>(alloc: Global, words: &'a [String]) -> Result<ArgMatches<'a>, 
 fn command<'a>(alloc: Global) -> Result<Command<'a>, AllocError>
     ensures { IfOk result (λ command. app_of command ≡ beamer) }
 {
-    let replay = Command::new(alloc, "replay")
-        .arg(Arg::new(alloc, "capture"))?
-        .arg(Arg::new(alloc, "script"))?;
-    let run = Command::new(alloc, "run")
-        .arg(Arg::new(alloc, "capture"))?
-        .arg(Arg::new(alloc, "script"))?;
-    let load = Command::new(alloc, "load").arg(Arg::new(alloc, "connections"))?;
-    let top = Command::new(alloc, "beamer")
+    let bare = Command::new(alloc, "beamer")
         .no_binary_name(true)
-        .disable_help_subcommand(true)
-        .subcommand(replay)?
-        .subcommand(run)?
-        .subcommand(load)?;
-    Ok(top)
+        .disable_help_subcommand(true);
+    let replay = with_files(alloc, bare, "replay")?;
+    let run = with_files(alloc, replay, "run")?;
+    with_connections(alloc, run)
+}
+
+/// The command with one more subcommand, of this name, that takes a capture and a script.
+fn with_files<'a>(
+    alloc: Global,
+    command: Command<'a>,
+    name: &'a str,
+) -> Result<Command<'a>, AllocError>
+    ensures { IfOk result (λ more.
+        app_of more ≡ with_subcommand (app_of command.entry) (with_files name.entry.now).top) }
+{
+    let files = Command::new(alloc, name)
+        .arg(Arg::new(alloc, "capture"))?
+        .arg(Arg::new(alloc, "script"))?;
+    let more = command.subcommand(files)?;
+    Ok(more)
+}
+
+/// The command with one more subcommand, `load`, that takes a number.
+fn with_connections<'a>(alloc: Global, command: Command<'a>) -> Result<Command<'a>, AllocError>
+    ensures { IfOk result (λ more.
+        app_of more ≡ with_subcommand (app_of command.entry) with_connections.top) }
+{
+    let load = Command::new(alloc, "load").arg(Arg::new(alloc, "connections"))?;
+    let more = command.subcommand(load)?;
+    Ok(more)
 }
