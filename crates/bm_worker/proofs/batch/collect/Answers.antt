@@ -1,6 +1,7 @@
-use Rattle.std.proofs.Common.{◌<◌, length, arith}
+use Rattle.std.proofs.Common.{◌≡◌, ◌<◌, ℕ, length, sym, subst, arith}
 use Rattle.bm_fault.specs.Faults.{Gives}
-use Rattle.bm_worker.proofs.Collecting.{collected_new, collected_push}
+use Rattle.bm_worker.specs.Inside.Batches.{AreCollected}
+use Rattle.bm_worker.proofs.Collecting.{collected_new, collected_push, collected_skip}
 use Rattle.bm_worker.proofs.batch.collect.Goals as goal
 
 pub loop-at-init : goal.loop-at-init
@@ -35,3 +36,32 @@ loop-at-preserved g c =
           c.item_at-item.ensures.item c.fate-fate.ensures.gives c.fate-fate.ensures.copies c.fate-fate.ensures.delay
           i.all;
     }
+
+pub is_turn-requires : goal.is_turn-requires
+is_turn-requires g c =
+    let many = c.requires.run.count in let until = c.requires.until.1 in let test = c.loop-at-test.true in
+    omega (arith, many, until, test)
+
+pub loop-at-preserved-then-not-is_turn : goal.loop-at-preserved-then-not-is_turn
+loop-at-preserved-then-not-is_turn g c =
+    let i = c.loop-at.invariant in record {
+      at = let le = i.at in omega (arith, le);
+      all = collected_skip (Gives g.F.Fn c.args.shared.now.faults.now.rule) c.args.shared.now.stage.now
+          c.args.shared.now.routes.now c.args.mux.0 c.args.from c.loop-at.at c.loop-at.items.items
+          c.loop-at.fates.items (sym c.if-not-is_turn.ensures) i.all;
+    }
+
+pub item_at-item-requires-clause-at : goal.item_at-item-requires-clause-at
+item_at-item-requires-clause-at g c =
+    let until = c.requires.until.1 in let test = c.loop-at-test.true in omega (arith, until, test)
+
+pub item_at-item-requires-clause-turn : goal.item_at-item-requires-clause-turn
+item_at-item-requires-clause-turn g c = sym c.if-not-is_turn.ensures
+
+pub returns-clause-all : goal.returns-clause-all
+returns-clause-all g c =
+    let test = c.loop-at-test.false in let end = c.loop-at.auto.at-end in
+    let over : c.loop-at.at ≡ c.args.until = omega (arith, test, end) in
+    subst (λ (end : ℕ). AreCollected (Gives g.F.Fn c.args.shared.now.faults.now.rule) c.args.shared.now.stage.now
+    c.args.shared.now.routes.now c.args.mux.0 c.args.from end c.loop-at.items.items c.loop-at.fates.items) over
+    c.loop-at.invariant.all
