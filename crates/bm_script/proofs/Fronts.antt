@@ -1,19 +1,24 @@
 -- Items read one after the other, as a loop does.
 use Rattle.std.proofs.Common.{◌≡◌, ℕ, ◌+◌, ◌<◌, ◌≤◌, Bool, true, false, ◌&&◌, nat_le, List, [], ◌∷◌, ◌++◌, length}
 use Rattle.std.proofs.Common.{get_or, drop, Option, Some, None, Result, Ok, Err, refl, sym, ap, ◌∙◌, append_assoc}
-use Rattle.std.proofs.Common.{arith, cond}
-use Rattle.std.proofs.lemmas.List.{append-nil, drop_all}
+use Rattle.std.proofs.Common.{arith, cond, length-append}
+use Rattle.std.proofs.lemmas.List.{append-nil, drop_all, drop_more}
+use Rattle.std.proofs.lemmas.Option.{get_or_from_slice_get}
+use Rattle.std.specs.List.{slice_get}
+use Rattle.std.specs.String.{string_bytes}
 use Rattle.toml.specs.declared.value.Value.{Value}
 use Rattle.toml.specs.Data.{Data, Items, item, as_array, as_table, Members}
-use Rattle.toml.specs.View.{items_view, view}
-use Rattle.toml.proofs.Views.{items_view-drop}
+use Rattle.toml.specs.View.{items_view, members_view, view}
+use Rattle.toml.proofs.Views.{Entry, items_view-drop}
 use Rattle.bm_base.specs.declared.ids.ServerId.{ServerId}
 use Rattle.bm_script.specs.declared.fault.ScriptFault.{ScriptFault}
 use Rattle.bm_script.specs.declared.fault.Place.TheVariants.{Top}
+use Rattle.bm_script.specs.declared.key.Key.{Key}
 use Rattle.bm_script.specs.declared.key.Key.TheVariants as key
 use Rattle.bm_script.specs.Commands.{Progress, after_command, after_commands, row_of, rows_from}
 use Rattle.bm_script.specs.declared.fault.ScriptFault.TheVariants.{BadValue}
 use Rattle.bm_script.specs.Faults.{◌>>=◌}
+use Rattle.bm_script.specs.Keys.{first_unknown, is_key}
 use Rattle.bm_script.specs.Values as values
 use Rattle.bm_table.specs.declared.setting.FaultRow.{FaultRow}
 use Rattle.bm_table.specs.Settings.{RiseFrom}
@@ -140,6 +145,25 @@ tables-bad vs i d total lt is so_far = rw (← so_far, items_view-drop vs i d lt
 pub tables-end : (vs : List Value) (i : ℕ) (total : Bool) → length vs ≤ i
     → values.are_tables (items_view (drop i vs)) ≡ total → true ≡ total
 tables-end vs i total le so_far = rw (← so_far, drop_all i vs le) refl
+
+-- KEYS
+
+module _ (keys : List Key) (all : List Entry) where
+  pub unknown-more : {A : Type 0} (shows : A → Entry) (xs : List A) (x : A)
+      → (length xs < length all) × (slice_get all (length xs) ≡ Some (shows x))
+      → is_key keys (string_bytes (shows x).0) ≡ true
+      → first_unknown keys (members_view (drop (length (xs ++ x ∷ [])) all))
+      ≡ first_unknown keys (members_view (drop (length xs) all))
+  unknown-more shows xs x at known =
+      rw (
+        length-append xs (x ∷ []),
+        drop_more all (length xs) (shows x) at.0,
+        get_or_from_slice_get all (length xs) (shows x) (shows x) at.1,
+        known,
+      ) refl
+
+  pub unknown-end : (n : ℕ) → n ≡ length all → None ≡ first_unknown keys (members_view (drop n all))
+  unknown-end n is = rw (drop_all n all (omega (arith, is))) refl
 
 -- FAULT ROWS
 
