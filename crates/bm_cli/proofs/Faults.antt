@@ -1,5 +1,6 @@
 -- Faults, their statuses and their lines.
-use Rattle.std.proofs.Common.{◌≡◌, ◌≢◌, ◌⊎◌, inl, inr, [], sym, ◌∙◌, refl}
+use Rattle.std.proofs.Common.{◌≡◌, ◌≢◌, ◌⊎◌, ◌==◌, inl, inr, false, [], sym, ap, ◌∙◌, refl}
+use Rattle.std.proofs.lemmas.Bool.{eqb-false}
 use Rattle.bm_cli.specs.declared.fault.CaptureFault.{CaptureFault}
 use Rattle.bm_cli.specs.declared.fault.CaptureFault.TheVariants.{NotACapture, BadVersion, BadLink, BadBlock}
 use Rattle.bm_cli.specs.declared.fault.CaptureFault.TheVariants.{ReadFault as SourceFault, TooLarge, BadLength}
@@ -15,18 +16,46 @@ use Rattle.bm_cli.specs.declared.fault.StageFault.{StageFault}
 use Rattle.bm_cli.specs.declared.fault.StageFault.TheVariants.{Files, LongScript, Seats, Script as OfScript}
 use Rattle.bm_cli.specs.declared.fault.StageFault.TheVariants.{Capture as OfCapture, Memory as WantsMemory}
 use Rattle.bm_cli.specs.declared.status.Status.{Status}
-use Rattle.bm_cli.specs.declared.status.Status.TheVariants.{Done, Usage, ReadFault, BadScript, WriteFault, Memory}
-use Rattle.bm_cli.specs.declared.status.Status.TheVariants.{Limit}
+use Rattle.bm_cli.specs.declared.status.Status.TheVariants.{BadCapture, BadScript, Done, Memory, ReadFault, Usage}
+use Rattle.bm_cli.specs.declared.status.Status.TheVariants.{Limit, WriteFault}
 use Rattle.bm_cli.specs.Lines.{capture_line, capture_status, fault_line, fault_status, refusal_status, script_line}
 use Rattle.bm_cli.specs.Lines.{script_status}
+use Rattle.bm_cli.specs.Statuses.{code_of}
 
 -- FAULTS AND THEIR STATUSES
+
+-- statuses with two codes are two
+apart : (s t : Status) → (code_of s == code_of t) ≡ false → s ≢ t
+apart s t codes = λ is. eqb-false (code_of s) (code_of t) codes (ap code_of is)
 
 -- a status of a fault: neither of the words, nor of a report, nor of the sink
 pub record IsOfFault (s : Status) : Type 0 where
   pub usage : s ≢ Usage
   pub done : s ≢ Done
   pub write : s ≢ WriteFault
+
+of_code : (s : Status) → (code_of s == code_of Usage) ≡ false → (code_of s == code_of Done) ≡ false
+    → (code_of s == code_of WriteFault) ≡ false → IsOfFault s
+of_code s usage done write = record {
+  usage = apart s Usage usage;
+  done = apart s Done done;
+  write = apart s WriteFault write;
+}
+
+bad_script : IsOfFault BadScript
+bad_script = of_code BadScript refl refl refl
+
+bad_capture : IsOfFault BadCapture
+bad_capture = of_code BadCapture refl refl refl
+
+read_fault : IsOfFault ReadFault
+read_fault = of_code ReadFault refl refl refl
+
+limit : IsOfFault Limit
+limit = of_code Limit refl refl refl
+
+memory : IsOfFault Memory
+memory = of_code Memory refl refl refl
 
 -- a refused command is a fault of the script, or passes a limit
 refused_by : (refusal : Refusal) → (refusal_status refusal ≡ BadScript) ⊎ (refusal_status refusal ≡ Limit)
@@ -49,101 +78,103 @@ refusal_is_not : (refusal : Refusal) (s : Status) → BadScript ≢ s → Limit 
 refusal_is_not refusal s script limit = neither (refusal_status refusal) s script limit (refused_by refusal)
 
 script_of_fault : (fault : ScriptFault) → IsOfFault (script_status fault)
-script_of_fault NotToml = record { usage = λ e. cc; done = λ e. cc; write = λ e. cc }
-script_of_fault (Missing place key) = record { usage = λ e. cc; done = λ e. cc; write = λ e. cc }
-script_of_fault (BadValue place key) = record { usage = λ e. cc; done = λ e. cc; write = λ e. cc }
-script_of_fault (Unknown place name) = record { usage = λ e. cc; done = λ e. cc; write = λ e. cc }
+script_of_fault NotToml = bad_script
+script_of_fault (Missing place key) = bad_script
+script_of_fault (BadValue place key) = bad_script
+script_of_fault (Unknown place name) = bad_script
 script_of_fault (Refused n refusal) = record {
-  usage = refusal_is_not refusal Usage (λ e. cc) (λ e. cc);
-  done = refusal_is_not refusal Done (λ e. cc) (λ e. cc);
-  write = refusal_is_not refusal WriteFault (λ e. cc) (λ e. cc);
+  usage = refusal_is_not refusal Usage bad_script.usage limit.usage;
+  done = refusal_is_not refusal Done bad_script.done limit.done;
+  write = refusal_is_not refusal WriteFault bad_script.write limit.write;
 }
-script_of_fault ScriptMemory = record { usage = λ e. cc; done = λ e. cc; write = λ e. cc }
+script_of_fault ScriptMemory = memory
 
 capture_of_fault : (fault : CaptureFault) → IsOfFault (capture_status fault)
-capture_of_fault NotACapture = record { usage = λ e. cc; done = λ e. cc; write = λ e. cc }
-capture_of_fault BadVersion = record { usage = λ e. cc; done = λ e. cc; write = λ e. cc }
-capture_of_fault (BadLink link) = record { usage = λ e. cc; done = λ e. cc; write = λ e. cc }
-capture_of_fault (BadBlock block) = record { usage = λ e. cc; done = λ e. cc; write = λ e. cc }
-capture_of_fault SourceFault = record { usage = λ e. cc; done = λ e. cc; write = λ e. cc }
-capture_of_fault TooLarge = record { usage = λ e. cc; done = λ e. cc; write = λ e. cc }
-capture_of_fault (BadLength number n) = record { usage = λ e. cc; done = λ e. cc; write = λ e. cc }
-capture_of_fault TooManyPackets = record { usage = λ e. cc; done = λ e. cc; write = λ e. cc }
-capture_of_fault NoMemory = record { usage = λ e. cc; done = λ e. cc; write = λ e. cc }
+capture_of_fault NotACapture = bad_capture
+capture_of_fault BadVersion = bad_capture
+capture_of_fault (BadLink link) = bad_capture
+capture_of_fault (BadBlock block) = bad_capture
+capture_of_fault SourceFault = read_fault
+capture_of_fault TooLarge = limit
+capture_of_fault (BadLength number n) = bad_capture
+capture_of_fault TooManyPackets = limit
+capture_of_fault NoMemory = memory
 
 pub of_fault : (fault : StageFault) → IsOfFault (fault_status fault)
-of_fault Files = record { usage = λ e. cc; done = λ e. cc; write = λ e. cc }
-of_fault LongScript = record { usage = λ e. cc; done = λ e. cc; write = λ e. cc }
-of_fault Seats = record { usage = λ e. cc; done = λ e. cc; write = λ e. cc }
+of_fault Files = read_fault
+of_fault LongScript = limit
+of_fault Seats = limit
 of_fault (OfScript fault) = script_of_fault fault
 of_fault (OfCapture fault) = capture_of_fault fault
-of_fault WantsMemory = record { usage = λ e. cc; done = λ e. cc; write = λ e. cc }
+of_fault WantsMemory = memory
 
 -- no fault of a script is one of the files
 pub script_reads : (fault : ScriptFault) → script_status fault ≢ ReadFault
-script_reads NotToml = λ e. cc
-script_reads (Missing place key) = λ e. cc
-script_reads (BadValue place key) = λ e. cc
-script_reads (Unknown place name) = λ e. cc
-script_reads (Refused n refusal) = refusal_is_not refusal ReadFault (λ e. cc) (λ e. cc)
-script_reads ScriptMemory = λ e. cc
+script_reads NotToml = apart BadScript ReadFault refl
+script_reads (Missing place key) = apart BadScript ReadFault refl
+script_reads (BadValue place key) = apart BadScript ReadFault refl
+script_reads (Unknown place name) = apart BadScript ReadFault refl
+script_reads (Refused n refusal) =
+    refusal_is_not refusal ReadFault (apart BadScript ReadFault refl) (apart Limit ReadFault refl)
+script_reads ScriptMemory = apart Memory ReadFault refl
 
 capture_read_line : (fault : CaptureFault) → capture_status fault ≡ ReadFault → capture_line fault ≡ fault_line Files
-capture_read_line NotACapture e = absurd (cc)
-capture_read_line BadVersion e = absurd (cc)
-capture_read_line (BadLink link) e = absurd (cc)
-capture_read_line (BadBlock block) e = absurd (cc)
+capture_read_line NotACapture e = absurd (apart BadCapture ReadFault refl e)
+capture_read_line BadVersion e = absurd (apart BadCapture ReadFault refl e)
+capture_read_line (BadLink link) e = absurd (apart BadCapture ReadFault refl e)
+capture_read_line (BadBlock block) e = absurd (apart BadCapture ReadFault refl e)
 capture_read_line SourceFault e = refl
-capture_read_line TooLarge e = absurd (cc)
-capture_read_line (BadLength number n) e = absurd (cc)
-capture_read_line TooManyPackets e = absurd (cc)
-capture_read_line NoMemory e = absurd (cc)
+capture_read_line TooLarge e = absurd (apart Limit ReadFault refl e)
+capture_read_line (BadLength number n) e = absurd (apart BadCapture ReadFault refl e)
+capture_read_line TooManyPackets e = absurd (apart Limit ReadFault refl e)
+capture_read_line NoMemory e = absurd (apart Memory ReadFault refl e)
 
 -- the line of a read that failed
 pub read_line : (fault : StageFault) → fault_status fault ≡ ReadFault → fault_line fault ≡ fault_line Files
 read_line Files e = refl
-read_line LongScript e = absurd (cc)
-read_line Seats e = absurd (cc)
+read_line LongScript e = absurd (apart Limit ReadFault refl e)
+read_line Seats e = absurd (apart Limit ReadFault refl e)
 read_line (OfScript fault) e = absurd (script_reads fault e)
 read_line (OfCapture fault) e = capture_read_line fault e
-read_line WantsMemory e = absurd (cc)
+read_line WantsMemory e = absurd (apart Memory ReadFault refl e)
 
 script_no_line : (fault : ScriptFault) → script_status fault ≡ Memory → script_line fault ≡ []
-script_no_line NotToml e = absurd (cc)
-script_no_line (Missing place key) e = absurd (cc)
-script_no_line (BadValue place key) e = absurd (cc)
-script_no_line (Unknown place name) e = absurd (cc)
-script_no_line (Refused n refusal) e = absurd (refusal_is_not refusal Memory (λ e. cc) (λ e. cc) e)
+script_no_line NotToml e = absurd (apart BadScript Memory refl e)
+script_no_line (Missing place key) e = absurd (apart BadScript Memory refl e)
+script_no_line (BadValue place key) e = absurd (apart BadScript Memory refl e)
+script_no_line (Unknown place name) e = absurd (apart BadScript Memory refl e)
+script_no_line (Refused n refusal) e =
+    absurd (refusal_is_not refusal Memory (apart BadScript Memory refl) (apart Limit Memory refl) e)
 script_no_line ScriptMemory e = refl
 
 capture_no_line : (fault : CaptureFault) → capture_status fault ≡ Memory → capture_line fault ≡ []
-capture_no_line NotACapture e = absurd (cc)
-capture_no_line BadVersion e = absurd (cc)
-capture_no_line (BadLink link) e = absurd (cc)
-capture_no_line (BadBlock block) e = absurd (cc)
-capture_no_line SourceFault e = absurd (cc)
-capture_no_line TooLarge e = absurd (cc)
-capture_no_line (BadLength number n) e = absurd (cc)
-capture_no_line TooManyPackets e = absurd (cc)
+capture_no_line NotACapture e = absurd (apart BadCapture Memory refl e)
+capture_no_line BadVersion e = absurd (apart BadCapture Memory refl e)
+capture_no_line (BadLink link) e = absurd (apart BadCapture Memory refl e)
+capture_no_line (BadBlock block) e = absurd (apart BadCapture Memory refl e)
+capture_no_line SourceFault e = absurd (apart ReadFault Memory refl e)
+capture_no_line TooLarge e = absurd (apart Limit Memory refl e)
+capture_no_line (BadLength number n) e = absurd (apart BadCapture Memory refl e)
+capture_no_line TooManyPackets e = absurd (apart Limit Memory refl e)
 capture_no_line NoMemory e = refl
 
 -- want of memory has no line
 pub memory_line : (fault : StageFault) → fault_status fault ≡ Memory → fault_line fault ≡ []
-memory_line Files e = absurd (cc)
-memory_line LongScript e = absurd (cc)
-memory_line Seats e = absurd (cc)
+memory_line Files e = absurd (apart ReadFault Memory refl e)
+memory_line LongScript e = absurd (apart Limit Memory refl e)
+memory_line Seats e = absurd (apart Limit Memory refl e)
 memory_line (OfScript fault) e = script_no_line fault e
 memory_line (OfCapture fault) e = capture_no_line fault e
 memory_line WantsMemory e = refl
 
 -- no fault of a capture is one of the script
 pub capture_no_script : (fault : CaptureFault) → capture_status fault ≢ BadScript
-capture_no_script NotACapture = λ e. cc
-capture_no_script BadVersion = λ e. cc
-capture_no_script (BadLink link) = λ e. cc
-capture_no_script (BadBlock block) = λ e. cc
-capture_no_script SourceFault = λ e. cc
-capture_no_script TooLarge = λ e. cc
-capture_no_script (BadLength number n) = λ e. cc
-capture_no_script TooManyPackets = λ e. cc
-capture_no_script NoMemory = λ e. cc
+capture_no_script NotACapture = apart BadCapture BadScript refl
+capture_no_script BadVersion = apart BadCapture BadScript refl
+capture_no_script (BadLink link) = apart BadCapture BadScript refl
+capture_no_script (BadBlock block) = apart BadCapture BadScript refl
+capture_no_script SourceFault = apart ReadFault BadScript refl
+capture_no_script TooLarge = apart Limit BadScript refl
+capture_no_script (BadLength number n) = apart BadCapture BadScript refl
+capture_no_script TooManyPackets = apart Limit BadScript refl
+capture_no_script NoMemory = apart Memory BadScript refl
