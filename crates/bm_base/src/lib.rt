@@ -25,6 +25,3 @@ pub use memory::Memory;
 pub use octets::{MAX_INNER, Octets};
 pub use receive::Taken;
 pub use text::Text;
-
-#[cfg(test)]
-mod tests;

@@ -197,7 +197,10 @@ fn records_have_their_link_types_and_octets(rt: HostRuntime) -> Result<(), Fail>
     for (want, size) in [(1, 54), (101, 50), (147, 40), (101, 40), (101, 50)] {
         let item = reader.next()?;
         assert!(rt;
-            matches!(item, NgItem::Record { link, octets, .. } if link == want && octets.len() == size)
+            matches!(
+                item,
+                NgItem::Record { link, octets, .. } if link == want && octets.len() == size
+            )
         );
     }
     assert!(rt; matches!(reader.next(), Ok(NgItem::End)));

@@ -1,5 +1,6 @@
 //! The run of a generated load.
 ghost use Rattle.std.specs.Prelude.{◌≤◌, IfOk, string_bytes};
+ghost use Rattle.bm_load.specs.Loaded.{IsRunOfLoad};
 ghost use Rattle.bm_cli.specs.Dues.{Shown};
 ghost use Rattle.bm_cli.specs.Telling.{Tells};
 ghost use Rattle.bm_cli.specs.Loads.{IsSummaryOf};
@@ -9,6 +10,7 @@ use crate::history::history_of;
 use crate::mode::Mode;
 use crate::status::{Status, say};
 use bm_base::Memory;
+use bm_core::History;
 use bm_io::{Gate, Sink};
 use bm_load::laws::loaded;
 use bm_load::{load_stage, summary};
@@ -35,7 +37,6 @@ pub(crate) fn run_load<R: Threads + Wait + Sync, K: Sink, G: Gate>(
 }
 
 /// The line of the load of n connections, run in threads.
-#[tactic(auto, using(bm_trace::proofs::Ranged::ranges_of))]
 fn line_of<R: Threads + Wait + Sync, G: Gate>(
     rt: &R,
     alloc: Global,
@@ -47,8 +48,18 @@ fn line_of<R: Threads + Wait + Sync, G: Gate>(
 {
     let (stage, packets) = load_stage(alloc, n)?;
     let history = history_of(rt, alloc, Mode::Run, stage, packets, gate)?;
-    loaded(&history, n);
-    let causes = sweep(alloc, &history)?;
-    let line = summary(alloc, n, &totals_of(&history, &causes))?;
+    line_by(alloc, n, &history)
+}
+
+/// The line of a run of the load of n connections.
+#[tactic(auto, using(bm_trace::proofs::Ranged::ranges_of))]
+fn line_by(alloc: Global, n: u32, history: &History) -> Result<String, Memory>
+    requires count { (1 ≤ n) × (n ≤ 20000) }
+    requires run { IsRunOfLoad n history.now }
+    ensures { IfOk result (λ line. IsSummaryOf n (string_bytes line)) }
+{
+    loaded(history, n);
+    let causes = sweep(alloc, history)?;
+    let line = summary(alloc, n, &totals_of(history, &causes))?;
     Ok(line)
 }

@@ -2,7 +2,7 @@
 use Rattle.std.proofs.Common.{◌≡◌, ℕ, zero, suc, ◌+◌, ◌*◌, ◌/◌, ◌%◌, ◌^◌, ◌<◌, ◌≤◌, List, [], ◌∷◌, ◌++◌}
 use Rattle.std.proofs.Common.{inl, inr, refl, sym, ap, ap₂, ◌∙◌, arith, false, Some, Option, Bool}
 use Rattle.std.proofs.Common.{append_assoc}
-use Rattle.std.proofs.Common.{ℤ, pos, ◌≤ℤ◌, neg_ℤ}
+use Rattle.std.proofs.Common.{pos, ◌≤ℤ◌, neg_ℤ}
 use Rattle.std.specs.Prelude.{codes}
 use Rattle.std.proofs.lemmas.Bool.{cases_lt, lt-ltb, le-ltb}
 use Rattle.jiff_core.specs.declared.civil.date.Date.{Date}

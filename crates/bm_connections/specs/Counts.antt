@@ -85,15 +85,16 @@ packets_by stage c [] = 0
 packets_by stage c (e ∷ past) =
     one_more (is_cause c (cause stage past e.clock.0 e.what)) (packets_by stage c past)
 
--- the first packet that broke the connection has the cause
-abbrev pub is_broken_by : Cause → Option Break → Bool
-is_broken_by c None = false
-is_broken_by c (Some b) = is_cause c b.cause
+-- there is a break or a refusal, and it has the cause
+abbrev pub is_break_by : Cause → Option Break → Bool
+is_break_by c None = false
+is_break_by c (Some b) = is_cause c b.cause
 
--- how many packets have the cause, and how many connections it broke first
+-- how many packets have the cause, and how many connections it broke first, or refused
 abbrev pub cause_count : History → Cause → CauseCount
 cause_count h c = record {
   cause = c;
   packets = packets_by h.stage c (reverse h.events);
-  connections = count_by (λ x. is_broken_by c x.broken) (connections h);
+  broken = count_by (λ x. is_break_by c x.broken) (connections h);
+  refused = count_by (λ x. is_break_by c x.refused) (connections h);
 }

@@ -107,7 +107,7 @@ abbrev pub cause_line : CauseCount → List ℕ
 cause_line c =
     line (codes "cause")
     (cause_word c.cause ∷ codes "packets" ∷ decimal c.packets
-    ∷ codes "connections" ∷ decimal c.connections ∷ [])
+    ∷ codes "broken" ∷ decimal c.broken ∷ codes "refused" ∷ decimal c.refused ∷ [])
 
 -- the line of the longest wait of packets that came too late
 abbrev pub late_line : LongestLate → List ℕ

@@ -1,4 +1,4 @@
-//! How many packets have a cause, and how many connections it broke.
+//! How many packets have a cause, and how many connections it broke or refused.
 ghost use Rattle.std.specs.Prelude.{◌≡◌, count_by, reverse};
 ghost use Rattle.bm_trace.specs.Swept.{AreCauses};
 ghost use Rattle.bm_connections.specs.Connections.{connections};
@@ -9,13 +9,14 @@ use crate::noted::one_more;
 use bm_core::{Cause, History};
 use bm_trace::CauseList;
 
-/// How many packets have a cause, each counted as often as it arrives with it, and how many
-/// connections it broke first.
+/// How many packets have a cause, each counted as often as it arrives with it, how many connections
+/// it broke first, and how many it refused.
 #[derive(Clone, Copy, Debug, PartialEq, Eq)]
 pub struct CauseCount {
     pub cause: Cause,
     pub packets: u64,
-    pub connections: u64,
+    pub broken: u64,
+    pub refused: u64,
 }
 
 fn number(cause: Cause) -> u8
@@ -42,10 +43,10 @@ pub(crate) fn is_cause(cause: Cause, found: Option<Cause>) -> bool
     }
 }
 
-fn is_broken_by(cause: Cause, broken: Option<Break>) -> bool
-    ensures { result ≡ spec.is_broken_by cause broken }
+fn is_break_by(cause: Cause, first: Option<Break>) -> bool
+    ensures { result ≡ spec.is_break_by cause first }
 {
-    match broken {
+    match first {
         None => false,
         Some(first) => is_cause(cause, first.cause),
     }
@@ -63,18 +64,27 @@ pub(crate) fn packets_by(h: &History, causes: &CauseList, cause: Cause) -> u64
     count
 }
 
-fn connections_by(table: &[Connection], cause: Cause) -> u64
-    ensures { result ≡ count_by (λ x. spec.is_broken_by cause x.broken) table.now }
+fn broken_by(table: &[Connection], cause: Cause) -> u64
+    ensures { result ≡ count_by (λ x. spec.is_break_by cause x.broken) table.now }
 {
     table
         .iter()
-        .filter(|c| is_broken_by(cause, c.broken))
+        .filter(|c| is_break_by(cause, c.broken))
         .count() as u64
 }
 
-/// How many packets have the cause, and how many of the history's connections it broke first. Takes
-/// no memory.
-#[tactic(auto, using(crate::proofs::Sums::none_broken))]
+fn refused_by(table: &[Connection], cause: Cause) -> u64
+    ensures { result ≡ count_by (λ x. spec.is_break_by cause x.refused) table.now }
+{
+    table
+        .iter()
+        .filter(|c| is_break_by(cause, c.refused))
+        .count() as u64
+}
+
+/// How many packets have the cause, and how many of the history's connections it broke first, and
+/// how many it refused. Takes no memory.
+#[tactic(auto, using(crate::proofs::Sums::none_broken, crate::proofs::Sums::none_refused))]
 pub fn cause_count(
     h: &History,
     causes: &CauseList,
@@ -86,14 +96,18 @@ pub fn cause_count(
     ensures { result ≡ spec.cause_count h.now cause }
 {
     let packets = packets_by(h, causes, cause);
-    let connections = if packets == 0 {
-        0
-    } else {
-        connections_by(table, cause)
-    };
+    if packets == 0 {
+        return CauseCount {
+            cause,
+            packets,
+            broken: 0,
+            refused: 0,
+        };
+    }
     CauseCount {
         cause,
         packets,
-        connections,
+        broken: broken_by(table, cause),
+        refused: refused_by(table, cause),
     }
 }

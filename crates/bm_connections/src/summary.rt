@@ -68,10 +68,11 @@ fn write_cause(text: &mut String, c: &CauseCount) -> Result<(), AllocError>
 {
     let word = cause_word(c.cause);
     let packets = c.packets;
-    let connections = c.connections;
+    let broken = c.broken;
+    let refused = c.refused;
     writeln!(
         text,
-        "cause {word} packets {packets} connections {connections}"
+        "cause {word} packets {packets} broken {broken} refused {refused}"
     )
 }
 

@@ -9,6 +9,7 @@ use Rattle.bm_core.specs.declared.events.Cause.TheVariants.{NeverAccepted, NotHe
 use Rattle.bm_core.specs.declared.events.Cause.TheVariants.{MovedTwice, ChainLate, SynElsewhere}
 use Rattle.bm_core.specs.declared.events.Cause.TheVariants.{Full, OldTable}
 use Rattle.bm_core.specs.declared.events.Stage.{Stage}
+use Rattle.bm_core.specs.Past.{timeout}
 use Rattle.bm_table.specs.declared.plan.Change.{Change}
 use Rattle.bm_trace.specs.Words.{cause_word}
 use Rattle.bm_connections.specs.declared.connection.Connection.{Connection}
@@ -38,20 +39,30 @@ unsteered_line (c ∷ rest) = []
 abbrev pub ends_before : List Record → Moment → Bool
 ends_before records moment = list_all (λ (r : Record). nat_lt r.moment.0 moment.0) records
 
+-- all records come before so many nanoseconds have passed since the moment
+abbrev pub ends_within : List Record → ℕ → Moment → Bool
+ends_within records timeout moment =
+    list_all (λ (r : Record). nat_lt (r.moment.0 - moment.0) timeout) records
+
 -- the moment of the last change
 abbrev pub last_moment : List Change → Option Moment
 last_moment changes =
     option_map (λ (c : Change). c.moment) (slice_get changes (length changes - 1))
 
--- the line of advice where all records come before this moment of a change
-abbrev pub behind_text : List Record → Option Moment → List ℕ
-behind_text records None = []
-behind_text records (Some moment) =
+-- the line of advice where all records come before this moment of a change, or before the timeout
+-- behind it has passed
+abbrev pub end_text : List Record → ℕ → Option Moment → List ℕ
+end_text records timeout None = []
+end_text records timeout (Some moment) =
     if ends_before records moment
     then codes "advice change-behind-the-end: the capture ends before the last change; "
     ++ codes "capture longer\n"
+    else if ends_within records timeout moment
+    then codes "advice timeout-behind-the-end: the capture ends before timeout_s has passed since "
+    ++ codes "the last change; capture longer, to see what comes too late\n"
     else []
 
--- the same, of the stage's last change
-abbrev pub behind_line : Stage → List ℕ
-behind_line stage = behind_text stage.capture.records (last_moment stage.script.plan.changes)
+-- the same, of the stage's last change and its timeout
+abbrev pub end_line : Stage → List ℕ
+end_line stage =
+    end_text stage.capture.records (timeout stage) (last_moment stage.script.plan.changes)

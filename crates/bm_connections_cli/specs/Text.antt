@@ -10,11 +10,12 @@ use Rattle.bm_connections.specs.declared.counts.CauseCount.{CauseCount}
 use Rattle.bm_connections.specs.Connections.{connections}
 use Rattle.bm_connections.specs.Counts.{cause_count, server_counts}
 use Rattle.bm_connections.specs.Late.{longest_late}
+use Rattle.bm_trace.specs.Report.{note_line}
 use Rattle.bm_connections.specs.Text.{cause_line, late_text, server_line, table_text}
 use Rattle.bm_drawing.specs.Drawing.{drawing}
 use Rattle.bm_connections_cli.specs.declared.words.Format.{Format}
 use Rattle.bm_connections_cli.specs.declared.words.Format.TheVariants.{Lines, Csv, Json, Svg}
-use Rattle.bm_connections_cli.specs.Advice.{advice_line, behind_line, unsteered_line}
+use Rattle.bm_connections_cli.specs.Advice.{advice_line, end_line, unsteered_line}
 use Rattle.bm_connections_cli.specs.Csv.{table_csv}
 use Rattle.bm_connections_cli.specs.Json.{json_lines}
 use Rattle.bm_connections_cli.specs.Servers.{servers_of}
@@ -51,7 +52,8 @@ advice_lines h = flat_map (λ c. advice_line c.cause) (causes_in h)
 abbrev pub parts : Option ℕ → History → List (List ℕ)
 parts clock h =
     table_text clock (connections h) ∷ server_lines h ∷ cause_lines h ∷ late_lines h
-    ∷ advice_lines h ∷ unsteered_line (connections h) ∷ behind_line h.stage ∷ []
+    ∷ note_line h.stage.capture.cut ∷ advice_lines h ∷ unsteered_line (connections h)
+    ∷ end_line h.stage ∷ []
 
 -- what is told in each format
 abbrev pub text : Format → Option ℕ → History → List ℕ

@@ -74,6 +74,13 @@ fn ends_before(records: &[Record], moment: Moment) -> bool
     records.iter().all(|record| record.moment.0 < moment.0)
 }
 
+/// Whether all records come before so many nanoseconds have passed since the moment.
+fn ends_within(records: &[Record], timeout: u64, moment: Moment) -> bool
+    ensures { result ≡ spec.ends_within records.now timeout moment }
+{
+    records.iter().all(|record| record.moment.0.saturating_sub(moment.0) < timeout)
+}
+
 /// The moment of the script's last change.
 fn last_moment(plan: &Plan) -> Option<Moment>
     ensures { result ≡ spec.last_moment plan.now.changes }
@@ -82,27 +89,41 @@ fn last_moment(plan: &Plan) -> Option<Moment>
     Some(plan.next_change(Version(before))?.moment)
 }
 
-/// A line of advice where the capture ends before the script's last change.
-pub(crate) fn behind_text(alloc: Global, stage: &Stage) -> Result<Text, Memory>
-    ensures { IfOk result (λ text. text ≡ spec.behind_line stage.now) }
+/// A line of advice where the capture ends before the script's last change, or before the timeout
+/// behind that has passed.
+pub(crate) fn end_text(alloc: Global, stage: &Stage) -> Result<Text, Memory>
+    ensures { IfOk result (λ text. text ≡ spec.end_line stage.now) }
 {
     let records = stage.capture.records.items();
-    match last_moment(&stage.script.plan) {
-        None => Ok(Text::of(String::new(alloc))),
-        Some(moment) => ended_text(alloc, records, moment),
+    let timeout = stage.script.setting.timeout;
+    let mut text = String::new(alloc);
+    if let Some(moment) = last_moment(&stage.script.plan) {
+        write_end(&mut text, records, timeout, moment)?;
     }
+    Ok(Text::of(text))
 }
 
-/// A line of advice where all records come before the moment of a change.
-fn ended_text(alloc: Global, records: &[Record], moment: Moment) -> Result<Text, Memory>
-    ensures { IfOk result (λ text. text ≡ spec.behind_text records.now (Some moment)) }
+fn write_end(
+    text: &mut String,
+    records: &[Record],
+    timeout: u64,
+    change: Moment,
+) -> Result<(), AllocError>
+    ensures { OnOk result (string_bytes text.new
+        ≡ string_bytes text.old ++ spec.end_text records.now timeout (Some change)) }
 {
-    let mut text = String::new(alloc);
-    if ends_before(records, moment) {
+    if ends_before(records, change) {
         writeln!(
             text,
             "advice change-behind-the-end: the capture ends before the last change; capture longer"
-        )?;
+        )
+    } else if ends_within(records, timeout, change) {
+        writeln!(
+            text,
+            "advice timeout-behind-the-end: the capture ends before timeout_s has passed since \
+            the last change; capture longer, to see what comes too late"
+        )
+    } else {
+        Ok(())
     }
-    Ok(Text::of(text))
 }

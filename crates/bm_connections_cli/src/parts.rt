@@ -1,13 +1,14 @@
 //! What is told of a history's connections.
 ghost use Rattle.std.specs.Prelude.{◌≡◌, IfOk};
 ghost use Rattle.bm_core.specs.Runs.{IsRun};
+ghost use Rattle.bm_trace.specs.Report.{note_line};
 ghost use Rattle.bm_trace.specs.Swept.{AreCauses};
 ghost use Rattle.bm_connections.specs.Connections as tables;
 ghost use Rattle.bm_drawing.specs.Drawing as draw;
 ghost use Rattle.bm_connections_cli.specs.Text as spec;
 ghost use Rattle.bm_connections_cli.specs.declared.words.Format.TheVariants.{Csv, Json};
 
-use crate::advice::{advice_text, behind_text, unsteered_text};
+use crate::advice::{advice_text, end_text, unsteered_text};
 use crate::causes::causes_in;
 use crate::fields::table_csv;
 use crate::json::json_text;
@@ -22,8 +23,8 @@ use bm_drawing::drawing;
 use bm_trace::{CauseList, sweep};
 use std::alloc::Global;
 
-/// The lines of connections, servers and causes, of what came too late, and of advice, part by
-/// part.
+/// The lines of connections, servers and causes, of what came too late, of a capture that is cut
+/// short, and of advice, part by part.
 #[tactic(auto, using(bm_trace::proofs::Ranged::ranges_of))]
 pub(crate) fn lines_of(alloc: Global, clock: Clock, h: &History) -> Result<Vec<Text>, Memory>
     requires { IsRun h.now }
@@ -49,15 +50,27 @@ fn parts_of(
     let servers = servers_of(alloc, &h.stage.script)?;
     let loads = server_counts(alloc, h, servers.as_slice())?;
     let counts = causes_in(alloc, h, causes, table)?;
-    let mut parts = Vec::with_capacity(alloc, 7)?;
+    let mut parts = Vec::with_capacity(alloc, 8)?;
     parts.push(table_text(alloc, clock, table)?)?;
     parts.push(servers_text(alloc, loads.items())?)?;
     parts.push(causes_text(alloc, counts.as_slice())?)?;
     parts.push(late_text(alloc, longest_late(alloc, h, causes)?)?)?;
+    parts.push(cut_text(alloc, h.stage.capture.cut)?)?;
     parts.push(advice_text(alloc, counts.as_slice())?)?;
     parts.push(unsteered_text(alloc, table)?)?;
-    parts.push(behind_text(alloc, &h.stage)?)?;
+    parts.push(end_text(alloc, &h.stage)?)?;
     Ok(parts)
+}
+
+/// The note that the record of this number is cut short, or nothing.
+fn cut_text(alloc: Global, cut: Option<u32>) -> Result<Text, Memory>
+    ensures { IfOk result (λ text. text ≡ note_line cut) }
+{
+    let mut text = String::new(alloc);
+    if let Some(record) = cut {
+        writeln!(text, "note record {record} cut short")?;
+    }
+    Ok(Text::of(text))
 }
 
 #[tactic(auto, using(bm_trace::proofs::Ranged::ranges_of))]

@@ -1,7 +1,9 @@
-//! Tests of `bm_ipv4`, `bm_tcp`, `bm_link` and `bm_encap`, in a crate of their own: a run of tests
-//! proves its crate again.
+//! Tests of `bm_base`, `bm_ipv4`, `bm_tcp`, `bm_link` and `bm_encap`, in a crate of their own: a
+//! run of tests proves its crate again.
 #![tactic(auto)]
 
+#[cfg(test)]
+mod base;
 #[cfg(test)]
 mod encap;
 #[cfg(test)]

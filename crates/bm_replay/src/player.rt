@@ -91,7 +91,7 @@ pub(crate) struct Player {
     pub(crate) shards: Shards,
 }
 
-/// What a replay has before anything happened.
+/// The parts of a replay that memory is asked for, before anything happened.
 #[derive(Drop)]
 struct Room {
     events: Events,

@@ -45,7 +45,8 @@ static CASES: [Case; 4] = [
         rows: &[OPENING, DATA, DATA],
         capacity: 4_096,
         closing: true,
-        text: "connection 10.0.0.1:1000 192.0.2.1:80 opened 1 at 0.000000000 last 3 at 200.000000000 \
+        text: "connection 10.0.0.1:1000 192.0.2.1:80 opened 1 at 0.000000000 \
+               last 3 at 200.000000000 \
                accepted 1 times 1 processed 0 forwarded 0 dropped 0 reset 2 stray 0 \
                broken 2 reset no-previous because not-held at 100.000000002\n",
     },
@@ -53,26 +54,31 @@ static CASES: [Case; 4] = [
         rows: &[OPENING, OTHER, (1002, PSH_ACK, 101, 10), DATA, DATA],
         capacity: 4_096,
         closing: false,
-        text: "connection 10.0.0.1:1000 192.0.2.1:80 opened 1 at 0.000000000 last 5 at 400.000000000 \
+        text: "connection 10.0.0.1:1000 192.0.2.1:80 opened 1 at 0.000000000 \
+               last 5 at 400.000000000 \
                accepted 1 times 1 processed 2 forwarded 0 dropped 0 reset 0 stray 0 whole\n\
                connection 10.0.0.1:1002 192.0.2.1:80 opened 2 at 100.000000000 \
-               last 3 at 200.000000000 accepted 1 times 1 processed 1 forwarded 0 dropped 0 reset 0 stray 0 whole\n",
+               last 3 at 200.000000000 accepted 1 times 1 \
+               processed 1 forwarded 0 dropped 0 reset 0 stray 0 whole\n",
     },
     Case {
         rows: &[OPENING, OTHER],
         capacity: 1,
         closing: false,
-        text: "connection 10.0.0.1:1000 192.0.2.1:80 opened 1 at 0.000000000 last 1 at 0.000000000 accepted 1 times 1 \
+        text: "connection 10.0.0.1:1000 192.0.2.1:80 opened 1 at 0.000000000 \
+               last 1 at 0.000000000 accepted 1 times 1 \
                processed 0 forwarded 0 dropped 0 reset 0 stray 0 whole\n\
                connection 10.0.0.1:1002 192.0.2.1:80 opened 2 at 100.000000000 \
-               last 2 at 100.000000000 accepted none times 0 processed 0 forwarded 0 dropped 1 reset 0 stray 0 \
+               last 2 at 100.000000000 accepted none times 0 \
+               processed 0 forwarded 0 dropped 1 reset 0 stray 0 \
                refused 2 drop full because full at 100.000000002\n",
     },
     Case {
         rows: &[DATA, OPENING, DATA],
         capacity: 4_096,
         closing: false,
-        text: "connection 10.0.0.1:1000 192.0.2.1:80 opened 1 at 0.000000000 last 3 at 200.000000000 \
+        text: "connection 10.0.0.1:1000 192.0.2.1:80 opened 1 at 0.000000000 \
+               last 3 at 200.000000000 \
                accepted 1 times 1 processed 1 forwarded 0 dropped 0 reset 1 stray 0 whole\n",
     },
 ];
@@ -116,7 +122,8 @@ fn check_counts(rt: &impl Abort, alloc: Global, h: &History) -> Result<(), Fail>
         cause_count(h, &causes, table.items(), Cause::Full),
     ];
     let text = causes_text(alloc, &counts)?;
-    let want = "cause not-held packets 2 connections 1\ncause full packets 0 connections 0\n";
+    let want = "cause not-held packets 2 broken 1 refused 0\n\
+                cause full packets 0 broken 0 refused 0\n";
     assert_eq!(rt; text.as_str(), want);
     Ok(())
 }
@@ -151,9 +158,9 @@ fn a_moved_connection_breaks_behind_the_timeout(rt: HostRuntime) -> Result<(), F
     let (capture, packets) = capture(alloc, GAP, &[OPENING, DATA, DATA, DATA])?;
     let stage = moved_stage(alloc, capture)?;
     let h = history(alloc, stage, packets, false)?;
-    let text =
-        "connection 10.0.0.1:1000 192.0.2.1:80 opened 1 at 0.000000000 last 4 at 300.000000000 accepted 1 \
-                times 1 processed 2 forwarded 2 dropped 0 reset 1 stray 0 \
+    let text = "connection 10.0.0.1:1000 192.0.2.1:80 opened 1 at 0.000000000 \
+                last 4 at 300.000000000 accepted 1 times 1 \
+                processed 2 forwarded 2 dropped 0 reset 1 stray 0 \
                 last-forward 3 by 2 at 200.000000002 after 199.999999502 \
                 broken 4 reset chain-expired because chain-late at 300.000000002\n";
     check_late(&rt, alloc, &h)?;

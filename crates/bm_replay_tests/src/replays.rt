@@ -1,16 +1,18 @@
 //! Tests of `bm_replay`: the events of replays, and their reports by one thread and by several.
 ghost use Rattle.std.specs.Prelude.{◌≡◌, IfOk, length};
+ghost use Rattle.bm_core.specs.Runs.{IsRun};
 ghost use Rattle.bm_core.specs.Stages.{IsSound};
 ghost use Rattle.bm_link.specs.Fits.{ArePackets};
 
 use crate::stages::{DATA, OPENING, OTHER, Row, bare_stage, capture, flow, history, moved_stage};
 use bm_base::{Hop, Memory, Moment, MuxId, Octets, ServerId, Taken, Version};
-use bm_core::{Event, Stage, Verdict, What, Why};
+use bm_core::{Event, History, Stage, Verdict, What, Why};
 use bm_io::MemSink;
 use bm_trace::{report, report_beside};
 use std::alloc::Global;
 use std::process::Abort;
 use std::test::Fail;
+use std::thread::Threads;
 
 /// A microsecond lies between two packets.
 const GAP: u64 = 1_000;
@@ -163,20 +165,25 @@ fn packets_behind_those_let_go_come(rt: HostRuntime) -> Result<(), Fail> {
     check(&rt, alloc, stage, packets, false, &want)
 }
 
+/// Tests that three threads write the report that one thread appends.
+fn check_beside<R: Abort + Threads + Sync>(rt: &R, alloc: Global, h: &History) -> Result<(), Fail>
+    requires { IsRun h.now }
+{
+    let mut one = Vec::new(alloc);
+    report(h, &mut one)?;
+    let mut many = MemSink::new(alloc, Vec::new(alloc));
+    report_beside(rt, alloc, 3, h, &mut many).map_err(|_| "the sink failed")?;
+    assert_eq!(rt; many.written(), one.as_slice());
+    Ok(())
+}
+
 #[test]
 fn threads_write_the_same_report(rt: HostRuntime) -> Result<(), Fail> {
     let alloc = rt.alloc();
     // four pieces of lines, of which the last is shorter, and in the first the mux gets a version
-    let rows = many_rows(alloc, 16_400)?;
-    let (capture, packets) = capture(alloc, GAP, &rows)?;
+    let (capture, packets) = capture(alloc, GAP, &many_rows(alloc, 16_400)?)?;
     let stage = moved_stage(alloc, capture)?;
-    let history = history(alloc, stage, packets, false)?;
-    let mut one = Vec::new(alloc);
-    report(&history, &mut one)?;
-    let mut many = MemSink::new(alloc, Vec::new(alloc));
-    report_beside(&rt, alloc, 3, &history, &mut many).map_err(|_| "the sink failed")?;
-    assert_eq!(rt; many.written(), one.as_slice());
-    Ok(())
+    check_beside(&rt, alloc, &history(alloc, stage, packets, false)?)
 }
 
 #[test]

@@ -1,7 +1,8 @@
 //! Reads the words.
 ghost use Rattle.std.specs.Prelude.{◌≡◌, ◌≤◌, IfErr, IfOk, IfSome, IsSome, Some, drop, is_some};
 ghost use Rattle.std.specs.Prelude.{map, option_map, string_bytes, true};
-ghost use Rattle.clap.specs.Words.{app_of, subcommand_of, subcommand_rows_of, takes, with_subcommand};
+ghost use Rattle.clap.specs.Words.{app_of, subcommand_of, subcommand_rows_of, takes};
+ghost use Rattle.clap.specs.Words.{with_subcommand};
 ghost use Rattle.bm_words.specs.Inside.Command.{beamer, with_connections, with_files};
 ghost use Rattle.bm_words.specs.Form.{HasCount, asked, asked_by, connections_of, form_in, named};
 ghost use Rattle.bm_words.specs.Form.{names_of, play_of};

@@ -1,7 +1,7 @@
 -- Beside Words: what the contracts of private calls and the proofs of bodies use.
 use Rattle.bm_words.specs.Form.{named}
 use Rattle.bm_connections_cli.specs.declared.words.Asked.{Asked as Answered}
-use Rattle.bm_connections_cli.specs.Words.{Asked, manner}
+use Rattle.bm_connections_cli.specs.Words.{Asked}
 
 -- what the code answers, without where its texts lie
 abbrev pub asked : Answered → Asked

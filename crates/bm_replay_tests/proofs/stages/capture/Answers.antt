@@ -58,8 +58,9 @@ pub loop-i-preserved : goal.loop-i-preserved
 loop-i-preserved c =
     let inv = c.loop-i.invariant
     in let more =
-    one_more c.loop-i.records.items c.push-in-loop-i.new.self.items c.loop-i.i c.loop-i.next (c.loop-i.next + c.args.gap) _
-    c.in_ok-push-2.ensures.items refl (omega arith) (c.classify-body.ensures.fit c.loop-i.next) inv.0 inv.2 inv.3
+    one_more c.loop-i.records.items c.push-in-loop-i.new.self.items c.loop-i.i c.loop-i.next
+    (c.loop-i.next + c.args.gap) _ c.in_ok-push-2.ensures.items refl (omega arith)
+    (c.classify-body.ensures.fit c.loop-i.next) inv.0 inv.2 inv.3
     in (
       more.0,
       (let h = c.requires.gap in let n = inv.1 in omega arith),

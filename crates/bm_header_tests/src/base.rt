@@ -1,5 +1,9 @@
-use super::*;
-use crate::flags::{ACK, CWR, ECE, FIN, PSH, RST, SYN, URG};
+//! Tests of `bm_base`.
+use bm_base::flags::{ACK, CWR, ECE, FIN, PSH, RST, SYN, URG};
+use bm_base::{
+    Entry, Flow, Hop, LAST, Label, List, Moment, MuxId, Octets, Segment, ServerId, Tag, Text,
+    Version, is_opening, mux_addr, mux_of, server_addr, server_of, tag_of,
+};
 use std::test::Fail;
 
 #[test]
