@@ -42,7 +42,7 @@ pub fn mux_addr(m: MuxId) -> u32
 }
 
 /// The mux with this address; None exactly where it is no mux's.
-pub fn mux_of(addr: u32) -> Option<MuxId>
+pub fn mux_at(addr: u32) -> Option<MuxId>
     ensures { result ≡ addresses.mux_at addr }
 {
     if MUXES <= addr && addr < MUXES + MAX_MUXES {

@@ -14,7 +14,7 @@ mod octets;
 mod receive;
 mod text;
 
-pub use address::{mux_addr, mux_of, server_addr, server_of};
+pub use address::{mux_addr, mux_at, server_addr, server_of};
 pub use capture::{Body, Capture, Reason, Record, Vip};
 pub use fate::Fate;
 pub use flow::{Flow, Segment, is_opening};

@@ -19,7 +19,8 @@ use Rattle.bm_cli.proofs.Names.{asks_all}
 use Rattle.bm_cli.proofs.Statuses.{code_below, same_code, says_is}
 use Rattle.bm_connections_cli.specs.Dues.{EndsAs, EndsUnasked, EndsWith, clock_of, due_of, usage_line}
 use Rattle.bm_connections_cli.specs.Headline.{IsTableOf}
-use Rattle.bm_connections_cli.specs.Top.{IsAccepted, IsStatusFor, Refuses, Tells, WritesSomeFor, names_due, scripts_in}
+use Rattle.bm_connections_cli.specs.Top.{IsAccepted, IsStatusFor, RefusesAnswerFor, ShowsAnswerFor, WritesSomeFor}
+use Rattle.bm_connections_cli.specs.Top.{names_due, scripts_in}
 use Rattle.bm_connections_cli.specs.Words.{Asked}
 
 -- BY THE STATUS
@@ -32,7 +33,7 @@ only_usage files sink s t ends write memory is =
 
 module _ (reads : Reads) (files : FilesDid) (sink : SinkDid) (s : Status) where
   shown_by : (form : Option Asked) → EndsAs form reads files sink s → s ≡ Done →
-      Tells form reads sink.before sink.now
+      ShowsAnswerFor form reads sink.before sink.now
   shown_by None ends e =
       let no : Done ≡ Usage = only_usage files sink s Done ends (λ x. cc) (λ x. cc) e in absurd (cc)
   shown_by (Some asked) ends e =
@@ -99,7 +100,7 @@ module _ (reads : Reads) (files : FilesDid) (sink : SinkDid) (s : Status) where
       (ends.writes.whole (own due files sink s ends ReadFault (λ x. cc) (λ x. cc) e))
 
   line_by : (form : Option Asked) (t : Status) → EndsAs form reads files sink s → s ≡ t → t ≢ Usage → t ≢ Done →
-      t ≢ ReadFault → t ≢ WriteFault → t ≢ Memory → Refuses form reads (code_of s) sink.before sink.now
+      t ≢ ReadFault → t ≢ WriteFault → t ≢ Memory → RefusesAnswerFor form reads (code_of s) sink.before sink.now
   line_by None t ends e usage done read write memory =
       absurd (usage (only_usage files sink s t ends write memory e))
   line_by (Some asked) t ends e usage done read write memory =
@@ -163,9 +164,9 @@ module _ (form : Option Asked) (told : Octets) (files : FilesDid) (sink : SinkDi
   the : (s t : Status) → code ≡ code_of s → code ≡ code_of t → s ≡ t
   the s t is e = same_code s t (sym is ∙ e)
 
-  pub shown : Ended → code ≡ 0 → Holds told (λ reads. Tells form reads sink.before sink.now)
+  pub shown : Ended → code ≡ 0 → Holds told (λ reads. ShowsAnswerFor form reads sink.before sink.now)
   shown all e =
-      by_status (λ reads n. Tells form reads sink.before sink.now)
+      by_status (λ reads n. ShowsAnswerFor form reads sink.before sink.now)
       (λ reads s is ends. shown_by reads files sink s form ends (the s Done is e)) all
 
   pub status : Ended → Holds told (λ reads. IsStatusFor form reads code)
@@ -210,14 +211,14 @@ module _ (form : Option Asked) (told : Octets) (files : FilesDid) (sink : SinkDi
       read_line_by all.reads files sink all.holds.status form all.holds.ends (at all ReadFault e)
 
   line_at : Ended → (t : Status) → code ≡ code_of t → t ≢ Usage → t ≢ Done → t ≢ ReadFault → t ≢ WriteFault →
-      t ≢ Memory → Holds told (λ reads. Refuses form reads code sink.before sink.now)
+      t ≢ Memory → Holds told (λ reads. RefusesAnswerFor form reads code sink.before sink.now)
   line_at all t e usage done read write memory =
-      by_status (λ reads n. Refuses form reads n sink.before sink.now)
+      by_status (λ reads n. RefusesAnswerFor form reads n sink.before sink.now)
       (λ reads s is ends.
       line_by reads files sink s form t ends (the s t is e) usage done read write memory) all
 
   pub line : Ended → (code ≡ 3) ⊎ (code ≡ 4) ⊎ (code ≡ 7) →
-      Holds told (λ reads. Refuses form reads code sink.before sink.now)
+      Holds told (λ reads. RefusesAnswerFor form reads code sink.before sink.now)
   line all (inl e) = line_at all BadCapture e (λ x. cc) (λ x. cc) (λ x. cc) (λ x. cc) (λ x. cc)
   line all (inr (inl e)) = line_at all BadScript e (λ x. cc) (λ x. cc) (λ x. cc) (λ x. cc) (λ x. cc)
   line all (inr (inr e)) = line_at all Limit e (λ x. cc) (λ x. cc) (λ x. cc) (λ x. cc) (λ x. cc)

@@ -10,14 +10,14 @@ use Rattle.bm_connections_cli.specs.Dues.{due_of, usage_line}
 use Rattle.bm_connections_cli.specs.Words.{Asked}
 
 -- the connections are due, and they were written
-abbrev pub Tells : Option Asked → Reads → Option (List ℕ) → Option (List ℕ) → Type 0
-Tells None reads before now = ⊥
-Tells (Some asked) reads before now = ShowsAnswer (due_of asked reads).answer before now
+abbrev pub ShowsAnswerFor : Option Asked → Reads → Option (List ℕ) → Option (List ℕ) → Type 0
+ShowsAnswerFor None reads before now = ⊥
+ShowsAnswerFor (Some asked) reads before now = ShowsAnswer (due_of asked reads).answer before now
 
 -- a fault with this exit status is due, and its line was written
-abbrev pub Refuses : Option Asked → Reads → ℕ → Option (List ℕ) → Option (List ℕ) → Type 0
-Refuses None reads code before now = ⊥
-Refuses (Some asked) reads code before now =
+abbrev pub RefusesAnswerFor : Option Asked → Reads → ℕ → Option (List ℕ) → Option (List ℕ) → Type 0
+RefusesAnswerFor None reads code before now = ⊥
+RefusesAnswerFor (Some asked) reads code before now =
     RefusesAnswer (due_of asked reads).answer code before now
 
 -- the exit status is the one that is due, but where the files or the sink failed, or memory was

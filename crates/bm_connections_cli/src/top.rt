@@ -9,7 +9,8 @@ ghost use Rattle.bm_cli.specs.Names.{AsksAll, AsksPrefix};
 ghost use Rattle.bm_cli.specs.Reading.{Holds};
 ghost use Rattle.bm_cli.specs.Statuses.{Writes, did};
 ghost use Rattle.bm_connections_cli.specs.Dues.{EndsAs, EndsWith, due_of, usage_line};
-ghost use Rattle.bm_connections_cli.specs.Top.{IsAccepted, IsStatusFor, Refuses, Tells};
+ghost use Rattle.bm_connections_cli.specs.Top.{IsAccepted, IsStatusFor, RefusesAnswerFor};
+ghost use Rattle.bm_connections_cli.specs.Top.{ShowsAnswerFor};
 ghost use Rattle.bm_connections_cli.specs.Top.{WritesSomeFor, names_due, scripts_in};
 ghost use Rattle.bm_connections_cli.specs.Words.{form_in};
 ghost use Rattle.bm_connections_cli.specs.Inside.Words.{asked};
@@ -41,7 +42,7 @@ pub fn beamer_connections<R: Threads + Wait + Sync, F: Files, K: Sink>(
     // On status 0 what was written tells the connections of the replay of the named capture through
     // the servers of the named script.
     ensures shown { result ≡ 0 → Holds (F.octets files.old) (λ reads.
-        Tells (form_in words.now) reads (K.written out.old) (K.written out.new)) }
+        ShowsAnswerFor (form_in words.now) reads (K.written out.old) (K.written out.new)) }
     // How the call ended, by what was due. All other clauses but `open` follow from this one.
     ensures ends { Holds (F.octets files.old) (λ reads.
         EndsWith (form_in words.now) reads (did F.asked F.faults files.old files.new)
@@ -73,7 +74,7 @@ pub fn beamer_connections<R: Threads + Wait + Sync, F: Files, K: Sink>(
     ensures read_line { result ≡ 2 →
         Appends (K.written out.old) (K.written out.new) (fault_line files_failed) }
     ensures line { (result ≡ 3) ⊎ (result ≡ 4) ⊎ (result ≡ 7) → Holds (F.octets files.old) (λ reads.
-        Refuses (form_in words.now) reads result (K.written out.old) (K.written out.new)) }
+        RefusesAnswerFor (form_in words.now) reads result (K.written out.old) (K.written out.new)) }
     ensures part { (result ≡ 5) ⊎ (result ≡ 6) → Holds (F.octets files.old) (λ reads.
         WritesSomeFor (form_in words.now) reads (did F.asked F.faults files.old files.new)
         (did K.written K.faults out.old out.new)) }

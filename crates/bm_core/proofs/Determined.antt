@@ -29,7 +29,7 @@ use Rattle.bm_base.specs.Labels.{arrives_at}
 use Rattle.bm_core.specs.Verdicts.{verdict_at}
 use Rattle.bm_core.specs.Runs.{IsArrival, MayCome, IsStep, Run}
 use Rattle.bm_core.specs.Accounts.{Routes, Rules, fate_now, before, IsRouted, AreAnswered}
-use Rattle.bm_core.specs.declared.schedule.Underway.{Underway}
+use Rattle.bm_core.specs.Schedule.{Underway}
 use Rattle.bm_core.specs.declared.schedule.Call.{Call}
 use Rattle.bm_core.specs.declared.schedule.Due.{Due}
 use Rattle.bm_core.specs.Schedule.{call_of, wire, can_come, due_loss, loss_of_fate, put_sent, after_arrive, least}

@@ -14,7 +14,7 @@ use Rattle.bm_core.specs.declared.schedule.Call.{Call}
 use Rattle.bm_core.specs.declared.schedule.Call.TheVariants.{Publishes, Switches, Closes, Retires, Syncs, Arrives}
 use Rattle.bm_core.specs.declared.schedule.Call.TheVariants.{Steers, Loses}
 use Rattle.bm_core.specs.declared.schedule.Due.{Due}
-use Rattle.bm_core.specs.declared.schedule.Underway.{Underway}
+use Rattle.bm_core.specs.Schedule.{Underway}
 use Rattle.bm_core.specs.Past.{segment_of, label_of}
 use Rattle.bm_core.specs.Runs.{last_clock, next_clock, Run}
 use Rattle.bm_core.specs.Schedule.{sooner, least, wire, arrival_due, can_come, due_loss, Follows, IsOver}

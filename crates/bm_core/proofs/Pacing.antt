@@ -19,7 +19,7 @@ use Rattle.bm_core.specs.declared.events.Event.{Event}
 use Rattle.bm_core.specs.declared.events.Stage.{Stage}
 use Rattle.bm_core.specs.declared.schedule.Call.{Call}
 use Rattle.bm_core.specs.declared.schedule.Due.{Due}
-use Rattle.bm_core.specs.declared.schedule.Underway.{Underway}
+use Rattle.bm_core.specs.Schedule.{Underway}
 use Rattle.bm_core.specs.Past.{is_switch_of, steerable, newest, Sending, sending_of}
 use Rattle.bm_core.specs.Stages.{AreRising, NamesVersions, moment_of_command, IsSound}
 use Rattle.bm_core.specs.Runs.{last_clock}

@@ -23,7 +23,7 @@ use Rattle.bm_core.specs.Runs.{MayCome, IsStep, Run}
 use Rattle.bm_core.proofs.Forwards.{forward_onward}
 use Rattle.bm_core.proofs.Pasts.{label_stays, arrival_sends}
 use Rattle.bm_core.proofs.Stepping.{AllSent, wire_sent}
-use Rattle.bm_core.specs.declared.schedule.Underway.{Underway}
+use Rattle.bm_core.specs.Schedule.{Underway}
 use Rattle.bm_core.specs.Schedule.{wire}
 use Rattle.bm_base.specs.declared.fate.Fate.{Fate}
 

@@ -9,7 +9,7 @@ use Rattle.bm_core.specs.Schedule.{comes_first, sooner, least}
 use Rattle.std.proofs.lemmas.Option.{slice_get_cases}
 use Rattle.bm_table.specs.declared.plan.Change.{Change}
 use Rattle.bm_core.specs.declared.schedule.Call.TheVariants.{Publishes}
-use Rattle.bm_core.specs.declared.schedule.Underway.{Underway}
+use Rattle.bm_core.specs.Schedule.{Underway}
 use Rattle.bm_core.specs.declared.events.Event.{Event}
 use Rattle.bm_core.specs.declared.events.Stage.{Stage}
 use Rattle.bm_table.specs.Tables.{next_change, change_moment, IsOrderly}

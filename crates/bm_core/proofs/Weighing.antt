@@ -20,7 +20,7 @@ use Rattle.bm_core.specs.declared.events.Stage.{Stage}
 use Rattle.bm_core.specs.declared.schedule.Call.{Call}
 use Rattle.bm_core.specs.declared.schedule.Call.TheVariants.{Arrives}
 use Rattle.bm_core.specs.declared.schedule.Due.{Due}
-use Rattle.bm_core.specs.declared.schedule.Underway.{Underway}
+use Rattle.bm_core.specs.Schedule.{Underway}
 use Rattle.bm_core.specs.Past.{is_switch_of, newest, Sending, sending_of}
 use Rattle.bm_core.specs.Accounts.{counts, fate_now, before}
 use Rattle.bm_core.specs.Schedule.{call_of, put, put_all, put_sent, rest, wire, due_loss, loss_of_fate, left, dropped}

@@ -13,6 +13,7 @@ use Rattle.bm_table.specs.declared.script.Command.TheVariants.{Close as CloseCom
 use Rattle.bm_table.specs.declared.script.Command.TheVariants.{Retire as RetireCommand}
 use Rattle.bm_table.specs.declared.script.Command.TheVariants.{Sync as SyncCommand}
 use Rattle.bm_table.specs.Tables.{next_change}
+use Rattle.bm_base.specs.declared.label.Hop.{Hop}
 use Rattle.bm_core.specs.declared.events.What.{What}
 use Rattle.bm_core.specs.declared.events.What.TheVariants.{Publish, Switch, Steer, Lose, Arrive}
 use Rattle.bm_core.specs.declared.events.What.TheVariants.{Close, Retire, Sync}
@@ -22,7 +23,6 @@ use Rattle.bm_core.specs.declared.schedule.Call.{Call}
 use Rattle.bm_core.specs.declared.schedule.Call.TheVariants.{Publishes, Switches, Closes, Retires}
 use Rattle.bm_core.specs.declared.schedule.Call.TheVariants.{Syncs, Arrives, Steers, Loses}
 use Rattle.bm_core.specs.declared.schedule.Due.{Due}
-use Rattle.bm_core.specs.declared.schedule.Underway.{Underway}
 use Rattle.bm_core.specs.Past.{is_switch_of, steerable, newest, Sending, sending_of}
 use Rattle.bm_core.specs.Runs.{last_clock, next_clock}
 use Rattle.bm_core.specs.Accounts.{counts, fate_now, before}
@@ -55,6 +55,14 @@ abbrev pub least : List Due → Option Due
 least dues = fold sooner None dues
 
 -- COPIES UNDER WAY, by their due moment, and of one moment in the order of their sendings
+
+-- a copy of a packet that is under way: when it is due, at which place of the history it was sent,
+-- and its packet and hop
+pub record Underway : Type 0 where
+  pub moment : ℕ
+  pub place : ℕ
+  pub packet : ℕ
+  pub hop : Hop
 
 -- one more copy, behind those that are due no later
 abbrev pub put : Underway → List Underway → List Underway

@@ -9,5 +9,5 @@ mod verdict;
 
 pub use clock::next_clock;
 pub use events::{Cause, Event, History, Local, Log, Stage, Verdict, What, Why};
-pub use schedule::{Call, Due, Underway};
+pub use schedule::{Call, Due};
 pub use verdict::decide;

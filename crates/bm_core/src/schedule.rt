@@ -22,13 +22,3 @@ pub struct Due {
     pub number: usize,
     pub call: Call,
 }
-
-/// A copy of a packet that is under way: when it is due, at which place of the history it was
-/// sent, and its packet and hop.
-#[derive(Clone, Copy, Debug, PartialEq, Eq)]
-pub struct Underway {
-    pub moment: u64,
-    pub place: usize,
-    pub packet: u32,
-    pub hop: Hop,
-}

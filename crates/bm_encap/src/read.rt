@@ -14,7 +14,7 @@ ghost use Rattle.bm_ipv4.specs.Checksum.{checksum_of};
 
 use crate::fault::EncapFault;
 use crate::header::HEADER;
-use bm_base::{Hop, Moment, MuxId, ServerId, Tag, Version, mux_addr, mux_of, server_of};
+use bm_base::{Hop, Moment, MuxId, ServerId, Tag, Version, mux_addr, mux_at, server_of};
 use bm_ipv4::fields::{read_u16, read_u32};
 use bm_ipv4::header_sum;
 use byteorder::{BigEndian, ByteOrder};
@@ -84,7 +84,7 @@ fn read_outer(octets: &[u8]) -> Result<ServerId, EncapFault>
     if let Some(place) = differing(octets, &OUTER) {
         return Err(EncapFault::BadOuter(place));
     }
-    if mux_of(read_u32(octets, 12)).is_none() {
+    if mux_at(read_u32(octets, 12)).is_none() {
         return Err(EncapFault::BadOuter(12));
     }
     server_of(read_u32(octets, 16)).ok_or(EncapFault::BadOuter(16))

@@ -2,7 +2,7 @@
 use bm_base::flags::{ACK, CWR, ECE, FIN, PSH, RST, SYN, URG};
 use bm_base::{
     Entry, Flow, Hop, LAST, Label, List, Moment, MuxId, Octets, Segment, ServerId, Tag, Text,
-    Version, is_opening, mux_addr, mux_of, server_addr, server_of, tag_of,
+    Version, is_opening, mux_addr, mux_at, server_addr, server_of, tag_of,
 };
 use std::test::Fail;
 
@@ -112,8 +112,8 @@ fn servers_and_muxes_have_addresses(rt: HostRuntime) {
     }
     assert_eq!(rt; server_addr(ServerId(2)), 0xac10_0002);
     assert_eq!(rt; mux_addr(MuxId(63)), 0xac1f_003f);
-    assert_eq!(rt; mux_of(0xac1f_003f), Some(MuxId(63)));
-    assert_eq!(rt; mux_of(0xac1f_0040), None);
+    assert_eq!(rt; mux_at(0xac1f_003f), Some(MuxId(63)));
+    assert_eq!(rt; mux_at(0xac1f_0040), None);
 }
 
 // RFC 9293, section 3.1

@@ -13,7 +13,7 @@ use Rattle.bm_fault.specs.Flying.{Flying}
 use Rattle.bm_fault.specs.Wires.{first_due, first_flight, others, put_flying}
 use Rattle.bm_core.specs.declared.events.Event.{Event}
 use Rattle.bm_core.specs.declared.events.Stage.{Stage}
-use Rattle.bm_core.specs.declared.schedule.Underway.{Underway}
+use Rattle.bm_core.specs.Schedule.{Underway}
 use Rattle.bm_core.specs.Runs.{IsStep}
 use Rattle.bm_core.specs.Schedule.{put, put_all, rest}
 use Rattle.bm_core.proofs.Pasts.{label_stays}

@@ -18,7 +18,7 @@ use Rattle.bm_core.specs.declared.schedule.Call.{Call as Calls}
 use Rattle.bm_core.specs.declared.schedule.Call.TheVariants.{Publishes, Switches, Closes, Retires, Syncs, Arrives}
 use Rattle.bm_core.specs.declared.schedule.Call.TheVariants.{Steers, Loses}
 use Rattle.bm_core.specs.declared.schedule.Due.{Due}
-use Rattle.bm_core.specs.declared.schedule.Underway.{Underway}
+use Rattle.bm_core.specs.Schedule.{Underway}
 use Rattle.bm_core.specs.Accounts.{Routes, Rules, IsRouted, counts}
 use Rattle.bm_core.specs.Past.{Sending, sending_of, newest}
 use Rattle.bm_core.specs.Runs.{last_clock, next_clock}

@@ -39,8 +39,8 @@ use Rattle.bm_worker.specs.Inside.Batches.{AreDrawn, AreOwed, IsItemOf, IsSent, 
 use Rattle.bm_worker.specs.Inside.Batches.{sent_notes, steering, switch_note, switch_notes}
 use Rattle.bm_worker.specs.Deeds.{Suits}
 use Rattle.bm_worker.specs.Inside.Debts.{IsAmong}
-use Rattle.bm_worker.specs.Phases.{IsDeed, Stint, mux_of}
-use Rattle.bm_worker.specs.Turns.{is_mux, is_turn, mux_at}
+use Rattle.bm_worker.specs.Phases.{IsDeed, Stint, mux_for}
+use Rattle.bm_worker.specs.Assigned.{is_mux, is_assigned, mux_at}
 use Rattle.bm_worker.proofs.Known.{known_server, table_entry}
 use Rattle.bm_worker.proofs.Steering.{label_high}
 use Rattle.bm_worker.proofs.Steering.{steers_above}
@@ -51,10 +51,10 @@ rise_last : (low : ℕ) (items : List MuxItem) → Rise low items → low ≤ la
 rise_last low [] rise = omega arith
 rise_last low (i ∷ items) rise = let old = rise_last i.packet items rise.1 in let lt = rise.0 in omega (arith, old, lt)
 
--- a packet of the phase is one of the mux's turns
-is_of_turn : (routes : List (Option MuxId)) (m from until k : ℕ) → from < k → k ≤ until → mux_at routes k ≡ Some m
-    → is_turn routes m from until k ≡ true
-is_of_turn routes m from until k low high is =
+-- a packet of the phase is one that the mux is assigned
+is_one_assigned : (routes : List (Option MuxId)) (m from until k : ℕ) → from < k → k ≤ until → mux_at routes k ≡ Some m
+    → is_assigned routes m from until k ≡ true
+is_one_assigned routes m from until k low high is =
     and_from _ _ (and_from _ _ (lt-ltb from k low) (le-leb k until high))
     (ap (λ (o : Option ℕ). is_mux o m) is ∙ eq-eqb m m refl)
 
@@ -62,13 +62,13 @@ pub sent_deeds : (F : Rules) (stage : Stage) (servers : List Serving) (stint : S
     (last low : ℕ)
     (items : List MuxItem) (fates : List Fate) → stint.after ≤ last → stint.from ≤ low
     → last_packet low items ≤ stint.until → Rise low items
-    → AllByRecursion (IsItemOf stage stint.routes (mux_of stint).0) items → AreDrawn F items fates
+    → AllByRecursion (IsItemOf stage stint.routes (mux_for stint).0) items → AreDrawn F items fates
     → AllByRecursion (IsDeed F stage servers stint all)
-    (sent_notes (mux_of stint) (sent (mux_of stint) seen last items) fates)
+    (sent_notes (mux_for stint) (sent (mux_for stint) seen last items) fates)
 sent_deeds F stage servers stint seen all last low [] fates after from until rise each drawn = tt
 sent_deeds F stage servers stint seen all last low (i ∷ items) [] after from until rise each drawn = absurd drawn
 sent_deeds F stage servers stint seen all last low (i ∷ items) (f ∷ fates) after from until rise each drawn =
-    let m = mux_of stint in let next = steer_clock last i in
+    let m = mux_for stint in let next = steer_clock last i in
     let above : stint.from < i.packet = (let lt = rise.0 in omega (arith, lt, from)) in
     let below : i.packet ≤ stint.until = (let le = rise_last i.packet items rise.1 in omega (arith, le, until)) in
     each_append (IsDeed F stage servers stint all) (sent_notes m (sent m seen next items) fates)
@@ -80,7 +80,7 @@ sent_deeds F stage servers stint seen all last low (i ∷ items) (f ∷ fates) a
         seat = refl;
         later = omega (arith, after);
         within = (above, below);
-        turn = is_of_turn stint.routes m.0 stint.from stint.until i.packet above below each.0.turn;
+        assigned = is_one_assigned stint.routes m.0 stint.from stint.until i.packet above below each.0.assigned;
         owed = tt;
         lost = tt;
         drawn = drawn.0;
@@ -92,19 +92,19 @@ sent_deeds F stage servers stint seen all last low (i ∷ items) (f ∷ fates) a
 pub switch_deeds : (F : Rules) (stage : Stage) (servers : List Serving) (stint : Stint) (seen : Posted)
     (all : List Note) (past : List Event)
     → stint.after < steering_clock past
-    → AllByRecursion (IsDeed F stage servers stint all) (switch_notes (mux_of stint) seen past)
+    → AllByRecursion (IsDeed F stage servers stint all) (switch_notes (mux_for stint) seen past)
 switch_deeds F stage servers stint seen all past begun =
-    of_test (ltb (version_at past (mux_of stint)).0 (last_version seen)) where
+    of_test (ltb (version_at past (mux_for stint)).0 (last_version seen)) where
       of_test : (b : Bool)
           → AllByRecursion (IsDeed F stage servers stint all)
-          (cond b (switch_note (mux_of stint) seen past (last_post seen) ∷ []) [])
+          (cond b (switch_note (mux_for stint) seen past (last_post seen) ∷ []) [])
       of_test true = (
         record {
-          kind = eq-eqb (mux_of stint).0 (mux_of stint).0 refl;
+          kind = eq-eqb (mux_for stint).0 (mux_for stint).0 refl;
           seat = refl;
           later = omega (arith, begun);
           within = tt;
-          turn = tt;
+          assigned = tt;
           owed = tt;
           lost = tt;
           drawn = tt;
@@ -120,12 +120,12 @@ pub sent_owed : (F : Rules) (stage : Stage) (stint : Stint) (seen : Posted) (all
     (items : List MuxItem) (fates : List Fate) → stint.after ≤ last → stint.from ≤ low
     → last_packet low items ≤ stint.until → Rise low items
     → AreDrawn F items fates
-    → ((f : Note → ℕ) → total f (sent_notes (mux_of stint) (sent (mux_of stint) seen last items) fates) ≤ total f all)
-    → AreOwed stint all low (sent (mux_of stint) seen last items) fates
+    → ((f : Note → ℕ) → total f (sent_notes (mux_for stint) (sent (mux_for stint) seen last items) fates) ≤ total f all)
+    → AreOwed stint all low (sent (mux_for stint) seen last items) fates
 sent_owed F stage stint seen all last low [] fates after from until rise drawn among = tt
 sent_owed F stage stint seen all last low (i ∷ items) [] after from until rise drawn among = absurd drawn
 sent_owed F stage stint seen all last low (i ∷ items) (f ∷ fates) after from until rise drawn among =
-    let m = mux_of stint in let next = steer_clock last i in
+    let m = mux_for stint in let next = steer_clock last i in
     let n = steering (record { 0 = next }) i.packet m f (m.0 + 1) in
     let rest = sent_notes m (sent m seen next items) fates in
     let above : stint.from < i.packet = (let lt = rise.0 in omega (arith, lt, from)) in

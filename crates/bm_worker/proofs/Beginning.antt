@@ -28,10 +28,10 @@ use Rattle.bm_worker.specs.declared.stop.Stop.{Stop}
 use Rattle.bm_worker.specs.declared.stop.Stop.TheVariants.{Memory}
 use Rattle.bm_worker.specs.declared.worker.MuxWorker.{MuxWorker}
 use Rattle.bm_worker.specs.Inside.Batches.{HasOnlyLooked, HasSeen, IsDoneTo, IsLogged, IsSteerTo, switch_note}
-use Rattle.bm_worker.specs.Phases.{AreCopies, HasEnded, IsDeed, IsOlder, IsReady, IsStopOf, IsTurn, Kept}
-use Rattle.bm_worker.specs.Phases.{Stint, mux_log, mux_of}
-use Rattle.bm_worker.specs.Turns.{RoutedBy, is_mux, is_turn, mux_at}
-use Rattle.bm_worker.proofs.Collecting.{turn_none, turn_of}
+use Rattle.bm_worker.specs.Phases.{AreCopies, HasEnded, IsDeed, IsOlder, IsReady, IsStopOf, IsAssigned, Kept}
+use Rattle.bm_worker.specs.Phases.{Stint, mux_log, mux_for}
+use Rattle.bm_worker.specs.Assigned.{RoutedBy, is_mux, is_assigned, mux_at}
+use Rattle.bm_worker.proofs.Collecting.{assigned_none, mux_is}
 use Rattle.bm_worker.proofs.Copying.{copies_as}
 use Rattle.bm_worker.proofs.Going.{kept_looked}
 use Rattle.bm_worker.proofs.Hearing.{hears_none}
@@ -108,7 +108,7 @@ prefix_version a b later =
 
 abbrev first_note : Stint → MuxWorker → Note
 first_note stint mid =
-    switch_note (mux_of stint) mid.mux.seen (reverse stint.start.mux.log) (max stint.after (last_post mid.mux.seen))
+    switch_note (mux_for stint) mid.mux.seen (reverse stint.start.mux.log) (max stint.after (last_post mid.mux.seen))
 
 begun_turned : (stint : Stint) (mid : MuxWorker) → HasBegun stint.start.mux stint.told stint.after mid.mux
     → reverse mid.mux.log ≡ (first_note stint mid).event ∷ reverse stint.start.mux.log
@@ -127,7 +127,7 @@ begun_step : (F : Rules) (stage : Stage) (servers : List Serving) (stint : Stint
     → IsReady stage servers stint → HasBegun stint.start.mux stint.told stint.after mid.mux
     → HasSeen stint.start mid → Step F stage servers stint stint.start mid [] (first_note stint mid ∷ [])
 begun_step F stage servers stint mid ready begun seen_it =
-    let m = mux_of stint in let past = reverse stint.start.mux.log in let seen = mid.mux.seen in
+    let m = mux_for stint in let past = reverse stint.start.mux.log in let seen = mid.mux.seen in
     let n = first_note stint mid in
     let turned = begun_turned stint mid begun in
     let older = each_reverse (IsOlder m stint.from stint.after) stint.start.mux.log ready.older in
@@ -148,7 +148,7 @@ begun_step F stage servers stint mid ready begun seen_it =
           seat = refl;
           later = omega arith;
           within = tt;
-          turn = tt;
+          assigned = tt;
           owed = tt;
           lost = tt;
           drawn = tt;
@@ -185,7 +185,7 @@ pub begin_done : (F : Rules) (stage : Stage) (servers : List Serving) (stint : S
     → HasSeen stint.start mid
     → (d : List Note) × IsDoneTo F stage servers stint mid stint.from d
 begin_done F stage servers stint mid ready begun seen_it =
-    let m = mux_of stint in let past = reverse stint.start.mux.log in
+    let m = mux_for stint in let past = reverse stint.start.mux.log in
     let n = first_note stint mid in
     let turned = begun_turned stint mid begun in
     let older = each_reverse (IsOlder m stint.from stint.after) stint.start.mux.log ready.older in
@@ -196,7 +196,7 @@ begin_done F stage servers stint mid ready begun seen_it =
         kept = kept_more F stage servers stint stint.start mid [] (n ∷ []) (kept_none F stage servers stint)
             (begun_step F stage servers stint mid ready begun seen_it);
         settled = record { lost = λ k hop c. refl; sent = λ k hop c. omega arith; arrived = λ k hop. refl };
-        steered = λ k. ap (λ (b : Bool). cond b 1 0) (sym (turn_none stint.routes m.0 stint.from k));
+        steered = λ k. ap (λ (b : Bool). cond b 1 0) (sym (assigned_none stint.routes m.0 stint.from k));
         looked = let one : ◌≡◌ {A = ℕ} (cond (m.0 == m.0) 1 0) 1 = rw mine refl in omega (arith, one);
         heard = begun.heard;
         few = omega arith;
@@ -217,26 +217,27 @@ begin_done F stage servers stint mid ready begun seen_it =
 -- THE END
 
 -- a steered packet has its mux by the routes
-routed : (stage : Stage) (stint : Stint) (what : What) → carries (mux_of stint).0 what ≡ true → IsTurn stint what
+routed : (stage : Stage) (stint : Stint) (what : What) → carries (mux_for stint).0 what ≡ true → IsAssigned stint what
     → IsRouted (RoutedBy stint.routes) stage what
-routed stage stint (Steer k x) mine turn = of_segment (segment_of stage k) where
+routed stage stint (Steer k x) mine assigned = of_segment (segment_of stage k) where
   here : mux_at stint.routes k ≡ Some x.0
   here =
-      let is : is_mux (mux_at stint.routes k) (mux_of stint).0 ≡ true =
-      (and_parts (ltb stint.from k && leb k stint.until) (is_mux (mux_at stint.routes k) (mux_of stint).0) turn).1 in
-      let same : x.0 ≡ (mux_of stint).0 = Rattle.std.proofs.lemmas.Bool.eqb-true x.0 (mux_of stint).0 mine in
-      turn_of (mux_of stint).0 (mux_at stint.routes k) is ∙ ap (λ (j : ℕ). Some j) (sym same)
+      let is : is_mux (mux_at stint.routes k) (mux_for stint).0 ≡ true =
+      (and_parts (ltb stint.from k && leb k stint.until) (is_mux (mux_at stint.routes k) (mux_for stint).0)
+      assigned).1 in
+      let same : x.0 ≡ (mux_for stint).0 = Rattle.std.proofs.lemmas.Bool.eqb-true x.0 (mux_for stint).0 mine in
+      mux_is (mux_for stint).0 (mux_at stint.routes k) is ∙ ap (λ (j : ℕ). Some j) (sym same)
 
   of_segment : (o : Option Segment) → IfSome o (λ s. RoutedBy stint.routes k s.flow x.0)
   of_segment None = tt
   of_segment (Some s) = here
-routed stage stint (Switch x v) mine turn = tt
-routed stage stint (Publish v) mine turn = tt
-routed stage stint (Lose k hop) mine turn = tt
-routed stage stint (Arrive k hop server verdict) mine turn = tt
-routed stage stint (Close server flow closed) mine turn = tt
-routed stage stint (Retire server h at result) mine turn = tt
-routed stage stint Sync mine turn = tt
+routed stage stint (Switch x v) mine assigned = tt
+routed stage stint (Publish v) mine assigned = tt
+routed stage stint (Lose k hop) mine assigned = tt
+routed stage stint (Arrive k hop server verdict) mine assigned = tt
+routed stage stint (Close server flow closed) mine assigned = tt
+routed stage stint (Retire server h at result) mine assigned = tt
+routed stage stint Sync mine assigned = tt
 
 pub phase_ended : (F : Rules) (stage : Stage) (servers : List Serving) (stint : Stint) (now : MuxWorker)
     (d : List Note) (next : ℕ) → next ≡ stint.until → IsDoneTo F stage servers stint now next d
@@ -246,12 +247,12 @@ phase_ended F stage servers stint now d next is done = (
   record {
     kept = done.kept;
     carrier = record {
-      kinds = each_so (IsDeed F stage servers stint d) (λ n. carries (mux_of stint).0 n.event.what ≡ true) d
+      kinds = each_so (IsDeed F stage servers stint d) (λ n. carries (mux_for stint).0 n.event.what ≡ true) d
           (λ n of. of.kind) done.kept.each;
       owed = each_so (IsDeed F stage servers stint d) (λ n. IsOwed d n n.event.what) d (λ n of. of.owed)
           done.kept.each;
       answers = each_so (IsDeed F stage servers stint d) (IsAnswer (RoutedBy stint.routes) F stage) d
-          (λ n of. (routed stage stint n.event.what of.kind of.turn, of.drawn)) done.kept.each;
+          (λ n of. (routed stage stint n.event.what of.kind of.assigned, of.drawn)) done.kept.each;
       lost = done.settled.lost;
       sent = done.settled.sent;
       arrived = done.settled.arrived;
@@ -259,7 +260,7 @@ phase_ended F stage servers stint now d next is done = (
     looked = done.looked;
     heard = done.heard;
     steered = λ k. subst (λ (e : ℕ). many (λ n. steers_packet n.event.what k) d
-        ≡ cond (is_turn stint.routes (mux_of stint).0 stint.from e k) 1 0) is (done.steered k);
+        ≡ cond (is_assigned stint.routes (mux_for stint).0 stint.from e k) 1 0) is (done.steered k);
     few = done.few;
   },
 )

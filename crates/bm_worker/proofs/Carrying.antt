@@ -32,7 +32,7 @@ use Rattle.bm_worker.specs.Inside.Debts.{Carries, Debt, GrowsByLosses, HasCarrie
 use Rattle.bm_worker.specs.Inside.Debts.{IsSameWorker, Owes, Pays}
 use Rattle.bm_worker.specs.Inside.Debts.{with_copies}
 use Rattle.bm_worker.specs.Inside.Lost.{with_loss}
-use Rattle.bm_worker.specs.Phases.{IsStopOf, Kept, Stint, mux_of}
+use Rattle.bm_worker.specs.Phases.{IsStopOf, Kept, Stint, mux_for}
 use Rattle.bm_worker.specs.Portings.{Porting}
 use Rattle.bm_worker.specs.Told.{Stays}
 use Rattle.bm_worker.proofs.Copying.{copy_reads}
@@ -131,7 +131,7 @@ pub carries_loss : (F : Rules) (stage : Stage) (servers : List Serving) (debt : 
     → MatchResult r (λ _. next ≡ with_loss debt.packet debt.hop debt.clock w) (λ stop. (stop ≡ Memory) × (next ≡ w))
     → Carries F stage servers debt most w next r
 carries_loss F stage servers debt most w next (Ok u) some none is = λ stint d kept owes.
-    let n = loss (debt.clock + 1) debt.packet debt.hop ((mux_of stint).0 + 1) in (
+    let n = loss (debt.clock + 1) debt.packet debt.hop ((mux_for stint).0 + 1) in (
       n ∷ [],
       record {
         kept = subst (λ (x : MuxWorker). Kept F stage servers stint x (n ∷ d)) (sym is)
@@ -139,7 +139,7 @@ carries_loss F stage servers debt most w next (Ok u) some none is = λ stint d k
         packets = (refl, tt);
         few = omega (arith, some);
       },
-      pays_lost ((mux_of stint).0 + 1) debt none (debt.clock + 1) (omega arith),
+      pays_lost ((mux_for stint).0 + 1) debt none (debt.clock + 1) (omega arith),
     )
 carries_loss F stage servers debt most w next (Err stop) some none is = λ stint d kept owes. (
   [],
@@ -189,7 +189,7 @@ pub carried_arrival : (F : Rules) (stage : Stage) (servers : List Serving) (debt
     → HasCarried F stage servers debt i most old now → HasCarried F stage servers debt (i + 1) (most + 1) old next
 carried_arrival F stage servers debt i most old now next place octets due r suits copy is lt none come mux latest porter
     carried = λ stint d kept owes.
-    let c = carried stint d kept owes in let x = c.0 in let w = (mux_of stint).0 + 1 in
+    let c = carried stint d kept owes in let x = c.0 in let w = (mux_for stint).0 + 1 in
     let n = arrival r.0 debt.packet debt.hop copy.server.id r.1 no_fate due.0 w in (
       n ∷ x,
       record {

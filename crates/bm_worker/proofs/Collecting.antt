@@ -22,25 +22,25 @@ use Rattle.bm_core.specs.Past.{segment_of}
 use Rattle.bm_core.specs.Accounts.{Rules, count_of}
 use Rattle.bm_mux.specs.declared.item.MuxItem.{MuxItem}
 use Rattle.bm_worker.specs.Inside.Batches.{AreCollected, AreDrawn, IsItemOf, Rise, last_packet}
-use Rattle.bm_worker.specs.Turns.{is_mux, is_turn, mux_at}
+use Rattle.bm_worker.specs.Assigned.{is_mux, is_assigned, mux_at}
 
 -- TURNS
 
-no_turn : (a b : Bool) → ◌≡◌ {A = Bool} (a && (false && b)) false
-no_turn true b = refl
-no_turn false b = refl
+none_assigned : (a b : Bool) → ◌≡◌ {A = Bool} (a && (false && b)) false
+none_assigned true b = refl
+none_assigned false b = refl
 
 -- no packet lies between a place and itself
-pub turn_none : (routes : List (Option MuxId)) (m from k : ℕ) → is_turn routes m from from k ≡ false
-turn_none routes m from k = elim (cases_lt from k) [
+pub assigned_none : (routes : List (Option MuxId)) (m from k : ℕ) → is_assigned routes m from from k ≡ false
+assigned_none routes m from k = elim (cases_lt from k) [
   | inl low ↦ rw (lt-ltb from k low, lt-leb k from low) refl
   | inr high ↦ rw (le-ltb from k high) refl
 ]
 
 -- the packet behind the place is not the mux's
-turn_skip : (routes : List (Option MuxId)) (m from at k : ℕ) → is_mux (mux_at routes (at + 1)) m ≡ false
-    → is_turn routes m from (at + 1) k ≡ is_turn routes m from at k
-turn_skip routes m from at k other = elim (cases_lt at k) [
+assigned_skip : (routes : List (Option MuxId)) (m from at k : ℕ) → is_mux (mux_at routes (at + 1)) m ≡ false
+    → is_assigned routes m from (at + 1) k ≡ is_assigned routes m from at k
+assigned_skip routes m from at k other = elim (cases_lt at k) [
   | inl low ↦ elim (cases_Bool (k == at + 1)) [
     | inl same ↦
         let e : k ≡ at + 1 = eqb-true k (at + 1) same in
@@ -59,10 +59,10 @@ turn_skip routes m from at k other = elim (cases_lt at k) [
   both_false false false = refl
 
 -- it is
-turn_more : (routes : List (Option MuxId)) (m from at k : ℕ) → from ≤ at → is_mux (mux_at routes (at + 1)) m ≡ true
-    → ◌≡◌ {A = ℕ} (cond (is_turn routes m from (at + 1) k) 1 0)
-    (cond (is_turn routes m from at k) 1 0 + cond (at + 1 == k) 1 0)
-turn_more routes m from at k le mine = elim (cases_lt at k) [
+assigned_more : (routes : List (Option MuxId)) (m from at k : ℕ) → from ≤ at → is_mux (mux_at routes (at + 1)) m ≡ true
+    → ◌≡◌ {A = ℕ} (cond (is_assigned routes m from (at + 1) k) 1 0)
+    (cond (is_assigned routes m from at k) 1 0 + cond (at + 1 == k) 1 0)
+assigned_more routes m from at k le mine = elim (cases_lt at k) [
   | inl low ↦ elim (cases_Bool (at + 1 == k)) [
     | inl same ↦
         let e : at + 1 ≡ k = eqb-true (at + 1) k same in
@@ -123,7 +123,7 @@ collected_none F stage routes m from = record {
   under = omega arith;
   each = tt;
   drawn = tt;
-  turns = λ k. rw (turn_none routes m from k) refl;
+  turns = λ k. rw (assigned_none routes m from k) refl;
   count = omega arith;
 }
 
@@ -137,7 +137,7 @@ collected_skip F stage routes m from at items fates other old = record {
   under = let u = old.under in omega arith;
   each = old.each;
   drawn = old.drawn;
-  turns = λ k. old.turns k ∙ ap (λ (b : Bool). cond b 1 0) (sym (turn_skip routes m from at k other));
+  turns = λ k. old.turns k ∙ ap (λ (b : Bool). cond b 1 0) (sym (assigned_skip routes m from at k other));
   count = let u = old.count in omega arith;
 }
 
@@ -151,7 +151,7 @@ collected_more F stage routes m from at items fates i f le few is item gives cop
     let long = length-append items (i ∷ []) in
     let mine : is_mux (mux_at routes (at + 1)) m ≡ true =
     ap (λ (j : ℕ). is_mux (mux_at routes j) m) (sym is)
-    ∙ (ap (λ (o : Option ℕ). is_mux o m) item.turn ∙ eq-eqb m m refl) in
+    ∙ (ap (λ (o : Option ℕ). is_mux o m) item.assigned ∙ eq-eqb m m refl) in
     record {
       few = omega (arith, few, long);
       rise = rise_more from items i old.rise (let u = old.under in omega (arith, u, is));
@@ -159,7 +159,7 @@ collected_more F stage routes m from at items fates i f le few is item gives cop
       each = each_more (IsItemOf stage routes m) items i old.each item;
       drawn = drawn_more F items fates i f old.drawn gives copies delay;
       turns = λ k.
-          let a = count_more k items i in let b = old.turns k in let c = turn_more routes m from at k le mine in
+          let a = count_more k items i in let b = old.turns k in let c = assigned_more routes m from at k le mine in
           let same : ◌≡◌ {A = ℕ} (cond (i.packet == k) 1 0) (cond (at + 1 == k) 1 0) =
           ap (λ (j : ℕ). cond (j == k) 1 0) is in
           omega (arith, a, b, c, same);
@@ -189,9 +189,9 @@ collected_push F stage routes m from at items items' fates fates' i f more fates
 
 -- WHOSE TURN
 
-pub turn_of : (m : ℕ) (o : Option ℕ) → is_mux o m ≡ true → o ≡ Some m
-turn_of m None is = absurd (cc)
-turn_of m (Some n) is = ap (λ (x : ℕ). Some x) (eqb-true n m is)
+pub mux_is : (m : ℕ) (o : Option ℕ) → is_mux o m ≡ true → o ≡ Some m
+mux_is m None is = absurd (cc)
+mux_is m (Some n) is = ap (λ (x : ℕ). Some x) (eqb-true n m is)
 
 -- the packet of a record
 pub packet_of_record : (stage : Stage) (octets : List (List ℕ)) (at : ℕ) (s : Segment)

@@ -30,7 +30,7 @@ use Rattle.bm_worker.specs.Deeds.{HasServer}
 use Rattle.bm_worker.specs.Inside.Debts.{Carries, Debt, GrowsByLosses, IsCopyOf, IsOf, IsUpTo, Owes, Pays, comes}
 use Rattle.bm_worker.specs.Inside.Debts.{comes_by}
 use Rattle.bm_worker.specs.Inside.Debts.{copyless_at, debt, gives, gives_by, lost_at}
-use Rattle.bm_worker.specs.Phases.{IsStopOf, Kept, Stint, mux_of}
+use Rattle.bm_worker.specs.Phases.{IsStopOf, Kept, Stint, mux_for}
 use Rattle.bm_worker.specs.Portings.{Porting}
 use Rattle.bm_worker.specs.Told.{told_there}
 use Rattle.bm_turnstile.specs.Sittings.{who}
@@ -152,7 +152,7 @@ HasDelivered F stage servers sents fates i old now =
     → AreOwed stint deeds low sents fates → AllByRecursion (λ y. IsUpTo low y.event.what) deeds
     → (x : List Note) × Kept F stage servers stint now (x ++ deeds) × (length x ≤ 12 * i)
     × AllByRecursion (λ y. IsDelivery y.event.what) x
-    × PaysFor (sent_notes (mux_of stint) (take i sents) (take i fates)) x
+    × PaysFor (sent_notes (mux_for stint) (take i sents) (take i fates)) x
     × AllByRecursion (λ y. IsUpTo (last_sent low (take i sents)) y.event.what) x
 
 pub delivered_none : (F : Rules) (stage : Stage) (servers : List Serving) (sents : List Steered) (fates : List Fate)
@@ -185,7 +185,7 @@ delivered_more F stage servers sents fates i t f old now step next at fate mux p
     λ stint deeds low kept owed first.
     let o = done stint deeds low kept owed first in let x = o.0 in
     let here = owed_at stint deeds low sents fates i t f owed at fate in
-    let m = mux_of stint in
+    let m = mux_for stint in
     let ups = each_append (λ y. IsUpTo t.packet y.event.what) x deeds
     (ups_to_more (last_sent low (take i sents)) t.packet x (let lt = here.1 in omega (arith, lt)) o.5)
     (ups_to_more low t.packet deeds (let le = here.0 in let lt = here.1 in omega (arith, le, lt)) first) in
@@ -224,7 +224,7 @@ delivers_stop F stage servers sents fates i t f old now step next stop r inside 
     λ stint deeds low kept owed first.
     let o = done stint deeds low kept owed first in let x = o.0 in
     let here = owed_at stint deeds low sents fates i t f owed at fate in
-    let m = mux_of stint in
+    let m = mux_for stint in
     let ups = each_append (λ y. IsUpTo t.packet y.event.what) x deeds
     (ups_to_more (last_sent low (take i sents)) t.packet x (let lt = here.1 in omega (arith, lt)) o.5)
     (ups_to_more low t.packet deeds (let le = here.0 in let lt = here.1 in omega (arith, le, lt)) first) in
@@ -263,8 +263,8 @@ delivers_all F stage servers sents fates i old now all long done = λ stint deed
       (let b = o.2 in omega (arith, b, all)),
       o.3,
       (
-        subst (λ (l : List Steered). PaysFor (sent_notes (mux_of stint) l fates) x) every
-            (subst (λ (l : List Fate). PaysFor (sent_notes (mux_of stint) (take i sents) l) x) each o.4),
+        subst (λ (l : List Steered). PaysFor (sent_notes (mux_for stint) l fates) x) every
+            (subst (λ (l : List Fate). PaysFor (sent_notes (mux_for stint) (take i sents) l) x) each o.4),
         subst (λ (l : List Steered). AllByRecursion (λ n. IsUpTo (last_sent low l) n.event.what) x) every o.5,
       ),
     )

@@ -42,7 +42,7 @@ use Rattle.bm_worker.specs.Inside.Deeds.{arrival}
 use Rattle.bm_worker.specs.Inside.Debts.{Carries, CarriesOne, Debt, HasCarried, IsCopyOf, IsForwarded, IsOf}
 use Rattle.bm_worker.specs.Inside.Debts.{Owes, Pays}
 use Rattle.bm_worker.specs.Inside.Debts.{debt, with_copies}
-use Rattle.bm_worker.specs.Phases.{IsStopOf, Kept, Stint, mux_of}
+use Rattle.bm_worker.specs.Phases.{IsStopOf, Kept, Stint, mux_for}
 use Rattle.bm_worker.specs.Told.{Stays}
 use Rattle.bm_worker.proofs.Carrying.{answered, ended, stop_of_memory}
 use Rattle.bm_worker.proofs.Copying.{copy_reads}
@@ -170,7 +170,7 @@ pub carries_one : (F : Rules) (stage : Stage) (servers : List Serving) (d : Debt
     → CarriesOne F stage servers d most now next (Ok tt)
 carries_one F stage servers d most now next place octets due r some suits copy is lt none come mux latest porter =
     λ stint deeds kept owes.
-    let w = (mux_of stint).0 + 1 in
+    let w = (mux_for stint).0 + 1 in
     let n = arrival r.0 d.packet d.hop copy.server.id r.1 no_fate due.0 w in (
       n ∷ [],
       record {
@@ -237,7 +237,7 @@ pub carries_forward : (F : Rules) (stage : Stage) (servers : List Serving) (k at
 carries_forward F stage servers k at before fate now next last place octets due r to result suits copy is lt forward
     drawn come mux latest porter carries =
     λ stint deeds kept owes.
-    let w = (mux_of stint).0 + 1 in
+    let w = (mux_for stint).0 + 1 in
     let d = debt k Direct at before in
     let n = arrival r.0 k Direct copy.server.id (Forward to) fate due.0 w in
     let came =

@@ -38,10 +38,10 @@ use Rattle.bm_worker.specs.Inside.Batches.{IsDelivery, IsDoneTo, IsItemOf, IsLog
 use Rattle.bm_worker.specs.Inside.Batches.{last_packet, last_sent, sent_notes, switch_note, switch_notes}
 use Rattle.bm_worker.specs.Deeds.{Suits}
 use Rattle.bm_worker.specs.Inside.Debts.{GrowsByLosses, IsUpTo, comes, comes_by, copyless_at, gives, gives_by, lost_at}
-use Rattle.bm_worker.specs.Phases.{AreCopies, AreFew, HasEnded, IsStopOf, Kept, Stint, is_steer, mux_of}
+use Rattle.bm_worker.specs.Phases.{AreCopies, AreFew, HasEnded, IsStopOf, Kept, Stint, is_steer, mux_for}
 use Rattle.bm_worker.specs.Portings.{Porting}
 use Rattle.bm_worker.specs.Told.{told_there}
-use Rattle.bm_worker.specs.Turns.{is_turn}
+use Rattle.bm_worker.specs.Assigned.{is_assigned}
 use Rattle.bm_worker.proofs.Batching.{all_sent, batch_version, sent_owed}
 use Rattle.bm_worker.proofs.Carrying.{ended}
 use Rattle.bm_worker.proofs.Copying.{copies_stay}
@@ -50,7 +50,8 @@ use Rattle.bm_worker.proofs.Hearing.{hears_stays}
 use Rattle.bm_worker.proofs.Keeping.{kept_more, more_many}
 use Rattle.bm_worker.proofs.Phasing.{batch_kinds, batch_notes, batch_step, batch_turned, delivery_none, each_reverse}
 use Rattle.bm_worker.proofs.Phasing.{event_plus, last_of_sent, lost_clock, lost_logged, lost_turned, sent_many}
-use Rattle.bm_worker.proofs.Phasing.{sent_steers, steers_logged, switch_begun, switch_logged, switched_more, turn_split}
+use Rattle.bm_worker.proofs.Phasing.{assigned_split, sent_steers, steers_logged, switch_begun, switch_logged}
+use Rattle.bm_worker.proofs.Phasing.{switched_more}
 use Rattle.bm_worker.proofs.Steering.{AreSteerings, IsSteeringOf, final, final_above, logged_more, steered_clock}
 use Rattle.bm_worker.proofs.Steering.{steering_up_to}
 
@@ -166,11 +167,11 @@ batch_few F m seen past items fates y d drawn some short deliveries few =
 batch_steered : (F : Rules) (routes : List _) (m : MuxId) (seen : Posted) (past : List Event) (from low end : ℕ)
     (items : List MuxItem) (fates : List Fate) (y d : List Note) (k : ℕ) → AreDrawn F items fates → from ≤ low
     → low ≤ end
-    → count_of (λ (i : MuxItem). i.packet == k) items ≡ cond (is_turn routes m.0 low end k) 1 0
-    → many (λ n. steers_packet n.event.what k) d ≡ cond (is_turn routes m.0 from low k) 1 0
+    → count_of (λ (i : MuxItem). i.packet == k) items ≡ cond (is_assigned routes m.0 low end k) 1 0
+    → many (λ n. steers_packet n.event.what k) d ≡ cond (is_assigned routes m.0 from low k) 1 0
     → AllByRecursion (λ n. IsDelivery n.event.what) y
     → many (λ n. steers_packet n.event.what k) (y ++ (batch_notes m seen past items fates ++ d))
-    ≡ cond (is_turn routes m.0 from end k) 1 0
+    ≡ cond (is_assigned routes m.0 from end k) 1 0
 batch_steered F routes m seen past from low end items fates y d k drawn le up turns old deliveries =
     let s = sent_notes m (sent m seen (steering_clock (switches m seen past ++ past)) items) fates in
     let sw = switch_notes m seen past in
@@ -181,7 +182,7 @@ batch_steered F routes m seen past from low end items fates y d k drawn le up tu
     let p = total_append (λ n. cond (steers_packet n.event.what k) 1 0) y ((s ++ sw) ++ d) in
     let q = total_append (λ n. cond (steers_packet n.event.what k) 1 0) (s ++ sw) d in
     let t = total_append (λ n. cond (steers_packet n.event.what k) 1 0) s sw in
-    let split = turn_split routes m.0 from low end k le up in
+    let split = assigned_split routes m.0 from low end k le up in
     omega (arith, one, none, no, p, q, t, split, turns, old)
 
 -- THE POSTS GO ON
@@ -209,19 +210,19 @@ with_batch now mid m items fates d = batch_notes m mid.mux.seen (reverse now.mux
 delivered_in : (F : Rules) (stage : Stage) (servers : List Serving) (stint : Stint) (now mid next : MuxWorker)
     (d : List Note) (low end : ℕ) (i : MuxItem) (items : List MuxItem) (fates : List Fate) (sents : List Steered)
     (r : Result (Unit {0}) Stop) → IsDoneTo F stage servers stint now low d
-    → AreCollected F stage stint.routes (mux_of stint).0 low end (i ∷ items) fates → end ≤ stint.until
+    → AreCollected F stage stint.routes (mux_for stint).0 low end (i ∷ items) fates → end ≤ stint.until
     → HasSteered now.mux (i ∷ items) mid.mux [] sents → HasSeen now mid
     → Delivers F stage servers sents fates mid next r
-    → (y : List Note) × Kept F stage servers stint next (y ++ with_batch now mid (mux_of stint) (i ∷ items) fates d)
+    → (y : List Note) × Kept F stage servers stint next (y ++ with_batch now mid (mux_for stint) (i ∷ items) fates d)
     × (length y ≤ 12 * length (i ∷ items)) × AllByRecursion (λ n. IsDelivery n.event.what) y
     × MatchResult r
-    (λ _. PaysFor (sent_notes (mux_of stint) (sent (mux_of stint) mid.mux.seen
-    (clock_of_batch now mid (mux_of stint)) (i ∷ items)) fates) y
+    (λ _. PaysFor (sent_notes (mux_for stint) (sent (mux_for stint) mid.mux.seen
+    (clock_of_batch now mid (mux_for stint)) (i ∷ items)) fates) y
     × AllByRecursion (λ n. IsUpTo (last_packet low (i ∷ items)) n.event.what) y)
-    (λ stop. IsStopOf (y ++ with_batch now mid (mux_of stint) (i ∷ items) fates d) stop)
+    (λ stop. IsStopOf (y ++ with_batch now mid (mux_for stint) (i ∷ items) fates d) stop)
 delivered_in F stage servers stint now mid next d low end i items fates sents r done got until steered seen_it
     delivers =
-    let m = mux_of stint in let past = reverse now.mux.log in let seen = mid.mux.seen in
+    let m = mux_for stint in let past = reverse now.mux.log in let seen = mid.mux.seen in
     let all = i ∷ items in
     let c = steering_clock (switches m seen past ++ past) in
     let s = sent_notes m (sent m seen c all) fates in let sw = switch_notes m seen past in
@@ -261,7 +262,7 @@ delivered_in F stage servers stint now mid next d low end i items fates sents r 
 stopped_in : (F : Rules) (stage : Stage) (servers : List Serving) (stint : Stint) (now mid next : MuxWorker)
     (d : List Note) (low end : ℕ) (i : MuxItem) (items : List MuxItem) (fates : List Fate) (sents : List Steered)
     (stop : Stop) → IsDoneTo F stage servers stint now low d
-    → AreCollected F stage stint.routes (mux_of stint).0 low end (i ∷ items) fates → end ≤ stint.until
+    → AreCollected F stage stint.routes (mux_for stint).0 low end (i ∷ items) fates → end ≤ stint.until
     → HasSteered now.mux (i ∷ items) mid.mux [] sents → HasSeen now mid
     → Delivers F stage servers sents fates mid next (Err stop)
     → HasEnded F stage servers stint next (Some stop)
@@ -269,10 +270,10 @@ stopped_in F stage servers stint now mid next d low end i items fates sents stop
     delivers =
     let o = delivered_in F stage servers stint now mid next d low end i items fates sents (Err stop) done got until
     steered seen_it delivers in (
-      o.0 ++ with_batch now mid (mux_of stint) (i ∷ items) fates d,
+      o.0 ++ with_batch now mid (mux_for stint) (i ∷ items) fates d,
       o.1,
       o.4,
-      batch_few F (mux_of stint) mid.mux.seen (reverse now.mux.log) (i ∷ items) fates o.0 d got.drawn (omega arith) o.2
+      batch_few F (mux_for stint) mid.mux.seen (reverse now.mux.log) (i ∷ items) fates o.0 d got.drawn (omega arith) o.2
           o.3 done.few,
     )
 
@@ -280,14 +281,14 @@ stopped_in F stage servers stint now mid next d low end i items fates sents stop
 done_in : (F : Rules) (stage : Stage) (servers : List Serving) (stint : Stint) (now mid next : MuxWorker)
     (d : List Note) (low end most : ℕ) (i : MuxItem) (items : List MuxItem) (fates : List Fate) (sents : List Steered)
     → IsDoneTo F stage servers stint now low d
-    → AreCollected F stage stint.routes (mux_of stint).0 low end (i ∷ items) fates → low ≤ end → end ≤ stint.until
+    → AreCollected F stage stint.routes (mux_for stint).0 low end (i ∷ items) fates → low ≤ end → end ≤ stint.until
     → HasSteered now.mux (i ∷ items) mid.mux [] sents → HasSeen now mid
     → GrowsByLosses most mid.mux.log next.mux.log → next.mux.seen ≡ mid.mux.seen
     → Delivers F stage servers sents fates mid next (Ok tt)
     → (e : List Note) × IsDoneTo F stage servers stint next end e
 done_in F stage servers stint now mid next d low end most i items fates sents done got le until steered seen_it grows
     seen_is delivers =
-    let m = mux_of stint in let past = reverse now.mux.log in let seen = mid.mux.seen in
+    let m = mux_for stint in let past = reverse now.mux.log in let seen = mid.mux.seen in
     let all = i ∷ items in
     let sw = switches m seen past in
     let c = steering_clock (sw ++ past) in
@@ -351,7 +352,7 @@ done_in F stage servers stint now mid next d low end most i items fates sents do
 pub batch_stopped : (F : Rules) (stage : Stage) (servers : List Serving) (stint : Stint) (now mid next : MuxWorker)
     (d : List Note) (low end : ℕ) (items : List MuxItem) (fates : List Fate) (sents : List Steered)
     (stop : Stop) → 0 < length items → IsDoneTo F stage servers stint now low d
-    → AreCollected F stage stint.routes (mux_of stint).0 low end items fates → end ≤ stint.until
+    → AreCollected F stage stint.routes (mux_for stint).0 low end items fates → end ≤ stint.until
     → HasSteered now.mux items mid.mux [] sents → HasSeen now mid
     → Delivers F stage servers sents fates mid next (Err stop)
     → HasEnded F stage servers stint next (Some stop)
@@ -366,7 +367,7 @@ batch_stopped F stage servers stint now mid next d low end (i ∷ items) fates s
 pub batch_done : (F : Rules) (stage : Stage) (servers : List Serving) (stint : Stint) (now mid next : MuxWorker)
     (d : List Note) (low end most : ℕ) (items : List MuxItem) (fates : List Fate) (sents : List Steered)
     → 0 < length items → IsDoneTo F stage servers stint now low d
-    → AreCollected F stage stint.routes (mux_of stint).0 low end items fates → low ≤ end → end ≤ stint.until
+    → AreCollected F stage stint.routes (mux_for stint).0 low end items fates → low ≤ end → end ≤ stint.until
     → HasSteered now.mux items mid.mux [] sents → HasSeen now mid
     → GrowsByLosses most mid.mux.log next.mux.log → next.mux.seen ≡ mid.mux.seen
     → Delivers F stage servers sents fates mid next (Ok tt)
@@ -387,7 +388,7 @@ no_count k items none = ap (λ (l : List MuxItem). count_of (λ (i : MuxItem). i
 pub batch_empty : (F : Rules) (stage : Stage) (servers : List Serving) (stint : Stint) (now : MuxWorker)
     (d : List Note) (low end : ℕ) (items : List MuxItem) (fates : List Fate) → items ≡ [] → low ≤ end
     → IsDoneTo F stage servers stint now low d
-    → AreCollected F stage stint.routes (mux_of stint).0 low end items fates
+    → AreCollected F stage stint.routes (mux_for stint).0 low end items fates
     → IsDoneTo F stage servers stint now end d
 batch_empty F stage servers stint now d low end items fates none le done got = record {
   from = let a = done.from in omega (arith, a, le);
@@ -395,13 +396,13 @@ batch_empty F stage servers stint now d low end items fates none le done got = r
   settled = done.settled;
   steered = λ k.
       let a = done.steered k in let b = got.turns k in let e = no_count k items none in
-      let split = turn_split stint.routes (mux_of stint).0 stint.from low end k done.from le in
+      let split = assigned_split stint.routes (mux_for stint).0 stint.from low end k done.from le in
       omega (arith, a, b, e, split);
   looked = done.looked;
   heard = done.heard;
   few = done.few;
   first = ups_to_more low end d le done.first;
-  logged = logged_more (mux_of stint) low end (reverse now.mux.log) le done.logged;
+  logged = logged_more (mux_for stint) low end (reverse now.mux.log) le done.logged;
   switched = done.switched;
   begun = done.begun;
 }
@@ -418,9 +419,9 @@ kept_looked F stage servers stint now next d looked kept =
       gives = tt;
       hears = hears_stays stage servers now.porter.seats next.porter.seats
           (λ s h. ap (λ (p : Porting). told_there p.seats s h) looked.porter);
-      copies = λ are. subst (λ (l : List Event). AreCopies stage (mux_of stint) servers (reverse l) next.porter.seats)
+      copies = λ are. subst (λ (l : List Event). AreCopies stage (mux_for stint) servers (reverse l) next.porter.seats)
           (sym looked.log)
-          (copies_stay stage servers (mux_of stint) (reverse now.mux.log) now.porter.seats next.porter.seats
+          (copies_stay stage servers (mux_for stint) (reverse now.mux.log) now.porter.seats next.porter.seats
           (λ s h. ap (λ (p : Porting). told_there p.seats s h) looked.porter) are);
       latest = let e : next.porter.latest ≡ now.porter.latest = ap (λ (p : Porting). p.latest) looked.porter in
           omega (arith, e);
@@ -517,11 +518,11 @@ steered_as old new items items' out out' same none steered =
     (subst (λ (l : List MuxItem). HasSteered old l new out out') same steered)
 
 collected_in : (F : Rules) (stage : Stage) (stint : Stint) (routes : List (Option MuxId)) (id : MuxId)
-    (from end : ℕ) (items : List MuxItem) (fates : List Fate) → stint.routes ≡ routes → id ≡ mux_of stint
+    (from end : ℕ) (items : List MuxItem) (fates : List Fate) → stint.routes ≡ routes → id ≡ mux_for stint
     → AreCollected F stage routes id.0 from end items fates
-    → AreCollected F stage stint.routes (mux_of stint).0 from end items fates
+    → AreCollected F stage stint.routes (mux_for stint).0 from end items fates
 collected_in F stage stint routes id from end items fates same is got =
-    subst (λ (r : List (Option MuxId)). AreCollected F stage r (mux_of stint).0 from end items fates) (sym same)
+    subst (λ (r : List (Option MuxId)). AreCollected F stage r (mux_for stint).0 from end items fates) (sym same)
     (subst (λ (j : MuxId). AreCollected F stage routes j.0 from end items fates) is got)
 
 -- no packet in it

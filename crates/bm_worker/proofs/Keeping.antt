@@ -21,7 +21,7 @@ use Rattle.bm_server.specs.Servings.{Serving}
 use Rattle.bm_worker.specs.declared.worker.MuxWorker.{MuxWorker}
 use Rattle.bm_worker.specs.Deeds.{Hears, IsSamePorter, clock_of}
 use Rattle.bm_worker.specs.Phases.{AreCopies, IsDeed, IsInOrder, IsLossOf, IsMuxGiven, Kept, Stint, mux_log}
-use Rattle.bm_worker.specs.Phases.{mux_of}
+use Rattle.bm_worker.specs.Phases.{mux_for}
 use Rattle.bm_worker.proofs.Hearing.{hears_more}
 
 -- MORE DEEDS
@@ -60,7 +60,7 @@ deed_more F stage servers stint x d n is = record {
   seat = is.seat;
   later = is.later;
   within = is.within;
-  turn = is.turn;
+  assigned = is.assigned;
   owed = owed_more x d n n.event.what is.owed;
   lost = lost_more x d n.event.clock.0 n.event.what is.lost;
   drawn = is.drawn;
@@ -129,12 +129,12 @@ pub record Step (F : Rules) (stage : Stage) (servers : List Serving) (stint : St
     (d x : List Note) : Type 0 where
   pub each : AllByRecursion (IsDeed F stage servers stint (x ++ d)) x
   pub ordered : AtEach (λ rest n. IsInOrder (rest ++ d) n.event.what) x
-  pub logged : reverse next.mux.log ≡ mux_log stage (mux_of stint).0 x ++ reverse now.mux.log
+  pub logged : reverse next.mux.log ≡ mux_log stage (mux_for stint).0 x ++ reverse now.mux.log
   pub gives : AtEach (λ rest e. IsMuxGiven stage stint.after (last_version stint.told) next.mux.seen.clocks
-      (rest ++ reverse now.mux.log) e.clock.0 e.what) (mux_log stage (mux_of stint).0 x)
+      (rest ++ reverse now.mux.log) e.clock.0 e.what) (mux_log stage (mux_for stint).0 x)
   pub hears : Hears stage servers now.porter.seats next.porter.seats x
-  pub copies : AreCopies stage (mux_of stint) servers (reverse now.mux.log) now.porter.seats
-      → AreCopies stage (mux_of stint) servers (reverse next.mux.log) next.porter.seats
+  pub copies : AreCopies stage (mux_for stint) servers (reverse now.mux.log) now.porter.seats
+      → AreCopies stage (mux_for stint) servers (reverse next.mux.log) next.porter.seats
   pub latest : next.porter.latest ≡ max now.porter.latest (greatest clock_of x)
   pub mux : IsSameMux now.mux next.mux
   pub porter : IsSamePorter now.porter next.porter
@@ -160,7 +160,7 @@ pub kept_more : (F : Rules) (stage : Stage) (servers : List Serving) (stint : St
     → Kept F stage servers stint now d → Step F stage servers stint now next d x
     → Kept F stage servers stint next (x ++ d)
 kept_more F stage servers stint now next d x old step =
-    let m = (mux_of stint).0 in let past = reverse stint.start.mux.log in let first = last_version stint.told in
+    let m = (mux_for stint).0 in let past = reverse stint.start.mux.log in let first = last_version stint.told in
     record {
       each = each_append (IsDeed F stage servers stint (x ++ d)) x d step.each
           (each_so (IsDeed F stage servers stint d) (IsDeed F stage servers stint (x ++ d)) d

@@ -34,8 +34,8 @@ use Rattle.bm_worker.specs.Deeds.{Hears, Said, clock_of, saying}
 use Rattle.bm_worker.specs.Told.{told_there}
 use Rattle.bm_worker.specs.Inside.Debts.{GrowsByLosses}
 use Rattle.bm_worker.specs.Phases.{AreCopies, IsDeed, IsMuxGiven}
-use Rattle.bm_worker.specs.Phases.{Stint, is_steer, mux_log, mux_of}
-use Rattle.bm_worker.specs.Turns.{is_mux, is_turn, mux_at}
+use Rattle.bm_worker.specs.Phases.{Stint, is_steer, mux_log, mux_for}
+use Rattle.bm_worker.specs.Assigned.{is_mux, is_assigned, mux_at}
 use Rattle.bm_worker.proofs.Batching.{sent_deeds, switch_deeds}
 use Rattle.bm_worker.proofs.Copying.{copies_as}
 use Rattle.bm_worker.proofs.Keeping.{Step, at_append, at_so}
@@ -144,18 +144,18 @@ final_more last i items = let le = final_above (steer_clock last i) items in ome
 pub batch_step : (F : Rules) (stage : Stage) (servers : List Serving) (stint : Stint) (now next : MuxWorker)
     (d : List Note) (low : ℕ)
     (i : MuxItem) (items : List MuxItem) (fates : List Fate) (out out' : List Steered)
-    → now.mux.id ≡ mux_of stint → IsSameMux now.mux next.mux
-    → IsBatch (mux_of stint) next.mux.seen (i ∷ items) now.mux.log next.mux.log out out'
+    → now.mux.id ≡ mux_for stint → IsSameMux now.mux next.mux
+    → IsBatch (mux_for stint) next.mux.seen (i ∷ items) now.mux.log next.mux.log out out'
     → HasSeen now next → stint.from ≤ low → last_packet low (i ∷ items) ≤ stint.until → Rise low (i ∷ items)
-    → AllByRecursion (IsItemOf stage stint.routes (mux_of stint).0) (i ∷ items) → AreDrawn F (i ∷ items) fates
-    → AllByRecursion (IsLogged (mux_of stint) low) (reverse now.mux.log)
-    → switched_since stint.after (mux_of stint).0 (reverse now.mux.log) ≡ true
+    → AllByRecursion (IsItemOf stage stint.routes (mux_for stint).0) (i ∷ items) → AreDrawn F (i ∷ items) fates
+    → AllByRecursion (IsLogged (mux_for stint) low) (reverse now.mux.log)
+    → switched_since stint.after (mux_for stint).0 (reverse now.mux.log) ≡ true
     → stint.after < steering_clock (reverse now.mux.log)
     → Step F stage servers stint now next d
-    (batch_notes (mux_of stint) next.mux.seen (reverse now.mux.log) (i ∷ items) fates)
+    (batch_notes (mux_for stint) next.mux.seen (reverse now.mux.log) (i ∷ items) fates)
 batch_step F stage servers stint now next d low i items fates out out' id same batch seen_it from until rise each drawn
     logged switched begun =
-    let m = mux_of stint in let past = reverse now.mux.log in let seen = next.mux.seen in
+    let m = mux_for stint in let past = reverse now.mux.log in let seen = next.mux.seen in
     let sw = switches m seen past in let c = steering_clock (sw ++ past) in
     let all_items = i ∷ items in
     let st = steers m c all_items in
@@ -311,10 +311,10 @@ pub last_of_sent : (m : MuxId) (seen : Posted) (last low : ℕ) (items : List Mu
 last_of_sent m seen last low [] = refl
 last_of_sent m seen last low (i ∷ items) = last_of_sent m seen (steer_clock last i) i.packet items
 
-pub turn_split : (routes : List (Option MuxId)) (m from low end k : ℕ) → from ≤ low → low ≤ end
-    → ◌≡◌ {A = ℕ} (cond (is_turn routes m from end k) 1 0)
-    (cond (is_turn routes m low end k) 1 0 + cond (is_turn routes m from low k) 1 0)
-turn_split routes m from low end k a b = elim (cases_lt low k) [
+pub assigned_split : (routes : List (Option MuxId)) (m from low end k : ℕ) → from ≤ low → low ≤ end
+    → ◌≡◌ {A = ℕ} (cond (is_assigned routes m from end k) 1 0)
+    (cond (is_assigned routes m low end k) 1 0 + cond (is_assigned routes m from low k) 1 0)
+assigned_split routes m from low end k a b = elim (cases_lt low k) [
   | inl past ↦ rw (lt-ltb from k (omega (arith, a, past)), lt-ltb low k past, lt-leb k low past)
       (more (leb k end && is_mux (mux_at routes k) m))
   | inr before ↦ rw (le-ltb low k before, le-leb k low before, le-leb k end (omega (arith, before, b)))

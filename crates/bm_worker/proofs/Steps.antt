@@ -34,7 +34,7 @@ use Rattle.bm_worker.specs.Deeds.{Hears, IsSamePorter, Suits}
 use Rattle.bm_worker.specs.Inside.Deeds.{arrival, loss}
 use Rattle.bm_worker.specs.Inside.Debts.{Debt, IsAmong, IsCopyOf, IsOf, IsUpTo, Owes}
 use Rattle.bm_worker.specs.Inside.Lost.{with_loss}
-use Rattle.bm_worker.specs.Phases.{AreCopies, IsMuxGiven, Kept, Stint, mux_log, mux_of}
+use Rattle.bm_worker.specs.Phases.{AreCopies, IsMuxGiven, Kept, Stint, mux_log, mux_for}
 use Rattle.bm_worker.specs.Told.{Stays}
 use Rattle.bm_worker.proofs.Copying.{copies_as, copies_come, copies_stay, tag_hop}
 use Rattle.bm_worker.proofs.Hearing.{hears_arrival, hears_none, hears_stays}
@@ -68,9 +68,10 @@ kept_stays F stage servers stint now next d mux same latest porter kept =
       logged = ap (λ (x : MuxState). reverse x.log) mux;
       gives = tt;
       hears = hears_stays stage servers now.porter.seats next.porter.seats same;
-      copies = λ are. subst (λ (x : MuxState). AreCopies stage (mux_of stint) servers (reverse x.log) next.porter.seats)
+      copies = λ are.
+          subst (λ (x : MuxState). AreCopies stage (mux_for stint) servers (reverse x.log) next.porter.seats)
           (sym mux)
-          (copies_stay stage servers (mux_of stint) (reverse now.mux.log) now.porter.seats next.porter.seats same are);
+          (copies_stay stage servers (mux_for stint) (reverse now.mux.log) now.porter.seats next.porter.seats same are);
       latest = omega (arith, latest);
       mux = same_posts now next (ap (λ (x : MuxState). x.id) mux) (ap (λ (x : MuxState). x.seen) mux);
       porter = porter;
@@ -143,15 +144,15 @@ pub kept_arrival : (F : Rules) (stage : Stage) (servers : List Serving) (stint :
     (place : ℕ) (octets : List ℕ) (due : Moment) (r : Moment × Verdict) (fate : Fate) → Suits stage servers
     → (copy : IsCopyOf stage servers now.mux place debt.packet debt.hop octets)
     → due.0 ≡ debt.clock + debt.fate.delay → due.0 < r.0.0
-    → IsDrawn F (arrival r.0 debt.packet debt.hop copy.server.id r.1 fate due.0 ((mux_of stint).0 + 1))
+    → IsDrawn F (arrival r.0 debt.packet debt.hop copy.server.id r.1 fate due.0 ((mux_for stint).0 + 1))
     → HasCome place copy.server debt.packet (copy.tag, copy.segment) due r now.porter.seats next.porter.seats
     → next.mux ≡ now.mux → next.porter.latest ≡ max now.porter.latest r.0.0 → IsSamePorter now.porter next.porter
     → Owes stint d debt → Kept F stage servers stint now d
     → Kept F stage servers stint next
-    (arrival r.0 debt.packet debt.hop copy.server.id r.1 fate due.0 ((mux_of stint).0 + 1) ∷ d)
+    (arrival r.0 debt.packet debt.hop copy.server.id r.1 fate due.0 ((mux_for stint).0 + 1) ∷ d)
 kept_arrival F stage servers stint now next d debt place octets due r fate suits copy is lt drawn come mux latest porter
     owes kept =
-    let m = (mux_of stint).0 in
+    let m = (mux_for stint).0 in
     let n = arrival r.0 debt.packet debt.hop copy.server.id r.1 fate due.0 (m + 1) in
     let hop_is : copy.tag.hop ≡ debt.hop = tag_hop copy.label debt.hop copy.tag copy.tagged in
     let not_mine : is_home stage (MuxOf m) n ≡ false =
@@ -165,7 +166,7 @@ kept_arrival F stage servers stint now next d debt place octets due r fate suits
           seat = refl;
           later = let a = owes.later in omega (arith, is, lt);
           within = owes.within;
-          turn = tt;
+          assigned = tt;
           owed = (
             let a = owes.steered in let le =
                 more_many (λ y. steers_packet y.event.what debt.packet) (n ∷ []) d in omega arith,
@@ -186,7 +187,8 @@ kept_arrival F stage servers stint now next d debt place octets due r fate suits
           (hears_arrival stage servers place debt.packet (m + 1) copy.server (copy.tag, copy.segment) due r fate
           now.porter.seats next.porter.seats
           suits copy.is_server come copy.is_segment);
-      copies = λ are. subst (λ (x : MuxState). AreCopies stage (mux_of stint) servers (reverse x.log) next.porter.seats)
+      copies = λ are.
+          subst (λ (x : MuxState). AreCopies stage (mux_for stint) servers (reverse x.log) next.porter.seats)
           (sym mux)
           (subst (λ (y : MuxId). AreCopies stage y servers (reverse now.mux.log) next.porter.seats) kept.mux.id
           (copies_come stage servers now.mux place debt.packet debt.hop octets due r now.porter.seats next.porter.seats
@@ -204,9 +206,9 @@ pub kept_loss : (F : Rules) (stage : Stage) (servers : List Serving) (stint : St
     (debt : Debt)
     → debt.fate.copies ≡ 0 → Owes stint d debt → Kept F stage servers stint now d
     → Kept F stage servers stint (with_loss debt.packet debt.hop debt.clock now)
-    (loss (debt.clock + 1) debt.packet debt.hop ((mux_of stint).0 + 1) ∷ d)
+    (loss (debt.clock + 1) debt.packet debt.hop ((mux_for stint).0 + 1) ∷ d)
 kept_loss F stage servers stint now d debt none owes kept =
-    let m = (mux_of stint).0 in
+    let m = (mux_for stint).0 in
     let n = loss (debt.clock + 1) debt.packet debt.hop (m + 1) in
     let next = with_loss debt.packet debt.hop debt.clock now in
     let e = at_clock (debt.clock + 1) (Lose debt.packet debt.hop) in
@@ -220,7 +222,7 @@ kept_loss F stage servers stint now d debt none owes kept =
           seat = refl;
           later = let a = owes.later in omega arith;
           within = owes.within;
-          turn = tt;
+          assigned = tt;
           owed = tt;
           lost = (
             debt.clock,
@@ -240,7 +242,7 @@ kept_loss F stage servers stint now d debt none owes kept =
       logged = turned ∙ ap (λ (l : List Event). l ++ reverse now.mux.log) (sym one);
       gives = subst (λ (l : List Event). AtEach (GivenNow stage stint now next) l) (sym one) (tt, tt);
       hears = hears_none stage servers now.porter.seats;
-      copies = λ are. copies_as stage servers (mux_of stint) (reverse now.mux.log) (reverse next.mux.log)
+      copies = λ are. copies_as stage servers (mux_for stint) (reverse now.mux.log) (reverse next.mux.log)
           now.porter.seats
           (λ k l is. subst (λ (past : List Event). label_of stage past k ≡ Some l) (sym turned) is) are;
       latest = omega arith;

@@ -34,7 +34,7 @@ use Rattle.bm_worker.specs.declared.stop.Stop.TheVariants.{Memory, Late}
 use Rattle.bm_worker.specs.declared.worker.MuxWorker.{MuxWorker}
 use Rattle.bm_worker.specs.Deeds.{HasServer, Hears, IsSamePorter, Sits, Suits, clock_of}
 use Rattle.bm_worker.specs.Told.{told_there}
-use Rattle.bm_worker.specs.Turns.{RoutedBy, is_turn, mux_at}
+use Rattle.bm_worker.specs.Assigned.{RoutedBy, is_assigned, mux_at}
 
 -- one worker's part of a phase
 pub record Stint : Type 0 where
@@ -60,8 +60,8 @@ stint_of routes span told start = record {
   start = start;
 }
 
-abbrev pub mux_of : Stint → MuxId
-mux_of stint = stint.start.mux.id
+abbrev pub mux_for : Stint → MuxId
+mux_for stint = stint.start.mux.id
 
 -- WHAT THE MUX LOGS
 
@@ -114,9 +114,10 @@ is_steer (Steer k m) = true
 is_steer _ = false
 
 -- a Steer is of one of the mux's packets
-abbrev pub IsTurn : Stint → What → Type 0
-IsTurn stint (Steer k m) = is_turn stint.routes (mux_of stint).0 stint.from stint.until k ≡ true
-IsTurn stint _ = Unit {0}
+abbrev pub IsAssigned : Stint → What → Type 0
+IsAssigned stint (Steer k m) =
+    is_assigned stint.routes (mux_for stint).0 stint.from stint.until k ≡ true
+IsAssigned stint _ = Unit {0}
 
 -- a Lose has its sending, without copies, at the clock before
 abbrev pub IsLossOf : List Note → ℕ → What → Type 0
@@ -132,12 +133,12 @@ IsPlaced servers _ = Unit {0}
 -- a deed of the phase, of which these are all
 pub record IsDeed (F : Rules) (stage : Stage) (servers : List Serving) (stint : Stint)
     (deeds : List Note) (n : Note) : Type 0 where
-  pub kind : carries (mux_of stint).0 n.event.what ≡ true
-  pub seat : n.seat ≡ (mux_of stint).0 + 1
+  pub kind : carries (mux_for stint).0 n.event.what ≡ true
+  pub seat : n.seat ≡ (mux_for stint).0 + 1
   -- its clock is above that of the Sync
   pub later : stint.after < n.event.clock.0
   pub within : IfSome (packet_of n.event.what) (λ k. (stint.from < k) × (k ≤ stint.until))
-  pub turn : IsTurn stint n.event.what
+  pub assigned : IsAssigned stint n.event.what
   pub owed : IsOwed deeds n n.event.what
   pub lost : IsLossOf deeds n.event.clock.0 n.event.what
   pub drawn : IsDrawn F n
@@ -152,15 +153,16 @@ pub record Kept (F : Rules) (stage : Stage) (servers : List Serving) (stint : St
   pub ordered : AtEach (λ rest n. IsInOrder rest n.event.what) deeds
   -- the mux's log grew by just these deeds' events
   pub logged : reverse now.mux.log
-      ≡ mux_log stage (mux_of stint).0 deeds ++ reverse stint.start.mux.log
+      ≡ mux_log stage (mux_for stint).0 deeds ++ reverse stint.start.mux.log
   pub gives : AtEach
       (λ rest e. IsMuxGiven stage stint.after (last_version stint.told) now.mux.seen.clocks
-      (rest ++ reverse stint.start.mux.log) e.clock.0 e.what) (mux_log stage (mux_of stint).0 deeds)
+      (rest ++ reverse stint.start.mux.log) e.clock.0 e.what)
+      (mux_log stage (mux_for stint).0 deeds)
   -- so did what the seats were told
   pub hears : Hears stage servers stint.start.porter.seats now.porter.seats deeds
-  pub copies : AreCopies stage (mux_of stint) servers (reverse stint.start.mux.log)
+  pub copies : AreCopies stage (mux_for stint) servers (reverse stint.start.mux.log)
       stint.start.porter.seats
-      → AreCopies stage (mux_of stint) servers (reverse now.mux.log) now.porter.seats
+      → AreCopies stage (mux_for stint) servers (reverse now.mux.log) now.porter.seats
   -- the exact greatest clock
   pub latest : now.porter.latest ≡ max stint.start.porter.latest (greatest clock_of deeds)
   pub mux : IsSameMux stint.start.mux now.mux
@@ -176,13 +178,13 @@ pub record Phase (F : Rules) (stage : Stage) (servers : List Serving) (stint : S
     (now : MuxWorker) (deeds : List Note) : Type 0 where
   pub kept : Kept F stage servers stint now deeds
   -- every sending has its copies, or its Lose
-  pub carrier : IsCarrier (RoutedBy stint.routes) F stage (mux_of stint).0 deeds
+  pub carrier : IsCarrier (RoutedBy stint.routes) F stage (mux_for stint).0 deeds
   -- the mux looked, at what was posted before the phase or later
-  pub looked : 1 ≤ many (λ n. is_switch_of n.event.what (mux_of stint).0) deeds
+  pub looked : 1 ≤ many (λ n. is_switch_of n.event.what (mux_for stint).0) deeds
   pub heard : Continues stint.told now.mux.seen
   -- each of the mux's packets is steered once, and no other
   pub steered : (k : ℕ) → many (λ n. steers_packet n.event.what k) deeds
-      ≡ (if is_turn stint.routes (mux_of stint).0 stint.from stint.until k then 1 else 0)
+      ≡ (if is_assigned stint.routes (mux_for stint).0 stint.from stint.until k then 1 else 0)
   pub few : AreFew deeds
 
 -- why the worker gave up: memory, or a moment that was too large, which it had from the clock of
@@ -217,11 +219,11 @@ pub record IsReady (stage : Stage) (servers : List Serving) (stint : Stint) : Ty
   pub until : (stint.from ≤ stint.until) × (stint.until ≤ length stage.capture.records)
   pub after : stint.after ≤ 9 * 10 ^ 18
   pub sits : Sits servers stint.start.porter
-  pub mux : (mux_of stint).0 < 64
-  pub number : stint.start.porter.number ≡ (mux_of stint).0 + 1
+  pub mux : (mux_for stint).0 < 64
+  pub number : stint.start.porter.number ≡ (mux_for stint).0 + 1
   pub told : stint.told.board ≡ stint.start.mux.seen.board
   pub plan : stint.start.mux.seen.plan ≡ stage.script.plan
-  pub older : AllByRecursion (IsOlder (mux_of stint) stint.from stint.after) stint.start.mux.log
+  pub older : AllByRecursion (IsOlder (mux_for stint) stint.from stint.after) stint.start.mux.log
   pub tries : stint.start.porter.tries + 12 * (stint.until - stint.from) ≤ 4294967295
   pub steps : stint.start.steps + (stint.until - stint.from) ≤ 4294967295
   pub room : length stint.start.mux.log + 5 * (stint.until - stint.from) + 1 < 2 ^ 48

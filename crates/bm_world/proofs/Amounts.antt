@@ -25,7 +25,7 @@ use Rattle.bm_merge.proofs.Noting.{counts_notes, each_so, total_append, total_no
 use Rattle.bm_merge.proofs.Reaching.{one_if}
 use Rattle.bm_merge.proofs.Sharing.{deeds_upto, sum_seats}
 use Rattle.bm_worker.specs.Phases.{IsMuxGiven, is_steer, mux_log}
-use Rattle.bm_worker.specs.Turns.{is_mux, is_turn, mux_at}
+use Rattle.bm_worker.specs.Assigned.{is_mux, is_assigned, mux_at}
 use Rattle.bm_lead.specs.Commands.{AreDone, control_log}
 use Rattle.bm_world.proofs.Deeds.{IsAmong, all_among}
 use Rattle.bm_world.proofs.Ending.{is_under, one_mux}
@@ -147,7 +147,7 @@ pub carried_few : (stage : Stage) (routes : List (Option MuxId)) (until : ℕ) (
     → ((m : ℕ) → m < length carriers
     → length (deeds_of carriers m) ≤ 14 * many (λ n. is_steer n.event.what) (deeds_of carriers m) + 65538)
     → ((m : ℕ) → m < length carriers → (k : ℕ)
-    → many (λ n. steers_packet n.event.what k) (deeds_of carriers m) ≤ one_if (is_turn routes m 0 until k))
+    → many (λ n. steers_packet n.event.what k) (deeds_of carriers m) ≤ one_if (is_assigned routes m 0 until k))
     → length (all_deeds carriers) ≤ 7000000
 carried_few stage routes until carriers low muxes few steered =
     let all = lengths_few carriers 0 few
@@ -331,11 +331,11 @@ log_own stage m (n ∷ h) home =
 pub steered_part : (stage : Stage) (routes : List (Option MuxId)) (after first m from until : ℕ) (posts : List ℕ)
     (x : List Note) (old : List Event)
     → AllByRecursion (λ n. carries m n.event.what ≡ true) x
-    → AllByRecursion (λ n. (k : ℕ) (i : MuxId) → n.event.what ≡ Steer k i → is_turn routes m from until k ≡ true) x
+    → AllByRecursion (λ n. (k : ℕ) (i : MuxId) → n.event.what ≡ Steer k i → is_assigned routes m from until k ≡ true) x
     → AtEach (λ rest e. IsMuxGiven stage after first posts (rest ++ old) e.clock.0 e.what) (mux_log stage m x)
-    → (k : ℕ) → many (λ n. steers_packet n.event.what k) x ≤ one_if (is_turn routes m from until k)
+    → (k : ℕ) → many (λ n. steers_packet n.event.what k) x ≤ one_if (is_assigned routes m from until k)
 steered_part stage routes after first m from until posts x old kinds turns given k =
-    go (is_turn routes m from until k) refl where
+    go (is_assigned routes m from until k) refl where
       once : many (λ n. steers_packet n.event.what k) x ≤ 1
       once =
           let a = steers_home stage m k x kinds
@@ -344,14 +344,14 @@ steered_part stage routes after first m from until posts x old kinds turns given
           (log_own stage m (home_part stage (MuxOf m) x) (home_is stage (MuxOf m) x)) given
           in omega arith
 
-      no : (n : Note) → ((j : ℕ) (i : MuxId) → n.event.what ≡ Steer j i → is_turn routes m from until j ≡ true)
-          → is_turn routes m from until k ≡ false → (what : What) → n.event.what ≡ what
+      no : (n : Note) → ((j : ℕ) (i : MuxId) → n.event.what ≡ Steer j i → is_assigned routes m from until j ≡ true)
+          → is_assigned routes m from until k ≡ false → (what : What) → n.event.what ≡ what
           → one_if (steers_packet what k) ≡ 0
       no n turn not (Steer j i) is = elim (cases_Bool (eqb j k)) [
         | inl same ↦
             let at : j ≡ k = eqb-true _ _ same
-            in absurd (let yes : is_turn routes m from until k ≡ true =
-            subst (λ (p : ℕ). is_turn routes m from until p ≡ true) at (turn j i is)
+            in absurd (let yes : is_assigned routes m from until k ≡ true =
+            subst (λ (p : ℕ). is_assigned routes m from until p ≡ true) at (turn j i is)
             in let bad : true ≡ false = sym yes ∙ not in cc)
         | inr other ↦ rw other refl
       ]
@@ -363,10 +363,10 @@ steered_part stage routes after first m from until posts x old kinds turns given
       no n turn not (Retire server h moment result) is = refl
       no n turn not Sync is = refl
 
-      go : (b : Bool) → is_turn routes m from until k ≡ b → many (λ n. steers_packet n.event.what k) x ≤ one_if b
+      go : (b : Bool) → is_assigned routes m from until k ≡ b → many (λ n. steers_packet n.event.what k) x ≤ one_if b
       go true is = once
       go false is =
           let none = total_none (λ n. one_if (steers_packet n.event.what k)) x
-          (each_so (λ n. (j : ℕ) (i : MuxId) → n.event.what ≡ Steer j i → is_turn routes m from until j ≡ true)
+          (each_so (λ n. (j : ℕ) (i : MuxId) → n.event.what ≡ Steer j i → is_assigned routes m from until j ≡ true)
           (λ n. one_if (steers_packet n.event.what k) ≡ 0) x (λ n t. no n t is n.event.what refl) turns)
           in omega arith

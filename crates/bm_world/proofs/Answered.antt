@@ -14,7 +14,7 @@ use Rattle.bm_core.specs.declared.events.Stage.{Stage}
 use Rattle.bm_core.specs.Accounts.{Routes, Rules, AreAnswered, before}
 use Rattle.bm_core.specs.Past.{segment_of, steerable}
 use Rattle.bm_core.specs.Threads.{IsThreadedRun}
-use Rattle.bm_worker.specs.Turns.{RoutedBy, mux_at, mux_in}
+use Rattle.bm_worker.specs.Assigned.{RoutedBy, mux_at, mux_in}
 use Rattle.bm_world.specs.Inside.Routed.{AreGiven, AreRouted, IsGivenTo}
 use Rattle.bm_world.proofs.Growing.{routed_one}
 

@@ -38,7 +38,7 @@ use Rattle.bm_server.specs.Seats.{Seated}
 use Rattle.bm_server.specs.Servings.{Serving}
 use Rattle.bm_worker.specs.Deeds.{HasServer, Suits}
 use Rattle.bm_worker.specs.Phases.{mux_log, IsPlaced, AreCopies}
-use Rattle.bm_worker.specs.Turns.{is_mux, mux_at}
+use Rattle.bm_worker.specs.Assigned.{is_mux, mux_at}
 use Rattle.bm_worker.specs.declared.worker.MuxWorker.{MuxWorker}
 use Rattle.bm_world.specs.Inside.Handed.{control_log, posted_clocks, IsControl, IsBooked, has_book, AreHandedBack}
 use Rattle.bm_world.specs.Inside.Running.{HaveHeard, AreAtWork, HaveLooked}

@@ -25,7 +25,7 @@ use Rattle.bm_merge.specs.Workers.{IsBefore, IsCarrier, IsDrawn, IsMet, IsOwed}
 use Rattle.bm_merge.proofs.Noting.{total_append, each_append, each_so}
 use Rattle.bm_merge.proofs.Reaching.{one_if}
 use Rattle.bm_worker.specs.Phases.{mux_log, IsLossOf, IsMuxGiven}
-use Rattle.bm_worker.specs.Turns.{mux_at, is_mux, is_turn}
+use Rattle.bm_worker.specs.Assigned.{mux_at, is_mux, is_assigned}
 use Rattle.bm_world.specs.Inside.Handed.{IsCarriage, IsMuxGivenBy}
 use Rattle.bm_world.specs.Inside.Left.{IsSyncIn, IsMuxClocked, IsSteerable, IsLeft, IsSynced}
 use Rattle.bm_world.proofs.Deeds.{IsAmong, all_among}
@@ -139,10 +139,10 @@ is_one : (b : Bool) → 1 ≤ cond b 1 0 → b ≡ true
 is_one true one = refl
 is_one false one = absurd (omega arith)
 
-turn_known : (stage : Stage) (routes : List (Option MuxId)) (m from until k : ℕ)
+assigned_known : (stage : Stage) (routes : List (Option MuxId)) (m from until k : ℕ)
     → ((k m : ℕ) → mux_at routes k ≡ Some m → is_some (segment_of stage k) ≡ true)
-    → is_turn routes m from until k ≡ true → is_some (segment_of stage k) ≡ true
-turn_known stage routes m from until k steerable is =
+    → is_assigned routes m from until k ≡ true → is_some (segment_of stage k) ≡ true
+assigned_known stage routes m from until k steerable is =
     go (mux_at routes k) refl ((and_parts (ltb from k && leb k until) (is_mux (mux_at routes k) m) is).1) where
       go : (o : Option ℕ) → mux_at routes k ≡ o → is_mux o m ≡ true → is_some (segment_of stage k) ≡ true
       go None at h = absurd (cc)
@@ -150,13 +150,13 @@ turn_known stage routes m from until k steerable is =
 
 steerable_of : (stage : Stage) (routes : List (Option MuxId)) (m until : ℕ) (deeds : List Note)
     → ((k m : ℕ) → mux_at routes k ≡ Some m → is_some (segment_of stage k) ≡ true)
-    → ((k : ℕ) → many (λ n. steers_packet n.event.what k) deeds ≡ one_if (is_turn routes m 0 until k))
+    → ((k : ℕ) → many (λ n. steers_packet n.event.what k) deeds ≡ one_if (is_assigned routes m 0 until k))
     → (n : Note) → IsAmong deeds n → (what : What) → n.event.what ≡ what → IsSteerable stage what
 steerable_of stage routes m until deeds known steered n among (Steer k x) is =
     let mine : steers_packet n.event.what k ≡ true = rw is (eq-eqb _ _ refl)
     in let one : 1 ≤ many (λ y. steers_packet y.event.what k) deeds = among (λ y. steers_packet y.event.what k) mine
-    in let turn = steered k
-    in turn_known stage routes m 0 until k known (is_one (is_turn routes m 0 until k) (omega arith))
+    in let assigned = steered k
+    in assigned_known stage routes m 0 until k known (is_one (is_assigned routes m 0 until k) (omega arith))
 steerable_of stage routes m until deeds known steered n among (Publish v) is = tt
 steerable_of stage routes m until deeds known steered n among (Switch x v) is = tt
 steerable_of stage routes m until deeds known steered n among (Lose k hop) is = tt
@@ -174,7 +174,7 @@ two P Q S (n ∷ x) f ps qs = (f n ps.0 qs.0, two P Q S x f ps.1 qs.1)
 pub left_of : (R : Routes) (F : Rules) (stage : Stage) (routes : List (Option MuxId)) (control y : List Event)
     (posts posts' : List ℕ) (m until : ℕ) (deeds : List Note)
     → ((k m : ℕ) → mux_at routes k ≡ Some m → is_some (segment_of stage k) ≡ true)
-    → ((k : ℕ) → many (λ n. steers_packet n.event.what k) deeds ≡ one_if (is_turn routes m 0 until k))
+    → ((k : ℕ) → many (λ n. steers_packet n.event.what k) deeds ≡ one_if (is_assigned routes m 0 until k))
     → IsPrefix posts posts' → IsCarriage R F stage control posts m deeds
     → IsLeft F stage (y ++ control) posts' m deeds
 left_of R F stage routes control y posts posts' m until deeds known steered more c = record {
@@ -189,18 +189,18 @@ left_of R F stage routes control y posts posts' m until deeds known steered more
   gives = clocked_before stage control y posts posts' (mux_log stage m deeds) more c.gives;
 }
 
-pub turn_steerable : (stage : Stage) (routes : List (Option MuxId)) (m from until : ℕ) (what : What)
+pub assigned_steerable : (stage : Stage) (routes : List (Option MuxId)) (m from until : ℕ) (what : What)
     → ((k m : ℕ) → mux_at routes k ≡ Some m → is_some (segment_of stage k) ≡ true)
-    → ((k : ℕ) (x : MuxId) → what ≡ Steer k x → is_turn routes m from until k ≡ true) → IsSteerable stage what
-turn_steerable stage routes m from until (Steer k x) known turn =
-    turn_known stage routes m from until k known (turn k x refl)
-turn_steerable stage routes m from until (Publish v) known turn = tt
-turn_steerable stage routes m from until (Switch x v) known turn = tt
-turn_steerable stage routes m from until (Lose k hop) known turn = tt
-turn_steerable stage routes m from until (Arrive k hop server verdict) known turn = tt
-turn_steerable stage routes m from until (Close server flow closed) known turn = tt
-turn_steerable stage routes m from until (Retire server h moment result) known turn = tt
-turn_steerable stage routes m from until Sync known turn = tt
+    → ((k : ℕ) (x : MuxId) → what ≡ Steer k x → is_assigned routes m from until k ≡ true) → IsSteerable stage what
+assigned_steerable stage routes m from until (Steer k x) known assigned =
+    assigned_known stage routes m from until k known (assigned k x refl)
+assigned_steerable stage routes m from until (Publish v) known assigned = tt
+assigned_steerable stage routes m from until (Switch x v) known assigned = tt
+assigned_steerable stage routes m from until (Lose k hop) known assigned = tt
+assigned_steerable stage routes m from until (Arrive k hop server verdict) known assigned = tt
+assigned_steerable stage routes m from until (Close server flow closed) known assigned = tt
+assigned_steerable stage routes m from until (Retire server h moment result) known assigned = tt
+assigned_steerable stage routes m from until Sync known assigned = tt
 
 -- with a part of a phase more
 pub left_more : (F : Rules) (stage : Stage) (control : List Event) (after first : ℕ) (posts posts' : List ℕ) (m : ℕ)

@@ -28,7 +28,7 @@ use Rattle.bm_merge.proofs.Owing.{now_in_phase}
 use Rattle.bm_merge.proofs.Reaching.{one_if}
 use Rattle.bm_mux.specs.Muxes.{post_clock}
 use Rattle.bm_worker.specs.Phases.{mux_log, IsInOrder, IsMuxGiven}
-use Rattle.bm_worker.specs.Turns.{RoutedBy, mux_at}
+use Rattle.bm_worker.specs.Assigned.{RoutedBy, mux_at}
 use Rattle.bm_world.specs.Inside.Handed.{IsMuxGivenBy, IsPhasedBy, IsCarriage}
 use Rattle.bm_world.proofs.Homes.{home_append}
 

@@ -35,7 +35,7 @@ use Rattle.bm_publish.specs.Posts.{Posted, last_version}
 use Rattle.bm_server.specs.Seats.{row}
 use Rattle.std.proofs.Common.{map}
 use Rattle.std.proofs.lemmas.Bool.{le-leb, lt-leb, lt-ltb, le-ltb}
-use Rattle.bm_worker.specs.Turns.{is_mux, is_turn, mux_at, RoutedBy}
+use Rattle.bm_worker.specs.Assigned.{is_mux, is_assigned, mux_at, RoutedBy}
 use Rattle.bm_worker.specs.declared.worker.MuxWorker.{MuxWorker}
 use Rattle.bm_world.specs.Inside.Handed.{control_log}
 use Rattle.bm_world.specs.Inside.Running.{HaveHeard, IsAtWork, add_deeds}
@@ -173,10 +173,10 @@ if_some : (P Q : ℕ → Type 0) (o : Option ℕ) → ((k : ℕ) → P k → Q k
 if_some P Q None f h = tt
 if_some P Q (Some k) f h = f k h
 
-pub turn_sum : (routes : List (Option MuxId)) (m before until k : ℕ) → before ≤ until
-    → one_if (is_turn routes m before until k) + one_if (is_turn routes m 0 before k)
-    ≡ one_if (is_turn routes m 0 until k)
-turn_sum routes m before until k low =
+pub assigned_sum : (routes : List (Option MuxId)) (m before until k : ℕ) → before ≤ until
+    → one_if (is_assigned routes m before until k) + one_if (is_assigned routes m 0 before k)
+    ≡ one_if (is_assigned routes m 0 until k)
+assigned_sum routes m before until k low =
     elim (cases_lt before k) [
       | inl over ↦
           let a : ltb before k ≡ true = lt-ltb _ _ over
@@ -286,9 +286,10 @@ at_work_more R F stage servers routes control y board p phases m span told old n
           let sum = total_append (λ n. one_if (steers_packet n.event.what k)) x deeds
           in let a = phase.steered k
           in let b = at.steered k
-          in let c = turn_sum routes m span.from span.until k order
-          in let d : is_turn routes old.mux.id.0 span.from span.until k ≡ is_turn routes m span.from span.until k =
-          ap (λ (i : ℕ). is_turn routes i span.from span.until k) id
+          in let c = assigned_sum routes m span.from span.until k order
+          in let d : is_assigned routes old.mux.id.0 span.from span.until k
+          ≡ is_assigned routes m span.from span.until k =
+          ap (λ (i : ℕ). is_assigned routes i span.from span.until k) id
           in let e = ap (λ (t : Bool). one_if t) d
           in omega arith;
       within = each_append (λ n. IfSome (packet_of n.event.what) (λ k. k ≤ span.until)) x deeds

@@ -30,7 +30,7 @@ use Rattle.bm_publish.specs.Posts.{Posted, last_version}
 use Rattle.bm_server.specs.Servings.{Serving}
 use Rattle.bm_worker.specs.Deeds.{clock_of}
 use Rattle.bm_worker.specs.Phases.{IsDeed, stint_of}
-use Rattle.bm_worker.specs.Turns.{mux_at}
+use Rattle.bm_worker.specs.Assigned.{mux_at}
 use Rattle.bm_worker.specs.declared.span.Span.{Span}
 use Rattle.bm_worker.specs.declared.worker.MuxWorker.{MuxWorker}
 use Rattle.bm_world.specs.Inside.Handed.{control_log}

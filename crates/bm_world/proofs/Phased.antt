@@ -23,7 +23,7 @@ use Rattle.bm_publish.specs.Posts.{Posted, last_version}
 use Rattle.bm_server.specs.Servings.{Serving}
 use Rattle.bm_worker.specs.Deeds.{clock_of, Suits}
 use Rattle.bm_worker.specs.Phases.{HasEnded, HasWorked, stint_of}
-use Rattle.bm_worker.specs.Turns.{RoutedBy, mux_at}
+use Rattle.bm_worker.specs.Assigned.{RoutedBy, mux_at}
 use Rattle.bm_worker.specs.declared.span.Span.{Span}
 use Rattle.bm_worker.specs.declared.stop.Stop.{Stop}
 use Rattle.bm_worker.specs.declared.worker.MuxWorker.{MuxWorker}

@@ -24,7 +24,7 @@ use Rattle.bm_worker.specs.Deeds.{saying, Sits}
 use Rattle.bm_worker.specs.Phases.{AreCopies, IsCopyCall}
 use Rattle.bm_worker.specs.Portings.{Porting}
 use Rattle.bm_worker.specs.Told.{told_there}
-use Rattle.bm_worker.specs.Turns.{RoutedBy, is_turn}
+use Rattle.bm_worker.specs.Assigned.{RoutedBy, is_assigned}
 use Rattle.bm_worker.specs.declared.worker.MuxWorker.{MuxWorker}
 use Rattle.bm_lead.specs.declared.head.Head.{Head}
 use Rattle.bm_lead.specs.Heads.{Begins, IsReady}
@@ -46,9 +46,9 @@ no_copies : (stage : Stage) (m : MuxId) (servers : List Serving) (past : List Ev
 no_copies stage m servers past seats none s h server at =
     subst (λ (l : List Answered). AllByRecursion (λ a. IsCopyCall stage past m server h a.0) l) (sym (none s h)) tt
 
-no_turn : (routes : List (Option MuxId)) (m k : ℕ) → is_turn routes m 0 0 k ≡ false
-no_turn routes m k = go (ltb 0 k) refl where
-  go : (b : Bool) → ltb 0 k ≡ b → is_turn routes m 0 0 k ≡ false
+none_assigned : (routes : List (Option MuxId)) (m k : ℕ) → is_assigned routes m 0 0 k ≡ false
+none_assigned routes m k = go (ltb 0 k) refl where
+  go : (b : Bool) → ltb 0 k ≡ b → is_assigned routes m 0 0 k ≡ false
   go false is = rw is refl
   go true is = let low = ltb-true _ _ is in let no : leb k 0 ≡ false = lt-leb _ _ low in rw (is, no) refl
 
@@ -88,7 +88,7 @@ new_at_work R F stage servers routes posted seats m w plan new is =
       copies = no_copies stage w.mux.id servers (reverse w.mux.log) w.porter.seats none;
       placed = tt;
       latest = ap (λ (x : Porting). x.latest) is.porter;
-      steered = λ k. sym (ap (λ (b : Bool). one_if b) (no_turn routes m k));
+      steered = λ k. sym (ap (λ (b : Bool). one_if b) (none_assigned routes m k));
       within = tt;
       number = number;
       sits = subst (λ (p : Porting). Sits servers p) (sym is.porter) new.«is»;

@@ -28,8 +28,8 @@ use Rattle.bm_server.specs.Servings.{Serving}
 use Rattle.bm_worker.specs.Deeds.{clock_of}
 use Rattle.bm_worker.specs.Phases.{AreCopies, AreFew, HasEnded, HasWorked, IsDeed, IsLossOf}
 use Rattle.bm_worker.specs.Phases.{IsPlaced as IsCarriedAt}
-use Rattle.bm_worker.specs.Phases.{IsStopOf, IsTurn, Kept, Stint, is_steer, mux_log, mux_of, stint_of}
-use Rattle.bm_worker.specs.Turns.{RoutedBy, is_turn, mux_at}
+use Rattle.bm_worker.specs.Phases.{IsStopOf, IsAssigned, Kept, Stint, is_steer, mux_log, mux_for, stint_of}
+use Rattle.bm_worker.specs.Assigned.{RoutedBy, is_assigned, mux_at}
 use Rattle.bm_worker.specs.declared.span.Span.{Span}
 use Rattle.bm_worker.specs.declared.stop.Stop.{Stop}
 use Rattle.bm_worker.specs.declared.stop.Stop.TheVariants.{Late, Memory}
@@ -43,10 +43,11 @@ use Rattle.bm_world.specs.Inside.GivenUp.{HasGivenUp, HasLeft}
 use Rattle.bm_world.specs.Inside.Left.{IsSteerable, IsSyncIn, IsSynced}
 use Rattle.bm_world.specs.Inside.Running.{IsAtWork, add_deeds}
 use Rattle.bm_world.proofs.Amounts.{carried_few, led_few, steered_part, syncs_few}
-use Rattle.bm_world.proofs.GivingUp.{all_synced, left_more, left_of, sync_append, sync_some, turn_steerable, unsynced}
+use Rattle.bm_world.proofs.GivingUp.{all_synced, assigned_steerable, left_more, left_of, sync_append, sync_some}
+use Rattle.bm_world.proofs.GivingUp.{unsynced}
 use Rattle.bm_world.proofs.Growing.{log_append}
 use Rattle.bm_world.proofs.Joining.{added_count, added_of, added_total, control_append, given_same, heard_more}
-use Rattle.bm_world.proofs.Joining.{sits_still, turn_sum}
+use Rattle.bm_world.proofs.Joining.{sits_still, assigned_sum}
 use Rattle.bm_world.proofs.Meeting.{worker_under}
 
 -- WHY A WORKER GAVE UP
@@ -88,7 +89,7 @@ record IsPart (F : Rules) (stage : Stage) (servers : List Serving) (routes : Lis
     (control : List Event) (board : Board) (phases until m : ℕ) (w : MuxWorker) (deeds : List Note) : Type 0 where
   left : HasLeft F stage servers control board m w deeds
   few : length deeds ≤ 14 * many (λ n. is_steer n.event.what) deeds + phases
-  steered : (k : ℕ) → many (λ n. steers_packet n.event.what k) deeds ≤ one_if (is_turn routes m 0 until k)
+  steered : (k : ℕ) → many (λ n. steers_packet n.event.what k) deeds ≤ one_if (is_assigned routes m 0 until k)
   large : IsTooLate w.stop → IsLarge deeds
 
 at_part : (F : Rules) (stage : Stage) (servers : List Serving) (routes : List (Option MuxId)) (control : List Event)
@@ -114,9 +115,9 @@ at_part F stage servers routes control board phases until m w deeds known at = r
   large = λ late. absurd (subst (λ (o : Option Stop). IsTooLate o) at.stop late);
 }
 
-turn_at : (stint : Stint) (what : What) (k : ℕ) (i : MuxId) → what ≡ Steer k i → IsTurn stint what
-    → is_turn stint.routes (mux_of stint).0 stint.from stint.until k ≡ true
-turn_at stint what k i is turn = subst (λ (w : What). IsTurn stint w) is turn
+assigned_at : (stint : Stint) (what : What) (k : ℕ) (i : MuxId) → what ≡ Steer k i → IsAssigned stint what
+    → is_assigned stint.routes (mux_for stint).0 stint.from stint.until k ≡ true
+assigned_at stint what k i is assigned = subst (λ (w : What). IsAssigned stint w) is assigned
 
 kept_left : (F : Rules) (stage : Stage) (servers : List Serving) (routes : List (Option MuxId))
     (control y : List Event) (board : Board) (phases m : ℕ) (span : Span) (posted : Posted) (old now : MuxWorker)
@@ -143,8 +144,8 @@ kept_left F stage servers routes control y board phases m span posted old now x 
           (each_so D (IsDrawn F) x (λ n d. d.drawn) kept.each)
           (each_so D (λ n. IsLossOf x n.event.clock.0 n.event.what) x (λ n d. d.lost) kept.each)
           (each_so D (λ n. IsSteerable stage n.event.what) x
-          (λ n d. turn_steerable stage routes old.mux.id.0 span.from span.until n.event.what known
-          (λ k i is. turn_at stint n.event.what k i is d.turn)) kept.each)
+          (λ n d. assigned_steerable stage routes old.mux.id.0 span.from span.until n.event.what known
+          (λ k i is. assigned_at stint n.event.what k i is d.assigned)) kept.each)
           (given_same stage x seen span.after.0 span.after.0 (last_version posted) (last_version posted) old.mux.id.0 m
           (reverse old.mux.log) (mux_log stage m deeds) refl refl id at.logged kept.gives)
           (left_of (RoutedBy routes) F stage routes control y old.mux.seen.clocks seen m span.from deeds known
@@ -167,22 +168,22 @@ kept_steered : (F : Rules) (stage : Stage) (servers : List Serving) (routes : Li
     (x deeds : List Note) → span.from ≤ span.until
     → Kept F stage servers (stint_of routes span posted (told_what posted old)) now x
     → IsAtWork (RoutedBy routes) F stage servers routes control board phases span.from m old deeds
-    → (k : ℕ) → many (λ n. steers_packet n.event.what k) (x ++ deeds) ≤ one_if (is_turn routes m 0 span.until k)
+    → (k : ℕ) → many (λ n. steers_packet n.event.what k) (x ++ deeds) ≤ one_if (is_assigned routes m 0 span.until k)
 kept_steered F stage servers routes control board phases m span posted old now x deeds order kept at k =
     let stint = stint_of routes span posted (told_what posted old)
     in let D : Note → Type 0 = IsDeed F stage servers stint x
     in let id : old.mux.id.0 ≡ m = at.id
     in let a = total_append (λ n. one_if (steers_packet n.event.what k)) x deeds
     in let b = at.steered k
-    in let c = turn_sum routes m span.from span.until k order
+    in let c = assigned_sum routes m span.from span.until k order
     in let d = steered_part stage routes span.after.0 (last_version posted) old.mux.id.0 span.from span.until
     now.mux.seen.clocks x (reverse old.mux.log)
     (each_so D (λ n. carries old.mux.id.0 n.event.what ≡ true) x (λ n e. e.kind) kept.each)
     (each_so D (λ n. (j : ℕ) (i : MuxId) → n.event.what ≡ Steer j i
-    → is_turn routes old.mux.id.0 span.from span.until j ≡ true) x
-    (λ n e j i is. turn_at stint n.event.what j i is e.turn) kept.each) kept.gives k
-    in let same : is_turn routes old.mux.id.0 span.from span.until k ≡ is_turn routes m span.from span.until k =
-    ap (λ (i : ℕ). is_turn routes i span.from span.until k) id
+    → is_assigned routes old.mux.id.0 span.from span.until j ≡ true) x
+    (λ n e j i is. assigned_at stint n.event.what j i is e.assigned) kept.each) kept.gives k
+    in let same : is_assigned routes old.mux.id.0 span.from span.until k ≡ is_assigned routes m span.from span.until k =
+    ap (λ (i : ℕ). is_assigned routes i span.from span.until k) id
     in let e = ap (λ (t : Bool). one_if t) same
     in omega arith
 

@@ -20,7 +20,7 @@ use Rattle.bm_server.specs.Servings.{Serving}
 use Rattle.bm_publish.specs.Posts.{Posted}
 use Rattle.bm_worker.specs.Deeds.{Suits}
 use Rattle.bm_worker.specs.Phases.{mux_log}
-use Rattle.bm_worker.specs.Turns.{RoutedBy}
+use Rattle.bm_worker.specs.Assigned.{RoutedBy}
 use Rattle.bm_worker.specs.declared.worker.MuxWorker.{MuxWorker}
 use Rattle.bm_lead.specs.declared.head.Head.{Head}
 use Rattle.bm_lead.proofs.Ending.{all_led, all_published}

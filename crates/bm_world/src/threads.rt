@@ -11,7 +11,7 @@ ghost use Rattle.bm_merge.specs.Notes.{Note};
 ghost use Rattle.bm_route.specs.Routes.{Answers, IsRoute};
 ghost use Rattle.bm_rows.specs.Rows.{items_of};
 ghost use Rattle.bm_worker.specs.Phases.{IsRunnable};
-ghost use Rattle.bm_worker.specs.Turns.{RoutedBy};
+ghost use Rattle.bm_worker.specs.Assigned.{RoutedBy};
 ghost use Rattle.bm_world.specs.Inside.Crews.{IsBack, MakeRun};
 ghost use Rattle.bm_world.specs.Inside.Routed.{AreRouted};
 ghost use Rattle.bm_world.specs.Inside.Served.{IsNewRow};

@@ -8,7 +8,7 @@ use Rattle.bm_base.specs.declared.fate.Fate.{Fate}
 use Rattle.bm_core.specs.declared.events.Event.{Event}
 use Rattle.bm_core.specs.declared.events.Stage.{Stage}
 use Rattle.bm_core.specs.declared.schedule.Call.{Call}
-use Rattle.bm_core.specs.declared.schedule.Underway.{Underway}
+use Rattle.bm_core.specs.Schedule.{Underway}
 use Rattle.bm_core.specs.Past.{is_switch_of, newest}
 use Rattle.bm_core.specs.Accounts.{counts}
 use Rattle.bm_core.specs.Schedule.{wire, due_loss, left, close_commands, retire_commands}

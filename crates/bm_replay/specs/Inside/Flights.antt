@@ -6,7 +6,7 @@ use Rattle.bm_fault.specs.Flying.{Flying}
 use Rattle.bm_fault.specs.Wires.{put_flying}
 use Rattle.bm_core.specs.declared.events.Event.{Event}
 use Rattle.bm_core.specs.declared.events.Stage.{Stage}
-use Rattle.bm_core.specs.declared.schedule.Underway.{Underway}
+use Rattle.bm_core.specs.Schedule.{Underway}
 use Rattle.bm_core.specs.Past.{label_of}
 
 -- the copy on the wire is this one, and carries what its packet's label says

@@ -31,8 +31,8 @@ use Rattle.bm_worker.specs.Deeds.{IsSamePorter, deed, no_fate}
 use Rattle.bm_worker.specs.Inside.Debts.{Debt, IsAmong, IsCopyOf, IsUpTo, comes, comes_by}
 use Rattle.bm_worker.specs.Inside.Debts.{copyless_at}
 use Rattle.bm_worker.specs.Inside.Debts.{debt, gives, gives_by, lost_at}
-use Rattle.bm_worker.specs.Phases.{AreFew, HasEnded, IsStopOf, Kept, Stint, mux_of}
-use Rattle.bm_worker.specs.Turns.{is_turn, mux_at}
+use Rattle.bm_worker.specs.Phases.{AreFew, HasEnded, IsStopOf, Kept, Stint, mux_for}
+use Rattle.bm_worker.specs.Assigned.{is_assigned, mux_at}
 
 -- WHAT THE MUX TAKES
 
@@ -49,7 +49,7 @@ last_packet low (i ∷ items) = last_packet i.packet items
 -- a packet of the mux, as the stage and the octets have it
 pub record IsItemOf (stage : Stage) (routes : List (Option MuxId)) (m : ℕ) (i : MuxItem) : Type
     0 where
-  pub turn : mux_at routes i.packet ≡ Some m
+  pub assigned : mux_at routes i.packet ≡ Some m
   pub moment : i.moment.0 ≡ record_moment stage i.packet
   pub segment : segment_of stage i.packet ≡ Some i.segment
   pub reads : ReadsAs i.inner.now i.segment
@@ -71,7 +71,7 @@ pub record AreCollected (F : Rules) (stage : Stage) (routes : List (Option MuxId
   pub each : AllByRecursion (IsItemOf stage routes m) items
   pub drawn : AreDrawn F items fates
   pub turns : (k : ℕ) → count_of (λ (i : MuxItem). i.packet == k) items
-      ≡ (if is_turn routes m from end k then 1 else 0)
+      ≡ (if is_assigned routes m from end k then 1 else 0)
   -- no more than the places
   pub count : from + length items ≤ end
 
@@ -156,7 +156,7 @@ Delivers F stage servers sents fates old new result =
     → (x : List Note) × Kept F stage servers stint new (x ++ deeds) × (length x ≤ 12 * length sents)
     × AllByRecursion (λ y. IsDelivery y.event.what) x
     × MatchResult result
-    (λ _. PaysFor (sent_notes (mux_of stint) sents fates) x
+    (λ _. PaysFor (sent_notes (mux_for stint) sents fates) x
     × AllByRecursion (λ y. IsUpTo (last_sent low sents) y.event.what) x)
     (λ stop. IsStopOf (x ++ deeds) stop)
 
@@ -188,13 +188,13 @@ pub record IsDoneTo (F : Rules) (stage : Stage) (servers : List Serving) (stint 
   pub kept : Kept F stage servers stint now deeds
   pub settled : AreSettled deeds
   pub steered : (k : ℕ) → many (λ n. steers_packet n.event.what k) deeds
-      ≡ (if is_turn stint.routes (mux_of stint).0 stint.from next k then 1 else 0)
-  pub looked : 1 ≤ many (λ n. is_switch_of n.event.what (mux_of stint).0) deeds
+      ≡ (if is_assigned stint.routes (mux_for stint).0 stint.from next k then 1 else 0)
+  pub looked : 1 ≤ many (λ n. is_switch_of n.event.what (mux_for stint).0) deeds
   pub heard : Continues stint.told now.mux.seen
   pub few : AreFew deeds
   pub first : AllByRecursion (λ y. IsUpTo next y.event.what) deeds
-  pub logged : AllByRecursion (IsLogged (mux_of stint) next) (reverse now.mux.log)
-  pub switched : switched_since stint.after (mux_of stint).0 (reverse now.mux.log) ≡ true
+  pub logged : AllByRecursion (IsLogged (mux_for stint) next) (reverse now.mux.log)
+  pub switched : switched_since stint.after (mux_for stint).0 (reverse now.mux.log) ≡ true
   pub begun : stint.after < steering_clock (reverse now.mux.log)
 
 -- what the worker did is noted: the porter has the mux's clock, and nothing else changed

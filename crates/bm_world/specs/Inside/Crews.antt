@@ -20,7 +20,7 @@ use Rattle.bm_server.specs.Servings.{Serving}
 use Rattle.bm_publish.specs.Posts.{Continues, IsPosted, Posted}
 use Rattle.bm_worker.specs.Deeds.{Suits}
 use Rattle.bm_worker.specs.Phases.{HasWorked}
-use Rattle.bm_worker.specs.Turns.{RoutedBy}
+use Rattle.bm_worker.specs.Assigned.{RoutedBy}
 use Rattle.bm_worker.specs.declared.span.Span.{Span}
 use Rattle.bm_worker.specs.declared.stop.Stop.{Stop}
 use Rattle.bm_worker.specs.declared.stop.Stop.TheVariants.{Late, Memory}

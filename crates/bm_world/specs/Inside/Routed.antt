@@ -6,7 +6,7 @@ use Rattle.bm_base.specs.declared.ids.MuxId.{MuxId}
 use Rattle.bm_core.specs.declared.events.Stage.{Stage}
 use Rattle.bm_core.specs.Accounts.{Routes}
 use Rattle.bm_core.specs.Past.{segment_of}
-use Rattle.bm_worker.specs.Turns.{mux_at}
+use Rattle.bm_worker.specs.Assigned.{mux_at}
 
 -- a steerable packet is given a mux that the route may answer, and no other is given one
 abbrev pub IsGivenTo : Routes → Stage → ℕ → ℕ → Option MuxId → Type 0

@@ -20,7 +20,7 @@ use Rattle.bm_server.specs.Servings.{Serving, shard_at}
 use Rattle.bm_worker.specs.Deeds.{clock_of, noted, saying, Sits}
 use Rattle.bm_worker.specs.Phases.{mux_log, AreCopies, IsPlaced, is_steer}
 use Rattle.bm_worker.specs.Told.{told_there}
-use Rattle.bm_worker.specs.Turns.{is_turn}
+use Rattle.bm_worker.specs.Assigned.{is_assigned}
 use Rattle.bm_worker.specs.declared.worker.MuxWorker.{MuxWorker}
 use Rattle.bm_world.specs.Inside.Handed.{control_log, IsCarriage}
 
@@ -43,7 +43,7 @@ pub record IsAtWork (R : Routes) (F : Rules) (stage : Stage) (servers : List Ser
   pub placed : AllByRecursion (λ n. IsPlaced servers n.event.what) deeds
   pub latest : w.porter.latest ≡ greatest clock_of deeds
   pub steered : (k : ℕ) → many (λ n. steers_packet n.event.what k) deeds
-      ≡ (if is_turn routes m 0 until k then 1 else 0)
+      ≡ (if is_assigned routes m 0 until k then 1 else 0)
   pub within : AllByRecursion (λ n. IfSome (packet_of n.event.what) (λ k. k ≤ until)) deeds
   pub number : w.porter.number ≡ m + 1
   pub sits : Sits servers w.porter

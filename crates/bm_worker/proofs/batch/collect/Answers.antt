@@ -37,26 +37,26 @@ loop-at-preserved g c =
           i.all;
     }
 
-pub is_turn-requires : goal.is_turn-requires
-is_turn-requires g c =
+pub is_assigned-requires : goal.is_assigned-requires
+is_assigned-requires g c =
     let many = c.requires.run.count in let until = c.requires.until.1 in let test = c.loop-at-test.true in
     omega (arith, many, until, test)
 
-pub loop-at-preserved-then-not-is_turn : goal.loop-at-preserved-then-not-is_turn
-loop-at-preserved-then-not-is_turn g c =
+pub loop-at-preserved-then-not-is_assigned : goal.loop-at-preserved-then-not-is_assigned
+loop-at-preserved-then-not-is_assigned g c =
     let i = c.loop-at.invariant in record {
       at = let le = i.at in omega (arith, le);
       all = collected_skip (Gives g.F.Fn c.args.shared.now.faults.now.rule) c.args.shared.now.stage.now
           c.args.shared.now.routes.now c.args.mux.0 c.args.from c.loop-at.at c.loop-at.items.items
-          c.loop-at.fates.items (sym c.if-not-is_turn.ensures) i.all;
+          c.loop-at.fates.items (sym c.if-not-is_assigned.ensures) i.all;
     }
 
 pub item_at-item-requires-clause-at : goal.item_at-item-requires-clause-at
 item_at-item-requires-clause-at g c =
     let until = c.requires.until.1 in let test = c.loop-at-test.true in omega (arith, until, test)
 
-pub item_at-item-requires-clause-turn : goal.item_at-item-requires-clause-turn
-item_at-item-requires-clause-turn g c = sym c.if-not-is_turn.ensures
+pub item_at-item-requires-clause-assigned : goal.item_at-item-requires-clause-assigned
+item_at-item-requires-clause-assigned g c = sym c.if-not-is_assigned.ensures
 
 pub returns-clause-all : goal.returns-clause-all
 returns-clause-all g c =

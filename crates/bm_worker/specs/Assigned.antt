@@ -1,5 +1,5 @@
--- Whose turn a packet is: the mux that the route gave it. Packet k is the record at the place k -
--- 1.
+-- Which mux a packet is assigned to: the one that the route gave it. Packet k is the record at the
+-- place k - 1.
 use Rattle.std.specs.Prelude.{◌≡◌, ℕ, zero, suc, Bool, false, ◌&&◌, ◌==◌, nat_le, nat_lt, List}
 use Rattle.std.specs.Prelude.{slice_get}
 use Rattle.std.specs.Prelude.{Option, Some, None}
@@ -20,8 +20,8 @@ is_mux None m = false
 is_mux (Some n) m = n == m
 
 -- the packet is one of the mux's, among the records at the places from..until
-abbrev pub is_turn : List (Option MuxId) → ℕ → ℕ → ℕ → ℕ → Bool
-is_turn routes m from until k = nat_lt from k && nat_le k until && is_mux (mux_at routes k) m
+abbrev pub is_assigned : List (Option MuxId) → ℕ → ℕ → ℕ → ℕ → Bool
+is_assigned routes m from until k = nat_lt from k && nat_le k until && is_mux (mux_at routes k) m
 
 -- the route that gives each packet the mux that it has here
 abbrev pub RoutedBy : List (Option MuxId) → Routes
