@@ -1,5 +1,5 @@
 -- Numbers and their octets.
-use Rattle.std.proofs.Common.{◌≡◌, ℕ, zero, suc, ◌+◌, ◌*◌, ◌^◌, ◌<◌, ◌≤◌, List, [], ◌∷◌, ◌++◌, length, drop, take}
+use Rattle.std.proofs.Common.{◌≡◌, ℕ, zero, suc, ◌+◌, ◌*◌, ◌<◌, ◌≤◌, List, [], ◌∷◌, ◌++◌, length, drop, take}
 use Rattle.std.proofs.Common.{slice_index, append_assoc, refl, ap, ap₂, sym, subst, ◌∙◌, arith}
 use Rattle.std.proofs.lemmas.List.{get_or-drop, drop-drop, length-drop}
 use Rattle.std.proofs.lemmas.Nat.{be_bytes_4, be_bytes_8}
@@ -106,8 +106,3 @@ all_stand xs at [] all = refl
 all_stand xs at (f ∷ fields) all =
     all.0 ∙ (ap (λ (ys : List ℕ). big_bytes f.0 f.1 ++ ys) (all_stand xs (at + f.0) fields all.1)
     ∙ sym (append_assoc (big_bytes f.0 f.1) (spelled fields) (drop (end_of (at + f.0) fields) xs)))
-
--- numbers have bounds by their octets
-pub u16_below : (xs : List ℕ) (at : ℕ) → AreOctets xs → u16_at xs at < 2 ^ 16
-unfolding u16_at
-u16_below xs at are = omega (arith, octets_from at xs are 0, octets_from at xs are 1)

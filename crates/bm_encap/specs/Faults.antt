@@ -143,6 +143,15 @@ next_of Direct (Some s) tag = Ok (record tag { hop = Chained; dest = s })
 abbrev pub next_hop : Tag → Result Tag EncapFault
 next_hop tag = next_of tag.hop tag.prev tag
 
+abbrev pub next_from : Result (Tag × List ℕ) EncapFault → Result Tag EncapFault
+next_from (Err fault) = Err fault
+next_from (Ok read) = next_hop read.0
+
+-- the tag of the next hop of these octets: the first fault, or else why there is no such hop, or
+-- else the tag
+abbrev pub next_in : List ℕ → Result Tag EncapFault
+next_in octets = next_from (unwrapped octets)
+
 abbrev pub spelling_of : Result Tag EncapFault → List ℕ → Result (List ℕ) EncapFault
 spelling_of (Err fault) inner = Err fault
 spelling_of (Ok tag) inner = Ok (spelling tag inner)

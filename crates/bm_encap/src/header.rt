@@ -32,6 +32,23 @@ pub fn wrap(tag: &Tag, inner: &[u8], out: &mut Vec<u8>) -> Result<(), Memory>
     Ok(())
 }
 
+/// Makes the header of a direct packet that of the next hop, to the previous server, in place, and
+/// gives the tag of that hop. The faults are those of `unwrap`; then `BadOption(22)` where the hop
+/// is chained already, and `BadOption(23)` where there is no previous server. On a fault the octets
+/// stay as they were.
+pub fn chain(octets: &mut [u8]) -> Result<Tag, EncapFault>
+    ensures next { result ≡ faults.next_in octets.old }
+    ensures octets { MatchResult result
+        (λ _. chained octets.old ≡ ok octets.new)
+        (λ fault. (chained octets.old ≡ err fault) × (octets.new ≡ octets.old)) }
+{
+    let (tag, _) = unwrap(octets)?;
+    let next = next_hop(&tag)?;
+    let total = octets.len() as u16;
+    replace_header(octets, &summed(&next, total));
+    Ok(next)
+}
+
 /// Makes the header of a direct packet that of the next hop, to the previous server, in place. The
 /// faults are those of `unwrap`; then `BadOption(22)` where the hop is chained already, and
 /// `BadOption(23)` where there is no previous server. On a fault the octets stay as they were.
@@ -40,10 +57,7 @@ pub fn set_chained(octets: &mut [u8]) -> Result<(), EncapFault>
         (λ _. chained octets.old ≡ ok octets.new)
         (λ fault. (chained octets.old ≡ err fault) × (octets.new ≡ octets.old)) }
 {
-    let (tag, _) = unwrap(octets)?;
-    let next = next_hop(&tag)?;
-    let total = octets.len() as u16;
-    replace_header(octets, &summed(&next, total));
+    chain(octets)?;
     Ok(())
 }
 

@@ -8,5 +8,5 @@ pub mod laws;
 mod read;
 
 pub use fault::EncapFault;
-pub use header::{set_chained, wrap};
+pub use header::{chain, set_chained, wrap};
 pub use read::unwrap;

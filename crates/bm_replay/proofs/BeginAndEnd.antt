@@ -24,7 +24,7 @@ use Rattle.bm_replay.specs.Inside.Comings.{sooner_of}
 use Rattle.bm_replay.proofs.NextEvents.{IsComingOf}
 use Rattle.bm_replay.proofs.Unchanged.{switches_are}
 use Rattle.bm_replay.proofs.LeastOfTwo.{least_none}
-use Rattle.bm_replay.proofs.ReadyEvents.{come_least, state_turn}
+use Rattle.bm_replay.proofs.ReadyEvents.{come_least, state_comes}
 
 first_shards : (stage : Stage) → KeepsShards stage [] (all_shards stage.script.setting 1025)
 first_shards stage = record {
@@ -75,7 +75,7 @@ begins R F stage p sound new =
       state = subst (λ (l : List Event). KeepsState [] l p) (sym past) (new_state stage p new new.about);
     }
 
--- nothing can come where the turn is over
+-- nothing can come where the state is over
 pub ends : (R : Routes) (F : Rules) (p : Player) → IsPlaying R F p → p.loss ≡ None → coming_for p ≡ Over
     → IsReplay R F (record { stage = p.stage; events = p.events })
 ends R F p playing none over = record {
@@ -87,14 +87,14 @@ ends R F p playing none over = record {
       accounted R F playing.fates p.stage (past_of p) playing.played.run playing.played.follows is_over
       playing.played.answered;
 } where
-  turn : IsComingOf (soonest_command p) (wire playing.fates (past_of p)) p.packet.head Over
-  turn = subst (λ (t : Coming). IsComingOf (soonest_command p) (wire playing.fates (past_of p)) p.packet.head t) over
-      (state_turn playing.fates (past_of p) p playing.state)
+  come : IsComingOf (soonest_command p) (wire playing.fates (past_of p)) p.packet.head Over
+  come = subst (λ (t : Coming). IsComingOf (soonest_command p) (wire playing.fates (past_of p)) p.packet.head t) over
+      (state_comes playing.fates (past_of p) p playing.state)
 
   no_least : least (can_come (wire playing.fates (past_of p)) p.stage (past_of p)) ≡ None
   no_least =
       come_least playing.fates (past_of p) p playing.state
-      ∙ (λ i. sooner_of (sooner_of (turn.0 i) (least (arrival_due (turn.1 i)))) (turn.2 i))
+      ∙ (λ i. sooner_of (sooner_of (come.0 i) (least (arrival_due (come.1 i)))) (come.2 i))
 
   is_over : IsOver playing.fates p.stage (past_of p)
   is_over = record {

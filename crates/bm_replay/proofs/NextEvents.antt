@@ -139,7 +139,7 @@ head_first dues others (Some x) d is first =
     in let same : x ≡ d = cc
     in (ap (λ (y : Due). Some y) same, rw is refl)
 
--- THE TURN
+-- WHAT COMES NEXT
 
 -- the changes and commands that can come
 abbrev pub commands_due : Stage → List Event → List Due
@@ -215,26 +215,26 @@ with_copy : (command packet : Option Due) (u : Underway) (others : List Underway
     → t ≡ coming_of (sooner_of command packet) → IsComingOf command [] packet t
     → sooner_of (sooner_of command (Some (copy_due u))) packet ≡ sooner_of command packet
     → (is_before u.moment command && is_no_later u.moment packet) ≡ false → IsComingOf command (u ∷ others) packet t
-with_copy command packet u others (Call d) is turn same other = (same ∙ turn.0, turn.1, turn.2)
-with_copy command packet u others (Arrive m) is turn same other =
+with_copy command packet u others (Call d) is come same other = (same ∙ come.0, come.1, come.2)
+with_copy command packet u others (Arrive m) is come same other =
     absurd (no_arrival (sooner_of command packet) is) where
       no_arrival : (o : Option Due) → ◌≡◌ {A = Coming} (Arrive m) (coming_of o) → ⊥
       no_arrival None e = absurd (cc)
       no_arrival (Some d) e = absurd (cc)
-with_copy command packet u others Over is turn same other =
+with_copy command packet u others Over is come same other =
     absurd (let bad : (is_before u.moment None && is_no_later u.moment None) ≡ false =
-    subst (λ (o : Option Due). (is_before u.moment o && is_no_later u.moment None) ≡ false) turn.0
-    (subst (λ (o : Option Due). (is_before u.moment command && is_no_later u.moment o) ≡ false) turn.2 other) in cc)
+    subst (λ (o : Option Due). (is_before u.moment o && is_no_later u.moment None) ≡ false) come.0
+    (subst (λ (o : Option Due). (is_before u.moment command && is_no_later u.moment o) ≡ false) come.2 other) in cc)
 
--- the turn of a wire whose first copy is due at the moment
+-- the first copy of a wire is due at the moment, where there is one
 abbrev pub IsFirstDue : Option Moment → List Underway → Type 0
 IsFirstDue None w = w ≡ []
 IsFirstDue (Some m) w = (u : Underway) × (others : List Underway) × (w ≡ u ∷ others) × (m.0 ≡ u.moment)
 
-turn_with : (command packet : Option Due) (m : Moment) (u : Underway) (others : List Underway)
+comes_with : (command packet : Option Due) (m : Moment) (u : Underway) (others : List Underway)
     → IfSome command IsCommand → IfSome packet (HasRank 6) → m.0 ≡ u.moment
     → IsComingOf command (u ∷ others) packet (first_coming command (Some m) packet)
-turn_with command packet m u others early late same =
+comes_with command packet m u others early late same =
     elim (cases_Bool (is_before m.0 command && is_no_later m.0 packet)) [
       | inl first ↦
           let parts = and_parts (is_before m.0 command) (is_no_later m.0 packet) first
@@ -258,4 +258,4 @@ coming_is command packet None w early late none =
     (called command packet early late)
 coming_is command packet (Some m) w early late first =
     subst (λ (v : List Underway). IsComingOf command v packet (first_coming command (Some m) packet)) (sym first.2)
-    (turn_with command packet m first.0 first.1 early late first.3)
+    (comes_with command packet m first.0 first.1 early late first.3)

@@ -43,7 +43,7 @@ use Rattle.bm_replay.proofs.NextEvents.{head_least, left_rank, packets_rank, ran
 use Rattle.bm_replay.proofs.Flights.{first_due_is}
 use Rattle.bm_replay.proofs.LeastOfTwo.{least_append}
 
--- THE TURN OF THE STATE
+-- WHAT COMES NEXT, BY THE STATE
 
 publish_least : (v : ℕ) (o : Option Change) → least (publish_due v o) ≡ publish_after v o
 publish_least v None = refl
@@ -91,9 +91,9 @@ come_least fates past p keeps =
     ∙ (λ i. sooner_of (sooner_of (sym (command_least fates past p keeps) i) (least (arrival_due (wire fates past))))
     p.packet.head))
 
-pub state_turn : (fates : List Fate) (past : List Event) (p : Player) → KeepsState fates past p
+pub state_comes : (fates : List Fate) (past : List Event) (p : Player) → KeepsState fates past p
     → IsComingOf (soonest_command p) (wire fates past) p.packet.head (coming_for p)
-state_turn fates past p keeps =
+state_comes fates past p keeps =
     coming_is (soonest_command p) p.packet.head (first_due p.wire) (wire fates past)
     (subst (λ (o : Option Due). IfSome o IsCommand) (sym (command_least fates past p keeps))
     (least_is IsCommand (commands_due p.stage past) (commands_are p.stage past)))
@@ -147,14 +147,14 @@ pub record IsReadyCall (R : Routes) (F : Rules) (p : Player) (at : Moment) (d : 
 pub ready_call : (R : Routes) (F : Rules) (p : Player) (at : Moment) (d : Due) → IsComing R F at (Call d) p
     → IsReadyCall R F p at d
 ready_call R F p at d coming =
-    let turn : IsComingOf (soonest_command p) (wire coming.playing.fates (past_of p)) p.packet.head (Call d) =
+    let come : IsComingOf (soonest_command p) (wire coming.playing.fates (past_of p)) p.packet.head (Call d) =
     subst (λ (t : Coming). IsComingOf (soonest_command p) (wire coming.playing.fates (past_of p)) p.packet.head t)
-    coming.is_coming (state_turn coming.playing.fates (past_of p) p coming.playing.state)
+    coming.is_coming (state_comes coming.playing.fates (past_of p) p coming.playing.state)
     in record {
-      ready = ready_by R F p at d coming.playing coming.none_lost turn.0 coming.is_clock;
+      ready = ready_by R F p at d coming.playing coming.none_lost come.0 coming.is_clock;
       of_call =
-          turn.1;
-      no_copy = turn.2;
+          come.1;
+      no_copy = come.2;
     }
 
 -- a copy that comes next
@@ -168,15 +168,15 @@ pub ready_copy : (R : Routes) (F : Rules) (p : Player) (at m : Moment) → IsCom
     → IsReadyCopy R F p at
 unfolding ready_by
 ready_copy R F p at m coming =
-    let turn : IsComingOf (soonest_command p) (wire coming.playing.fates (past_of p)) p.packet.head (Arrive m) =
+    let come : IsComingOf (soonest_command p) (wire coming.playing.fates (past_of p)) p.packet.head (Arrive m) =
     subst (λ (t : Coming). IsComingOf (soonest_command p) (wire coming.playing.fates (past_of p)) p.packet.head t)
-    coming.is_coming (state_turn coming.playing.fates (past_of p) p coming.playing.state)
+    coming.is_coming (state_comes coming.playing.fates (past_of p) p coming.playing.state)
     in record {
-      copy = turn.0;
-      ready = ready_by R F p at (copy_due turn.0) coming.playing coming.none_lost turn.4
-          (coming.is_clock ∙ ap (λ (n : ℕ). next_clock p.clock.0 n) turn.3);
-      others = turn.1;
-      is_wire = turn.2;
+      copy = come.0;
+      ready = ready_by R F p at (copy_due come.0) coming.playing coming.none_lost come.4
+          (coming.is_clock ∙ ap (λ (n : ℕ). next_clock p.clock.0 n) come.3);
+      others = come.1;
+      is_wire = come.2;
     }
 
 -- its clock is later than the last event's and than its moment

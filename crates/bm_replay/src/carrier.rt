@@ -6,7 +6,7 @@ ghost use Rattle.bm_encap.specs.Spellings.{spelling};
 ghost use Rattle.bm_replay.specs.Inside.Carriers.{carried, next_tag};
 
 use bm_base::{Memory, Segment, Tag};
-use bm_encap::{set_chained, unwrap, wrap};
+use bm_encap::{chain, unwrap, wrap};
 use bm_tcp::read_packet;
 use std::alloc::Global;
 use std::marker::Model;
@@ -55,12 +55,11 @@ impl Carrier {
         Some((tag, segment))
     }
 
-    /// Turns the octets to the next hop, and reads the tag there.
+    /// Turns the octets to the next hop, and gives its tag.
     pub(crate) fn go_on(&mut self) -> Option<Tag>
         ensures next { result ≡ next_tag self.old }
         ensures octets { IfSome result (λ _. chained self.old ≡ ok self.new) }
     {
-        set_chained(&mut self.octets).ok()?;
-        unwrap(&self.octets).ok().map(|(tag, _)| tag)
+        chain(&mut self.octets).ok()
     }
 }

@@ -6,7 +6,7 @@ use Rattle.bm_base.specs.declared.label.Tag.{Tag}
 use Rattle.bm_tcp.specs.declared.packet.InnerFault.{InnerFault}
 use Rattle.bm_tcp.specs.Packets.{segment_in}
 use Rattle.bm_encap.specs.declared.fault.EncapFault.{EncapFault}
-use Rattle.bm_encap.specs.Faults.{next_hop, unwrapped}
+use Rattle.bm_encap.specs.Faults.{next_in, unwrapped}
 
 -- the tag beside the segment, where there is one
 abbrev pub with_tag : Tag → Result (Segment × List ℕ) InnerFault → Option (Tag × Segment)
@@ -21,10 +21,6 @@ carried_by (Ok read) = with_tag read.0 (segment_in read.1)
 abbrev pub carried : List ℕ → Option (Tag × Segment)
 carried octets = carried_by (unwrapped octets)
 
-abbrev pub next_by : Result (Tag × List ℕ) EncapFault → Option Tag
-next_by (Err fault) = None
-next_by (Ok read) = result_ok (next_hop read.0)
-
 -- the tag of the next hop, where there is one
 abbrev pub next_tag : List ℕ → Option Tag
-next_tag octets = next_by (unwrapped octets)
+next_tag octets = result_ok (next_in octets)

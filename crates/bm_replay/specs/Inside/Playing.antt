@@ -95,12 +95,12 @@ coming_moment (Call due) = due.moment
 coming_moment Over = 0
 
 -- this comes next, at this clock
-pub record IsComing (R : Routes) (F : Rules) (clock : Moment) (turn : Coming) (p : Player) : Type
+pub record IsComing (R : Routes) (F : Rules) (clock : Moment) (coming : Coming) (p : Player) : Type
     0 where
   pub playing : IsPlaying R F p
   pub none_lost : p.loss ≡ None
-  pub is_coming : coming_for p ≡ turn
-  pub is_clock : clock.0 ≡ next_clock p.clock.0 (coming_moment turn)
+  pub is_coming : coming_for p ≡ coming
+  pub is_clock : clock.0 ≡ next_clock p.clock.0 (coming_moment coming)
 
 -- one event more, of the same stage
 pub record HasPlayed (R : Routes) (F : Rules) (p q : Player) : Type 0 where

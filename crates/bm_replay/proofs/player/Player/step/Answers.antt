@@ -22,23 +22,23 @@ returns-in-Some g c =
 
 pub next_clock-clock-requires-clause-last : goal.next_clock-clock-requires-clause-last
 next_clock-clock-requires-clause-last g c =
-    let turn : Arrive c.in-Arrive.moment ≡ coming_for c.args.self.now = c.in-Arrive.ensures
+    let come : Arrive c.in-Arrive.moment ≡ coming_for c.args.self.now = c.in-Arrive.ensures
     in let h =
     copy_fits (Answers g.R.Fn c.args.route.now.rule) (Gives g.F.Fn c.args.faults.now.rule) c.args.self.now
-    c.in-Arrive.moment c.requires.playing c.in_default.is (sym turn)
+    c.in-Arrive.moment c.requires.playing c.in_default.is (sym come)
     in omega arith
 
 pub next_clock-clock-requires-clause-cause : goal.next_clock-clock-requires-clause-cause
 next_clock-clock-requires-clause-cause g c =
-    let turn : Arrive c.in-Arrive.moment ≡ coming_for c.args.self.now = c.in-Arrive.ensures
+    let come : Arrive c.in-Arrive.moment ≡ coming_for c.args.self.now = c.in-Arrive.ensures
     in let h =
     copy_fits (Answers g.R.Fn c.args.route.now.rule) (Gives g.F.Fn c.args.faults.now.rule) c.args.self.now
-    c.in-Arrive.moment c.requires.playing c.in_default.is (sym turn)
+    c.in-Arrive.moment c.requires.playing c.in_default.is (sym come)
     in omega arith
 
 pub arrive-requires-clause-can : goal.arrive-requires-clause-can
 arrive-requires-clause-can g c =
-    let turn : Arrive c.in-Arrive.moment ≡ coming_for c.args.self.now = c.in-Arrive.ensures
+    let come : Arrive c.in-Arrive.moment ≡ coming_for c.args.self.now = c.in-Arrive.ensures
     in can_arrive (Answers g.R.Fn c.args.route.now.rule) (Gives g.F.Fn c.args.faults.now.rule) c.args.self.now
     c.next_clock-clock.result
     (ready_copy (Answers g.R.Fn c.args.route.now.rule) (Gives g.F.Fn c.args.faults.now.rule) c.args.self.now
@@ -46,50 +46,50 @@ arrive-requires-clause-can g c =
     (record {
       playing = c.requires.playing;
       none_lost = c.in_default.is;
-      is_coming = sym turn;
+      is_coming = sym come;
       is_clock =
           c.next_clock-clock.ensures;
     }))
 
 pub next_clock-clock-requires-in-Call-clause-last : goal.next_clock-clock-requires-in-Call-clause-last
 next_clock-clock-requires-in-Call-clause-last g c =
-    let turn : Call c.in-Call.due ≡ coming_for c.args.self.now = c.in-Call.ensures
+    let come : Call c.in-Call.due ≡ coming_for c.args.self.now = c.in-Call.ensures
     in let h =
     call_fits (Answers g.R.Fn c.args.route.now.rule) (Gives g.F.Fn c.args.faults.now.rule) c.args.self.now c.in-Call.due
-    c.requires.playing c.in_default.is (sym turn)
+    c.requires.playing c.in_default.is (sym come)
     in omega arith
 
 pub next_clock-clock-requires-in-Call-clause-cause : goal.next_clock-clock-requires-in-Call-clause-cause
 next_clock-clock-requires-in-Call-clause-cause g c =
-    let turn : Call c.in-Call.due ≡ coming_for c.args.self.now = c.in-Call.ensures
+    let come : Call c.in-Call.due ≡ coming_for c.args.self.now = c.in-Call.ensures
     in let h =
     call_fits (Answers g.R.Fn c.args.route.now.rule) (Gives g.F.Fn c.args.faults.now.rule) c.args.self.now c.in-Call.due
-    c.requires.playing c.in_default.is (sym turn)
+    c.requires.playing c.in_default.is (sym come)
     in omega arith
 
 pub carry_out-requires-clause-coming : goal.carry_out-requires-clause-coming
 carry_out-requires-clause-coming g c =
-    let turn : Call c.in-Call.due ≡ coming_for c.args.self.now = c.in-Call.ensures
+    let come : Call c.in-Call.due ≡ coming_for c.args.self.now = c.in-Call.ensures
     in record {
       playing = c.requires.playing;
       none_lost = c.in_default.is;
-      is_coming = sym turn;
+      is_coming = sym come;
       is_clock =
           c.next_clock-clock-in-Call.ensures;
     }
 
 pub returns-in-Over : goal.returns-in-Over
 returns-in-Over g c =
-    let turn : Over ≡ coming_for c.args.self.now = c.in-Over.ensures
+    let come : Over ≡ coming_for c.args.self.now = c.in-Over.ensures
     in (
       refl,
       ends (Answers g.R.Fn c.args.route.now.rule) (Gives g.F.Fn c.args.faults.now.rule) c.args.self.now
-          c.requires.playing c.in_default.is (sym turn),
+          c.requires.playing c.in_default.is (sym come),
     )
 
 pub returns-in_ok-arrive-in-Arrive : goal.returns-in_ok-arrive-in-Arrive
 returns-in_ok-arrive-in-Arrive g c =
-    let turn : Arrive c.in-Arrive.moment ≡ coming_for c.args.self.now = c.in-Arrive.ensures
+    let come : Arrive c.in-Arrive.moment ≡ coming_for c.args.self.now = c.in-Arrive.ensures
     in arrived (Answers g.R.Fn c.args.route.now.rule) (Gives g.F.Fn c.args.faults.now.rule) c.args.self.now
     c.arrive.new.self c.next_clock-clock.result
     (ready_copy (Answers g.R.Fn c.args.route.now.rule) (Gives g.F.Fn c.args.faults.now.rule) c.args.self.now
@@ -97,7 +97,7 @@ returns-in_ok-arrive-in-Arrive g c =
     (record {
       playing = c.requires.playing;
       none_lost = c.in_default.is;
-      is_coming = sym turn;
+      is_coming = sym come;
       is_clock =
           c.next_clock-clock.ensures;
     })) c.in_ok-arrive-in-Arrive.ensures
