@@ -128,6 +128,7 @@ fn faults_print_their_bucket_or_limit(rt: HostRuntime) -> Result<(), Fail> {
         ),
         (PlanFault::TooMany(Limit::Moves), "too many moves"),
         (PlanFault::TooMany(Limit::Changes), "too many changes"),
+        (PlanFault::Memory, "out of memory"),
     ];
     for (fault, want) in rows {
         let text = format!(in alloc; "{fault}")?;

@@ -1,6 +1,7 @@
 //! Captures of the pcapng form.
 use crate::capture::{Kind, OPENED, Packet, blocks};
 use crate::program::check;
+use crate::rows::OPENED_REPORT;
 use std::test::Fail;
 
 /// A SYN and, a thousand parts of a second later, data.
@@ -9,20 +10,17 @@ const LATER: &'static [Packet] = &[
     Packet(0, 1000, 1000, 101, Kind::Data),
 ];
 
-const REPORT: &str = "1 steer 1 0 0 4\n\
-     2 arrive 1 direct 1 accept\n\
-     1001 steer 2 0 0 4\n\
-     1002 arrive 2 direct 1 process advance\n\
-     packet 1 accepted 1\n\
-     packet 2 processed 1\n\
-     total packets 2 steered 2 unsteered 0 accepted 1 processed 1 \
-     forwarded 0 reset 0 dropped 0 lost 0 stray 0\n";
-
 #[test]
 fn blocks_are_replayed(rt: HostRuntime) -> Result<(), Fail> {
     let alloc = rt.alloc();
     let capture = blocks(alloc, b"", OPENED)?;
-    check(&rt, alloc, (&capture, None), "microseconds", (0, REPORT))
+    check(
+        &rt,
+        alloc,
+        (&capture, None),
+        "microseconds",
+        (0, OPENED_REPORT),
+    )
 }
 
 #[test]
@@ -30,7 +28,13 @@ fn times_are_in_the_unit_of_their_interface(rt: HostRuntime) -> Result<(), Fail>
     let alloc = rt.alloc();
     let unit = b"\x09\x00\x01\x00\x09\x00\x00\x00\x00\x00\x00\x00";
     let capture = blocks(alloc, unit, LATER)?;
-    check(&rt, alloc, (&capture, None), "nanoseconds", (0, REPORT))
+    check(
+        &rt,
+        alloc,
+        (&capture, None),
+        "nanoseconds",
+        (0, OPENED_REPORT),
+    )
 }
 
 #[test]

@@ -3,6 +3,7 @@ ghost use Rattle.std.specs.Prelude.{◌≡◌, IfOk};
 
 use crate::capture::{Form, OPENED, raw};
 use crate::program::words;
+use crate::rows::MOVED_REPORT;
 use bm_base::{List, Text};
 use bm_cli::beamer;
 use bm_io::{Files, IoFault, MemFile, MemFiles, MemSink, OpenGate, Sink};
@@ -16,12 +17,6 @@ use std::thread::Threads;
 const SCRIPT: &str = "[[command]]\nat_ns = 500\ndo = \"move\"\nbucket = 4\nserver = 2\n";
 
 const READ_FAULT: &str = "beamer: read fault\n";
-
-/// The report of a replay of the two packets.
-const REPORT: &str = "1 steer 1 0 0 4\n2 arrive 1 direct 1 accept\n501 publish 1\n502 switch 0 1\n\
-    1001 steer 2 0 1 4\n1002 arrive 2 direct 2 forward 1\n1003 arrive 2 chained 1 process advance\n\
-    packet 1 accepted 1\npacket 2 processed 1\ntotal packets 2 steered 2 unsteered 0 accepted 1 \
-    processed 1 forwarded 1 reset 0 dropped 0 lost 0 stray 0\n";
 
 /// Stands in every report of the two packets, in whatever order the threads of a run come.
 const ENDS: &str = "total packets 2 steered 2 unsteered 0 accepted 1 processed 1 ";
@@ -137,7 +132,7 @@ fn check_part(rt: &impl Abort, form: &str, call: u32, status: u8, written: &[u8]
     let whole = STEP as u64 * u64::from(call);
     if form == "replay" {
         assert_eq!(rt; made, whole);
-        assert!(rt; REPORT.as_bytes().starts_with(written));
+        assert!(rt; MOVED_REPORT.as_bytes().starts_with(written));
     } else {
         assert!(rt; made <= whole);
         assert!(rt; whole < made.saturating_add(STEP as u64));

@@ -7,6 +7,9 @@ mod commands;
 mod moves;
 mod refused;
 
+pub(crate) use captures::OPENED_REPORT;
+pub(crate) use moves::MOVED_REPORT;
+
 #[test]
 fn captures_are_replayed(rt: HostRuntime) -> Result<(), Fail> {
     check_rows(&rt, rt.alloc(), &captures::CAPTURES)

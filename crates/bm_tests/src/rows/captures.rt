@@ -4,6 +4,16 @@ use crate::capture::Kind::{Data, Fin, Rst, Syn};
 use crate::capture::{OPENED, Packet};
 use crate::program::Row;
 
+/// What is written of `OPENED`, with no change.
+pub(crate) const OPENED_REPORT: &str = "1 steer 1 0 0 4\n\
+     2 arrive 1 direct 1 accept\n\
+     1001 steer 2 0 0 4\n\
+     1002 arrive 2 direct 1 process advance\n\
+     packet 1 accepted 1\n\
+     packet 2 processed 1\n\
+     total packets 2 steered 2 unsteered 0 accepted 1 processed 1 \
+     forwarded 0 reset 0 dropped 0 lost 0 stray 0\n";
+
 pub(crate) static CAPTURES: [Row; 8] = [
     Row {
         name: "a SYN and a data packet",
@@ -11,14 +21,7 @@ pub(crate) static CAPTURES: [Row; 8] = [
         packets: OPENED,
         script: None,
         status: 0,
-        text: "1 steer 1 0 0 4\n\
-             2 arrive 1 direct 1 accept\n\
-             1001 steer 2 0 0 4\n\
-             1002 arrive 2 direct 1 process advance\n\
-             packet 1 accepted 1\n\
-             packet 2 processed 1\n\
-             total packets 2 steered 2 unsteered 0 accepted 1 processed 1 \
-             forwarded 0 reset 0 dropped 0 lost 0 stray 0\n",
+        text: OPENED_REPORT,
     },
     Row {
         name: "a capture without records",
@@ -168,13 +171,6 @@ pub(crate) static CAPTURES: [Row; 8] = [
         packets: OPENED,
         script: None,
         status: 0,
-        text: "1 steer 1 0 0 4\n\
-             2 arrive 1 direct 1 accept\n\
-             1001 steer 2 0 0 4\n\
-             1002 arrive 2 direct 1 process advance\n\
-             packet 1 accepted 1\n\
-             packet 2 processed 1\n\
-             total packets 2 steered 2 unsteered 0 accepted 1 processed 1 \
-             forwarded 0 reset 0 dropped 0 lost 0 stray 0\n",
+        text: OPENED_REPORT,
     },
 ];

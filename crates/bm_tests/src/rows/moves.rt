@@ -3,6 +3,20 @@ use crate::capture::Form::{Micro, Nano};
 use crate::capture::Kind::{Data, Syn};
 use crate::capture::{OPENED, Packet};
 use crate::program::Row;
+use crate::rows::OPENED_REPORT;
+
+/// What is written of `OPENED` where bucket 4 moves to server 2 between the packets.
+pub(crate) const MOVED_REPORT: &str = "1 steer 1 0 0 4\n\
+     2 arrive 1 direct 1 accept\n\
+     501 publish 1\n\
+     502 switch 0 1\n\
+     1001 steer 2 0 1 4\n\
+     1002 arrive 2 direct 2 forward 1\n\
+     1003 arrive 2 chained 1 process advance\n\
+     packet 1 accepted 1\n\
+     packet 2 processed 1\n\
+     total packets 2 steered 2 unsteered 0 accepted 1 processed 1 \
+     forwarded 1 reset 0 dropped 0 lost 0 stray 0\n";
 
 pub(crate) static MOVES: [Row; 8] = [
     Row {
@@ -11,14 +25,7 @@ pub(crate) static MOVES: [Row; 8] = [
         packets: OPENED,
         script: Some(""),
         status: 0,
-        text: "1 steer 1 0 0 4\n\
-             2 arrive 1 direct 1 accept\n\
-             1001 steer 2 0 0 4\n\
-             1002 arrive 2 direct 1 process advance\n\
-             packet 1 accepted 1\n\
-             packet 2 processed 1\n\
-             total packets 2 steered 2 unsteered 0 accepted 1 processed 1 \
-             forwarded 0 reset 0 dropped 0 lost 0 stray 0\n",
+        text: OPENED_REPORT,
     },
     Row {
         name: "a bucket moves, and the previous server takes the packet",
@@ -32,17 +39,7 @@ pub(crate) static MOVES: [Row; 8] = [
             server = 2\n",
         ),
         status: 0,
-        text: "1 steer 1 0 0 4\n\
-             2 arrive 1 direct 1 accept\n\
-             501 publish 1\n\
-             502 switch 0 1\n\
-             1001 steer 2 0 1 4\n\
-             1002 arrive 2 direct 2 forward 1\n\
-             1003 arrive 2 chained 1 process advance\n\
-             packet 1 accepted 1\n\
-             packet 2 processed 1\n\
-             total packets 2 steered 2 unsteered 0 accepted 1 processed 1 \
-             forwarded 1 reset 0 dropped 0 lost 0 stray 0\n",
+        text: MOVED_REPORT,
     },
     Row {
         name: "the chain ends with the timeout",
