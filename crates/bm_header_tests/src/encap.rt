@@ -3,7 +3,7 @@ ghost use Rattle.std.specs.Prelude.{◌<◌};
 
 use bm_base::{Hop, Moment, MuxId, ServerId, Tag, Version};
 use bm_encap::EncapFault::{BadLength, BadOption, BadOuter, BadSum, Short};
-use bm_encap::{EncapFault, set_chained, unwrap, wrap};
+use bm_encap::{EncapFault, chain, set_chained, unwrap, wrap};
 use bm_ipv4::header_sum;
 use std::process::Abort;
 use std::test::Fail;
@@ -191,6 +191,18 @@ fn a_header_is_read_and_spelled(rt: HostRuntime) -> Result<(), Fail> {
     assert_eq!(rt; out.first().copied(), Some(9));
     assert!(rt; &out[1..] == octets.as_slice());
     Ok(())
+}
+
+#[test]
+fn the_next_hop_is_written_in_place_and_its_tag_given(rt: HostRuntime) {
+    let mut octets = packet(&DIRECT);
+    let next = Tag {
+        hop: Hop::Chained,
+        dest: ServerId(1),
+        ..tag()
+    };
+    assert!(rt; chain(&mut octets) == Ok(next));
+    assert!(rt; octets == packet(&CHAINED));
 }
 
 #[test]
