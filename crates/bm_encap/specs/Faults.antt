@@ -143,6 +143,7 @@ next_of Direct (Some s) tag = Ok (record tag { hop = Chained; dest = s })
 abbrev pub next_hop : Tag → Result Tag EncapFault
 next_hop tag = next_of tag.hop tag.prev tag
 
+-- the tag of the next hop of what was read, or its fault
 abbrev pub next_from : Result (Tag × List ℕ) EncapFault → Result Tag EncapFault
 next_from (Err fault) = Err fault
 next_from (Ok read) = next_hop read.0
@@ -152,10 +153,12 @@ next_from (Ok read) = next_hop read.0
 abbrev pub next_in : List ℕ → Result Tag EncapFault
 next_in octets = next_from (unwrapped octets)
 
+-- the header of a tag before a packet, or the fault in the tag's place
 abbrev pub spelling_of : Result Tag EncapFault → List ℕ → Result (List ℕ) EncapFault
 spelling_of (Err fault) inner = Err fault
 spelling_of (Ok tag) inner = Ok (spelling tag inner)
 
+-- what was read with the header of the next hop, or its fault
 abbrev pub chained_from : Result (Tag × List ℕ) EncapFault → Result (List ℕ) EncapFault
 chained_from (Err fault) = Err fault
 chained_from (Ok read) = spelling_of (next_hop read.0) read.1

@@ -40,7 +40,7 @@ use Rattle.bm_worker.specs.Inside.Batches.{sent_notes, steering, switch_note, sw
 use Rattle.bm_worker.specs.Deeds.{Suits}
 use Rattle.bm_worker.specs.Inside.Debts.{IsAmong}
 use Rattle.bm_worker.specs.Phases.{IsDeed, Stint, mux_for}
-use Rattle.bm_worker.specs.Assigned.{is_mux, is_assigned, mux_at}
+use Rattle.bm_worker.specs.Assigned.{is_mux, is_assigned, assigned_mux}
 use Rattle.bm_worker.proofs.Known.{known_server, table_entry}
 use Rattle.bm_worker.proofs.Steering.{label_high}
 use Rattle.bm_worker.proofs.Steering.{steers_above}
@@ -52,7 +52,7 @@ rise_last low [] rise = omega arith
 rise_last low (i ∷ items) rise = let old = rise_last i.packet items rise.1 in let lt = rise.0 in omega (arith, old, lt)
 
 -- a packet of the phase is one that the mux is assigned
-is_one_assigned : (routes : List (Option MuxId)) (m from until k : ℕ) → from < k → k ≤ until → mux_at routes k ≡ Some m
+is_one_assigned : (routes : List (Option MuxId)) (m from until k : ℕ) → from < k → k ≤ until → assigned_mux routes k ≡ Some m
     → is_assigned routes m from until k ≡ true
 is_one_assigned routes m from until k low high is =
     and_from _ _ (and_from _ _ (lt-ltb from k low) (le-leb k until high))

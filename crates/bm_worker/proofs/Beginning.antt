@@ -30,7 +30,7 @@ use Rattle.bm_worker.specs.declared.worker.MuxWorker.{MuxWorker}
 use Rattle.bm_worker.specs.Inside.Batches.{HasOnlyLooked, HasSeen, IsDoneTo, IsLogged, IsSteerTo, switch_note}
 use Rattle.bm_worker.specs.Phases.{AreCopies, HasEnded, IsDeed, IsOlder, IsReady, IsStopOf, IsAssigned, Kept}
 use Rattle.bm_worker.specs.Phases.{Stint, mux_log, mux_for}
-use Rattle.bm_worker.specs.Assigned.{RoutedBy, is_mux, is_assigned, mux_at}
+use Rattle.bm_worker.specs.Assigned.{RoutedBy, is_mux, is_assigned, assigned_mux}
 use Rattle.bm_worker.proofs.Collecting.{assigned_none, mux_is}
 use Rattle.bm_worker.proofs.Copying.{copies_as}
 use Rattle.bm_worker.proofs.Going.{kept_looked}
@@ -220,13 +220,13 @@ begin_done F stage servers stint mid ready begun seen_it =
 routed : (stage : Stage) (stint : Stint) (what : What) → carries (mux_for stint).0 what ≡ true → IsAssigned stint what
     → IsRouted (RoutedBy stint.routes) stage what
 routed stage stint (Steer k x) mine assigned = of_segment (segment_of stage k) where
-  here : mux_at stint.routes k ≡ Some x.0
+  here : assigned_mux stint.routes k ≡ Some x.0
   here =
-      let is : is_mux (mux_at stint.routes k) (mux_for stint).0 ≡ true =
-      (and_parts (ltb stint.from k && leb k stint.until) (is_mux (mux_at stint.routes k) (mux_for stint).0)
+      let is : is_mux (assigned_mux stint.routes k) (mux_for stint).0 ≡ true =
+      (and_parts (ltb stint.from k && leb k stint.until) (is_mux (assigned_mux stint.routes k) (mux_for stint).0)
       assigned).1 in
       let same : x.0 ≡ (mux_for stint).0 = Rattle.std.proofs.lemmas.Bool.eqb-true x.0 (mux_for stint).0 mine in
-      mux_is (mux_for stint).0 (mux_at stint.routes k) is ∙ ap (λ (j : ℕ). Some j) (sym same)
+      mux_is (mux_for stint).0 (assigned_mux stint.routes k) is ∙ ap (λ (j : ℕ). Some j) (sym same)
 
   of_segment : (o : Option Segment) → IfSome o (λ s. RoutedBy stint.routes k s.flow x.0)
   of_segment None = tt

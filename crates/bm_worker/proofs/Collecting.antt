@@ -22,7 +22,7 @@ use Rattle.bm_core.specs.Past.{segment_of}
 use Rattle.bm_core.specs.Accounts.{Rules, count_of}
 use Rattle.bm_mux.specs.declared.item.MuxItem.{MuxItem}
 use Rattle.bm_worker.specs.Inside.Batches.{AreCollected, AreDrawn, IsItemOf, Rise, last_packet}
-use Rattle.bm_worker.specs.Assigned.{is_mux, is_assigned, mux_at}
+use Rattle.bm_worker.specs.Assigned.{is_mux, is_assigned, assigned_mux}
 
 -- TURNS
 
@@ -38,13 +38,13 @@ assigned_none routes m from k = elim (cases_lt from k) [
 ]
 
 -- the packet behind the place is not the mux's
-assigned_skip : (routes : List (Option MuxId)) (m from at k : ℕ) → is_mux (mux_at routes (at + 1)) m ≡ false
+assigned_skip : (routes : List (Option MuxId)) (m from at k : ℕ) → is_mux (assigned_mux routes (at + 1)) m ≡ false
     → is_assigned routes m from (at + 1) k ≡ is_assigned routes m from at k
 assigned_skip routes m from at k other = elim (cases_lt at k) [
   | inl low ↦ elim (cases_Bool (k == at + 1)) [
     | inl same ↦
         let e : k ≡ at + 1 = eqb-true k (at + 1) same in
-        let none : is_mux (mux_at routes k) m ≡ false = ap (λ (j : ℕ). is_mux (mux_at routes j) m) e ∙ other in
+        let none : is_mux (assigned_mux routes k) m ≡ false = ap (λ (j : ℕ). is_mux (assigned_mux routes j) m) e ∙ other in
         rw none (both_false (ltb from k && leb k (at + 1)) (ltb from k && leb k at))
     | inr apart ↦
         let other : k ≢ at + 1 = eqb-false k (at + 1) apart in
@@ -59,14 +59,14 @@ assigned_skip routes m from at k other = elim (cases_lt at k) [
   both_false false false = refl
 
 -- it is
-assigned_more : (routes : List (Option MuxId)) (m from at k : ℕ) → from ≤ at → is_mux (mux_at routes (at + 1)) m ≡ true
+assigned_more : (routes : List (Option MuxId)) (m from at k : ℕ) → from ≤ at → is_mux (assigned_mux routes (at + 1)) m ≡ true
     → ◌≡◌ {A = ℕ} (cond (is_assigned routes m from (at + 1) k) 1 0)
     (cond (is_assigned routes m from at k) 1 0 + cond (at + 1 == k) 1 0)
 assigned_more routes m from at k le mine = elim (cases_lt at k) [
   | inl low ↦ elim (cases_Bool (at + 1 == k)) [
     | inl same ↦
         let e : at + 1 ≡ k = eqb-true (at + 1) k same in
-        let one : is_mux (mux_at routes k) m ≡ true = ap (λ (j : ℕ). is_mux (mux_at routes j) m) (sym e) ∙ mine in
+        let one : is_mux (assigned_mux routes k) m ≡ true = ap (λ (j : ℕ). is_mux (assigned_mux routes j) m) (sym e) ∙ mine in
         rw (one, same, lt-ltb from k (omega (arith, le, low)), le-leb k (at + 1) (omega (arith, e)), lt-leb k at low)
         refl
     | inr apart ↦
@@ -78,8 +78,8 @@ assigned_more routes m from at k le mine = elim (cases_lt at k) [
       (omega arith)
 ] where
   none_one : (a : Bool)
-      → ◌≡◌ {A = ℕ} (cond ((a && false) && is_mux (mux_at routes k) m) 1 0)
-      (cond ((a && false) && is_mux (mux_at routes k) m) 1 0 + 0)
+      → ◌≡◌ {A = ℕ} (cond ((a && false) && is_mux (assigned_mux routes k) m) 1 0)
+      (cond ((a && false) && is_mux (assigned_mux routes k) m) 1 0 + 0)
   none_one a = omega arith
 
 -- LISTS WITH ONE MORE
@@ -123,13 +123,13 @@ collected_none F stage routes m from = record {
   under = omega arith;
   each = tt;
   drawn = tt;
-  turns = λ k. rw (assigned_none routes m from k) refl;
+  once = λ k. rw (assigned_none routes m from k) refl;
   count = omega arith;
 }
 
 pub collected_skip : (F : Rules) (stage : Stage) (routes : List (Option MuxId)) (m from at : ℕ) (items : List MuxItem)
     (fates : List Fate)
-    → is_mux (mux_at routes (at + 1)) m ≡ false → AreCollected F stage routes m from at items fates
+    → is_mux (assigned_mux routes (at + 1)) m ≡ false → AreCollected F stage routes m from at items fates
     → AreCollected F stage routes m from (at + 1) items fates
 collected_skip F stage routes m from at items fates other old = record {
   few = old.few;
@@ -137,7 +137,7 @@ collected_skip F stage routes m from at items fates other old = record {
   under = let u = old.under in omega arith;
   each = old.each;
   drawn = old.drawn;
-  turns = λ k. old.turns k ∙ ap (λ (b : Bool). cond b 1 0) (sym (assigned_skip routes m from at k other));
+  once = λ k. old.once k ∙ ap (λ (b : Bool). cond b 1 0) (sym (assigned_skip routes m from at k other));
   count = let u = old.count in omega arith;
 }
 
@@ -149,8 +149,8 @@ pub collected_more : (F : Rules) (stage : Stage) (routes : List (Option MuxId)) 
     → AreCollected F stage routes m from (at + 1) (items ++ i ∷ []) (fates ++ f ∷ [])
 collected_more F stage routes m from at items fates i f le few is item gives copies delay old =
     let long = length-append items (i ∷ []) in
-    let mine : is_mux (mux_at routes (at + 1)) m ≡ true =
-    ap (λ (j : ℕ). is_mux (mux_at routes j) m) (sym is)
+    let mine : is_mux (assigned_mux routes (at + 1)) m ≡ true =
+    ap (λ (j : ℕ). is_mux (assigned_mux routes j) m) (sym is)
     ∙ (ap (λ (o : Option ℕ). is_mux o m) item.assigned ∙ eq-eqb m m refl) in
     record {
       few = omega (arith, few, long);
@@ -158,8 +158,8 @@ collected_more F stage routes m from at items fates i f le few is item gives cop
       under = let e = last_more from items i in omega (arith, e, is);
       each = each_more (IsItemOf stage routes m) items i old.each item;
       drawn = drawn_more F items fates i f old.drawn gives copies delay;
-      turns = λ k.
-          let a = count_more k items i in let b = old.turns k in let c = assigned_more routes m from at k le mine in
+      once = λ k.
+          let a = count_more k items i in let b = old.once k in let c = assigned_more routes m from at k le mine in
           let same : ◌≡◌ {A = ℕ} (cond (i.packet == k) 1 0) (cond (at + 1 == k) 1 0) =
           ap (λ (j : ℕ). cond (j == k) 1 0) is in
           omega (arith, a, b, c, same);

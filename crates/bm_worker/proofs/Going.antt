@@ -172,7 +172,7 @@ batch_steered : (F : Rules) (routes : List _) (m : MuxId) (seen : Posted) (past 
     → AllByRecursion (λ n. IsDelivery n.event.what) y
     → many (λ n. steers_packet n.event.what k) (y ++ (batch_notes m seen past items fates ++ d))
     ≡ cond (is_assigned routes m.0 from end k) 1 0
-batch_steered F routes m seen past from low end items fates y d k drawn le up turns old deliveries =
+batch_steered F routes m seen past from low end items fates y d k drawn le up once old deliveries =
     let s = sent_notes m (sent m seen (steering_clock (switches m seen past ++ past)) items) fates in
     let sw = switch_notes m seen past in
     let one = sent_many F m seen k (steering_clock (switches m seen past ++ past)) items fates drawn in
@@ -183,7 +183,7 @@ batch_steered F routes m seen past from low end items fates y d k drawn le up tu
     let q = total_append (λ n. cond (steers_packet n.event.what k) 1 0) (s ++ sw) d in
     let t = total_append (λ n. cond (steers_packet n.event.what k) 1 0) s sw in
     let split = assigned_split routes m.0 from low end k le up in
-    omega (arith, one, none, no, p, q, t, split, turns, old)
+    omega (arith, one, none, no, p, q, t, split, once, old)
 
 -- THE POSTS GO ON
 
@@ -312,7 +312,7 @@ done_in F stage servers stint now mid next d low end most i items fates sents do
         kept = o.1;
         settled = batch_settled m seen past s d y kinds o.4.0 done.settled;
         steered = λ k. batch_steered F stint.routes m seen past stint.from low end all fates y d k got.drawn done.from
-            le (got.turns k) (done.steered k) o.3;
+            le (got.once k) (done.steered k) o.3;
         looked =
             let a = done.looked in
             let b = more_many (λ n. is_switch_of n.event.what m.0) x d in
@@ -395,7 +395,7 @@ batch_empty F stage servers stint now d low end items fates none le done got = r
   kept = done.kept;
   settled = done.settled;
   steered = λ k.
-      let a = done.steered k in let b = got.turns k in let e = no_count k items none in
+      let a = done.steered k in let b = got.once k in let e = no_count k items none in
       let split = assigned_split stint.routes (mux_for stint).0 stint.from low end k done.from le in
       omega (arith, a, b, e, split);
   looked = done.looked;

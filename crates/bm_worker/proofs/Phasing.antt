@@ -35,7 +35,7 @@ use Rattle.bm_worker.specs.Told.{told_there}
 use Rattle.bm_worker.specs.Inside.Debts.{GrowsByLosses}
 use Rattle.bm_worker.specs.Phases.{AreCopies, IsDeed, IsMuxGiven}
 use Rattle.bm_worker.specs.Phases.{Stint, is_steer, mux_log, mux_for}
-use Rattle.bm_worker.specs.Assigned.{is_mux, is_assigned, mux_at}
+use Rattle.bm_worker.specs.Assigned.{is_mux, is_assigned, assigned_mux}
 use Rattle.bm_worker.proofs.Batching.{sent_deeds, switch_deeds}
 use Rattle.bm_worker.proofs.Copying.{copies_as}
 use Rattle.bm_worker.proofs.Keeping.{Step, at_append, at_so}
@@ -316,7 +316,7 @@ pub assigned_split : (routes : List (Option MuxId)) (m from low end k : ℕ) →
     (cond (is_assigned routes m low end k) 1 0 + cond (is_assigned routes m from low k) 1 0)
 assigned_split routes m from low end k a b = elim (cases_lt low k) [
   | inl past ↦ rw (lt-ltb from k (omega (arith, a, past)), lt-ltb low k past, lt-leb k low past)
-      (more (leb k end && is_mux (mux_at routes k) m))
+      (more (leb k end && is_mux (assigned_mux routes k) m))
   | inr before ↦ rw (le-ltb low k before, le-leb k low before, le-leb k end (omega (arith, before, b)))
       (less (ltb from k))
 ] where
@@ -324,6 +324,6 @@ assigned_split routes m from low end k a b = elim (cases_lt low k) [
   more t = omega arith
 
   less : (t : Bool)
-      → ◌≡◌ {A = ℕ} (cond ((t && true) && is_mux (mux_at routes k) m) 1 0)
-      (0 + cond ((t && true) && is_mux (mux_at routes k) m) 1 0)
+      → ◌≡◌ {A = ℕ} (cond ((t && true) && is_mux (assigned_mux routes k) m) 1 0)
+      (0 + cond ((t && true) && is_mux (assigned_mux routes k) m) 1 0)
   less t = omega arith

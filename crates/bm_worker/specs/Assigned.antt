@@ -6,23 +6,25 @@ use Rattle.std.specs.Prelude.{Option, Some, None}
 use Rattle.bm_base.specs.declared.ids.MuxId.{MuxId}
 use Rattle.bm_core.specs.Accounts.{Routes}
 
+-- the number of the mux that the route gave, where it gave one
 abbrev pub mux_in : Option (Option MuxId) → Option ℕ
 mux_in (Some (Some m)) = Some m.0
 mux_in _ = None
 
 -- the mux of the packet, where there is one
-abbrev pub mux_at : List (Option MuxId) → ℕ → Option ℕ
-mux_at routes zero = None
-mux_at routes (suc i) = mux_in (slice_get routes i)
+abbrev pub assigned_mux : List (Option MuxId) → ℕ → Option ℕ
+assigned_mux routes zero = None
+assigned_mux routes (suc i) = mux_in (slice_get routes i)
 
+-- there is a mux, and this is its number
 abbrev pub is_mux : Option ℕ → ℕ → Bool
 is_mux None m = false
 is_mux (Some n) m = n == m
 
 -- the packet is one of the mux's, among the records at the places from..until
 abbrev pub is_assigned : List (Option MuxId) → ℕ → ℕ → ℕ → ℕ → Bool
-is_assigned routes m from until k = nat_lt from k && nat_le k until && is_mux (mux_at routes k) m
+is_assigned routes m from until k = nat_lt from k && nat_le k until && is_mux (assigned_mux routes k) m
 
 -- the route that gives each packet the mux that it has here
 abbrev pub RoutedBy : List (Option MuxId) → Routes
-RoutedBy routes k flow m = mux_at routes k ≡ Some m
+RoutedBy routes k flow m = assigned_mux routes k ≡ Some m

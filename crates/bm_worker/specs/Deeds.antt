@@ -41,7 +41,8 @@ abbrev pub HasServer : List Serving → ServerId → Type 0
 HasServer servers id =
     (s : ℕ) × (server : Serving) × (slice_get servers s ≡ Some server) × (server.id ≡ id)
 
--- these are the servers that the script knows at its end, each once, as its setting has them
+-- each server that the script knows at its end is among these, none stands twice, and each is as
+-- the setting has it
 pub record Suits (stage : Stage) (servers : List Serving) : Type 0 where
   pub differ : (s t : ℕ) (a b : Serving) → slice_get servers s ≡ Some a
       → slice_get servers t ≡ Some b

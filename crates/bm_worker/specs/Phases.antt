@@ -34,7 +34,7 @@ use Rattle.bm_worker.specs.declared.stop.Stop.TheVariants.{Memory, Late}
 use Rattle.bm_worker.specs.declared.worker.MuxWorker.{MuxWorker}
 use Rattle.bm_worker.specs.Deeds.{HasServer, Hears, IsSamePorter, Sits, Suits, clock_of}
 use Rattle.bm_worker.specs.Told.{told_there}
-use Rattle.bm_worker.specs.Assigned.{RoutedBy, is_assigned, mux_at}
+use Rattle.bm_worker.specs.Assigned.{RoutedBy, is_assigned, assigned_mux}
 
 -- one worker's part of a phase
 pub record Stint : Type 0 where
@@ -206,7 +206,7 @@ pub record IsRunnable (stage : Stage) (octets : List (List ℕ)) (routes : List 
   pub suits : Suits stage servers
   pub count : length routes ≡ length stage.capture.records
   -- a packet that has a mux is steerable
-  pub steerable : (k m : ℕ) → mux_at routes k ≡ Some m → is_some (segment_of stage k) ≡ true
+  pub steerable : (k m : ℕ) → assigned_mux routes k ≡ Some m → is_some (segment_of stage k) ≡ true
 
 -- an event in the mux's log from before the phase
 pub record IsOlder (m : MuxId) (from after : ℕ) (e : Event) : Type 0 where

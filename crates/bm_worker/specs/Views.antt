@@ -12,6 +12,7 @@ porting_of a = record {
   latest = a.latest.0;
 }
 
+-- no seat took more turns than the porter counted
 pub record IsPorter (a : Inside) : Type 0 where
   pub turns : (s : ℕ) (seat : List Seated) → slice_get a.seats.items s ≡ Some seat
       → most_turns seat ≤ a.tries

@@ -9,7 +9,7 @@ ghost use Rattle.bm_worker.specs.Inside.Batches.{AreCollected, Delivers, IsItemO
 ghost use Rattle.bm_worker.specs.Inside.Debts.{GrowsByLosses, IsSameWorker};
 ghost use Rattle.bm_worker.specs.Deeds.{Sits, Suits};
 ghost use Rattle.bm_worker.specs.Phases.{IsRunnable};
-ghost use Rattle.bm_worker.specs.Assigned.{is_mux, mux_at};
+ghost use Rattle.bm_worker.specs.Assigned.{is_mux, assigned_mux};
 
 use crate::place::place_of;
 use crate::sends::Sending;
@@ -32,9 +32,9 @@ pub(crate) struct Batch<'a> {
 }
 
 /// Whether the packet of the record at this place is the mux's.
-fn is_assigned(routes: &[Option<MuxId>], at: u32, mux: MuxId) -> bool
+fn is_assigned_to(routes: &[Option<MuxId>], at: u32, mux: MuxId) -> bool
     requires { at < length routes.now }
-    ensures { result ≡ is_mux (mux_at routes.now (at + 1)) mux.0 }
+    ensures { result ≡ is_mux (assigned_mux routes.now (at + 1)) mux.0 }
 {
     match routes[at as usize] {
         Some(of) => of.0 == mux.0,
@@ -57,7 +57,7 @@ fn item_at<'a, F, G>(shared: &Shared<'a, F, G>, at: u32, mux: MuxId) -> MuxItem<
     requires run { IsRunnable shared.now.stage.now shared.now.octets.now shared.now.routes.now
         shared.now.servers.now }
     requires at { at < length shared.now.stage.now.capture.records }
-    requires assigned { is_mux (mux_at shared.now.routes.now (at + 1)) mux.0 ≡ true }
+    requires assigned { is_mux (assigned_mux shared.now.routes.now (at + 1)) mux.0 ≡ true }
     ensures packet { result.packet ≡ at + 1 }
     ensures item { IsItemOf shared.now.stage.now shared.now.routes.now mux.0 result }
 {
@@ -100,7 +100,7 @@ pub(crate) fn collect<'a, F: Fn(u32, Hop) -> Fate, G>(
                 end: at,
             });
         }
-        if !is_assigned(shared.routes, at, mux) {
+        if !is_assigned_to(shared.routes, at, mux) {
             continue;
         }
         let item = item_at(shared, at, mux);

@@ -25,7 +25,7 @@ use Rattle.bm_merge.proofs.Noting.{counts_notes, each_so, total_append, total_no
 use Rattle.bm_merge.proofs.Reaching.{one_if}
 use Rattle.bm_merge.proofs.Sharing.{deeds_upto, sum_seats}
 use Rattle.bm_worker.specs.Phases.{IsMuxGiven, is_steer, mux_log}
-use Rattle.bm_worker.specs.Assigned.{is_mux, is_assigned, mux_at}
+use Rattle.bm_worker.specs.Assigned.{is_mux, is_assigned, assigned_mux}
 use Rattle.bm_lead.specs.Commands.{AreDone, control_log}
 use Rattle.bm_world.proofs.Deeds.{IsAmong, all_among}
 use Rattle.bm_world.proofs.Ending.{is_under, one_mux}
@@ -154,10 +154,10 @@ carried_few stage routes until carriers low muxes few steered =
     in let steers = steers_few (all_deeds carriers) until (λ k.
     let sum = deeds_upto (λ n. one_if (steers_packet n.event.what k)) carriers
     in let most = sum_most (λ w. many (λ n. steers_packet n.event.what k) (deeds_of carriers w))
-    (λ w. one_if ((ltb 0 k && leb k until) && is_mux (mux_at routes k) w)) (length carriers)
+    (λ w. one_if ((ltb 0 k && leb k until) && is_mux (assigned_mux routes k) w)) (length carriers)
     (λ m here. steered m here k)
-    in let one = one_mux (ltb 0 k && leb k until) (mux_at routes k) (length carriers)
-    in let part = less (ltb 0 k && leb k until) (is_under (mux_at routes k) (length carriers))
+    in let one = one_mux (ltb 0 k && leb k until) (assigned_mux routes k) (length carriers)
+    in let part = less (ltb 0 k && leb k until) (is_under (assigned_mux routes k) (length carriers))
     in omega arith)
     in omega arith where
       less : (a b : Bool) → one_if (a && b) ≤ one_if a
@@ -327,14 +327,14 @@ log_own stage m [] home = tt
 log_own stage m (n ∷ h) home =
     ((λ k x is. home_mux stage m n.seat k x n.event.what is home.0), log_own stage m h home.1)
 
--- what the worker steers in a phase is some of its turns, each once
+-- what the worker steers in a phase is some of the packets assigned to it, each once
 pub steered_part : (stage : Stage) (routes : List (Option MuxId)) (after first m from until : ℕ) (posts : List ℕ)
     (x : List Note) (old : List Event)
     → AllByRecursion (λ n. carries m n.event.what ≡ true) x
     → AllByRecursion (λ n. (k : ℕ) (i : MuxId) → n.event.what ≡ Steer k i → is_assigned routes m from until k ≡ true) x
     → AtEach (λ rest e. IsMuxGiven stage after first posts (rest ++ old) e.clock.0 e.what) (mux_log stage m x)
     → (k : ℕ) → many (λ n. steers_packet n.event.what k) x ≤ one_if (is_assigned routes m from until k)
-steered_part stage routes after first m from until posts x old kinds turns given k =
+steered_part stage routes after first m from until posts x old kinds assigned given k =
     go (is_assigned routes m from until k) refl where
       once : many (λ n. steers_packet n.event.what k) x ≤ 1
       once =
@@ -347,26 +347,26 @@ steered_part stage routes after first m from until posts x old kinds turns given
       no : (n : Note) → ((j : ℕ) (i : MuxId) → n.event.what ≡ Steer j i → is_assigned routes m from until j ≡ true)
           → is_assigned routes m from until k ≡ false → (what : What) → n.event.what ≡ what
           → one_if (steers_packet what k) ≡ 0
-      no n turn not (Steer j i) is = elim (cases_Bool (eqb j k)) [
+      no n own not (Steer j i) is = elim (cases_Bool (eqb j k)) [
         | inl same ↦
             let at : j ≡ k = eqb-true _ _ same
             in absurd (let yes : is_assigned routes m from until k ≡ true =
-            subst (λ (p : ℕ). is_assigned routes m from until p ≡ true) at (turn j i is)
+            subst (λ (p : ℕ). is_assigned routes m from until p ≡ true) at (own j i is)
             in let bad : true ≡ false = sym yes ∙ not in cc)
         | inr other ↦ rw other refl
       ]
-      no n turn not (Publish v) is = refl
-      no n turn not (Switch i v) is = refl
-      no n turn not (Lose j hop) is = refl
-      no n turn not (Arrive j hop server verdict) is = refl
-      no n turn not (Close server flow closed) is = refl
-      no n turn not (Retire server h moment result) is = refl
-      no n turn not Sync is = refl
+      no n own not (Publish v) is = refl
+      no n own not (Switch i v) is = refl
+      no n own not (Lose j hop) is = refl
+      no n own not (Arrive j hop server verdict) is = refl
+      no n own not (Close server flow closed) is = refl
+      no n own not (Retire server h moment result) is = refl
+      no n own not Sync is = refl
 
       go : (b : Bool) → is_assigned routes m from until k ≡ b → many (λ n. steers_packet n.event.what k) x ≤ one_if b
       go true is = once
       go false is =
           let none = total_none (λ n. one_if (steers_packet n.event.what k)) x
           (each_so (λ n. (j : ℕ) (i : MuxId) → n.event.what ≡ Steer j i → is_assigned routes m from until j ≡ true)
-          (λ n. one_if (steers_packet n.event.what k) ≡ 0) x (λ n t. no n t is n.event.what refl) turns)
+          (λ n. one_if (steers_packet n.event.what k) ≡ 0) x (λ n t. no n t is n.event.what refl) assigned)
           in omega arith

@@ -14,13 +14,13 @@ use Rattle.bm_core.specs.declared.events.Stage.{Stage}
 use Rattle.bm_core.specs.Accounts.{Routes, Rules, AreAnswered, before}
 use Rattle.bm_core.specs.Past.{segment_of, steerable}
 use Rattle.bm_core.specs.Threads.{IsThreadedRun}
-use Rattle.bm_worker.specs.Assigned.{RoutedBy, mux_at, mux_in}
+use Rattle.bm_worker.specs.Assigned.{RoutedBy, assigned_mux, mux_in}
 use Rattle.bm_world.specs.Inside.Routed.{AreGiven, AreRouted, IsGivenTo}
 use Rattle.bm_world.proofs.Growing.{routed_one}
 
 -- WHERE A PACKET HAS A MUX
 
-given_mux : (routes : List (Option MuxId)) (i m : ℕ) → mux_at routes (suc i) ≡ Some m
+given_mux : (routes : List (Option MuxId)) (i m : ℕ) → assigned_mux routes (suc i) ≡ Some m
     → (x : MuxId) × (slice_get routes i ≡ Some (Some x)) × (x.0 ≡ m)
 given_mux routes i m = go (slice_get routes i) refl where
   go : (o : Option (Option MuxId)) → slice_get routes i ≡ o → mux_in o ≡ Some m
@@ -30,7 +30,7 @@ given_mux routes i m = go (slice_get routes i) refl where
   go (Some (Some x)) here is = (x, here, same_Some _ _ is)
 
 pub given_to : (R : Routes) (stage : Stage) (muxes : ℕ) (routes : List (Option MuxId)) → AreGiven R stage muxes routes
-    → (k m : ℕ) → mux_at routes k ≡ Some m
+    → (k m : ℕ) → assigned_mux routes k ≡ Some m
     → (m < muxes) × ((s : Segment) × (segment_of stage k ≡ Some s) × R k s.flow m)
 given_to R stage muxes routes given zero m is = absurd (cc)
 given_to R stage muxes routes given (suc i) m is =
@@ -42,7 +42,7 @@ given_to R stage muxes routes given (suc i) m is =
     )
 
 pub routes_given : (R : Routes) (stage : Stage) (muxes : ℕ) (routes : List (Option MuxId))
-    → AreGiven R stage muxes routes → (k m : ℕ) (s : Segment) → mux_at routes k ≡ Some m
+    → AreGiven R stage muxes routes → (k m : ℕ) (s : Segment) → assigned_mux routes k ≡ Some m
     → segment_of stage k ≡ Some s → R k s.flow m
 routes_given R stage muxes routes given k m s is here =
     let to = given_to R stage muxes routes given k m is
@@ -65,7 +65,7 @@ are_routed R stage routes given =
       given = all;
       count = count;
     } where
-      all : (k : ℕ) → is_some (segment_of stage k) ≡ true → is_some (mux_at routes k) ≡ true
+      all : (k : ℕ) → is_some (segment_of stage k) ≡ true → is_some (assigned_mux routes k) ≡ true
       all zero is = absurd (cc)
       all (suc i) is = elim (cases_lt i (length routes)) [
         | inl low ↦
@@ -82,7 +82,7 @@ are_routed R stage routes given =
 -- THE RUN
 
 answered : (R : Routes) (F : Rules) (routes : List (Option MuxId)) (stage : Stage)
-    → ((k m : ℕ) (s : Segment) → mux_at routes k ≡ Some m → segment_of stage k ≡ Some s → R k s.flow m)
+    → ((k m : ℕ) (s : Segment) → assigned_mux routes k ≡ Some m → segment_of stage k ≡ Some s → R k s.flow m)
     → (fates : List Fate) (all : List Event) → AreAnswered (RoutedBy routes) F stage fates all
     → AreAnswered R F stage fates all
 answered R F routes stage route fates [] are = tt
@@ -93,7 +93,7 @@ answered R F routes stage route fates (e ∷ past) are = (
 
 -- a run whose packets have the muxes that were kept is one whose packets have those that the route gives
 pub run_routed : (R : Routes) (F : Rules) (routes : List (Option MuxId)) (h : History)
-    → ((k m : ℕ) (s : Segment) → mux_at routes k ≡ Some m → segment_of h.stage k ≡ Some s → R k s.flow m)
+    → ((k m : ℕ) (s : Segment) → assigned_mux routes k ≡ Some m → segment_of h.stage k ≡ Some s → R k s.flow m)
     → IsThreadedRun (RoutedBy routes) F h → IsThreadedRun R F h
 run_routed R F routes h route run =
     let account = run.account

@@ -38,7 +38,7 @@ use Rattle.bm_server.specs.Seats.{Seated}
 use Rattle.bm_server.specs.Servings.{Serving}
 use Rattle.bm_worker.specs.Deeds.{HasServer, Suits}
 use Rattle.bm_worker.specs.Phases.{mux_log, IsPlaced, AreCopies}
-use Rattle.bm_worker.specs.Assigned.{is_mux, mux_at}
+use Rattle.bm_worker.specs.Assigned.{is_mux, assigned_mux}
 use Rattle.bm_worker.specs.declared.worker.MuxWorker.{MuxWorker}
 use Rattle.bm_world.specs.Inside.Handed.{control_log, posted_clocks, IsControl, IsBooked, has_book, AreHandedBack}
 use Rattle.bm_world.specs.Inside.Running.{HaveHeard, AreAtWork, HaveLooked}
@@ -110,7 +110,7 @@ beyond stage (suc i) high = ap steerable (slice_get_past stage.capture.records i
 
 packet_once : (stage : Stage) (routes : List (Option MuxId)) (k : ℕ) → AreRouted stage routes
     → one_if ((ltb 0 k && leb k (length stage.capture.records))
-    && is_under (mux_at routes k) stage.script.setting.muxes)
+    && is_under (assigned_mux routes k) stage.script.setting.muxes)
     ≡ one_if (is_some (segment_of stage k))
 packet_once stage routes zero routed = refl
 packet_once stage routes (suc i) routed = elim (cases_lt (length stage.capture.records) (suc i)) [
@@ -122,9 +122,9 @@ packet_once stage routes (suc i) routed = elim (cases_lt (length stage.capture.r
   | inr low ↦
       let a : ltb 0 (suc i) ≡ true = lt-ltb _ _ (omega arith)
       in let b : leb (suc i) (length stage.capture.records) ≡ true = le-leb _ _ low
-      in rw (a, b) (go (mux_at routes (suc i)) refl (is_some (segment_of stage (suc i))) refl)
+      in rw (a, b) (go (assigned_mux routes (suc i)) refl (is_some (segment_of stage (suc i))) refl)
 ] where
-  go : (o : Option ℕ) → mux_at routes (suc i) ≡ o → (s : Bool) → is_some (segment_of stage (suc i)) ≡ s
+  go : (o : Option ℕ) → assigned_mux routes (suc i) ≡ o → (s : Bool) → is_some (segment_of stage (suc i)) ≡ s
       → one_if ((true && true) && is_under o stage.script.setting.muxes) ≡ one_if s
   go None at true is = absurd (let has = routed.given (suc i) is in let no = rw at at has in cc)
   go None at false is = refl
@@ -270,11 +270,11 @@ all_steered R F stage servers routes board p phases workers head controller carr
     in let records = length stage.capture.records
     in let sum = deeds_upto (λ n. one_if (steers_packet n.event.what k)) carriers
     in let each = seats_same (λ w. total (λ n. one_if (steers_packet n.event.what k)) (deeds_of carriers w))
-    (λ w. one_if ((ltb 0 k && leb k records) && is_mux (mux_at routes k) w)) (length carriers) (λ m low.
+    (λ w. one_if ((ltb 0 k && leb k records) && is_mux (assigned_mux routes k) w)) (length carriers) (λ m low.
     let w = there workers m (omega arith) in (end.at_work.each m w.0 w.1).steered k)
-    in let one = one_mux (ltb 0 k && leb k records) (mux_at routes k) (length carriers)
+    in let one = one_mux (ltb 0 k && leb k records) (assigned_mux routes k) (length carriers)
     in let whole : length carriers ≡ stage.script.setting.muxes = count ∙ muxes
-    in sum ∙ each ∙ one ∙ ap (λ (n : ℕ). one_if ((ltb 0 k && leb k records) && is_under (mux_at routes k) n)) whole
+    in sum ∙ each ∙ one ∙ ap (λ (n : ℕ). one_if ((ltb 0 k && leb k records) && is_under (assigned_mux routes k) n)) whole
     ∙ packet_once stage routes k end.routed
 
 all_tt : (x : List Note) → AllByRecursion (λ (n : Note). Unit {0}) x

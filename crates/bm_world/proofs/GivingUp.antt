@@ -25,7 +25,7 @@ use Rattle.bm_merge.specs.Workers.{IsBefore, IsCarrier, IsDrawn, IsMet, IsOwed}
 use Rattle.bm_merge.proofs.Noting.{total_append, each_append, each_so}
 use Rattle.bm_merge.proofs.Reaching.{one_if}
 use Rattle.bm_worker.specs.Phases.{mux_log, IsLossOf, IsMuxGiven}
-use Rattle.bm_worker.specs.Assigned.{mux_at, is_mux, is_assigned}
+use Rattle.bm_worker.specs.Assigned.{assigned_mux, is_mux, is_assigned}
 use Rattle.bm_world.specs.Inside.Handed.{IsCarriage, IsMuxGivenBy}
 use Rattle.bm_world.specs.Inside.Left.{IsSyncIn, IsMuxClocked, IsSteerable, IsLeft, IsSynced}
 use Rattle.bm_world.proofs.Deeds.{IsAmong, all_among}
@@ -140,16 +140,16 @@ is_one true one = refl
 is_one false one = absurd (omega arith)
 
 assigned_known : (stage : Stage) (routes : List (Option MuxId)) (m from until k : ℕ)
-    → ((k m : ℕ) → mux_at routes k ≡ Some m → is_some (segment_of stage k) ≡ true)
+    → ((k m : ℕ) → assigned_mux routes k ≡ Some m → is_some (segment_of stage k) ≡ true)
     → is_assigned routes m from until k ≡ true → is_some (segment_of stage k) ≡ true
 assigned_known stage routes m from until k steerable is =
-    go (mux_at routes k) refl ((and_parts (ltb from k && leb k until) (is_mux (mux_at routes k) m) is).1) where
-      go : (o : Option ℕ) → mux_at routes k ≡ o → is_mux o m ≡ true → is_some (segment_of stage k) ≡ true
+    go (assigned_mux routes k) refl ((and_parts (ltb from k && leb k until) (is_mux (assigned_mux routes k) m) is).1) where
+      go : (o : Option ℕ) → assigned_mux routes k ≡ o → is_mux o m ≡ true → is_some (segment_of stage k) ≡ true
       go None at h = absurd (cc)
       go (Some i) at h = steerable k i at
 
 steerable_of : (stage : Stage) (routes : List (Option MuxId)) (m until : ℕ) (deeds : List Note)
-    → ((k m : ℕ) → mux_at routes k ≡ Some m → is_some (segment_of stage k) ≡ true)
+    → ((k m : ℕ) → assigned_mux routes k ≡ Some m → is_some (segment_of stage k) ≡ true)
     → ((k : ℕ) → many (λ n. steers_packet n.event.what k) deeds ≡ one_if (is_assigned routes m 0 until k))
     → (n : Note) → IsAmong deeds n → (what : What) → n.event.what ≡ what → IsSteerable stage what
 steerable_of stage routes m until deeds known steered n among (Steer k x) is =
@@ -173,7 +173,7 @@ two P Q S (n ∷ x) f ps qs = (f n ps.0 qs.0, two P Q S x f ps.1 qs.1)
 -- a worker that did whole phases leaves this, with a log of the controller that has gone on
 pub left_of : (R : Routes) (F : Rules) (stage : Stage) (routes : List (Option MuxId)) (control y : List Event)
     (posts posts' : List ℕ) (m until : ℕ) (deeds : List Note)
-    → ((k m : ℕ) → mux_at routes k ≡ Some m → is_some (segment_of stage k) ≡ true)
+    → ((k m : ℕ) → assigned_mux routes k ≡ Some m → is_some (segment_of stage k) ≡ true)
     → ((k : ℕ) → many (λ n. steers_packet n.event.what k) deeds ≡ one_if (is_assigned routes m 0 until k))
     → IsPrefix posts posts' → IsCarriage R F stage control posts m deeds
     → IsLeft F stage (y ++ control) posts' m deeds
@@ -190,7 +190,7 @@ left_of R F stage routes control y posts posts' m until deeds known steered more
 }
 
 pub assigned_steerable : (stage : Stage) (routes : List (Option MuxId)) (m from until : ℕ) (what : What)
-    → ((k m : ℕ) → mux_at routes k ≡ Some m → is_some (segment_of stage k) ≡ true)
+    → ((k m : ℕ) → assigned_mux routes k ≡ Some m → is_some (segment_of stage k) ≡ true)
     → ((k : ℕ) (x : MuxId) → what ≡ Steer k x → is_assigned routes m from until k ≡ true) → IsSteerable stage what
 assigned_steerable stage routes m from until (Steer k x) known assigned =
     assigned_known stage routes m from until k known (assigned k x refl)

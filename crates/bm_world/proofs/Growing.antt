@@ -28,7 +28,7 @@ use Rattle.bm_merge.proofs.Owing.{now_in_phase}
 use Rattle.bm_merge.proofs.Reaching.{one_if}
 use Rattle.bm_mux.specs.Muxes.{post_clock}
 use Rattle.bm_worker.specs.Phases.{mux_log, IsInOrder, IsMuxGiven}
-use Rattle.bm_worker.specs.Assigned.{RoutedBy, mux_at}
+use Rattle.bm_worker.specs.Assigned.{RoutedBy, assigned_mux}
 use Rattle.bm_world.specs.Inside.Handed.{IsMuxGivenBy, IsPhasedBy, IsCarriage}
 use Rattle.bm_world.proofs.Homes.{home_append}
 
@@ -208,10 +208,10 @@ carrier_append R F stage m x y a b = record {
 
 -- the route gave what is kept of it
 pub routed_one : (R : Routes) (routes : List (Option MuxId)) (stage : Stage)
-    → ((k m : ℕ) (s : Segment) → mux_at routes k ≡ Some m → segment_of stage k ≡ Some s → R k s.flow m)
+    → ((k m : ℕ) (s : Segment) → assigned_mux routes k ≡ Some m → segment_of stage k ≡ Some s → R k s.flow m)
     → (what : What) → IsRouted (RoutedBy routes) stage what → IsRouted R stage what
 routed_one R routes stage route (Steer k m) is = go (segment_of stage k) refl is where
-  go : (o : Option Segment) → segment_of stage k ≡ o → IfSome o (λ s. mux_at routes k ≡ Some m.0)
+  go : (o : Option Segment) → segment_of stage k ≡ o → IfSome o (λ s. assigned_mux routes k ≡ Some m.0)
       → IfSome o (λ s. R k s.flow m.0)
   go None here h = tt
   go (Some s) here h = route k m.0 s h here
@@ -224,7 +224,7 @@ routed_one R routes stage route (Retire server h moment result) is = tt
 routed_one R routes stage route Sync is = tt
 
 pub carrier_routed : (R : Routes) (F : Rules) (routes : List (Option MuxId)) (stage : Stage) (m : ℕ) (x : List Note)
-    → ((k m : ℕ) (s : Segment) → mux_at routes k ≡ Some m → segment_of stage k ≡ Some s → R k s.flow m)
+    → ((k m : ℕ) (s : Segment) → assigned_mux routes k ≡ Some m → segment_of stage k ≡ Some s → R k s.flow m)
     → IsCarrier (RoutedBy routes) F stage m x → IsCarrier R F stage m x
 carrier_routed R F routes stage m x route c = record {
   kinds = c.kinds;

@@ -35,7 +35,7 @@ use Rattle.bm_publish.specs.Posts.{Posted, last_version}
 use Rattle.bm_server.specs.Seats.{row}
 use Rattle.std.proofs.Common.{map}
 use Rattle.std.proofs.lemmas.Bool.{le-leb, lt-leb, lt-ltb, le-ltb}
-use Rattle.bm_worker.specs.Assigned.{is_mux, is_assigned, mux_at, RoutedBy}
+use Rattle.bm_worker.specs.Assigned.{is_mux, is_assigned, assigned_mux, RoutedBy}
 use Rattle.bm_worker.specs.declared.worker.MuxWorker.{MuxWorker}
 use Rattle.bm_world.specs.Inside.Handed.{control_log}
 use Rattle.bm_world.specs.Inside.Running.{HaveHeard, IsAtWork, add_deeds}
@@ -182,7 +182,7 @@ assigned_sum routes m before until k low =
           let a : ltb before k ≡ true = lt-ltb _ _ over
           in let b : ltb 0 k ≡ true = lt-ltb _ _ (omega arith)
           in let c : leb k before ≡ false = lt-leb _ _ over
-          in rw (a, b, c) (go (leb k until) (is_mux (mux_at routes k) m))
+          in rw (a, b, c) (go (leb k until) (is_mux (assigned_mux routes k) m))
       | inr under ↦
           let a : ltb before k ≡ false = le-ltb _ _ under
           in let b : leb k before ≡ true = le-leb _ _ under
@@ -223,7 +223,7 @@ pub record HasDone (F : Rules) (stage : Stage) (servers : List Serving) (routes 
 pub at_work_more : (R : Routes) (F : Rules) (stage : Stage) (servers : List Serving) (routes : List (Option MuxId))
     (control y : List Event) (board : Book) (p phases m : ℕ) (span : Span) (told : Posted) (old now : MuxWorker)
     (deeds x : List Note)
-    → ((k m : ℕ) (s : Segment) → mux_at routes k ≡ Some m → segment_of stage k ≡ Some s → R k s.flow m)
+    → ((k m : ℕ) (s : Segment) → assigned_mux routes k ≡ Some m → segment_of stage k ≡ Some s → R k s.flow m)
     → ((k : ℕ) → span.from < k → k ≤ span.until → phase_of stage k ≡ p)
     → span.from ≤ span.until → sync_clock (y ++ control) ≡ span.after.0
     → newest_before (y ++ control) ≡ last_version told → counts (y ++ control) is_sync ≡ p

@@ -30,7 +30,7 @@ use Rattle.bm_publish.specs.Posts.{Posted, last_version}
 use Rattle.bm_server.specs.Servings.{Serving}
 use Rattle.bm_worker.specs.Deeds.{clock_of}
 use Rattle.bm_worker.specs.Phases.{IsDeed, stint_of}
-use Rattle.bm_worker.specs.Assigned.{mux_at}
+use Rattle.bm_worker.specs.Assigned.{assigned_mux}
 use Rattle.bm_worker.specs.declared.span.Span.{Span}
 use Rattle.bm_worker.specs.declared.worker.MuxWorker.{MuxWorker}
 use Rattle.bm_world.specs.Inside.Handed.{control_log}
@@ -68,7 +68,7 @@ worker_at l m low = there l m low
 pub all_at_work_more : (R : Routes) (F : Rules) (stage : Stage) (servers : List Serving) (routes : List (Option MuxId))
     (board : Book) (p phases : ℕ) (span : Span) (told : Posted) (old now : List MuxWorker)
     (controller x : List Note) (carriers more : List (List Note))
-    → ((k m : ℕ) (s : Segment) → mux_at routes k ≡ Some m → segment_of stage k ≡ Some s → R k s.flow m)
+    → ((k m : ℕ) (s : Segment) → assigned_mux routes k ≡ Some m → segment_of stage k ≡ Some s → R k s.flow m)
     → ((k : ℕ) → span.from < k → k ≤ span.until → phase_of stage k ≡ p) → span.from ≤ span.until
     → AreApart stage span.after.0 (last_version told) controller carriers → AreOfPhase span.after.0 x
     → HaveDone F stage servers routes span told old now more

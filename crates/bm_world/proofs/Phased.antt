@@ -23,7 +23,7 @@ use Rattle.bm_publish.specs.Posts.{Posted, last_version}
 use Rattle.bm_server.specs.Servings.{Serving}
 use Rattle.bm_worker.specs.Deeds.{clock_of, Suits}
 use Rattle.bm_worker.specs.Phases.{HasEnded, HasWorked, stint_of}
-use Rattle.bm_worker.specs.Assigned.{RoutedBy, mux_at}
+use Rattle.bm_worker.specs.Assigned.{RoutedBy, assigned_mux}
 use Rattle.bm_worker.specs.declared.span.Span.{Span}
 use Rattle.bm_worker.specs.declared.stop.Stop.{Stop}
 use Rattle.bm_worker.specs.declared.worker.MuxWorker.{MuxWorker}
@@ -285,7 +285,7 @@ pub record IsMeeting (F : Rules) (stage : Stage) (servers : List Serving) (route
     (posted : Posted) (head : Head) (workers : List MuxWorker) (until : ℕ) : Type 0 where
   pub sound : IsSound stage
   pub suits : Suits stage servers
-  pub steerable : (k m : ℕ) → mux_at routes k ≡ Some m → is_some (segment_of stage k) ≡ true
+  pub steerable : (k m : ℕ) → assigned_mux routes k ≡ Some m → is_some (segment_of stage k) ≡ true
   pub p : ℕ
   pub controller : List Note
   pub carriers : List (List Note)
@@ -331,7 +331,7 @@ met_fewer F stage servers routes posted head b workers until start TooLate is me
 pub phase_meets : (F : Rules) (stage : Stage) (servers : List Serving) (routes : List (Option MuxId))
     (posted q : Posted) (head b : Head) (old now : List MuxWorker) (span : Span) (place : ℕ)
     → IsSound stage → Suits stage servers
-    → ((k m : ℕ) → mux_at routes k ≡ Some m → is_some (segment_of stage k) ≡ true)
+    → ((k m : ℕ) → assigned_mux routes k ≡ Some m → is_some (segment_of stage k) ≡ true)
     → (between : IsBetween F stage servers routes posted head old span.from)
     → span.after.0 ≡ head.porter.latest → span.from ≤ span.until → span.until ≤ length stage.capture.records
     → ((k : ℕ) → span.from < k → k ≤ span.until → phase_of stage k ≡ between.p)

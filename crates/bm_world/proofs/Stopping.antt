@@ -29,7 +29,7 @@ use Rattle.bm_worker.specs.Deeds.{clock_of}
 use Rattle.bm_worker.specs.Phases.{AreCopies, AreFew, HasEnded, HasWorked, IsDeed, IsLossOf}
 use Rattle.bm_worker.specs.Phases.{IsPlaced as IsCarriedAt}
 use Rattle.bm_worker.specs.Phases.{IsStopOf, IsAssigned, Kept, Stint, is_steer, mux_log, mux_for, stint_of}
-use Rattle.bm_worker.specs.Assigned.{RoutedBy, is_assigned, mux_at}
+use Rattle.bm_worker.specs.Assigned.{RoutedBy, is_assigned, assigned_mux}
 use Rattle.bm_worker.specs.declared.span.Span.{Span}
 use Rattle.bm_worker.specs.declared.stop.Stop.{Stop}
 use Rattle.bm_worker.specs.declared.stop.Stop.TheVariants.{Late, Memory}
@@ -94,7 +94,7 @@ record IsPart (F : Rules) (stage : Stage) (servers : List Serving) (routes : Lis
 
 at_part : (F : Rules) (stage : Stage) (servers : List Serving) (routes : List (Option MuxId)) (control : List Event)
     (board : Board) (phases until m : ℕ) (w : MuxWorker) (deeds : List Note)
-    → ((k m : ℕ) → mux_at routes k ≡ Some m → is_some (segment_of stage k) ≡ true)
+    → ((k m : ℕ) → assigned_mux routes k ≡ Some m → is_some (segment_of stage k) ≡ true)
     → IsAtWork (RoutedBy routes) F stage servers routes control board phases until m w deeds
     → IsPart F stage servers routes control board phases until m w deeds
 at_part F stage servers routes control board phases until m w deeds known at = record {
@@ -122,7 +122,7 @@ assigned_at stint what k i is assigned = subst (λ (w : What). IsAssigned stint 
 kept_left : (F : Rules) (stage : Stage) (servers : List Serving) (routes : List (Option MuxId))
     (control y : List Event) (board : Board) (phases m : ℕ) (span : Span) (posted : Posted) (old now : MuxWorker)
     (x deeds : List Note)
-    → ((k m : ℕ) → mux_at routes k ≡ Some m → is_some (segment_of stage k) ≡ true)
+    → ((k m : ℕ) → assigned_mux routes k ≡ Some m → is_some (segment_of stage k) ≡ true)
     → sync_clock control ≡ span.after.0
     → Kept F stage servers (stint_of routes span posted (told_what posted old)) now x
     → IsAtWork (RoutedBy routes) F stage servers routes control board phases span.from m old deeds
@@ -191,7 +191,7 @@ kept_steered F stage servers routes control board phases m span posted old now x
 worked_part : (F : Rules) (stage : Stage) (servers : List Serving) (routes : List (Option MuxId))
     (control y : List Event) (board : Board) (phases m : ℕ) (span : Span) (posted : Posted) (old now : MuxWorker)
     (deeds : List Note)
-    → ((k m : ℕ) → mux_at routes k ≡ Some m → is_some (segment_of stage k) ≡ true)
+    → ((k m : ℕ) → assigned_mux routes k ≡ Some m → is_some (segment_of stage k) ≡ true)
     → span.from ≤ span.until → sync_clock control ≡ span.after.0
     → HasWorked F stage servers routes span (told_what posted old) now
     → IsAtWork (RoutedBy routes) F stage servers routes control board phases span.from m old deeds
@@ -282,7 +282,7 @@ led_large led latest (Late moment clock) not is from =
 pub gives_up : (F : Rules) (stage : Stage) (servers : List Serving) (routes : List (Option MuxId)) (posted q : Posted)
     (head b : Head) (old now : List MuxWorker) (span : Span) (led : Result (Unit {0}) Stop)
     → IsSound stage
-    → ((k m : ℕ) → mux_at routes k ≡ Some m → is_some (segment_of stage k) ≡ true)
+    → ((k m : ℕ) → assigned_mux routes k ≡ Some m → is_some (segment_of stage k) ≡ true)
     → IsBetween F stage servers routes posted head old span.from
     → span.after.0 ≡ head.porter.latest → span.from ≤ span.until → span.until ≤ length stage.capture.records
     → UnlessMemory led (HasLed stage servers posted q head b)
@@ -387,7 +387,7 @@ latest_under (w ∷ workers) top each =
 pub too_late_to_sync : (F : Rules) (stage : Stage) (servers : List Serving) (routes : List (Option MuxId))
     (posted : Posted) (head : Head) (workers : List MuxWorker) (p phases until : ℕ) (controller : List Note)
     (carriers : List (List Note)) (moment clock : Moment) → IsSound stage
-    → ((k m : ℕ) → mux_at routes k ≡ Some m → is_some (segment_of stage k) ≡ true)
+    → ((k m : ℕ) → assigned_mux routes k ≡ Some m → is_some (segment_of stage k) ≡ true)
     → until ≤ length stage.capture.records → phases ≤ suc p
     → IsStanding F stage servers routes posted head workers p phases until controller carriers
     → IsStopFrom (9 * 10 ^ 18) (max head.porter.latest (latest_in workers)) (Late moment clock)

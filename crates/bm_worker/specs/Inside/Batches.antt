@@ -32,7 +32,7 @@ use Rattle.bm_worker.specs.Inside.Debts.{Debt, IsAmong, IsCopyOf, IsUpTo, comes,
 use Rattle.bm_worker.specs.Inside.Debts.{copyless_at}
 use Rattle.bm_worker.specs.Inside.Debts.{debt, gives, gives_by, lost_at}
 use Rattle.bm_worker.specs.Phases.{AreFew, HasEnded, IsStopOf, Kept, Stint, mux_for}
-use Rattle.bm_worker.specs.Assigned.{is_assigned, mux_at}
+use Rattle.bm_worker.specs.Assigned.{is_assigned, assigned_mux}
 
 -- WHAT THE MUX TAKES
 
@@ -49,7 +49,7 @@ last_packet low (i ∷ items) = last_packet i.packet items
 -- a packet of the mux, as the stage and the octets have it
 pub record IsItemOf (stage : Stage) (routes : List (Option MuxId)) (m : ℕ) (i : MuxItem) : Type
     0 where
-  pub assigned : mux_at routes i.packet ≡ Some m
+  pub assigned : assigned_mux routes i.packet ≡ Some m
   pub moment : i.moment.0 ≡ record_moment stage i.packet
   pub segment : segment_of stage i.packet ≡ Some i.segment
   pub reads : ReadsAs i.inner.now i.segment
@@ -70,7 +70,7 @@ pub record AreCollected (F : Rules) (stage : Stage) (routes : List (Option MuxId
   pub under : last_packet from items ≤ end
   pub each : AllByRecursion (IsItemOf stage routes m) items
   pub drawn : AreDrawn F items fates
-  pub turns : (k : ℕ) → count_of (λ (i : MuxItem). i.packet == k) items
+  pub once : (k : ℕ) → count_of (λ (i : MuxItem). i.packet == k) items
       ≡ (if is_assigned routes m from end k then 1 else 0)
   -- no more than the places
   pub count : from + length items ≤ end

@@ -6,7 +6,7 @@ use Rattle.bm_base.specs.declared.ids.MuxId.{MuxId}
 use Rattle.bm_core.specs.declared.events.Stage.{Stage}
 use Rattle.bm_core.specs.Accounts.{Routes}
 use Rattle.bm_core.specs.Past.{segment_of}
-use Rattle.bm_worker.specs.Assigned.{mux_at}
+use Rattle.bm_worker.specs.Assigned.{assigned_mux}
 
 -- a steerable packet is given a mux that the route may answer, and no other is given one
 abbrev pub IsGivenTo : Routes → Stage → ℕ → ℕ → Option MuxId → Type 0
@@ -23,7 +23,7 @@ pub record AreGiven (R : Routes) (stage : Stage) (muxes : ℕ) (routes : List (O
 
 -- each steerable packet has a mux, and no other packet has one
 pub record AreRouted (stage : Stage) (routes : List (Option MuxId)) : Type 0 where
-  pub below : (k m : ℕ) → mux_at routes k ≡ Some m → m < stage.script.setting.muxes
-  pub steerable : (k m : ℕ) → mux_at routes k ≡ Some m → is_some (segment_of stage k) ≡ true
-  pub given : (k : ℕ) → is_some (segment_of stage k) ≡ true → is_some (mux_at routes k) ≡ true
+  pub below : (k m : ℕ) → assigned_mux routes k ≡ Some m → m < stage.script.setting.muxes
+  pub steerable : (k m : ℕ) → assigned_mux routes k ≡ Some m → is_some (segment_of stage k) ≡ true
+  pub given : (k : ℕ) → is_some (segment_of stage k) ≡ true → is_some (assigned_mux routes k) ≡ true
   pub count : length routes ≡ length stage.capture.records

@@ -37,18 +37,18 @@ loop-at-preserved g c =
           i.all;
     }
 
-pub is_assigned-requires : goal.is_assigned-requires
-is_assigned-requires g c =
+pub is_assigned_to-requires : goal.is_assigned_to-requires
+is_assigned_to-requires g c =
     let many = c.requires.run.count in let until = c.requires.until.1 in let test = c.loop-at-test.true in
     omega (arith, many, until, test)
 
-pub loop-at-preserved-then-not-is_assigned : goal.loop-at-preserved-then-not-is_assigned
-loop-at-preserved-then-not-is_assigned g c =
+pub loop-at-preserved-then-not-is_assigned_to : goal.loop-at-preserved-then-not-is_assigned_to
+loop-at-preserved-then-not-is_assigned_to g c =
     let i = c.loop-at.invariant in record {
       at = let le = i.at in omega (arith, le);
       all = collected_skip (Gives g.F.Fn c.args.shared.now.faults.now.rule) c.args.shared.now.stage.now
           c.args.shared.now.routes.now c.args.mux.0 c.args.from c.loop-at.at c.loop-at.items.items
-          c.loop-at.fates.items (sym c.if-not-is_assigned.ensures) i.all;
+          c.loop-at.fates.items (sym c.if-not-is_assigned_to.ensures) i.all;
     }
 
 pub item_at-item-requires-clause-at : goal.item_at-item-requires-clause-at
@@ -56,7 +56,7 @@ item_at-item-requires-clause-at g c =
     let until = c.requires.until.1 in let test = c.loop-at-test.true in omega (arith, until, test)
 
 pub item_at-item-requires-clause-assigned : goal.item_at-item-requires-clause-assigned
-item_at-item-requires-clause-assigned g c = sym c.if-not-is_assigned.ensures
+item_at-item-requires-clause-assigned g c = sym c.if-not-is_assigned_to.ensures
 
 pub returns-clause-all : goal.returns-clause-all
 returns-clause-all g c =
