@@ -17,6 +17,7 @@ use Rattle.bm_cli.specs.Stages.{IsOutside, IsRead}
 use Rattle.bm_cli.specs.Stages.{ReadsStage, status_by}
 use Rattle.bm_cli.specs.Telling.{Tells}
 use Rattle.bm_cli.specs.Loads.{IsSummaryOf}
+use Rattle.bm_cli.specs.Lines.{usage_line}
 use Rattle.bm_cli.specs.Reading.{Holds, Octets, Reading, Reads, reading, reads_of, script_by}
 use Rattle.bm_cli.specs.Statuses.{FilesDid, SinkDid}
 use Rattle.bm_cli.proofs.Faults.{memory_line, read_line}
@@ -29,7 +30,7 @@ pub holds_more : (told : Octets) (fact more : Reads → Type 0) → ((reads : Re
     Holds told fact → Holds told more
 holds_more told fact more by h = record { reads = h.reads; known = h.known; holds = by h.reads h.holds }
 
-abbrev nothing : Reads
+abbrev pub nothing : Reads
 nothing = record {
   script = λ name. Err WantsMemory;
   capture = λ name vips. Err NoMemory;
@@ -80,27 +81,27 @@ asks_as names files by says asks is = record {
 }
 
 -- what was read of a stage was answered
-pub ends_stage : (mode : Mode) (names : Named) (reads : Reads) (files : FilesDid)
+pub ends_stage : (mode : Mode) (is : Stage → List ℕ → Type 0) (names : Named) (reads : Reads) (files : FilesDid)
     (sink : SinkDid) (r : Reading) (result : Status) → ReadsStage mode names reads files r →
-    Tells (answer_for (IsReportOf mode) r) sink result → Ends (due_of_stage mode names reads) files sink result
-ends_stage mode names reads files sink r result read tells = record {
+    Tells (answer_for is r) sink result → Ends (due_of_stage mode is names reads) files sink result
+ends_stage mode is names reads files sink r result read tells = record {
   says = tells.says;
   text = tells.text;
-  said = said_stage (IsReportOf mode) (reading mode names reads) r tells.says tells.text read.read tells.is;
+  said = said_stage is (reading mode names reads) r tells.says tells.text read.read tells.is;
   writes = tells.writes;
   asks =
       asks_as (names_behind names (script_by mode reads names.script)) files (status_by r) tells.says read.asks
-      (says_read (IsReportOf mode) r tells.says tells.text tells.is);
+      (says_read is r tells.says tells.text tells.is);
 }
 
 pub play_ends : (mode : Mode) (names : Named) (told : Octets) (files : FilesDid)
     (sink : SinkDid) (r : Reading) (result : Status) →
     Holds told (λ reads. ReadsStage mode names reads files r) → Tells (answer_for (IsReportOf mode) r) sink result →
-    Holds told (λ reads. Ends (due_of_stage mode names reads) files sink result)
+    Holds told (λ reads. Ends (due_of_stage mode (IsReportOf mode) names reads) files sink result)
 play_ends mode names told files sink r result read tells =
     holds_more told (λ reads. ReadsStage mode names reads files r)
-    (λ reads. Ends (due_of_stage mode names reads) files sink result)
-    (λ reads stage. ends_stage mode names reads files sink r result stage tells) read
+    (λ reads. Ends (due_of_stage mode (IsReportOf mode) names reads) files sink result)
+    (λ reads stage. ends_stage mode (IsReportOf mode) names reads files sink r result stage tells) read
 
 -- NO FILE IS READ
 
@@ -144,6 +145,14 @@ ends_unread answer asked fails sink result not tells = record {
     unread (inl said) = λ e. not (sym said.0 ∙ e)
     unread (inr none) = λ e. let no : Memory ≡ ReadFault = sym none.0 ∙ e in cc
 
+-- the same, by some reads
+pub unread_ends : (answer : Answer) (told : Octets) (asked : Option (List (List ℕ))) (fails : ℕ) (sink : SinkDid)
+    (result : Status) → status_of answer ≢ ReadFault → Tells answer sink result →
+    Holds told (λ reads. Ends (record { names = []; answer = answer }) (untouched asked fails) sink result)
+unread_ends answer told asked fails sink result not tells =
+    holds_any told (λ reads. Ends (record { names = []; answer = answer }) (untouched asked fails) sink result)
+    (λ reads. ends_unread answer asked fails sink result not tells)
+
 -- THE WORDS
 
 -- what the words ask for was answered
@@ -155,20 +164,18 @@ words_end form words told files sink result same ends =
     subst (λ f. Holds told (λ reads. Ends (due f reads) files sink result)) same ends
 
 pub usage_ends : (words : Option Asked) (told : Octets) (asked : Option (List (List ℕ))) (fails : ℕ)
-    (sink : SinkDid) (result : Status) → None ≡ words → Tells Misused sink result →
+    (sink : SinkDid) (result : Status) → None ≡ words → Tells (Misused usage_line) sink result →
     Holds told (λ reads. Ends (due words reads) (untouched asked fails) sink result)
 usage_ends words told asked fails sink result none tells =
     words_end None words told (untouched asked fails) sink result none
-    (holds_any told (λ reads. Ends (due None reads) (untouched asked fails) sink result)
-    (λ reads. ends_unread Misused asked fails sink result (λ e. cc) tells))
+    (unread_ends (Misused usage_line) told asked fails sink result (λ e. cc) tells)
 
 -- the line of a load was answered
 pub load_ends : (n : ℕ) (told : Octets) (asked : Option (List (List ℕ))) (fails : ℕ) (sink : SinkDid)
     (result : Status) → Tells (Shown (IsSummaryOf n)) sink result →
     Holds told (λ reads. Ends (due (Some (Load n)) reads) (untouched asked fails) sink result)
 load_ends n told asked fails sink result tells =
-    holds_any told (λ reads. Ends (due (Some (Load n)) reads) (untouched asked fails) sink result)
-    (λ reads. ends_unread (Shown (IsSummaryOf n)) asked fails sink result (λ e. cc) tells)
+    unread_ends (Shown (IsSummaryOf n)) told asked fails sink result (λ e. cc) tells
 
 pub memory_ends : (words : Option Asked) (told : Octets) (asked : Option (List (List ℕ))) (fails : ℕ)
     (before : Option (List ℕ)) (faults : ℕ) →

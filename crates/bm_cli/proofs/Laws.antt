@@ -1,28 +1,25 @@
--- The clauses of `beamer`, by how the call ended.
-use Rattle.std.proofs.Common.{◌≡◌, ◌≢◌, ◌⊎◌, inl, inr, ℕ, List, [], Option, Some, None, Result, Ok, Err}
-use Rattle.std.proofs.Common.{IsSome, sym, ap, subst, ◌∙◌, refl, ◌≤◌}
+-- The clauses of a top call, by what is due and by how the call ended.
+use Rattle.std.proofs.Common.{◌≡◌, ◌≢◌, ◌⊎◌, inl, inr, ℕ, List, [], Option, Result, Ok, Err}
+use Rattle.std.proofs.Common.{sym, ap, subst, ◌∙◌, refl, ◌≤◌}
 use Rattle.std.specs.Io.KnownBytes.{Appends}
 use Rattle.bm_io.specs.Causes.{Rose}
-use Rattle.bm_words.specs.Form.{Asked, Load, Named, Replay, Run}
+use Rattle.bm_words.specs.Form.{Named}
 use Rattle.bm_table.specs.declared.script.Script.{Script}
 use Rattle.bm_core.specs.declared.events.Stage.{Stage}
 use Rattle.bm_cli.specs.Captures.{Captured}
 use Rattle.bm_cli.specs.declared.fault.StageFault.{StageFault}
 use Rattle.bm_cli.specs.declared.fault.StageFault.TheVariants.{Files}
-use Rattle.bm_cli.specs.declared.mode.Mode.TheVariants.{Replay as by_replay, Run as by_run}
 use Rattle.bm_cli.specs.declared.status.Status.{Status}
 use Rattle.bm_cli.specs.declared.status.Status.TheVariants.{Done, Usage, ReadFault, BadCapture}
 use Rattle.bm_cli.specs.declared.status.Status.TheVariants.{BadScript, WriteFault, Memory, Limit}
-use Rattle.bm_cli.specs.Dues.{Answer, Due, Misused, Refused, Shown, answer_for, due, names_behind, status_of}
-use Rattle.bm_cli.specs.Dues.{text_of}
+use Rattle.bm_cli.specs.Dues.{Answer, Due, Misused, Refused, Shown, answer_for, names_behind, status_of, text_of}
 use Rattle.bm_cli.specs.Ends.{Ends, EndsWith, IsSaid}
-use Rattle.bm_cli.specs.Headline.{IsReportOf}
-use Rattle.bm_cli.specs.Lines.{fault_line, usage_line}
+use Rattle.bm_cli.specs.Lines.{fault_line}
 use Rattle.bm_cli.specs.Names.{AsksAll, AsksPrefix, script_names}
-use Rattle.bm_cli.specs.Reading.{Holds, Octets, Reading, Reads, reading, reads_of, script_by, with_capture}
+use Rattle.bm_cli.specs.Reading.{Holds, Octets, Reading, Reads, with_capture}
 use Rattle.bm_cli.specs.Reading.{with_script}
 use Rattle.bm_cli.specs.Statuses.{code_of, FilesDid, SinkDid}
-use Rattle.bm_cli.specs.Top.{IsAccepted, IsStatusOf, RefusesAnswer, ShowsAnswer, WritesSome, scripts_in}
+use Rattle.bm_cli.specs.Top.{IsAccepted, IsStatusOf, RefusesAnswer, ShowsAnswer, WritesSome}
 use Rattle.bm_cli.proofs.Ending.{holds_more}
 use Rattle.bm_cli.proofs.Faults.{capture_no_script, of_fault, read_line}
 use Rattle.bm_cli.proofs.Statuses.{code_below, same_code, says_is}
@@ -62,7 +59,7 @@ module _ (wanted : Due) (files : FilesDid) (sink : SinkDid) (s : Status) (ends :
 
 pub shown_answer : (answer : Answer) (before now : Option (List ℕ)) (text : List ℕ) → Done ≡ status_of answer →
     text_of answer text → Appends before now text → ShowsAnswer answer before now
-shown_answer Misused before now text e is written = absurd (cc)
+shown_answer (Misused line) before now text e is written = absurd (cc)
 shown_answer (Refused fault) before now text e is written = absurd ((of_fault fault).done (sym e))
 shown_answer (Shown is) before now text e shown written =
     record { octets = text; report = shown; written = written }
@@ -71,7 +68,7 @@ pub refused_answer : (answer : Answer) (s : Status) (before now : Option (List �
     s ≢ Done →
     s ≡ status_of answer → text_of answer text → Appends before now text →
     RefusesAnswer answer (code_of s) before now
-refused_answer Misused s before now text usage done e is written = absurd (usage e)
+refused_answer (Misused line) s before now text usage done e is written = absurd (usage e)
 refused_answer (Refused fault) s before now text usage done e is written =
     (ap code_of e, subst (λ l. Appends before now l) is written)
 refused_answer (Shown of) s before now text usage done e is written = absurd (done e)
@@ -79,7 +76,7 @@ refused_answer (Shown of) s before now text usage done e is written = absurd (do
 -- the line of a read that failed
 pub line_said : (answer : Answer) (says : Status) (text : List ℕ) → says ≡ ReadFault → IsSaid answer says text →
     text ≡ fault_line Files
-line_said Misused says text e (inl (inl due)) = let no : ReadFault ≡ Usage = sym e ∙ due.0 in absurd (cc)
+line_said (Misused line) says text e (inl (inl due)) = let no : ReadFault ≡ Usage = sym e ∙ due.0 in absurd (cc)
 line_said (Refused fault) says text e (inl (inl due)) = due.1 ∙ read_line fault (sym due.0 ∙ e)
 line_said (Shown of) says text e (inl (inl due)) = let no : ReadFault ≡ Done = sym e ∙ due.0 in absurd (cc)
 line_said answer says text e (inl (inr none)) = let no : ReadFault ≡ Memory = sym e ∙ none.0 in absurd (cc)
@@ -97,31 +94,19 @@ some_said wanted files sink s ends (inr line) =
 
 -- THE STATUS
 
-pub status_said : (s says : Status) (answer : Answer) (text : List ℕ) →
-    (s ≡ says) ⊎ (s ≡ WriteFault) ⊎ (s ≡ Memory) → IsSaid answer says text → IsStatusOf answer (code_of s)
-status_said s says answer text (inl e) (inl (inl due)) = inl (ap code_of (e ∙ due.0))
-status_said s says answer text (inl e) (inl (inr none)) = inr (inr (inr (ap code_of (e ∙ none.0))))
-status_said s says answer text (inl e) (inr line) = inr (inl (ap code_of (e ∙ line.0)))
-status_said s says answer text (inr (inl e)) is = inr (inr (inl (ap code_of e)))
-status_said s says answer text (inr (inr e)) is = inr (inr (inr (ap code_of e)))
+pub status_said : (wanted : Due) (s says : Status) (text : List ℕ) →
+    (s ≡ says) ⊎ (s ≡ WriteFault) ⊎ (s ≡ Memory) → (says ≡ ReadFault → wanted.names ≢ []) →
+    IsSaid wanted.answer says text → IsStatusOf wanted (code_of s)
+status_said wanted s says text (inl e) opens (inl (inl due)) = inl (ap code_of (e ∙ due.0))
+status_said wanted s says text (inl e) opens (inl (inr none)) = inr (inr (inr (ap code_of (e ∙ none.0))))
+status_said wanted s says text (inl e) opens (inr line) = inr (inl (ap code_of (e ∙ line.0), opens line.0))
+status_said wanted s says text (inr (inl e)) opens is = inr (inr (inl (ap code_of e)))
+status_said wanted s says text (inr (inr e)) opens is = inr (inr (inr (ap code_of e)))
 
--- the usage line is due for the words of no form alone
+-- no usage line is due of a stage
 pub stage_usage : (is : Stage → List ℕ → Type 0) (r : Reading) → Usage ≢ status_of (answer_for is r)
 stage_usage is (Ok stage) = λ e. cc
 stage_usage is (Err fault) = λ e. (of_fault fault).usage (sym e)
-
-usage_form : (form : Option Asked) (reads : Reads) → Usage ≡ status_of (due form reads).answer → form ≡ None
-usage_form None reads e = refl
-usage_form (Some (Replay names)) reads e = absurd (stage_usage (IsReportOf by_replay) (reading by_replay names reads) e)
-usage_form (Some (Run capture script)) reads e =
-    absurd (stage_usage (IsReportOf by_run)
-    (reading by_run (record { capture = capture; script = Some script }) reads) e)
-usage_form (Some (Load n)) reads e = absurd (cc)
-
--- no file is named by the words of no form
-named_form : (form : Option Asked) (reads : Reads) → (due form reads).names ≢ [] → IsSome form
-named_form None reads opens = absurd (opens refl)
-named_form (Some asked) reads opens = refl
 
 -- a bad script is due where the script's name alone is
 capture_names : (is : Stage → List ℕ → Type 0) (names : Named) (script : Script) (r : Captured) →
@@ -136,28 +121,18 @@ stage_names is names reads (Ok script) e =
     absurd (capture_names is names script (reads.capture names.capture script.setting.vips) e)
 stage_names is names reads (Err fault) e = refl
 
-script_due : (form : Option Asked) (reads : Reads) → status_of (due form reads).answer ≡ BadScript →
-    (due form reads).names ≡ scripts_in form
-script_due None reads e = absurd (cc)
-script_due (Some (Replay names)) reads e =
-    stage_names (IsReportOf by_replay) names reads (script_by by_replay reads names.script) e
-script_due (Some (Run capture script)) reads e =
-    stage_names (IsReportOf by_run) (record { capture = capture; script = Some script }) reads
-    (script_by by_run reads (Some script)) e
-script_due (Some (Load n)) reads e = absurd (cc)
-
 -- BY THE EXIT STATUS
 
-module _ (form : Option Asked) (told : Octets) (files : FilesDid) (sink : SinkDid) (code : ℕ) where
+module _ (due : Reads → Due) (told : Octets) (files : FilesDid) (sink : SinkDid) (code : ℕ) where
   abbrev Ended : Type 0
-  Ended = Holds told (λ reads. EndsWith (due form reads) files sink code)
+  Ended = Holds told (λ reads. EndsWith (due reads) files sink code)
 
   by_status : (more : Reads → ℕ → Type 0) →
-      ((reads : Reads) (s : Status) → code ≡ code_of s → Ends (due form reads) files sink s →
+      ((reads : Reads) (s : Status) → code ≡ code_of s → Ends (due reads) files sink s →
       more reads (code_of s)) →
       Ended → Holds told (λ reads. more reads code)
   by_status more by ended =
-      holds_more told (λ reads. EndsWith (due form reads) files sink code) (λ reads. more reads code)
+      holds_more told (λ reads. EndsWith (due reads) files sink code) (λ reads. more reads code)
       (λ reads e. subst (λ n. more reads n) (sym e.is) (by reads e.status e.is e.ends)) ended
 
   -- the status of this code
@@ -165,44 +140,48 @@ module _ (form : Option Asked) (told : Octets) (files : FilesDid) (sink : SinkDi
   the s t is e = same_code s t (sym is ∙ e)
 
   pub ended : (status : Status) → code ≡ code_of status →
-      Holds told (λ reads. Ends (due form reads) files sink status) → Ended
+      Holds told (λ reads. Ends (due reads) files sink status) → Ended
   ended status is ends =
-      holds_more told (λ reads. Ends (due form reads) files sink status)
-      (λ reads. EndsWith (due form reads) files sink code)
+      holds_more told (λ reads. Ends (due reads) files sink status)
+      (λ reads. EndsWith (due reads) files sink code)
       (λ reads e. record { status = status; is = is; ends = e }) ends
 
-  pub shown : Ended → code ≡ 0 → Holds told (λ reads. ShowsAnswer (due form reads).answer sink.before sink.now)
+  pub shown : Ended → code ≡ 0 → Holds told (λ reads. ShowsAnswer (due reads).answer sink.before sink.now)
   shown all e =
-      by_status (λ reads n. ShowsAnswer (due form reads).answer sink.before sink.now)
+      by_status (λ reads n. ShowsAnswer (due reads).answer sink.before sink.now)
       (λ reads s is ends.
       let done = the s Done is e in
-      let d = dues (due form reads) files sink s ends Done (λ x. cc) (λ x. cc) (λ x. cc) done in
-      shown_answer (due form reads).answer sink.before sink.now ends.text (sym done ∙ d.0) d.1 d.2)
+      let d = dues (due reads) files sink s ends Done (λ x. cc) (λ x. cc) (λ x. cc) done in
+      shown_answer (due reads).answer sink.before sink.now ends.text (sym done ∙ d.0) d.1 d.2)
       all
 
-  pub status : Ended → Holds told (λ reads. IsStatusOf (due form reads).answer code)
+  pub status : Ended → Holds told (λ reads. IsStatusOf (due reads) code)
   status all =
-      by_status (λ reads n. IsStatusOf (due form reads).answer n)
-      (λ reads s is ends. status_said s ends.says (due form reads).answer ends.text ends.writes.ends ends.said)
+      by_status (λ reads n. IsStatusOf (due reads) n)
+      (λ reads s is ends.
+      status_said (due reads) s ends.says ends.text ends.writes.ends ends.asks.opens ends.said)
       all
 
   pub known : Ended → code ≤ 7
   known all = subst (λ n. n ≤ 7) (sym all.holds.is) (code_below all.holds.status)
 
-  pub usage : Ended → code ≡ 1 → form ≡ None
-  usage all e =
+  -- what follows where a usage line is due
+  pub usage : (Fact : Type 0) → ((reads : Reads) → Usage ≡ status_of (due reads).answer → Fact) → Ended →
+      code ≡ 1 → Fact
+  usage Fact by all e =
       let usage = the all.holds.status Usage all.holds.is e in
-      let d = dues (due form all.reads) files sink all.holds.status all.holds.ends
+      let d = dues (due all.reads) files sink all.holds.status all.holds.ends
       Usage (λ x. cc) (λ x. cc) (λ x. cc) usage in
-      usage_form form all.reads (sym usage ∙ d.0)
+      by all.reads (sym usage ∙ d.0)
 
   read_by : (all : Ended) → code ≡ 2 → all.holds.ends.says ≡ ReadFault
   read_by all e =
-      read_said (due form all.reads) files sink all.holds.status all.holds.ends
+      read_said (due all.reads) files sink all.holds.status all.holds.ends
       (the all.holds.status ReadFault all.holds.is e)
 
-  pub named : Ended → code ≡ 2 → IsSome form
-  named all e = named_form form all.reads (all.holds.ends.asks.opens (read_by all e))
+  -- what follows where a file is named
+  pub named : (Fact : Type 0) → ((reads : Reads) → (due reads).names ≢ [] → Fact) → Ended → code ≡ 2 → Fact
+  named Fact by all e = by all.reads (all.holds.ends.asks.opens (read_by all e))
 
   pub read : Ended → code ≡ 2 → Rose files.faults files.later
   read all e = all.holds.ends.asks.rose (read_by all e)
@@ -211,7 +190,7 @@ module _ (form : Option Asked) (told : Octets) (files : FilesDid) (sink : SinkDi
   files_kept all read write memory =
       let is = all.holds.is in
       let ends = all.holds.ends in
-      let said = own (due form all.reads) files sink all.holds.status ends all.holds.status
+      let said = own (due all.reads) files sink all.holds.status ends all.holds.status
       (λ e. write (is ∙ ap code_of e)) (λ e. memory (is ∙ ap code_of e)) refl in
       ends.asks.kept (λ e. read (is ∙ ap code_of (said ∙ e))) (λ e. memory (is ∙ ap code_of (said ∙ e)))
 
@@ -221,51 +200,46 @@ module _ (form : Option Asked) (told : Octets) (files : FilesDid) (sink : SinkDi
   pub kept : Ended → code ≢ 5 → sink.later ≡ sink.faults
   kept all not = all.holds.ends.writes.kept (λ e. not (all.holds.is ∙ ap code_of e))
 
-  pub usage_written : Ended → code ≡ 1 → Appends sink.before sink.now usage_line
-  usage_written all e =
+  pub usage_written : (line : List ℕ) → ((reads : Reads) (text : List ℕ) → Usage ≡ status_of (due reads).answer →
+      text_of (due reads).answer text → text ≡ line) → Ended → code ≡ 1 → Appends sink.before sink.now line
+  usage_written line by all e =
       let usage = the all.holds.status Usage all.holds.is e in
-      let d = dues (due form all.reads) files sink all.holds.status all.holds.ends
+      let d = dues (due all.reads) files sink all.holds.status all.holds.ends
       Usage (λ x. cc) (λ x. cc) (λ x. cc) usage in
-      line (due form all.reads).answer all.holds.ends.text (sym usage ∙ d.0) d.1 d.2
-    where
-      line : (answer : Answer) (text : List ℕ) → Usage ≡ status_of answer → text_of answer text →
-          Appends sink.before sink.now text → Appends sink.before sink.now usage_line
-      line Misused text e is written = subst (λ l. Appends sink.before sink.now l) is written
-      line (Refused fault) text e is written = absurd ((of_fault fault).usage (sym e))
-      line (Shown of) text e is written = absurd (cc)
+      subst (λ l. Appends sink.before sink.now l) (by all.reads all.holds.ends.text (sym usage ∙ d.0) d.1) d.2
 
   pub read_written : Ended → code ≡ 2 → Appends sink.before sink.now (fault_line Files)
   read_written all e =
       let ends = all.holds.ends in
       let is = the all.holds.status ReadFault all.holds.is e in
-      let said = own (due form all.reads) files sink all.holds.status ends ReadFault (λ x. cc) (λ x. cc) is in
+      let said = own (due all.reads) files sink all.holds.status ends ReadFault (λ x. cc) (λ x. cc) is in
       subst (λ l. Appends sink.before sink.now l)
-      (line_said (due form all.reads).answer ends.says ends.text (read_by all e) ends.said)
+      (line_said (due all.reads).answer ends.says ends.text (read_by all e) ends.said)
       (ends.writes.whole said)
 
   line_at : Ended → (t : Status) → code ≡ code_of t → t ≢ Usage → t ≢ Done → t ≢ ReadFault → t ≢ WriteFault →
-      t ≢ Memory → Holds told (λ reads. RefusesAnswer (due form reads).answer code sink.before sink.now)
+      t ≢ Memory → Holds told (λ reads. RefusesAnswer (due reads).answer code sink.before sink.now)
   line_at all t e usage done read write memory =
-      by_status (λ reads n. RefusesAnswer (due form reads).answer n sink.before sink.now)
+      by_status (λ reads n. RefusesAnswer (due reads).answer n sink.before sink.now)
       (λ reads s is ends.
       let same = the s t is e in
-      let d = dues (due form reads) files sink s ends t read write memory same in
-      refused_answer (due form reads).answer s sink.before sink.now ends.text
+      let d = dues (due reads) files sink s ends t read write memory same in
+      refused_answer (due reads).answer s sink.before sink.now ends.text
       (λ x. usage (sym same ∙ x)) (λ x. done (sym same ∙ x)) d.0 d.1 d.2)
       all
 
   pub line : Ended → (code ≡ 3) ⊎ (code ≡ 4) ⊎ (code ≡ 7) →
-      Holds told (λ reads. RefusesAnswer (due form reads).answer code sink.before sink.now)
+      Holds told (λ reads. RefusesAnswer (due reads).answer code sink.before sink.now)
   line all (inl e) = line_at all BadCapture e (λ x. cc) (λ x. cc) (λ x. cc) (λ x. cc) (λ x. cc)
   line all (inr (inl e)) = line_at all BadScript e (λ x. cc) (λ x. cc) (λ x. cc) (λ x. cc) (λ x. cc)
   line all (inr (inr e)) = line_at all Limit e (λ x. cc) (λ x. cc) (λ x. cc) (λ x. cc) (λ x. cc)
 
-  pub part : Ended → (code ≡ 5) ⊎ (code ≡ 6) → Holds told (λ reads. WritesSome (due form reads) files sink)
+  pub part : Ended → (code ≡ 5) ⊎ (code ≡ 6) → Holds told (λ reads. WritesSome (due reads) files sink)
   part all e =
-      by_status (λ reads n. WritesSome (due form reads) files sink)
+      by_status (λ reads n. WritesSome (due reads) files sink)
       (λ reads s is ends. record {
         text = ends.text;
-        is = some_said (due form reads) files sink s ends ends.said;
+        is = some_said (due reads) files sink s ends ends.said;
         less = ends.writes.less (by s is e);
       })
       all
@@ -274,43 +248,41 @@ module _ (form : Option Asked) (told : Octets) (files : FilesDid) (sink : SinkDi
       by s is (inl e) = inl (the s WriteFault is e)
       by s is (inr e) = inr (the s Memory is e)
 
-  pub asked : Ended → Holds told (λ reads. AsksPrefix files.before files.now (due form reads).names)
+  pub asked : Ended → Holds told (λ reads. AsksPrefix files.before files.now (due reads).names)
   asked all =
-      by_status (λ reads n. AsksPrefix files.before files.now (due form reads).names)
+      by_status (λ reads n. AsksPrefix files.before files.now (due reads).names)
       (λ reads s is ends. ends.asks.some) all
 
   pub asked_all : Ended → code ≢ 2 → code ≢ 5 → code ≢ 6 →
-      Holds told (λ reads. AsksAll files.before files.now (due form reads).names)
+      Holds told (λ reads. AsksAll files.before files.now (due reads).names)
   asked_all all read write memory =
-      by_status (λ reads n. AsksAll files.before files.now (due form reads).names)
+      by_status (λ reads n. AsksAll files.before files.now (due reads).names)
       (λ reads s is ends.
-      all_asked (due form reads) files sink s ends s (λ e. read (is ∙ ap code_of e))
+      all_asked (due reads) files sink s ends s (λ e. read (is ∙ ap code_of e))
       (λ e. write (is ∙ ap code_of e)) (λ e. memory (is ∙ ap code_of e)) refl)
       all
 
-  pub script : Ended → code ≡ 4 → AsksAll files.before files.now (scripts_in form)
-  script all e =
+  -- these names are due where a bad script is
+  pub script : (names : List (List ℕ)) →
+      ((reads : Reads) → status_of (due reads).answer ≡ BadScript → (due reads).names ≡ names) → Ended →
+      code ≡ 4 → AsksAll files.before files.now names
+  script names by all e =
       let bad = the all.holds.status BadScript all.holds.is e in
       let ends = all.holds.ends in
-      let d = dues (due form all.reads) files sink all.holds.status ends
+      let d = dues (due all.reads) files sink all.holds.status ends
       BadScript (λ x. cc) (λ x. cc) (λ x. cc) bad in
-      subst (λ l. AsksAll files.before files.now l) (script_due form all.reads (sym d.0 ∙ bad))
-      (all_asked (due form all.reads) files sink all.holds.status ends BadScript (λ x. cc) (λ x. cc) (λ x. cc) bad)
+      subst (λ l. AsksAll files.before files.now l) (by all.reads (sym d.0 ∙ bad))
+      (all_asked (due all.reads) files sink all.holds.status ends BadScript (λ x. cc) (λ x. cc) (λ x. cc) bad)
 
--- COMPLETENESS
-
-pub complete : (form : Option Asked) (told : Octets) (files : FilesDid) (sink : SinkDid) (code : ℕ) →
-    Holds told (λ reads. EndsWith (due form reads) files sink code) → IsAccepted form told →
-    (code ≡ 0) ⊎ (code ≡ 6) ⊎ Rose files.faults files.later ⊎ Rose sink.faults sink.later
-complete form None files sink code all accepted = absurd accepted
-complete form (Some octets) files sink code all accepted = by (status form (Some octets) files sink code all) where
-  by : Holds (Some octets) (λ reads. IsStatusOf (due form reads).answer code) →
+  pub complete : Ended → IsAccepted due told →
       (code ≡ 0) ⊎ (code ≡ 6) ⊎ Rose files.faults files.later ⊎ Rose sink.faults sink.later
-  by due_status = case (subst (λ reads. IsStatusOf (due form reads).answer code) due_status.known due_status.holds)
-    where
-      case : IsStatusOf (due form (reads_of octets)).answer code →
+  complete all accepted = by (status all) where
+    by : Holds told (λ reads. IsStatusOf (due reads) code) →
+        (code ≡ 0) ⊎ (code ≡ 6) ⊎ Rose files.faults files.later ⊎ Rose sink.faults sink.later
+    by is = case is.holds where
+      case : IsStatusOf (due is.reads) code →
           (code ≡ 0) ⊎ (code ≡ 6) ⊎ Rose files.faults files.later ⊎ Rose sink.faults sink.later
-      case (inl is) = inl (is ∙ ap code_of accepted)
-      case (inr (inl is)) = inr (inr (inl (read form (Some octets) files sink code all is)))
-      case (inr (inr (inl is))) = inr (inr (inr (write form (Some octets) files sink code all is)))
-      case (inr (inr (inr is))) = inr (inl is)
+      case (inl done) = inl (done ∙ ap code_of (accepted is.reads is.known))
+      case (inr (inl e)) = inr (inr (inl (read all e.0)))
+      case (inr (inr (inl e))) = inr (inr (inr (write all e)))
+      case (inr (inr (inr e))) = inr (inl e)

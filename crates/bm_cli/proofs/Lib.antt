@@ -1,6 +1,7 @@
 pub mod Began
 pub mod Ending
 pub mod Faults
+pub mod Forms
 pub mod Laws
 pub mod Loads
 pub mod Names

@@ -14,9 +14,10 @@ use Rattle.bm_cli.specs.Loads.{IsSummaryOf}
 use Rattle.bm_cli.specs.Names.{names_in, script_names}
 use Rattle.bm_cli.specs.Reading.{Reading, Reads, reading, script_by}
 
--- the words are of no form; there is a fault; or a text of which this is true is shown
+-- the words are of no form, and this usage line is written; there is a fault; or a text of which
+-- this is true is shown
 pub data Answer : Type 1 where
-  Misused : Answer
+  Misused : List ℕ → Answer
   Refused : StageFault → Answer
   Shown : (List ℕ → Type 0) → Answer
 
@@ -27,13 +28,13 @@ pub record Due : Type 1 where
 
 -- the status that is due
 abbrev pub status_of : Answer → Status
-status_of Misused = Usage
+status_of (Misused line) = Usage
 status_of (Refused fault) = fault_status fault
 status_of (Shown is) = Done
 
 -- what the text that is due must be
 abbrev pub text_of : Answer → List ℕ → Type 0
-text_of Misused text = text ≡ usage_line
+text_of (Misused line) text = text ≡ line
 text_of (Refused fault) text = text ≡ fault_line fault
 text_of (Shown is) text = is text
 
@@ -44,22 +45,29 @@ abbrev pub names_behind : Named → Result Script StageFault → List (List ℕ)
 names_behind names (Ok script) = names_in names
 names_behind names (Err fault) = script_names names.script
 
+-- the text of a stage is due, or the line of its fault
 abbrev pub answer_for : (Stage → List ℕ → Type 0) → Reading → Answer
 answer_for is (Ok stage) = Shown (is stage)
 answer_for is (Err fault) = Refused fault
 
--- the report of the stage that the words and the files ask for is due, or the line of its fault
-abbrev pub due_of_stage : Mode → Named → Reads → Due
-due_of_stage mode names reads = record {
+-- a text of which this is true of the stage that the names and the files ask for is due, or the
+-- line of its fault
+abbrev pub due_of_stage : Mode → (Stage → List ℕ → Type 0) → Named → Reads → Due
+due_of_stage mode is names reads = record {
   names = names_behind names (script_by mode reads names.script);
-  answer = answer_for (IsReportOf mode) (reading mode names reads);
+  answer = answer_for is (reading mode names reads);
 }
+
+-- the report of the stage is due, or the line of its fault
+abbrev pub due_report : Mode → Named → Reads → Due
+due_report mode names reads = due_of_stage mode (IsReportOf mode) names reads
 
 -- THE FORMS
 
+-- what is due for the words, by what is read
 abbrev pub due : Option Asked → Reads → Due
-due None reads = record { names = []; answer = Misused }
-due (Some (Replay names)) reads = due_of_stage by_replay names reads
+due None reads = record { names = []; answer = Misused usage_line }
+due (Some (Replay names)) reads = due_report by_replay names reads
 due (Some (Run capture script)) reads =
-    due_of_stage by_run (record { capture = capture; script = Some script }) reads
+    due_report by_run (record { capture = capture; script = Some script }) reads
 due (Some (Load n)) reads = record { names = []; answer = Shown (IsSummaryOf n) }

@@ -5,35 +5,41 @@ use Rattle.bm_io.specs.Causes.{Rose}
 use Rattle.bm_words.specs.Form.{Asked, Load, Replay, Run}
 use Rattle.bm_cli.specs.declared.fault.StageFault.TheVariants.{Files}
 use Rattle.bm_cli.specs.declared.status.Status.TheVariants.{Done}
-use Rattle.bm_cli.specs.Dues.{Answer, Misused, Refused, Shown, Due, due, status_of, text_of}
+use Rattle.bm_cli.specs.Dues.{Answer, Misused, Refused, Shown, Due, status_of, text_of}
 use Rattle.bm_cli.specs.Headline.{Shows}
 use Rattle.bm_cli.specs.Lines.{fault_line, fault_status}
 use Rattle.bm_cli.specs.Names.{script_names}
-use Rattle.bm_cli.specs.Reading.{Octets, reads_of}
+use Rattle.bm_cli.specs.Reading.{Known, Octets, Reads}
 use Rattle.bm_cli.specs.Statuses.{WritesLess, code_of, FilesDid, SinkDid}
 
 -- a text is due that isn't the line of a fault, and it was written
 abbrev pub ShowsAnswer : Answer → Option (List ℕ) → Option (List ℕ) → Type 0
-ShowsAnswer Misused before now = ⊥
+ShowsAnswer (Misused line) before now = ⊥
 ShowsAnswer (Refused fault) before now = ⊥
 ShowsAnswer (Shown is) before now = Shows is before now
 
 -- a fault with this exit status is due, and its line was written
 abbrev pub RefusesAnswer : Answer → ℕ → Option (List ℕ) → Option (List ℕ) → Type 0
-RefusesAnswer Misused code before now = ⊥
+RefusesAnswer (Misused line) code before now = ⊥
 RefusesAnswer (Refused fault) code before now =
     (code ≡ code_of (fault_status fault)) × Appends before now (fault_line fault)
 RefusesAnswer (Shown is) code before now = ⊥
 
--- the exit status is the one that is due, but where the files or the sink failed, or memory was
--- refused
-abbrev pub IsStatusOf : Answer → ℕ → Type 0
-IsStatusOf answer code = (code ≡ code_of (status_of answer)) ⊎ (code ≡ 2) ⊎ (code ≡ 5) ⊎ (code ≡ 6)
+-- the exit status is the one that is due, but where the files, if one is asked for, or the sink
+-- failed, or memory was refused
+abbrev pub IsStatusOf : Due → ℕ → Type 0
+IsStatusOf due code =
+    (code ≡ code_of (status_of due.answer)) ⊎ ((code ≡ 2) × (due.names ≢ [])) ⊎ (code ≡ 5)
+    ⊎ (code ≡ 6)
 
--- the words are of a form, and the files that they name have no fault
-abbrev pub IsAccepted : Option Asked → Octets → Type 0
-IsAccepted form None = ⊥
-IsAccepted form (Some octets) = status_of (due form (reads_of octets)).answer ≡ Done
+-- whatever is read, no file is asked for
+abbrev pub AsksNone : (Reads → Due) → Type 0
+AsksNone due = (reads : Reads) → (due reads).names ≡ []
+
+-- by whatever is read, or by the files' octets where they tell them, a text is due that isn't the
+-- line of a fault or of misuse
+abbrev pub IsAccepted : (Reads → Due) → Octets → Type 0
+IsAccepted due told = (reads : Reads) → Known told reads → status_of (due reads).answer ≡ Done
 
 -- nothing was written, or a first part, and not all, of the text that is due, or of the line of a
 -- read that failed

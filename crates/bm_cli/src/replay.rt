@@ -48,7 +48,8 @@ pub fn replay_files<R: Threads + Wait + Sync, F: Files>(
     ensures made { IfOk result (λ replayed.
         IsMadeBy Mode.Replay replayed.history.stage replayed.history) }
     ensures early { IfOk result (λ replayed. replayed.began ≤ latest) }
-    // No source stays open, and none is closed that was open before.
+    // The files tell what they told. No source stays open, and none is closed that was open before.
+    ensures octets { F.octets files.new ≡ F.octets files.old }
     ensures open { F.open_now files.new ≡ F.open_now files.old }
 {
     let (stage, packets, began) = read_stage(alloc, files, Mode::Replay, names)?;

@@ -39,6 +39,7 @@ pub(crate) fn read_stage<F: Files>(
     ensures early { IfOk result (λ read. read.2 ≤ latest) }
     ensures sound { IfOk result (λ read. IsSound read.0) }
     ensures packets { IfOk result (λ read. ArePackets read.0.capture.records read.1) }
+    ensures octets { F.octets files.new ≡ F.octets files.old }
     ensures open { F.open_now files.new ≡ F.open_now files.old }
 {
     let script = read_script_file(alloc, files, names.script)?;

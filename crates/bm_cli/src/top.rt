@@ -4,15 +4,15 @@ ghost use Rattle.std.specs.Io.KnownBytes.{Appends};
 ghost use Rattle.bm_io.specs.Causes.{Rose};
 ghost use Rattle.bm_words.specs.Form.{HasCount, asked, form_in, named};
 ghost use Rattle.bm_cli.specs.declared.fault.StageFault.TheVariants.{Files as files_failed};
-ghost use Rattle.bm_cli.specs.Dues.{Misused, due, due_of_stage};
+ghost use Rattle.bm_cli.specs.Dues.{Misused, due, due_report};
 ghost use Rattle.bm_cli.specs.Ends.{Ends, EndsWith};
 ghost use Rattle.bm_cli.specs.Telling.{Tells};
 ghost use Rattle.bm_cli.specs.Lines.{fault_line, usage_line};
 ghost use Rattle.bm_cli.specs.Names.{AsksAll, AsksPrefix};
 ghost use Rattle.bm_cli.specs.Reading.{Holds};
 ghost use Rattle.bm_cli.specs.Statuses.{did};
-ghost use Rattle.bm_cli.specs.Top.{IsAccepted, IsStatusOf, RefusesAnswer, ShowsAnswer, WritesSome};
-ghost use Rattle.bm_cli.specs.Top.{scripts_in};
+ghost use Rattle.bm_cli.specs.Top.{AsksNone, IsAccepted, IsStatusOf, RefusesAnswer, ShowsAnswer};
+ghost use Rattle.bm_cli.specs.Top.{WritesSome, scripts_in};
 
 use crate::lines::refuse;
 use crate::load::run_load;
@@ -49,7 +49,7 @@ pub fn beamer<R: Threads + Wait + Sync, F: Files, K: Sink, G: Gate>(
     ensures shown { result ≡ 0 → Holds (F.octets files.old) (λ reads.
         ShowsAnswer (due (form_in words.now) reads).answer
         (K.written out.old) (K.written out.new)) }
-    // How the call ended, by what was due. All other clauses but `open` follow from this one.
+    // How the call ended, by what was due. All other clauses but the last three follow from it.
     ensures ends { Holds (F.octets files.old) (λ reads.
         EndsWith (due (form_in words.now) reads) (did F.asked F.faults files.old files.new)
         (did K.written K.faults out.old out.new) result) }
@@ -57,10 +57,10 @@ pub fn beamer<R: Threads + Wait + Sync, F: Files, K: Sink, G: Gate>(
     // The status is the one that is due, but where the files or the sink failed, or memory was
     // refused.
     ensures status { Holds (F.octets files.old) (λ reads.
-        IsStatusOf (due (form_in words.now) reads).answer result) }
+        IsStatusOf (due (form_in words.now) reads) result) }
     // An accepted capture's report is written, and so is the line of a load, but where the files or
     // the sink failed, or memory was refused.
-    ensures complete { IsAccepted (form_in words.now) (F.octets files.old) →
+    ensures complete { IsAccepted (due (form_in words.now)) (F.octets files.old) →
         (result ≡ 0) ⊎ (result ≡ 6) ⊎ Rose (F.faults files.old) (F.faults files.new)
         ⊎ Rose (K.faults out.old) (K.faults out.new) }
     ensures known { result ≤ 7 }
@@ -96,7 +96,10 @@ pub fn beamer<R: Threads + Wait + Sync, F: Files, K: Sink, G: Gate>(
     // Behind a fault of the script they were asked for its name alone, whatever they tell.
     ensures script { result ≡ 4 →
         AsksAll (F.asked files.old) (F.asked files.new) (scripts_in (form_in words.now)) }
-    // No source stays open, and none is closed that was open before.
+    // Where no file is asked for the files are left as they are.
+    ensures unasked { AsksNone (due (form_in words.now)) → files.new ≡ files.old }
+    // The files tell what they told. No source stays open, and none is closed that was open before.
+    ensures octets { F.octets files.new ≡ F.octets files.old }
     ensures open { F.open_now files.new ≡ F.open_now files.old }
 {
     answer(rt, alloc, words, files, out, gate).code()
@@ -115,6 +118,8 @@ fn answer<R: Threads + Wait + Sync, F: Files, K: Sink, G: Gate>(
     ensures ends { Holds (F.octets files.old) (λ reads.
         Ends (due (form_in words.now) reads) (did F.asked F.faults files.old files.new)
         (did K.written K.faults out.old out.new) result) }
+    ensures unasked { AsksNone (due (form_in words.now)) → files.new ≡ files.old }
+    ensures octets { F.octets files.new ≡ F.octets files.old }
     ensures open { F.open_now files.new ≡ F.open_now files.old }
 {
     match read_words(alloc, words) {
@@ -138,6 +143,8 @@ fn answer_form<R: Threads + Wait + Sync, F: Files, K: Sink, G: Gate>(
     ensures ends { Holds (F.octets files.old) (λ reads.
         Ends (due (Some (asked form.entry)) reads) (did F.asked F.faults files.old files.new)
         (did K.written K.faults out.old out.new) result) }
+    ensures unasked { AsksNone (due (Some (asked form.entry))) → files.new ≡ files.old }
+    ensures octets { F.octets files.new ≡ F.octets files.old }
     ensures open { F.open_now files.new ≡ F.open_now files.old }
 {
     match form {
@@ -166,9 +173,10 @@ fn play_files<R: Threads + Wait + Sync, F: Files, K: Sink, G: Gate>(
     requires script { mode ≡ Mode.Run → IsSome (named names).script }
     requires room { F.open_now files.old < 4294967295 }
     ensures ends { Holds (F.octets files.old) (λ reads.
-        Ends (due_of_stage mode (named names.entry) reads)
+        Ends (due_report mode (named names.entry) reads)
         (did F.asked F.faults files.old files.new)
         (did K.written K.faults out.old out.new) result) }
+    ensures octets { F.octets files.new ≡ F.octets files.old }
     ensures open { F.open_now files.new ≡ F.open_now files.old }
 {
     match read_stage(alloc, files, mode, names) {
@@ -179,7 +187,7 @@ fn play_files<R: Threads + Wait + Sync, F: Files, K: Sink, G: Gate>(
 
 /// Writes how the program is used.
 fn misuse<K: Sink>(out: &mut K) -> Status
-    ensures { Tells Misused (did K.written K.faults out.old out.new) result }
+    ensures { Tells (Misused usage_line) (did K.written K.faults out.old out.new) result }
 {
     say(out, USAGE.as_bytes(), Status::Usage)
 }

@@ -9,19 +9,18 @@ use Rattle.bm_core.proofs.Determined.{replay_law}
 use Rattle.bm_cli.specs.declared.fault.StageFault.{StageFault}
 use Rattle.bm_cli.specs.declared.mode.Mode.TheVariants.{Replay}
 use Rattle.bm_cli.specs.declared.status.Status.{Status}
-use Rattle.bm_cli.specs.declared.status.Status.TheVariants.{Done, Usage}
-use Rattle.bm_cli.specs.Dues.{Shown, answer_for, names_behind}
+use Rattle.bm_cli.specs.declared.status.Status.TheVariants.{Done}
+use Rattle.bm_cli.specs.Dues.{Misused, Shown, answer_for}
 use Rattle.bm_cli.specs.Ends.{Ends}
 use Rattle.bm_cli.specs.Headline.{IsMadeBy}
-use Rattle.bm_cli.specs.Stages.{ReadsStage, status_by}
+use Rattle.bm_cli.specs.Stages.{ReadsStage}
 use Rattle.bm_cli.specs.Telling.{Tells}
-use Rattle.bm_cli.specs.Reading.{Holds, Octets, Reading, Reads, reading, script_by}
+use Rattle.bm_cli.specs.Reading.{Holds, Octets, Reading, Reads}
 use Rattle.bm_cli.specs.Statuses.{FilesDid, SinkDid, Writes}
-use Rattle.bm_cli.proofs.Ending.{asks_as, holds_any, holds_more, said_stage, says_read}
-use Rattle.bm_cli.proofs.Names.{all_of_none}
+use Rattle.bm_cli.proofs.Ending.{ends_stage, holds_more, unread_ends}
 use Rattle.bm_cli.proofs.Telling.{tells_due, untouched}
 use Rattle.bm_connections_cli.specs.declared.words.Format.{Format}
-use Rattle.bm_connections_cli.specs.Dues.{EndsAs, clock_of, due_of, usage_line}
+use Rattle.bm_connections_cli.specs.Dues.{clock_of, due, due_of, usage_line}
 use Rattle.bm_connections_cli.specs.Headline.{IsReplayOf, IsTableOf}
 use Rattle.bm_connections_cli.specs.Text.{text}
 use Rattle.bm_connections_cli.specs.Words.{Asked}
@@ -36,8 +35,8 @@ history_is a b stages events =
 same_replay : (stage : Stage) (a b : History) → IsReplayOf stage a → IsReplayOf stage b → a ≡ b
 same_replay stage a b p q =
     let setting = stage.script.setting in
-    let stages = p.about ∙ sym q.about in
-    history_is a b stages (replay_law a b stages (setting_mux setting) (setting_fate setting) p.made q.made)
+    let stages = p.0 ∙ sym q.0 in
+    history_is a b stages (replay_law a b stages (setting_mux setting) (setting_fate setting) p.1 q.1)
 
 table_of : (format : Format) (clock : Option ℕ) (stage : Stage) (h : History) → IsReplayOf stage h →
     IsTableOf format clock stage (text format clock h)
@@ -53,7 +52,7 @@ pub tells_table : (format : Format) (clock due : Option ℕ) (h : History) (sink
     Tells (answer_for (IsTableOf format due) (Ok h.stage)) sink result
 tells_table format clock due h sink result same made writes =
     tells_due (Shown (IsTableOf format due h.stage)) (text format due h) sink result
-    (table_of format due h.stage h (record { about = refl; made = made }))
+    (table_of format due h.stage h (refl, made))
     (subst (λ c. Writes Done (text format c h) sink result) same writes)
 
 -- THE FORM
@@ -64,17 +63,7 @@ ends_played : (asked : Asked) (reads : Reads) (files : FilesDid) (sink : SinkDid
     Tells (answer_for (IsTableOf asked.format (clock_of asked reads)) r) sink result →
     Ends (due_of asked reads) files sink result
 ends_played asked reads files sink r result read tells =
-    let shows = IsTableOf asked.format (clock_of asked reads) in
-    record {
-      says = tells.says;
-      text = tells.text;
-      said =
-          said_stage shows (reading Replay asked.names reads) r tells.says tells.text read.read tells.is;
-      writes = tells.writes;
-      asks =
-          asks_as (names_behind asked.names (script_by Replay reads asked.names.script)) files (status_by r)
-          tells.says read.asks (says_read shows r tells.says tells.text tells.is);
-    }
+    ends_stage Replay (IsTableOf asked.format (clock_of asked reads)) asked.names reads files sink r result read tells
 
 -- the table of a stage was told, by the clock that is due
 pub played_ends : (asked : Asked) (told : Octets) (files : FilesDid) (sink : SinkDid) (stage : Stage)
@@ -105,16 +94,15 @@ refused_ends asked told files sink fault result read tells =
 
 -- what the words ask for was answered
 pub words_end : (form words : Option Asked) (told : Octets) (files : FilesDid) (sink : SinkDid)
-    (result : Status) → form ≡ words → Holds told (λ reads. EndsAs form reads files sink result) →
-    Holds told (λ reads. EndsAs words reads files sink result)
+    (result : Status) → form ≡ words → Holds told (λ reads. Ends (due form reads) files sink result) →
+    Holds told (λ reads. Ends (due words reads) files sink result)
 words_end form words told files sink result same ends =
-    subst (λ f. Holds told (λ reads. EndsAs f reads files sink result)) same ends
+    subst (λ f. Holds told (λ reads. Ends (due f reads) files sink result)) same ends
 
 -- the usage line was written
-pub unasked_ends : (words : Option Asked) (told : Octets) (asked : Option (List (List ℕ))) (fails : ℕ)
-    (sink : SinkDid) (result : Status) → None ≡ words → Writes Usage usage_line sink result →
-    Holds told (λ reads. EndsAs words reads (untouched asked fails) sink result)
-unasked_ends words told asked fails sink result none writes =
+pub usage_ends : (words : Option Asked) (told : Octets) (asked : Option (List (List ℕ))) (fails : ℕ)
+    (sink : SinkDid) (result : Status) → None ≡ words → Tells (Misused usage_line) sink result →
+    Holds told (λ reads. Ends (due words reads) (untouched asked fails) sink result)
+usage_ends words told asked fails sink result none tells =
     words_end None words told (untouched asked fails) sink result none
-    (holds_any told (λ reads. EndsAs None reads (untouched asked fails) sink result)
-    (λ reads. record { writes = writes; asks = all_of_none asked; faults = refl }))
+    (unread_ends (Misused usage_line) told asked fails sink result (λ e. cc) tells)

@@ -3,15 +3,17 @@ ghost use Rattle.std.specs.Prelude.{◌≡◌, ◌≢◌, ◌⊎◌, ◌<◌, �
 ghost use Rattle.std.specs.Io.KnownBytes.{Appends};
 ghost use Rattle.bm_io.specs.Causes.{Rose};
 ghost use Rattle.bm_cli.specs.declared.fault.StageFault.TheVariants.{Files as files_failed};
-ghost use Rattle.bm_cli.specs.Ends.{Ends};
+ghost use Rattle.bm_cli.specs.Dues.{Misused};
+ghost use Rattle.bm_cli.specs.Ends.{Ends, EndsWith};
 ghost use Rattle.bm_cli.specs.Lines.{fault_line};
 ghost use Rattle.bm_cli.specs.Names.{AsksAll, AsksPrefix};
 ghost use Rattle.bm_cli.specs.Reading.{Holds};
-ghost use Rattle.bm_cli.specs.Statuses.{Writes, did};
-ghost use Rattle.bm_connections_cli.specs.Dues.{EndsAs, EndsWith, due_of, usage_line};
-ghost use Rattle.bm_connections_cli.specs.Top.{IsAccepted, IsStatusFor, RefusesAnswerFor};
-ghost use Rattle.bm_connections_cli.specs.Top.{ShowsAnswerFor};
-ghost use Rattle.bm_connections_cli.specs.Top.{WritesSomeFor, names_due, scripts_in};
+ghost use Rattle.bm_cli.specs.Statuses.{did};
+ghost use Rattle.bm_cli.specs.Telling.{Tells};
+ghost use Rattle.bm_cli.specs.Top.{AsksNone, IsAccepted, IsStatusOf, RefusesAnswer, ShowsAnswer};
+ghost use Rattle.bm_cli.specs.Top.{WritesSome};
+ghost use Rattle.bm_connections_cli.specs.Dues.{due, due_of, usage_line};
+ghost use Rattle.bm_connections_cli.specs.Top.{scripts_in};
 ghost use Rattle.bm_connections_cli.specs.Words.{form_in};
 ghost use Rattle.bm_connections_cli.specs.Inside.Words.{asked};
 
@@ -42,19 +44,20 @@ pub fn beamer_connections<R: Threads + Wait + Sync, F: Files, K: Sink>(
     // On status 0 what was written tells the connections of the replay of the named capture through
     // the servers of the named script.
     ensures shown { result ≡ 0 → Holds (F.octets files.old) (λ reads.
-        ShowsAnswerFor (form_in words.now) reads (K.written out.old) (K.written out.new)) }
-    // How the call ended, by what was due. All other clauses but `open` follow from this one.
+        ShowsAnswer (due (form_in words.now) reads).answer
+        (K.written out.old) (K.written out.new)) }
+    // How the call ended, by what was due. All other clauses but the last three follow from it.
     ensures ends { Holds (F.octets files.old) (λ reads.
-        EndsWith (form_in words.now) reads (did F.asked F.faults files.old files.new)
+        EndsWith (due (form_in words.now) reads) (did F.asked F.faults files.old files.new)
         (did K.written K.faults out.old out.new) result) }
 
     // The status is the one that is due, but where the files or the sink failed, or memory was
     // refused.
     ensures status { Holds (F.octets files.old) (λ reads.
-        IsStatusFor (form_in words.now) reads result) }
+        IsStatusOf (due (form_in words.now) reads) result) }
     // The connections of an accepted capture are written, but where the files or the sink failed,
     // or memory was refused.
-    ensures complete { IsAccepted (form_in words.now) (F.octets files.old) →
+    ensures complete { IsAccepted (due (form_in words.now)) (F.octets files.old) →
         (result ≡ 0) ⊎ (result ≡ 6) ⊎ Rose (F.faults files.old) (F.faults files.new)
         ⊎ Rose (K.faults out.old) (K.faults out.new) }
     ensures known { result ≤ 7 }
@@ -74,22 +77,26 @@ pub fn beamer_connections<R: Threads + Wait + Sync, F: Files, K: Sink>(
     ensures read_line { result ≡ 2 →
         Appends (K.written out.old) (K.written out.new) (fault_line files_failed) }
     ensures line { (result ≡ 3) ⊎ (result ≡ 4) ⊎ (result ≡ 7) → Holds (F.octets files.old) (λ reads.
-        RefusesAnswerFor (form_in words.now) reads result (K.written out.old) (K.written out.new)) }
+        RefusesAnswer (due (form_in words.now) reads).answer result
+        (K.written out.old) (K.written out.new)) }
     ensures part { (result ≡ 5) ⊎ (result ≡ 6) → Holds (F.octets files.old) (λ reads.
-        WritesSomeFor (form_in words.now) reads (did F.asked F.faults files.old files.new)
+        WritesSome (due (form_in words.now) reads) (did F.asked F.faults files.old files.new)
         (did K.written K.faults out.old out.new)) }
 
     // The files are asked for the names that are due, in their order, each at most once.
     ensures asked { Holds (F.octets files.old) (λ reads.
-        AsksPrefix (F.asked files.old) (F.asked files.new) (names_due (form_in words.now) reads)) }
+        AsksPrefix (F.asked files.old) (F.asked files.new) (due (form_in words.now) reads).names) }
     // They were asked for all of them, but where the files or the sink failed, or memory was
     // refused.
     ensures all { result ≢ 2 → result ≢ 5 → result ≢ 6 → Holds (F.octets files.old) (λ reads.
-        AsksAll (F.asked files.old) (F.asked files.new) (names_due (form_in words.now) reads)) }
+        AsksAll (F.asked files.old) (F.asked files.new) (due (form_in words.now) reads).names) }
     // Behind a fault of the script they were asked for its name alone, whatever they tell.
     ensures script { result ≡ 4 →
         AsksAll (F.asked files.old) (F.asked files.new) (scripts_in (form_in words.now)) }
-    // No source stays open, and none is closed that was open before.
+    // Where no file is asked for the files are left as they are.
+    ensures unasked { AsksNone (due (form_in words.now)) → files.new ≡ files.old }
+    // The files tell what they told. No source stays open, and none is closed that was open before.
+    ensures octets { F.octets files.new ≡ F.octets files.old }
     ensures open { F.open_now files.new ≡ F.open_now files.old }
 {
     answer(rt, alloc, words, files, out).code()
@@ -105,8 +112,10 @@ fn answer<R: Threads + Wait + Sync, F: Files, K: Sink>(
 ) -> Status
     requires room { F.open_now files.old < 4294967295 }
     ensures ends { Holds (F.octets files.old) (λ reads.
-        EndsAs (form_in words.now) reads (did F.asked F.faults files.old files.new)
+        Ends (due (form_in words.now) reads) (did F.asked F.faults files.old files.new)
         (did K.written K.faults out.old out.new) result) }
+    ensures unasked { AsksNone (due (form_in words.now)) → files.new ≡ files.old }
+    ensures octets { F.octets files.new ≡ F.octets files.old }
     ensures open { F.open_now files.new ≡ F.open_now files.old }
 {
     match read_words(words) {
@@ -127,6 +136,7 @@ fn answer_form<R: Threads + Wait + Sync, F: Files, K: Sink>(
     ensures ends { Holds (F.octets files.old) (λ reads.
         Ends (due_of (asked form.entry) reads) (did F.asked F.faults files.old files.new)
         (did K.written K.faults out.old out.new) result) }
+    ensures octets { F.octets files.new ≡ F.octets files.old }
     ensures open { F.open_now files.new ≡ F.open_now files.old }
 {
     match replay_files(rt, alloc, files, form.names) {
@@ -151,7 +161,7 @@ fn clock_of(manner: Manner, began: u64) -> Clock
 
 /// Writes how the program is used.
 fn misuse<K: Sink>(out: &mut K) -> Status
-    ensures { Writes Status.Usage usage_line (did K.written K.faults out.old out.new) result }
+    ensures { Tells (Misused usage_line) (did K.written K.faults out.old out.new) result }
 {
     say(out, USAGE.as_bytes(), Status::Usage)
 }

@@ -1,6 +1,10 @@
-use Rattle.std.proofs.Common.{ap, sym, ◌∙◌, option_map}
+use Rattle.std.proofs.Common.{ap, sym, subst, ◌∙◌, option_map}
+use Rattle.bm_cli.specs.Top.{AsksNone}
+use Rattle.bm_cli.proofs.Ending.{nothing}
+use Rattle.bm_cli.proofs.Forms.{replay_named}
+use Rattle.bm_connections_cli.specs.Dues.{due}
 use Rattle.bm_connections_cli.specs.Inside.Words.{asked}
-use Rattle.bm_connections_cli.proofs.Ending.{unasked_ends, words_end}
+use Rattle.bm_connections_cli.proofs.Ending.{usage_ends, words_end}
 use Rattle.bm_connections_cli.proofs.top.answer.Goals as goal
 
 pub returns-in-Some-clause-ends : goal.returns-in-Some-clause-ends
@@ -9,4 +13,9 @@ returns-in-Some-clause-ends g c =
 
 pub returns-in-None-clause-ends : goal.returns-in-None-clause-ends
 returns-in-None-clause-ends g c =
-    unasked_ends _ _ _ _ _ _ (sym (ap (option_map asked) c.in-None.is) ∙ c.read_words.ensures) c.misuse.ensures
+    usage_ends _ _ _ _ _ _ (sym (ap (option_map asked) c.in-None.is) ∙ c.read_words.ensures) c.misuse.ensures
+
+pub returns-in-Some-clause-unasked : goal.returns-in-Some-clause-unasked
+returns-in-Some-clause-unasked g c = λ none.
+    let same = sym (ap (option_map asked) c.in-Some.is) ∙ c.read_words.ensures in
+    absurd (replay_named _ _ nothing (subst (λ f. AsksNone (due f)) (sym same) none nothing))

@@ -1,4 +1,5 @@
-use Rattle.bm_connections_cli.proofs.Laws as laws
+use Rattle.bm_cli.proofs.Laws as laws
+use Rattle.bm_connections_cli.proofs.Forms as forms
 use Rattle.bm_connections_cli.proofs.top.beamer_connections.Goals as goal
 
 pub returns-clause-ends : goal.returns-clause-ends
@@ -22,11 +23,11 @@ returns-clause-known g c =
 
 pub returns-clause-usage : goal.returns-clause-usage
 returns-clause-usage g c =
-    laws.usage _ _ _ _ _ (laws.ended _ _ _ _ _ c.answer.result c.code.ensures c.answer.ensures.ends)
+    laws.usage _ _ _ _ _ _ (forms.usage_form _) (laws.ended _ _ _ _ _ c.answer.result c.code.ensures c.answer.ensures.ends)
 
 pub returns-clause-named : goal.returns-clause-named
 returns-clause-named g c =
-    laws.named _ _ _ _ _ (laws.ended _ _ _ _ _ c.answer.result c.code.ensures c.answer.ensures.ends)
+    laws.named _ _ _ _ _ _ (forms.named_form _) (laws.ended _ _ _ _ _ c.answer.result c.code.ensures c.answer.ensures.ends)
 
 pub returns-clause-read : goal.returns-clause-read
 returns-clause-read g c =
@@ -46,7 +47,7 @@ returns-clause-kept g c =
 
 pub returns-clause-usage_line : goal.returns-clause-usage_line
 returns-clause-usage_line g c =
-    laws.usage_written _ _ _ _ _ (laws.ended _ _ _ _ _ c.answer.result c.code.ensures c.answer.ensures.ends)
+    laws.usage_written _ _ _ _ _ _ (forms.usage_text _) (laws.ended _ _ _ _ _ c.answer.result c.code.ensures c.answer.ensures.ends)
 
 pub returns-clause-read_line : goal.returns-clause-read_line
 returns-clause-read_line g c =
@@ -70,4 +71,4 @@ returns-clause-all g c =
 
 pub returns-clause-script : goal.returns-clause-script
 returns-clause-script g c =
-    laws.script _ _ _ _ _ (laws.ended _ _ _ _ _ c.answer.result c.code.ensures c.answer.ensures.ends)
+    laws.script _ _ _ _ _ _ (forms.script_form _) (laws.ended _ _ _ _ _ c.answer.result c.code.ensures c.answer.ensures.ends)
