@@ -1,5 +1,6 @@
 pub mod Ending
-pub mod Laws
+pub mod Forms
 pub mod Lists
 pub mod Rows
 pub mod Pieces
+pub mod Numbered

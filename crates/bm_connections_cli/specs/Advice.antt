@@ -17,10 +17,12 @@ use Rattle.bm_connections.specs.declared.connection.Connection.{Connection}
 abbrev pub remedy : Cause → List ℕ
 remedy NeverAccepted =
     codes "begin the capture earlier, or use tools/open_midstream; or its SYN was dropped"
-remedy NotHeld = codes "close or retire later; without either, a client sent after its own reset"
+remedy NotHeld =
+    codes "close later; behind a retire raise timeout_s, or let every mux switch before; "
+    ++ codes "without either, a client sent after its own reset"
 remedy StaleMux = codes "let every mux switch before connections open, or route by port"
 remedy MovedTwice = codes "wait longer between the changes"
-remedy ChainLate = codes "raise timeout_s, or drain earlier"
+remedy ChainLate = codes "raise timeout_s, or change when fewer long connections are open"
 remedy SynElsewhere =
     codes "nothing to change: a client sent another SYN after the bucket had moved"
 remedy Full = codes "raise capacity or shards, or add servers"
@@ -56,7 +58,7 @@ end_text records timeout None = []
 end_text records timeout (Some moment) =
     if ends_before records moment
     then codes "advice change-behind-the-end: the capture ends before the last change; "
-    ++ codes "capture longer\n"
+    ++ codes "lower its at_ns, or capture longer\n"
     else if ends_within records timeout moment
     then codes "advice timeout-behind-the-end: the capture ends before timeout_s has passed since "
     ++ codes "the last change; capture longer, to see what comes too late\n"

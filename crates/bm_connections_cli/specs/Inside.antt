@@ -1,4 +1,5 @@
 -- Only the contracts of private calls and the proofs of bodies use these.
 pub mod Rows
 pub mod Servers
+pub mod Changes
 pub mod Words

@@ -6,5 +6,7 @@ pub mod Csv
 pub mod Json
 pub mod Advice
 pub mod Servers
+pub mod Changes
+pub mod Replies
 pub mod Words
 pub mod Inside

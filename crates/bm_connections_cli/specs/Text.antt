@@ -15,7 +15,9 @@ use Rattle.bm_connections.specs.Text.{cause_line, late_text, server_line, table_
 use Rattle.bm_drawing.specs.Drawing.{drawing}
 use Rattle.bm_connections_cli.specs.declared.words.Format.{Format}
 use Rattle.bm_connections_cli.specs.declared.words.Format.TheVariants.{Lines, Csv, Json, Svg}
+use Rattle.bm_connections_cli.specs.Replies.{replies_text}
 use Rattle.bm_connections_cli.specs.Advice.{advice_line, end_line, unsteered_line}
+use Rattle.bm_connections_cli.specs.Changes.{changes_text}
 use Rattle.bm_connections_cli.specs.Csv.{table_csv}
 use Rattle.bm_connections_cli.specs.Json.{json_lines}
 use Rattle.bm_connections_cli.specs.Servers.{servers_of}
@@ -51,9 +53,9 @@ advice_lines h = flat_map (λ c. advice_line c.cause) (causes_in h)
 -- what is told in lines, part by part
 abbrev pub parts : Option ℕ → History → List (List ℕ)
 parts clock h =
-    table_text clock (connections h) ∷ server_lines h ∷ cause_lines h ∷ late_lines h
-    ∷ note_line h.stage.capture.cut ∷ advice_lines h ∷ unsteered_line (connections h)
-    ∷ end_line h.stage ∷ []
+    table_text clock (connections h) ∷ server_lines h ∷ changes_text clock h.stage.script.plan
+    ∷ replies_text clock h.events ∷ cause_lines h ∷ late_lines h ∷ note_line h.stage.capture.cut
+    ∷ advice_lines h ∷ unsteered_line (connections h) ∷ end_line h.stage ∷ []
 
 -- what is told in each format
 abbrev pub text : Format → Option ℕ → History → List ℕ

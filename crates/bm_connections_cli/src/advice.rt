@@ -16,11 +16,13 @@ fn remedy(cause: Cause) -> &'static str
         Cause::NeverAccepted => {
             "begin the capture earlier, or use tools/open_midstream; or its SYN was dropped"
         }
-        Cause::NotHeld =>
-            "close or retire later; without either, a client sent after its own reset",
+        Cause::NotHeld => {
+            "close later; behind a retire raise timeout_s, or let every mux switch before; \
+            without either, a client sent after its own reset"
+        }
         Cause::StaleMux => "let every mux switch before connections open, or route by port",
         Cause::MovedTwice => "wait longer between the changes",
-        Cause::ChainLate => "raise timeout_s, or drain earlier",
+        Cause::ChainLate => "raise timeout_s, or change when fewer long connections are open",
         Cause::SynElsewhere =>
             "nothing to change: a client sent another SYN after the bucket had moved",
         Cause::Full => "raise capacity or shards, or add servers",
@@ -115,7 +117,8 @@ fn write_end(
     if ends_before(records, change) {
         writeln!(
             text,
-            "advice change-behind-the-end: the capture ends before the last change; capture longer"
+            "advice change-behind-the-end: the capture ends before the last change; lower its \
+            at_ns, or capture longer"
         )
     } else if ends_within(records, timeout, change) {
         writeln!(

@@ -4,10 +4,12 @@
 
 mod advice;
 mod causes;
+mod changes;
 mod fields;
 mod json;
 mod parts;
 mod put;
+mod replies;
 mod servers;
 mod tell;
 mod top;

@@ -10,8 +10,10 @@ ghost use Rattle.bm_connections_cli.specs.declared.words.Format.TheVariants.{Csv
 
 use crate::advice::{advice_text, end_text, unsteered_text};
 use crate::causes::causes_in;
+use crate::changes::changes_text;
 use crate::fields::table_csv;
 use crate::json::json_text;
+use crate::replies::replies_text;
 use crate::servers::servers_of;
 use bm_base::{List, Memory, Text};
 use bm_connections::{
@@ -23,8 +25,8 @@ use bm_drawing::drawing;
 use bm_trace::{CauseList, sweep};
 use std::alloc::Global;
 
-/// The lines of connections, servers and causes, of what came too late, of a capture that is cut
-/// short, and of advice, part by part.
+/// The lines of connections, servers, changes, replies to commands and causes, of what came too
+/// late, of a capture that is cut short, and of advice, part by part.
 #[tactic(auto, using(bm_trace::proofs::Ranged::ranges_of))]
 pub(crate) fn lines_of(alloc: Global, clock: Clock, h: &History) -> Result<Vec<Text>, Memory>
     requires { IsRun h.now }
@@ -50,9 +52,11 @@ fn parts_of(
     let servers = servers_of(alloc, &h.stage.script)?;
     let loads = server_counts(alloc, h, servers.as_slice())?;
     let counts = causes_in(alloc, h, causes, table)?;
-    let mut parts = Vec::with_capacity(alloc, 8)?;
+    let mut parts = Vec::with_capacity(alloc, 10)?;
     parts.push(table_text(alloc, clock, table)?)?;
     parts.push(servers_text(alloc, loads.items())?)?;
+    parts.push(changes_text(alloc, clock, &h.stage.script.plan)?)?;
+    parts.push(replies_text(alloc, clock, h.events.items())?)?;
     parts.push(causes_text(alloc, counts.as_slice())?)?;
     parts.push(late_text(alloc, longest_late(alloc, h, causes)?)?)?;
     parts.push(cut_text(alloc, h.stage.capture.cut)?)?;

@@ -123,9 +123,9 @@ impl fmt::Display for BecauseWords {
     }
 }
 
-/// The answer to a wish to retire, each word behind a space.
+/// The words of the answer to a wish to retire, each behind a space.
 #[derive(Clone, Copy)]
-pub(crate) struct RetirementWords(pub(crate) Retirement);
+pub struct RetirementWords(pub Retirement);
 
 impl fmt::Display for RetirementWords {
     ghost output = { λ r. Some (words.spaced (words.retirement_words r.0)) };
