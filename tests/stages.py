@@ -76,7 +76,12 @@ def some_fleet(rng):
     for _ in range(rng.randint(0, 10)):
         at += rng.choice([0, 1, 500, 1000, rng.randint(0, 3000), rng.randint(0, 2 * 10**9)])
         server = rng.randint(1, 6)
-        words = rng.choice([("add", server), ("drain", server), ("move", rng.randint(0, 2), server), ("move", 0, server), ("move", 0, server), ("close", server, some_flow(rng)), ("retire", server), ("retire", server), ("sync",)])
+        drained = sorted(fleet.known - set(fleet.active))
+        leaving = rng.choice(drained) if drained and rng.random() < 0.8 else server
+        changes = [("add", server), ("drain", server), ("drain", server), ("move", rng.randint(0, 2), server), ("move", 0, server), ("move", 0, server)]
+        words = rng.choice(changes + [("close", server, some_flow(rng)), ("retire", leaving), ("retire", leaving), ("sync",)])
+        if words[0] == "retire" and leaving in drained and rng.random() < 0.4:
+            at += fleet.timeout()
         before = len(fleet.commands)
         refusal = fleet.command(at, words)
         if refusal and not wrong:
