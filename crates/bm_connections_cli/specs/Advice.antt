@@ -32,9 +32,11 @@ remedy OldTable = codes "retire later, or let every mux switch before"
 abbrev pub advice_line : Cause → List ℕ
 advice_line cause = codes "advice " ++ cause_word cause ++ codes ": " ++ remedy cause ++ codes "\n"
 
--- the line of advice where no packet goes to a service
+-- the line of advice where nothing is steered
 abbrev pub unsteered_line : List Connection → List ℕ
-unsteered_line [] = codes "advice nothing-steered: name your services in vips\n"
+unsteered_line [] =
+    codes "advice nothing-steered: name your services in vips; beamer replay tells why each "
+    ++ codes "packet is unsteered\n"
 unsteered_line (c ∷ rest) = []
 
 -- all records come before the moment

@@ -58,13 +58,17 @@ pub(crate) fn advice_text(alloc: Global, counts: &[CauseCount]) -> Result<Text, 
     Ok(Text::of(text))
 }
 
-/// A line of advice where there is no connection, since no packet goes to a service.
+/// A line of advice where there is no connection, since nothing is steered.
 pub(crate) fn unsteered_text(alloc: Global, table: &[Connection]) -> Result<Text, Memory>
     ensures { IfOk result (λ text. text ≡ spec.unsteered_line table.now) }
 {
     let mut text = String::new(alloc);
     if table.is_empty() {
-        writeln!(text, "advice nothing-steered: name your services in vips")?;
+        writeln!(
+            text,
+            "advice nothing-steered: name your services in vips; beamer replay tells why each \
+            packet is unsteered"
+        )?;
     }
     Ok(Text::of(text))
 }

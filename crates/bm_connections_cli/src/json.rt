@@ -1,6 +1,7 @@
 //! Connections as JSON, a line for each.
 ghost use Rattle.std.specs.Prelude.{◌≡◌, ◌++◌, IfOk, OnOk, string_bytes};
 ghost use Rattle.serde_json.specs.View.{view};
+ghost use Rattle.bm_trace.specs.Words.{endpoint};
 ghost use Rattle.bm_connections_cli.specs.Json as spec;
 
 use crate::fields::verdict_field;
@@ -14,9 +15,7 @@ use std::alloc::{AllocError, Global};
 fn sight_value(alloc: Global, clock: Clock, sight: Sight) -> Result<Value, AllocError>
     ensures { IfOk result (λ value. view value ≡ spec.sight_value clock.0 sight) }
 {
-    let packet = u64::from(sight.number);
-    let at = clock.told(sight.moment);
-    json!(in alloc; {"packet": packet, "at_ns": at})
+    json!(in alloc; {"packet": u64::from(sight.number), "at_ns": clock.told(sight.moment)})
 }
 
 /// A server's number, or null.
@@ -52,17 +51,12 @@ fn fault_value(alloc: Global, clock: Clock, fault: Option<Break>) -> Result<Valu
 fn break_value(alloc: Global, clock: Clock, first: Break) -> Result<Value, AllocError>
     ensures { IfOk result (λ value. view value ≡ spec.fault_value clock.0 (Some first)) }
 {
-    let packet = u64::from(first.packet);
-    let at = clock.told(first.clock);
-    let server = u64::from(first.server.0);
-    let verdict = verdict_field(first.verdict);
-    let cause = cause_value(alloc, first.cause)?;
     json!(in alloc; {
-        "packet": packet,
-        "at_ns": at,
-        "server": server,
-        "verdict": verdict,
-        "cause": cause
+        "packet": u64::from(first.packet),
+        "at_ns": clock.told(first.clock),
+        "server": u64::from(first.server.0),
+        "verdict": verdict_field(first.verdict),
+        "cause": cause_value(alloc, first.cause)?
     })
 }
 
@@ -83,65 +77,48 @@ fn forward_value(
 fn forwarding_value(alloc: Global, clock: Clock, last: Forwarding) -> Result<Value, AllocError>
     ensures { IfOk result (λ value. view value ≡ spec.forward_value clock.0 (Some last)) }
 {
-    let packet = u64::from(last.packet);
-    let at = clock.told(last.clock);
-    let server = u64::from(last.server.0);
-    let wait = last.wait;
-    json!(in alloc; {"packet": packet, "at_ns": at, "server": server, "wait_ns": wait})
+    json!(in alloc; {
+        "packet": u64::from(last.packet),
+        "at_ns": clock.told(last.clock),
+        "server": u64::from(last.server.0),
+        "wait_ns": last.wait
+    })
 }
 
 /// How many arrivals had each verdict.
 fn tally_value(alloc: Global, tally: Tally) -> Result<Value, AllocError>
     ensures { IfOk result (λ value. view value ≡ spec.tally_value tally) }
 {
-    let Tally {
-        accepted,
-        processed,
-        forwarded,
-        reset,
-        dropped,
-        stray,
-    } = tally;
     json!(in alloc; {
-        "accepted": accepted,
-        "processed": processed,
-        "forwarded": forwarded,
-        "reset": reset,
-        "dropped": dropped,
-        "stray": stray
+        "accepted": tally.accepted,
+        "processed": tally.processed,
+        "forwarded": tally.forwarded,
+        "reset": tally.reset,
+        "dropped": tally.dropped,
+        "stray": tally.stray
     })
+}
+
+/// An address and a port.
+fn endpoint_text(alloc: Global, addr: u32, port: u16) -> Result<String, AllocError>
+    ensures { IfOk result (λ text. string_bytes text ≡ endpoint addr port) }
+{
+    format!(in alloc; "{}", Endpoint { addr, port })
 }
 
 fn connection_value(alloc: Global, clock: Clock, c: &Connection) -> Result<Value, AllocError>
     ensures { IfOk result (λ value. view value ≡ spec.connection_value clock.0 c.now) }
 {
-    let client = Endpoint {
-        addr: c.flow.src,
-        port: c.flow.sport,
-    };
-    let service = Endpoint {
-        addr: c.flow.dst,
-        port: c.flow.dport,
-    };
-    let client = format!(in alloc; "{client}")?;
-    let service = format!(in alloc; "{service}")?;
-    let arrivals = tally_value(alloc, c.tally)?;
-    let broken = fault_value(alloc, clock, c.broken)?;
-    let forward = forward_value(alloc, clock, c.forwarded)?;
-    let refused = fault_value(alloc, clock, c.refused)?;
-    let opened = sight_value(alloc, clock, c.first)?;
-    let last = sight_value(alloc, clock, c.last)?;
-    let server = server_value(c.server);
     json!(in alloc; {
-        "client": client,
-        "service": service,
-        "opened": opened,
-        "last": last,
-        "server": server,
-        "arrivals": arrivals,
-        "broken": broken,
-        "forward": forward,
-        "refused": refused
+        "client": endpoint_text(alloc, c.flow.src, c.flow.sport)?,
+        "service": endpoint_text(alloc, c.flow.dst, c.flow.dport)?,
+        "opened": sight_value(alloc, clock, c.first)?,
+        "last": sight_value(alloc, clock, c.last)?,
+        "server": server_value(c.server),
+        "arrivals": tally_value(alloc, c.tally)?,
+        "broken": fault_value(alloc, clock, c.broken)?,
+        "forward": forward_value(alloc, clock, c.forwarded)?,
+        "refused": fault_value(alloc, clock, c.refused)?
     })
 }
 

@@ -49,12 +49,10 @@ fn parts_of(
     requires table { table.now ≡ tables.connections h.now }
     ensures { IfOk result (λ parts. parts.items ≡ spec.parts clock.0 h.now) }
 {
-    let servers = servers_of(alloc, &h.stage.script)?;
-    let loads = server_counts(alloc, h, servers.as_slice())?;
     let counts = causes_in(alloc, h, causes, table)?;
     let mut parts = Vec::with_capacity(alloc, 10)?;
     parts.push(table_text(alloc, clock, table)?)?;
-    parts.push(servers_text(alloc, loads.items())?)?;
+    parts.push(server_lines(alloc, h)?)?;
     parts.push(changes_text(alloc, clock, &h.stage.script.plan)?)?;
     parts.push(replies_text(alloc, clock, h.events.items())?)?;
     parts.push(causes_text(alloc, counts.as_slice())?)?;
@@ -64,6 +62,16 @@ fn parts_of(
     parts.push(unsteered_text(alloc, table)?)?;
     parts.push(end_text(alloc, &h.stage)?)?;
     Ok(parts)
+}
+
+/// A line for each server of the script.
+fn server_lines(alloc: Global, h: &History) -> Result<Text, Memory>
+    requires { IsRun h.now }
+    ensures { IfOk result (λ text. text ≡ spec.server_lines h.now) }
+{
+    let servers = servers_of(alloc, &h.stage.script)?;
+    let counts = server_counts(alloc, h, servers.as_slice())?;
+    servers_text(alloc, counts.items())
 }
 
 /// The note that the record of this number is cut short, or nothing.

@@ -9,7 +9,7 @@ use bm_words::Names;
 /// How the connections are told.
 #[derive(Clone, Copy, Debug, PartialEq, Eq)]
 pub(crate) enum Format {
-    /// In lines of words: of connections, servers, causes and advice.
+    /// In lines of words: of connections, servers, changes, replies, causes and advice.
     Lines,
     /// `--csv`: in fields with commas between them, a line for each connection.
     Csv,

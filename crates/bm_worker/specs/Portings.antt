@@ -7,7 +7,7 @@ pub record Porting : Type 0 where
   pub number : ℕ
   -- a seat of every server, in their order
   pub seats : List (List Seated)
-  -- no fewer than the calls that it made
+  -- no fewer than its turns at any one shard
   pub tries : ℕ
   -- the greatest clock of all that it did, or 0
   pub latest : ℕ
