@@ -209,6 +209,20 @@ fn records_have_their_link_types_and_octets(rt: HostRuntime) -> Result<(), Fail>
 }
 
 #[test]
+fn the_first_time_is_told(rt: HostRuntime) -> Result<(), Fail> {
+    let alloc = rt.alloc();
+    let src = SureSource::new(MIXED.to_vec(alloc)?, 50);
+    let Ok(mut reader) = NgReader::start(alloc, src) else {
+        return Err(Fail::from("the first block is whole"));
+    };
+    assert_eq!(rt; reader.began(), 0);
+    read_ng(alloc, &mut reader, &VIPS)?;
+    // 2,048 units of 2^-10 s
+    assert_eq!(rt; reader.began(), 2_000_000_000);
+    Ok(())
+}
+
+#[test]
 fn a_front_gives_its_octets_first(rt: HostRuntime) -> Result<(), Fail> {
     let alloc = rt.alloc();
     let src = SureSource::new([1, 2, 3, 4, 5, 6].to_vec(alloc)?, 2);

@@ -216,8 +216,10 @@ fn four_threads_merge_as_one_does(rt: HostRuntime) -> Result<(), Fail> {
     let odd = make_long_row(alloc, 1, 5_000)?;
     let even = make_long_row(alloc, 2, 5_000)?;
     let logs = [odd.events.as_slice(), even.events.as_slice()];
-    let merged = merge_rising_beside(&rt, alloc, 4, &logs, room_for(alloc, 10_000)?)?;
-    let clocks = merged.as_slice().iter().map(|event| event.clock.0);
+    let beside = merge_rising_beside(&rt, alloc, 4, &logs, room_for(alloc, 10_000)?)?;
+    let clocks = beside.as_slice().iter().map(|event| event.clock.0);
     assert!(rt; clocks.eq(1..10_001u64));
+    let merged = merge_rising(alloc, &[odd, even])?;
+    assert!(rt; beside.as_slice() == merged.as_slice());
     Ok(())
 }

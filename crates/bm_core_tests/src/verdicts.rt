@@ -1,7 +1,7 @@
 //! Tests of `bm_core`: verdicts and clocks.
 use crate::flows::flow;
 use bm_base::{Hop, Moment, MuxId, Segment, ServerId, Tag, Taken, Version};
-use bm_core::{Local, Verdict, What, Why, decide, next_clock};
+use bm_core::{Local, Verdict, Why, decide, next_clock};
 use bm_seq::Receiver;
 use std::process::Abort;
 

@@ -122,5 +122,9 @@ fn flags_are_the_bits_of_their_octet(rt: HostRuntime) {
     let all = [FIN, SYN, RST, PSH, ACK, URG, ECE, CWR];
     let bits = [0x01, 0x02, 0x04, 0x08, 0x10, 0x20, 0x40, 0x80];
     assert_eq!(rt; all, bits);
+}
+
+#[test]
+fn no_clock_of_a_run_is_above_the_last(rt: HostRuntime) {
     assert_eq!(rt; LAST, 9_000_000_000_000_000_000);
 }

@@ -6,9 +6,9 @@ ghost use Rattle.bm_link.specs.Fits.{ArePackets};
 
 use crate::stages::{DATA, OPENING, OTHER, Row, bare_stage, capture, flow, history, moved_stage};
 use bm_base::{Hop, Memory, Moment, MuxId, Octets, ServerId, Taken, Version};
-use bm_core::{Event, History, Stage, Verdict, What, Why};
+use bm_core::{Cause, Event, History, Stage, Verdict, What, Why};
 use bm_io::MemSink;
-use bm_trace::{report, report_beside};
+use bm_trace::{cause, report, report_beside};
 use std::alloc::Global;
 use std::process::Abort;
 use std::test::Fail;
@@ -92,6 +92,26 @@ fn a_connection_is_closed_once(rt: HostRuntime) -> Result<(), Fail> {
         arrive(1_002, 2, direct, 1, Verdict::Reset(Why::NoPrevious)),
     ];
     check(&rt, alloc, stage, packets, false, &want)
+}
+
+/// Tests that the event at this place has this cause.
+fn check_cause(rt: &impl Abort, h: &History, place: usize, due: Option<Cause>)
+    requires { IsRun h.now }
+{
+    assert!(rt; place < h.events.items().len());
+    assert!(rt; cause(h, place) == due);
+}
+
+#[test]
+fn a_reset_has_a_cause(rt: HostRuntime) -> Result<(), Fail> {
+    let alloc = rt.alloc();
+    let (capture, packets) = capture(alloc, GAP, &[OPENING, DATA])?;
+    let stage = bare_stage(alloc, 4_096, true, capture)?;
+    let h = history(alloc, stage, packets, false)?;
+    // Accepted, and reset behind the close.
+    check_cause(&rt, &h, 1, None);
+    check_cause(&rt, &h, 5, Some(Cause::NotHeld));
+    Ok(())
 }
 
 #[test]

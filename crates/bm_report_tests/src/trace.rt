@@ -135,7 +135,7 @@ fn put_events(list: &mut Vec<Event>, rows: &[EventRow]) -> Result<(), Memory> {
     Ok(())
 }
 
-/// One event of each kind. No run has these.
+/// Events of each kind. No run has these.
 fn events(alloc: Global) -> Result<List<Event>, Memory> {
     let mut list = Vec::new(alloc);
     put_events(&mut list, &PROCESSED)?;
