@@ -38,6 +38,7 @@ milliseconds step moment =
     if step % 1000000000 == 0 then []
     else codes "." ++ three_digits (moment / 1000000 % 1000) ++ microseconds step moment
 
--- a moment in seconds, with as many digits behind the point as multiples of the step need
+-- a moment in seconds, with as many groups of three digits behind the point as multiples of the
+-- step need
 unfoldable pub seconds : ℕ → ℕ → List ℕ
 seconds step moment = decimal (moment / 1000000000) ++ milliseconds step moment ++ codes " s"

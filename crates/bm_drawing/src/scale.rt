@@ -119,7 +119,8 @@ impl fmt::Display for Milliseconds {
     }
 }
 
-/// A moment in seconds, with as many digits behind the point as multiples of the step need.
+/// A moment in seconds, with as many groups of three digits behind the point as multiples of the
+/// step need.
 #[derive(Clone, Copy)]
 pub(crate) struct Seconds {
     pub(crate) step: u64,
