@@ -1,15 +1,22 @@
-//! What `bm_board_bench` does, in plain Rust: a table behind an `Arc` that an `RwLock` of std holds.
+//! Does what `bm_board_bench` does, in plain Rust: a table behind an `Arc` in an `RwLock` of std.
 //!
 //! usage: board_rwlock looks READERS LOOKS BUCKETS, or board_rwlock batches BATCHES OCTETS
 
 use std::sync::{Arc, RwLock};
 use std::thread;
 
+/// A server that had a bucket, and the moment at which it lost it.
+#[derive(Clone, Copy)]
+struct Past {
+    server: u16,
+    stamp: u64,
+}
+
 #[derive(Clone, Copy)]
 struct Entry {
     cur: u16,
-    prev: Option<u16>,
-    stamp: u64,
+    prev: Option<Past>,
+    older: Option<Past>,
 }
 
 #[derive(Clone)]
@@ -22,7 +29,7 @@ struct Table {
 impl Table {
     fn opening(buckets: usize) -> Table {
         let entries = (0..buckets)
-            .map(|bucket| Entry { cur: bucket as u16 % 2 + 1, prev: None, stamp: 0 })
+            .map(|bucket| Entry { cur: bucket as u16 % 2 + 1, prev: None, older: None })
             .collect();
         Table { version: 0, clock: 0, entries }
     }
@@ -30,7 +37,8 @@ impl Table {
     /// The table after one move, as a copy.
     fn moved(&self, bucket: usize, to: u16, moment: u64, clock: u64) -> Table {
         let mut next = self.clone();
-        next.entries[bucket] = Entry { cur: to, prev: Some(self.entries[bucket].cur), stamp: moment };
+        let Entry { cur, prev, .. } = self.entries[bucket];
+        next.entries[bucket] = Entry { cur: to, prev: Some(Past { server: cur, stamp: moment }), older: prev };
         next.version += 1;
         next.clock = clock;
         next
@@ -47,7 +55,8 @@ fn watch(board: &Board, looks: u32) -> u64 {
     let (mut seen, mut last) = (0, 0);
     for _ in 0..looks {
         let table = look(board);
-        if table.version >= last && table.entries[0].stamp <= 4_096 && table.clock >= u64::from(table.version) {
+        let moved_at = table.entries[0].prev.map_or(0, |past| past.stamp);
+        if table.version >= last && moved_at <= 4_096 && table.clock >= u64::from(table.version) {
             seen += 1;
         }
         last = table.version;
@@ -110,23 +119,28 @@ fn bucket_of(flow: (u32, u32, u16, u16), buckets: usize) -> usize {
     (hash % buckets as u64) as usize
 }
 
-/// The carrier header of 44 octets, with its checksum.
-fn header(mux: u16, version: u32, entry: &Entry, total: u16) -> [u8; 44] {
-    let mut header = [0; 44];
-    header[0] = 0x4b;
+/// The octets of the carrier header.
+const HEADER: usize = 56;
+
+/// The carrier header, with its checksum.
+fn header(mux: u16, version: u32, entry: &Entry, total: u16) -> [u8; HEADER] {
+    let mut header = [0; HEADER];
+    header[0] = 0x4e;
     header[2..4].copy_from_slice(&total.to_be_bytes());
     header[6] = 0x40;
     header[8..10].copy_from_slice(&[0x40, 4]);
     header[12..16].copy_from_slice(&(0xac1f_0000 + u32::from(mux)).to_be_bytes());
     header[16..20].copy_from_slice(&(0xac10_0000 + u32::from(entry.cur)).to_be_bytes());
-    header[20..22].copy_from_slice(&[0x9e, 0x18]);
-    if let Some(prev) = entry.prev {
-        header[23] = 1;
-        header[24..28].copy_from_slice(&(0xac10_0000 + u32::from(prev)).to_be_bytes());
+    header[20..22].copy_from_slice(&[0x9e, 0x24]);
+    for (past, at) in [(entry.prev, 24), (entry.older, 36)] {
+        if let Some(past) = past {
+            header[23] += 1;
+            header[at..at + 4].copy_from_slice(&(0xac10_0000 + u32::from(past.server)).to_be_bytes());
+            header[at + 4..at + 12].copy_from_slice(&past.stamp.to_be_bytes());
+        }
     }
-    header[28..36].copy_from_slice(&entry.stamp.to_be_bytes());
-    header[36..40].copy_from_slice(&version.to_be_bytes());
-    header[40..42].copy_from_slice(&mux.to_be_bytes());
+    header[48..52].copy_from_slice(&version.to_be_bytes());
+    header[52..54].copy_from_slice(&mux.to_be_bytes());
     let sum: u32 = header.chunks(2).map(|pair| u32::from(pair[0]) << 8 | u32::from(pair[1])).sum();
     let sum = (sum & 0xffff) + (sum >> 16);
     let sum = !((sum & 0xffff) + (sum >> 16)) as u16;
@@ -144,7 +158,7 @@ impl Mux {
         }
         for item in items {
             let entry = &table.entries[bucket_of(item.flow, table.entries.len())];
-            let total = 44 + item.inner.len();
+            let total = HEADER + item.inner.len();
             let mut octets = Vec::with_capacity(total);
             octets.extend_from_slice(&header(self.id, table.version, entry, total as u16));
             octets.extend_from_slice(item.inner);
@@ -171,7 +185,7 @@ fn batches(batches: u32, octets: usize) -> u64 {
     let mut sent = 0;
     for _ in 0..batches {
         mux.batch(&board, &items, &mut out);
-        sent += out.iter().filter(|steered| steered.octets.len() > 44).count() as u64;
+        sent += out.iter().filter(|steered| steered.octets.len() > HEADER).count() as u64;
         out.clear();
     }
     let steers = mux.log.iter().filter(|(_, what)| matches!(what, What::Steer(packet, 0) if *packet < 256)).count();

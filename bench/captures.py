@@ -1,14 +1,14 @@
-"""Captures of generated connections to 192.0.2.1 port 80, and what a call takes, for the scripts of this folder."""
+"""Makes captures of generated connections to 192.0.2.1 port 80, and measures calls, for the scripts of this folder."""
 import multiprocessing, os, struct, subprocess, sys, time
 
 TOP = os.path.dirname(os.path.dirname(os.path.abspath(__file__)))
 SYN, RST, ACK, DATA, FIN = 2, 4, 0x10, 0x18, 0x11
-# when each packet of a visit comes, in microseconds; its flags; its place in the sequence numbers; its octets of data
+# for each packet of a visit: when it comes in microseconds, its flags, its offset in the sequence numbers, its octets of data
 VISIT = [(0, SYN, 0, 0), (20_000, ACK, 1, 0), (20_100, DATA, 1, 400)]
 VISIT += [(40_000 + 4_000 * i, ACK, 401, 0) for i in range(6)] + [(80_000, FIN, 401, 0)]
-# how many microseconds lie between two visits; some 400 of them go on at a time
+# the microseconds between two visits; about 400 visits are open at a time
 APART = 200
-# in place of its packets, by the remainder of a visit's number by four: no SYN, an RST, a second SYN
+# packets that replace those of a visit, by the visit's number modulo four: no SYN, an RST, a second SYN
 BROKEN = {1: {0: (0, ACK, 0, 0)}, 2: {1: (20_000, RST, 1, 0)}, 3: {1: (20_000, SYN, 0, 0)}}
 
 
@@ -18,7 +18,8 @@ def large_pages():
 
 
 def program():
-    return os.environ.get("BEAMER", os.path.join(TOP, "beamer"))
+    """The proved program: ./beamer would run the source if there is none."""
+    return os.environ.get("BEAMER", os.path.join(TOP, "crates", "bm_app", "out", "bm_app"))
 
 
 def record(moment, connection, flags, sequence, size):
@@ -41,7 +42,7 @@ def visits(records, broken={}):
 
 
 def connections(records, per=2):
-    """A SYN and data of each connection, so many packets in all."""
+    """A SYN and data of each connection, `per` packets to a connection and `records` in all."""
     for number in range(records):
         connection, nth = divmod(number, per)
         flags, sequence, size = (DATA, 1 + (nth - 1) * 100, 100) if nth else (SYN, 0, 0)
@@ -55,7 +56,7 @@ def write_capture(path, packets, *words):
 
 
 def write_apart(*words):
-    """Writes a capture in a process of its own: what this one takes would count as memory of the calls."""
+    """Writes a capture in its own process: this one's memory would count as memory of the calls."""
     writer = multiprocessing.Process(target=write_capture, args=words)
     writer.start()
     writer.join()
@@ -64,7 +65,7 @@ def write_apart(*words):
 
 
 def measure(words, out=os.devnull):
-    """Wall time, processor time and peak memory (MiB) of a call whose output is written there."""
+    """Wall time, processor time and peak memory (MiB) of a call whose output goes to `out`."""
     began = time.time()
     with open(out, "wb") as file:
         child = subprocess.Popen(words, stdout=file)

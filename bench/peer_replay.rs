@@ -1,9 +1,9 @@
-//! What `beamer replay` does, in plain Rust: a capture of the classic form, replayed through one mux and servers that nothing
-//! changes. Its report is that of `beamer replay`, octet for octet. It keeps no events: the line of each is written as it
-//! comes, and of each record one end is kept.
+//! Does what `beamer replay` does, in plain Rust: replays a capture of the classic form through one mux and servers that nothing changes.
+//! Its report is that of `beamer replay`, octet for octet. It keeps no events: it writes the line of each as it happens, and keeps one
+//! end of each record.
 //!
 //! usage: peer_replay CAPTURE [SCRIPT]
-//! SCRIPT may have the keys `servers`, `buckets`, `shards` and `capacity` alone, each on a line of its own.
+//! SCRIPT may have only the keys `servers`, `buckets`, `shards` and `capacity`, each on a line of its own.
 
 use std::collections::{HashMap, VecDeque};
 use std::io::{self, BufWriter, Write};
@@ -14,7 +14,7 @@ const SYN: u8 = 0x02;
 const RST: u8 = 0x04;
 const ACK: u8 = 0x10;
 const WINDOW: u32 = 65_535;
-/// The service that is steered, where no script names one: 192.0.2.1 port 80.
+/// The service that is steered: 192.0.2.1 port 80.
 const SERVICE: (u32, u16) = (0xC000_0201, 80);
 
 struct Setting {
@@ -99,7 +99,7 @@ fn short_number(octets: &[u8], at: usize) -> u16 {
     u16::from_be_bytes(octets[at..at + 2].try_into().unwrap())
 }
 
-/// What follows the type 0800 of an Ethernet frame, behind at most two tags.
+/// What follows the type 0800 of an Ethernet frame, after at most two tags.
 fn ethernet_part(octets: &[u8]) -> Result<&[u8], &'static str> {
     let mut at = 12;
     for tags in 0..3 {
@@ -115,7 +115,7 @@ fn ethernet_part(octets: &[u8]) -> Result<&[u8], &'static str> {
     Err("not-ipv4")
 }
 
-/// What follows a header of Linux cooked frames, whose protocol stands at this place.
+/// What follows the header of a Linux cooked frame, whose protocol is at this place.
 fn cooked_part(octets: &[u8], header: usize, place: usize) -> Result<&[u8], &'static str> {
     if octets.len() < header {
         return Err("short-link");
@@ -183,7 +183,7 @@ fn classify(link: u32, octets: &[u8]) -> Result<Segment, &'static str> {
     if (flow.dst, flow.dport) != SERVICE {
         return Err("other-destination");
     }
-    if packet.len() > 65_491 {
+    if packet.len() > 65_479 {
         return Err("too-long");
     }
     let flags = payload[13];
@@ -221,7 +221,7 @@ impl Capture<'_> {
         if self.swapped { read.swap_bytes() } else { read }
     }
 
-    /// Hands on the captured time and the octets of each record, and says whether the last is cut.
+    /// Passes the captured time and the octets of each record on, and says whether the last is cut.
     fn each(&self, mut take: impl FnMut(u64, &[u8]) -> io::Result<()>) -> io::Result<bool> {
         let mut at = 24;
         while at < self.octets.len() {
@@ -306,7 +306,7 @@ enum End {
     Arrived(Verdict, u16),
 }
 
-/// A flow: its connection, where it is held, and whether it was ever accepted. Nothing moves, so a flow has one server.
+/// A flow: its connection, if one is held, and whether it was ever accepted. Nothing moves, so a flow has one server.
 #[derive(Default)]
 struct State {
     receiver: Option<Receiver>,
@@ -384,7 +384,7 @@ struct Replay<W: Write> {
 }
 
 impl<W: Write> Replay<W> {
-    /// The next packet is steered, once all copies that are due came.
+    /// Steers the next packet, after all copies that are due have arrived.
     fn steer(&mut self, moment: u64, segment: Segment) -> io::Result<()> {
         self.arrive_until(moment)?;
         let packet = self.ends.len() as u32 + 1;

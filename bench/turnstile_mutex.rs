@@ -1,4 +1,4 @@
-//! The turns of `bm_turn_bench` with a `Mutex` in place of the turnstile: the same book in plain Rust.
+//! The turns of `bm_turn_bench` with a `Mutex` in place of the turnstile: the same tally in plain Rust.
 //!
 //! usage: turnstile_mutex THREADS MUTEXES TURNS
 
@@ -10,7 +10,7 @@ struct Made {
     _call: u32,
 }
 
-/// It keeps its calls, and replies how many there were before.
+/// Keeps its calls, and replies how many there were before.
 struct Tally {
     calls: Vec<Made>,
 }

@@ -1,4 +1,4 @@
-"""The scripts of this folder as modules."""
+"""Loads the scripts of this folder as modules."""
 import importlib.machinery, importlib.util, os
 
 

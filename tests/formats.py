@@ -1,7 +1,7 @@
-"""A reader of captures and scripts, written from docs/FORMATS.md alone: what is due for the octets of both.
+"""A reader of captures and scripts, written from docs/FORMATS.md alone: it gives the expected answer for the octets of both.
 
 Captures of the pcapng form are read by tests/pcapng/ng_reader.py. Scripts are read with Python's tomllib, which knows TOML 1.0;
-`plainer` turns what TOML 1.1 adds into that. What the commands do to the plan is that of tests/rules.py.
+`plainer` turns what TOML 1.1 adds into that. tests/rules.py has what the commands do to the plan.
 """
 import math, os, re, struct, sys, tomllib
 
@@ -24,7 +24,7 @@ class Fault(Exception):
 
 # CAPTURES
 
-# The status and the line of each fault of a capture; its numbers stand behind its name.
+# The status and the line of each fault of a capture; its numbers follow its name.
 CAPTURE_FAULTS = {
     "NotACapture": (3, "capture: not a capture"),
     "BadVersion": (3, "capture: bad version"),
@@ -37,7 +37,7 @@ CAPTURE_FAULTS = {
 
 
 def capture_fault(said):
-    """The fault that is said by its name and its numbers."""
+    """The fault with this name and these numbers."""
     name, *numbers = said.split()
     status, text = CAPTURE_FAULTS[name]
     return Fault(status, text.format(*numbers))
@@ -113,7 +113,7 @@ def segment_of(link, frame, services):
     sport, dport, seq, ack = struct.unpack("!HHII", tcp[:12])
     if (destination, dport) not in services:
         raise Unsteered("other-destination")
-    if len(packet) > 65_491:
+    if len(packet) > 65_479:
         raise Unsteered("too-long")
     return (source, destination, sport, dport), seq, ack, stated - offset, tcp[13]
 
@@ -134,7 +134,7 @@ class Header:
 
 
 def places(header, octets):
-    """The time, the place and the length of each whole record, and then None where a record is cut."""
+    """The time, the place and the length of each whole record, and then None if a record is cut."""
     at, number = 24, 0
     while at < len(octets):
         if number == MOST_RECORDS and at < MOST_OCTETS + 1:
@@ -155,7 +155,7 @@ def places(header, octets):
 
 
 def read_classic(octets):
-    """The moment, the link type and the octets of each whole record, and whether one behind them is cut."""
+    """The moment, the link type and the octets of each whole record, and whether a cut record follows."""
     header, records, first = Header(octets), [], None
     for found in places(header, octets):
         if found is None:
@@ -183,7 +183,7 @@ def packet_of(moment, link, frame, services):
 
 
 def read_capture(octets, services):
-    """The records as packets, and whether one behind them is cut."""
+    """The records as packets, and whether a cut record follows."""
     records, cut = read_blocks(octets) if octets[:4] == BLOCKS else read_classic(octets)
     return [packet_of(*record, services) for record in records], cut
 
@@ -210,14 +210,14 @@ def with_plain_escapes(string):
 
 
 def plainer(text):
-    """The text without what TOML 1.1 added to 1.0: lines, comments and a last comma in an inline table, two escapes, and times
-    without seconds. Refused where arrays and inline tables are more than 80 deep."""
+    """The text without what TOML 1.1 added to 1.0: newlines, comments and a trailing comma in inline tables, two escapes, and times
+    without seconds. Refused if arrays and inline tables are nested more than 80 deep."""
     out, open_marks, last = [], [], ""
     pieces = strings_and_others(text)
     for number, piece in enumerate(pieces):
         if piece[0] in " \t\n#":
-            behind = next((p for p in pieces[number + 1 :] if p[0] not in " \t\n#"), "")
-            free = open_marks[-1:] == ["{"] and (last in ("{", ",") or behind in (",", "}"))
+            following = next((p for p in pieces[number + 1 :] if p[0] not in " \t\n#"), "")
+            free = open_marks[-1:] == ["{"] and (last in ("{", ",") or following in (",", "}"))
             out.append(" " if free else piece)
             continue
         if piece in ('"', "'"):
@@ -256,7 +256,7 @@ def fits(value):
 def toml(octets):
     try:
         text = octets.removeprefix(b"\xef\xbb\xbf").decode()
-        # a carriage return that no line feed follows stands nowhere in TOML; tomllib would take one more of these pairs
+        # TOML allows no lone carriage return; of \r\r\n the next line leaves \r\n, which tomllib would take
         text = text.replace("\r\n", "\n")
         if "\r" in text:
             raise NotToml
@@ -295,7 +295,7 @@ def rising(value):
 
 
 def place(lowest_port):
-    """An endpoint's text, with a port from this one on."""
+    """Reads an endpoint's text whose port is at least this one."""
 
     def read(value):
         plain = r"(0|[1-9][0-9]*)"
@@ -358,7 +358,7 @@ def required(place, key, read, says):
 
 
 def read_top(says):
-    """The values of the top keys that are there, and the plain ones of the others."""
+    """The values of the top keys, and the defaults of those that are missing."""
     only("", TOP, says)
     top = DEFAULTS | {"fault": [], "command": []}
     for key, read in TOP.items():
@@ -397,7 +397,7 @@ def read_script(octets):
 
 
 def due(form, capture, script):
-    """The fleet, the records as packets and whether one behind them is cut, or a Fault. `script` is None where none is named."""
+    """The fleet, the records as packets and whether a cut record follows; raises a Fault. `script` is None if none is named."""
     fleet = read_script(b"" if script is None else script)
     if form == "run" and len(fleet.known) * fleet.shards * (fleet.muxes + 1) > MOST_SEATS:
         raise Fault(7, "limit seats")

@@ -1,10 +1,10 @@
-"""The lines of a report, by docs/FORMATS.md, from events and back. An event is a dictionary with its clock and what it is."""
+"""Turns events into the lines of a report, by docs/FORMATS.md, and back. An event is a dictionary with its clock and what it is."""
 import re
 from rules import endpoints, flow_between
 
 ENDS = {"accept": "accepted", "process": "processed", "reset": "reset", "drop": "dropped"}
 TOTALS = "packets steered unsteered accepted processed forwarded reset dropped lost stray".split()
-# the fields of each event whose words are fields, and which of these are numbers
+# the fields of each event whose words are all fields; all but TEXTS are numbers
 FIELDS = {
     "publish": ["version"],
     "switch": ["mux", "version"],
@@ -13,14 +13,20 @@ FIELDS = {
     "sync": [],
 }
 TEXTS = ("hop",)
-# what the words of each event may be that aren't numbers
+# the possible words of each field that isn't a number
 WORDS = {
-    "hop": "direct|chained",
+    "hop": "direct|chained|twice",
     "verdict": r"accept|process (advance|duplicate|ahead|outside|challenge|ended)|forward \d+"
     "|reset (no-previous|chain-expired|chained-unknown)|drop (silent|full|retired)",
-    "because": "never-accepted|not-held|stale-mux|moved-twice|chain-late|syn-elsewhere|full|old-table",
+    "because": "never-accepted|not-held|stale-mux|moved-thrice|chain-late|syn-elsewhere|full|old-table",
     "result": r"done|not-drained|too-early \d+",
 }
+# The kinds that many random stages have to have, as `kinds_of` names them.
+KINDS = {"publish", "switch", "steer", "lost direct", "lost chained", "close closed", "close none", "sync"}
+KINDS |= {"retire done", "retire not-drained", "retire too-early", *WORDS["because"].split("|")}
+KINDS |= {f"arrive direct {words}" for words in ("accept", "process", "forward", "reset no-previous", "reset chain-expired", "drop")}
+KINDS |= {f"arrive chained {words}" for words in ("process", "forward", "reset chain-expired", "reset chained-unknown", "drop")}
+KINDS |= {f"arrive twice {words}" for words in ("process", "reset chained-unknown", "drop")}
 
 
 def line(e):
@@ -45,7 +51,7 @@ def number(word):
 
 
 def event(text):
-    """The event of a line; ValueError where it isn't one."""
+    """The event of a line; ValueError if it isn't one."""
     clock, what, *words = text.split(" ")
     e = {"clock": number(clock), "what": what}
     if what in FIELDS:
@@ -64,6 +70,19 @@ def event(text):
     if what not in (*FIELDS, "arrive", "close", "retire") or not known or line(e) != text:
         raise ValueError(f"no line of an event: {text}")
     return e
+
+
+def kinds_of(events):
+    """For each event its first word, with a copy's hop and the first word of its verdict (for a reset also the reason), or with the
+    reply; and its cause, if any."""
+    for e in events:
+        verdict = e.get("verdict", "")
+        words = e.get("hop"), verdict if verdict.startswith("reset") else verdict.split(" ")[0], e.get("result", "").split(" ")[0]
+        if e["what"] == "close":
+            words = ["closed" if e["closed"] else "none"]
+        yield " ".join([e["what"], *filter(None, words)])
+        if e.get("because"):
+            yield e["because"]
 
 
 def ends_of(packets, events):
@@ -89,13 +108,13 @@ def totals_of(packets, events):
 
 
 def closing(packets, events, cut=False):
-    """The lines behind those of the events; a record behind the packets may be cut."""
+    """The lines after those of the events; `cut` says whether a cut record follows the packets."""
     note = [f"note record {len(packets) + 1} cut short"] if cut else []
     return ends_of(packets, events) + note + [totals_of(packets, events)]
 
 
 def events_of(text, packets, cut=False):
-    """The events of a report, whose other lines have to be those that are due behind them; ValueError where they aren't."""
+    """The events of a report; ValueError if the lines after them aren't the expected ones."""
     lines = text.split("\n")
     count = len(lines) - 1 - len(packets) - cut - 1
     if lines.pop() != "" or count < 0:
@@ -105,5 +124,5 @@ def events_of(text, packets, cut=False):
         raise ValueError("an event of a packet that isn't there")
     for wanted, text in zip(closing(packets, events, cut), lines[count:], strict=True):
         if text != wanted:
-            raise ValueError(f"{text!r} stands where {wanted!r} is due")
+            raise ValueError(f"{text!r} in place of {wanted!r}")
     return events

@@ -1,6 +1,5 @@
-"""The rules of docs/DEFINITIONS.md, docs/FORMATS.md and docs/CAUSES.md that the tests share, each once and said plainly: hashes,
-records, fleets with their plans, receivers, verdicts, causes and retirements. Nothing here knows which event comes when.
-"""
+"""The rules of docs/DEFINITIONS.md, docs/FORMATS.md and docs/OPERATING.md that the tests share, each written once and plainly: hashes,
+records, fleets with their plans, receivers, verdicts, causes and retirements. Nothing here knows which event comes when."""
 import struct
 
 SYN, FIN, RST, ACK = 2, 1, 4, 16
@@ -96,9 +95,8 @@ DEFAULTS = {
 
 
 class Fleet:
-    """A setting, and the plan and commands that its script makes. A command is ("change", at, version), ("close", at, server,
-    flow), ("retire", at, server) or ("sync", at); a change its moment, the words that made it, and the new server of each bucket
-    that moves."""
+    """A setting, and the plan and commands that its script makes. A command is ("change", at, version), ("close", at, server, flow),
+    ("retire", at, server) or ("sync", at). A change is its moment, the words that made it, and the new server of each bucket that moves."""
 
     def __init__(self, setting):
         says = DEFAULTS | setting
@@ -122,7 +120,7 @@ class Fleet:
         return (flow[2] if self.route == "port" else number) % self.muxes
 
     def fate(self, packet, hop):
-        """How many copies a sending has, and how late."""
+        """How many copies a sending has, and how late they are."""
         return next((row[2:] for row in self.faults if row[:2] == (packet, hop)), (1, 0))
 
     # TABLES
@@ -132,18 +130,20 @@ class Fleet:
         return moves[bucket] if moves else self.servers[bucket % len(self.servers)]
 
     def entry(self, version, bucket):
-        """The server of a bucket at a version, the one before it, and the stamp."""
+        """The servers of a bucket at a version: the one that has it, without a moment, and the last two that had it before, each with
+        the moment at which it lost it."""
+        servers = [(self.server(version, bucket), None)]
         for number in range(version, 0, -1):
             moment, _, moves = self.changes[number - 1]
-            if bucket in moves:
-                return moves[bucket], self.server(number - 1, bucket), moment
-        return self.servers[bucket % len(self.servers)], None, 0
+            if bucket in moves and len(servers) <= 2:
+                servers.append((self.server(number - 1, bucket), moment))
+        return servers
 
     def moves_between(self, bucket, low, high):
         return sum(bucket in moves for _, _, moves in self.changes[low:high])
 
     def retirement(self, published, server, at):
-        """The answer to the wish to retire the server at this moment, by so many published changes."""
+        """The reply to a command to retire the server at this moment, when this many changes are published."""
         changes = self.changes[:published]
         if not any(words == ("drain", server) for _, words, _ in changes):
             return "not-drained"
@@ -158,7 +158,8 @@ class Fleet:
     # THE CONTROLLER
 
     def rebalance(self, active):
-        """The moves that bring each active server to its quota: highest buckets are given, the first servers are filled first."""
+        """The moves that bring each active server to its quota: servers give their highest buckets, and the first servers are filled
+        first."""
         owners = [self.server(len(self.changes), b) for b in range(self.buckets)]
         quotas = {s: self.buckets // len(active) + (i < self.buckets % len(active)) for i, s in enumerate(active)}
         owned = {}
@@ -169,7 +170,7 @@ class Fleet:
         return dict(zip(sorted(given), takers))
 
     def change(self, at, words, moves):
-        """Puts a change into the plan, or answers the limit that it passes."""
+        """Puts a change into the plan, or returns the limit that it would pass."""
         if len(self.changes) == MOST_CHANGES:
             return "limit changes"
         if sum(len(of) for _, _, of in self.changes) + len(moves) > MOST_MOVES:
@@ -179,7 +180,7 @@ class Fleet:
         return None
 
     def command(self, at, words):
-        """Carries a command out in the plan, or answers why it is refused."""
+        """Carries out a command in the plan, or returns why it is refused."""
         do = words[0]
         if do in ("add", "drain"):
             server = words[1]
@@ -258,7 +259,7 @@ def opened(packet):
 
 
 def after(receiver, verdict, packet):
-    """The receiver of a held connection after it processed the packet, or None where that ended it."""
+    """The receiver of a held connection after it processed the packet, or None if that ended it."""
     if verdict == "process ended":
         return None
     if verdict != "process advance":
@@ -269,13 +270,33 @@ def after(receiver, verdict, packet):
     }
 
 
+# HOPS
+
+# The hops of copies that weren't forwarded, were forwarded once, and were forwarded twice.
+HOPS = ["direct", "chained", "twice"]
+
+
+def next_hop(hop):
+    return HOPS[HOPS.index(hop) + 1]
+
+
+def arrives_at(entry, hop):
+    """The server of an entry at which a copy of this hop arrives."""
+    return entry[HOPS.index(hop)][0]
+
+
+def onward(entry, hop):
+    """The server of an entry to which a copy of this hop may be forwarded, and the moment at which that server lost the bucket;
+    or None."""
+    return next(iter(entry[HOPS.index(hop) + 1 :]), None)
+
+
 # VERDICTS AND CAUSES
 
 
 def verdict_of(retired, receiver, full, timeout, clock, hop, entry, packet):
-    """The first row of the table of verdicts that applies, by whether the shard is retired, the receiver of the flow that it holds,
-    or None, and whether it is full."""
-    _, previous, stamp = entry
+    """The verdict by the first row of the table of verdicts that applies. `retired` and `full` say whether the shard is; `receiver` is
+    that of the flow, or None if the shard doesn't hold it."""
     if retired:
         return "drop retired"
     if receiver:
@@ -284,15 +305,16 @@ def verdict_of(retired, receiver, full, timeout, clock, hop, entry, packet):
         return "process " + taken(receiver, packet)
     if hop == "direct" and packet.opening():
         return "drop full" if full else "accept"
-    if hop == "direct" and previous is not None and clock <= stamp + timeout:
-        return f"forward {previous}"
+    to, lost_at = onward(entry, hop) or (None, None)
+    if to and clock <= lost_at + timeout:
+        return f"forward {to}"
     if packet.flags & RST:
         return "drop silent"
-    return "reset " + ("chained-unknown" if hop == "chained" else "no-previous" if previous is None else "chain-expired")
+    return "reset " + ("chain-expired" if to else "no-previous" if hop == "direct" else "chained-unknown")
 
 
 def needs_cause(verdict, server, owner, packet):
-    """The arrival is a drop, a reset or a stray, where the owner has this server, or there is none."""
+    """Whether the arrival is a drop, a reset or a stray; `owner` is the owner's server, or None if there is no owner."""
     stray = verdict.startswith("process") and server != owner and not packet.opening()
     return stray or verdict.startswith(("drop", "reset"))
 
@@ -301,10 +323,10 @@ def cause_of_opening(verdict):
     return {"drop full": "full", "drop retired": "old-table"}[verdict]
 
 
-def first_broken(fleet, packet, version, server, clock, owner, holds, elsewhere):
-    """The first broken premise of a packet that opens no connection and arrives at a server, or None. It was steered with this
-    version; the owner is a server and the version of the packet that it accepted, or None; it holds that Accept still, or not;
-    and another server holds the flow, or not."""
+def first_broken(fleet, packet, version, hop, server, clock, owner, holds, elsewhere):
+    """The first broken premise, or None, for a copy of this hop that arrives at a server, of a packet that opens no connection and was
+    steered with this version. `owner` is a server and the version of the packet that it accepted, or None; `holds` says whether it still
+    holds what it accepted, and `elsewhere` whether another server holds the flow."""
     bucket = fleet.bucket(packet.flow)
     if owner is None:
         return "never-accepted"
@@ -312,8 +334,9 @@ def first_broken(fleet, packet, version, server, clock, owner, holds, elsewhere)
         return "not-held"
     if version < owner[1]:
         return "stale-mux"
-    if fleet.moves_between(bucket, owner[1], version) >= 2:
-        return "moved-twice"
-    if server != owner[0] and clock > fleet.entry(version, bucket)[2] + fleet.timeout():
+    if fleet.moves_between(bucket, owner[1], version) >= 3:
+        return "moved-thrice"
+    beyond = onward(fleet.entry(version, bucket), hop)
+    if server != owner[0] and beyond and clock > beyond[1] + fleet.timeout():
         return "chain-late"
     return "syn-elsewhere" if elsewhere else None

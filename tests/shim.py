@@ -1,4 +1,4 @@
-"""Makes a library of C that a test puts before the system's, by `cc` and LD_PRELOAD."""
+"""Compiles a C library with `cc` that a test loads before the system's, by LD_PRELOAD."""
 import os, subprocess
 
 

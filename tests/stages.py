@@ -4,22 +4,37 @@ from rules import ACK, FIN, M32, RST, SYN, Fleet, Packet, endpoints, flow_of_fra
 
 CLIENT, SERVICE, OTHER = 0x0A000001, (0xC0000201, 80), (0xC0000209, 80)
 ETHERNET, RAW_IP = 1, 101
+# The kinds of random stages.
+ANY = "any"
+# One connection continues while its bucket moves, mostly within the timeout.
+QUICK = "quick"
+# The same, with about the timeout between the moves.
+SLOW = "slow"
+# A bucket goes to another server and comes back, with as much time between, while connections are opened at both.
+BOUNCING = "bouncing"
+# Servers retire while muxes lag.
+LEAVING = "leaving"
 
 
 def packet_to_service(moment, flow, *shape):
-    """A record with a segment; its reason is that of the flow."""
+    """A record with a segment, which isn't steered if its flow has another destination."""
     return Packet(moment, flow, *shape, None if (flow[1], flow[3]) == SERVICE else "other-destination")
 
 
 def some_flow(rng):
     to = SERVICE if rng.random() < 0.95 else OTHER
-    return (CLIENT, to[0], rng.choice([1000, 1000, 1000, 1001, 1002]), to[1])
+    return (CLIENT, to[0], rng.choice([1000, 1000, 1000, 1001, 1002, rng.randint(1003, 1010)]), to[1])
 
 
-def some_packets(rng):
-    moment, packets = 0, []
-    for number in range(rng.randint(0, 14)):
-        kind = 0 if number == 0 else rng.random()
+def some_step(rng, stage, *steps):
+    """How much later a packet or a command comes than the one before."""
+    return rng.randint(0, 10**9) if stage in (SLOW, BOUNCING, LEAVING) else rng.choice([*steps, rng.randint(0, 3000), rng.randint(0, 2 * 10**9)])
+
+
+def some_packets(rng, stage=ANY):
+    moment, packets, kinds = 0, [], {ANY: (0, 1), QUICK: (0.15, 1.1), SLOW: (0.15, 1), BOUNCING: (0, 0.6), LEAVING: (0, 0.5)}
+    for number in range(rng.randint(8 if stage == BOUNCING else 0, 14)):
+        kind = 0 if number == 0 else rng.uniform(*kinds[stage])
         seq = rng.choice([100, 101, 101, 111, 121, 95, 105, 70000, M32 - 3])
         if kind < 0.25:
             shape = (rng.choice([100, 100, 100, 200]), 0, 0, SYN)
@@ -29,12 +44,13 @@ def some_packets(rng):
             shape = (seq, 501, rng.choice([0, 10]), FIN | ACK)
         else:
             shape = (seq, 0, 0, RST | rng.choice([0, 0, ACK, SYN]))
-        packets.append(packet_to_service(moment, some_flow(rng), *shape))
-        moment += rng.choice([0, 1, 2, 500, 1000, 1000, rng.randint(0, 3000), rng.randint(0, 2 * 10**9)])
+        flow = (CLIENT, SERVICE[0], 1000, SERVICE[1]) if stage in (QUICK, SLOW, BOUNCING) else some_flow(rng)
+        packets.append(packet_to_service(moment, flow, *shape))
+        moment += some_step(rng, stage, 0, 1, 2, 500, 1000, 1000)
     return packets
 
 
-def some_setting(rng):
+def some_setting(rng, stage):
     setting = {
         "buckets": rng.choice([1, 1, 2, 3, 9]),
         "servers": sorted(rng.sample(range(1, 7), rng.randint(1, 4))),
@@ -45,7 +61,15 @@ def some_setting(rng):
         "route": rng.choice(["port", "turn"]),
     }
     lags = [rng.choice([0, 1, rng.randint(0, 3000), rng.randint(0, 3 * 10**9)]) for _ in range(setting["muxes"])]
-    return setting | {"lags_ns": lags}
+    moving = {"buckets": 1, "servers": sorted(rng.sample(range(1, 7), rng.randint(3, 4))), "route": "turn"}
+    special = {
+        ANY: {},
+        QUICK: moving | {"timeout_s": rng.choice([1, 60])},
+        SLOW: moving | {"timeout_s": rng.randint(1, 2)},
+        BOUNCING: moving | {"servers": [1, 2], "muxes": 1, "timeout_s": 1, "lags_ns": [0]},
+        LEAVING: {"buckets": 1, "servers": [1, 2], "muxes": 2, "timeout_s": 1, "route": "turn", "lags_ns": [9 * 10**9, rng.choice([0, 9 * 10**9])]},
+    }
+    return setting | {"lags_ns": lags} | special[stage]
 
 
 def fault_rows(row):
@@ -63,24 +87,27 @@ def command_rows(at, words):
     return rows
 
 
-def some_fleet(rng):
+def some_fleet(rng, stage=ANY):
     """A fleet, the text of its script, and the line of its fault, or None."""
-    setting = some_setting(rng)
+    setting = some_setting(rng, stage)
     fleet, refused = Fleet(setting), None
     rows = [f"{key} = {value!r}".replace("'", '"') for key, value in setting.items()]
     for _ in range(rng.randint(0, 4)):
-        row = (rng.randint(1, 14), rng.choice(["direct", "chained"]), rng.randint(0, 3), rng.choice([0, 0, 1, 500, rng.randint(0, 4 * 10**9)]))
+        row = (rng.randint(1, 14), rng.choice(["direct", "chained"]), rng.choice([0, 0, 1, 2, 3]), rng.choice([0, 0, 1, 500, rng.randint(0, 4 * 10**9)]))
         fleet.faults.append(row)
         rows += fault_rows(row)
     at, wrong = 0, rng.random() < 0.05
-    for _ in range(rng.randint(0, 10)):
-        at += rng.choice([0, 1, 500, 1000, rng.randint(0, 3000), rng.randint(0, 2 * 10**9)])
-        server = rng.randint(1, 6)
+    for _ in range(rng.randint(2, 5) if stage == BOUNCING else rng.randint(0, 10)):
+        at += some_step(rng, stage, 0, 1, 500, 1000)
+        elsewhere = [server for server in fleet.active if server != fleet.server(len(fleet.changes), 0)]
+        server = rng.randint(1, 6) if stage == ANY else rng.choice(elsewhere if stage != LEAVING and elsewhere else fleet.active)
         drained = sorted(fleet.known - set(fleet.active))
         leaving = rng.choice(drained) if drained and rng.random() < 0.8 else server
         changes = [("add", server), ("drain", server), ("drain", server), ("move", rng.randint(0, 2), server), ("move", 0, server), ("move", 0, server)]
-        words = rng.choice(changes + [("close", server, some_flow(rng)), ("retire", leaving), ("retire", leaving), ("sync",)])
-        if words[0] == "retire" and leaving in drained and rng.random() < 0.4:
+        others = [("close", server, some_flow(rng)), ("retire", leaving), ("retire", leaving), ("sync",)]
+        moves, ends = [("move", 0, server)] * 12 + [("sync",)] * 4, [("drain", server), ("retire", leaving)] * 12
+        words = rng.choice(changes + others + {ANY: [], QUICK: moves, SLOW: moves, BOUNCING: moves * 3, LEAVING: ends}[stage])
+        if words[0] == "retire" and leaving in drained and rng.random() < (0.8 if stage == LEAVING else 0.4):
             at += fleet.timeout()
         before = len(fleet.commands)
         refusal = fleet.command(at, words)
@@ -91,6 +118,12 @@ def some_fleet(rng):
             refused = f"beamer: script command {before + 1}: {refusal}\n"
             break
     return fleet, "\n".join(rows) + "\n", refused
+
+
+def some_stage(rng):
+    """Packets, and a fleet as `some_fleet` gives it."""
+    stage = rng.choice([ANY] * 5 + [QUICK] * 5 + [SLOW] * 3 + [BOUNCING] * 3 + [LEAVING] * 2)
+    return some_packets(rng, stage), *some_fleet(rng, stage)
 
 
 def packet_of_frame(frame, moment, vips):
@@ -113,8 +146,8 @@ def packets_of_facts(path, vips):
 
 
 def capture(packets, link=RAW_IP, unit=1, front=b"", began=0):
-    """A capture of the packets that begins so many nanoseconds after 1970, each packet behind the octets of a link layer, in units of
-    so many nanoseconds."""
+    """A capture of the packets that begins `began` nanoseconds after 1970. Each packet comes after the octets of a link layer, `front`;
+    times are in units of `unit` nanoseconds."""
     magic = {1: 0xA1B23C4D, 1000: 0xA1B2C3D4}[unit]
     octets = struct.pack("<IHHiIII", magic, 2, 4, 0, 0, 262144, link)
     for packet in packets:

@@ -9,7 +9,7 @@ DATA = bytes.fromhex("450000320000400040060000 0a000001 c0000201 03e80050 000000
 
 
 def blocks_of_all_kinds(order):
-    """A capture with a block of each kind, and where each begins."""
+    """The blocks of a capture that has each kind of block."""
     w = Writer(order)
     return [
         w.section(),
@@ -31,7 +31,7 @@ def prefixes():
 
 
 def changed_octets():
-    """Each octet of the first 32 of a block, and of its last four, changed in three ways."""
+    """Each of the first 32 octets of a block, and of its last four, changed in three ways."""
     for order in "<>":
         blocks = blocks_of_all_kinds(order)
         for which, block in enumerate(blocks):
@@ -45,7 +45,7 @@ def changed_octets():
 
 
 def total_lengths():
-    """Each kind of block with total lengths at and about the least, and the greatest."""
+    """Each kind of block with total lengths at and around the least, and the greatest."""
     w = Writer("<")
     start = w.section() + w.interface(101)
     for kind, least in ((SECTION, 28), (INTERFACE, 20), (ENHANCED, 32), (SIMPLE, 16), (4, 12), (77, 12)):
@@ -70,7 +70,7 @@ def packets():
         yield "enhanced of %d" % size, start + w.enhanced(1, 0, bytes(size))
     for interface in (0, 1, 2, 3, 0xFFFFFFFF):
         yield "enhanced of interface %d" % interface, start + w.enhanced(interface, 0, SYN)
-        yield "behind a new section %d" % interface, start + w.section() + w.interface(101) + w.enhanced(interface, 0, SYN)
+        yield "after a new section %d" % interface, start + w.section() + w.interface(101) + w.enhanced(interface, 0, SYN)
 
 
 def times():
@@ -90,12 +90,12 @@ def times():
 
 
 def lists_of_options():
-    """Options that end a list, don't fit, or stand twice."""
+    """Options that end a list, don't fit, or occur twice."""
     w = Writer(">")
     lists = {
         "none": b"",
         "an end": bytes(4),
-        "behind the end": bytes(4) + w.option(9, b"\x09"),
+        "after the end": bytes(4) + w.option(9, b"\x09"),
         "three octets": w.option(9, b"\x09\0\0"),
         "no octet": w.option(9, b""),
         "twice": w.option(9, b"\x09") + w.option(9, b"\x03"),
@@ -113,7 +113,7 @@ def lists_of_options():
 
 
 def counts():
-    """Interfaces up to one too many, packets up to one too many, and sections that are other than the first."""
+    """Interfaces up to one too many, packets up to one too many, and sections that differ from the first."""
     w = Writer("<")
     for count in (1023, 1024, 1025):
         start = w.section() + w.interface(101) * count

@@ -3,8 +3,8 @@
 
 usage: ng_reader.py CAPTURE
 
-It goes over the blocks, writes down each fault with its place, and takes the first in order of
-place, and at one place the first of the table.
+It goes over the blocks, records each fault with its place, and takes the first in order of place; at the same place, the first of the
+table.
 """
 import sys
 
@@ -25,7 +25,7 @@ class Interface:
 
 
 class Answer:
-    """A fault as a text, or records of (moment, link type, octets) and the number that is cut."""
+    """A fault as a text, or records of (moment, link type, octets) and the number of the record that is cut."""
 
     def __init__(self, fault=None, records=(), cut=None):
         self.fault, self.records, self.cut = fault, list(records), cut
@@ -103,7 +103,7 @@ class Reader:
         return None
 
     def head(self, at, block, rest):
-        """The total length; None where the octets end before it, or it has a fault."""
+        """The total length; None if the octets end before it, or it has a fault."""
         is_section = rest[:4] == bytes.fromhex("0a0d0d0a")
         if is_section and len(rest) >= 12:
             orders = {"1a2b3c4d": "big", "4d3c2b1a": "little"}

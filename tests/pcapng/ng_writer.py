@@ -20,7 +20,7 @@ class Writer:
         return struct.pack(self.order + form, *numbers)
 
     def block(self, kind, body, first=None, second=None):
-        """A block; `first` and `second` stand in place of its total lengths."""
+        """A block; `first` and `second` replace its total lengths."""
         size = 12 + len(body)
         first = size if first is None else first
         second = first if second is None else second
@@ -82,7 +82,7 @@ def interfaces(writer, link):
 
 
 def packet(writer, exponents, number, record):
-    """A record at the first interface from its number on whose unit tells its time exactly."""
+    """A record at the first interface, from that of its number on, whose unit can express its time exactly."""
     time, octets, _ = record
     for turn in range(3):
         which = (number + turn) % 3
@@ -94,8 +94,8 @@ def packet(writer, exponents, number, record):
 
 
 def converted(octets, in_a_section=7):
-    """A classic capture as one of the pcapng form with the same records: a section for so many of them, the orders of octets in
-    turn, and between the packets blocks that are passed over."""
+    """A classic capture as one of the pcapng form with the same records: `in_a_section` of them in each section, the two orders of
+    octets in turn, and blocks between the packets that readers skip."""
     link, records = classic(octets)
     out = []
     for first in range(0, max(len(records), 1), in_a_section):

@@ -8,7 +8,7 @@ use std::env;
 use std::io::ErrorKind;
 use std::process::ExitCode;
 
-/// The status of want of memory.
+/// The status when memory is refused.
 const MEMORY: u8 = 6;
 
 fn main(rt: HostRuntime) -> ExitCode {
@@ -23,7 +23,7 @@ fn main(rt: HostRuntime) -> ExitCode {
             }
         }
         Err(e) if e.kind() == ErrorKind::OutOfMemory => return ExitCode::from(MEMORY),
-        // A word isn't text: no words are of no form.
+        // A word isn't text; `beamer` gets no words, which fit no form.
         Err(_) => {}
     }
     let mut files = StdFiles::new(rt);

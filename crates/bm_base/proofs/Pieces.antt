@@ -1,4 +1,4 @@
--- Lists that stand one behind the other in one list.
+-- Lists that stand one after the other in one list.
 use Rattle.std.proofs.Common.{◌≡◌, ℕ, zero, suc, ◌+◌, ◌-◌, ◌<◌, ◌≤◌, List, [], ◌∷◌, ◌++◌, length, map, take, drop}
 use Rattle.std.proofs.Common.{slice_range, refl, sym, ap, ap₂, subst, ◌∙◌, arith, length-drop, inl, inr}
 use Rattle.std.proofs.Common.{◌==◌, false}
@@ -130,13 +130,13 @@ all_lowered by (suc place) (n ∷ old) all =
 
 -- LISTS THAT ARE CLEARED
 
--- the end of the last of so many lists
+-- the end of the last list
 abbrev end_of : ℕ → ℕ → List ℕ → ℕ
 end_of zero from ends = from
 end_of (suc count) from [] = from
 end_of (suc count) from (end ∷ ends) = end_of count end ends
 
--- a range of what is left behind this place
+-- a range of what is left after this place
 range_left : (gone from end : ℕ) (octets : List ℕ) → gone ≤ from
     → slice_range (drop gone octets) (from - gone) (end - gone) ≡ slice_range octets from end
 range_left gone from end octets behind =

@@ -1,5 +1,4 @@
--- What a capture has to be so that it can be carried through muxes and servers
--- (docs/DEFINITIONS.md).
+-- Which captures can be carried through muxes and servers (docs/DEFINITIONS.md).
 use Rattle.std.specs.Prelude.{◌≡◌, ◌⊎◌, ℕ, ◌*◌, ◌^◌, ◌≤◌, List, [], ◌∷◌, length, map, Option, Some}
 use Rattle.std.specs.Prelude.{None, IfSome}
 use Rattle.std.specs.List.{AllByRecursion}
@@ -19,7 +18,7 @@ steerable (Some r) = steerable_body r.body where
   steerable_body (Steerable s) = Some s
   steerable_body (Unsteered why) = None
 
--- these moments don't fall, begin no lower than the first number, and end no higher than the second
+-- these moments never fall, are at least `low`, and are at most `high`
 abbrev pub AreRising : ℕ → ℕ → List ℕ → Type 0
 AreRising low high [] = Unit {0}
 AreRising low high (m ∷ moments) = (low ≤ m) × (m ≤ high) × AreRising m high moments
@@ -33,8 +32,8 @@ IsService (v ∷ vips) f = ((f.dst ≡ v.addr) × (f.dport ≡ v.port)) ⊎ IsSe
 abbrev pub IsFit : List Vip → Record → Type 0
 IsFit vips r = IfSome (steerable (Some r)) (λ s. IsService vips s.flow × (s.len ≤ 1048576))
 
--- at most 200,000 records, whose moments don't fall and end in time, and whose segments go to a
--- service and are short
+-- at most 200,000 records, whose moments never fall and are at most 4.4 * 10^18 ns, and whose
+-- segments go to a service and take at most 2^20 sequence numbers
 pub record IsReplayable (vips : List Vip) (capture : Capture) : Type 0 where
   pub few : length capture.records ≤ 200000
   pub rise : AreRising 0 (44 * 10 ^ 17) (map (λ r. r.moment.0) capture.records)

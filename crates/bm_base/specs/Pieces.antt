@@ -1,7 +1,7 @@
--- Lists of which those in front are emptied.
+-- Emptying the first of several lists.
 use Rattle.std.specs.Prelude.{ℕ, zero, suc, List, [], ◌∷◌}
 
--- the lists, of which so many in front are empty now
+-- the lists, the first `count` of them emptied
 abbrev pub cleared : ℕ → List (List ℕ) → List (List ℕ)
 cleared zero lists = lists
 cleared (suc count) [] = []

@@ -23,7 +23,7 @@ pub fn server_addr(s: ServerId) -> u32
     SERVERS + u32::from(s.0)
 }
 
-/// The server with this address; None exactly where it is no server's.
+/// The server with this address, or None if it is no server's.
 pub fn server_of(addr: u32) -> Option<ServerId>
     ensures { result ≡ addresses.server_at addr }
 {
@@ -41,7 +41,7 @@ pub fn mux_addr(m: MuxId) -> u32
     MUXES + u32::from(m.0)
 }
 
-/// The mux with this address; None exactly where it is no mux's.
+/// The mux with this address, or None if it is no mux's.
 pub fn mux_at(addr: u32) -> Option<MuxId>
     ensures { result ≡ addresses.mux_at addr }
 {

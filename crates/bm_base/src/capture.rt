@@ -2,18 +2,18 @@
 use crate::{List, Moment, Segment};
 
 /// The address and port of a service.
-#[derive(Clone, Copy, Debug, PartialEq, Eq)]
+#[derive(Clone, Copy, PartialEq, Eq)]
 pub struct Vip {
     pub addr: u32,
     pub port: u16,
 }
 
 /// Why a record isn't steered.
-#[derive(Clone, Copy, Debug, PartialEq, Eq)]
+#[derive(Clone, Copy, PartialEq, Eq)]
 pub enum Reason {
     /// The link layer's header is cut short.
     ShortLink,
-    /// The link layer carries something else than IPv4.
+    /// The link layer carries something other than IPv4.
     NotIpv4,
     /// The IPv4 header is cut short.
     ShortIp,
@@ -31,30 +31,30 @@ pub enum Reason {
     ShortTcp,
     /// The data offset doesn't fit.
     BadOffset,
-    /// The destination is none of the services.
+    /// The destination isn't one of the services.
     OtherDestination,
-    /// The packet with a carrier header would pass 65,535 octets.
+    /// With a carrier header the packet would be longer than 65,535 octets.
     TooLong,
-    /// A form that isn't read. `classify` and `read_capture` give none.
+    /// A form that isn't supported. `classify` and `read_capture` never give it.
     Later,
 }
 
 /// What a record holds.
-#[derive(Clone, Copy, Debug, PartialEq, Eq)]
+#[derive(Clone, Copy, PartialEq, Eq)]
 pub enum Body {
     Steerable(Segment),
     Unsteered(Reason),
 }
 
 /// A record of a capture: its moment, and what it holds.
-#[derive(Clone, Copy, Debug, PartialEq, Eq)]
+#[derive(Clone, Copy, PartialEq, Eq)]
 pub struct Record {
     pub moment: Moment,
     pub body: Body,
 }
 
 /// The records of a capture in order, and the number of the one that is cut short, if one is.
-#[derive(Debug, Drop)]
+#[derive(Drop)]
 pub struct Capture {
     pub records: List<Record>,
     pub cut: Option<u32>,

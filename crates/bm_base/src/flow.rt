@@ -5,7 +5,7 @@ ghost use Rattle.bm_base.specs.Segments as segments;
 use crate::flags::{ACK, FIN, RST, SYN};
 
 /// The addresses and ports of a TCP connection, as the client's packets have them.
-#[derive(Clone, Copy, Debug, PartialEq, Eq, PartialOrd, Ord)]
+#[derive(Clone, Copy, PartialEq, Eq, PartialOrd, Ord)]
 pub struct Flow {
     pub src: u32,
     pub dst: u32,
@@ -14,7 +14,7 @@ pub struct Flow {
 }
 
 /// A TCP segment (RFC 9293). `len` is SEG.LEN: the data octets, plus one for SYN and one for FIN.
-#[derive(Clone, Copy, Debug, PartialEq, Eq)]
+#[derive(Clone, Copy, PartialEq, Eq)]
 pub struct Segment {
     pub flow: Flow,
     pub seq: u32,

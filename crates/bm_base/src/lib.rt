@@ -1,4 +1,4 @@
-//! What every crate speaks of: servers, muxes, flows, segments, labels and records.
+//! The types that every crate uses: servers, muxes, flows, segments, labels and records.
 #![tactic(auto)]
 
 mod address;
@@ -19,7 +19,7 @@ pub use capture::{Body, Capture, Reason, Record, Vip};
 pub use fate::Fate;
 pub use flow::{Flow, Segment, is_opening};
 pub use ids::{LAST, Moment, MuxId, ServerId, Version};
-pub use label::{Entry, Hop, Label, Tag, tag_of};
+pub use label::{Entry, Hop, Label, Past, Tag, tag_of};
 pub use list::List;
 pub use memory::Memory;
 pub use octets::{MAX_INNER, Octets};

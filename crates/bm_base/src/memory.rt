@@ -1,7 +1,7 @@
-//! Want of memory.
+//! Memory was refused.
 use std::alloc::{AllocError, AllocFailed};
 
-/// The answer where memory was refused.
+/// The error where memory was refused.
 #[derive(Clone, Copy, Debug, PartialEq, Eq)]
 pub struct Memory;
 

@@ -8,12 +8,12 @@ use crate::Memory;
 use std::alloc::Global;
 use std::marker::Model;
 
-/// The most octets that a packet may have beside a carrier header in 65,535 octets.
-pub const MAX_INNER: u32 = 65_491;
+/// The longest packet that fits in 65,535 octets together with a carrier header.
+pub const MAX_INNER: u32 = 65_479;
 
-/// A list of octets for each record of a capture: all octets one behind the other, and where each
-/// list ends.
-#[derive(Debug, Drop)]
+/// A list of octets for each record of a capture: all octets in one vector, and where each list
+/// ends.
+#[derive(Drop)]
 pub struct Octets {
     octets: Vec<u8>,
     ends: Vec<usize>,
@@ -32,7 +32,7 @@ impl Model for Octets {
 }
 
 impl Octets {
-    /// No list. Takes no memory.
+    /// No lists. Takes no memory.
     pub fn new(alloc: Global) -> Octets
         ensures { result ≡ [] }
     {
@@ -65,7 +65,7 @@ impl Octets {
         piece(&self.octets, &self.ends, place as usize)
     }
 
-    /// Lets the octets of the first `count` lists go, which are empty then. Takes no memory.
+    /// Frees the octets of the first `count` lists, which are then empty. Takes no memory.
     pub fn clear_first(&mut self, count: u32)
         requires { count ≤ length self.old }
         ensures { self.new ≡ cleared count self.old }
@@ -83,7 +83,7 @@ impl Octets {
     }
 }
 
-/// Where the list at this place begins, or would begin behind the last one.
+/// Where the list at this place begins, or would begin after the last one.
 fn begin(ends: &[usize], at: usize) -> usize
     requires { at ≤ length ends.now }
     ensures { result ≡ begin_of ends.now at }
@@ -91,7 +91,7 @@ fn begin(ends: &[usize], at: usize) -> usize
     if at == 0 { 0 } else { ends[at - 1] }
 }
 
-/// Removes so many octets, and gives their memory back.
+/// Removes the first `count` octets and frees their memory.
 fn remove_first(octets: &mut Vec<u8>, count: usize)
     requires { count ≤ length octets.old.items }
     ensures { octets.new.items ≡ drop count octets.old.items }
@@ -102,7 +102,7 @@ fn remove_first(octets: &mut Vec<u8>, count: usize)
     octets.shrink_to_fit();
 }
 
-/// Each number is less by this, or 0.
+/// Subtracts this from each number, down to 0.
 fn lower(numbers: &mut Vec<usize>, by: usize)
     ensures { numbers.new.items ≡ map (λ n. n - by) numbers.old.items }
 {
@@ -111,7 +111,7 @@ fn lower(numbers: &mut Vec<usize>, by: usize)
     }
 }
 
-/// The list at this place, of lists that have these ends.
+/// The list at this place, among the lists with these ends.
 fn piece<'a>(octets: &'a [u8], ends: &[usize], at: usize) -> &'a [u8]
     requires ends { AreEnds 0 ends.now (length octets.now) }
     requires within { at < length ends.now }

@@ -1,17 +1,17 @@
 //! What a receiver makes of a segment.
 
 /// What the receiver of a connection makes of a segment.
-#[derive(Clone, Copy, Debug, PartialEq, Eq)]
+#[derive(Clone, Copy, PartialEq, Eq)]
 pub enum Taken {
-    /// It brings the next octet that is wanted.
+    /// It brings the next octet expected.
     Advance,
-    /// All of it came before.
+    /// All of it was received before.
     Duplicate,
-    /// It lies in the window, behind a gap.
+    /// It is in the window, after a gap.
     Ahead,
-    /// It lies outside the window.
+    /// It is outside the window.
     Outside,
-    /// It may not come here; RFC 9293 has it answered by a challenge.
+    /// It isn't acceptable here; RFC 9293 answers it with a challenge ACK.
     Challenge,
     /// It ends the connection.
     Ended,

@@ -11,7 +11,7 @@ use std::sync::Wait;
 
 /// 256 packets from as many ports.
 fn make_items<'a>(alloc: Global, inner: &'a [u8]) -> Result<Vec<MuxItem<'a>>, Memory>
-    requires { length inner.now ≤ 65491 }
+    requires { length inner.now ≤ 65479 }
     ensures count { IfOk result (λ items. length items.items ≤ 256) }
     ensures items { IfOk result (λ items. All IsItem items.items) }
 {
@@ -58,7 +58,7 @@ fn steer(alloc: Global, look: Look, items: &[MuxItem<'_>], batches: u32) -> Resu
     Ok(sent)
 }
 
-/// How many packets are sent in so many batches of 256 packets of so many octets.
+/// How many packets are sent in this many batches of 256 packets of this many octets.
 pub fn steer_batches<R: Wait>(
     rt: &R,
     alloc: Global,

@@ -1,8 +1,8 @@
-//! Readers beside a poster.
+//! Readers that look while a poster posts.
 ghost use Rattle.std.specs.Prelude.{◌≡◌, ◌<◌, ◌≤◌, []};
 
 use crate::plan::moving_plan;
-use bm_base::{Memory, Moment, Version};
+use bm_base::{Entry, Memory, Moment, Version};
 use bm_publish::{Look, Poster, board};
 use bm_table::Plan;
 use std::alloc::Global;
@@ -16,8 +16,16 @@ struct Reader {
     seen: u32,
 }
 
+/// The moment of the bucket's last move, or 0 if it hasn't moved yet.
+fn moved_at(entry: Entry) -> u64 {
+    match entry.prev {
+        Some(past) => past.stamp.0,
+        None => 0,
+    }
+}
+
 impl Reader {
-    /// Looks so many times, and each time reads the entry of bucket 0.
+    /// Looks this many times, and reads the entry of bucket 0 each time.
     fn watch(&mut self, looks: u32) {
         let mut last = Version(0);
         for _ in 0..looks {
@@ -27,7 +35,7 @@ impl Reader {
             match look.look() {
                 Ok(guard) => {
                     let version = guard.version();
-                    if version >= last && guard.entry(0).stamp.0 <= 4_096 {
+                    if version >= last && moved_at(guard.entry(0)) <= 4_096 {
                         self.seen = self.seen.saturating_add(1);
                     }
                     last = version;
@@ -39,7 +47,6 @@ impl Reader {
     }
 }
 
-/// Posts all changes of the plan.
 fn post_all<R: Wait>(rt: &R, plan: &Plan, poster: &mut Poster) -> Result<(), Memory>
     requires { (poster.old.plan ≡ plan.now) × (poster.old.clocks ≡ []) }
 {
@@ -70,13 +77,13 @@ fn total(readers: &[Reader]) -> u64 {
     seen
 }
 
-/// Each reader looks so many times, in a thread of its own.
+/// Each reader looks this many times, in a thread of its own.
 fn watch_all<R: Threads + Sync>(rt: &R, readers: &mut [Reader], looks: u32) {
     let threads = readers.len().max(1);
     for_each_mut(rt, readers, threads, &|_, reader| reader.watch(looks));
 }
 
-/// How many looks were right, where each of these readers looks so many times beside the posts.
+/// How many looks were right, if each of these readers looks this many times during the posts.
 pub fn look_beside_posts<R: Threads + Wait + Sync>(
     rt: &R,
     alloc: Global,

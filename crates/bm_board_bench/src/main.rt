@@ -29,7 +29,7 @@ enum Ask {
     },
 }
 
-/// What the words ask for, where they are of a form.
+/// What the words ask for, if they fit a form.
 fn read_words(rt: &HostRuntime) -> Option<Ask> {
     let mut words = env::args(rt).ok()?.skip(1);
     let form = words.next()?;

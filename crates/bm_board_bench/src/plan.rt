@@ -5,7 +5,7 @@ use bm_base::{List, Memory, Moment, ServerId};
 use bm_table::{Change, Kind, Move, Plan};
 use std::alloc::Global;
 
-/// A plan of so many buckets, on servers 1 and 2, without changes.
+/// A plan of this many buckets, on servers 1 and 2, without changes.
 pub fn opening_plan(alloc: Global, buckets: u32) -> Result<Plan, Memory>
     requires buckets { (1 ≤ buckets) × (buckets ≤ 65536) }
     ensures { IfOk result (λ plan. plan ≡ record {
@@ -17,7 +17,7 @@ pub fn opening_plan(alloc: Global, buckets: u32) -> Result<Plan, Memory>
     Plan::new(alloc, buckets, [ServerId(1), ServerId(2)].as_slice())
 }
 
-/// A plan of so many buckets, where 4,096 changes move bucket 0 to server 2 and back.
+/// A plan of this many buckets, where 4,096 changes move bucket 0 to server 2 and back.
 pub fn moving_plan(alloc: Global, buckets: u32) -> Result<Plan, Memory>
     requires buckets { (1 ≤ buckets) × (buckets ≤ 65536) }
 {

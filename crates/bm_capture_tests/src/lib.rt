@@ -1,4 +1,4 @@
-//! Tests of `bm_io`, `bm_pcap` and `bm_pcapng`, in a crate of their own: a run of tests proves its
+//! Tests of `bm_io`, `bm_pcap` and `bm_pcapng`, in a crate of their own: running tests proves their
 //! crate again.
 #![tactic(auto)]
 

@@ -8,7 +8,7 @@ use bm_pcap::{Item, PcapFault, PcapReader, read_capture};
 use std::alloc::{AllocError, Global};
 use std::test::Fail;
 
-// Raw IP: a first segment, and one microsecond later ten octets of data. In both orders.
+// Raw IP: a first segment, and one microsecond later ten octets of data. In both byte orders.
 const LITTLE: [u8; 146] = [
     0xd4, 0xc3, 0xb2, 0xa1, 2, 0, 4, 0, 0, 0, 0, 0, 0, 0, 0, 0, 0xff, 0xff, 0, 0, 0x65, 0, 0, 0, 0,
     0, 0, 0, 0, 0, 0, 0, 0x28, 0, 0, 0, 0x28, 0, 0, 0, 0x45, 0, 0, 0x28, 0, 0, 0x40, 0, 0x40, 6, 0,
@@ -29,7 +29,7 @@ const BIG: [u8; 146] = [
     0x6a,
 ];
 
-// Ethernet: ARP; IPv6; a first fragment; a first segment to another address; one behind a tag; data
+// Ethernet: ARP; IPv6; a first fragment; a first segment to another address; one after a tag; data
 // in a packet whose total length is 0; nine octets of a header.
 const ETHERNET: [u8; 443] = [
     0xd4, 0xc3, 0xb2, 0xa1, 2, 0, 4, 0, 0, 0, 0, 0, 0, 0, 0, 0, 0xff, 0xff, 0, 0, 1, 0, 0, 0, 0, 0,
@@ -51,7 +51,7 @@ const ETHERNET: [u8; 443] = [
     0, 0, 0, 0, 0, 0, 0,
 ];
 
-// What reading these octets gives, where the source gives so many at a time.
+// What reading these octets gives, if the source gives at most `step` at a time.
 fn read(
     alloc: Global,
     octets: &[u8],
@@ -93,7 +93,7 @@ fn records_have_their_reasons_and_the_last_is_cut_short(rt: HostRuntime) -> Resu
 
 #[test]
 fn captures_are_refused_by_their_first_fault(rt: HostRuntime) -> Result<(), Fail> {
-    // An octet of the capture that is written over, and the fault.
+    // An octet of the capture that is overwritten, and the fault.
     let rows = [
         (0, 0xd5, PcapFault::NotACapture),
         (4, 3, PcapFault::BadVersion),
@@ -136,7 +136,7 @@ fn a_cut_capture_keeps_the_records_before_the_cut(rt: HostRuntime) -> Result<(),
 #[test]
 fn a_failed_read_is_answered_again(rt: HostRuntime) -> Result<(), Fail> {
     let alloc = rt.alloc();
-    // The calls read the magic number, the rest of the header, both records, and then nothing more.
+    // The calls read the magic number, the rest of the header, both records, and then nothing.
     let src = MemSource::new(LITTLE.to_vec(alloc)?, 1000, vec![in alloc; 4]?);
     let Ok(mut reader) = PcapReader::start(alloc, src) else {
         return Err(Fail::from("the header is whole"));

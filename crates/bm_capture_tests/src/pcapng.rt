@@ -8,7 +8,7 @@ use bm_pcapng::{Front, NgFault, NgItem, NgReader, read_ng};
 use std::alloc::{AllocError, Global};
 use std::test::Fail;
 
-// Raw IP: a first segment, and one microsecond later ten octets of data. In both orders.
+// Raw IP: a first segment, and one microsecond later ten octets of data. In both byte orders.
 const LITTLE: [u8; 204] = [
     0x0a, 0x0d, 0x0d, 0x0a, 0x1c, 0, 0, 0, 0x4d, 0x3c, 0x2b, 0x1a, 1, 0, 0, 0, 0xff, 0xff, 0xff,
     0xff, 0xff, 0xff, 0xff, 0xff, 0x1c, 0, 0, 0, 1, 0, 0, 0, 0x14, 0, 0, 0, 0x65, 0, 0, 0, 0, 0, 4,
@@ -46,9 +46,9 @@ const NANO: [u8; 216] = [
     0, 0x61, 0x62, 0x63, 0x64, 0x65, 0x66, 0x67, 0x68, 0x69, 0x6a, 0, 0, 0x54, 0, 0, 0,
 ];
 
-// A section of little order with interfaces of Ethernet in units of 2^-10 s, raw IP in nanoseconds,
-// and a link type that isn't read; a comment, names, an obsolete packet and statistics between.
-// Then one of big order, with a simple packet that is cut at the snapshot length.
+// A little-endian section with interfaces of Ethernet in units of 2^-10 s, raw IP in nanoseconds,
+// and an unsupported link type; between them a comment, names, an obsolete packet and statistics.
+// Then a big-endian section, with a simple packet that is cut at the snapshot length.
 const MIXED: [u8; 684] = [
     0x0a, 0x0d, 0x0d, 0x0a, 0x30, 0, 0, 0, 0x4d, 0x3c, 0x2b, 0x1a, 1, 0, 0, 0, 0xff, 0xff, 0xff,
     0xff, 0xff, 0xff, 0xff, 0xff, 1, 0, 0x0c, 0, 0x74, 0x77, 0x6f, 0x20, 0x73, 0x65, 0x63, 0x74,
@@ -80,7 +80,7 @@ const MIXED: [u8; 684] = [
     0x65, 0x66, 0x67, 0x68, 0x69, 0x6a, 0, 0, 0, 0, 0, 0x54,
 ];
 
-// What reading these octets gives, where the source gives so many at a time.
+// What reading these octets gives, if the source gives at most `step` at a time.
 fn read(
     alloc: Global,
     octets: &[u8],
@@ -123,7 +123,7 @@ fn sections_and_interfaces_are_kept_apart(rt: HostRuntime) -> Result<(), Fail> {
 
 #[test]
 fn captures_are_refused_by_their_first_fault(rt: HostRuntime) -> Result<(), Fail> {
-    // An octet of the capture that is written over, and the fault.
+    // An octet of the capture that is overwritten, and the fault.
     let rows = [
         (0, 0x0b, NgFault::NotACapture),
         (4, 0x1d, NgFault::BadBlock(1)),

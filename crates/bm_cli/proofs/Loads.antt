@@ -23,7 +23,7 @@ zero_is : decimal 0 ≡ 48 ∷ []
 unfolding digits
 zero_is = refl
 
--- the end of the line, behind any text
+-- the end of the line, after any text
 nothing_else : (text : List ℕ) →
     text ++ codes " reset " ++ decimal 0 ++ codes " dropped " ++ decimal 0 ++ codes " lost " ++ decimal 0 ++ codes "\n"
     ≡ text ++ codes " reset 0 dropped 0 lost 0\n"

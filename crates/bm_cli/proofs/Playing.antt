@@ -14,7 +14,7 @@ use Rattle.bm_cli.specs.Reading.{Holds, Octets, Reads}
 use Rattle.bm_cli.specs.Statuses.{FilesDid}
 use Rattle.bm_cli.proofs.Ending.{holds_more}
 
--- memory may be refused behind it
+-- memory may be refused after it
 pub stage_lost : (mode : Mode) (names : Named) (told : Octets) (files : FilesDid) (stage : Stage)
     (more : Reads → Type 0) → Holds told (λ reads. ReadsStage mode names reads files (Ok stage) × more reads) →
     Holds told (λ reads. ReadsStage mode names reads files (Err WantsMemory))

@@ -40,7 +40,7 @@ too_long octets text front more =
     let long : nat_lt 1048576 (length octets) ≡ true = grind (arith, nat_tests, len, more) in
     rw long refl
 
--- no more octets were read than there may be, so these are all
+-- at most as many octets were read as there may be, so these are all
 pub all_read : (octets text : List ℕ) → text ≡ take 1048577 octets → length text ≤ 1048576 →
     script_in octets ≡ with_script_fault (script_of text)
 all_read octets text front few =

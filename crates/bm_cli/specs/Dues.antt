@@ -1,4 +1,4 @@
--- What is due: by the words, and by what is read under the names in them.
+-- What the program is to write, by the words and by what is read under the names in them.
 use Rattle.std.specs.Prelude.{◌≡◌, [], ℕ, List, Option, Some, None, Result, Ok, Err}
 use Rattle.bm_table.specs.declared.script.Script.{Script}
 use Rattle.bm_core.specs.declared.events.Stage.{Stage}
@@ -14,14 +14,14 @@ use Rattle.bm_cli.specs.Loads.{IsSummaryOf}
 use Rattle.bm_cli.specs.Names.{names_in, script_names}
 use Rattle.bm_cli.specs.Reading.{Reading, Reads, reading, script_by}
 
--- the words are of no form, and this usage line is written; there is a fault; or a text of which
--- this is true is shown
+-- the words fit no form, and this usage line is written; there is a fault; or a text is shown that
+-- satisfies this
 pub data Answer : Type 1 where
   Misused : List ℕ → Answer
   Refused : StageFault → Answer
   Shown : (List ℕ → Type 0) → Answer
 
--- the names that the files are asked for, in their order, and what is answered
+-- the names that the files are asked for, in order, and the answer
 pub record Due : Type 1 where
   pub names : List (List ℕ)
   pub answer : Answer
@@ -40,7 +40,7 @@ text_of (Shown is) text = is text
 
 -- A STAGE AND WHAT IS SHOWN OF IT
 
--- behind a script that isn't played the capture isn't asked for
+-- after a script that isn't played the capture isn't asked for
 abbrev pub names_behind : Named → Result Script StageFault → List (List ℕ)
 names_behind names (Ok script) = names_in names
 names_behind names (Err fault) = script_names names.script
@@ -50,8 +50,8 @@ abbrev pub answer_for : (Stage → List ℕ → Type 0) → Reading → Answer
 answer_for is (Ok stage) = Shown (is stage)
 answer_for is (Err fault) = Refused fault
 
--- a text of which this is true of the stage that the names and the files ask for is due, or the
--- line of its fault
+-- a text is due that satisfies `is` for the stage that the names and the files ask for, or the line
+-- of its fault
 abbrev pub due_of_stage : Mode → (Stage → List ℕ → Type 0) → Named → Reads → Due
 due_of_stage mode is names reads = record {
   names = names_behind names (script_by mode reads names.script);

@@ -9,30 +9,30 @@ use Rattle.bm_cli.specs.Lines.{fault_line}
 use Rattle.bm_cli.specs.Names.{AsksAll, AsksPrefix}
 use Rattle.bm_cli.specs.Statuses.{Writes, code_of, FilesDid, SinkDid}
 
--- the answer's status and a text of it; or nothing, since memory was refused
+-- the answer's status and a text of it; or nothing, because memory was refused
 abbrev pub IsOf : Answer → Status → List ℕ → Type 0
 IsOf answer says text =
     ((says ≡ status_of answer) × text_of answer text) ⊎ ((says ≡ Memory) × (text ≡ []))
 
--- or the line of a read that failed
+-- the same, or the line of a read that failed
 abbrev pub IsSaid : Answer → Status → List ℕ → Type 0
 IsSaid answer says text =
     IsOf answer says text ⊎ ((says ≡ ReadFault) × (text ≡ fault_line Files))
 
--- What the files were asked for, by the names that are due and by the status that it led to.
+-- What the files were asked for, by the names that are due and by the status.
 pub record AsksFor (names : List (List ℕ)) (says : Status) (files : FilesDid) : Type 0 where
-  -- the names in their order: all of them, but where a read failed or memory was refused
+  -- the names in order: all of them, unless a read failed or memory was refused
   pub some : AsksPrefix files.before files.now names
   pub all : says ≢ ReadFault → says ≢ Memory → AsksAll files.before files.now names
-  -- a read has failed where it says so, and there was a file to read
+  -- if the status says that a read failed, one did, and there was a file to read
   pub rose : says ≡ ReadFault → Rose files.faults files.later
-  -- and none has failed elsewhere, but where memory was refused
+  -- otherwise none failed, unless memory was refused
   pub kept : says ≢ ReadFault → says ≢ Memory → files.later ≡ files.faults
   pub opens : says ≡ ReadFault → names ≢ []
 
 -- How a call ended.
 pub record Ends (due : Due) (files : FilesDid) (sink : SinkDid) (result : Status) : Type 0 where
-  -- the status and the text that it set out to answer
+  -- the status and the text that were to be answered
   pub says : Status
   pub text : List ℕ
   pub said : IsSaid due.answer says text

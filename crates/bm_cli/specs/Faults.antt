@@ -1,4 +1,4 @@
--- The fault of a stage that a fault of the files is.
+-- A fault of the files as a fault of the stage.
 use Rattle.bm_io.specs.declared.fault.IoFault.{IoFault}
 use Rattle.bm_io.specs.declared.fault.IoFault.TheVariants.{Failed, Memory as RefusedMemory}
 use Rattle.bm_cli.specs.declared.fault.StageFault.{StageFault}

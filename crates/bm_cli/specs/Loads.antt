@@ -16,5 +16,5 @@ pub record IsSummaryOf (n : ℕ) (octets : List ℕ) : Type 0 where
   pub history : History
   pub run : IsRunOfLoad n history
   pub printed : octets ≡ summary n (totals_of history)
-  -- so it is the same whatever the threads do
+  -- so it is the same line whatever the threads do
   pub line : octets ≡ load_line n

@@ -2,12 +2,12 @@
 use Rattle.std.specs.Prelude.{◌≡◌, ℕ, List, [], ◌∷◌, ◌++◌, take, Option, Some, None}
 use Rattle.bm_words.specs.Form.{Named}
 
--- the names asked for are those before, and then a first part of these, perhaps none
+-- the names asked for are those from before, and then a first part of these, maybe none
 abbrev pub AsksPrefix : Option (List (List ℕ)) → Option (List (List ℕ)) → List (List ℕ) → Type 0
 AsksPrefix None new names = Unit {0}
 AsksPrefix (Some before) new names = (n : ℕ) × (new ≡ Some (before ++ take n names))
 
--- the names asked for are those before, and then these
+-- the names asked for are those from before, and then these
 abbrev pub AsksAll : Option (List (List ℕ)) → Option (List (List ℕ)) → List (List ℕ) → Type 0
 AsksAll None new names = Unit {0}
 AsksAll (Some before) new names = new ≡ Some (before ++ names)

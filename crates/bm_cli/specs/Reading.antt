@@ -19,11 +19,11 @@ use Rattle.bm_cli.specs.Plain.{plain_script}
 
 -- WHAT THE FILES HOLD
 
--- the octets of each name, where the files tell them
+-- the octets of each name, if they are known
 abbrev pub Octets : Type 0
 Octets = Option (List ℕ → List ℕ)
 
--- what is read under each name: a script, the capture of these services, and when it began
+-- what is read under each name: a script, the capture for these services, and when it began
 pub record Reads : Type 0 where
   pub script : List ℕ → Result Script StageFault
   pub capture : List ℕ → List Vip → Captured
@@ -33,12 +33,12 @@ abbrev pub with_script_fault : Result Script ScriptFault → Result Script Stage
 with_script_fault (Ok script) = Ok script
 with_script_fault (Err fault) = Err (of_script fault)
 
--- the script that these octets are, of which there may be 1,048,576
+-- the script that these octets are, if there are at most 1,048,576 of them
 abbrev pub script_in : List ℕ → Result Script StageFault
 script_in octets =
     if nat_lt 1048576 (length octets) then Err LongScript else with_script_fault (script_of octets)
 
--- by the octets of each name
+-- what is read, by the octets of each name
 abbrev pub reads_of : (List ℕ → List ℕ) → Reads
 reads_of octets = record {
   script = λ name. script_in (octets name);
@@ -46,12 +46,13 @@ reads_of octets = record {
   began = λ name. began (octets name);
 }
 
--- these are read, where the files tell their octets; else they may be any
+-- these are what is read, if the files' octets are known; otherwise they may be any
 abbrev pub Known : Octets → Reads → Type 0
 Known None reads = Unit {0}
 Known (Some octets) reads = reads ≡ reads_of octets
 
--- This is so by what is read: by the octets, where the files tell them, and else by some reads.
+-- The fact holds for what is read: for what the files' octets give, if these are known, and
+-- otherwise only for some reads.
 pub record Holds (told : Octets) (fact : Reads → Type 0) : Type 0 where
   pub reads : Reads
   pub known : Known told reads
@@ -63,12 +64,12 @@ pub record Holds (told : Octets) (fact : Reads → Type 0) : Type 0 where
 abbrev pub Reading : Type 0
 Reading = Result Stage StageFault
 
--- the script that the words name, or the one that says nothing
+-- the script that the words name, or the one that sets nothing
 abbrev pub script_for : Reads → Option (List ℕ) → Result Script StageFault
 script_for reads None = Ok plain_script
 script_for reads (Some name) = reads.script name
 
--- the script, where a stage with it may be played so: a run has at most 65,536 seats
+-- the script, if a stage with it may be played in this mode: a run has at most 65,536 seats
 abbrev pub taken : Mode → Script → Result Script StageFault
 taken Replay script = Ok script
 taken Run script = if nat_lt 65536 (seats_of script) then Err Seats else Ok script

@@ -11,11 +11,11 @@ use Rattle.bm_cli.specs.Lines.{fault_status}
 use Rattle.bm_cli.specs.Reading.{Reading, Reads, reading, script_by}
 use Rattle.bm_cli.specs.Statuses.{FilesDid}
 
--- the files failed, or memory was refused, which may be at any place
+-- the files failed, or memory was refused; this may happen at any place
 abbrev pub IsOutside : StageFault → Type 0
 IsOutside fault = (fault_status fault ≡ ReadFault) ⊎ (fault_status fault ≡ Memory)
 
--- this was read where that is due
+-- this was read where that was due
 abbrev pub IsRead : {A : Type 0} → Result A StageFault → Result A StageFault → Type 0
 IsRead due (Ok x) = due ≡ Ok x
 IsRead due (Err fault) = IsOutside fault ⊎ (due ≡ Err fault)

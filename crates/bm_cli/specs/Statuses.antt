@@ -18,8 +18,8 @@ code_of WriteFault = 5
 code_of Memory = 6
 code_of Limit = 7
 
--- What a call did to a sink, or to files: what they told before and behind it, where they tell it,
--- and how often they had failed.
+-- What a call did to a sink, or to files: what is known of their content before and after it, and
+-- how often they had failed.
 pub record Did (A : Type 0) : Type 0 where
   pub before : Option A
   pub now : Option A
@@ -32,17 +32,17 @@ FilesDid = Did (List (List ℕ))
 abbrev pub SinkDid : Type 0
 SinkDid = Did (List ℕ)
 
--- the same, by what they tell and by how their faults are counted
+-- the same, from what is known of their content and how their faults are counted
 abbrev pub did : {S A : Type 0} → (S → Option A) → (S → ℕ) → S → S → Did A
 did told faults old new =
     record { before = told old; now = told new; faults = faults old; later = faults new }
 
--- nothing was written, or a first part of the text, and not all
+-- nothing was written, or only a first part of the text
 abbrev pub WritesLess : SinkDid → List ℕ → Type 0
 WritesLess sink text = Appends sink.before sink.now [] ⊎ WritesPart sink.before sink.now text
 
--- The text was written, and the status is this; or less than the text was, where the sink failed or
--- memory was refused.
+-- The text was written, and the status is this; or less than the text was, because the sink failed
+-- or memory was refused.
 pub record Writes (says : Status) (text : List ℕ) (sink : SinkDid) (result : Status) : Type 0 where
   pub count : sink.faults ≤ sink.later
   pub ends : (result ≡ says) ⊎ (result ≡ WriteFault) ⊎ (result ≡ Memory)

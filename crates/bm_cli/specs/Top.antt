@@ -1,4 +1,4 @@
--- What the program does, in the words of its exit status.
+-- What the program does, by its exit status.
 use Rattle.std.specs.Prelude.{◌≡◌, ◌⊎◌, ◌≢◌, [], ◌∷◌, ℕ, List, Option, Some, None}
 use Rattle.std.specs.Io.KnownBytes.{Appends}
 use Rattle.bm_io.specs.Causes.{Rose}
@@ -25,7 +25,7 @@ RefusesAnswer (Refused fault) code before now =
     (code ≡ code_of (fault_status fault)) × Appends before now (fault_line fault)
 RefusesAnswer (Shown is) code before now = ⊥
 
--- the exit status is the one that is due, but where the files, if one is asked for, or the sink
+-- the exit status is the one that is due, unless the files (if one is asked for) or the sink
 -- failed, or memory was refused
 abbrev pub IsStatusOf : Due → ℕ → Type 0
 IsStatusOf due code =
@@ -36,13 +36,13 @@ IsStatusOf due code =
 abbrev pub AsksNone : (Reads → Due) → Type 0
 AsksNone due = (reads : Reads) → (due reads).names ≡ []
 
--- by whatever is read, or by the files' octets where they tell them, a text is due that isn't the
--- line of a fault or of misuse
+-- for whatever may be read, or what the files' octets give if these are known, the text that is due
+-- isn't the line of a fault or of misuse
 abbrev pub IsAccepted : (Reads → Due) → Octets → Type 0
 IsAccepted due told = (reads : Reads) → Known told reads → status_of (due reads).answer ≡ Done
 
--- nothing was written, or a first part, and not all, of the text that is due, or of the line of a
--- read that failed
+-- nothing was written, or only a first part of the text that is due, or of the line of a read that
+-- failed
 pub record WritesSome (due : Due) (files : FilesDid) (sink : SinkDid) : Type 0 where
   pub text : List ℕ
   pub is :
@@ -51,7 +51,7 @@ pub record WritesSome (due : Due) (files : FilesDid) (sink : SinkDid) : Type 0 w
       text_of due.answer text
   pub less : WritesLess sink text
 
--- the script's name alone, where the words have one
+-- just the script's name, if the words have one
 abbrev pub scripts_in : Option Asked → List (List ℕ)
 scripts_in None = []
 scripts_in (Some (Replay names)) = script_names names.script

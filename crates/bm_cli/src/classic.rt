@@ -13,7 +13,7 @@ use bm_io::Source;
 use bm_pcap::{PcapFault, PcapReader, read_capture};
 use std::alloc::Global;
 
-/// Reads a capture, and gives its source back, and when a capture without a fault began.
+/// Reads a capture. Returns its source too, and when a capture without a fault began.
 pub(crate) fn read_classic<S: Source>(
     alloc: Global,
     src: S,
@@ -32,7 +32,7 @@ pub(crate) fn read_classic<S: Source>(
     }
 }
 
-/// Reads a capture whose header is read, and gives its source back, and when a capture without a
+/// Reads a capture whose header was read. Returns its source too, and when a capture without a
 /// fault began.
 fn read_records<S: Source>(
     alloc: Global,

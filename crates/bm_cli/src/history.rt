@@ -18,7 +18,7 @@ use std::sync::Wait;
 use std::thread::Threads;
 
 /// The history of the stage, played by the route and the fault rule of its setting. `packets` has
-/// the packet of each record, and is let go.
+/// the packet of each record, and is dropped.
 pub(crate) fn history_of<R: Threads + Wait + Sync, G: Gate>(
     rt: &R,
     alloc: Global,

@@ -12,7 +12,7 @@ use bm_quota::Refusal;
 use bm_script::ScriptFault;
 use std::alloc::{AllocError, Global};
 
-/// Writes the line of a fault, or of a limit that is passed. Nothing where memory was refused.
+/// Writes the line of a fault, or of a limit that is exceeded. Nothing where memory was refused.
 pub fn refuse<K: Sink>(alloc: Global, fault: &StageFault, out: &mut K) -> Status
     ensures { Tells (Refused fault.now) (did K.written K.faults out.old out.new) result }
 {
@@ -26,7 +26,7 @@ pub fn refuse<K: Sink>(alloc: Global, fault: &StageFault, out: &mut K) -> Status
     }
 }
 
-/// The status that a fault ends with.
+/// The status with which the program ends after a fault.
 fn status_of(fault: &StageFault) -> Status
     ensures status { result ≡ lines.fault_status fault.now }
     ensures write { result ≢ Status.WriteFault }
@@ -77,7 +77,6 @@ fn capture_status(fault: CaptureFault) -> Status
     }
 }
 
-/// The line of a fault.
 fn line_of(alloc: Global, fault: &StageFault) -> Result<String, AllocError>
     ensures { IfOk result (λ line. string_bytes line ≡ lines.fault_line fault.now) }
 {

@@ -1,7 +1,7 @@
 //! How a stage is played.
 
 /// How a stage is played.
-#[derive(Clone, Copy, Debug, PartialEq, Eq)]
+#[derive(Clone, Copy, PartialEq, Eq)]
 pub enum Mode {
     /// In one thread, in the order of the clocks.
     Replay,

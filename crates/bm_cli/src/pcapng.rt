@@ -21,7 +21,7 @@ pub(crate) fn is_pcapng(magic: &[u8]) -> bool
     magic == [0x0a, 0x0d, 0x0d, 0x0a].as_slice()
 }
 
-/// Reads a capture, and gives its source back, and when a capture without a fault began.
+/// Reads a capture. Returns its source too, and when a capture without a fault began.
 pub(crate) fn read_pcapng<S: Source>(
     alloc: Global,
     src: S,
@@ -40,8 +40,8 @@ pub(crate) fn read_pcapng<S: Source>(
     }
 }
 
-/// Reads a capture whose first block is read, and gives its source back, and when a capture without
-/// a fault began.
+/// Reads a capture whose first block was read. Returns its source too, and when a capture without a
+/// fault began.
 fn read_blocks<S: Source>(
     alloc: Global,
     mut reader: NgReader<S>,

@@ -1,4 +1,4 @@
-//! The replay of the files that the words name, for programs that tell it in their own way.
+//! The replay of the files that the words name, for programs that report it in their own way.
 ghost use Rattle.std.specs.Prelude.{◌≡◌, ◌<◌, ◌≤◌, IfOk};
 ghost use Rattle.std.specs.Result.{result_map_both};
 ghost use Rattle.bm_pcap.specs.Limits.{latest};
@@ -20,18 +20,18 @@ use std::sync::Wait;
 use std::thread::Threads;
 
 /// A history, and when its capture began: the captured time of record 1 in nanoseconds since
-/// 1970-01-01T00:00:00Z, in the pcapng form that of the first packet that has one; 0 where there is
+/// 1970-01-01T00:00:00Z, in the pcapng form that of the first packet that has one; 0 if there is
 /// none.
-#[derive(Debug, Drop)]
+#[derive(Drop)]
 pub struct Replayed {
     pub history: History,
     pub began: u64,
 }
 
-/// Reads the script and the capture that are named, and replays them, as `beamer replay` does. The
-/// files are asked for the names alone, and for the capture only behind a script without a fault.
+/// Reads the script and the capture that are named, and replays them, as `beamer replay` does. No
+/// other names are asked for, and the capture only after a script without a fault.
 ///
-/// `StageFault` is the fault of the files, the script or the capture, a limit that is passed, or
+/// `StageFault` is the fault of the files, the script or the capture, a limit that is exceeded, or
 /// refused memory.
 pub fn replay_files<R: Threads + Wait + Sync, F: Files>(
     rt: &R,
@@ -48,7 +48,8 @@ pub fn replay_files<R: Threads + Wait + Sync, F: Files>(
     ensures made { IfOk result (λ replayed.
         IsMadeBy Mode.Replay replayed.history.stage replayed.history) }
     ensures early { IfOk result (λ replayed. replayed.began ≤ latest) }
-    // The files tell what they told. No source stays open, and none is closed that was open before.
+    // The files' octets are the same as before. No source stays open, and none is closed that was
+    // open before.
     ensures octets { F.octets files.new ≡ F.octets files.old }
     ensures open { F.open_now files.new ≡ F.open_now files.old }
 {

@@ -8,10 +8,9 @@ use crate::mode::Mode;
 use bm_table::Script;
 use bm_world::seats;
 
-/// The most seats of a run.
 const MOST_SEATS: u64 = 65_536;
 
-/// Whether a stage with this script may be played so: a run has at most 65,536 seats.
+/// Whether a stage with this script may be played in this mode: a run has at most 65,536 seats.
 pub(crate) fn check_seats(mode: Mode, script: &Script) -> Result<(), StageFault>
     requires { IsSoundScript script.now }
     ensures { MatchResult result (λ _. taken mode script.now ≡ Ok script.now)

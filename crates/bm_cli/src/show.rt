@@ -23,11 +23,11 @@ use std::alloc::Global;
 use std::sync::Wait;
 use std::thread::Threads;
 
-/// At most so many threads make the lines of the events.
+/// The most threads that make the lines of the events.
 const MOST_THREADS: usize = 8;
 
 /// Plays the stage, and writes the report of its history. `packets` has the packet of each record,
-/// and is let go before the report is made.
+/// and is dropped before the report is made.
 pub(crate) fn show<R: Threads + Wait + Sync, K: Sink, G: Gate>(
     rt: &R,
     alloc: Global,
@@ -48,14 +48,14 @@ pub(crate) fn show<R: Threads + Wait + Sync, K: Sink, G: Gate>(
     }
 }
 
-/// How many threads write the lines of a run's events: as many as there are muxes, but not many,
-/// less the one that finds the causes meanwhile.
+/// How many threads write the lines of a run's events: as many as there are muxes, up to a limit,
+/// minus the one that meanwhile finds the causes.
 fn writers_of(history: &History) -> usize {
     let muxes = usize::from(history.stage.script.setting.muxes);
     muxes.min(MOST_THREADS).saturating_sub(1)
 }
 
-/// Writes the report of the history, in pieces: of a run by several threads.
+/// Writes the report of the history, in pieces; that of a run with several threads.
 #[tactic(auto, using(bm_trace::proofs::Ranged::ranges_of))]
 fn write_report<R: Threads + Sync, K: Sink>(
     rt: &R,
@@ -82,7 +82,7 @@ fn write_report<R: Threads + Sync, K: Sink>(
     }
 }
 
-/// Writes the report of the history, and tells how that ended.
+/// Writes the report of the history, and returns how that ended.
 fn show_history<R: Threads + Sync, K: Sink>(
     rt: &R,
     alloc: Global,

@@ -20,10 +20,10 @@ use bm_io::Files;
 use bm_words::Names;
 use std::alloc::Global;
 
-/// Reads the script, and then the capture, whose packets go to the script's services, the packet of
-/// each record, and when the capture began, in nanoseconds since 1970. The files are asked for the
-/// names in the words alone, and for the capture only behind a script without a fault, which may be
-/// played so.
+/// Reads the script, and then the capture, whose packets go to the script's services. Returns with
+/// them the packet of each record, and when the capture began, in nanoseconds since 1970. Only the
+/// names in the words are asked for, and the capture only after a script that has no fault and may
+/// be played in this mode.
 pub(crate) fn read_stage<F: Files>(
     alloc: Global,
     files: &mut F,

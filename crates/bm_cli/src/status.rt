@@ -1,15 +1,15 @@
-//! How the program ends, and what it then has written.
+//! How the program ends, and what it has written then.
 ghost use Rattle.std.specs.Prelude.{◌≡◌, ◌≢◌};
 ghost use Rattle.bm_cli.specs.Statuses.{Writes, code_of, did};
 
 use bm_io::{IoFault, Sink, put_all};
 
 /// How the program ends.
-#[derive(Clone, Copy, Debug, PartialEq, Eq)]
+#[derive(Clone, Copy, PartialEq, Eq)]
 pub enum Status {
     /// The report, or the line of a load, was written.
     Done,
-    /// The words are of no form.
+    /// The words fit no form.
     Usage,
     /// The files failed.
     ReadFault,
@@ -21,7 +21,7 @@ pub enum Status {
     WriteFault,
     /// Memory was refused.
     Memory,
-    /// A limit is passed.
+    /// A limit is exceeded.
     Limit,
 }
 
@@ -43,7 +43,7 @@ impl Status {
     }
 }
 
-/// Writes a text, and ends with this status, or with that of the write where it is refused.
+/// Writes a text, and ends with this status, or with that of the write if it failed.
 pub fn say<K: Sink>(out: &mut K, text: &[u8], status: Status) -> Status
     requires write { status ≢ Status.WriteFault }
     requires memory { status ≢ Status.Memory }

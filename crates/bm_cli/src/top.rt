@@ -28,12 +28,12 @@ use std::thread::Threads;
 
 const USAGE: &str = "usage: beamer replay CAPTURE [SCRIPT] | run CAPTURE SCRIPT | load N\n";
 
-/// Does all that the program does, and answers the status. The gate may hold the workers of a run;
+/// Does all that the program does, and returns the status. The gate may hold the workers of a run;
 /// it doesn't change what is due.
 ///
-/// 0: the report, or the line of a load, was written. 1: the words are of no form. 2: the files
+/// 0: the report, or the line of a load, was written. 1: the words fit no form. 2: the files
 /// failed. 3: the capture has a fault. 4: the script has a fault. 5: the sink failed. 6: memory was
-/// refused. 7: a limit is passed.
+/// refused. 7: a limit is exceeded.
 pub fn beamer<R: Threads + Wait + Sync, F: Files, K: Sink, G: Gate>(
     rt: &R,
     alloc: Global,
@@ -45,7 +45,7 @@ pub fn beamer<R: Threads + Wait + Sync, F: Files, K: Sink, G: Gate>(
     requires room { F.open_now files.old ≤ 1000 }
     // On status 0 what was written is the report of a replay, or of a run in threads, of the named
     // capture through the servers of the named script, or the line of a run in threads of the load
-    // of so many connections.
+    // of this many connections.
     ensures shown { result ≡ 0 → Holds (F.octets files.old) (λ reads.
         ShowsAnswer (due (form_in words.now) reads).answer
         (K.written out.old) (K.written out.new)) }
@@ -54,11 +54,11 @@ pub fn beamer<R: Threads + Wait + Sync, F: Files, K: Sink, G: Gate>(
         EndsWith (due (form_in words.now) reads) (did F.asked F.faults files.old files.new)
         (did K.written K.faults out.old out.new) result) }
 
-    // The status is the one that is due, but where the files or the sink failed, or memory was
+    // The status is the one that is due, unless the files or the sink failed, or memory was
     // refused.
     ensures status { Holds (F.octets files.old) (λ reads.
         IsStatusOf (due (form_in words.now) reads) result) }
-    // An accepted capture's report is written, and so is the line of a load, but where the files or
+    // An accepted capture's report is written, and so is the line of a load, unless the files or
     // the sink failed, or memory was refused.
     ensures complete { IsAccepted (due (form_in words.now)) (F.octets files.old) →
         (result ≡ 0) ⊎ (result ≡ 6) ⊎ Rose (F.faults files.old) (F.faults files.new)
@@ -67,15 +67,15 @@ pub fn beamer<R: Threads + Wait + Sync, F: Files, K: Sink, G: Gate>(
     ensures usage { result ≡ 1 → form_in words.now ≡ None }
     ensures named { result ≡ 2 → IsSome (form_in words.now) }
     ensures read { result ≡ 2 → Rose (F.faults files.old) (F.faults files.new) }
-    // Where the files failed 2 comes, but where the sink failed too, or memory was refused.
+    // If the files failed the status is 2, unless the sink failed too, or memory was refused.
     ensures files { result ≢ 2 → result ≢ 5 → result ≢ 6 →
         F.faults files.new ≡ F.faults files.old }
-    // 5 comes where the sink failed, and nowhere else.
+    // The status is 5 exactly if the sink failed.
     ensures write { result ≡ 5 → Rose (K.faults out.old) (K.faults out.new) }
     ensures kept { result ≢ 5 → K.faults out.new ≡ K.faults out.old }
 
-    // What was written otherwise is the line of the status, whatever the files tell, or a first
-    // part of the text that was due.
+    // With any other status, what was written is the line of that status, whatever the files hold,
+    // or a first part of the text that was due.
     ensures usage_line { result ≡ 1 → Appends (K.written out.old) (K.written out.new) usage_line }
     ensures read_line { result ≡ 2 →
         Appends (K.written out.old) (K.written out.new) (fault_line files_failed) }
@@ -86,19 +86,19 @@ pub fn beamer<R: Threads + Wait + Sync, F: Files, K: Sink, G: Gate>(
         WritesSome (due (form_in words.now) reads) (did F.asked F.faults files.old files.new)
         (did K.written K.faults out.old out.new)) }
 
-    // The files are asked for the names that are due, in their order, each at most once.
+    // The files are asked for the names that are due, in order, each at most once.
     ensures asked { Holds (F.octets files.old) (λ reads.
         AsksPrefix (F.asked files.old) (F.asked files.new) (due (form_in words.now) reads).names) }
-    // They were asked for all of them, but where the files or the sink failed, or memory was
-    // refused.
+    // They were asked for all of them, unless the files or the sink failed, or memory was refused.
     ensures all { result ≢ 2 → result ≢ 5 → result ≢ 6 → Holds (F.octets files.old) (λ reads.
         AsksAll (F.asked files.old) (F.asked files.new) (due (form_in words.now) reads).names) }
-    // Behind a fault of the script they were asked for its name alone, whatever they tell.
+    // After a fault of the script they were asked for its name alone, whatever they hold.
     ensures script { result ≡ 4 →
         AsksAll (F.asked files.old) (F.asked files.new) (scripts_in (form_in words.now)) }
-    // Where no file is asked for the files are left as they are.
+    // If no file is asked for, the files are left as they are.
     ensures unasked { AsksNone (due (form_in words.now)) → files.new ≡ files.old }
-    // The files tell what they told. No source stays open, and none is closed that was open before.
+    // The files' octets are the same as before. No source stays open, and none is closed that was
+    // open before.
     ensures octets { F.octets files.new ≡ F.octets files.old }
     ensures open { F.open_now files.new ≡ F.open_now files.old }
 {
@@ -185,7 +185,7 @@ fn play_files<R: Threads + Wait + Sync, F: Files, K: Sink, G: Gate>(
     }
 }
 
-/// Writes how the program is used.
+/// Writes the usage line.
 fn misuse<K: Sink>(out: &mut K) -> Status
     ensures { Tells (Misused usage_line) (did K.written K.faults out.old out.new) result }
 {

@@ -9,13 +9,13 @@ use Rattle.bm_conn.specs.declared.slot.Slot.{Slot}
 
 -- a table as contracts see it
 pub record Connections : Type 0 where
-  -- the flows with their receivers, in no order that is promised
+  -- the flows with their receivers, in no particular order
   pub connections : List Connection
   -- how many flows there may be
   pub capacity : ℕ
   -- how many more flows it can take without memory
   pub room : ℕ
-  -- where the flows stand
+  -- the slots of the flows
   pub slots : List Slot
 
 -- the receiver of the flow, if the flow is there
@@ -24,7 +24,7 @@ receiver_in [] f = None
 receiver_in (c ∷ connections) f =
     if same_flow c.flow f then Some c.receiver else receiver_in connections f
 
--- each flow stands once
+-- no flow is there twice
 abbrev pub AreOnce : List Connection → Type 0
 AreOnce [] = Unit {0}
 AreOnce (c ∷ connections) = (receiver_in connections c.flow ≡ None) × AreOnce connections
@@ -49,6 +49,6 @@ pub record IsSame (old new : Connections) : Type 0 where
   pub count : length new.connections ≡ length old.connections
   pub each : (g : Flow) → receiver_in new.connections g ≡ receiver_in old.connections g
 
--- one more flow needs no memory, or there may be no more
+-- one more flow needs no memory, or the table is full
 abbrev pub HasRoom : Connections → Type 0
 HasRoom table = (1 ≤ table.room) ⊎ (length table.connections ≡ table.capacity)

@@ -1,4 +1,4 @@
--- Where the flows of a table stand.
+-- Where the flows of a table are.
 use Rattle.std.specs.Prelude.{◌≡◌, ℕ, ◌+◌, ◌*◌, ◌/◌, ◌^◌, ◌<◌, ◌≤◌, ◌⊎◌, List, length, Some}
 use Rattle.bm_base.specs.declared.flow.Flow.{Flow}
 use Rattle.bm_seq.specs.declared.receiver.Receiver.{Receiver}
@@ -9,7 +9,7 @@ use Rattle.bm_conn.specs.declared.table.Connection.{Connection}
 use Rattle.bm_conn.specs.Connections.{Connections, receiver_in}
 use Rattle.bm_conn.specs.Slots.{AreReached, IsPlaceOf, slot_at}
 
--- each flow stands in exactly one slot, with its receiver, and no slot on its way from its home is
+-- each flow is in exactly one slot, with its receiver, and no slot on the probe from its home is
 -- free
 pub record IsLaidOut (table : Connections) : Type 0 where
   -- eight times a power of two
@@ -26,15 +26,15 @@ pub record IsLaidOut (table : Connections) : Type 0 where
   pub spare : length table.connections + table.room ≡ length table.slots * 3 / 4
   pub free : (place : ℕ) × (place < length table.slots) × (slot_at table.slots place ≡ Free)
 
--- where no more slots may be used and there may be more flows, there are then twice as many;
--- otherwise nothing changes
+-- if no more slots may be used but there may be more flows, the slots are doubled; otherwise
+-- nothing changes
 abbrev pub Readies : Connections → Connections → Type 0
 Readies old new =
     ((old.room ≡ 0) × (length old.connections < old.capacity)
     × (length new.slots ≡ 2 * length old.slots))
     ⊎ (((1 ≤ old.room) ⊎ (length old.connections ≡ old.capacity)) × (new ≡ old))
 
--- what seeking a flow finds: its receiver, if it is there, and where its way ends
+-- what a search for a flow finds: its receiver, if it is there, and where its probe ends
 pub record IsFound (connections : List Connection) (slots : List Slot) (found : Found)
     : Type 0 where
   pub receiver : found.receiver ≡ receiver_in connections found.flow

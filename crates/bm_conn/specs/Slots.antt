@@ -1,4 +1,4 @@
--- The slots of a table: open addressing, each flow behind its home.
+-- The slots of a table: open addressing, with linear probing from each flow's home.
 use Rattle.std.specs.Prelude.{◌≡◌, ℕ, ◌+◌, ◌-◌, ◌%◌, ◌<◌, Bool, true, false, if◌then◌else◌}
 use Rattle.std.specs.Prelude.{nat_le, List, length, slice_index_or, ◌⊎◌}
 use Rattle.bm_base.specs.declared.flow.Flow.{Flow}
@@ -21,27 +21,27 @@ abbrev pub is_of : Flow → Slot → Bool
 is_of f Free = false
 is_of f (Used g receiver) = same_flow g f
 
--- how many steps from one place to another, of so many places, going round at the end
+-- how many steps it is from one place to another among this many places, wrapping around at the end
 unfoldable pub distance : ℕ → ℕ → ℕ → ℕ
 distance count from to = if nat_le from to then to - from else to + count - from
 
--- where the flow's way begins, of so many places
+-- where the flow's probe begins, among this many places
 unfoldable pub home : ℕ → Flow → ℕ
 home count f = flow_hash f % count
 
--- each flow's way from its home up to its slot, going round at the end, has no free slot
+-- each flow's probe from its home up to its slot, wrapping around at the end, has no free slot
 pub record AreReached (slots : List Slot) (count : ℕ) : Type 0 where
   pub way : (place : ℕ) (f : Flow) (receiver : Receiver) → slot_at slots place ≡ Used f receiver
       → (between : ℕ) → between < count
       → distance count (home count f) between < distance count (home count f) place
       → is_free (slot_at slots between) ≡ false
 
--- a way ends at a free slot or at the flow's own
+-- a probe ends at a free slot or at the flow's own
 abbrev pub Stops : List Slot → Flow → ℕ → Type 0
 Stops slots f place =
     (is_free (slot_at slots place) ≡ true) ⊎ (is_of f (slot_at slots place) ≡ true)
 
--- the place is the flow's: over slots of other flows its way ends there
+-- the flow's probe ends at this place, past slots of other flows
 pub record IsPlaceOf (slots : List Slot) (f : Flow) (place : ℕ) : Type 0 where
   pub within : place < length slots
   pub stops : Stops slots f place

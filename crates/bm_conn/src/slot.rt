@@ -1,4 +1,4 @@
-//! The slots of a table, and the walk from a flow's home.
+//! The slots of a table, and the probe from a flow's home.
 ghost use Rattle.std.specs.Prelude.{if◌then◌else◌, is_some, IfOk, Some, None, replicate};
 ghost use Rattle.std.specs.Prelude.{◌≡◌, ◌<◌, ◌≤◌, ◌+◌, ◌^◌, ℕ, length, true};
 ghost use Rattle.bm_conn.specs.Connections.{AreOnce, receiver_in};
@@ -14,22 +14,22 @@ use bm_seq::Receiver;
 use std::alloc::Global;
 
 /// A place of a table: free, or with a flow and its receiver.
-#[derive(Clone, Copy, Debug, PartialEq, Eq)]
+#[derive(Clone, Copy, PartialEq, Eq)]
 pub enum Slot {
     Free,
     Used(Flow, Receiver),
 }
 
-/// What seeking a flow found: its receiver, if it is there, and its own slot or the free one where
-/// its way ends.
-#[derive(Clone, Copy, Debug, PartialEq, Eq)]
+/// What a search for a flow found: its receiver, if it is there, and its own slot or the free one
+/// where the probe ends.
+#[derive(Clone, Copy, PartialEq, Eq)]
 pub struct Found {
     pub flow: Flow,
     pub receiver: Option<Receiver>,
     place: usize,
 }
 
-/// How many steps from one place to another, of `count` places, going round at the end.
+/// How many steps it is from one place to another among `count` places, wrapping around at the end.
 #[tactic(auto, unfolding(crate::specs::Slots::distance))]
 pub(crate) fn distance(count: usize, from: usize, to: usize) -> usize
     requires few { count ≤ 2 ^ 32 }
@@ -44,7 +44,7 @@ pub(crate) fn distance(count: usize, from: usize, to: usize) -> usize
     }
 }
 
-/// The place where the flow's way begins, of `count` places.
+/// The place where the flow's probe begins, among `count` places.
 #[tactic(auto, unfolding(crate::specs::Slots::home))]
 pub(crate) fn home(count: usize, flow: &Flow) -> usize
     requires some { 1 ≤ count }
@@ -54,7 +54,7 @@ pub(crate) fn home(count: usize, flow: &Flow) -> usize
     remainder(flow_hash(flow), count as u64) as usize
 }
 
-/// The next place, going round at the end.
+/// The next place, wrapping around at the end.
 pub(crate) fn after(count: usize, place: usize) -> usize
     requires few { count ≤ 2 ^ 32 }
     requires within { place < count }
@@ -63,7 +63,7 @@ pub(crate) fn after(count: usize, place: usize) -> usize
     if place + 1 == count { 0 } else { place + 1 }
 }
 
-/// The place of the flow, or the free slot where its way ends.
+/// The place of the flow, or the free slot where its probe ends.
 pub(crate) fn seek(places: &[Slot], flow: &Flow) -> usize
     requires few { length places.now ≤ 2 ^ 32 }
     requires free { (place : ℕ) × (place < length places.now)
@@ -83,11 +83,12 @@ pub(crate) fn seek(places: &[Slot], flow: &Flow) -> usize
         }
         place = after(count, place);
     }
-    // Never reached: a slot is free.
+    // Never reached, since a slot is free.
     place
 }
 
-/// Puts the flow at the place into the hole, if its way goes over the hole; where the hole is then.
+/// Moves the flow at the place into the hole, if its probe passes the hole. Returns where the hole
+/// is afterwards.
 fn shift(places: &mut [Slot], hole: usize, place: usize, flow: &Flow) -> usize
     requires few { length places.old ≤ 2 ^ 32 }
     requires hole { hole < length places.old }
@@ -118,7 +119,7 @@ pub(crate) fn close_up(places: &mut [Slot], start: usize)
     let count = places.len();
     let mut hole = start;
     let mut place = start;
-    // It returns inside: a slot other than the hole is free.
+    // The loop always returns, since a slot other than the hole is free.
     for _ in 1..count {
         place = after(count, place);
         match places[place] {
@@ -130,14 +131,13 @@ pub(crate) fn close_up(places: &mut [Slot], start: usize)
     }
 }
 
-/// So many free slots.
+/// This many free slots.
 pub(crate) fn free_slots(alloc: Global, count: usize) -> Result<Vec<Slot>, Memory>
     ensures { IfOk result (λ places. places.items ≡ replicate count Slot.Free) }
 {
     Ok(vec![in alloc; Slot::Free; count]?)
 }
 
-/// The receiver in a slot.
 fn receiver_of(slot: Slot) -> Option<Receiver>
     ensures { result ≡ inside.receiver_of slot }
 {
@@ -147,7 +147,7 @@ fn receiver_of(slot: Slot) -> Option<Receiver>
     }
 }
 
-/// Seeks the flow.
+/// Searches for the flow.
 pub(crate) fn look(places: &[Slot], flow: &Flow) -> Found
     requires few { length places.now ≤ 2 ^ 32 }
     requires spare { length (used places.now) < length places.now }
@@ -174,7 +174,7 @@ pub(crate) fn fill(places: &mut [Slot], found: Found, receiver: Receiver)
     places[found.place] = Slot::Used(found.flow, receiver);
 }
 
-/// Takes a flow that isn't there.
+/// Adds a flow that isn't there.
 fn put(places: &mut [Slot], flow: Flow, receiver: Receiver)
     requires few { length places.old ≤ 2 ^ 32 }
     requires spare { length (used places.old) < length places.old }
@@ -187,7 +187,7 @@ fn put(places: &mut [Slot], flow: Flow, receiver: Receiver)
     fill(places, found, receiver);
 }
 
-/// Takes away the flow that was sought; true exactly where it was there.
+/// Removes the flow that was searched for; true exactly if it was there.
 pub(crate) fn take(places: &mut [Slot], found: Found) -> bool
     requires few { length places.old ≤ 2 ^ 32 }
     requires spare { length (used places.old) < length places.old }

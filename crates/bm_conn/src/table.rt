@@ -15,14 +15,14 @@ use std::marker::Model;
 const FIRST_SLOTS: usize = 8;
 
 /// A flow and its receiver.
-#[derive(Clone, Copy, Debug, PartialEq, Eq)]
+#[derive(Clone, Copy, PartialEq, Eq)]
 pub struct Connection {
     pub flow: Flow,
     pub receiver: Receiver,
 }
 
-/// A finite map from flows to receivers, of at most as many flows as its capacity.
-#[derive(Debug, Drop)]
+/// A finite map from flows to receivers, with at most `capacity` flows.
+#[derive(Drop)]
 pub struct ConnTable {
     slots: Vec<Slot>,
     len: u32,
@@ -56,15 +56,15 @@ impl ConnTable {
         })
     }
 
-    /// The receiver of the flow; None exactly where the flow isn't there.
+    /// The receiver of the flow; None exactly if the flow isn't there.
     pub fn find(&self, flow: &Flow) -> Option<Receiver>
         ensures { result ≡ receiver_in self.now.connections flow.now }
     {
         self.seek(flow).receiver
     }
 
-    /// Seeks the flow, once for all that is then done with it: what is found holds until the table
-    /// changes.
+    /// Searches for the flow. What it finds holds until the table changes, so one search is enough
+    /// for all that is then done with the flow.
     pub fn seek(&self, flow: &Flow) -> Found
         ensures flow { result.flow ≡ flow.now }
         ensures found { IsFound self.now.connections self.now.slots result }
@@ -96,9 +96,8 @@ impl ConnTable {
         self.len() == self.capacity
     }
 
-    /// Makes room for one more flow, unless the table is full: where no slot may be used any more,
-    /// there are then twice as many.
-    /// Where memory is refused, the table stays as it was.
+    /// Makes room for one more flow, unless the table is full: if no more slots may be used, their
+    /// number is doubled. Where memory is refused, the table stays as it was.
     pub fn ready(&mut self) -> Result<(), Memory>
         ensures room { MatchResult result
             (λ _. IsSame self.old self.new × HasRoom self.new)
@@ -117,7 +116,7 @@ impl ConnTable {
         Ok(())
     }
 
-    /// Takes a flow that isn't there. Takes no memory.
+    /// Adds a flow that isn't there. Takes no memory.
     pub fn insert(&mut self, flow: Flow, receiver: Receiver)
         requires absent { receiver_in self.old.connections flow ≡ None }
         requires free { length self.old.connections < self.old.capacity }
@@ -143,7 +142,7 @@ impl ConnTable {
         self.replace_at(found, receiver);
     }
 
-    /// Takes the flow away; true exactly where it was there. Takes no memory.
+    /// Removes the flow; true exactly if it was there. Takes no memory.
     pub fn remove(&mut self, flow: &Flow) -> bool
         ensures there { result ≡ is_some (receiver_in self.old.connections flow.now) }
         ensures puts { Puts flow.now None self.old self.new }
@@ -156,7 +155,7 @@ impl ConnTable {
         self.remove_at(found)
     }
 
-    /// Takes a flow that was sought and isn't there. Takes no memory.
+    /// Adds a flow that was searched for and isn't there. Takes no memory.
     pub fn insert_at(&mut self, found: Found, receiver: Receiver)
         requires found { IsFound self.old.connections self.old.slots found }
         requires absent { found.receiver ≡ None }
@@ -171,7 +170,7 @@ impl ConnTable {
         self.len += 1;
     }
 
-    /// Gives a flow that was sought and is there another receiver. Takes no memory.
+    /// Gives a flow that was searched for and is there another receiver. Takes no memory.
     pub fn replace_at(&mut self, found: Found, receiver: Receiver)
         requires found { IsFound self.old.connections self.old.slots found }
         requires there { IsSome found.receiver }
@@ -183,7 +182,7 @@ impl ConnTable {
         fill(&mut self.slots, found, receiver);
     }
 
-    /// Takes away a flow that was sought; true exactly where it was there. Takes no memory.
+    /// Removes a flow that was searched for; true exactly if it was there. Takes no memory.
     pub fn remove_at(&mut self, found: Found) -> bool
         requires found { IsFound self.old.connections self.old.slots found }
         ensures there { result ≡ is_some found.receiver }
@@ -200,7 +199,7 @@ impl ConnTable {
         there
     }
 
-    /// Takes all flows away. Takes no memory.
+    /// Removes all flows. Takes no memory.
     pub fn clear(&mut self)
         ensures empty { self.new.connections ≡ [] }
         ensures capacity { self.new.capacity ≡ self.old.capacity }

@@ -11,7 +11,7 @@ use Rattle.std.proofs.lemmas.List.{append-nil, length-append}
 use Rattle.jiff_fmt.specs.Text.{pad2, pad4, places}
 use Rattle.bm_connections.specs.Times.{last_digits}
 
--- the last of them stands behind the others
+-- the last digit comes after the others
 last_one : (k n : ℕ) → last_digits (suc k) n ≡ last_digits k (n / 10) ++ (48 + n % 10) ∷ []
 unfolding last_digits
 last_one zero n = ap (λ m. (48 + m % 10) ∷ []) (div-one n)

@@ -296,7 +296,7 @@ held_changed stage past e t held new is here others k = record {
       ];
 }
 
--- the same, behind the events so far
+-- the same, after the events so far
 pub held_more : (stage : Stage) (shown : List Event) (n : ℕ) (d : Event) (held : ShardKey → Option HeldFlows)
     → n < length shown
     → AreHeldByShards stage (get_or shown n d ∷ reverse (take n shown)) held

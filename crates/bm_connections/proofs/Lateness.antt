@@ -6,7 +6,12 @@ use Rattle.std.specs.Prelude.{IfSome, if◌then◌else◌}
 use Rattle.std.proofs.lemmas.Bool.{cases_Bool}
 use Rattle.std.proofs.lemmas.Bool.Decides.{nat_tests}
 use Rattle.bm_base.specs.declared.ids.ServerId.{ServerId}
+use Rattle.bm_base.specs.declared.flow.Flow.{Flow}
 use Rattle.bm_base.specs.declared.flow.Segment.{Segment}
+use Rattle.bm_base.specs.declared.label.Hop.{Hop}
+use Rattle.bm_base.specs.declared.label.Past.{Past}
+use Rattle.bm_base.specs.Labels.{onward}
+use Rattle.std.specs.Option.{option_map_or}
 use Rattle.bm_base.specs.declared.label.Label.{Label}
 use Rattle.bm_core.specs.declared.events.Cause.{Cause}
 use Rattle.bm_core.specs.declared.events.Cause.TheVariants.{ChainLate}
@@ -16,7 +21,7 @@ use Rattle.bm_core.specs.declared.events.Stage.{Stage}
 use Rattle.bm_core.specs.declared.events.Verdict.{Verdict}
 use Rattle.bm_core.specs.declared.events.What.{What}
 use Rattle.bm_core.specs.declared.events.What.TheVariants.{Publish, Switch, Steer, Lose, Arrive, Close, Retire, Sync}
-use Rattle.bm_core.specs.Causes.{cause, cause_at}
+use Rattle.bm_core.specs.Causes.{cause, cause_at, first_broken, is_late}
 use Rattle.bm_core.specs.Past.{Accepted, label_of, owner, segment_of}
 use Rattle.bm_trace.specs.CauseOf.{cause_of}
 use Rattle.bm_trace.proofs.Newest.{reverse_take}
@@ -85,15 +90,49 @@ or_false : (b : Bool) → (b || false) ≡ b
 or_false true = refl
 or_false false = refl
 
-late_label : (t : ℕ) (stage : Stage) (past : List Event) (clock : ℕ) (server : ServerId) (verdict : Verdict)
+-- what is no copy to be passed on doesn't come too late
+not_late : (stage : Stage) (past : List Event) (clock : ℕ) (label : Label) (hop : Hop) (f : Flow) (server : ServerId)
+    (a : Option Accepted) → onward label.entry hop ≡ None
+    → is_cause ChainLate (first_broken stage past clock label hop f server a) ≡ false
+not_late stage past clock label hop f server None none = refl
+not_late stage past clock label hop f server (Some a) none =
+    let late : is_late stage label hop clock ≡ false = rw none refl
+    in rw late (grind (arith, nat_tests))
+
+not_late_at : (stage : Stage) (past : List Event) (clock : ℕ) (hop : Hop) (server : ServerId) (verdict : Verdict)
+    (a : Option Accepted) (s : Segment) (label : Label) → onward label.entry hop ≡ None
+    → is_cause ChainLate (cause_at stage past clock hop server verdict a (Some s) (Some label)) ≡ false
+not_late_at stage past clock hop server verdict a s label none =
+    let plain = not_late stage past clock label hop s.flow server a none
+    in grind (arith, nat_tests)
+
+both_none : (c x y : Bool) → c ≡ false → (c && x) ≡ (c && y)
+both_none c x y none = rw none refl
+
+late_onward : (t : ℕ) (clock : ℕ) (onto : Option Past) → (onto ≡ None → ⊥)
+    → option_map_or (λ p. nat_lt (p.stamp.0 + t) clock) onto false
+    ≡ nat_lt t (clock - option_map_or (λ p. p.stamp.0) onto 0)
+late_onward t clock None some = absurd (some refl)
+late_onward t clock (Some p) some = lt_moves p.stamp.0 t clock
+
+late_label : (t : ℕ) (stage : Stage) (past : List Event) (clock : ℕ) (hop : Hop) (server : ServerId) (verdict : Verdict)
     (a : Option Accepted) (seg : Option Segment) (label : Option Label)
-    → (is_cause ChainLate (cause_at stage past clock server verdict a seg label) && has_late_label t stage label clock)
-    ≡ (is_cause ChainLate (cause_at stage past clock server verdict a seg label) && nat_lt t (clock - stamp_of label))
-late_label t stage past clock server verdict a None label = refl
-late_label t stage past clock server verdict a (Some s) None = refl
-late_label t stage past clock server verdict a (Some s) (Some label) =
-    ap (λ b. is_cause ChainLate (cause_at stage past clock server verdict a (Some s) (Some label)) && b)
-    (lt_moves label.entry.stamp.0 t clock)
+    → (is_cause ChainLate (cause_at stage past clock hop server verdict a seg label)
+    && has_late_label t stage label hop clock)
+    ≡ (is_cause ChainLate (cause_at stage past clock hop server verdict a seg label)
+    && nat_lt t (clock - stamp_of hop label))
+late_label t stage past clock hop server verdict a None label = refl
+late_label t stage past clock hop server verdict a (Some s) None = refl
+late_label t stage past clock hop server verdict a (Some s) (Some label) = go (onward label.entry hop) refl where
+  go : (onto : Option Past) → onward label.entry hop ≡ onto
+      → (is_cause ChainLate (cause_at stage past clock hop server verdict a (Some s) (Some label))
+      && has_late_label t stage (Some label) hop clock)
+      ≡ (is_cause ChainLate (cause_at stage past clock hop server verdict a (Some s) (Some label))
+      && nat_lt t (clock - stamp_of hop (Some label)))
+  go None is = both_none _ _ _ (not_late_at stage past clock hop server verdict a s label is)
+  go (Some p) is =
+      ap (λ b. is_cause ChainLate (cause_at stage past clock hop server verdict a (Some s) (Some label)) && b)
+      (late_onward t clock (onward label.entry hop) (λ none. absurd (let bad : None ≡ Some p = sym none ∙ is in cc)))
 
 late_event : (t : ℕ) (stage : Stage) (past : List Event) (clock : ℕ) (what : What)
     → (is_cause ChainLate (cause stage past clock what) && comes_late t stage past clock what)
@@ -106,7 +145,7 @@ late_event t stage past clock (Close server flow closed) = refl
 late_event t stage past clock (Retire server shard at result) = refl
 late_event t stage past clock Sync = refl
 late_event t stage past clock (Arrive k hop server verdict) =
-    late_label t stage past clock server verdict (owner stage past k) (segment_of stage k) (label_of stage past k)
+    late_label t stage past clock hop server verdict (owner stage past k) (segment_of stage k) (label_of stage past k)
 
 exceeds_more : (t : ℕ) (late : Bool) (wait : ℕ) (o : Option ℕ)
     → (late && nat_lt t wait || exceeds t o) ≡ exceeds t (if late then Some (longer o wait) else o)

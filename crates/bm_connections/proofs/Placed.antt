@@ -159,7 +159,7 @@ place_push_last (x ∷ flows) f absent = elim (cases_Bool (same_flow x f)) [
       in rw apart (ap (option_map (λ n. suc n)) (place_push_last flows f rest))
 ]
 
--- the places of flows, one more of which comes last
+-- the places of flows, with one more flow at the end
 pub place_push : (flows : List Flow) (f q : Flow) → is_listed flows f ≡ false
     → place_in (flows ++ f ∷ []) q ≡ (if same_flow f q then Some (length flows) else place_in flows q)
 place_push flows f q absent = elim (cases_Bool (same_flow f q)) [

@@ -70,9 +70,10 @@ wait_here h shown place d waits found same below all is =
 
 -- STAMPS
 
--- 0 stands where nothing is kept
-pub zero_push : (xs : List ℕ) (q : ℕ) → slice_index_or (xs ++ 0 ∷ []) q 0 ≡ slice_index_or xs q 0
-zero_push [] zero = refl
-zero_push [] (suc q) = refl
-zero_push (x ∷ xs) zero = refl
-zero_push (x ∷ xs) (suc q) = zero_push xs q
+-- the default stands where nothing is kept
+pub zero_push : {X : Type 0} (xs : List X) (none : X) (q : ℕ)
+    → slice_index_or (xs ++ none ∷ []) q none ≡ slice_index_or xs q none
+zero_push [] none zero = refl
+zero_push [] none (suc q) = refl
+zero_push (x ∷ xs) none zero = refl
+zero_push (x ∷ xs) none (suc q) = zero_push xs none q

@@ -113,7 +113,7 @@ server_changed false o a = refl
 changed : (stage : Stage) (records : List Record) (past : List Event) (clock : Moment) (k : ℕ) (hop : Hop)
     (server : ServerId) (verdict : Verdict) (f : Flow) (found : Option Cause) (waited : ℕ)
     → is_of (segment_of stage k) f ≡ true
-    → waited ≡ wait stage past clock.0 k
+    → waited ≡ wait stage past clock.0 hop k
     → found ≡ cause stage past clock.0 (Arrive k hop server verdict)
     → is_some found ≡ is_fault stage past (Arrive k hop server verdict)
     → noted (record { packet = k; clock = clock; server = server; verdict = verdict; cause = found }) waited

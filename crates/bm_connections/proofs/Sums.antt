@@ -95,7 +95,7 @@ same_flow_sym a b = elim (cases_Bool (same_flow a b)) [
   ]
 ]
 
--- the flow of a packet that comes behind these records
+-- the flow of a packet that comes after these records
 hits_with : (s : Segment) (records : List Record) (flows : List Flow) (g : Flow)
     → hits (same_flow g) flows ≡ one_more (is_seen records g) 0
     → hits (same_flow g) (with_flow (Some s) records flows) ≡ one_more (same_flow s.flow g || is_seen records g) 0

@@ -1,5 +1,5 @@
--- What became of the packets of each flow, by looking back through events (docs/DEFINITIONS.md). A
--- past has its newest event first.
+-- What became of the packets of each flow, computed by looking back through events
+-- (docs/DEFINITIONS.md). A past has its newest event first.
 use Rattle.std.specs.Prelude.{ℕ, suc, Bool, false, ◌&&◌, if◌then◌else◌, List, [], ◌∷◌, map}
 use Rattle.std.specs.Prelude.{Option, Some, None, is_some, option_map, reverse}
 use Rattle.bm_base.specs.declared.capture.Record.{Record}
@@ -31,7 +31,7 @@ abbrev pub is_arrival_for : Stage → Flow → What → Bool
 is_arrival_for stage f (Arrive k hop server verdict) = is_of (segment_of stage k) f
 is_arrival_for stage f _ = false
 
--- one more, where this is so
+-- one more, if so holds
 abbrev pub one_more : Bool → ℕ → ℕ
 one_more so n = if so then suc n else n
 
@@ -80,7 +80,7 @@ as_break clock (Arrive k hop server verdict) why = Some (record {
 })
 as_break clock _ why = None
 
--- the first, where there is one, and else the second
+-- the first, if there is one, and otherwise the second
 abbrev pub first_of_two : Option Break → Option Break → Option Break
 first_of_two None later = later
 first_of_two (Some b) later = Some b
@@ -105,22 +105,22 @@ first_fault stage f (e ∷ past) =
     then as_break e.clock e.what (cause stage past e.clock.0 e.what)
     else None)
 
--- the same, where no server accepted the flow
+-- the same, if no server accepted the flow
 abbrev pub refusal : Stage → Flow → List Event → Option Break
 refusal stage f past =
     if is_some (acceptor stage f past) then None else first_fault stage f past
 
 -- WHAT WAS FORWARDED
 
--- an arrival as a forwarding: its packet, clock and server, and how long after its bucket's move it
--- came
+-- an arrival as a forwarding: its packet, clock and server, and how long it came after its bucket
+-- left the server to which it may be passed on
 abbrev pub as_forwarding : Stage → List Event → Moment → What → Option Forwarding
 as_forwarding stage past clock (Arrive k hop server verdict) =
     Some (record {
       packet = k;
       clock = clock;
       server = server;
-      wait = wait stage past clock.0 k;
+      wait = wait stage past clock.0 hop k;
     })
 as_forwarding stage past clock _ = None
 

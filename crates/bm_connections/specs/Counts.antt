@@ -1,11 +1,11 @@
--- What became of packets by server and by cause, by looking back through events
+-- What became of packets by server and by cause, computed by looking back through events
 -- (docs/DEFINITIONS.md). A past has its newest event first.
 use Rattle.std.specs.Prelude.{ℕ, zero, suc, max, Bool, false, ◌&&◌, ◌==◌, List, [], ◌∷◌, length}
 use Rattle.std.specs.Prelude.{Option, Some, None, map, reverse, count_by}
 use Rattle.bm_base.specs.declared.ids.ServerId.{ServerId}
 use Rattle.bm_core.specs.declared.events.Cause.{Cause}
 use Rattle.bm_core.specs.declared.events.Cause.TheVariants.{NeverAccepted, NotHeld, StaleMux}
-use Rattle.bm_core.specs.declared.events.Cause.TheVariants.{MovedTwice, ChainLate, SynElsewhere}
+use Rattle.bm_core.specs.declared.events.Cause.TheVariants.{MovedThrice, ChainLate, SynElsewhere}
 use Rattle.bm_core.specs.declared.events.Cause.TheVariants.{Full, OldTable}
 use Rattle.bm_core.specs.declared.events.Event.{Event}
 use Rattle.bm_core.specs.declared.events.History.{History}
@@ -63,12 +63,12 @@ server_counts h servers = map (server_count h.stage (reverse h.events)) servers
 
 -- CAUSES
 
--- a number for each cause, by which causes are told apart
+-- a number for each cause, to compare causes by
 abbrev pub number : Cause → ℕ
 number NeverAccepted = 0
 number NotHeld = 1
 number StaleMux = 2
-number MovedTwice = 3
+number MovedThrice = 3
 number ChainLate = 4
 number SynElsewhere = 5
 number Full = 6
@@ -79,7 +79,7 @@ abbrev pub is_cause : Cause → Option Cause → Bool
 is_cause c None = false
 is_cause c (Some found) = number found == number c
 
--- how many packets have the cause, each counted as often as it arrives with it
+-- how many packets have the cause; a packet counts at each arrival with it
 abbrev pub packets_by : Stage → Cause → List Event → ℕ
 packets_by stage c [] = 0
 packets_by stage c (e ∷ past) =

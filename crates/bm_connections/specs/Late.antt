@@ -1,7 +1,8 @@
--- Which packets came too late, and under which timeout none of them would have, by looking back
--- through events (docs/DEFINITIONS.md). A past has its newest event first.
+-- Which packets came too late, and under which timeout none of them would have, computed by looking
+-- back through events (docs/DEFINITIONS.md). A past has its newest event first.
 use Rattle.std.specs.Prelude.{ℕ, suc, max, ◌/◌, ◌%◌, ◌^◌, ◌==◌, Bool, false, ◌&&◌, ◌||◌}
 use Rattle.std.specs.Prelude.{if◌then◌else◌, List, [], ◌∷◌, Option, Some, None, option_map, reverse}
+use Rattle.bm_base.specs.declared.label.Hop.{Hop}
 use Rattle.bm_base.specs.declared.label.Label.{Label}
 use Rattle.bm_core.specs.declared.events.Cause.TheVariants.{ChainLate}
 use Rattle.bm_core.specs.declared.events.Event.{Event}
@@ -21,25 +22,25 @@ came_late stage past e = is_cause ChainLate (cause stage past e.clock.0 e.what)
 
 -- THE TIMEOUT
 
--- the stage with a timeout of so many nanoseconds
+-- the stage with a timeout of t nanoseconds
 abbrev pub with_timeout : ℕ → Stage → Stage
 with_timeout t stage =
     record stage {
       script = record stage.script { setting = record stage.script.setting { timeout = t } };
     }
 
--- there is a label, and under this timeout the clock is past its stamp by more
-abbrev pub has_late_label : ℕ → Stage → Option Label → ℕ → Bool
-has_late_label t stage None clock = false
-has_late_label t stage (Some label) clock = is_late (with_timeout t stage) label clock
+-- there is a label, by which a copy of this hop comes too late under this timeout
+abbrev pub has_late_label : ℕ → Stage → Option Label → Hop → ℕ → Bool
+has_late_label t stage None hop clock = false
+has_late_label t stage (Some label) hop clock = is_late (with_timeout t stage) label hop clock
 
 -- under this timeout the packet of an arrival comes too late
 abbrev pub comes_late : ℕ → Stage → List Event → ℕ → What → Bool
 comes_late t stage past clock (Arrive k hop server verdict) =
-    has_late_label t stage (label_of stage past k) clock
+    has_late_label t stage (label_of stage past k) hop clock
 comes_late t stage past clock _ = false
 
--- one of the packets that came too late does so under this timeout too, at its clock
+-- one of the packets that came too late would do so under this timeout too, at its clock
 abbrev pub is_one_late : ℕ → Stage → List Event → Bool
 is_one_late t stage [] = false
 is_one_late t stage (e ∷ past) =
@@ -47,7 +48,7 @@ is_one_late t stage (e ∷ past) =
 
 -- THE LONGEST WAIT
 
--- the longer one, where there is one
+-- the longer one, if there are two
 abbrev pub longer : Option ℕ → ℕ → ℕ
 longer None wait = wait
 longer (Some longest) wait = max longest wait
@@ -60,11 +61,11 @@ longest_wait stage (e ∷ past) =
     then Some (longer (longest_wait stage past) (wait_of stage past e.clock.0 e.what))
     else longest_wait stage past
 
--- the least number of seconds that are no fewer than so many nanoseconds
+-- nanoseconds rounded up to whole seconds
 abbrev pub whole_seconds : ℕ → ℕ
 whole_seconds n = if n % 10 ^ 9 == 0 then n / 10 ^ 9 else suc (n / 10 ^ 9)
 
--- a longest wait, where there is one, and its seconds
+-- a longest wait, if there is one, with its seconds
 abbrev pub as_late : Option ℕ → Option LongestLate
 as_late wait = option_map (λ w. record { wait = w; timeout_s = whole_seconds w }) wait
 

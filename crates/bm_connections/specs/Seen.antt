@@ -1,5 +1,5 @@
--- Which flows the records of a capture have, and where each was first and last seen, by looking
--- back (docs/DEFINITIONS.md). Records have the newest first.
+-- Which flows the records of a capture have, and where each was first and last seen, computed by
+-- looking back (docs/DEFINITIONS.md). Records have the newest first.
 use Rattle.std.specs.Prelude.{suc, Bool, false, ◌&&◌, ◌||◌, not, if◌then◌else◌, List, [], ◌∷◌}
 use Rattle.std.specs.Prelude.{◌++◌, length, Option, Some, None, reverse}
 use Rattle.bm_base.specs.declared.capture.Record.{Record}
@@ -18,7 +18,7 @@ abbrev pub is_seen : List Record → Flow → Bool
 is_seen [] f = false
 is_seen (r ∷ records) f = is_packet_of r f || is_seen records f
 
--- these flows, and behind them the segment's, unless one of these records is a packet of it
+-- these flows, and after them the segment's, unless one of these records is a packet of it
 abbrev pub with_flow : Option Segment → List Record → List Flow → List Flow
 with_flow None records flows = flows
 with_flow (Some s) records flows = if is_seen records s.flow then flows else flows ++ s.flow ∷ []
@@ -32,7 +32,7 @@ flows_of (r ∷ records) = with_flow (steerable (Some r)) records (flows_of reco
 abbrev pub sight : List Record → Record → Sight
 sight records r = record { number = suc (length records); moment = r.moment }
 
--- where nothing was seen
+-- for a flow that wasn't seen
 abbrev pub nowhere : Sight
 nowhere = record { number = 0; moment = record { 0 = 0 } }
 

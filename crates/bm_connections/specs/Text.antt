@@ -1,5 +1,5 @@
--- The text of a table of connections: a line for each, in words as those of the report
--- (docs/FORMATS.md). A clock is when record 1 was captured, where moments are told in UTC.
+-- The text of a table of connections: a line for each, in words like those of the report
+-- (docs/FORMATS.md). A clock is when record 1 was captured, if moments are written in UTC.
 use Rattle.std.specs.Prelude.{ℕ, List, [], ◌∷◌, ◌++◌, Option, Some, None, codes, decimal, flat_map}
 use Rattle.bm_base.specs.declared.ids.ServerId.{ServerId}
 use Rattle.bm_trace.specs.Words.{because_words, cause_word, endpoint, line, spaced}
@@ -30,8 +30,8 @@ tally_words t =
     ∷ codes "dropped" ∷ decimal t.dropped ∷ codes "reset" ∷ decimal t.reset
     ∷ codes "stray" ∷ decimal t.stray ∷ []
 
--- a packet that was forwarded, by which server, at which clock, and how long after its bucket's
--- move
+-- a packet that was forwarded, by which server, at which clock, and how long after its bucket left
+-- the server to which it was forwarded
 abbrev pub forwarding_words : Option ℕ → Forwarding → List (List ℕ)
 forwarding_words clock x =
     decimal x.packet ∷ codes "by" ∷ decimal x.server.0 ∷ codes "at" ∷ time_text clock x.clock.0
@@ -92,7 +92,7 @@ served_text c =
     ++ spaced (decimal c.server.0 ∷ codes "accepted" ∷ decimal c.accepted ∷ [])
     ++ spaced (codes "processed" ∷ decimal c.processed ∷ [])
 
--- the most that one of a server's shards held at once, of how many it can hold
+-- the most that one of a server's shards held at once, and how many it can hold
 abbrev pub most_text : ServerCount → List ℕ
 most_text c =
     spaced (codes "most-held" ∷ decimal c.most_held ∷ codes "of" ∷ decimal c.capacity ∷ [])
@@ -115,7 +115,7 @@ late_line late =
     line (codes "chain-late")
     (codes "longest" ∷ seconds_text late.wait ∷ codes "timeout_s" ∷ decimal late.timeout_s ∷ [])
 
--- the same, where there is one
+-- the same, if there is one
 abbrev pub late_text : Option LongestLate → List ℕ
 late_text None = []
 late_text (Some late) = late_line late

@@ -5,7 +5,7 @@ use Rattle.jiff_core.specs.Calendar.{days_in_month}
 
 -- NUMBERS
 
--- the last digits of a number, so many
+-- the last k digits of a number
 unfoldable pub last_digits : ℕ → ℕ → List ℕ
 last_digits zero n = []
 last_digits (suc k) n = (48 + n / 10 ^ k % 10) ∷ last_digits k n
@@ -30,7 +30,7 @@ day_after d =
     else if nat_lt d.month 12 then record { year = d.year; month = d.month + 1; day = 1 }
     else record { year = d.year + 1; month = 1; day = 1 }
 
--- so many days after 1970-01-01
+-- the day n days after 1970-01-01
 unfoldable pub days_after_1970 : ℕ → Day
 days_after_1970 zero = record { year = 1970; month = 1; day = 1 }
 days_after_1970 (suc n) = day_after (days_after_1970 n)
@@ -46,7 +46,7 @@ clock_text s =
     last_digits 2 (s / 3600) ++ codes ":" ++ last_digits 2 (s / 60 % 60)
     ++ codes ":" ++ last_digits 2 (s % 60)
 
--- so many nanoseconds after 1970-01-01T00:00:00Z: `2026-11-28T02:51:45.000021000Z`
+-- the instant ns nanoseconds after 1970-01-01T00:00:00Z: `2026-11-28T02:51:45.000021000Z`
 abbrev pub instant_text : ℕ → List ℕ
 instant_text ns =
     date_text (days_after_1970 (ns / 86_400_000_000_000))
@@ -55,8 +55,8 @@ instant_text ns =
 
 -- MOMENTS
 
--- the nanoseconds that tell a moment: since record 1, or since 1970 where it is known when record 1
--- was captured, up to 2 ^ 64 - 1 in the year 2554
+-- a moment in nanoseconds since record 1, or since 1970 if it is known when record 1 was captured,
+-- up to 2 ^ 64 - 1 in the year 2554
 abbrev pub told : Option ℕ → ℕ → ℕ
 told None moment = moment
 told (Some began) moment = min (began + moment) (2 ^ 64 - 1)

@@ -3,14 +3,14 @@ use bm_base::{Flow, Moment, ServerId};
 use bm_core::{Cause, Verdict};
 
 /// A record of the capture: its number, counted from 1, and its moment.
-#[derive(Clone, Copy, Debug, PartialEq, Eq)]
+#[derive(Clone, Copy, PartialEq, Eq)]
 pub struct Sight {
     pub number: u32,
     pub moment: Moment,
 }
 
 /// How many arrivals of a connection's packets had each verdict. Strays are among the processed.
-#[derive(Clone, Copy, Debug, PartialEq, Eq)]
+#[derive(Clone, Copy, PartialEq, Eq)]
 pub struct Tally {
     pub accepted: u64,
     pub processed: u64,
@@ -21,7 +21,7 @@ pub struct Tally {
 }
 
 /// A packet that was dropped, reset or a stray.
-#[derive(Clone, Copy, Debug, PartialEq, Eq)]
+#[derive(Clone, Copy, PartialEq, Eq)]
 pub struct Break {
     pub packet: u32,
     pub clock: Moment,
@@ -30,9 +30,9 @@ pub struct Break {
     pub cause: Option<Cause>,
 }
 
-/// A packet that was forwarded: at which clock, by which server, and how many nanoseconds after the
-/// move of its bucket it came.
-#[derive(Clone, Copy, Debug, PartialEq, Eq)]
+/// A packet that was forwarded: at which clock, by which server, and how many nanoseconds after its
+/// bucket left the server to which it was forwarded.
+#[derive(Clone, Copy, PartialEq, Eq)]
 pub struct Forwarding {
     pub packet: u32,
     pub clock: Moment,
@@ -40,12 +40,11 @@ pub struct Forwarding {
     pub wait: u64,
 }
 
-/// A connection: its flow, the records that are its first and last packets, the server that
-/// accepted it last, what became of its packets, and which of them was forwarded last. The first
-/// packet that was dropped, reset or a stray after a server had accepted the connection broke it;
-/// where no server accepted it, the first such packet was refused. A port that is used again is the
-/// same flow.
-#[derive(Clone, Copy, Debug, PartialEq, Eq)]
+/// A connection: its flow, the records of its first and last packets, the server that accepted it
+/// last, what became of its packets, and which of them was forwarded last. The first packet that
+/// was dropped, reset or a stray after a server had accepted the connection broke it; if no server
+/// accepted it, the first such packet was refused. A port that is used again is the same flow.
+#[derive(Clone, Copy, PartialEq, Eq)]
 pub struct Connection {
     pub flow: Flow,
     pub first: Sight,

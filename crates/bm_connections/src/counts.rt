@@ -9,9 +9,9 @@ use crate::noted::one_more;
 use bm_core::{Cause, History};
 use bm_trace::CauseList;
 
-/// How many packets have a cause, each counted as often as it arrives with it, how many connections
-/// it broke first, and how many it refused.
-#[derive(Clone, Copy, Debug, PartialEq, Eq)]
+/// How many packets have a cause (a packet counts at each arrival with the cause), how many
+/// connections it broke first, and how many it refused.
+#[derive(Clone, Copy, PartialEq, Eq)]
 pub struct CauseCount {
     pub cause: Cause,
     pub packets: u64,
@@ -26,7 +26,7 @@ fn number(cause: Cause) -> u8
         Cause::NeverAccepted => 0,
         Cause::NotHeld => 1,
         Cause::StaleMux => 2,
-        Cause::MovedTwice => 3,
+        Cause::MovedThrice => 3,
         Cause::ChainLate => 4,
         Cause::SynElsewhere => 5,
         Cause::Full => 6,

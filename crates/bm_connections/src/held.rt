@@ -32,7 +32,7 @@ pub(crate) enum FlowChange {
     Empties,
 }
 
-/// A shard, and what is done to it.
+/// A shard, and what happens to it.
 #[derive(Clone, Copy)]
 pub(crate) struct ShardChange {
     pub(crate) key: ShardKey,
@@ -101,7 +101,7 @@ fn retire_change(server: ServerId, shard: u16, answer: Retirement) -> Option<Sha
     change_at(server, shard, flow_change)
 }
 
-/// What the event does to a shard, where it does anything.
+/// What the event does to a shard, if it does anything.
 fn change_of(stage: &Stage, what: What) -> Option<ShardChange>
     requires { HasRanges stage.now }
     ensures { result ≡ kept.change_of stage.now what }
@@ -222,7 +222,7 @@ impl HeldByShards {
         }
     }
 
-    /// Takes away what is kept of the shard.
+    /// Takes out what is kept of the shard.
     fn take(&mut self, key: ShardKey) -> Option<HeldFlows>
         ensures held_flows { result ≡ kept.held_flows self.old key }
         ensures others { (q : ShardKey) → kept.same_key key q ≡ false
@@ -239,7 +239,7 @@ impl HeldByShards {
         Ok(())
     }
 
-    /// Does this to the shard.
+    /// Applies the change to its shard.
     fn apply(&mut self, alloc: Global, change: ShardChange) -> Result<(), AllocError>
         ensures here { OnOk result ((flows : List Flow) (most : ℕ) → AreDistinct flows
             → kept.AreHeldFlows flows most (kept.held_flows self.old change.key)
@@ -257,7 +257,7 @@ impl HeldByShards {
         Ok(())
     }
 
-    /// Takes note of the event that comes after these.
+    /// Records the event that comes after these.
     #[tactic(auto, using(crate::proofs::Holding::held_still, crate::proofs::Holding::held_changed))]
     fn note(
         &mut self,
@@ -289,7 +289,7 @@ impl HeldByShards {
         }
     }
 
-    /// The most that one of the first so many shards of the server held at once.
+    /// The most that one of the server's first shards held at once.
     pub(crate) fn most_among(
         &self,
         stage: &Stage,

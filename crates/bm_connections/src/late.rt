@@ -14,16 +14,16 @@ use bm_core::{Cause, History};
 use bm_trace::CauseList;
 use std::alloc::Global;
 
-/// Of the packets that came too late: the longest time after its bucket's move at which one came,
-/// in nanoseconds, and the least timeout in whole seconds under which none of them, at its clock,
-/// would have come too late.
-#[derive(Clone, Copy, Debug, PartialEq, Eq)]
+/// Of the packets that came too late: the longest time, in nanoseconds, since a packet's bucket
+/// left the server to which the packet may be passed on, and the least timeout in whole seconds
+/// under which none of them, at its clock, would have come too late.
+#[derive(Clone, Copy, PartialEq, Eq)]
 pub struct LongestLate {
     pub wait: u64,
     pub timeout_s: u64,
 }
 
-/// The least number of seconds that are no fewer than so many nanoseconds.
+/// Rounds up to whole seconds.
 fn whole_seconds(nanoseconds: u64) -> u64
     ensures { result ≡ spec.whole_seconds nanoseconds }
 {
@@ -44,7 +44,7 @@ fn longer(longest: Option<u64>, wait: u64) -> u64
     }
 }
 
-/// The longest wait after an arrival that has this cause and came so long after its bucket's move.
+/// The longest wait after an arrival with this cause and this wait.
 fn longest_after(longest: Option<u64>, cause: Option<Cause>, wait: u64) -> Option<u64>
     ensures { result
         ≡ (if is_cause chain_late cause then Some (spec.longer longest wait) else longest) }
@@ -70,7 +70,7 @@ fn longest_wait(h: &History, causes: &CauseList, waits: &[u64]) -> Option<u64>
 }
 
 /// The longest wait of the history's packets that came too late, by the causes of its events;
-/// `None` where no packet came too late. `Memory` where memory was refused.
+/// `None` if no packet came too late. `Memory` where memory was refused.
 #[tactic(auto, using(crate::proofs::Lateness::none_late))]
 pub fn longest_late(
     alloc: Global,

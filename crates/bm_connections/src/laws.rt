@@ -13,7 +13,7 @@ ghost use Rattle.bm_connections.specs.Seen.{flows_of, is_seen, records_of};
 
 use bm_core::{History, Stage};
 
-/// Each flow of the capture's packets has one connection, and no other has one.
+/// Each flow of the capture's packets has exactly one connection, and no other flow has one.
 pub fn once(stage: &Stage)
     ensures { (f : Flow) → count_by (same_flow f) (flows_of (records_of stage.now))
         ≡ (if is_seen (records_of stage.now) f then 1 else 0) }
@@ -34,13 +34,13 @@ pub fn sums(h: &History)
     ensures stray { sum_by (λ c. c.tally.stray) (connections h.now) ≡ (totals_of h.now).stray }
 {}
 
-/// A connection has a first break just where one of the events breaks it.
+/// A connection has a first break exactly if one of the events breaks it.
 pub fn broken(h: &History)
     ensures { (f : Flow) → is_some (connection_in h.now f).broken
         ≡ is_broken h.now.stage f (reverse h.now.events) }
 {}
 
-/// Under a timeout of the seconds that the longest wait names, none of the history's packets that
+/// Under a timeout of the seconds that go with the longest wait, none of the history's packets that
 /// came too late would have come too late at its clock. Under fewer seconds one would.
 pub fn timeout(h: &History)
     ensures enough { IfSome (longest_late h.now) (λ late.

@@ -20,7 +20,7 @@ use bm_base::ServerId;
 use bm_core::{Cause, Event, History, Stage, Verdict, What};
 use bm_trace::CauseList;
 
-/// One more, where this is so.
+/// One more, if `so` holds.
 pub(crate) fn one_more(so: bool, count: u64) -> u64
     requires { suc count < 2 ^ 64 }
     ensures { result ≡ spec.one_more so count }
@@ -58,7 +58,7 @@ fn is_drop(verdict: Verdict) -> bool
     matches!(verdict, Verdict::Drop(_))
 }
 
-/// The counts after an arrival with this verdict, which is a fault or isn't.
+/// The counts after an arrival with this verdict, which is a fault or not.
 fn tallied(verdict: Verdict, fault: bool, t: &Tally) -> Tally
     requires { kept.HasRoom t.now }
     ensures { result ≡ kept.tallied verdict fault t.now }
@@ -96,7 +96,7 @@ fn server_after(arrival: &Break, before: Option<ServerId>) -> Option<ServerId>
     }
 }
 
-/// What was forwarded last, after an arrival that came so long after its bucket's move.
+/// What was forwarded last, after an arrival with this wait.
 fn forwarded_after(arrival: &Break, wait: u64, before: Option<Forwarding>) -> Option<Forwarding>
     ensures { result ≡ kept.forwarded_after arrival.now wait before }
 {
@@ -112,7 +112,7 @@ fn forwarded_after(arrival: &Break, wait: u64, before: Option<Forwarding>) -> Op
     }
 }
 
-/// What refused a connection, after an arrival, where it then has this server.
+/// What refused a connection, after an arrival, if it then has this server.
 fn refused_after(arrival: Break, server: Option<ServerId>, before: Option<Break>) -> Option<Break>
     ensures { result ≡ kept.refused_after arrival server before }
 {
@@ -146,7 +146,7 @@ pub(crate) fn as_break(event: &Event, cause: Option<Cause>) -> Option<Break>
 }
 
 impl Connection {
-    /// Takes note of an arrival of one of its packets, so long after its bucket's move.
+    /// Records an arrival of one of its packets, with this wait.
     fn note(&mut self, arrival: Break, wait: u64)
         requires { kept.HasRoom self.old.tally }
         ensures { self.new ≡ kept.noted arrival wait self.old }
@@ -160,7 +160,7 @@ impl Connection {
 }
 
 impl Rows {
-    /// Takes note of an arrival of a packet of the connection at this place.
+    /// Records an arrival of a packet of the connection at this place.
     fn note_arrival(&mut self, place: usize, arrival: Break, wait: u64)
         requires place { place < length self.old.connections.items }
         requires room { kept.HasRoomAt self.old.connections.items place }
@@ -171,8 +171,7 @@ impl Rows {
         self.connections[place].note(arrival, wait);
     }
 
-    /// Takes note of the event that has these before it, this cause, and this wait since its
-    /// bucket's move.
+    /// Records the event that comes after these, with this cause and this wait.
     fn note(
         &mut self,
         stage: &Stage,
@@ -202,7 +201,7 @@ impl Rows {
     }
 }
 
-/// Takes note of all events.
+/// Records all events.
 pub(crate) fn note_events(rows: &mut Rows, h: &History, causes: &CauseList, waits: &[u64])
     requires run { IsRun h.now }
     requires causes { AreCauses h.now causes.now }

@@ -16,7 +16,7 @@ const NONE: Tally = Tally {
     stray: 0,
 };
 
-/// A flow whose first packet is this record, and no arrivals.
+/// A flow whose first packet is in this record, without arrivals.
 fn seen_from(flow: Flow, sight: Sight) -> Connection
     ensures { result ≡ kept.seen_from flow sight sight }
 {
@@ -32,10 +32,10 @@ fn seen_from(flow: Flow, sight: Sight) -> Connection
     }
 }
 
-/// The connections, as far as records and events were read.
+/// The connections, as far as records and events have been read.
 #[derive(Drop)]
 pub(crate) struct Rows {
-    /// Of each record the place of its connection, where it is a packet of one.
+    /// For each record the place of its connection, if it is a packet of one.
     pub(crate) places: Vec<Option<usize>>,
     pub(crate) connections: Vec<Connection>,
 }
@@ -58,7 +58,7 @@ impl Rows {
         self.connections.len()
     }
 
-    /// The next record is no packet of a connection.
+    /// The next record isn't a packet of a connection.
     pub(crate) fn see_none(&mut self) -> Result<(), AllocError>
         ensures places { OnOk result (self.new.places.items ≡ self.old.places.items ++ None ∷ []) }
         ensures connections { self.new.connections ≡ self.old.connections }
@@ -79,7 +79,7 @@ impl Rows {
         Ok(())
     }
 
-    /// The next record is one more packet of the connection at this place.
+    /// The next record is another packet of the connection at this place.
     pub(crate) fn see_again(&mut self, place: usize, sight: Sight) -> Result<(), AllocError>
         requires { place < length self.old.connections.items }
         ensures places { OnOk result (self.new.places.items
@@ -92,7 +92,7 @@ impl Rows {
         Ok(())
     }
 
-    /// The place of the packet's connection, where it is a packet of one.
+    /// The place of the packet's connection, if it has one.
     pub(crate) fn place_of(&self, packet: u32) -> Option<usize>
         ensures { result ≡ kept.packet_place self.now.places.items packet }
     {

@@ -29,7 +29,7 @@ fn put_place(flows: &mut BTreeMap<Flow, usize>, flow: Flow, place: usize) -> Res
     Ok(())
 }
 
-/// The connections as they were seen first and last, and the place of each flow's.
+/// The connections with where each was first and last seen, and the place of each flow's.
 #[derive(Drop)]
 pub(crate) struct Seen {
     pub(crate) flows: BTreeMap<Flow, usize>,
@@ -46,7 +46,7 @@ impl Seen {
         }
     }
 
-    /// Takes note of the packet that comes after these records.
+    /// Records the packet that comes after these records.
     fn see_packet(
         &mut self,
         before: &[Record],
@@ -77,7 +77,7 @@ impl Seen {
         }
     }
 
-    /// Takes note of the record that comes after these.
+    /// Takes in the record that comes after these.
     fn see(&mut self, before: &[Record], next: &Record) -> Result<(), AllocError>
         requires few { length before.now < 200000 }
         requires seen { IsSeen (reverse before.now) self.old }
@@ -93,7 +93,7 @@ impl Seen {
     }
 }
 
-/// The connections as these records have them, before any event.
+/// The connections of these records, before any event.
 pub(crate) fn see_records(alloc: Global, records: &[Record]) -> Result<Rows, AllocError>
     requires { length records.now ≤ 200000 }
     ensures { (stage : Stage) → IfOk result (λ rows. AreRows stage (reverse records.now) [] rows) }

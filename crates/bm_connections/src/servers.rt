@@ -1,5 +1,5 @@
-//! By server: how many arrivals it accepted and processed, and the most connections that one of its
-//! shards held at once.
+//! For each server: how many arrivals it accepted and processed, and the most connections that one
+//! of its shards held at once.
 ghost use Rattle.std.specs.Prelude.{◌≡◌, ◌<◌, ◌^◌, ◌∷◌, [], suc, Some, OnOk, IfOk};
 ghost use Rattle.std.specs.Prelude.{if◌then◌else◌, length, reverse};
 ghost use Rattle.bm_base.specs.declared.ids.ServerId.{ServerId};
@@ -18,7 +18,7 @@ use std::collections::BTreeMap;
 
 /// How many arrivals a server accepted, how many it processed, the most connections that one of its
 /// shards held at once, and how many connections a shard can hold.
-#[derive(Clone, Copy, Debug, PartialEq, Eq)]
+#[derive(Clone, Copy, PartialEq, Eq)]
 pub struct ServerCount {
     pub server: ServerId,
     pub accepted: u64,
@@ -35,7 +35,7 @@ pub(crate) struct Served {
     pub(crate) processed: u64,
 }
 
-/// The counts of each server, as far as events were read.
+/// The counts of each server, as far as events have been read.
 #[derive(Drop)]
 pub(crate) struct Loads {
     counts: BTreeMap<ServerId, Served>,
@@ -72,7 +72,7 @@ impl Loads {
         Ok(())
     }
 
-    /// Takes note of an arrival at the server.
+    /// Records an arrival at the server.
     fn note_arrival(&mut self, server: ServerId, verdict: Verdict) -> Result<(), AllocError>
         requires { kept.CanCount (kept.count_or_none (kept.load self.old server) server) }
         ensures { OnOk result ((q : ServerId) → kept.load self.new q ≡ (if same_server server q
@@ -88,7 +88,7 @@ impl Loads {
         self.put(server, count)
     }
 
-    /// Takes note of the event that has these before it.
+    /// Records the event that comes after these.
     fn note(&mut self, before: &[Event], event: &Event) -> Result<(), AllocError>
         requires loads { kept.AreLoads (reverse before.now) (kept.load self.old) }
         requires room { suc (length before.now) < 2 ^ 64 }

@@ -1,4 +1,4 @@
-//! The stamp of each packet's label, kept along the events.
+//! The stamps of each packet's label, kept up to date event by event.
 ghost use Rattle.std.specs.Prelude.{◌≡◌, ◌+◌, ◌<◌, ◌≤◌, ◌==◌, ℕ, reverse, Some, None};
 ghost use Rattle.std.specs.Prelude.{OnOk, IfOk, IfSome, false, if◌then◌else◌, [], ◌∷◌, length};
 ghost use Rattle.std.specs.Prelude.{slice_index_or};
@@ -9,15 +9,38 @@ ghost use Rattle.bm_core.specs.Past as past;
 ghost use Rattle.bm_table.specs.Entries.{IsTable};
 ghost use Rattle.bm_table.specs.Tables.{table};
 ghost use Rattle.bm_trace.specs.Ranges.{HasRanges};
-ghost use Rattle.bm_connections.specs.Inside.Stamps.{IsView};
+ghost use Rattle.bm_base.specs.declared.label.Hop.{Hop as Hops};
+ghost use Rattle.bm_base.specs.Labels.{onward};
+ghost use Rattle.std.specs.Option.{option_map_or};
+ghost use Rattle.bm_connections.specs.Inside.Stamps.{IsView, stamp_for, unstamped};
 ghost use Rattle.bm_connections.specs.Waits.{stamp_of, wait_of};
 
-use bm_base::{Memory, MuxId, Version};
+use bm_base::{Hop, Memory, MuxId, Past, Version};
 use bm_core::{Event, Stage, What};
 use bm_hash::bucket_of;
 use bm_table::{Plan, Table};
 use std::alloc::{AllocError, Global};
 use std::collections::BTreeMap;
+
+/// The stamps of a packet's label: that of the previous server, and that of the older one; 0 if
+/// there is none.
+#[derive(Clone, Copy, PartialEq, Eq)]
+pub(crate) struct Stamped {
+    pub(crate) prev: u64,
+    pub(crate) older: u64,
+}
+
+/// The stamps of a packet that isn't kept: zeros.
+const UNSTAMPED: Stamped = Stamped { prev: 0, older: 0 };
+
+fn stamp_in(past: Option<Past>) -> u64
+    ensures { result ≡ option_map_or (λ p. p.stamp.0) past 0 }
+{
+    match past {
+        Some(past) => past.stamp.0,
+        None => 0,
+    }
+}
 
 /// A mux: how many changes its table has, and the table.
 #[derive(Drop)]
@@ -51,7 +74,7 @@ fn advance(table: &mut Table, plan: &Plan, from: u32, to: u32)
 }
 
 impl View {
-    /// This one, where its version isn't above the other, or else version 0.
+    /// This view, if its version isn't above the other; otherwise version 0.
     fn start(alloc: Global, plan: &Plan, before: Option<View>, version: u32) -> Result<View, Memory>
         requires { IfSome before (λ x. IsTable plan.now x.version x.table) }
         ensures order { IfOk result (λ x. x.version ≤ version) }
@@ -93,7 +116,7 @@ impl Views {
         }
     }
 
-    /// Takes the mux's table away.
+    /// Takes out the mux's table.
     fn take(&mut self, mux: MuxId) -> Option<View>
         ensures view { result ≡ tree.get nat_cmp self.old.views mux.0 }
         ensures others { (q : ℕ) → (mux.0 == q) ≡ false
@@ -131,33 +154,40 @@ impl Views {
         Ok(())
     }
 
-    /// The stamp of the bucket in the mux's table, which has this version.
-    fn stamp(&self, plan: &Plan, mux: MuxId, bucket: u32) -> u64
+    /// The stamps of the bucket in the mux's table, which has this version.
+    fn stamps(&self, plan: &Plan, mux: MuxId, bucket: u32) -> Stamped
         requires bucket { bucket < plan.now.buckets }
         requires table { IfSome (tree.get nat_cmp self.now.views mux.0)
             (λ x. IsTable plan.now x.version x.table) }
-        ensures { (v : ℕ) → IsView plan.now v (tree.get nat_cmp self.now.views mux.0)
-            → result ≡ (table plan.now v bucket).stamp.0 }
+        ensures { (v : ℕ) (hop : Hops) → IsView plan.now v (tree.get nat_cmp self.now.views mux.0)
+            → stamp_for result hop
+            ≡ option_map_or (λ p. p.stamp.0) (onward (table plan.now v bucket) hop) 0 }
     {
         match self.views.get(&mux.0) {
-            None => 0,
-            Some(view) => view.table.entry(bucket).stamp.0,
+            None => UNSTAMPED,
+            Some(view) => {
+                let entry = view.table.entry(bucket);
+                Stamped {
+                    prev: stamp_in(entry.prev),
+                    older: stamp_in(entry.older),
+                }
+            }
         }
     }
 }
 
-/// The tables of the muxes, and the stamp of each packet's label, after some events.
+/// The tables of the muxes, and the stamps of each packet's label, after some events.
 #[derive(Drop)]
 pub(crate) struct Stamps {
     views: Views,
-    /// By packet, counted from 0; 0 stands for those that aren't kept.
-    stamps: Vec<u64>,
+    /// By packet, counted from 0; zeros mean that nothing is kept.
+    stamps: Vec<Stamped>,
 }
 
 impl Stamps {
     ghost use Rattle.bm_connections.specs.Inside.Stamps.{KnowsStamps};
 
-    /// Before the first event.
+    /// What is kept before the first event.
     pub(crate) fn new(alloc: Global) -> Stamps
         ensures { (stage : Stage) → KnowsStamps stage [] result }
     {
@@ -167,56 +197,69 @@ impl Stamps {
         }
     }
 
-    /// The stamp of the packet's label, or 0.
-    fn get(&self, packet: u32) -> u64
-        ensures { result ≡ slice_index_or self.now.stamps.items packet 0 }
+    /// The stamps of the packet's label, or zeros.
+    fn get(&self, packet: u32) -> Stamped
+        ensures { result ≡ slice_index_or self.now.stamps.items packet unstamped }
     {
         let place = packet as usize;
         if place < self.stamps.len() {
             self.stamps[place]
         } else {
-            0
+            UNSTAMPED
+        }
+    }
+
+    /// The stamp that counts for the packet's copies of this hop, or 0.
+    fn stamp(&self, packet: u32, hop: Hop) -> u64
+        ensures { result ≡ stamp_for (slice_index_or self.now.stamps.items packet unstamped) hop }
+    {
+        let stamps = self.get(packet);
+        match hop {
+            Hop::Direct => stamps.prev,
+            Hop::Chained => stamps.older,
+            Hop::Twice => 0,
         }
     }
 
     /// Makes room for the packet.
     fn reach(&mut self, packet: u32) -> Result<(), AllocError>
-        ensures stamps { OnOk result ((q : ℕ) → slice_index_or self.new.stamps.items q 0
-            ≡ slice_index_or self.old.stamps.items q 0) }
+        ensures stamps { OnOk result ((q : ℕ) → slice_index_or self.new.stamps.items q unstamped
+            ≡ slice_index_or self.old.stamps.items q unstamped) }
         ensures within { OnOk result (packet < length self.new.stamps.items) }
         ensures views { self.new.views ≡ self.old.views }
     {
         for _place in self.stamps.len()..packet as usize + 1 {
-            self.stamps.push(0)?;
+            self.stamps.push(UNSTAMPED)?;
         }
         Ok(())
     }
 
-    /// Keeps the packet's stamp, where it isn't known already.
-    fn put(&mut self, packet: u32, stamp: u64) -> Result<(), AllocError>
-        ensures stamps { OnOk result ((q : ℕ) → slice_index_or self.new.stamps.items q 0
-            ≡ (if packet == q then stamp else slice_index_or self.old.stamps.items q 0)) }
+    /// Keeps the packet's stamps, unless they are known already.
+    fn put(&mut self, packet: u32, stamps: Stamped) -> Result<(), AllocError>
+        ensures stamps { OnOk result ((q : ℕ) → slice_index_or self.new.stamps.items q unstamped
+            ≡ (if packet == q then stamps else slice_index_or self.old.stamps.items q unstamped)) }
         ensures views { self.new.views ≡ self.old.views }
     {
-        if self.get(packet) != stamp {
+        if self.get(packet) != stamps {
             self.reach(packet)?;
-            self.stamps[packet as usize] = stamp;
+            self.stamps[packet as usize] = stamps;
         }
         Ok(())
     }
 
-    /// The stamp that the mux writes on the packet, or 0.
-    fn written(&self, stage: &Stage, events: &[Event], packet: u32, mux: MuxId) -> u64
+    /// The stamps that the mux writes on the packet, or zeros.
+    fn written(&self, stage: &Stage, events: &[Event], packet: u32, mux: MuxId) -> Stamped
         requires ranges { HasRanges stage.now }
         requires knows { KnowsStamps stage.now (reverse events.now) self.now }
-        ensures { result ≡ stamp_of (past.labelled stage.now (reverse events.now) mux
+        ensures { (hop : Hops) → stamp_for result hop
+            ≡ stamp_of hop (past.labelled stage.now (reverse events.now) mux
             (past.segment_of stage.now packet)) }
     {
         match stage.segment(packet) {
-            None => 0,
+            None => UNSTAMPED,
             Some(segment) => {
                 let bucket = bucket_of(&segment.flow, stage.script.setting.buckets);
-                self.views.stamp(&stage.script.plan, mux, bucket)
+                self.views.stamps(&stage.script.plan, mux, bucket)
             }
         }
     }
@@ -248,12 +291,12 @@ impl Stamps {
         ensures { (e : Event) → e.what ≡ What.Steer packet mux
             → OnOk result (KnowsStamps stage.now (e ∷ reverse events.now) self.new) }
     {
-        let stamp = self.written(stage, events, packet, mux);
-        self.put(packet, stamp)?;
+        let stamps = self.written(stage, events, packet, mux);
+        self.put(packet, stamps)?;
         Ok(())
     }
 
-    /// Takes note of the event that comes after these.
+    /// Records the event that comes after these.
     pub(crate) fn note(
         &mut self,
         alloc: Global,
@@ -277,14 +320,18 @@ impl Stamps {
         }
     }
 
-    /// How long after its bucket's move the packet of the event comes; 0 where it isn't an arrival.
+    /// How long the packet of the event comes after its bucket left the server to which the copy
+    /// may be passed on. If there is no such server it is the event's clock, and 0 if the event isn't
+    /// an arrival.
     pub(crate) fn wait(&self, stage: &Stage, events: &[Event], event: &Event) -> u64
         requires { KnowsStamps stage.now (reverse events.now) self.now }
         ensures { result
             ≡ wait_of stage.now (reverse events.now) event.now.clock.0 event.now.what }
     {
         match event.what {
-            What::Arrive { packet, .. } => event.clock.0.saturating_sub(self.get(packet)),
+            What::Arrive { packet, hop, .. } => {
+                event.clock.0.saturating_sub(self.stamp(packet, hop))
+            }
             _ => 0,
         }
     }

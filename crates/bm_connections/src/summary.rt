@@ -24,7 +24,7 @@ fn write_served(text: &mut String, c: &ServerCount) -> Result<(), AllocError>
     )
 }
 
-/// The most that one of a server's shards held at once, of how many it can hold.
+/// The most that one of a server's shards held at once, and how many it can hold.
 fn write_most(text: &mut String, c: &ServerCount) -> Result<(), AllocError>
     ensures { OnOk result
         (string_bytes text.new ≡ string_bytes text.old ++ spec.most_text c.now) }

@@ -13,8 +13,8 @@ use bm_core::History;
 use bm_trace::CauseList;
 use std::alloc::Global;
 
-/// A connection for each flow of the capture, in the order of their first packets, by the causes of
-/// the history's events.
+/// A connection for each flow of the capture, in the order of their first packets, with the causes
+/// of the history's events.
 pub fn connections(
     alloc: Global,
     h: &History,

@@ -25,7 +25,7 @@ impl fmt::Display for ServerWord {
     }
 }
 
-/// A record of the capture, each word behind a space.
+/// A record of the capture, each word after a space.
 #[derive(Clone, Copy)]
 struct SightWords(Clock, Sight);
 
@@ -39,8 +39,7 @@ impl fmt::Display for SightWords {
     }
 }
 
-/// How many arrivals were processed, forwarded, dropped, reset and strays, each word behind a
-/// space.
+/// How many arrivals were processed, forwarded, dropped, reset and strays, each word after a space.
 #[derive(Clone, Copy)]
 struct TallyWords(Tally);
 
@@ -63,7 +62,7 @@ impl fmt::Display for TallyWords {
     }
 }
 
-/// A packet that was forwarded, each word behind a space.
+/// A packet that was forwarded, each word after a space.
 #[derive(Clone, Copy)]
 struct ForwardingWords(Clock, Forwarding);
 
@@ -79,7 +78,7 @@ impl fmt::Display for ForwardingWords {
     }
 }
 
-/// The last packet that was forwarded, each word behind a space, or nothing.
+/// The last packet that was forwarded, each word after a space, or nothing.
 #[derive(Clone, Copy)]
 struct ForwardedWords(Clock, Option<Forwarding>);
 
@@ -94,7 +93,7 @@ impl fmt::Display for ForwardedWords {
     }
 }
 
-/// A packet that was dropped, reset or a stray, each word behind a space.
+/// A packet that was dropped, reset or a stray, each word after a space.
 #[derive(Clone, Copy)]
 struct FaultWords(Clock, Break);
 
@@ -110,7 +109,7 @@ impl fmt::Display for FaultWords {
     }
 }
 
-/// What broke or refused a connection, each word behind a space, or whether a server accepted it.
+/// What broke or refused a connection, each word after a space, or whether a server accepted it.
 #[derive(Clone, Copy)]
 struct EndWords {
     clock: Clock,
@@ -174,7 +173,6 @@ fn write_outcome(text: &mut String, clock: Clock, c: &Connection) -> Result<(), 
     )
 }
 
-/// The line of a connection.
 fn write_connection(text: &mut String, clock: Clock, c: &Connection) -> Result<(), AllocError>
     ensures { OnOk result
         (string_bytes text.new ≡ string_bytes text.old ++ spec.connection_line clock.0 c.now) }
@@ -198,7 +196,7 @@ fn write_connections(
     Ok(())
 }
 
-/// The table as text: a line for each connection. Moments are told by the clock, and waits in
+/// The table as text: a line for each connection. Moments are written by the clock, and waits in
 /// seconds.
 pub fn table_text(alloc: Global, clock: Clock, connections: &[Connection]) -> Result<Text, Memory>
     ensures { IfOk result (λ text. text ≡ spec.table_text clock.0 connections.now) }

@@ -1,4 +1,4 @@
-//! Moments and waits in text, and what moments are told from.
+//! Moments and waits as text, and the instant from which moments are counted.
 ghost use Rattle.std.specs.Prelude.{◌≡◌, Some};
 ghost use Rattle.bm_connections.specs.Times as spec;
 
@@ -9,14 +9,14 @@ use std::fmt;
 
 const SECOND: u64 = 1_000_000_000;
 
-/// What moments are told from: record 1, or 1970 where it is known how many nanoseconds after
+/// What moments are counted from: record 1, or 1970 if it is known how many nanoseconds after
 /// 1970-01-01T00:00:00Z record 1 was captured.
-#[derive(Clone, Copy, Debug, PartialEq, Eq)]
+#[derive(Clone, Copy, PartialEq, Eq)]
 pub struct Clock(pub Option<u64>);
 
 impl Clock {
-    /// The nanoseconds that tell a moment: since record 1, or since 1970-01-01T00:00:00Z. At most
-    /// 2 ^ 64 - 1, in the year 2554.
+    /// A moment in nanoseconds since record 1, or since 1970-01-01T00:00:00Z. At most 2 ^ 64 - 1,
+    /// in the year 2554.
     pub fn told(self, moment: Moment) -> u64
         ensures { result ≡ spec.told self.0 moment.0 }
     {
@@ -27,7 +27,7 @@ impl Clock {
     }
 }
 
-/// Nanoseconds as seconds, with nine digits behind a point.
+/// Nanoseconds as seconds, with nine digits after the point.
 #[derive(Clone, Copy)]
 pub struct SecondsText(pub u64);
 

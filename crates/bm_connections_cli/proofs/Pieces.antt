@@ -1,4 +1,4 @@
--- Texts that are written one behind the other.
+-- Texts that are written one after another.
 use Rattle.std.proofs.Common.{◌≡◌, ℕ, ◌+◌, ◌<◌, List, [], ◌∷◌, ◌++◌, length, take, drop, get_or, Option}
 use Rattle.std.proofs.Common.{flat_map, sym, ap, subst, ◌∙◌, arith, append_assoc, length-append}
 use Rattle.std.proofs.lemmas.Grind.{common_steps}
@@ -39,7 +39,7 @@ part_of before now sent rest text whole some written =
       subst (λ l. Appends before now l) (sym front) written,
     )
 
--- something is left behind a first part of a text that isn't all
+-- something is left after a first part of a text that isn't all of it
 some_left : (piece behind : List ℕ) (n : ℕ) → n < length piece → 0 < length (drop n piece ++ behind)
 some_left piece behind n less =
     let left : 0 < length (drop n piece) = grind (arith, common_steps)

@@ -1,4 +1,4 @@
--- Records that are written one behind the other.
+-- Records that are written one after another.
 use Rattle.std.proofs.Common.{◌≡◌, ◌≢◌, ℕ, ◌++◌, List, Option, Some, None, false, sym, ap, ◌∙◌, subst}
 use Rattle.std.specs.Io.KnownBytes.{Appends}
 use Rattle.csv.specs.Writing.{row_text, default_writer, fields_written, has_written, text_written, writer_setup}

@@ -1,4 +1,4 @@
--- What an operator may do about a cause (docs/CAUSES.md).
+-- What an operator may do about a cause (docs/OPERATING.md).
 use Rattle.std.specs.Prelude.{ℕ, ◌-◌, Bool, nat_lt, if◌then◌else◌, List, [], ◌∷◌, codes, ◌++◌}
 use Rattle.std.specs.Prelude.{Option, Some, None, length, option_map}
 use Rattle.std.specs.List.{list_all, slice_get}
@@ -6,7 +6,7 @@ use Rattle.bm_base.specs.declared.capture.Record.{Record}
 use Rattle.bm_base.specs.declared.ids.Moment.{Moment}
 use Rattle.bm_core.specs.declared.events.Cause.{Cause}
 use Rattle.bm_core.specs.declared.events.Cause.TheVariants.{NeverAccepted, NotHeld, StaleMux}
-use Rattle.bm_core.specs.declared.events.Cause.TheVariants.{MovedTwice, ChainLate, SynElsewhere}
+use Rattle.bm_core.specs.declared.events.Cause.TheVariants.{MovedThrice, ChainLate, SynElsewhere}
 use Rattle.bm_core.specs.declared.events.Cause.TheVariants.{Full, OldTable}
 use Rattle.bm_core.specs.declared.events.Stage.{Stage}
 use Rattle.bm_core.specs.Past.{timeout}
@@ -21,7 +21,7 @@ remedy NotHeld =
     codes "close later; behind a retire raise timeout_s, or let every mux switch before; "
     ++ codes "without either, a client sent after its own reset"
 remedy StaleMux = codes "let every mux switch before connections open, or route by port"
-remedy MovedTwice = codes "wait longer between the changes"
+remedy MovedThrice = codes "wait longer between the changes"
 remedy ChainLate = codes "raise timeout_s, or change when fewer long connections are open"
 remedy SynElsewhere =
     codes "nothing to change: a client sent another SYN after the bucket had moved"
@@ -32,7 +32,7 @@ remedy OldTable = codes "retire later, or let every mux switch before"
 abbrev pub advice_line : Cause → List ℕ
 advice_line cause = codes "advice " ++ cause_word cause ++ codes ": " ++ remedy cause ++ codes "\n"
 
--- the line of advice where nothing is steered
+-- the line of advice if nothing is steered
 abbrev pub unsteered_line : List Connection → List ℕ
 unsteered_line [] =
     codes "advice nothing-steered: name your services in vips; beamer replay tells why each "
@@ -43,7 +43,7 @@ unsteered_line (c ∷ rest) = []
 abbrev pub ends_before : List Record → Moment → Bool
 ends_before records moment = list_all (λ (r : Record). nat_lt r.moment.0 moment.0) records
 
--- all records come before so many nanoseconds have passed since the moment
+-- all records come less than this many nanoseconds after the moment
 abbrev pub ends_within : List Record → ℕ → Moment → Bool
 ends_within records timeout moment =
     list_all (λ (r : Record). nat_lt (r.moment.0 - moment.0) timeout) records
@@ -53,8 +53,8 @@ abbrev pub last_moment : List Change → Option Moment
 last_moment changes =
     option_map (λ (c : Change). c.moment) (slice_get changes (length changes - 1))
 
--- the line of advice where all records come before this moment of a change, or before the timeout
--- behind it has passed
+-- the line of advice if all records come before this moment of a change, or before the timeout
+-- after it has passed
 abbrev pub end_text : List Record → ℕ → Option Moment → List ℕ
 end_text records timeout None = []
 end_text records timeout (Some moment) =
@@ -66,7 +66,7 @@ end_text records timeout (Some moment) =
     ++ codes "the last change; capture longer, to see what comes too late\n"
     else []
 
--- the same, of the stage's last change and its timeout
+-- the same for the stage's last change and its timeout
 abbrev pub end_line : Stage → List ℕ
 end_line stage =
     end_text stage.capture.records (timeout stage) (last_moment stage.script.plan.changes)

@@ -1,5 +1,5 @@
--- What the script changes (docs/FORMATS.md). A clock is when record 1 was captured, where moments
--- are told in UTC.
+-- What the script changes (docs/FORMATS.md). A clock is when record 1 was captured, if moments are
+-- written in UTC.
 use Rattle.std.specs.Prelude.{ℕ, suc, List, [], ◌∷◌, ◌++◌, length, Option, codes, decimal}
 use Rattle.bm_table.specs.declared.plan.Change.{Change}
 use Rattle.bm_table.specs.declared.plan.Kind.{Kind}
@@ -26,7 +26,7 @@ change_line clock buckets version c =
     ((decimal version ∷ codes "at" ∷ time_text clock c.moment.0 ∷ [])
     ++ kind_words c.kind ++ moved_words buckets c)
 
--- a line for each of these changes, the first of which makes this version
+-- a line for each of these changes; the first of them makes this version
 abbrev pub lines_from : Option ℕ → ℕ → ℕ → List Change → List ℕ
 lines_from clock buckets version [] = []
 lines_from clock buckets version (c ∷ changes) =

@@ -1,5 +1,5 @@
--- The table in fields, with commas between them (docs/FORMATS.md). A clock is when record 1 was
--- captured, where moments are told in UTC.
+-- The table as comma-separated fields (docs/FORMATS.md). A clock is when record 1 was captured, if
+-- moments are written in UTC.
 use Rattle.std.specs.Prelude.{ℕ, List, [], ◌∷◌, ◌++◌, Option, Some, None, codes, decimal, flat_map}
 use Rattle.csv.specs.Writing.{default_writer, row_text}
 use Rattle.bm_base.specs.declared.ids.ServerId.{ServerId}
@@ -49,8 +49,8 @@ fault_fields clock (Some b) =
     decimal b.packet ∷ time_text clock b.clock.0 ∷ decimal b.server.0 ∷ verdict_field b.verdict
     ∷ cause_field b.cause ∷ []
 
--- the last packet that was forwarded, its clock, the server that forwarded it, and how long after
--- its bucket's move it came
+-- the last packet that was forwarded, its clock, the server that forwarded it, and how long it came
+-- after its bucket left the server to which it was forwarded
 abbrev pub forwarded_fields : Option ℕ → Option Forwarding → List (List ℕ)
 forwarded_fields clock None = [] ∷ [] ∷ [] ∷ [] ∷ []
 forwarded_fields clock (Some x) =
@@ -85,7 +85,7 @@ connection_fields clock c =
     ++ forwarded_fields clock c.forwarded
     ++ fault_fields clock c.refused
 
--- the record of these fields, as the kit's writer of CSV writes it
+-- the record of these fields, as the kit's CSV writer writes it
 abbrev pub csv_line : List (List ℕ) → List ℕ
 csv_line fields = row_text default_writer fields
 
@@ -93,6 +93,6 @@ csv_line fields = row_text default_writer fields
 abbrev pub connection_record : Option ℕ → Connection → List ℕ
 connection_record clock c = csv_line (connection_fields clock c)
 
--- the names, and a record for each
+-- the names of the fields, and a record for each connection
 abbrev pub table_csv : Option ℕ → List Connection → List ℕ
 table_csv clock cs = csv_line header ++ flat_map (connection_record clock) cs

@@ -1,4 +1,4 @@
--- What is due: by the words, and by what is read under the names in them.
+-- What the program is to write, by the words and by what is read under the names in them.
 use Rattle.std.specs.Prelude.{ℕ, if◌then◌else◌, List, [], Option, Some, None, codes}
 use Rattle.bm_cli.specs.declared.mode.Mode.TheVariants.{Replay}
 use Rattle.bm_cli.specs.Dues.{Due, Misused, due_of_stage}
@@ -10,7 +10,7 @@ abbrev pub usage_line : List ℕ
 usage_line =
     codes "usage: beamer-connections CAPTURE SCRIPT [--csv | --json | --svg] [--clock]\n"
 
--- when the named capture began, where its wall clock is asked for
+-- when the named capture began, if its wall clock is asked for
 abbrev pub clock_of : Asked → Reads → Option ℕ
 clock_of asked reads = if asked.clock then Some (reads.began asked.names.capture) else None
 

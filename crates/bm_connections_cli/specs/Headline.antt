@@ -12,11 +12,11 @@ use Rattle.bm_connections_cli.specs.Text.{text}
 abbrev pub IsReplayOf : Stage → History → Type 0
 IsReplayOf stage history = (history.stage ≡ stage) × IsMadeBy Replay stage history
 
--- these octets tell, in this format and by this clock, the connections of the replay of the stage
+-- these octets report, in this format and by this clock, the connections of the replay of the stage
 pub record IsTableOf (format : Format) (clock : Option ℕ) (stage : Stage) (octets : List ℕ)
     : Type 0 where
   -- there is a replay
   pub history : History
   pub replay : IsReplayOf stage history
-  -- whatever history is a replay of the stage, the octets are its text
+  -- for every history that is a replay of the stage, the octets are its text
   pub printed : (h : History) → IsReplayOf stage h → octets ≡ text format clock h

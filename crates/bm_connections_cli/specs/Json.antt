@@ -1,5 +1,5 @@
--- A connection as JSON. The members of an object are in the order of their names
--- (docs/FORMATS.md). A clock is when record 1 was captured, where moments are told since 1970.
+-- A connection as JSON. The members of an object are in the order of their names (docs/FORMATS.md).
+-- A clock is when record 1 was captured, if moments are counted from 1970.
 use Rattle.std.specs.Prelude.{ℕ, List, ◌++◌, Option, Some, None, codes, flat_map}
 use Rattle.serde_json.specs.Data.{Data, member, no_members, null, number, object, string, unsigned}
 use Rattle.serde_json.specs.Written.{compact_text}

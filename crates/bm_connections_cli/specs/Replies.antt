@@ -1,5 +1,5 @@
 -- What servers replied to the commands `close` and `retire` (docs/FORMATS.md). A clock is when
--- record 1 was captured, where moments are told in UTC.
+-- record 1 was captured, if moments are written in UTC.
 use Rattle.std.specs.Prelude.{ℕ, ◌==◌, Bool, true, false, if◌then◌else◌, List, [], ◌∷◌, Option}
 use Rattle.std.specs.Prelude.{codes, decimal, flat_map}
 use Rattle.bm_core.specs.declared.events.Event.{Event}
@@ -13,8 +13,8 @@ abbrev pub closed_word : Bool → List ℕ
 closed_word true = codes "closed"
 closed_word false = codes "none"
 
--- the line of a reply at this time, where the event is one; of a server's shards the first one's
--- reply to a wish to retire
+-- the line of a reply at this time, if the event is one; for a request to retire a server, only its
+-- first shard's reply
 abbrev pub reply_line : Option ℕ → ℕ → What → List ℕ
 reply_line clock time (Close server flow closed) =
     line (codes "close")

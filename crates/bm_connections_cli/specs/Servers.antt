@@ -12,7 +12,7 @@ added (Add server) = server ∷ []
 added (Drain server) = []
 added Shift = []
 
--- the servers that are there at the beginning, and then those that its changes add, in their order
+-- the servers that are there at the beginning, and then those that its changes add, in order
 abbrev pub servers_of : Script → List ServerId
 servers_of script =
     script.setting.servers ++ flat_map (λ (c : Change). added c.kind) script.plan.changes

@@ -1,9 +1,9 @@
--- What is told of a history's connections (docs/FORMATS.md). A clock is when record 1 was
--- captured, where moments are those of the wall clock.
+-- What is reported of a history's connections (docs/FORMATS.md). A clock is when record 1 was
+-- captured, if moments are those of the wall clock.
 use Rattle.std.specs.Prelude.{ℕ, Bool, nat_lt, List, [], ◌∷◌, Option, filter, flat_map, map}
 use Rattle.bm_core.specs.declared.events.Cause.{Cause}
 use Rattle.bm_core.specs.declared.events.Cause.TheVariants.{NeverAccepted, NotHeld, StaleMux}
-use Rattle.bm_core.specs.declared.events.Cause.TheVariants.{MovedTwice, ChainLate, SynElsewhere}
+use Rattle.bm_core.specs.declared.events.Cause.TheVariants.{MovedThrice, ChainLate, SynElsewhere}
 use Rattle.bm_core.specs.declared.events.Cause.TheVariants.{Full, OldTable}
 use Rattle.bm_core.specs.declared.events.History.{History}
 use Rattle.bm_connections.specs.declared.counts.CauseCount.{CauseCount}
@@ -24,7 +24,7 @@ use Rattle.bm_connections_cli.specs.Servers.{servers_of}
 
 abbrev pub all_causes : List Cause
 all_causes =
-    NeverAccepted ∷ NotHeld ∷ StaleMux ∷ MovedTwice ∷ ChainLate ∷ SynElsewhere ∷ Full ∷ OldTable
+    NeverAccepted ∷ NotHeld ∷ StaleMux ∷ MovedThrice ∷ ChainLate ∷ SynElsewhere ∷ Full ∷ OldTable
     ∷ []
 
 abbrev pub occurs : CauseCount → Bool
@@ -42,7 +42,7 @@ server_lines h = flat_map server_line (server_counts h (servers_of h.stage.scrip
 abbrev pub cause_lines : History → List ℕ
 cause_lines h = flat_map cause_line (causes_in h)
 
--- the longest late wait and its timeout, where a packet came too late
+-- the longest late wait and its timeout, if a packet came too late
 abbrev pub late_lines : History → List ℕ
 late_lines h = late_text (longest_late h)
 
@@ -50,14 +50,14 @@ late_lines h = late_text (longest_late h)
 abbrev pub advice_lines : History → List ℕ
 advice_lines h = flat_map (λ c. advice_line c.cause) (causes_in h)
 
--- what is told in lines, part by part
+-- what is reported in lines, part by part
 abbrev pub parts : Option ℕ → History → List (List ℕ)
 parts clock h =
     table_text clock (connections h) ∷ server_lines h ∷ changes_text clock h.stage.script.plan
     ∷ replies_text clock h.events ∷ cause_lines h ∷ late_lines h ∷ note_line h.stage.capture.cut
     ∷ advice_lines h ∷ unsteered_line (connections h) ∷ end_line h.stage ∷ []
 
--- what is told in each format
+-- what is reported in each format
 abbrev pub text : Format → Option ℕ → History → List ℕ
 text Lines clock h = flat_map (λ part. part) (parts clock h)
 text Csv clock h = table_csv clock (connections h)

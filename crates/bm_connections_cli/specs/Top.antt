@@ -1,9 +1,9 @@
--- What the program does, in the words of its exit status.
+-- What the program does, by its exit status.
 use Rattle.std.specs.Prelude.{[], ℕ, List, Option, Some, None}
 use Rattle.bm_cli.specs.Names.{script_names}
 use Rattle.bm_connections_cli.specs.Words.{Asked}
 
--- the script's name alone
+-- just the script's name, if the words have one
 abbrev pub scripts_in : Option Asked → List (List ℕ)
 scripts_in None = []
 scripts_in (Some asked) = script_names asked.names.script

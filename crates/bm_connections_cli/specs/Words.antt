@@ -1,5 +1,5 @@
--- What the words ask for: `CAPTURE SCRIPT`, and behind them perhaps a format and `--clock`, in
--- either order, each at most once. A name that is empty or begins with `-` makes them no form.
+-- What the words ask for: `CAPTURE SCRIPT`, and after them maybe a format and `--clock`, in either
+-- order, each at most once. Words fit no form if a name is empty or begins with `-`.
 use Rattle.std.specs.Prelude.{ℕ, List, [], ◌∷◌, ◌&&◌, if◌then◌else◌, Option, Some, None, codes, map}
 use Rattle.std.specs.Prelude.{Bool, true, false, String, option_and_then, option_map, string_bytes}
 use Rattle.std.specs.Str.{bytes_eq}
@@ -8,7 +8,7 @@ use Rattle.bm_connections_cli.specs.declared.words.Format.{Format}
 use Rattle.bm_connections_cli.specs.declared.words.Format.TheVariants.{Lines, Csv, Json, Svg}
 use Rattle.bm_connections_cli.specs.declared.words.Manner.{Manner}
 
--- how the connections are told, whether by the wall clock, and what is replayed
+-- how the connections are reported, whether by the wall clock, and what is replayed
 pub record Asked : Type 0 where
   pub format : Format
   pub clock : Bool
@@ -30,7 +30,7 @@ is_clock word = bytes_eq word (codes "--clock")
 abbrev pub manner : Bool → Format → Manner
 manner clock format = record { format = format; clock = clock }
 
--- how the options say that the connections are told: by no option, by one, by one of each kind
+-- how the connections are reported, by the options: by none, by one, or by one of each kind
 abbrev pub manner_of : List (List ℕ) → Option Manner
 manner_of [] = Some (manner false Lines)
 manner_of (word ∷ []) =
@@ -42,7 +42,7 @@ manner_of (one ∷ other ∷ []) =
     else None
 manner_of _ = None
 
--- these words name a capture and a script
+-- what is asked for, if these words name a capture and a script
 abbrev pub with_names : List ℕ → List ℕ → Manner → Option Asked
 with_names capture script m =
     if is_name capture && is_name script
@@ -53,12 +53,12 @@ with_names capture script m =
     })
     else None
 
--- what the words ask for; None where they are of no form
+-- what the words ask for; None if they fit no form
 abbrev pub form_of : List (List ℕ) → Option Asked
 form_of (capture ∷ script ∷ options) =
     option_and_then (with_names capture script) (manner_of options)
 form_of _ = None
 
--- the same, of the words as they are given
+-- the same, for the words as they are given
 abbrev pub form_in : {A : Type 0} → List (String A) → Option Asked
 form_in words = form_of (map string_bytes words)

@@ -21,7 +21,7 @@ fn remedy(cause: Cause) -> &'static str
             without either, a client sent after its own reset"
         }
         Cause::StaleMux => "let every mux switch before connections open, or route by port",
-        Cause::MovedTwice => "wait longer between the changes",
+        Cause::MovedThrice => "wait longer between the changes",
         Cause::ChainLate => "raise timeout_s, or change when fewer long connections are open",
         Cause::SynElsewhere =>
             "nothing to change: a client sent another SYN after the bucket had moved",
@@ -58,7 +58,7 @@ pub(crate) fn advice_text(alloc: Global, counts: &[CauseCount]) -> Result<Text, 
     Ok(Text::of(text))
 }
 
-/// A line of advice where there is no connection, since nothing is steered.
+/// A line of advice if there are no connections, since nothing is steered.
 pub(crate) fn unsteered_text(alloc: Global, table: &[Connection]) -> Result<Text, Memory>
     ensures { IfOk result (λ text. text ≡ spec.unsteered_line table.now) }
 {
@@ -80,7 +80,7 @@ fn ends_before(records: &[Record], moment: Moment) -> bool
     records.iter().all(|record| record.moment.0 < moment.0)
 }
 
-/// Whether all records come before so many nanoseconds have passed since the moment.
+/// Whether all records come less than this many nanoseconds after the moment.
 fn ends_within(records: &[Record], timeout: u64, moment: Moment) -> bool
     ensures { result ≡ spec.ends_within records.now timeout moment }
 {
@@ -95,8 +95,8 @@ fn last_moment(plan: &Plan) -> Option<Moment>
     Some(plan.next_change(Version(before))?.moment)
 }
 
-/// A line of advice where the capture ends before the script's last change, or before the timeout
-/// behind that has passed.
+/// A line of advice if the capture ends before the script's last change, or before the timeout
+/// after that has passed.
 pub(crate) fn end_text(alloc: Global, stage: &Stage) -> Result<Text, Memory>
     ensures { IfOk result (λ text. text ≡ spec.end_line stage.now) }
 {

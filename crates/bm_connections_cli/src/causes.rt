@@ -13,7 +13,7 @@ const CAUSES: [Cause; 8] = [
     Cause::NeverAccepted,
     Cause::NotHeld,
     Cause::StaleMux,
-    Cause::MovedTwice,
+    Cause::MovedThrice,
     Cause::ChainLate,
     Cause::SynElsewhere,
     Cause::Full,
@@ -38,7 +38,7 @@ pub(crate) fn causes_in(
     Ok(counts)
 }
 
-/// Appends the count of a cause, where it occurs.
+/// Appends the count of a cause, if the cause occurs.
 fn push_occurring(counts: &mut Vec<CauseCount>, count: CauseCount) -> Result<(), AllocError>
     ensures { OnOk result (counts.new.items
         ≡ counts.old.items ++ filter spec.occurs (count ∷ [])) }

@@ -11,7 +11,7 @@ use bm_table::{Change, Kind, Plan};
 use std::alloc::{AllocError, Global};
 use std::fmt;
 
-/// What a change is for, each word behind a space.
+/// What a change is for, each word after a space.
 #[derive(Clone, Copy)]
 struct KindWords(Kind);
 
@@ -27,7 +27,7 @@ impl fmt::Display for KindWords {
     }
 }
 
-/// The line of the change that makes this version of the table, which has so many buckets.
+/// The line of the change that makes this version of the table, which has this many buckets.
 fn write_change(
     text: &mut String,
     clock: Clock,
@@ -47,7 +47,7 @@ fn write_change(
     )
 }
 
-/// The line of the change that follows this version, where there is one.
+/// The line of the change that follows this version, if there is one.
 fn write_next(text: &mut String, clock: Clock, plan: &Plan, version: u32) -> Result<(), AllocError>
     requires { version < 4294967295 }
     ensures { OnOk result (string_bytes text.new ≡ string_bytes text.old
@@ -69,7 +69,7 @@ fn write_changes(text: &mut String, clock: Clock, plan: &Plan) -> Result<(), All
     Ok(())
 }
 
-/// A line for each change of the plan. Moments are told by the clock.
+/// A line for each change of the plan. Moments are written by the clock.
 pub(crate) fn changes_text(alloc: Global, clock: Clock, plan: &Plan) -> Result<Text, Memory>
     ensures { IfOk result (λ text. text ≡ spec.changes_text clock.0 plan.now) }
 {

@@ -1,4 +1,4 @@
-//! The table in fields, with commas between them.
+//! The table as comma-separated fields.
 ghost use Rattle.std.specs.Prelude.{◌≡◌, ◌++◌, ◌∷◌, [], List, ℕ, IfOk, OnOk, decimal, flat_map};
 ghost use Rattle.csv.specs.Records.{fields_of};
 ghost use Rattle.bm_trace.specs.Words.{endpoint};
@@ -194,7 +194,6 @@ fn seen_fields(alloc: Global, clock: Clock, c: &Connection) -> Result<Fields, Al
         .server(c.server)
 }
 
-/// The fields of a connection.
 fn connection_fields(alloc: Global, clock: Clock, c: &Connection) -> Result<Fields, AllocError>
     ensures { IfOk result (λ fields. fields ≡ spec.connection_fields clock.0 c.now) }
 {
@@ -247,7 +246,7 @@ fn write_header<W: Write + Drop>(csv: &mut Writer<W>) -> Result<(), Memory>
     }
 }
 
-/// Writes a record. Each has as many fields, so that nothing but memory is refused.
+/// Writes a record. All records have the same number of fields, so only memory can be refused.
 fn write_fields<W: Write + Drop>(csv: &mut Writer<W>, fields: &Fields) -> Result<(), Memory>
     ensures { (octets : List ℕ) → HasWritten W.contents csv.old octets
         → OnOk result (HasWritten W.contents csv.new (octets ++ spec.csv_line fields.now)) }
@@ -289,8 +288,8 @@ fn write_connections<W: Write + Drop>(
     Ok(())
 }
 
-/// The table in fields, with commas between them: the names of the fields, and a record for each
-/// connection. Moments are told by the clock, and waits in seconds.
+/// The table as comma-separated fields: the names of the fields, and a record for each connection.
+/// Moments are written by the clock, and waits in seconds.
 pub(crate) fn table_csv(
     alloc: Global,
     clock: Clock,

@@ -151,7 +151,7 @@ fn write_values(
     Ok(())
 }
 
-/// The connections as JSON, a line for each. Moments are nanoseconds that are told by the clock.
+/// The connections as JSON, a line for each. Moments are in nanoseconds, by the clock.
 pub(crate) fn json_text(
     alloc: Global,
     clock: Clock,

@@ -1,4 +1,4 @@
-//! What `beamer-connections` does: it replays a capture as `beamer replay` does, and tells what
+//! What `beamer-connections` does: it replays a capture as `beamer replay` does, and reports what
 //! became of each connection.
 #![tactic(auto)]
 

@@ -1,4 +1,4 @@
-//! What is told of a history's connections.
+//! What is reported of a history's connections.
 ghost use Rattle.std.specs.Prelude.{◌≡◌, IfOk};
 ghost use Rattle.bm_core.specs.Runs.{IsRun};
 ghost use Rattle.bm_trace.specs.Report.{note_line};
@@ -112,7 +112,6 @@ pub(crate) fn values_of(alloc: Global, clock: Clock, h: &History) -> Result<Text
     json_text(alloc, clock, table.items())
 }
 
-/// The drawing of connections.
 pub(crate) fn drawing_of(alloc: Global, h: &History) -> Result<Text, Memory>
     requires { IsRun h.now }
     ensures { IfOk result (λ text. text ≡ draw.drawing h.now (tables.connections h.now)) }

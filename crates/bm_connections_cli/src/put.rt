@@ -1,4 +1,4 @@
-//! Writing texts one behind the other.
+//! Writing texts one after another.
 ghost use Rattle.std.specs.Prelude.{flat_map, OnErr, OnOk};
 ghost use Rattle.std.specs.Io.KnownBytes.{Appends};
 ghost use Rattle.bm_io.specs.Causes.{HasIoCause};
@@ -7,7 +7,7 @@ ghost use Rattle.bm_io.specs.Written.{WritesPart};
 use bm_base::Text;
 use bm_io::{IoFault, Sink, put_all};
 
-/// Appends the texts. On a refusal a first part of them was appended, and not all.
+/// Appends the texts. On an error only a first part of them was appended, not all.
 pub(crate) fn put_parts<K: Sink>(out: &mut K, parts: &[Text]) -> Result<(), IoFault>
     ensures ok { OnOk result (Appends (K.written out.old) (K.written out.new)
         (flat_map (λ part. part) parts.now)) }

@@ -39,7 +39,7 @@ fn write_close(
     writeln!(text, "close {server} {client} {service} at {at} {reply}")
 }
 
-/// The line of a reply at this time, where the event is one.
+/// The line of a reply at this time, if the event is one.
 fn write_reply(text: &mut String, clock: Clock, event: &Event) -> Result<(), AllocError>
     ensures { OnOk result (string_bytes text.new ≡ string_bytes text.old
         ++ spec.reply_line clock.0 event.now.clock.0 event.now.what) }
@@ -75,8 +75,8 @@ fn write_replies(text: &mut String, clock: Clock, events: &[Event]) -> Result<()
     Ok(())
 }
 
-/// A line for each reply to `close` and, of servers' first shards, to `retire`, in their order.
-/// Times are told by the clock.
+/// A line for each reply to `close` and, for servers' first shards, to `retire`, in order. Times
+/// are written by the clock.
 pub(crate) fn replies_text(alloc: Global, clock: Clock, events: &[Event]) -> Result<Text, Memory>
     ensures { IfOk result (λ text. text ≡ spec.replies_text clock.0 events.now) }
 {

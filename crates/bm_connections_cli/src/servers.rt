@@ -9,7 +9,7 @@ use bm_table::{Kind, Plan, Script};
 use std::alloc::{AllocError, Global};
 
 /// The servers that are there at the beginning, and then those that the script's changes add, in
-/// their order.
+/// order.
 pub(crate) fn servers_of(alloc: Global, script: &Script) -> Result<Vec<ServerId>, AllocError>
     ensures { IfOk result (λ servers. servers.items ≡ spec.servers_of script.now) }
 {
@@ -20,7 +20,7 @@ pub(crate) fn servers_of(alloc: Global, script: &Script) -> Result<Vec<ServerId>
     Ok(servers)
 }
 
-/// Appends the server that the change behind this version adds, where there is one.
+/// Appends the server that the change after this version adds, if there is one.
 fn push_added(servers: &mut Vec<ServerId>, plan: &Plan, v: Version) -> Result<(), AllocError>
     ensures { OnOk result (servers.new.items
         ≡ servers.old.items ++ inside.added_by (next_change plan.now v.0)) }
@@ -31,7 +31,7 @@ fn push_added(servers: &mut Vec<ServerId>, plan: &Plan, v: Version) -> Result<()
     Ok(())
 }
 
-/// Appends the server that a change of this kind adds, where it adds one.
+/// Appends the server that a change of this kind adds, if it adds one.
 fn push_kind(servers: &mut Vec<ServerId>, kind: Kind) -> Result<(), AllocError>
     ensures { OnOk result (servers.new.items ≡ servers.old.items ++ spec.added kind) }
 {

@@ -1,4 +1,4 @@
-//! The connections of a history, told.
+//! Writing the connections of a history.
 ghost use Rattle.bm_core.specs.Runs.{IsRun};
 ghost use Rattle.bm_cli.specs.Statuses.{Writes, did};
 ghost use Rattle.bm_connections.specs.Connections.{connections};
@@ -15,8 +15,8 @@ use bm_core::History;
 use bm_io::{IoFault, Sink};
 use std::alloc::Global;
 
-/// Writes the connections of the history in this format, with moments that are told by the clock.
-/// Where memory is refused before all of it is put together, nothing is written.
+/// Writes the connections of the history in this format, with moments by the clock. If memory is
+/// refused before all of it is put together, nothing is written.
 pub(crate) fn tell<K: Sink>(
     alloc: Global,
     format: Format,

@@ -28,11 +28,11 @@ use std::thread::Threads;
 
 const USAGE: &str = "usage: beamer-connections CAPTURE SCRIPT [--csv | --json | --svg] [--clock]\n";
 
-/// Does all that the program does, and answers the status.
+/// Does all that the program does, and returns the status.
 ///
-/// 0: the connections were written. 1: the words are of no form. 2: the files failed. 3: the
-/// capture has a fault. 4: the script has a fault. 5: the sink failed. 6: memory was refused. 7: a
-/// limit is passed.
+/// 0: the connections were written. 1: the words fit no form. 2: the files failed. 3: the capture
+/// has a fault. 4: the script has a fault. 5: the sink failed. 6: memory was refused. 7: a limit is
+/// exceeded.
 pub fn beamer_connections<R: Threads + Wait + Sync, F: Files, K: Sink>(
     rt: &R,
     alloc: Global,
@@ -41,8 +41,8 @@ pub fn beamer_connections<R: Threads + Wait + Sync, F: Files, K: Sink>(
     out: &mut K,
 ) -> u8
     requires room { F.open_now files.old ≤ 1000 }
-    // On status 0 what was written tells the connections of the replay of the named capture through
-    // the servers of the named script.
+    // On status 0 what was written reports the connections of the replay of the named capture
+    // through the servers of the named script.
     ensures shown { result ≡ 0 → Holds (F.octets files.old) (λ reads.
         ShowsAnswer (due (form_in words.now) reads).answer
         (K.written out.old) (K.written out.new)) }
@@ -51,12 +51,12 @@ pub fn beamer_connections<R: Threads + Wait + Sync, F: Files, K: Sink>(
         EndsWith (due (form_in words.now) reads) (did F.asked F.faults files.old files.new)
         (did K.written K.faults out.old out.new) result) }
 
-    // The status is the one that is due, but where the files or the sink failed, or memory was
+    // The status is the one that is due, unless the files or the sink failed, or memory was
     // refused.
     ensures status { Holds (F.octets files.old) (λ reads.
         IsStatusOf (due (form_in words.now) reads) result) }
-    // The connections of an accepted capture are written, but where the files or the sink failed,
-    // or memory was refused.
+    // The connections of an accepted capture are written, unless the files or the sink failed, or
+    // memory was refused.
     ensures complete { IsAccepted (due (form_in words.now)) (F.octets files.old) →
         (result ≡ 0) ⊎ (result ≡ 6) ⊎ Rose (F.faults files.old) (F.faults files.new)
         ⊎ Rose (K.faults out.old) (K.faults out.new) }
@@ -64,15 +64,15 @@ pub fn beamer_connections<R: Threads + Wait + Sync, F: Files, K: Sink>(
     ensures usage { result ≡ 1 → form_in words.now ≡ None }
     ensures named { result ≡ 2 → IsSome (form_in words.now) }
     ensures read { result ≡ 2 → Rose (F.faults files.old) (F.faults files.new) }
-    // Where the files failed 2 comes, but where the sink failed too, or memory was refused.
+    // If the files failed the status is 2, unless the sink failed too, or memory was refused.
     ensures files { result ≢ 2 → result ≢ 5 → result ≢ 6 →
         F.faults files.new ≡ F.faults files.old }
-    // 5 comes where the sink failed, and nowhere else.
+    // The status is 5 exactly if the sink failed.
     ensures write { result ≡ 5 → Rose (K.faults out.old) (K.faults out.new) }
     ensures kept { result ≢ 5 → K.faults out.new ≡ K.faults out.old }
 
-    // What was written otherwise is the line of the status, whatever the files tell, or a first
-    // part of the text that was due.
+    // With any other status, what was written is the line of that status, whatever the files hold,
+    // or a first part of the text that was due.
     ensures usage_line { result ≡ 1 → Appends (K.written out.old) (K.written out.new) usage_line }
     ensures read_line { result ≡ 2 →
         Appends (K.written out.old) (K.written out.new) (fault_line files_failed) }
@@ -83,19 +83,19 @@ pub fn beamer_connections<R: Threads + Wait + Sync, F: Files, K: Sink>(
         WritesSome (due (form_in words.now) reads) (did F.asked F.faults files.old files.new)
         (did K.written K.faults out.old out.new)) }
 
-    // The files are asked for the names that are due, in their order, each at most once.
+    // The files are asked for the names that are due, in order, each at most once.
     ensures asked { Holds (F.octets files.old) (λ reads.
         AsksPrefix (F.asked files.old) (F.asked files.new) (due (form_in words.now) reads).names) }
-    // They were asked for all of them, but where the files or the sink failed, or memory was
-    // refused.
+    // They were asked for all of them, unless the files or the sink failed, or memory was refused.
     ensures all { result ≢ 2 → result ≢ 5 → result ≢ 6 → Holds (F.octets files.old) (λ reads.
         AsksAll (F.asked files.old) (F.asked files.new) (due (form_in words.now) reads).names) }
-    // Behind a fault of the script they were asked for its name alone, whatever they tell.
+    // After a fault of the script they were asked for its name alone, whatever they hold.
     ensures script { result ≡ 4 →
         AsksAll (F.asked files.old) (F.asked files.new) (scripts_in (form_in words.now)) }
-    // Where no file is asked for the files are left as they are.
+    // If no file is asked for, the files are left as they are.
     ensures unasked { AsksNone (due (form_in words.now)) → files.new ≡ files.old }
-    // The files tell what they told. No source stays open, and none is closed that was open before.
+    // The files' octets are the same as before. No source stays open, and none is closed that was
+    // open before.
     ensures octets { F.octets files.new ≡ F.octets files.old }
     ensures open { F.open_now files.new ≡ F.open_now files.old }
 {
@@ -124,7 +124,7 @@ fn answer<R: Threads + Wait + Sync, F: Files, K: Sink>(
     }
 }
 
-/// Replays the named capture and script, and tells its connections.
+/// Replays the named capture and script, and writes the report of its connections.
 fn answer_form<R: Threads + Wait + Sync, F: Files, K: Sink>(
     rt: &R,
     alloc: Global,
@@ -148,7 +148,7 @@ fn answer_form<R: Threads + Wait + Sync, F: Files, K: Sink>(
     }
 }
 
-/// What moments are told from, where the capture began so many nanoseconds after 1970.
+/// What moments are counted from, if the capture began this many nanoseconds after 1970.
 fn clock_of(manner: Manner, began: u64) -> Clock
     ensures { result.0 ≡ (if manner.clock then Some began else None) }
 {
@@ -159,7 +159,7 @@ fn clock_of(manner: Manner, began: u64) -> Clock
     }
 }
 
-/// Writes how the program is used.
+/// Writes the usage line.
 fn misuse<K: Sink>(out: &mut K) -> Status
     ensures { Tells (Misused usage_line) (did K.written K.faults out.old out.new) result }
 {

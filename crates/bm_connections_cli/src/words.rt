@@ -6,36 +6,36 @@ ghost use Rattle.bm_connections_cli.specs.Inside.Words.{asked};
 
 use bm_words::Names;
 
-/// How the connections are told.
-#[derive(Clone, Copy, Debug, PartialEq, Eq)]
+/// The format in which the connections are reported.
+#[derive(Clone, Copy, PartialEq, Eq)]
 pub(crate) enum Format {
     /// In lines of words: of connections, servers, changes, replies, causes and advice.
     Lines,
-    /// `--csv`: in fields with commas between them, a line for each connection.
+    /// `--csv`: comma-separated fields, a line for each connection.
     Csv,
-    /// `--json`: a line for each connection, a JSON object.
+    /// `--json`: a JSON object for each connection, one on a line.
     Json,
-    /// `--svg`: a drawing, an SVG text.
+    /// `--svg`: a drawing as SVG text.
     Svg,
 }
 
-/// How the connections are told: in which format, and whether moments are those of the wall clock
-/// (`--clock`).
-#[derive(Clone, Copy, Debug, PartialEq, Eq)]
+/// How the connections are reported: in which format, and whether moments are those of the wall
+/// clock (`--clock`).
+#[derive(Clone, Copy, PartialEq, Eq)]
 pub(crate) struct Manner {
     pub(crate) format: Format,
     pub(crate) clock: bool,
 }
 
-/// What the words ask for: how the connections are told, and which capture and script are replayed.
-#[derive(Debug, Drop)]
+/// What the words ask for: how the connections are reported, and which capture and script are
+/// replayed.
+#[derive(Drop)]
 pub(crate) struct Asked<'a> {
     pub(crate) manner: Manner,
     pub(crate) names: Names<'a>,
 }
 
-/// What the words ask for, or nothing where they are of no form. The words are without the
-/// program's own name.
+/// What the words ask for; None if they fit no form. The words are without the program's own name.
 pub(crate) fn read_words<'a>(words: &'a [String]) -> Option<Asked<'a>>
     ensures { option_map asked result ≡ spec.form_in words.entry.now }
 {
@@ -47,8 +47,8 @@ pub(crate) fn read_words<'a>(words: &'a [String]) -> Option<Asked<'a>>
     }
 }
 
-/// How the options say that the connections are told: `--clock` and a format, in either order,
-/// each at most once.
+/// How the connections are reported, by the options: `--clock` and a format, in either order, each
+/// at most once.
 fn read_options(options: &[String]) -> Option<Manner>
     ensures { result ≡ spec.manner_of (map string_bytes options.now) }
 {
@@ -114,7 +114,7 @@ fn read_format(word: &str) -> Option<Format>
     }
 }
 
-/// What is asked for where these are names of a capture and a script.
+/// What is asked for, if these are names of a capture and a script.
 fn with_names<'a>(capture: &'a str, script: &'a str, manner: Manner) -> Option<Asked<'a>>
     ensures { option_map asked result
         ≡ spec.with_names capture.entry.now script.entry.now manner }

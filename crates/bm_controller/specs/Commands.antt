@@ -17,7 +17,7 @@ use Rattle.bm_table.specs.Plans.{last_moment, owners_now, server_now, total_move
 use Rattle.bm_table.specs.Tables.{same_server}
 use Rattle.bm_controller.specs.Membership.{active_after, active_now, is_active, knows}
 
--- the change that brings the servers which are then active to their quotas
+-- the change that brings these servers, active after it, to their quotas
 abbrev pub rebalance : Planned → Moment → Kind → List ServerId → Change
 rebalance plan at kind servers = record {
   moment = at;
@@ -44,7 +44,7 @@ first_refusal [] = None
 first_refusal (None ∷ refusals) = first_refusal refusals
 first_refusal (Some refusal ∷ refusals) = Some refusal
 
--- a moment below the last, and the limits of a plan that gets a change with so many moves
+-- a moment below the last, and the limits of a plan to which a change with this many moves is added
 abbrev pub limits : Planned → Moment → ℕ → List (Option Refusal)
 limits plan at count =
     when (nat_lt at.0 (last_moment plan)) StampFell
@@ -52,7 +52,7 @@ limits plan at count =
     ∷ when (nat_lt 1000000 (total_moves plan.changes + count)) (TooMany Moves)
     ∷ []
 
--- why a command that makes so many moves is refused, want of memory aside
+-- why a command that makes this many moves is refused, apart from `Memory`
 abbrev pub add_refused : Planned → Moment → ServerId → ℕ → Option Refusal
 add_refused plan at s count = first_refusal (when (knows plan s) KnownServer ∷ limits plan at count)
 
@@ -63,7 +63,7 @@ drain_refused plan at s count = first_refusal (
     ∷ when (nat_le (length (active_now plan)) 1) LastServer
     ∷ limits plan at count)
 
--- why a command is refused, want of memory aside
+-- why a command is refused, apart from `Memory`
 abbrev pub add_refusal : Planned → Moment → ServerId → Option Refusal
 add_refusal plan at s = add_refused plan at s (length (addition plan at s).moves)
 

@@ -13,7 +13,7 @@ use Rattle.bm_table.specs.Settings.{RiseFrom}
 use Rattle.bm_table.specs.Tables.{is_among, is_drained, is_known, next_change, same_server}
 use Rattle.bm_table.specs.Tables.{IsOrderly}
 
--- the servers with one more, in rising order
+-- the servers and one more, in rising order
 abbrev pub with_server : ServerId → List ServerId → List ServerId
 with_server s servers =
     filter (λ t. nat_lt t.0 s.0) servers ++ s ∷ filter (λ t. nat_lt s.0 t.0) servers
@@ -36,7 +36,7 @@ abbrev pub active : Planned → ℕ → List ServerId
 active plan zero = plan.servers
 active plan (suc n) = active_next (next_change plan n) (active plan n)
 
--- after all changes
+-- the active servers after all changes
 abbrev pub active_now : Planned → List ServerId
 active_now plan = active plan (length plan.changes)
 
@@ -49,7 +49,7 @@ has_drained plan s = is_drained plan (length plan.changes) s
 abbrev pub is_active : Planned → ServerId → Bool
 is_active plan s = is_among (active_now plan) s
 
--- what the plan of a controller keeps
+-- what holds of a controller's plan
 pub record KeepsMembership (plan : Planned) : Type 0 where
   pub kept : IsPlan plan
   pub orderly : IsOrderly plan

@@ -16,12 +16,12 @@ use bm_table::{Change, Kind, Move, Plan};
 use std::alloc::Global;
 use std::marker::Model;
 
-/// How many numbers a server may have.
+/// How many server numbers there may be.
 const NUMBERS: usize = 65_536;
 
-/// The servers, and the plan that commands made so far. A server is known from the opening or from
-/// its add on, for good, and active until its drain.
-#[derive(Debug, Drop)]
+/// The servers, and the plan that commands made so far. A server is known from the opening, or from
+/// when it is added, for good; it is active until it is drained.
+#[derive(Drop)]
 pub struct Controller {
     plan: Plan,
     /// The active servers, in rising order.
@@ -60,8 +60,8 @@ impl Controller {
     }
 
     /// Adds a server at a moment in nanoseconds, and brings all active servers to their quotas. A
-    /// refusal is the first of KnownServer, StampFell and TooMany that stands, or Memory, which may
-    /// come where none of these stands but `TooMany(Moves)`. It changes nothing.
+    /// refusal is the first of KnownServer, StampFell and TooMany that applies, or Memory, which
+    /// may come if none of these but `TooMany(Moves)` applies. A refusal changes nothing.
     pub fn add(&mut self, at: Moment, s: ServerId) -> Result<(), Refusal>
         requires { IsWithin 1 1024 s.0 }
         ensures ok { OnOk result
@@ -86,9 +86,9 @@ impl Controller {
     }
 
     /// Drains a server at a moment in nanoseconds: its buckets go to the other active servers,
-    /// which come to their quotas. A refusal is the first of UnknownServer, NotActive, LastServer,
-    /// StampFell and TooMany that stands, or Memory, which may come where none of these stands but
-    /// `TooMany(Moves)`. It changes nothing.
+    /// which reach their quotas. A refusal is the first of UnknownServer, NotActive, LastServer,
+    /// StampFell and TooMany that applies, or Memory, which may come if none of these but
+    /// `TooMany(Moves)` applies. A refusal changes nothing.
     pub fn drain(&mut self, at: Moment, s: ServerId) -> Result<(), Refusal>
         ensures ok { OnOk result
             (self.new ≡ with_change self.old (commands.removal self.old at s)) }
@@ -117,8 +117,8 @@ impl Controller {
     }
 
     /// Moves one bucket to an active server, at a moment in nanoseconds. A refusal is the first of
-    /// BadBucket, UnknownServer, NotActive, SameServer, StampFell and TooMany that stands, or
-    /// Memory, which may come where none of these stands. It changes nothing.
+    /// BadBucket, UnknownServer, NotActive, SameServer, StampFell and TooMany that applies, or
+    /// Memory, which may come if none of these applies. A refusal changes nothing.
     pub fn shift(&mut self, at: Moment, bucket: u32, s: ServerId) -> Result<(), Refusal>
         ensures ok { OnOk result (self.new ≡ with_change self.old (commands.shift_of at bucket s)) }
         ensures accepted { OnOk result (commands.shift_refusal self.old at bucket s ≡ None) }
@@ -160,8 +160,8 @@ impl Controller {
     /// The plan that the commands made.
     pub fn into_plan(self) -> Plan
         ensures plan { result ≡ self }
-        // Stamps don't fall, each move is to a known server and changes its bucket's server, and
-        // from a server's drain on no bucket is at it.
+        // Stamps never decrease, each move is to a known server and changes its bucket's server,
+        // and once a server is drained no bucket is at it.
         ensures orderly { tables.IsOrderly result }
         ensures membership { members.KeepsMembership result }
     {

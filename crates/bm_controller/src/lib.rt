@@ -1,4 +1,4 @@
-//! The controller: servers are added and drained, buckets are moved, and a plan comes out.
+//! The controller: it adds and drains servers and moves buckets, and so makes a plan.
 #![tactic(auto)]
 
 mod controller;

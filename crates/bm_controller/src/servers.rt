@@ -7,7 +7,7 @@ ghost use Rattle.bm_controller.specs.Membership.{with_server, without_server};
 use bm_base::{Memory, ServerId};
 use std::alloc::Global;
 
-/// The servers with one more, in rising order.
+/// The servers and one more, in rising order.
 #[tactic(auto, using(std::proofs::lemmas::List::append_assoc))]
 pub(crate) fn with(
     alloc: Global,

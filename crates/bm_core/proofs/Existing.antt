@@ -84,16 +84,16 @@ play_long mux fate stage (suc n) past =
 -- a sound stage's replay comes to its end
 pub play_ends : (stage : Stage) → IsSound stage
     → next_event (setting_mux stage.script.setting) (setting_fate stage.script.setting) stage
-    (play (setting_mux stage.script.setting) (setting_fate stage.script.setting) stage 6859841 []) ≡ None
+    (play (setting_mux stage.script.setting) (setting_fate stage.script.setting) stage 12259841 []) ≡ None
 play_ends stage sound =
-    elim (play_long (setting_mux stage.script.setting) (setting_fate stage.script.setting) stage 6859841 []) [
+    elim (play_long (setting_mux stage.script.setting) (setting_fate stage.script.setting) stage 12259841 []) [
       | inl ended ↦ ended
       | inr long ↦ absurd
           (too_long _ long
           (play_told (setting_mux stage.script.setting) (setting_fate stage.script.setting) stage sound.script.plan
-          (mux_within stage sound) 6859841 [] (record { run = tt; follows = tt; answered = tt })))
+          (mux_within stage sound) 12259841 [] (record { run = tt; follows = tt; answered = tt })))
     ] where
-      too_long : (past : List Event) → length past ≡ 6859841 + 0
+      too_long : (past : List Event) → length past ≡ 12259841 + 0
           → IsToldBy (setting_mux stage.script.setting) (setting_fate stage.script.setting) stage past → ⊥
       too_long past long told =
           let soon =
@@ -111,21 +111,21 @@ exists_law stage sound = (
     stage =
         stage;
     events =
-        reverse (play (setting_mux stage.script.setting) (setting_fate stage.script.setting) stage 6859841 []);
+        reverse (play (setting_mux stage.script.setting) (setting_fate stage.script.setting) stage 12259841 []);
   },
   refl,
-  played_replay (setting_mux stage.script.setting) (setting_fate stage.script.setting) stage 6859841 sound
+  played_replay (setting_mux stage.script.setting) (setting_fate stage.script.setting) stage 12259841 sound
       (mux_within stage sound) (play_ends stage sound),
 )
 
 -- clocks stay small
 pub clock_law : (fates : List Fate) (stage : Stage) (past : List Event) → IsSound stage → Follows fates stage past
-    → AreSoon fates past → last_clock past ≤ 5 * 10 ^ 18
+    → AreSoon fates past → last_clock past ≤ 6 * 10 ^ 18
 clock_law fates stage past sound follows soon =
     let slow = (paced fates stage past sound follows soon).clock
     in let few = few_events fates stage past sound follows soon
     in omega arith
 
 pub length_law : (fates : List Fate) (stage : Stage) (past : List Event) → IsSound stage → Follows fates stage past
-    → AreSoon fates past → length past ≤ 6859840
+    → AreSoon fates past → length past ≤ 12259840
 length_law fates stage past sound follows soon = let few = few_events fates stage past sound follows soon in omega arith

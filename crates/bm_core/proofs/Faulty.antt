@@ -3,6 +3,7 @@ use Rattle.std.proofs.Common.{◌≡◌, ℕ, Bool, true, false, cond, inl, inr,
 use Rattle.std.proofs.lemmas.Bool.{cases_Bool}
 use Rattle.bm_base.specs.declared.ids.ServerId.{ServerId}
 use Rattle.bm_base.specs.declared.flow.Segment.{Segment}
+use Rattle.bm_base.specs.declared.label.Hop.{Hop}
 use Rattle.bm_base.specs.declared.label.Label.{Label}
 use Rattle.bm_base.specs.Segments.{is_opening}
 use Rattle.bm_core.specs.declared.events.Verdict.{Verdict}
@@ -28,12 +29,12 @@ none_unless : (b : Bool) (o : Option Cause) → is_some (cond b o None) ≡ true
 none_unless true o is = refl
 none_unless false o is = absurd (cc)
 
-caused : (stage : Stage) (past : List Event) (clock : ℕ) (server : ServerId) (verdict : Verdict) (a : Option Accepted)
-    (o : Option Segment) (p : Option Label)
-    → is_some (cause_at stage past clock server verdict a o p) ≡ true → wants_cause verdict a server o ≡ true
-caused stage past clock server verdict a None p is = absurd (cc)
-caused stage past clock server verdict a (Some s) None is = absurd (cc)
-caused stage past clock server verdict a (Some s) (Some l) is = elim (cases_Bool (is_opening s)) [
+caused : (stage : Stage) (past : List Event) (clock : ℕ) (hop : Hop) (server : ServerId) (verdict : Verdict)
+    (a : Option Accepted) (o : Option Segment) (p : Option Label)
+    → is_some (cause_at stage past clock hop server verdict a o p) ≡ true → wants_cause verdict a server o ≡ true
+caused stage past clock hop server verdict a None p is = absurd (cc)
+caused stage past clock hop server verdict a (Some s) None is = absurd (cc)
+caused stage past clock hop server verdict a (Some s) (Some l) is = elim (cases_Bool (is_opening s)) [
   | inl opens ↦ rw opens (opening_refused verdict _ _ (rw opens at is))
   | inr plain ↦ rw plain (none_unless (is_fault verdict a server) _ (rw plain at is))
 ]
@@ -41,7 +42,7 @@ caused stage past clock server verdict a (Some s) (Some l) is = elim (cases_Bool
 pub fault_law : (stage : Stage) (past : List Event) (clock : ℕ) (what : What)
     → is_some (cause stage past clock what) ≡ true → IsFault stage past what
 fault_law stage past clock (Arrive k hop server verdict) is =
-    caused stage past clock server verdict (owner stage past k) (segment_of stage k) (label_of stage past k) is
+    caused stage past clock hop server verdict (owner stage past k) (segment_of stage k) (label_of stage past k) is
 fault_law stage past clock (Publish v) is = absurd (cc)
 fault_law stage past clock (Switch m v) is = absurd (cc)
 fault_law stage past clock (Steer k m) is = absurd (cc)

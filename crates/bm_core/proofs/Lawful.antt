@@ -3,33 +3,37 @@ use Rattle.std.proofs.Common.{reverse, ◌≡◌, ℕ, zero, suc, ◌<◌, ◌�
 use Rattle.std.proofs.Common.{take, Option, Some, None, is_some, refl, sym, ap, ◌∙◌, subst, arith, ltb}
 use Rattle.std.specs.Prelude.{slice_get, IsSomeAnd}
 use mathlib.Core.List.{reverse_aux}
-use Rattle.std.proofs.lemmas.Bool.{cases_Bool, both_ways, or_from, lt-ltb}
+use Rattle.std.proofs.lemmas.Bool.{cases_Bool, cases_eq, both_ways, or_from, lt-ltb}
 use Rattle.std.proofs.lemmas.Bool.Decides.{nat_tests}
 use Rattle.std.proofs.lemmas.Option.{same_Some}
 use Rattle.bm_base.specs.declared.ids.ServerId.{ServerId}
 use Rattle.bm_base.specs.declared.flow.Segment.{Segment}
 use Rattle.bm_base.specs.declared.label.Hop.{Hop}
-use Rattle.bm_base.specs.declared.label.Hop.TheVariants.{Direct, Chained}
+use Rattle.bm_base.specs.declared.label.Hop.TheVariants.{Direct, Chained, Twice}
+use Rattle.bm_base.specs.declared.label.Entry.{Entry}
+use Rattle.bm_base.specs.declared.label.Past.{Past}
+use Rattle.bm_base.specs.Labels.{arrives_at, hop_number}
+use Rattle.bm_base.proofs.Hops.{same_number}
 use Rattle.bm_core.specs.declared.events.Why.TheVariants.{Full, Retired}
 use Rattle.bm_core.specs.declared.events.Local.{Local}
 use Rattle.bm_core.specs.declared.events.Cause.{Cause}
 use Rattle.bm_core.specs.declared.events.Verdict.{Verdict}
-use Rattle.bm_core.specs.declared.events.Verdict.TheVariants.{Drop}
+use Rattle.bm_core.specs.declared.events.Verdict.TheVariants.{Drop, Forward}
 use Rattle.bm_core.specs.declared.events.What.{What}
 use Rattle.bm_core.specs.declared.events.What.TheVariants.{Publish, Switch, Steer, Lose, Arrive, Close, Retire, Sync}
 use Rattle.bm_core.specs.declared.events.Event.{Event}
 use Rattle.bm_core.specs.declared.events.Stage.{Stage}
 use Rattle.bm_core.specs.declared.events.History.{History}
 use Rattle.bm_base.specs.Segments.{is_opening}
-use Rattle.bm_core.specs.Past.{timeout, sends, is_sent, is_forward, newest, segment_of, Accepted, owner}
-use Rattle.bm_core.specs.Verdicts.{Onward, onward, local_at, verdict_of, verdict_at}
+use Rattle.bm_core.specs.Past.{timeout, sends, is_sent, is_forward, newest, segment_of, label_of, Accepted, owner}
+use Rattle.bm_core.specs.Verdicts.{onward, local_at, verdict_of, verdict_at}
 use Rattle.bm_core.specs.Causes.{first_broken, is_process, is_fault, is_refusal, opening_cause, cause}
 use Rattle.bm_core.specs.Stages.{IsSound}
 use Rattle.bm_core.specs.Runs.{last_clock, IsArrival, MayCome, Run, IsRun, event_at, past_at}
 use Rattle.bm_core.specs.Laws.{IsUnbrokenPacket, IsServedPacket, IsUnbrokenArrival, IsServed, IsRetiredDrop}
-use Rattle.bm_core.specs.Laws.{IsLate, IsFault, At}
-use Rattle.bm_core.proofs.Owned.{IsServedBy, safe, late, false_from_not}
-use Rattle.bm_core.proofs.Pasts.{arrival_sends, hop_before, steer_sends}
+use Rattle.bm_core.specs.Laws.{IsLate, IsStampLate, IsAway, IsForwardedTo, IsFault, At}
+use Rattle.bm_core.proofs.Owned.{IsServedBy, safe, late, outdated, home_is, has_onward, false_from_not}
+use Rattle.bm_core.proofs.Pasts.{arrival_sends, hop_before, owner_is, sent_before, steer_sends}
 
 -- what is left of a run after its newest events
 run_older : (stage : Stage) (newer past : List Event) → Run stage (reverse_aux newer past) → Run stage past
@@ -69,14 +73,17 @@ safe_step : (stage : Stage) → IsSound stage → (past : List Event) (clock : �
 safe_step stage sound past clock (Arrive k hop server verdict) run later may unbroken =
     go (owner stage past k) refl premises where
       premises : (is_opening may.segment ≡ false)
-          × (first_broken stage past clock may.label may.segment.flow server (owner stage past k) ≡ None)
+          × (first_broken stage past clock may.label hop may.segment.flow server (owner stage past k) ≡ None)
       premises = rw (may.is_segment, may.is_label) at unbroken
 
       go : (o : Option Accepted) → owner stage past k ≡ o → (is_opening may.segment ≡ false)
-          × (first_broken stage past clock may.label may.segment.flow server o ≡ None)
-          → IsSomeAnd o (λ a. IsServedBy a hop server verdict)
+          × (first_broken stage past clock may.label hop may.segment.flow server o ≡ None)
+          → IsSomeAnd o (λ a. ((is_process verdict ≡ true) × (server ≡ a.server))
+          ⊎ ((server ≡ a.server → ⊥)
+          × IsSomeAnd (label_of stage past k) (λ l. IsForwardedTo l.entry hop verdict a.server)))
       go None own p = absurd (cc)
-      go (Some a) own p = safe stage sound past run clock k server later a hop verdict may p.0 own p.1
+      go (Some a) own p =
+          rw may.is_label (safe stage sound past run clock k server later a hop verdict may p.0 own p.1)
 safe_step stage sound past clock (Steer k m) run later may unbroken = absurd unbroken
 safe_step stage sound past clock (Publish v) run later may unbroken = absurd unbroken
 safe_step stage sound past clock (Switch m v) run later may unbroken = absurd unbroken
@@ -104,18 +111,41 @@ served_law h packet run unbroken = packet_served h.stage run.sound packet (rever
 
 -- RETIRED SHARDS
 
-retired_from : (local : Local) (timeout clock : ℕ) (hop : Hop) (onto : Option Onward) (s : Segment)
+retired_from : (local : Local) (timeout clock : ℕ) (hop : Hop) (onto : Option Past) (s : Segment)
     → verdict_of local timeout clock hop onto s ≡ Drop Retired → local.retired ≡ true
 retired_from local timeout clock hop onto s e = grind arith
+
+retired_step : (stage : Stage) → IsSound stage
+    → (past : List Event) (clock k : ℕ) (hop : Hop) (server : ServerId) → Run stage past → last_clock past ≤ clock
+    → (may : IsArrival stage past clock k hop server (Drop Retired)) → (o : Option Accepted) → owner stage past k ≡ o
+    → IsAway stage hop server o (Some may.segment) (Some may.label)
+    → IsStampLate stage clock hop (Some may.label)
+retired_step stage sound past clock k hop server run later may None own away = absurd away
+retired_step stage sound past clock k hop server run later may (Some a) own away =
+    let ret =
+    retired_from (local_at stage past server may.segment.flow) (timeout stage) clock hop
+    (onward may.label.entry hop) may.segment (sym may.verdict_is)
+    in let acc = owner_is stage past run k may.segment a may.is_segment own
+    in let home =
+    home_is stage sound past run clock k server later a hop (Drop Retired) may acc.server away.1 away.3
+    in let less : hop_number hop < hop_number home.0 = elim (cases_eq (hop_number hop) (hop_number home.0)) [
+      | inl same ↦
+          let one : hop ≡ home.0 = same_number hop home.0 same
+          in absurd (away.0
+          (same_Some _ _ (sym may.place ∙ (ap (λ (h : Hop). arrives_at may.label.entry h) one ∙ home.2))))
+      | inr apart ↦ let most = home.1 in let back = away.2 in omega arith
+    ]
+    in let p =
+    has_onward stage sound past run clock k server later a hop home.0 (Drop Retired) may home.2 less
+    in rw p.1 (late stage sound past run clock k server later hop (Drop Retired) may ret p.0 p.1)
 
 late_step : (stage : Stage) → IsSound stage → (past : List Event) (clock : ℕ) (what : What) → Run stage past
     → last_clock past ≤ clock → MayCome stage past clock what → IsRetiredDrop stage past what
     → IsLate stage past clock what
-late_step stage sound past clock (Arrive k Direct server (Drop Retired)) run later may dropped =
-    let ret =
-    retired_from (local_at stage past server may.segment.flow) (timeout stage) clock Direct
-    (onward may.label.entry Direct) may.segment (sym may.verdict_is)
-    in rw may.is_label (late stage sound past run clock k server later (Drop Retired) may ret).1
+late_step stage sound past clock (Arrive k hop server (Drop Retired)) run later may dropped =
+    rw may.is_label
+    (retired_step stage sound past clock k hop server run later may (owner stage past k) refl
+    (rw (may.is_segment, may.is_label) at dropped))
 late_step stage sound past clock _ run later may dropped = absurd dropped
 
 pub late_law : (h : History) (place : ℕ) → IsRun h → At h place (λ stage past clock what. IsRetiredDrop stage past what)
@@ -124,7 +154,7 @@ late_law = law (λ stage past clock what. IsRetiredDrop stage past what) IsLate 
 
 -- CAUSES
 
-opening_not_forwarded : (local : Local) (timeout clock : ℕ) (onto : Option Onward) (s : Segment) → is_opening s ≡ true
+opening_not_forwarded : (local : Local) (timeout clock : ℕ) (onto : Option Past) (s : Segment) → is_opening s ≡ true
     → is_forward (verdict_of local timeout clock Direct onto s) ≡ false
 opening_not_forwarded local timeout clock onto s o = grind arith
 
@@ -166,7 +196,7 @@ opening_unsent stage (e ∷ past) k s run is opens =
     opening_unsent_step stage past e.clock.0 k s e.what run.0.may is opens
     (opening_unsent stage past k s run.1 is opens)
 
-opening_refused : (local : Local) (timeout clock : ℕ) (onto : Option Onward) (s : Segment) (verdict : Verdict)
+opening_refused : (local : Local) (timeout clock : ℕ) (onto : Option Past) (s : Segment) (verdict : Verdict)
     → verdict ≡ verdict_of local timeout clock Direct onto s → is_opening s ≡ true → is_refusal verdict ≡ true
     → ((local.retired ≡ true) × (verdict ≡ Drop Retired)) ⊎ (verdict ≡ Drop Full)
 opening_refused local timeout clock onto s verdict is opens ref = grind arith
@@ -178,23 +208,33 @@ opening_caused : (stage : Stage) → IsSound stage
     → is_refusal verdict ≡ true → is_some (opening_cause verdict may.label.version.0 (newest past)) ≡ true
 opening_caused stage sound past clock k Chained server verdict run later may opens ref =
     absurd (both_ways _ (opening_unsent stage past k may.segment run may.is_segment opens) may.sent)
+opening_caused stage sound past clock k Twice server verdict run later may opens ref =
+    absurd (both_ways _ (opening_unsent stage past k may.segment run may.is_segment opens)
+    (sent_before stage past run k Chained Twice (omega arith) may.sent))
 opening_caused stage sound past clock k Direct server verdict run later may opens ref =
     elim (opening_refused (local_at stage past server may.segment.flow) (timeout stage) clock
     (onward may.label.entry Direct) may.segment verdict may.verdict_is opens ref) [
       | inl gone ↦
           let old : may.label.version.0 < newest past =
-          (late stage sound past run clock k server later verdict may gone.0).0
+          outdated stage sound past run clock k server later verdict may gone.0
           in let t : ltb may.label.version.0 (newest past) ≡ true = lt-ltb _ _ old
           in rw (gone.1, t) refl
       | inr full ↦ rw full refl
     ]
 
-served_no_fault : (a : Accepted) (hop : Hop) (server : ServerId) (verdict : Verdict)
-    → IsServedBy a hop server verdict → is_fault verdict (Some a) server ≡ false
-served_no_fault a hop server verdict (inl here) = rw here.1 (process_no_fault verdict here.0) where
-  process_no_fault : (verdict : Verdict) → is_process verdict ≡ true → is_fault verdict (Some a) a.server ≡ false
-  process_no_fault verdict p = grind (arith, nat_tests)
-served_no_fault a hop server verdict (inr sent) = rw sent.1 refl
+process_no_fault : (a : Accepted) (verdict : Verdict) → is_process verdict ≡ true
+    → is_fault verdict (Some a) a.server ≡ false
+process_no_fault a verdict p = grind (arith, nat_tests)
+
+forward_no_fault : (a : Accepted) (server : ServerId) (verdict : Verdict) (onto : Option Past)
+    → IsSomeAnd onto (λ p. verdict ≡ Forward p.server) → is_fault verdict (Some a) server ≡ false
+forward_no_fault a server verdict None goes = absurd goes
+forward_no_fault a server verdict (Some p) goes = rw goes refl
+
+served_no_fault : (a : Accepted) (entry : Entry) (hop : Hop) (server : ServerId) (verdict : Verdict)
+    → IsServedBy a entry hop server verdict → is_fault verdict (Some a) server ≡ false
+served_no_fault a entry hop server verdict (inl here) = rw here.1 (process_no_fault a verdict here.0)
+served_no_fault a entry hop server verdict (inr goes) = forward_no_fault a server verdict (onward entry hop) goes.1.0
 
 some_or_none : (o : Option Cause) → (o ≡ None → ⊥) → is_some o ≡ true
 some_or_none None no_way = absurd (no_way refl)
@@ -205,12 +245,12 @@ plain_caused : (stage : Stage) → IsSound stage
     → last_clock past ≤ clock
     → (may : IsArrival stage past clock k hop server verdict) → is_opening may.segment ≡ false → (o : Option Accepted)
     → owner stage past k ≡ o → is_fault verdict o server ≡ true
-    → is_some (first_broken stage past clock may.label may.segment.flow server o) ≡ true
+    → is_some (first_broken stage past clock may.label hop may.segment.flow server o) ≡ true
 plain_caused stage sound past clock k hop server verdict run later may plain None own fault = refl
 plain_caused stage sound past clock k hop server verdict run later may plain (Some a) own fault =
-    some_or_none (first_broken stage past clock may.label may.segment.flow server (Some a)) (λ unbroken.
+    some_or_none (first_broken stage past clock may.label hop may.segment.flow server (Some a)) (λ unbroken.
     both_ways _
-    (served_no_fault a hop server verdict
+    (served_no_fault a may.label.entry hop server verdict
     (safe stage sound past run clock k server later a hop verdict may plain own unbroken)) fault)
 
 cause_step : (stage : Stage) → IsSound stage → (past : List Event) (clock : ℕ) (what : What) → Run stage past

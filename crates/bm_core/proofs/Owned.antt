@@ -2,7 +2,7 @@
 use Rattle.std.proofs.Common.{◌≡◌, ℕ, ◌+◌, ◌<◌, ◌≤◌, Bool, true, false, cond, not, ◌&&◌, ◌||◌, ◌⊎◌, inl, inr, List, []}
 use Rattle.std.proofs.Common.{◌∷◌, Option, Some, None, is_some, length, refl, sym, ap, ◌∙◌, subst, arith, eqb, leb, ltb}
 use Rattle.std.proofs.Common.{if◌then◌else◌}
-use Rattle.std.proofs.lemmas.Bool.{cases_Bool, cases_eq, or_left, or_right, or_from, both_ways, leb-false, ltb-false}
+use Rattle.std.proofs.lemmas.Bool.{cases_Bool, cases_eq, cases_lt, or_left, or_right, or_from, both_ways, leb-false, ltb-false}
 use Rattle.std.proofs.lemmas.Bool.{eqb-true}
 use Rattle.std.proofs.lemmas.Bool.Decides.{nat_tests}
 use Rattle.std.proofs.lemmas.Option.{same_Some}
@@ -12,7 +12,10 @@ use Rattle.bm_base.specs.declared.flow.Segment.{Segment}
 use Rattle.bm_base.specs.declared.label.Entry.{Entry}
 use Rattle.bm_base.specs.declared.label.Label.{Label}
 use Rattle.bm_base.specs.declared.label.Hop.{Hop}
-use Rattle.bm_base.specs.declared.label.Hop.TheVariants.{Direct, Chained}
+use Rattle.bm_base.specs.declared.label.Hop.TheVariants.{Direct}
+use Rattle.bm_base.specs.declared.label.Past.{Past}
+use Rattle.bm_base.specs.Labels.{hop_number}
+use Rattle.bm_base.proofs.Hops.{hop_onward, onward_there, same_number}
 use Rattle.bm_core.specs.declared.events.Verdict.{Verdict}
 use Rattle.bm_core.specs.declared.events.Verdict.TheVariants.{Forward}
 use Rattle.bm_core.specs.declared.events.What.{What}
@@ -26,16 +29,18 @@ use Rattle.bm_core.specs.Past.{segment_of, is_of, bucket, shard, timeout, newest
 use Rattle.bm_core.specs.Past.{hop_after, sends, is_sent, Holding, after_arrival, is_done, retired, held_after, held}
 use Rattle.bm_core.specs.Past.{is_accept, Accepted, owner_after, owner}
 use Rattle.bm_base.specs.Labels.{arrives_at}
-use Rattle.bm_core.specs.Verdicts.{Onward, onward, local_at, verdict_of, verdict_at}
+use Rattle.bm_core.specs.Verdicts.{onward, local_at, verdict_of, verdict_at}
+use Rattle.bm_core.specs.Laws.{IsForwardedTo}
 use Rattle.bm_core.specs.Stages.{IsSound}
+use Rattle.std.specs.Option.{option_map_or}
 use Rattle.bm_core.specs.Runs.{last_clock, IsArrival, MayCome, Run}
-use Rattle.bm_table.proofs.Tables.{same_server-true, eq-same_server, same_entry, previous_entry}
-use Rattle.bm_core.specs.declared.events.Cause.TheVariants.{NotHeld, StaleMux, MovedTwice, ChainLate, SynElsewhere}
+use Rattle.bm_table.proofs.Tables.{same_server-true, eq-same_server, since, stands_back, no_older, IsVisit, visited}
+use Rattle.bm_core.specs.declared.events.Cause.TheVariants.{NotHeld, StaleMux, MovedThrice, ChainLate, SynElsewhere}
 use Rattle.bm_table.specs.Tables.{moves}
 use Rattle.bm_base.specs.Segments.{is_opening}
 use Rattle.bm_core.specs.Verdicts.{receiver_of}
 use Rattle.bm_core.specs.Causes.{is_holding, accepts_elsewhere, is_elsewhere, is_late, first_broken, is_process}
-use Rattle.bm_core.proofs.Pasts.{newest_within, IsLabel, label_is, sent_steered, IsAccepted, owner_is, retired_none}
+use Rattle.bm_core.proofs.Pasts.{newest_within, IsLabel, label_is, sent_before, sent_steered, IsAccepted, owner_is, retired_none}
 use Rattle.bm_core.proofs.Pasts.{retired_long, held_not_forwarded, arrival_sends, hop_before, steer_sends}
 
 -- HELD ELSEWHERE
@@ -204,62 +209,77 @@ unsent stage (e ∷ past) run k hop next s l a is stops onto home =
 
 -- SAFETY
 
+-- the copy comes no later than the timeout after its bucket left the server to which it may be passed on
+abbrev pub IsInTime : Stage → ℕ → Entry → Hop → Type 0
+IsInTime stage clock entry hop = (p : Past) → onward entry hop ≡ Some p → clock ≤ p.stamp.0 + timeout stage
+
 -- no premise is broken
-pub record IsUnbroken (stage : Stage) (past : List Event) (clock : ℕ) (l : Label) (f : Flow) (server : ServerId)
-    (a : Accepted) : Type 0 where
+pub record IsUnbroken (stage : Stage) (past : List Event) (clock : ℕ) (l : Label) (hop : Hop) (f : Flow)
+    (server : ServerId) (a : Accepted) : Type 0 where
   pub holding : is_holding (held stage past a.server f) a.place ≡ true
   pub fresh : a.version ≤ l.version.0
-  pub once : moves stage.script.plan (bucket stage f) a.version l.version.0 ≤ 1
-  pub in_time : (same_server server a.server ≡ true) ⊎ (clock ≤ l.entry.stamp.0 + timeout stage)
+  pub few : moves stage.script.plan (bucket stage f) a.version l.version.0 ≤ 2
+  pub in_time : (same_server server a.server ≡ true) ⊎ IsInTime stage clock l.entry hop
   pub alone : is_elsewhere stage past past f a.server ≡ false
 
-none_of_them : (holds stale twice late elsewhere : Bool)
-    → (if not holds then Some NotHeld else if stale then Some StaleMux else if twice then Some MovedTwice
+none_of_them : (holds stale thrice late elsewhere : Bool)
+    → (if not holds then Some NotHeld else if stale then Some StaleMux else if thrice then Some MovedThrice
     else if late then Some ChainLate else if elsewhere then Some SynElsewhere else None) ≡ None
-    → (holds ≡ true) × (stale ≡ false) × (twice ≡ false) × (late ≡ false) × (elsewhere ≡ false)
-none_of_them holds stale twice late elsewhere e = grind arith
+    → (holds ≡ true) × (stale ≡ false) × (thrice ≡ false) × (late ≡ false) × (elsewhere ≡ false)
+none_of_them holds stale thrice late elsewhere e = grind arith
 
-in_time_is : (same : Bool) (limit clock : ℕ) → (not same && ltb limit clock) ≡ false → (same ≡ true) ⊎ (clock ≤ limit)
-in_time_is same limit clock e = grind (arith, nat_tests)
+in_time_is : (timeout clock : ℕ) (same : Bool) (onto : Option Past)
+    → (not same && option_map_or (λ p. ltb (p.stamp.0 + timeout) clock) onto false) ≡ false
+    → (same ≡ true) ⊎ ((p : Past) → onto ≡ Some p → clock ≤ p.stamp.0 + timeout)
+in_time_is timeout clock true onto e = inl refl
+in_time_is timeout clock false None e = inr (λ p is. absurd (cc))
+in_time_is timeout clock false (Some q) e =
+    inr (λ p is. let same : q ≡ p = same_Some _ _ is
+    in subst (λ (x : Past). clock ≤ x.stamp.0 + timeout) same (ltb-false _ _ e))
 
-unbroken_is : (stage : Stage) (past : List Event) (clock : ℕ) (l : Label) (f : Flow) (server : ServerId) (a : Accepted)
-    → first_broken stage past clock l f server (Some a) ≡ None → IsUnbroken stage past clock l f server a
-unbroken_is stage past clock l f server a e =
+unbroken_is : (stage : Stage) (past : List Event) (clock : ℕ) (l : Label) (hop : Hop) (f : Flow) (server : ServerId)
+    (a : Accepted)
+    → first_broken stage past clock l hop f server (Some a) ≡ None → IsUnbroken stage past clock l hop f server a
+unbroken_is stage past clock l hop f server a e =
     let all = none_of_them (is_holding (held stage past a.server f) a.place)
     (ltb l.version.0 a.version)
-    (leb 2 (moves stage.script.plan (bucket stage f) a.version l.version.0))
-    (not (same_server server a.server) && is_late stage l clock)
+    (leb 3 (moves stage.script.plan (bucket stage f) a.version l.version.0))
+    (not (same_server server a.server) && is_late stage l hop clock)
     (is_elsewhere stage past past f a.server) e
     in record {
       holding = all.0;
       fresh = ltb-false _ _ all.1;
-      once = let t : moves stage.script.plan (bucket stage f) a.version l.version.0 < 2 =
+      few = let t : moves stage.script.plan (bucket stage f) a.version l.version.0 < 3 =
           leb-false _ _ all.2 in omega arith;
-      in_time = in_time_is (same_server server a.server) (l.entry.stamp.0 + timeout stage) clock all.3;
+      in_time = in_time_is (timeout stage) clock (same_server server a.server) (onward l.entry hop) all.3;
       alone = all.4;
     }
 
-pub data_held : (local : Local) (timeout clock : ℕ) (hop : Hop) (onto : Option Onward) (s : Segment)
+pub data_held : (local : Local) (timeout clock : ℕ) (hop : Hop) (onto : Option Past) (s : Segment)
     → local.retired ≡ false → is_some local.held ≡ true → is_opening s ≡ false
     → is_process (verdict_of local timeout clock hop onto s) ≡ true
 data_held local timeout clock hop onto s r h o = grind arith
 
-data_unknown : (local : Local) (timeout clock : ℕ) (o : Onward) (s : Segment) → local.retired ≡ false
-    → local.held ≡ None → is_opening s ≡ false → clock ≤ o.stamp + timeout
-    → verdict_of local timeout clock Direct (Some o) s ≡ Forward o.server
-data_unknown local timeout clock o s r h op c = grind (arith, nat_tests)
+data_unknown : (local : Local) (timeout clock : ℕ) (hop : Hop) (p : Past) (s : Segment) → local.retired ≡ false
+    → local.held ≡ None → is_opening s ≡ false → clock ≤ p.stamp.0 + timeout
+    → verdict_of local timeout clock hop (Some p) s ≡ Forward p.server
+data_unknown local timeout clock hop p s r h op c = grind (arith, nat_tests)
 
--- where no premise is broken, a copy is processed by its owner's server, or, where it is a direct one, forwarded to it
-abbrev pub IsServedBy : Accepted → Hop → ServerId → Verdict → Type 0
-IsServedBy a hop server verdict =
-    ((is_process verdict ≡ true) × (server ≡ a.server)) ⊎ ((hop ≡ Direct) × (verdict ≡ Forward a.server))
+since_is : (e : Entry) (p : Past) → e.prev ≡ Some p → since e ≡ p.stamp.0
+since_is e p is = rw is refl
+
+-- where no premise is broken, a copy is processed by its owner's server, or forwarded one step nearer to it
+abbrev pub IsServedBy : Accepted → Entry → Hop → ServerId → Verdict → Type 0
+IsServedBy a entry hop server verdict =
+    ((is_process verdict ≡ true) × (server ≡ a.server))
+    ⊎ ((server ≡ a.server → ⊥) × IsForwardedTo entry hop verdict a.server)
 
 module _ (stage : Stage) (sound : IsSound stage) (past : List Event) (run : Run stage past) (clock k : ℕ)
     (server : ServerId) (later : last_clock past ≤ clock) where
   at_home : (a : Accepted) (hop : Hop) (verdict : Verdict) (may : IsArrival stage past clock k hop server verdict)
       → is_opening may.segment ≡ false
       → is_holding (held stage past a.server may.segment.flow) a.place ≡ true → server ≡ a.server
-      → IsServedBy a hop server verdict
+      → is_process verdict ≡ true
   at_home a hop verdict may plain holding at =
       let holds : is_some (receiver_of (held stage past server may.segment.flow)) ≡ true =
       rw at (holding_some (held stage past a.server may.segment.flow) a.place holding)
@@ -267,13 +287,10 @@ module _ (stage : Stage) (sound : IsSound stage) (past : List Event) (run : Run 
       false_from_not _
       (λ ret. let none : held stage past server may.segment.flow ≡ None =
       retired_none stage past run server may.segment.flow ret in let bad : false ≡ true = rw none at holds in cc)
-      in inl (
-        rw may.verdict_is
-            (data_held (local_at stage past server may.segment.flow) (timeout stage) clock hop
-            (onward may.label.entry hop)
-            may.segment un holds plain),
-        at,
-      )
+      in rw may.verdict_is
+      (data_held (local_at stage past server may.segment.flow) (timeout stage) clock hop
+      (onward may.label.entry hop)
+      may.segment un holds plain)
 
   -- its bucket is one of the plan's
   inside : (f : Flow) → bucket stage f < stage.script.plan.buckets
@@ -291,17 +308,6 @@ module _ (stage : Stage) (sound : IsSound stage) (past : List Event) (run : Run 
         none_is None e = refl
         none_is (Some h) e = absurd (cc)
 
-  -- a retired shard's server had the bucket long ago
-  not_retired : (h v b : ℕ) → b < stage.script.plan.buckets → v ≤ newest past
-      → (table stage.script.plan v b).cur ≡ server
-      → clock ≤ (table stage.script.plan v b).stamp.0 + timeout stage → retired past server h ≡ false
-  not_retired h v b within published cur in_time =
-      let top : newest past ≤ length stage.script.plan.changes = newest_within stage past run
-      in false_from_not _ (λ ret.
-      let long = retired_long stage sound past run server h b within ret v (omega arith) cur
-      in let late : (table stage.script.plan v b).stamp.0 + timeout stage < last_clock past = long.1
-      in absurd (omega arith))
-
   -- its entry is that of its version
   entry_is : (hop : Hop) (verdict : Verdict) (may : IsArrival stage past clock k hop server verdict)
       → (may.label.version.0 ≤ newest past)
@@ -315,123 +321,142 @@ module _ (stage : Stage) (sound : IsSound stage) (past : List Event) (run : Run 
             ∙ ap (λ (x : Segment). table stage.script.plan may.label.version.0 (bucket stage x.flow)) same,
       )
 
-  -- the bucket was moved once, or not at all
-  pub moved_once : (a : Accepted) (hop : Hop) (verdict : Verdict)
-      (may : IsArrival stage past clock k hop server verdict)
-      → (table stage.script.plan a.version (bucket stage may.segment.flow)).cur ≡ a.server
-      → a.version ≤ may.label.version.0
-      → moves stage.script.plan (bucket stage may.segment.flow) a.version may.label.version.0 ≤ 1
-      → (may.label.entry.cur ≡ a.server) ⊎ (may.label.entry.prev ≡ Some a.server)
-  moved_once a hop verdict may home fresh most =
-      let b : ℕ = bucket stage may.segment.flow
-      in let v : ℕ = may.label.version.0
-      in let e = (entry_is hop verdict may).1
-      in elim (cases_eq (moves stage.script.plan (bucket stage may.segment.flow) a.version may.label.version.0) 0) [
-        | inl none ↦ inl
-            (ap (λ (x : Entry). x.cur)
-            (e ∙ same_entry stage.script.plan (bucket stage may.segment.flow) a.version may.label.version.0 fresh none)
-            ∙ home)
-        | inr some ↦
-            let one : moves stage.script.plan (bucket stage may.segment.flow) a.version may.label.version.0 ≡ 1 =
-            omega arith
-            in inr (ap (λ (x : Entry). x.prev) e
-            ∙ (previous_entry stage.script.plan (bucket stage may.segment.flow) a.version may.label.version.0 fresh one
-            ∙ ap (λ (x : ServerId). Some x) home))
-      ]
+  -- once the server had the bucket
+  visit : (hop : Hop) (verdict : Verdict) (may : IsArrival stage past clock k hop server verdict)
+      → IsVisit stage.script.plan (bucket stage may.segment.flow) may.label.version.0 may.label.entry hop server
+  visit hop verdict may =
+      let e = (entry_is hop verdict may).1
+      in subst
+      (λ (x : Entry). IsVisit stage.script.plan (bucket stage may.segment.flow) may.label.version.0 x hop server)
+      (sym e)
+      (visited stage.script.plan (bucket stage may.segment.flow) may.label.version.0 hop server
+      (ap (λ (x : Entry). arrives_at x hop) (sym e) ∙ may.place))
 
-  pub not_same : (a : Accepted) → same_server server a.server ≡ false → server ≡ a.server → ⊥
-  not_same a other at = both_ways _ other (eq-same_server server a.server at)
-
-  pub away_direct : (a : Accepted) (verdict : Verdict) (may : IsArrival stage past clock k Direct server verdict)
-      → is_opening may.segment ≡ false
-      → (table stage.script.plan a.version (bucket stage may.segment.flow)).cur ≡ a.server
-      → a.version ≤ may.label.version.0
-      → moves stage.script.plan (bucket stage may.segment.flow) a.version may.label.version.0 ≤ 1
-      → held stage past server may.segment.flow ≡ None → same_server server a.server ≡ false
-      → clock ≤ may.label.entry.stamp.0 + timeout stage → verdict ≡ Forward a.server
-  away_direct a verdict may plain home fresh once none other in_time =
-      let e = entry_is Direct verdict may
-      in let cur : may.label.entry.cur ≡ server = same_Some _ _ may.place
-      in elim (moved_once a Direct verdict may home fresh once) [
-        | inl here ↦ absurd (not_same a other (sym cur ∙ here))
-        | inr before ↦
-            let cur' : (table stage.script.plan may.label.version.0 (bucket stage may.segment.flow)).cur ≡ server =
-            sym (ap (λ (x : Entry). x.cur) e.1) ∙ cur
-            in let in_time' :
-            clock ≤ (table stage.script.plan may.label.version.0 (bucket stage may.segment.flow)).stamp.0 + timeout
-            stage =
-            subst (λ (x : Entry). clock ≤ x.stamp.0 + timeout stage) e.1 in_time
-            in let ret =
-            not_retired (shard stage may.segment.flow) may.label.version.0 (bucket stage may.segment.flow)
-            (inside may.segment.flow) e.0 cur' in_time'
-            in let none' : receiver_of (held stage past server may.segment.flow) ≡ None = rw none refl
-            in let onto : onward may.label.entry Direct
-            ≡ Some (record { server = a.server; stamp = may.label.entry.stamp.0 }) = rw before refl
-            in may.verdict_is
-            ∙ rw onto
-            (data_unknown (local_at stage past server may.segment.flow) (timeout stage) clock
-            (record { server = a.server; stamp = may.label.entry.stamp.0 }) may.segment ret none' plain in_time)
-      ]
-
-  away_chained : (a : Accepted) (verdict : Verdict) (may : IsArrival stage past clock k Chained server verdict)
-      → owner stage past k ≡ Some a
-      → IsAccepted stage past may.segment.flow a → IsUnbroken stage past clock may.label may.segment.flow server a
-      → same_server server a.server ≡ false → ⊥
-  away_chained a verdict may own acc un other =
-      elim (moved_once a Chained verdict may acc.server un.fresh un.once) [
-        | inl here ↦ both_ways _
-            (unsent stage past run k Direct Chained may.segment may.label a may.is_segment
-            (ap (λ (x : ServerId). Some x) here) refl
-            (record { label = may.is_label; owner = own; holding = un.holding })) may.sent
-        | inr before ↦ not_same a other (same_Some _ _ (sym may.place ∙ before))
-      ]
-
-  -- where no premise is broken, a copy is processed by its owner's server, or, where it is a direct one, forwarded to
-  -- it
-  pub safe : (a : Accepted) (hop : Hop) (verdict : Verdict) (may : IsArrival stage past clock k hop server verdict)
-      → is_opening may.segment ≡ false → owner stage past k ≡ Some a
-      → first_broken stage past clock may.label may.segment.flow server (Some a) ≡ None
-      → IsServedBy a hop server verdict
-  safe a hop verdict may plain own e =
-      let un = unbroken_is stage past clock may.label may.segment.flow server a e
-      in let acc = owner_is stage past run k may.segment a may.is_segment own
-      in elim (cases_Bool (same_server server a.server)) [
-        | inl same ↦ at_home a hop verdict may plain un.holding (same_server-true server a.server same)
-        | inr other ↦ elim un.in_time [
-          | inl same ↦ absurd (both_ways _ other same)
-          | inr in_time ↦ away hop verdict may plain own acc un other in_time
-        ]
-      ] where
-        away : (hop : Hop) (verdict : Verdict) (may : IsArrival stage past clock k hop server verdict)
-            → is_opening may.segment ≡ false → owner stage past k ≡ Some a
-            → IsAccepted stage past may.segment.flow a → IsUnbroken stage past clock may.label may.segment.flow server a
-            → same_server server a.server ≡ false → clock ≤ may.label.entry.stamp.0 + timeout stage
-            → IsServedBy a hop server verdict
-        away Direct verdict may plain own acc un other in_time =
-            inr (
-              refl,
-              away_direct a verdict may plain acc.server un.fresh un.once
-                  (not_held a may.segment.flow other un.alone) other in_time,
-            )
-        away Chained verdict may plain own acc un other in_time = absurd (away_chained a verdict may own acc un other)
-
-  -- where its shard is retired, a packet that arrives directly is labelled by an older version than the newest, and
-  -- comes late
-  pub late : (verdict : Verdict) (may : IsArrival stage past clock k Direct server verdict)
+  -- where its shard is retired, what might go on comes late
+  pub late : (hop : Hop) (verdict : Verdict) (may : IsArrival stage past clock k hop server verdict)
       → retired past server (shard stage may.segment.flow) ≡ true
-      → (may.label.version.0 < newest past) × (may.label.entry.stamp.0 + timeout stage < clock)
-  late verdict may ret =
+      → (p : Past) → onward may.label.entry hop ≡ Some p → p.stamp.0 + timeout stage < clock
+  late hop verdict may ret p onto =
+      let v = visit hop verdict may
+      in let top : newest past ≤ length stage.script.plan.changes = newest_within stage past run
+      in let old : may.label.version.0 ≤ newest past = (entry_is hop verdict may).0
+      in let earlier : v.version ≤ may.label.version.0 = v.earlier
+      in let long =
+      retired_long stage sound past run server (shard stage may.segment.flow) (bucket stage may.segment.flow)
+      (inside may.segment.flow) ret v.version (omega arith) v.cur
+      in let past_it : since (table stage.script.plan v.version (bucket stage may.segment.flow)) + timeout stage
+      < last_clock past = long.1
+      in let stamp : since (table stage.script.plan v.version (bucket stage may.segment.flow)) ≡ p.stamp.0 =
+      since_is (table stage.script.plan v.version (bucket stage may.segment.flow)) p (v.onto p onto)
+      in omega arith
+
+  -- and a direct copy is labelled by an older version than the newest
+  pub outdated : (verdict : Verdict) (may : IsArrival stage past clock k Direct server verdict)
+      → retired past server (shard stage may.segment.flow) ≡ true → may.label.version.0 < newest past
+  outdated verdict may ret =
       let e = entry_is Direct verdict may
       in let top : newest past ≤ length stage.script.plan.changes = newest_within stage past run
       in let old : may.label.version.0 ≤ newest past = e.0
       in let cur : (table stage.script.plan may.label.version.0 (bucket stage may.segment.flow)).cur ≡ server =
       sym (ap (λ (x : Entry). x.cur) e.1) ∙ same_Some _ _ may.place
-      in let long =
-      retired_long stage sound past run server (shard stage may.segment.flow) (bucket stage may.segment.flow)
-      (inside may.segment.flow) ret may.label.version.0 (omega arith) cur
-      in let stamp : may.label.entry.stamp.0
-      ≡ (table stage.script.plan may.label.version.0 (bucket stage may.segment.flow)).stamp.0 =
-      ap (λ (x : Entry). x.stamp.0) e.1
-      in let past_it : (table stage.script.plan may.label.version.0 (bucket stage may.segment.flow)).stamp.0 + timeout
-      stage < last_clock past = long.1
-      in (long.0, omega arith)
+      in (retired_long stage sound past run server (shard stage may.segment.flow) (bucket stage may.segment.flow)
+      (inside may.segment.flow) ret may.label.version.0 (omega arith) cur).0
+
+  -- what isn't held, and comes in time, goes on
+  pub goes_on : (hop : Hop) (verdict : Verdict) (may : IsArrival stage past clock k hop server verdict)
+      → is_opening may.segment ≡ false → held stage past server may.segment.flow ≡ None
+      → IsInTime stage clock may.label.entry hop
+      → (p : Past) → onward may.label.entry hop ≡ Some p → verdict ≡ Forward p.server
+  goes_on hop verdict may plain none in_time p onto =
+      let time : clock ≤ p.stamp.0 + timeout stage = in_time p onto
+      in let ret : retired past server (shard stage may.segment.flow) ≡ false =
+      false_from_not _
+      (λ r. let l : p.stamp.0 + timeout stage < clock = late hop verdict may r p onto in absurd (omega arith))
+      in let none' : receiver_of (held stage past server may.segment.flow) ≡ None = rw none refl
+      in may.verdict_is
+      ∙ rw onto
+      (data_unknown (local_at stage past server may.segment.flow) (timeout stage) clock hop p may.segment ret none'
+      plain time)
+
+  -- its owner's server is where a copy of the hop arrives that goes back as often as the bucket moved
+  pub home_is : (a : Accepted) (hop : Hop) (verdict : Verdict)
+      (may : IsArrival stage past clock k hop server verdict)
+      → (table stage.script.plan a.version (bucket stage may.segment.flow)).cur ≡ a.server
+      → a.version ≤ may.label.version.0
+      → moves stage.script.plan (bucket stage may.segment.flow) a.version may.label.version.0 ≤ 2
+      → (home : Hop)
+      × (hop_number home ≡ moves stage.script.plan (bucket stage may.segment.flow) a.version may.label.version.0)
+      × (arrives_at may.label.entry home ≡ Some a.server)
+  home_is a hop verdict may home fresh few =
+      let e = (entry_is hop verdict may).1
+      in let back = stands_back stage.script.plan (bucket stage may.segment.flow) a.version may.label.version.0 fresh few
+      in (
+        back.0,
+        back.1,
+        ap (λ (x : Entry). arrives_at x back.0) e ∙ (back.2 ∙ ap (λ (x : ServerId). Some x) home),
+      )
+
+  -- a copy of a hop before that one may go on
+  pub has_onward : (a : Accepted) (hop home : Hop) (verdict : Verdict)
+      (may : IsArrival stage past clock k hop server verdict)
+      → arrives_at may.label.entry home ≡ Some a.server → hop_number hop < hop_number home
+      → (p : Past) × (onward may.label.entry hop ≡ Some p)
+  has_onward a hop home verdict may at less =
+      let e = (entry_is hop verdict may).1
+      in onward_there may.label.entry hop home a.server
+      (subst (λ (x : Entry). x.prev ≡ None → x.older ≡ None) (sym e)
+      (no_older stage.script.plan (bucket stage may.segment.flow) may.label.version.0)) less at
+
+  pub not_same : (a : Accepted) → same_server server a.server ≡ false → server ≡ a.server → ⊥
+  not_same a other at = both_ways _ other (eq-same_server server a.server at)
+
+  -- away from it, no copy of that hop arrives, and none of a later hop, where it isn't sent on from there
+  pub is_before : (a : Accepted) (hop home : Hop) (verdict : Verdict)
+      (may : IsArrival stage past clock k hop server verdict)
+      → arrives_at may.label.entry home ≡ Some a.server → (server ≡ a.server → ⊥)
+      → ((next : Hop) → hop_after home ≡ Some next → is_sent past k next ≡ false)
+      → hop_number hop < hop_number home
+  is_before a hop home verdict may at other unsent = elim (cases_lt (hop_number hop) (hop_number home)) [
+    | inl less ↦ less
+    | inr behind ↦ elim (cases_eq (hop_number home) (hop_number hop)) [
+      | inl same ↦
+          let one : home ≡ hop = same_number home hop same
+          in absurd (other
+          (same_Some _ _ (sym may.place ∙ (ap (λ (h : Hop). arrives_at may.label.entry h) (sym one) ∙ at))))
+      | inr apart ↦
+          let next = hop_onward home hop (omega arith)
+          in absurd (both_ways _ (unsent next.0 next.1) (sent_before stage past run k next.0 hop next.2 may.sent))
+    ]
+  ]
+
+  -- where no premise is broken, a copy is processed by its owner's server, or forwarded one step nearer to it
+  pub safe : (a : Accepted) (hop : Hop) (verdict : Verdict) (may : IsArrival stage past clock k hop server verdict)
+      → is_opening may.segment ≡ false → owner stage past k ≡ Some a
+      → first_broken stage past clock may.label hop may.segment.flow server (Some a) ≡ None
+      → IsServedBy a may.label.entry hop server verdict
+  safe a hop verdict may plain own e =
+      let un = unbroken_is stage past clock may.label hop may.segment.flow server a e
+      in let acc = owner_is stage past run k may.segment a may.is_segment own
+      in elim (cases_Bool (same_server server a.server)) [
+        | inl same ↦
+            let at = same_server-true server a.server same in inl (at_home a hop verdict may plain un.holding at, at)
+        | inr other ↦ elim un.in_time [
+          | inl same ↦ absurd (both_ways _ other same)
+          | inr in_time ↦ inr (not_same a other, away un acc other in_time)
+        ]
+      ] where
+        away : IsUnbroken stage past clock may.label hop may.segment.flow server a
+            → IsAccepted stage past may.segment.flow a → same_server server a.server ≡ false
+            → IsInTime stage clock may.label.entry hop → IsForwardedTo may.label.entry hop verdict a.server
+        away un acc other in_time =
+            let home = home_is a hop verdict may acc.server un.fresh un.few
+            in let less =
+            is_before a hop home.0 verdict may home.2 (not_same a other)
+            (λ next after. unsent stage past run k home.0 next may.segment may.label a may.is_segment home.2 after
+            (record { label = may.is_label; owner = own; holding = un.holding }))
+            in let p = has_onward a hop home.0 verdict may home.2 less
+            in (
+              rw p.1
+                  (goes_on hop verdict may plain (not_held a may.segment.flow other un.alone) in_time p.0 p.1),
+              (home.0, less, home.2),
+            )

@@ -37,7 +37,7 @@ use Rattle.bm_core.proofs.Schedules.{Each, each_append, each_dropped, least_is}
 abbrev pub latest_moment : ℕ
 latest_moment = 45 * 10 ^ 17
 
--- the clocks are no higher than this after so many events
+-- the clocks after n events are at most this
 abbrev pub clock_bound : ℕ → ℕ
 clock_bound n = latest_moment + n * 60000000001
 

@@ -1,7 +1,7 @@
 -- What holds of each run: versions, labels, sendings, owners, and what a retired shard holds.
-use Rattle.std.proofs.Common.{◌≡◌, ℕ, ◌+◌, ◌<◌, ◌≤◌, Bool, true, false, cond, ◌&&◌, ◌||◌, inl, inr, List, [], ◌∷◌}
+use Rattle.std.proofs.Common.{◌≡◌, ℕ, suc, ◌+◌, ◌<◌, ◌≤◌, Bool, true, false, cond, ◌&&◌, ◌||◌, inl, inr, List, [], ◌∷◌}
 use Rattle.std.proofs.Common.{Option, Some, None, is_some, length, refl, sym, ap, ◌∙◌, subst, arith, eqb}
-use Rattle.std.proofs.lemmas.Bool.{cases_Bool, and_parts, or_cases, or_right, eqb-true}
+use Rattle.std.proofs.lemmas.Bool.{cases_Bool, cases_eq, and_parts, or_cases, or_left, or_right, eqb-true}
 use Rattle.std.proofs.lemmas.Bool.Decides.{nat_tests}
 use Rattle.std.proofs.lemmas.Option.{same_Some}
 use Rattle.bm_base.specs.declared.ids.ServerId.{ServerId}
@@ -11,7 +11,8 @@ use Rattle.bm_base.specs.declared.flow.Segment.{Segment}
 use Rattle.bm_base.specs.declared.label.Entry.{Entry}
 use Rattle.bm_base.specs.declared.label.Label.{Label}
 use Rattle.bm_base.specs.declared.label.Hop.{Hop}
-use Rattle.bm_base.specs.declared.label.Hop.TheVariants.{Direct, Chained}
+use Rattle.bm_base.specs.declared.label.Past.{Past}
+use Rattle.bm_base.specs.declared.label.Hop.TheVariants.{Direct, Chained, Twice}
 use Rattle.bm_table.specs.declared.plan.Retirement.{Retirement}
 use Rattle.bm_table.specs.declared.plan.Retirement.TheVariants.{Done, NotDrained, TooEarly}
 use Rattle.bm_core.specs.declared.events.Verdict.{Verdict}
@@ -28,11 +29,12 @@ use Rattle.bm_core.specs.Past.{segment_of, is_of, bucket, shard, timeout, publis
 use Rattle.bm_core.specs.Past.{labelled, label_after, label_of, version_of, is_forward, hop_after, is_direct, sends}
 use Rattle.bm_core.specs.Past.{is_sent, Holding, after_verdict, after_arrival, is_done, retires, retired, held_after}
 use Rattle.bm_core.specs.Past.{held, is_accept, Accepted, accept_after, accept_of, accept_before, owner_after, owner}
-use Rattle.bm_base.specs.Labels.{arrives_at}
-use Rattle.bm_core.specs.Verdicts.{Onward, onward, local_at, verdict_of, verdict_at}
+use Rattle.bm_base.specs.Labels.{arrives_at, hop_number}
+use Rattle.bm_base.proofs.Hops.{next_number, same_number}
+use Rattle.bm_core.specs.Verdicts.{onward, local_at, verdict_of, verdict_at}
 use Rattle.bm_core.specs.Stages.{IsSound}
 use Rattle.bm_core.specs.Runs.{last_clock, IsArrival, MayCome, IsStep, Run}
-use Rattle.bm_table.proofs.Tables.{same_server-true, retirement_late}
+use Rattle.bm_table.proofs.Tables.{same_server-true, since, retirement_late}
 
 pub same_flow-true : (a b : Flow) → same_flow a b ≡ true → a ≡ b
 same_flow-true a b h = grind (arith, nat_tests, and_parts)
@@ -201,32 +203,55 @@ pub steer_sends : (packet k : ℕ) (m : MuxId) (hop next : Hop) → hop_after ho
     → sends (Steer packet m) k next ≡ false
 steer_sends packet k m hop next h = grind (arith, nat_tests)
 
-sent_steered_step : (stage : Stage) (past : List Event) (clock k : ℕ) (hop : Hop) (what : What)
-    → MayCome stage past clock what → ((h : Hop) → is_sent past k h ≡ true → is_sent past k Direct ≡ true)
-    → (sends what k hop || is_sent past k hop) ≡ true → (sends what k Direct || is_sent past k Direct) ≡ true
-sent_steered_step stage past clock k hop (Steer packet m) may old t =
-    elim (cases_Bool (eqb packet k)) [ inl same ↦ rw same refl | inr other ↦ rw other (old hop (rw other at t)) ]
-sent_steered_step stage past clock k hop (Arrive packet came server verdict) may old t =
-    or_right (sends (Arrive packet came server verdict) k Direct) _
-    (elim (or_cases (sends (Arrive packet came server verdict) k hop) _ t) [
+steer_direct : (packet k : ℕ) (m : MuxId) (hop : Hop) → sends (Steer packet m) k hop ≡ true → hop ≡ Direct
+steer_direct packet k m hop e = grind (arith, nat_tests)
+
+sent_before_step : (stage : Stage) (past : List Event) (clock k : ℕ) (earlier hop : Hop) (what : What)
+    → MayCome stage past clock what → hop_number earlier ≤ hop_number hop
+    → ((h : Hop) → hop_number earlier ≤ hop_number h → is_sent past k h ≡ true → is_sent past k earlier ≡ true)
+    → (sends what k hop || is_sent past k hop) ≡ true → (sends what k earlier || is_sent past k earlier) ≡ true
+sent_before_step stage past clock k earlier hop (Steer packet m) may order old t =
+    elim (or_cases (sends (Steer packet m) k hop) _ t) [
+      | inl now ↦
+          let direct : hop ≡ Direct = steer_direct packet k m hop now
+          in let first : hop_number hop ≡ 0 = ap hop_number direct
+          in let same : earlier ≡ hop = same_number earlier hop (omega arith)
+          in or_left _ _ (subst (λ (h : Hop). sends (Steer packet m) k h ≡ true) (sym same) now)
+      | inr before ↦ or_right (sends (Steer packet m) k earlier) _ (old hop order before)
+    ]
+sent_before_step stage past clock k earlier hop (Arrive packet came server verdict) may order old t =
+    elim (or_cases (sends (Arrive packet came server verdict) k hop) _ t) [
       | inl now ↦
           let parts = arrival_sends packet k came hop server verdict now
-          in old came (subst (λ (n : ℕ). is_sent past n came ≡ true) parts.0 may.sent)
-      | inr before ↦ old hop before
-    ])
-sent_steered_step stage past clock k hop (Publish v) may old t = old hop t
-sent_steered_step stage past clock k hop (Switch y v) may old t = old hop t
-sent_steered_step stage past clock k hop (Lose packet came) may old t = old hop t
-sent_steered_step stage past clock k hop (Close server flow closed) may old t = old hop t
-sent_steered_step stage past clock k hop (Retire server y at result) may old t = old hop t
-sent_steered_step stage past clock k hop Sync may old t = old hop t
+          in let next : hop_number hop ≡ suc (hop_number came) = next_number came hop parts.2
+          in elim (cases_eq (hop_number earlier) (hop_number hop)) [
+            | inl last ↦
+                let same : earlier ≡ hop = same_number earlier hop last
+                in or_left _ _
+                (subst (λ (h : Hop). sends (Arrive packet came server verdict) k h ≡ true) (sym same) now)
+            | inr less ↦ or_right (sends (Arrive packet came server verdict) k earlier) _
+                (old came (omega arith) (subst (λ (n : ℕ). is_sent past n came ≡ true) parts.0 may.sent))
+          ]
+      | inr before ↦ or_right (sends (Arrive packet came server verdict) k earlier) _ (old hop order before)
+    ]
+sent_before_step stage past clock k earlier hop (Publish v) may order old t = old hop order t
+sent_before_step stage past clock k earlier hop (Switch y v) may order old t = old hop order t
+sent_before_step stage past clock k earlier hop (Lose packet came) may order old t = old hop order t
+sent_before_step stage past clock k earlier hop (Close server flow closed) may order old t = old hop order t
+sent_before_step stage past clock k earlier hop (Retire server y at result) may order old t = old hop order t
+sent_before_step stage past clock k earlier hop Sync may order old t = old hop order t
 
--- a packet that was sent on any hop was steered
+-- a packet that was sent on a hop was sent on each hop before it
+pub sent_before : (stage : Stage) (past : List Event) → Run stage past → (k : ℕ) (earlier hop : Hop)
+    → hop_number earlier ≤ hop_number hop → is_sent past k hop ≡ true → is_sent past k earlier ≡ true
+sent_before stage [] run k earlier hop order e = absurd (cc)
+sent_before stage (x ∷ past) run k earlier hop order e =
+    sent_before_step stage past x.clock.0 k earlier hop x.what run.0.may order (sent_before stage past run.1 k earlier) e
+
+-- so it was steered
 pub sent_steered : (stage : Stage) (past : List Event) → Run stage past → (k : ℕ) (hop : Hop)
     → is_sent past k hop ≡ true → is_sent past k Direct ≡ true
-sent_steered stage [] run k hop e = absurd (cc)
-sent_steered stage (x ∷ past) run k hop e =
-    sent_steered_step stage past x.clock.0 k hop x.what run.0.may (sent_steered stage past run.1 k) e
+sent_steered stage past run k hop e = sent_before stage past run k Direct hop (omega arith) e
 
 -- OWNERS
 
@@ -235,8 +260,9 @@ accept_direct : (hop : Hop) (entry : Entry) (server : ServerId) → is_direct ho
     → arrives_at entry hop ≡ Some server → entry.cur ≡ server
 accept_direct Direct entry server d e = cc
 accept_direct Chained entry server d e = absurd (cc)
+accept_direct Twice entry server d e = absurd (cc)
 
-accepted_direct : (local : Local) (timeout clock : ℕ) (hop : Hop) (onto : Option Onward) (s : Segment)
+accepted_direct : (local : Local) (timeout clock : ℕ) (hop : Hop) (onto : Option Past) (s : Segment)
     → is_accept (verdict_of local timeout clock hop onto s) ≡ true → (is_direct hop ≡ true) × (local.retired ≡ false)
 accepted_direct local timeout clock hop onto s e = grind arith
 
@@ -350,11 +376,11 @@ owner_is stage (x ∷ past) run k s a is e =
 -- RETIRED SHARDS
 
 -- a packet that finds its shard retired, or its flow held, isn't forwarded, and a retired shard accepts nothing
-pub retired_not_accepted : (local : Local) (timeout clock : ℕ) (hop : Hop) (onto : Option Onward) (s : Segment)
+pub retired_not_accepted : (local : Local) (timeout clock : ℕ) (hop : Hop) (onto : Option Past) (s : Segment)
     → local.retired ≡ true → verdict_of local timeout clock hop onto s ≡ Drop Retired
 retired_not_accepted local timeout clock hop onto s e = rw e refl
 
-pub held_not_forwarded : (local : Local) (timeout clock : ℕ) (hop : Hop) (onto : Option Onward) (s : Segment)
+pub held_not_forwarded : (local : Local) (timeout clock : ℕ) (hop : Hop) (onto : Option Past) (s : Segment)
     → is_some local.held ≡ true → is_forward (verdict_of local timeout clock hop onto s) ≡ false
 held_not_forwarded local timeout clock hop onto s e = grind arith
 
@@ -427,7 +453,7 @@ done_is (TooEarly b) e = absurd (cc)
 abbrev pub IsLong : Stage → ℕ → ServerId → ℕ → ℕ → Type 0
 IsLong stage clock s newest b =
     (v : ℕ) → v ≤ length stage.script.plan.changes → (table stage.script.plan v b).cur ≡ s → (v < newest)
-    × ((table stage.script.plan v b).stamp.0 + timeout stage < clock)
+    × (since (table stage.script.plan v b) + timeout stage < clock)
 
 long_later : (stage : Stage) (clock later : ℕ) (s : ServerId) (newest more b : ℕ) → clock ≤ later → newest ≤ more
     → IsLong stage clock s newest b → IsLong stage later s more b

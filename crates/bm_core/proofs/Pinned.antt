@@ -1,7 +1,7 @@
 -- A connection whose premises hold throughout is served by the server that accepted it.
 use Rattle.std.proofs.Common.{◌≡◌, ℕ, ◌+◌, ◌≤◌, Bool, true, false, cond, ◌&&◌, ◌||◌, ◌⊎◌, inl, inr, List, [], ◌∷◌}
 use Rattle.std.proofs.Common.{Option, Some, None, is_some, length, refl, sym, ap, ◌∙◌, subst, arith, eqb}
-use Rattle.std.specs.Prelude.{◌≢◌}
+use Rattle.std.specs.Prelude.{◌≢◌, ◌<◌, IfSome}
 use Rattle.std.proofs.lemmas.Bool.{cases_Bool, and_parts, or_from, both_ways, eqb-true}
 use Rattle.std.proofs.lemmas.Option.{same_Some}
 use Rattle.bm_base.specs.declared.ids.ServerId.{ServerId}
@@ -9,7 +9,10 @@ use Rattle.bm_base.specs.declared.flow.Flow.{Flow}
 use Rattle.bm_base.specs.declared.flow.Segment.{Segment}
 use Rattle.bm_base.specs.declared.label.Label.{Label}
 use Rattle.bm_base.specs.declared.label.Hop.{Hop}
-use Rattle.bm_base.specs.declared.label.Hop.TheVariants.{Direct, Chained}
+use Rattle.bm_base.specs.declared.label.Hop.TheVariants.{Direct, Chained, Twice}
+use Rattle.bm_base.specs.declared.label.Past.{Past}
+use Rattle.bm_base.specs.Labels.{hop_number}
+use Rattle.bm_base.proofs.Hops.{has_past}
 use Rattle.bm_core.specs.declared.events.Verdict.{Verdict}
 use Rattle.bm_core.specs.declared.events.Verdict.TheVariants.{Forward}
 use Rattle.bm_core.specs.declared.events.What.{What}
@@ -21,8 +24,8 @@ use Rattle.bm_table.specs.Tables.{same_server, table}
 use Rattle.bm_base.specs.Segments.{same_flow, RST}
 use Rattle.bm_core.specs.Past.{segment_of, is_of, bucket, shard, timeout, label_after, label_of, is_forward, sends}
 use Rattle.bm_core.specs.Past.{is_sent, Holding, after_arrival, is_done, retired, held_after, held, is_accept, Accepted}
-use Rattle.bm_base.specs.Labels.{arrives_at}
-use Rattle.bm_core.specs.Verdicts.{Onward, onward, local_at, verdict_of, verdict_at}
+use Rattle.bm_base.specs.Labels.{arrives_at, hop_after}
+use Rattle.bm_core.specs.Verdicts.{onward, local_at, verdict_of, verdict_at}
 use Rattle.bm_core.specs.Stages.{IsSound}
 use Rattle.bm_core.specs.Runs.{last_clock, IsArrival, MayCome, Run}
 use Rattle.bm_table.proofs.Tables.{same_server-true, eq-same_server}
@@ -42,7 +45,7 @@ use Rattle.bm_table.specs.Tables.{moves, table}
 use Rattle.bm_core.specs.Past.{bucket, timeout, shard, is_forward}
 use Rattle.bm_core.specs.Pins.{Each, IsPinnedArrival, IsPinnedEvent, IsPinned, IsKeptTo, IsKeptArrival}
 use Rattle.bm_core.proofs.Pasts.{none_stays, none_unless}
-use Rattle.bm_core.proofs.Owned.{false_from_not, data_held, moved_once, away_direct, not_same}
+use Rattle.bm_core.proofs.Owned.{false_from_not, data_held, home_is, is_before, goes_on, not_same}
 
 -- ELSEWHERE
 
@@ -86,7 +89,7 @@ ended_is_rst : (r : Receiver) (s : Segment) → taken r s ≡ Ended → has_flag
 unfolding taken
 ended_is_rst r s e = grind arith
 
-process_ended : (local : Local) (timeout clock : ℕ) (hop : Hop) (onto : Option Onward) (s : Segment) (verdict : Verdict)
+process_ended : (local : Local) (timeout clock : ℕ) (hop : Hop) (onto : Option Past) (s : Segment) (verdict : Verdict)
     → verdict ≡ verdict_of local timeout clock hop onto s → ends verdict ≡ true → has_flag RST s ≡ true
 process_ended local timeout clock hop onto s verdict is e = grind (arith, ended_is_rst)
 
@@ -203,25 +206,25 @@ some_receiver None e = absurd (cc)
 some_receiver (Some h) e = refl
 
 not_forwarded_home : (stage : Stage) (f : Flow) (packet : ℕ) (a : Accepted) (past : List Event) (clock k j : ℕ)
-    (hop : Hop) (server : ServerId) (verdict : Verdict) (s : Segment) (l : Label)
+    (hop home next : Hop) (server : ServerId) (verdict : Verdict) (s : Segment) (l : Label)
     → HasNoRst stage f → Run stage past → Each (IsPinnedEvent stage f packet a) past
     → IsPinnedEvent stage f packet a past clock (Arrive j hop server verdict)
     → IsArrival stage past clock j hop server verdict
-    → segment_of stage k ≡ Some s → s.flow ≡ f → k ≢ packet → label_of stage past k ≡ Some l → l.entry.cur ≡ a.server
-    → sends (Arrive j hop server verdict) k Chained ≡ true → ⊥
-not_forwarded_home stage f packet a past clock k j hop server verdict s l quiet run pins pin may is flow other lab cur
-    e =
-    let parts = arrival_sends j k hop Chained server verdict e
+    → segment_of stage k ≡ Some s → s.flow ≡ f → k ≢ packet → label_of stage past k ≡ Some l → arrives_at l.entry home ≡ Some a.server → hop_after home ≡ Some next
+    → sends (Arrive j hop server verdict) k next ≡ true → ⊥
+not_forwarded_home stage f packet a past clock k j hop home next server verdict s l quiet run pins pin may is flow other
+    lab cur onto e =
+    let parts = arrival_sends j k hop next server verdict e
     in let eq : j ≡ k = parts.0
-    in let direct : hop ≡ Direct = hop_before Direct hop Chained refl parts.2
+    in let same : hop ≡ home = hop_before home hop next onto parts.2
     in let seg : may.segment ≡ s = same_Some _ _ (sym may.is_segment ∙ ap (λ (n : ℕ). segment_of stage n) eq ∙ is)
     in let flow' : may.segment.flow ≡ f = ap (λ (y : Segment). y.flow) seg ∙ flow
     in let label : may.label ≡ l = same_Some _ _ (sym may.is_label ∙ ap (λ (n : ℕ). label_of stage past n) eq ∙ lab)
     in let at : server ≡ a.server =
     same_Some _ _
     (sym may.place
-    ∙ (ap (λ (x : Hop). arrives_at may.label.entry x) direct
-    ∙ (ap (λ (x : Label). Some x.entry.cur) label ∙ ap (λ (x : ServerId). Some x) cur)))
+    ∙ (ap (λ (x : Hop). arrives_at may.label.entry x) same
+    ∙ (ap (λ (x : Label). arrives_at x.entry home) label ∙ cur)))
     in let after : accept_of stage past f ≡ Some a =
     (pinned_arrival stage f packet a past clock j hop server verdict may.segment may.is_segment flow' pin).after
     (subst (λ (n : ℕ). n ≢ packet) (sym eq) other) at
@@ -236,50 +239,50 @@ not_forwarded_home stage f packet a past clock k j hop server verdict s l quiet 
     in cc
 
 unsent_home_step : (stage : Stage) (f : Flow) (packet : ℕ) (a : Accepted) (past : List Event) (clock k : ℕ)
-    (s : Segment) (l : Label) (what : What)
+    (home next : Hop) (s : Segment) (l : Label) (what : What)
     → HasNoRst stage f → Run stage past → Each (IsPinnedEvent stage f packet a) past
     → IsPinnedEvent stage f packet a past clock what → MayCome stage past clock what
     → segment_of stage k ≡ Some s → s.flow ≡ f → k ≢ packet
-    → label_after stage past what k (label_of stage past k) ≡ Some l → l.entry.cur ≡ a.server
-    → (label_of stage past k ≡ Some l → is_sent past k Chained ≡ false)
-    → (sends what k Chained || is_sent past k Chained) ≡ false
-unsent_home_step stage f packet a past clock k s l (Steer j m) quiet run pins pin may is flow other lab cur old =
-    or_from _ _ (steer_sends j k m Direct Chained refl) (elim (cases_Bool (eqb j k)) [
+    → label_after stage past what k (label_of stage past k) ≡ Some l → arrives_at l.entry home ≡ Some a.server → hop_after home ≡ Some next
+    → (label_of stage past k ≡ Some l → is_sent past k next ≡ false)
+    → (sends what k next || is_sent past k next) ≡ false
+unsent_home_step stage f packet a past clock k home next s l (Steer j m) quiet run pins pin may is flow other lab cur onto old =
+    or_from _ _ (steer_sends j k m home next onto) (elim (cases_Bool (eqb j k)) [
       | inl same ↦
           let eq : j ≡ k = eqb-true j k same
           in let un : is_sent past k Direct ≡ false = subst (λ (n : ℕ). is_sent past n Direct ≡ false) eq may.1
-          in false_from_not (is_sent past k Chained)
-          (λ sent. both_ways _ un (sent_steered stage past run k Chained sent))
+          in false_from_not (is_sent past k next)
+          (λ sent. both_ways _ un (sent_steered stage past run k next sent))
       | inr differs ↦ old (rw differs at lab)
     ])
-unsent_home_step stage f packet a past clock k s l (Arrive j hop server verdict) quiet run pins pin may is flow other
-    lab cur old =
+unsent_home_step stage f packet a past clock k home next s l (Arrive j hop server verdict) quiet run pins pin may is flow other
+    lab cur onto old =
     or_from _ _
-    (false_from_not (sends (Arrive j hop server verdict) k Chained)
-    (not_forwarded_home stage f packet a past clock k j hop server verdict s l quiet run pins pin may is flow other
-    lab cur)) (old lab)
-unsent_home_step stage f packet a past clock k s l (Publish v) quiet run pins pin may is flow other lab cur old =
+    (false_from_not (sends (Arrive j hop server verdict) k next)
+    (not_forwarded_home stage f packet a past clock k j hop home next server verdict s l quiet run pins pin may is flow other
+    lab cur onto)) (old lab)
+unsent_home_step stage f packet a past clock k home next s l (Publish v) quiet run pins pin may is flow other lab cur onto old =
     old lab
-unsent_home_step stage f packet a past clock k s l (Switch m v) quiet run pins pin may is flow other lab cur old =
+unsent_home_step stage f packet a past clock k home next s l (Switch m v) quiet run pins pin may is flow other lab cur onto old =
     old lab
-unsent_home_step stage f packet a past clock k s l (Lose j hop) quiet run pins pin may is flow other lab cur old =
+unsent_home_step stage f packet a past clock k home next s l (Lose j hop) quiet run pins pin may is flow other lab cur onto old =
     old lab
-unsent_home_step stage f packet a past clock k s l (Close server flow' closed) quiet run pins pin may is flow other lab
-    cur old = old lab
-unsent_home_step stage f packet a past clock k s l (Retire server h at result) quiet run pins pin may is flow other lab
-    cur old = old lab
-unsent_home_step stage f packet a past clock k s l Sync quiet run pins pin may is flow other lab cur old = old lab
+unsent_home_step stage f packet a past clock k home next s l (Close server flow' closed) quiet run pins pin may is flow other lab
+    cur onto old = old lab
+unsent_home_step stage f packet a past clock k home next s l (Retire server h at result) quiet run pins pin may is flow other lab
+    cur onto old = old lab
+unsent_home_step stage f packet a past clock k home next s l Sync quiet run pins pin may is flow other lab cur onto old = old lab
 
--- a packet that first arrives at the server is not sent on
-unsent_home : (stage : Stage) (f : Flow) (packet : ℕ) (a : Accepted) (past : List Event) (k : ℕ) (s : Segment)
-    (l : Label) → HasNoRst stage f → Run stage past → Each (IsPinnedEvent stage f packet a) past
-    → segment_of stage k ≡ Some s → s.flow ≡ f → k ≢ packet → label_of stage past k ≡ Some l → l.entry.cur ≡ a.server
-    → is_sent past k Chained ≡ false
-unsent_home stage f packet a [] k s l quiet run pins is flow other lab cur = refl
-unsent_home stage f packet a (e ∷ past) k s l quiet run pins is flow other lab cur =
-    unsent_home_step stage f packet a past e.clock.0 k s l e.what quiet run.1 pins.1 pins.0 run.0.may is flow other lab
-    cur
-    (λ before. unsent_home stage f packet a past k s l quiet run.1 pins.1 is flow other before cur)
+-- a packet is not sent on from the server that accepted it
+unsent_home : (stage : Stage) (f : Flow) (packet : ℕ) (a : Accepted) (past : List Event) (k : ℕ) (home next : Hop)
+    (s : Segment) (l : Label) → HasNoRst stage f → Run stage past → Each (IsPinnedEvent stage f packet a) past
+    → segment_of stage k ≡ Some s → s.flow ≡ f → k ≢ packet → label_of stage past k ≡ Some l → arrives_at l.entry home ≡ Some a.server → hop_after home ≡ Some next
+    → is_sent past k next ≡ false
+unsent_home stage f packet a [] k home next s l quiet run pins is flow other lab cur onto = refl
+unsent_home stage f packet a (e ∷ past) k home next s l quiet run pins is flow other lab cur onto =
+    unsent_home_step stage f packet a past e.clock.0 k home next s l e.what quiet run.1 pins.1 pins.0 run.0.may is flow other lab
+    cur onto
+    (λ before. unsent_home stage f packet a past k home next s l quiet run.1 pins.1 is flow other before cur onto)
 
 module _ (stage : Stage) (sound : IsSound stage) (packet : ℕ) (f : Flow) (a : Accepted) (quiet : HasNoRst stage f)
     (only : (k : ℕ) (s : Segment) → segment_of stage k ≡ Some s → s.flow ≡ f → is_opening s ≡ true → k ≡ packet)
@@ -316,31 +319,35 @@ module _ (stage : Stage) (sound : IsSound stage) (packet : ℕ) (f : Flow) (a : 
         | inr away ↦
             let none : held stage past server may.segment.flow ≡ None =
             rw flow (away_none stage f packet a past server away pins)
-            in let in_time : clock ≤ may.label.entry.stamp.0 + timeout stage =
+            in let in_time : IfSome may.label.entry.prev (λ p. clock ≤ p.stamp.0 + timeout stage) =
             rw may.is_label at (pin.in_time other (λ at. both_ways _ away (eq-same_server server a.server at)))
-            in inr (from_away hop verdict may flow plain home' version.0 once none away in_time)
+            in let home_at =
+            home_is stage sound past run clock k server later a hop verdict may home' version.0 (omega arith)
+            in let less =
+            is_before stage sound past run clock k server later a hop home_at.0 verdict may home_at.2
+            (not_same stage sound past run clock k server later a away)
+            (λ next after. unsent_home stage f packet a past k home_at.0 next may.segment may.label quiet run pins
+            may.is_segment flow other may.is_label home_at.2 after)
+            in let first : hop_number home_at.0 ≤ 1 = let n = home_at.1 in omega arith
+            in inr (sent_home hop home_at.0 verdict may plain none in_time less first home_at.2)
       ] where
-        from_away : (hop : Hop) (verdict : Verdict) (may : IsArrival stage past clock k hop server verdict)
-            → may.segment.flow ≡ f → is_opening may.segment ≡ false
-            → (table stage.script.plan a.version (bucket stage may.segment.flow)).cur ≡ a.server
-            → a.version ≤ may.label.version.0
-            → moves stage.script.plan (bucket stage may.segment.flow) a.version may.label.version.0 ≤ 1
-            → held stage past server may.segment.flow ≡ None → same_server server a.server ≡ false
-            → clock ≤ may.label.entry.stamp.0 + timeout stage → (hop ≡ Direct) × (verdict ≡ Forward a.server)
-        from_away Direct verdict may flow plain home' fresh once none away in_time = (
-          refl,
-          away_direct stage sound past run clock k server later a verdict may plain home' fresh once none away
-              in_time,
-        )
-        from_away Chained verdict may flow plain home' fresh once none away in_time =
-            elim (moved_once stage sound past run clock k server later a Chained verdict may home' fresh once) [
-              | inl here ↦ absurd
-                  (both_ways _
-                  (unsent_home stage f packet a past k may.segment may.label quiet run pins may.is_segment flow other
-                  may.is_label here) may.sent)
-              | inr before ↦ absurd
-                  (not_same stage sound past run clock k server later a away (same_Some _ _ (sym may.place ∙ before)))
-            ]
+        sent_home : (hop home : Hop) (verdict : Verdict) (may : IsArrival stage past clock k hop server verdict)
+            → is_opening may.segment ≡ false → held stage past server may.segment.flow ≡ None
+            → IfSome may.label.entry.prev (λ p. clock ≤ p.stamp.0 + timeout stage)
+            → hop_number hop < hop_number home → hop_number home ≤ 1
+            → arrives_at may.label.entry home ≡ Some a.server → (hop ≡ Direct) × (verdict ≡ Forward a.server)
+        sent_home Direct Chained verdict may plain none in_time less first at =
+            let p = has_past may.label.entry.prev a.server at
+            in let soon : clock ≤ p.0.stamp.0 + timeout stage = rw p.1 at in_time
+            in let goes =
+            goes_on stage sound past run clock k server later Direct verdict may plain none
+            (λ q onto. let same : p.0 ≡ q = same_Some _ _ (sym p.1 ∙ onto)
+            in subst (λ (x : Past). clock ≤ x.stamp.0 + timeout stage) same soon) p.0 p.1
+            in (refl, goes ∙ ap (λ (x : ServerId). Forward x) p.2)
+        sent_home Direct Direct verdict may plain none in_time less first at = absurd (omega arith)
+        sent_home Direct Twice verdict may plain none in_time less first at = absurd (omega arith)
+        sent_home Chained home verdict may plain none in_time less first at = absurd (omega arith)
+        sent_home Twice home verdict may plain none in_time less first at = absurd (omega arith)
 
   kept_step : (past : List Event) (clock : ℕ) (what : What) → Run stage past → last_clock past ≤ clock
       → Each (IsPinnedEvent stage f packet a) past → MayCome stage past clock what

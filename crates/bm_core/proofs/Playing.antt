@@ -91,7 +91,7 @@ abbrev pub next_event : (ℕ → Flow → ℕ) → (ℕ → Hop → Fate) → St
 next_event mux fate stage past =
     coming mux stage past (due_loss (fates_by fate past) past) (can_come (wire (fates_by fate past) past) stage past)
 
--- at most so many events more
+-- at most n more events
 unfoldable pub play : (ℕ → Flow → ℕ) → (ℕ → Hop → Fate) → Stage → ℕ → List Event → List Event
 play mux fate stage zero past = past
 play mux fate stage (suc n) past =

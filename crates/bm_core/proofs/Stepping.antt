@@ -7,7 +7,8 @@ use Rattle.std.proofs.lemmas.Bool.Decides.{nat_tests}
 use Rattle.std.proofs.lemmas.Option.{slice_get_cases, same_Some}
 use Rattle.bm_base.specs.declared.ids.ServerId.{ServerId}
 use Rattle.bm_base.specs.declared.label.Hop.{Hop}
-use Rattle.bm_base.specs.declared.label.Hop.TheVariants.{Direct, Chained}
+use Rattle.bm_base.proofs.Hops.{same_hop_refl}
+use Rattle.bm_base.specs.declared.label.Hop.TheVariants.{Direct, Chained, Twice}
 use Rattle.bm_base.specs.declared.fate.Fate.{Fate}
 use Rattle.bm_core.specs.Schedule.{Underway}
 use Rattle.bm_core.specs.declared.events.Verdict.TheVariants.{Accept, Process, Forward, Reset, Drop}
@@ -19,7 +20,7 @@ use Rattle.bm_table.specs.declared.script.Command.{Command}
 use Rattle.bm_table.specs.declared.script.Command.TheVariants.{Change as ChangeCommand, Close as CloseCommand}
 use Rattle.bm_table.specs.declared.script.Command.TheVariants.{Retire as RetireCommand, Sync as SyncCommand}
 use Rattle.bm_table.specs.Tables.{next_change, IsOrderly}
-use Rattle.bm_core.specs.Past.{newest, segment_of, sends, is_sent, is_sent_at, Sending, sending_of, same_hop}
+use Rattle.bm_core.specs.Past.{newest, segment_of, sends, is_sent, is_sent_at, Sending, sending_of}
 use Rattle.bm_core.specs.Runs.{last_clock, own_clock, Actor, actor_of, is_by, MayCome, IsStep, Run}
 use Rattle.bm_core.specs.Accounts.{fate_now, before, counts}
 use Rattle.bm_core.specs.declared.schedule.Call.{Call}
@@ -87,10 +88,6 @@ more_sent : (e : Event) (past : List Event) (w : List Underway) → AllSent past
 more_sent e past [] all = tt
 more_sent e past (u ∷ w) all = (or_right (sends e.what u.packet u.hop) _ all.0, more_sent e past w all.1)
 
-same_hop_refl : (h : Hop) → same_hop h h ≡ true
-same_hop_refl Direct = refl
-same_hop_refl Chained = refl
-
 sent_keeps : (f : Fate) (e : Event) (past : List Event) (o : Option Sending) (w : List Underway) → sending_of e.what ≡ o
     → AllSent (e ∷ past) w → AllSent (e ∷ past) (put_sent f (length past) e.clock.0 o w)
 sent_keeps f e past None w is all = all
@@ -119,7 +116,9 @@ first_sent past (u ∷ w) d k hop all e c =
 sends_direct : (what : What) (k : ℕ) → sends what k Direct ≡ true → steer_at k (call_of what) ≡ true
 sends_direct (Steer j m) k e = grind arith
 sends_direct (Arrive j Direct server (Forward to)) k e = absurd (let h : (eqb j k && false) ≡ true = e in grind arith)
-sends_direct (Arrive j Chained server (Forward to)) k e = absurd (cc)
+sends_direct (Arrive j Chained server (Forward to)) k e =
+    absurd (let h : (eqb j k && false) ≡ true = e in grind arith)
+sends_direct (Arrive j Twice server (Forward to)) k e = absurd (cc)
 sends_direct (Arrive j h server Accept) k e = absurd (cc)
 sends_direct (Arrive j h server (Process t)) k e = absurd (cc)
 sends_direct (Arrive j h server (Reset why)) k e = absurd (cc)

@@ -1,6 +1,6 @@
 -- Each copy that was sent has a server to arrive at.
 use Rattle.std.proofs.Common.{◌≡◌, ℕ, true, inl, inr, List, [], ◌∷◌, Option, Some, None, is_some, refl, sym, ◌∙◌, ap}
-use Rattle.std.proofs.Common.{subst, eqb, arith, option_map}
+use Rattle.std.proofs.Common.{subst, eqb, arith}
 use Rattle.std.proofs.lemmas.Bool.{or_cases, eqb-true}
 use Rattle.std.proofs.lemmas.Bool.Decides.{nat_tests}
 use Rattle.bm_base.specs.declared.ids.ServerId.{ServerId}
@@ -9,7 +9,9 @@ use Rattle.bm_base.specs.declared.flow.Segment.{Segment}
 use Rattle.bm_base.specs.declared.label.Entry.{Entry}
 use Rattle.bm_base.specs.declared.label.Label.{Label}
 use Rattle.bm_base.specs.declared.label.Hop.{Hop}
-use Rattle.bm_base.specs.declared.label.Hop.TheVariants.{Direct, Chained}
+use Rattle.bm_base.specs.declared.label.Past.{Past}
+use Rattle.bm_base.proofs.Hops.{onward_arrives}
+use Rattle.bm_base.specs.declared.label.Hop.TheVariants.{Direct}
 use Rattle.bm_base.specs.Labels.{arrives_at}
 use Rattle.bm_core.specs.declared.events.Verdict.{Verdict}
 use Rattle.bm_core.specs.declared.events.What.{What}
@@ -18,7 +20,7 @@ use Rattle.bm_core.specs.declared.events.Event.{Event}
 use Rattle.bm_core.specs.declared.events.Stage.{Stage}
 use Rattle.bm_core.specs.Past.{segment_of, timeout, labelled, label_after, label_of, sends, is_sent, is_forward}
 use Rattle.bm_core.specs.Past.{hop_after}
-use Rattle.bm_core.specs.Verdicts.{Onward, onward, local_at, verdict_at}
+use Rattle.bm_core.specs.Verdicts.{onward, local_at, verdict_at}
 use Rattle.bm_core.specs.Runs.{MayCome, IsStep, Run}
 use Rattle.bm_core.proofs.Forwards.{forward_onward}
 use Rattle.bm_core.proofs.Pasts.{label_stays, arrival_sends}
@@ -43,16 +45,10 @@ steered_stop stage past e m k None is there l = absurd (cc)
 steered_stop stage past e m k (Some s) is there l =
     record { segment = s; is_segment = is; label = _; is_label = l; server = _; place = refl }
 
-onward_stop : (onto : ServerId → Onward) (prev : Option ServerId) → is_some (option_map onto prev) ≡ true
-    → (server : ServerId) × (prev ≡ Some server)
-onward_stop onto None e = absurd (cc)
-onward_stop onto (Some s) e = (s, refl)
-
-next_stop : (entry : Entry) (came next : Hop) → is_some (onward entry came) ≡ true → hop_after came ≡ Some next
-    → (server : ServerId) × (arrives_at entry next ≡ Some server)
-next_stop entry Chained next is h = absurd (cc)
-next_stop entry Direct Direct is h = absurd (cc)
-next_stop entry Direct Chained is h = onward_stop _ entry.prev is
+next_stop : (entry : Entry) (came next : Hop) (onto : Option Past) → onward entry came ≡ onto → is_some onto ≡ true
+    → hop_after came ≡ Some next → (server : ServerId) × (arrives_at entry next ≡ Some server)
+next_stop entry came next None is there after = absurd (cc)
+next_stop entry came next (Some p) is there after = (p.server, onward_arrives entry came next p after is)
 
 stop_stays : (stage : Stage) (past : List Event) (e : Event) (k : ℕ) (hop : Hop) → IsStep stage past e
     → HasStop stage past k hop → HasStop stage (e ∷ past) k hop
@@ -89,7 +85,7 @@ stop_sent stage past e k hop step (Arrive packet came server verdict) is may sen
     in let onto : is_some (onward may.label.entry came) ≡ true =
     forward_onward (local_at stage past server may.segment.flow) (timeout stage) e.clock.0 came
     (onward may.label.entry came) may.segment goes
-    in let there = next_stop may.label.entry came hop onto parts.2
+    in let there = next_stop may.label.entry came hop (onward may.label.entry came) refl onto parts.2
     in subst (λ (n : ℕ). HasStop stage (e ∷ past) n hop) parts.0 (record {
       segment = may.segment;
       is_segment = may.is_segment;

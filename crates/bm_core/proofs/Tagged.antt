@@ -5,7 +5,7 @@ use Rattle.bm_base.specs.declared.flow.Segment.{Segment}
 use Rattle.bm_base.specs.declared.ids.ServerId.{ServerId}
 use Rattle.bm_base.specs.declared.label.Label.{Label}
 use Rattle.bm_base.specs.declared.label.Hop.{Hop}
-use Rattle.bm_base.specs.declared.label.Hop.TheVariants.{Direct, Chained}
+use Rattle.bm_base.specs.declared.label.Hop.TheVariants.{Direct, Chained, Twice}
 use Rattle.bm_base.specs.declared.label.Tag.{Tag}
 use Rattle.bm_base.specs.Labels.{arrives_at, tag_for, tag_of}
 use Rattle.bm_core.specs.declared.events.Local.{Local}
@@ -17,6 +17,7 @@ verdict_for : (local : Local) (timeout clock : ℕ) (l : Label) (hop : Hop) (ser
     s
 verdict_for local timeout clock l Direct server s = refl
 verdict_for local timeout clock l Chained server s = refl
+verdict_for local timeout clock l Twice server s = refl
 
 by_stop : (local : Local) (timeout clock : ℕ) (l : Label) (hop : Hop) (t : Tag) (s : Segment) (dest : Option ServerId)
     → option_map (tag_for l hop) dest ≡ Some t

@@ -9,7 +9,7 @@ use Rattle.bm_base.specs.declared.ids.Moment.{Moment}
 use Rattle.bm_base.specs.declared.ids.ServerId.{ServerId}
 use Rattle.bm_base.specs.declared.ids.Version.{Version}
 use Rattle.bm_base.specs.declared.label.Hop.{Hop}
-use Rattle.bm_base.specs.declared.label.Hop.TheVariants.{Direct, Chained}
+use Rattle.bm_base.specs.declared.label.Hop.TheVariants.{Direct, Chained, Twice}
 use Rattle.bm_base.specs.declared.fate.Fate.{Fate}
 use Rattle.bm_core.specs.declared.events.Verdict.{Verdict}
 use Rattle.bm_core.specs.declared.events.Verdict.TheVariants.{Accept, Process, Forward, Reset, Drop}
@@ -79,10 +79,12 @@ sent_weight (Some s) = 3 * hop_weight s.hop
 hop_some : (h : Hop) → 1 ≤ hop_weight h
 hop_some Direct = omega arith
 hop_some Chained = omega arith
+hop_some Twice = omega arith
 
 three : (n : ℕ) (h : Hop) → n ≤ 3 → n * hop_weight h ≤ 3 * hop_weight h
 three n Direct le = omega arith
 three n Chained le = omega arith
+three n Twice le = omega arith
 
 sent_adds : (f : Fate) (place clock : ℕ) (o : Option Sending) (w : List Underway) → IfSome o (λ s. IsSoon f)
     → wire_weight (put_sent f place clock o w) + loss_weight (loss_of_fate f o) ≤ wire_weight w + sent_weight o
@@ -119,6 +121,11 @@ arrival_adds k Chained server (Process t) = omega arith
 arrival_adds k Chained server (Forward to) = omega arith
 arrival_adds k Chained server (Reset why) = omega arith
 arrival_adds k Chained server (Drop why) = omega arith
+arrival_adds k Twice server Accept = omega arith
+arrival_adds k Twice server (Process t) = omega arith
+arrival_adds k Twice server (Forward to) = omega arith
+arrival_adds k Twice server (Reset why) = omega arith
+arrival_adds k Twice server (Drop why) = omega arith
 
 first_weight : (w : List Underway) (d : Due) (k : ℕ) (hop : Hop) → arrival_due w ≡ d ∷ [] → d.call ≡ Arrives k hop
     → wire_weight w ≡ hop_weight hop + wire_weight (rest w)
@@ -191,7 +198,7 @@ packets_still : (stage : Stage) (past : List Event) (w : List Underway) (o : Opt
     None ≤ packets_weight (length (left (packets_from 1 stage.capture.records) past steers)) w o
 packets_still stage past w o = packets_keep _ _ w o (same_left (packets_from 1 stage.capture.records) (n_steers past))
 
--- the closes, retires and syncs that are left after so many
+-- how many closes, retires and syncs are left after this many of each
 abbrev commands_left : Stage → ℕ → ℕ → ℕ → ℕ
 commands_left stage a b c =
     length (dropped a (close_commands stage.script.commands))
@@ -297,7 +304,7 @@ weight_step fates stage past clock (Steer k m) soon next =
     in sum_first _ _ _ _ _ _ (steer_sum _ _ _ _ _ _ fewer_packets adds)
     (commands_keep stage (n_closes past) (n_retires past) (n_syncs past))
     (changes_keep stage (at clock (Steer k m)) past (λ i. refl) refl) where
-      steer_sum : (a' a w' o' w o : ℕ) → suc a' ≡ a → w' + o' ≤ w + 12 → suc (13 * a' + (w' + o')) ≤ 13 * a + (w + o)
+      steer_sum : (a' a w' o' w o : ℕ) → suc a' ≡ a → w' + o' ≤ w + 39 → suc (40 * a' + (w' + o')) ≤ 40 * a + (w + o)
       steer_sum a' a w' o' w o p q = omega arith
 weight_step fates stage past clock (Arrive k hop server verdict) soon next =
     let t = taken_kind (before fates) stage past (at clock (Arrive k hop server verdict)) refl next
@@ -312,7 +319,7 @@ weight_step fates stage past clock (Arrive k hop server verdict) soon next =
     (commands_keep stage (n_closes past) (n_retires past) (n_syncs past))
     (changes_keep stage (at clock (Arrive k hop server verdict)) past (λ i. refl) refl) where
       arrive_sum : (a' a w' o' w r c h o : ℕ) → a' ≡ a → w ≡ h + r → w' + o' ≤ r + c → c < h
-          → suc (13 * a' + (w' + o')) ≤ 13 * a + (w + o)
+          → suc (40 * a' + (w' + o')) ≤ 40 * a + (w + o)
       arrive_sum a' a w' o' w r c h o p q s t = omega arith
 weight_step fates stage past clock (Lose k hop) soon next =
     elim (taken (wire (before fates) past) stage past (at clock (Lose k hop)) (due_loss (before fates) past) next) [
@@ -325,10 +332,10 @@ weight_step fates stage past clock (Lose k hop) soon next =
           (changes_keep stage (at clock (Lose k hop)) past (λ i. refl) refl)
       | inr t ↦ absurd t.1.from
     ] where
-      lose_sum : (a' a w o : ℕ) → a' ≡ a → o ≡ 1 → suc (13 * a' + (w + 0)) ≤ 13 * a + (w + o)
+      lose_sum : (a' a w o : ℕ) → a' ≡ a → o ≡ 1 → suc (40 * a' + (w + 0)) ≤ 40 * a + (w + o)
       lose_sum a' a w o p q = omega arith
 
--- the events so far and what is left are no more than what was to come
+-- the events so far and what is left are at most what was to come
 pub weight_within : (fates : List Fate) (stage : Stage) (past : List Event) → Follows fates stage past
     → AreSoon fates past → length past + weight fates stage past ≤ weight [] stage []
 weight_within fates stage [] follows soon =
@@ -394,11 +401,11 @@ few_commands shards muxes next top (SyncCommand at ∷ rest) s m names =
     let old = few_commands shards muxes next top rest s m names in omega arith
 
 sound_sum : (p n c top x k w : ℕ) → p ≤ n → n ≤ 200000 → c + (top + x) ≤ 65 * k → k ≤ 65536 → w ≡ x
-    → (13 * p + (0 + 0)) + (c + ((top - 0) + w)) ≤ 6859840
+    → (40 * p + (0 + 0)) + (c + ((top - 0) + w)) ≤ 12259840
 sound_sum p n c top x k w a b d e f = omega arith
 
--- a sound stage's replay has at most so many events
-pub sound_weight : (stage : Stage) → IsSound stage → weight [] stage [] ≤ 6859840
+-- a bound on the number of events of a sound stage's replay
+pub sound_weight : (stage : Stage) → IsSound stage → weight [] stage [] ≤ 12259840
 sound_weight stage sound =
     let packets : length (packets_from 1 stage.capture.records) ≤ length stage.capture.records =
     few_packets 1 stage.capture.records
@@ -416,6 +423,6 @@ sound_weight stage sound =
 
 -- so a replay's history is short
 pub few_events : (fates : List Fate) (stage : Stage) (past : List Event) → IsSound stage → Follows fates stage past
-    → AreSoon fates past → length past + weight fates stage past ≤ 6859840
+    → AreSoon fates past → length past + weight fates stage past ≤ 12259840
 few_events fates stage past sound follows soon =
     let a = weight_within fates stage past follows soon in let b = sound_weight stage sound in omega arith

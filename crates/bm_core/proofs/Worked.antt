@@ -23,7 +23,7 @@ use Rattle.bm_core.specs.declared.events.Stage.{Stage}
 use Rattle.bm_core.specs.Causes.{is_holding, is_elsewhere, is_late, first_broken, cause}
 use Rattle.bm_core.specs.Rules.{setting_mux, setting_fate}
 use Rattle.bm_table.specs.Tables.{same_server, moves}
-use Rattle.bm_core.specs.declared.events.Cause.TheVariants.{NeverAccepted, NotHeld, StaleMux, MovedTwice, ChainLate}
+use Rattle.bm_core.specs.declared.events.Cause.TheVariants.{NeverAccepted, NotHeld, StaleMux, MovedThrice, ChainLate}
 use Rattle.bm_core.specs.declared.events.Cause.TheVariants.{SynElsewhere}
 use Rattle.bm_core.specs.Past.{segment_of, bucket, label_of, held, Accepted, owner}
 use Rattle.bm_core.proofs.Playing.{play}
@@ -40,7 +40,7 @@ flow_from port = record { src = 0x0a00_0001; dst = 0xc000_0201; sport = port; dp
 abbrev pub syn : ℕ → ℕ → Segment
 syn port seq = record { flow = flow_from port; seq = seq; ack = 0; len = 1; flags = 0x02 }
 
--- with so many octets
+-- a data segment of this many octets
 abbrev pub data_of : ℕ → ℕ → ℕ → Segment
 data_of port seq octets = record { flow = flow_from port; seq = seq; ack = 501; len = octets; flags = 0x18 }
 
@@ -108,13 +108,13 @@ abbrev pub when : Bool → Cause → List Cause → List Cause
 when test c causes = if test then c ∷ causes else causes
 
 -- each premise that is broken, and not only the first
-abbrev pub broken : Stage → List Event → ℕ → Label → Flow → ServerId → Option Accepted → List Cause
-broken stage past clock label f s None = NeverAccepted ∷ []
-broken stage past clock label f s (Some a) =
+abbrev pub broken : Stage → List Event → ℕ → Label → Hop → Flow → ServerId → Option Accepted → List Cause
+broken stage past clock label hop f s None = NeverAccepted ∷ []
+broken stage past clock label hop f s (Some a) =
     when (not (is_holding (held stage past a.server f) a.place)) NotHeld
     (when (nat_lt label.version.0 a.version) StaleMux
-    (when (nat_le 2 (moves stage.script.plan (bucket stage f) a.version label.version.0)) MovedTwice
-    (when (not (same_server s a.server) && is_late stage label clock) ChainLate
+    (when (nat_le 3 (moves stage.script.plan (bucket stage f) a.version label.version.0)) MovedThrice
+    (when (not (same_server s a.server) && is_late stage label hop clock) ChainLate
     (when (is_elsewhere stage past past f a.server) SynElsewhere []))))
 
 abbrev pub first_cause : List Cause → Option Cause
@@ -122,19 +122,20 @@ first_cause [] = None
 first_cause (c ∷ causes) = Some c
 
 -- the cause is the first of them
-pub broken_first : (stage : Stage) (past : List Event) (clock : ℕ) (label : Label) (f : Flow) (s : ServerId)
-    (a : Option Accepted)
-    → first_cause (broken stage past clock label f s a) ≡ first_broken stage past clock label f s a
-broken_first stage past clock label f s None = refl
-broken_first stage past clock label f s (Some a) = grind arith
+pub broken_first : (stage : Stage) (past : List Event) (clock : ℕ) (label : Label) (hop : Hop) (f : Flow)
+    (s : ServerId) (a : Option Accepted)
+    → first_cause (broken stage past clock label hop f s a) ≡ first_broken stage past clock label hop f s a
+broken_first stage past clock label hop f s None = refl
+broken_first stage past clock label hop f s (Some a) = grind arith
 
-abbrev pub broken_by : Stage → List Event → ℕ → ServerId → Option Accepted → Option Segment → Option Label → List Cause
-broken_by stage past clock s a (Some segment) (Some label) = broken stage past clock label segment.flow s a
-broken_by stage past clock s a _ _ = []
+abbrev pub broken_by : Stage → List Event → ℕ → Hop → ServerId → Option Accepted → Option Segment → Option Label
+    → List Cause
+broken_by stage past clock hop s a (Some segment) (Some label) = broken stage past clock label hop segment.flow s a
+broken_by stage past clock hop s a _ _ = []
 
 abbrev pub broken_at : Stage → List Event → ℕ → What → List Cause
 broken_at stage past clock (Arrive k hop s verdict) =
-    broken_by stage past clock s (owner stage past k) (segment_of stage k) (label_of stage past k)
+    broken_by stage past clock hop s (owner stage past k) (segment_of stage k) (label_of stage past k)
 broken_at stage past clock _ = []
 
 -- each premise that is broken at the newest event

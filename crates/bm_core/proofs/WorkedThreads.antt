@@ -32,7 +32,7 @@ opening_label =
       mux = record { 0 = 0 };
       version = record { 0 = 0 };
       entry =
-          record { cur = server 1; prev = None; stamp = record { 0 = 0 } };
+          record { cur = server 1; prev = None; older = None };
     }
 
 threaded_run : Run moved threaded

@@ -36,7 +36,7 @@ count_of test (x ∷ xs) = (if test x then 1 else 0) + count_of test xs
 abbrev pub counts : List Event → (What → Bool) → ℕ
 counts past test = count_of (λ e. test e.what) past
 
--- FATES: one for each event, the newest first; it means something at a sending alone
+-- FATES: one for each event, the newest first; only a sending's fate means something
 
 -- the fate at the newest event; without one, a sending has one copy without delay
 abbrev pub fate_now : List Fate → Fate
@@ -80,14 +80,13 @@ abbrev pub loses : What → ℕ → Hop → Bool
 loses (Lose packet hop) k h = packet == k && same_hop hop h
 loses _ k h = false
 
--- the copies of all sendings of the packet with this hop
+-- how many copies all sendings of the packet with this hop have
 abbrev pub sent_copies : List Fate → List Event → ℕ → Hop → ℕ
-sent_copies fates [] k hop = 0
-sent_copies fates (e ∷ past) k hop =
-    (if sends e.what k hop then (fate_now fates).copies else 0) + sent_copies (before fates) past k
-    hop
+sent_copies fates [] k h = 0
+sent_copies fates (e ∷ past) k h =
+    (if sends e.what k h then (fate_now fates).copies else 0) + sent_copies (before fates) past k h
 
--- up to each place no more copies have come than were sent
+-- at each place, at most as many copies have arrived as were sent
 abbrev pub AreSent : List Fate → List Event → Type 0
 AreSent fates [] = Unit {0}
 AreSent fates (e ∷ past) =
@@ -95,7 +94,7 @@ AreSent fates (e ∷ past) =
     → counts (e ∷ past) (λ what. arrives what k hop) ≤ sent_copies (before fates) past k hop)
     × AreSent (before fates) past
 
--- the sendings at this clock whose fate has no copies
+-- how many sendings at this clock have a fate without copies
 abbrev pub copyless_at : List Fate → List Event → ℕ → Hop → ℕ → ℕ
 copyless_at fates [] k hop clock = 0
 copyless_at fates (e ∷ past) k hop clock =
@@ -113,7 +112,7 @@ abbrev pub closes_flow : What → ServerId → Flow → Bool
 closes_flow (Close server flow closed) s f = same_server server s && same_flow flow f
 closes_flow _ s f = false
 
--- the event is an answer to the wish to retire the server's shard
+-- the event answers a request to retire the server's shard
 abbrev pub retires_shard : What → ServerId → ℕ → Bool
 retires_shard (Retire server h at result) s shard = same_server server s && h == shard
 retires_shard _ s shard = false
@@ -164,7 +163,7 @@ pub record IsAccountOf (R : Routes) (F : Rules) (stage : Stage) (fates : List Fa
   -- a sending without copies, and no other, has one Lose, at its clock plus one
   pub lost : (k : ℕ) (hop : Hop) (clock : ℕ)
       → lost_at all k hop (suc clock) ≡ copyless_at fates all k hop clock
-  -- the copies that came are those that were sent, and none came before it was sent
+  -- the copies that arrived are those that were sent, and none arrived before it was sent
   pub sent : AreSent fates all
   pub arrived : (k : ℕ) (hop : Hop)
       → counts all (λ what. arrives what k hop) ≡ sent_copies fates all k hop

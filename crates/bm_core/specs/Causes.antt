@@ -1,4 +1,4 @@
--- Which premise is broken where a packet arrives (docs/DEFINITIONS.md). The premises are asked in
+-- Which premise is broken where a packet arrives (docs/DEFINITIONS.md). The premises are checked in
 -- one order, and the first broken one is the cause.
 use Rattle.std.specs.Prelude.{ℕ, ◌+◌, Bool, true, false, ◌&&◌, ◌||◌, not, ◌==◌, nat_lt, nat_le}
 use Rattle.std.specs.Prelude.{if◌then◌else◌, List, [], ◌∷◌, Option, Some, None, is_some}
@@ -6,13 +6,15 @@ use Rattle.std.specs.Option.{option_map_or}
 use Rattle.bm_base.specs.declared.ids.ServerId.{ServerId}
 use Rattle.bm_base.specs.declared.flow.Flow.{Flow}
 use Rattle.bm_base.specs.declared.flow.Segment.{Segment}
+use Rattle.bm_base.specs.declared.label.Hop.{Hop}
 use Rattle.bm_base.specs.declared.label.Label.{Label}
+use Rattle.bm_base.specs.Labels.{onward}
 use Rattle.bm_core.specs.declared.events.Why.TheVariants.{Full as FullShard, Retired}
 use Rattle.bm_core.specs.declared.events.Verdict.{Verdict}
 use Rattle.bm_core.specs.declared.events.Verdict.TheVariants.{Process, Reset, Drop}
 use Rattle.bm_core.specs.declared.events.Cause.{Cause}
 use Rattle.bm_core.specs.declared.events.Cause.TheVariants.{NeverAccepted, NotHeld, StaleMux}
-use Rattle.bm_core.specs.declared.events.Cause.TheVariants.{MovedTwice, ChainLate, SynElsewhere}
+use Rattle.bm_core.specs.declared.events.Cause.TheVariants.{MovedThrice, ChainLate, SynElsewhere}
 use Rattle.bm_core.specs.declared.events.Cause.TheVariants.{Full, OldTable}
 use Rattle.bm_core.specs.declared.events.What.{What}
 use Rattle.bm_core.specs.declared.events.What.TheVariants.{Arrive}
@@ -23,41 +25,41 @@ use Rattle.bm_base.specs.Segments.{is_opening}
 use Rattle.bm_core.specs.Past.{segment_of, is_of, bucket, timeout, newest, label_of, Holding, held}
 use Rattle.bm_core.specs.Past.{is_accept, Accepted, owner}
 
--- the server holds just this Accept
+-- the connection that the server holds is the one of this Accept
 abbrev pub is_holding : Option Holding → ℕ → Bool
 is_holding None place = false
 is_holding (Some h) place = h.place == place
 
--- the event is an Accept of the flow, at a server other than this that holds the flow after all
--- these events
+-- the event is an Accept of the flow at another server, which holds the flow after all these events
 abbrev pub accepts_elsewhere : Stage → List Event → What → Flow → ServerId → Bool
 accepts_elsewhere stage all (Arrive k hop server verdict) f s =
     is_accept verdict && is_of (segment_of stage k) f && not (same_server server s)
     && is_some (held stage all server f)
 accepts_elsewhere stage all _ f s = false
 
--- a server other than this accepted the flow in the past, and holds it after all these events
+-- another server accepted the flow in the past, and holds it after all these events
 abbrev pub is_elsewhere : Stage → List Event → List Event → Flow → ServerId → Bool
 is_elsewhere stage all [] f s = false
 is_elsewhere stage all (e ∷ past) f s =
     accepts_elsewhere stage all e.what f s || is_elsewhere stage all past f s
 
--- the clock is past the stamp of the label by more than the timeout
-abbrev pub is_late : Stage → Label → ℕ → Bool
-is_late stage label clock = nat_lt (label.entry.stamp.0 + timeout stage) clock
+-- there is a server to which a copy of this hop may be passed on, but the clock is past its stamp
+-- by more than the timeout
+abbrev pub is_late : Stage → Label → Hop → ℕ → Bool
+is_late stage label hop clock =
+    option_map_or (λ p. nat_lt (p.stamp.0 + timeout stage) clock) (onward label.entry hop) false
 
--- the first premise that is broken where a packet arrives that is not opening
-abbrev pub first_broken : Stage → List Event → ℕ → Label → Flow → ServerId → Option Accepted
+-- the first premise that is broken where a packet arrives that isn't opening
+abbrev pub first_broken : Stage → List Event → ℕ → Label → Hop → Flow → ServerId → Option Accepted
     → Option Cause
-first_broken stage past clock label f server None = Some NeverAccepted
-first_broken stage past clock label f server (Some a) =
+first_broken stage past clock label hop f server None = Some NeverAccepted
+first_broken stage past clock label hop f server (Some a) =
     if not (is_holding (held stage past a.server f) a.place) then Some NotHeld
     else if nat_lt label.version.0 a.version then Some StaleMux
-    else if nat_le 2 (moves stage.script.plan (bucket stage f) a.version label.version.0) then Some
-    MovedTwice
-    else if not (same_server server a.server) && is_late stage label clock then Some ChainLate
-    else if is_elsewhere stage past past f a.server then Some SynElsewhere
-    else None
+    else if nat_le 3 (moves stage.script.plan (bucket stage f) a.version label.version.0) then Some
+    MovedThrice
+    else if not (same_server server a.server) && is_late stage label hop clock then Some ChainLate
+    else if is_elsewhere stage past past f a.server then Some SynElsewhere else None
 
 -- the verdict is Process
 abbrev pub is_process : Verdict → Bool
@@ -70,7 +72,7 @@ is_refusal (Reset why) = true
 is_refusal (Drop why) = true
 is_refusal _ = false
 
--- the packet is reset or dropped, or processed elsewhere than at its owner's server
+-- the packet is reset or dropped, or processed by a server other than its owner's
 abbrev pub is_fault : Verdict → Option Accepted → ServerId → Bool
 is_fault (Process t) a s = not (option_map_or (λ owner. same_server s owner.server) a false)
 is_fault verdict a s = is_refusal verdict
@@ -82,23 +84,22 @@ opening_cause (Drop Retired) v newest = if nat_lt v newest then Some OldTable el
 opening_cause _ v newest = None
 
 -- the cause, from the owner, the segment and the label of the packet
-abbrev pub cause_at : Stage → List Event → ℕ → ServerId → Verdict → Option Accepted → Option Segment
-    → Option Label → Option Cause
-cause_at stage past clock server verdict a (Some s) (Some label) =
+abbrev pub cause_at : Stage → List Event → ℕ → Hop → ServerId → Verdict → Option Accepted
+    → Option Segment → Option Label → Option Cause
+cause_at stage past clock hop server verdict a (Some s) (Some label) =
     if is_opening s then opening_cause verdict label.version.0 (newest past)
-    else if is_fault verdict a server then first_broken stage past clock label s.flow server a
+    else if is_fault verdict a server then first_broken stage past clock label hop s.flow server a
     else None
-cause_at stage past clock server verdict a _ _ = None
+cause_at stage past clock hop server verdict a _ _ = None
 
 -- the packet is dropped, reset or processed elsewhere
 abbrev pub wants_cause : Verdict → Option Accepted → ServerId → Option Segment → Bool
 wants_cause verdict a server None = false
-wants_cause verdict a server (Some s) =
-    if is_opening s then is_refusal verdict else is_fault verdict a server
+wants_cause v a server (Some s) = if is_opening s then is_refusal v else is_fault v a server
 
 -- why the packet that arrives is dropped, reset or processed elsewhere
 abbrev pub cause : Stage → List Event → ℕ → What → Option Cause
 cause stage past clock (Arrive k hop server verdict) =
-    cause_at stage past clock server verdict (owner stage past k) (segment_of stage k)
+    cause_at stage past clock hop server verdict (owner stage past k) (segment_of stage k)
     (label_of stage past k)
 cause stage past clock _ = None

@@ -10,15 +10,14 @@ use Rattle.bm_core.specs.Runs.{IsStep, IsRun}
 use Rattle.bm_core.specs.Schedule.{IsNextBy, Follows, IsOver}
 use Rattle.bm_core.specs.Rules.{RouteBy}
 
--- in a replay the event may come next after these, where the route answers these muxes
+-- the event may come next after these in a replay, if the route answers these muxes
 pub record IsNextIn (mux : ℕ → Flow → ℕ) (fates : List Fate) (stage : Stage) (past : List Event)
     (e : Event) : Type 0 where
   pub step : IsStep stage past e
   pub routed : IsRouted (RouteBy mux) stage e.what
   pub next : IsNextBy fates stage past e
 
--- a run that a replay makes of its stage, to the end, where these are the answers of the route and
--- of the fault rule
+-- the whole run of a replay of its stage, with these answers of the route and of the fault rule
 pub record IsReplay (R : Routes) (F : Rules) (h : History) : Type 0 where
   pub run : IsRun h
   -- one fate for each event, the newest first

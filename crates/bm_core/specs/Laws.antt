@@ -1,12 +1,15 @@
--- What the laws say of the event at a place of a history: where premises hold the owner serves, and
--- where a packet is refused or processed elsewhere there is a cause (docs/DEFINITIONS.md).
+-- What the laws say of the event at a place of a history: if the premises hold the owner serves,
+-- and if a packet is refused or processed elsewhere there is a cause (docs/DEFINITIONS.md).
 use Rattle.std.specs.Prelude.{◌≡◌, ◌≢◌, ◌==◌, ℕ, ◌+◌, ◌<◌, ◌≤◌, Bool, true, false, ◌⊎◌, List}
 use Rattle.std.specs.Prelude.{Option, Some, None, IsSomeAnd}
 use Rattle.bm_base.specs.declared.ids.ServerId.{ServerId}
 use Rattle.bm_base.specs.declared.flow.Segment.{Segment}
+use Rattle.bm_base.specs.declared.label.Entry.{Entry}
 use Rattle.bm_base.specs.declared.label.Label.{Label}
-use Rattle.bm_base.specs.declared.label.Hop.TheVariants.{Direct}
+use Rattle.bm_base.specs.declared.label.Hop.{Hop}
+use Rattle.bm_base.specs.Labels.{arrives_at, hop_number, onward}
 use Rattle.bm_core.specs.declared.events.Why.TheVariants.{Retired}
+use Rattle.bm_core.specs.declared.events.Verdict.{Verdict}
 use Rattle.bm_core.specs.declared.events.Verdict.TheVariants.{Forward, Drop}
 use Rattle.bm_core.specs.declared.events.What.{What}
 use Rattle.bm_core.specs.declared.events.What.TheVariants.{Arrive}
@@ -19,20 +22,27 @@ use Rattle.bm_core.specs.Past.{segment_of, bucket, timeout, label_of, Accepted, 
 use Rattle.bm_core.specs.Runs.{AtEach, event_at, past_at}
 use Rattle.bm_core.specs.Causes.{first_broken, is_process, wants_cause}
 
--- a packet arrives that is not opening, and no premise is broken
+-- a packet arrives that isn't opening, and no premise is broken
 abbrev pub IsUnbrokenArrival : Stage → List Event → ℕ → What → Type 0
 IsUnbrokenArrival stage past clock (Arrive k hop server verdict) =
     IsSomeAnd (segment_of stage k) (λ s. IsSomeAnd (label_of stage past k) (λ l.
     (is_opening s ≡ false)
-    × (first_broken stage past clock l s.flow server (owner stage past k) ≡ None)))
+    × (first_broken stage past clock l hop s.flow server (owner stage past k) ≡ None)))
 IsUnbrokenArrival stage past clock _ = ⊥
 
--- the arriving copy is processed by its owner's server, or, where it is a direct one, forwarded to
--- it
+-- a copy of this hop is forwarded by its label, one step nearer to the server: a copy of a later
+-- hop arrives at that server
+abbrev pub IsForwardedTo : Entry → Hop → Verdict → ServerId → Type 0
+IsForwardedTo e hop verdict server = IsSomeAnd (onward e hop) (λ p. verdict ≡ Forward p.server)
+    × ((later : Hop) × (hop_number hop < hop_number later) × (arrives_at e later ≡ Some server))
+
+-- the arriving copy is processed by its owner's server, or at another server forwarded one step
+-- nearer to it
 abbrev pub IsServed : Stage → List Event → What → Type 0
 IsServed stage past (Arrive k hop server verdict) = IsSomeAnd (owner stage past k) (λ a.
     ((is_process verdict ≡ true) × (server ≡ a.server))
-    ⊎ ((hop ≡ Direct) × (verdict ≡ Forward a.server)))
+    ⊎ ((server ≢ a.server)
+    × IsSomeAnd (label_of stage past k) (λ l. IsForwardedTo l.entry hop verdict a.server)))
 IsServed stage past _ = ⊥
 
 -- a packet is dropped, reset or processed elsewhere
@@ -42,33 +52,37 @@ IsFault stage past (Arrive k hop server verdict) =
 IsFault stage past _ = ⊥
 
 -- the server is not the owner's, the label's version is no older than the owner's, and the changes
--- between moved the bucket at most once
-abbrev pub IsMovedAtMostOnce : Stage → ServerId → Option Accepted → Option Segment → Option Label
+-- between them moved the bucket at most twice, and at least as often as a copy of this hop went
+-- back
+abbrev pub IsAway : Stage → Hop → ServerId → Option Accepted → Option Segment → Option Label
     → Type 0
-IsMovedAtMostOnce stage server (Some a) (Some s) (Some l) =
-    (server ≢ a.server) × (a.version ≤ l.version.0)
-    × (moves stage.script.plan (bucket stage s.flow) a.version l.version.0 ≤ 1)
-IsMovedAtMostOnce stage server _ _ _ = ⊥
+IsAway stage hop server (Some a) (Some s) (Some l) =
+    let moved = moves stage.script.plan (bucket stage s.flow) a.version l.version.0 in
+    (server ≢ a.server) × (a.version ≤ l.version.0) × (hop_number hop ≤ moved) × (moved ≤ 2)
+IsAway stage hop server _ _ _ = ⊥
 
--- a direct copy is dropped by a retired shard of a server other than its owner's, by a label no
--- older than the owner's version, since which the bucket was moved at most once
+-- a copy is dropped by a retired shard of a server other than its owner's; its label is no older
+-- than the owner's version, and the bucket moved since then at most twice, and at least as often as
+-- the copy went back
 abbrev pub IsRetiredDrop : Stage → List Event → What → Type 0
-IsRetiredDrop stage past (Arrive k Direct server (Drop Retired)) =
-    IsMovedAtMostOnce stage server (owner stage past k) (segment_of stage k) (label_of stage past k)
+IsRetiredDrop stage past (Arrive k hop server (Drop Retired)) =
+    IsAway stage hop server (owner stage past k) (segment_of stage k) (label_of stage past k)
 IsRetiredDrop stage past _ = ⊥
 
--- the clock is past the stamp of the label by more than the timeout
-abbrev pub IsStampLate : Stage → ℕ → Option Label → Type 0
-IsStampLate stage clock None = ⊥
-IsStampLate stage clock (Some l) = l.entry.stamp.0 + timeout stage < clock
+-- there is a server to which a copy of this hop may be passed on, but the clock is past its stamp
+-- by more than the timeout
+abbrev pub IsStampLate : Stage → ℕ → Hop → Option Label → Type 0
+IsStampLate stage clock hop None = ⊥
+IsStampLate stage clock hop (Some l) =
+    IsSomeAnd (onward l.entry hop) (λ p. p.stamp.0 + timeout stage < clock)
 
--- the clock is past the stamp of the packet's label by more than the timeout
+-- the same, by the packet's label
 abbrev pub IsLate : Stage → List Event → ℕ → What → Type 0
 IsLate stage past clock (Arrive k hop server verdict) =
-    IsStampLate stage clock (label_of stage past k)
+    IsStampLate stage clock hop (label_of stage past k)
 IsLate stage past clock _ = ⊥
 
--- there is an event at this place of the history, of which this holds and the events before it
+-- there is an event at this place of the history, and P holds of it and of the events before it
 abbrev pub At : History → ℕ → (Stage → List Event → ℕ → What → Type 0) → Type 0
 At h place P = IsSomeAnd (event_at h place) (λ e. P h.stage (past_at h place) e.clock.0 e.what)
 
@@ -83,8 +97,8 @@ IsUnbrokenPacket stage all packet =
     AtEach (λ past e. is_arrival_of e.what packet ≡ true
     → IsUnbrokenArrival stage past e.clock.0 e.what) all
 
--- each arriving copy of the packet is processed by its owner's server, or, where it is a direct
--- one, forwarded to it
+-- each arriving copy of the packet is processed by its owner's server, or forwarded one step nearer
+-- to it
 abbrev pub IsServedPacket : Stage → List Event → ℕ → Type 0
 IsServedPacket stage all packet =
     AtEach (λ past e. is_arrival_of e.what packet ≡ true → IsServed stage past e.what) all

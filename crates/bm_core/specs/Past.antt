@@ -1,5 +1,5 @@
--- What a list of events says, by looking back through it: versions, labels, sendings, what a server
--- holds, and who owns a flow (docs/DEFINITIONS.md). A past has its newest event first.
+-- What follows from a list of events, looking back through it: versions, labels, sendings, what a
+-- server holds, and who owns a flow (docs/DEFINITIONS.md). A past has its newest event first.
 use Rattle.std.specs.Prelude.{ℕ, zero, suc, Bool, true, false, ◌&&◌, ◌||◌, not, ◌==◌, if◌then◌else◌}
 use Rattle.std.specs.Prelude.{List, [], ◌∷◌, length, Option, Some, None, slice_get, option_map}
 use Rattle.std.specs.Prelude.{filter}
@@ -11,7 +11,7 @@ use Rattle.bm_base.specs.declared.flow.Segment.{Segment}
 use Rattle.bm_seq.specs.declared.receiver.Receiver.{Receiver}
 use Rattle.bm_base.specs.declared.label.Label.{Label}
 use Rattle.bm_base.specs.declared.label.Hop.{Hop}
-use Rattle.bm_base.specs.declared.label.Hop.TheVariants.{Direct, Chained}
+use Rattle.bm_base.specs.declared.label.Hop.TheVariants.{Direct}
 use Rattle.bm_base.specs.declared.receive.Taken.TheVariants.{Ended}
 use Rattle.bm_table.specs.declared.plan.Retirement.{Retirement}
 use Rattle.bm_table.specs.declared.plan.Retirement.TheVariants.{Done}
@@ -27,7 +27,7 @@ use Rattle.bm_base.specs.Segments.{same_flow}
 use Rattle.bm_hash.specs.Buckets.{bucket_of, shard_of}
 use Rattle.bm_seq.specs.Receivers.{opened, receiver_after}
 pub use Rattle.bm_base.specs.Captures.{steerable}
-pub use Rattle.bm_base.specs.Labels.{same_hop}
+pub use Rattle.bm_base.specs.Labels.{same_hop, hop_after}
 
 -- the segment of packet k, which is the record of that number, counted from 1
 abbrev pub segment_of : Stage → ℕ → Option Segment
@@ -78,7 +78,7 @@ abbrev pub version_at : List Event → MuxId → Version
 version_at [] m = record { 0 = 0 }
 version_at (e ∷ past) m = switched e.what m (version_at past m)
 
--- what the mux then writes on a packet
+-- the label that the mux then writes on a packet
 abbrev pub labelled : Stage → List Event → MuxId → Option Segment → Option Label
 labelled stage past m None = None
 labelled stage past m (Some s) = Some (record {
@@ -113,12 +113,7 @@ is_forward _ = false
 -- the hop is the direct one
 abbrev pub is_direct : Hop → Bool
 is_direct Direct = true
-is_direct Chained = false
-
--- the hop that a forwarded copy makes next
-abbrev pub hop_after : Hop → Option Hop
-hop_after Direct = Some Chained
-hop_after Chained = None
+is_direct _ = false
 
 -- a packet that is sent, and the hop that its copies make
 pub record Sending : Type 0 where
@@ -146,7 +141,7 @@ abbrev pub is_sent : List Event → ℕ → Hop → Bool
 is_sent [] k hop = false
 is_sent (e ∷ past) k hop = sends e.what k hop || is_sent past k hop
 
--- the same, with a sending at that clock
+-- the same, by a sending at this clock
 abbrev pub is_sent_at : List Event → ℕ → Hop → ℕ → Bool
 is_sent_at [] k hop clock = false
 is_sent_at (e ∷ past) k hop clock =
@@ -204,7 +199,7 @@ abbrev pub held : Stage → List Event → ServerId → Flow → Option Holding
 held stage [] s f = None
 held stage (e ∷ past) s f = held_after stage (length past) e.what s f (held stage past s f)
 
--- the flows but this one
+-- the flows without this one
 abbrev pub without : Flow → List Flow → List Flow
 without f flows = filter (λ g. not (same_flow f g)) flows
 
@@ -256,15 +251,13 @@ pub record Accepted : Type 0 where
 
 -- an Accept of a packet with this label, after these events
 abbrev pub accepted : ServerId → Option Label → List Event → Accepted
-accepted server label past =
-    record { server = server; version = version_of label; place = length past }
+accepted s label past = record { server = s; version = version_of label; place = length past }
 
 -- the last Accept of the flow after the event
 abbrev pub accept_after : Stage → List Event → What → Flow → Option Accepted → Option Accepted
 accept_after stage past (Arrive k hop server verdict) f before =
     if is_accept verdict && is_of (segment_of stage k) f
-    then Some (accepted server (label_of stage past k) past)
-    else before
+    then Some (accepted server (label_of stage past k) past) else before
 accept_after stage past _ f before = before
 
 -- the last Accept of the flow

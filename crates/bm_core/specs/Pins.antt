@@ -17,18 +17,19 @@ use Rattle.bm_core.specs.Past.{Accepted, accept_of}
 use Rattle.bm_core.specs.Runs.{AtEach}
 use Rattle.bm_core.specs.Causes.{is_process}
 
--- this holds of each of these events, of those before it, its clock and what it is
+-- P holds at each of these events, of the events before it, its clock and what it is
 abbrev pub Each : (List Event → ℕ → What → Type 0) → List Event → Type 0
 Each P past = AtEach (λ before e. P before e.clock.0 e.what) past
 
--- an arrival of the flow: the one Accept is at its place; the other packets come to the server
--- after it, with versions no older than the accepted packet's, between which the bucket moved at
--- most once; and elsewhere they come in time
+-- an arrival of the flow: the one Accept is at its place; other packets come to that server after
+-- it, and to other servers in time; their versions are no older than the accepted packet's, and
+-- between them the bucket moved at most once
 pub record IsPinnedArrival (stage : Stage) (f : Flow) (packet : ℕ) (a : Accepted)
     (past : List Event) (clock k : ℕ) (server : ServerId) (verdict : Verdict) : Type 0 where
   pub one : is_accept verdict ≡ true → (server ≡ a.server) × (length past ≡ a.place)
   pub in_time : k ≢ packet → server ≢ a.server
-      → IfSome (label_of stage past k) (λ l. clock ≤ l.entry.stamp.0 + timeout stage)
+      → IfSome (label_of stage past k)
+      (λ l. IfSome l.entry.prev (λ p. clock ≤ p.stamp.0 + timeout stage))
   pub after : k ≢ packet → server ≡ a.server → accept_of stage past f ≡ Some a
   pub version : k ≢ packet
       → IfSome (label_of stage past k)
@@ -47,8 +48,8 @@ IsPinnedEvent stage f packet a past clock (Retire server h at result) =
     is_done result ≡ true → server ≡ a.server → h ≢ shard stage f
 IsPinnedEvent stage f packet a past clock _ = Unit {0}
 
--- the packet is the only opening one of its flow, has one Accept, and the flow's other packets keep
--- to it
+-- the packet is the only opening one of its flow, which has no RST; it has one Accept, and every
+-- event keeps to the premises
 pub record IsPinned (stage : Stage) (all : List Event) (packet : ℕ) : Type 0 where
   pub segment : Segment
   pub is_segment : segment_of stage packet ≡ Some segment
@@ -61,8 +62,8 @@ pub record IsPinned (stage : Stage) (all : List Event) (packet : ℕ) : Type 0 w
   pub is_accept_of : accept_of stage all segment.flow ≡ Some accept
   pub each : Each (IsPinnedEvent stage segment.flow packet accept) all
 
--- an arriving copy of the flow's other packets is processed by the server that accepted it, or,
--- where it is a direct one, forwarded there
+-- an arriving copy of the flow's other packets is processed by the server that accepted the flow,
+-- or, if it is a direct copy, forwarded there
 abbrev pub IsKeptArrival : Stage → Flow → ℕ → Accepted → List Event → ℕ → What → Type 0
 IsKeptArrival stage f packet a past clock (Arrive k hop server verdict) =
     IfSome (segment_of stage k)
@@ -70,7 +71,7 @@ IsKeptArrival stage f packet a past clock (Arrive k hop server verdict) =
     ⊎ ((hop ≡ Direct) × (verdict ≡ Forward a.server)))
 IsKeptArrival stage f packet a past clock _ = Unit {0}
 
--- so is each arriving copy of the flow's other packets
+-- this holds of each arriving copy of the flow's other packets
 pub record IsKeptTo (stage : Stage) (all : List Event) (packet : ℕ)
     (pinned : IsPinned stage all packet) : Type 0 where
   pub each : Each (IsKeptArrival stage pinned.segment.flow packet pinned.accept) all

@@ -16,10 +16,10 @@ setting_mux s k f = mux_of_kind s.route s.muxes k f
 abbrev pub setting_fate : Setting → ℕ → Hop → Fate
 setting_fate s k hop = fate_in s.faults k hop
 
--- the route that answers just this
+-- the route that gives just this answer
 abbrev pub RouteBy : (ℕ → Flow → ℕ) → Routes
 RouteBy mux k f m = m ≡ mux k f
 
--- the fault rule that answers just this
+-- the fault rule that gives just this answer
 abbrev pub RuleBy : (ℕ → Hop → Fate) → Rules
 RuleBy fate k hop f = f ≡ fate k hop

@@ -34,7 +34,7 @@ same_actor (MuxOf m) (MuxOf n) = m == n
 same_actor (ShardOf s h) (ShardOf t i) = s == t && h == i
 same_actor _ _ = false
 
--- the actor of an event; a Lose belongs to nobody
+-- the actor of an event; a Lose has none
 abbrev pub actor_of : Stage → What → Option Actor
 actor_of stage (Publish v) = Some Controller
 actor_of stage Sync = Some Controller
@@ -62,7 +62,7 @@ abbrev pub last_clock : List Event → ℕ
 last_clock [] = 0
 last_clock (e ∷ past) = e.clock.0
 
--- the clock after both
+-- the least clock after both
 abbrev pub next_clock : ℕ → ℕ → ℕ
 next_clock a b = suc (max a b)
 
@@ -78,7 +78,8 @@ pub record IsArrival (stage : Stage) (past : List Event) (clock k : ℕ) (hop : 
   pub place : arrives_at label.entry hop ≡ Some server
   pub verdict_is : verdict ≡ verdict_at stage past clock label hop server segment
 
--- the event may come after these
+-- the event may come after these; a Switch may be to any published version, also to one older than
+-- the mux has
 abbrev pub MayCome : Stage → List Event → ℕ → What → Type 0
 MayCome stage past clock (Publish v) =
     (v.0 ≡ suc (newest past)) × (v.0 ≤ length stage.script.plan.changes)
@@ -95,16 +96,16 @@ MayCome stage past clock (Retire server h at result) =
     (at.0 < clock) × IsRetirement stage.script.plan (timeout stage) (newest past) server at.0 result
 MayCome stage past clock Sync = Unit {0}
 
--- the event may stand after these
+-- the event may come after these, with its clock
 pub record IsStep (stage : Stage) (past : List Event) (e : Event) : Type 0 where
-  -- clocks don't fall
+  -- clocks never decrease
   pub clock : last_clock past ≤ e.clock.0
-  -- those of one actor rise
+  -- the clocks of one actor increase
   pub own : IfSome (actor_of stage e.what)
       (λ a. IfSome (own_clock stage past a) (λ c. c < e.clock.0))
   pub may : MayCome stage past e.clock.0 e.what
 
--- this holds at each element, of it and those before it
+-- P holds of each element and those before it
 abbrev pub AtEach : {X : Type 0} → (List X → X → Type 0) → List X → Type 0
 AtEach P [] = Unit {0}
 AtEach P (e ∷ past) = P past e × AtEach P past
@@ -118,7 +119,7 @@ pub record IsRun (h : History) : Type 0 where
   pub sound : IsSound h.stage
   pub run : Run h.stage (reverse h.events)
 
--- the event at a place of the history, and those before it, the newest first
+-- the event at a place of the history
 abbrev pub event_at : History → ℕ → Option Event
 event_at h place = slice_get h.events place
 

@@ -1,5 +1,5 @@
 -- The history of a replay, event by event: of what can come and hasn't, the least by moment, then
--- kind, then number comes next (docs/DEFINITIONS.md). A past has its newest event first, and so
+-- rank, then number comes next (docs/DEFINITIONS.md). A past has its newest event first, and so
 -- have the fates, one for each event.
 use Rattle.std.specs.Prelude.{◌≡◌, ℕ, zero, suc, ◌+◌, ◌*◌, Bool, true, false, ◌&&◌, ◌||◌, ◌==◌}
 use Rattle.std.specs.Prelude.{nat_lt, if◌then◌else◌, List, [], ◌∷◌, ◌++◌, length, slice_index_or}
@@ -27,7 +27,7 @@ use Rattle.bm_core.specs.Past.{is_switch_of, steerable, newest, Sending, sending
 use Rattle.bm_core.specs.Runs.{last_clock, next_clock}
 use Rattle.bm_core.specs.Accounts.{counts, fate_now, before}
 
--- the event without what it answers
+-- the event without its result
 abbrev pub call_of : What → Call
 call_of (Publish v) = Publishes v.0
 call_of (Switch m v) = Switches m.0 v.0
@@ -41,11 +41,10 @@ call_of (Lose k hop) = Loses k hop
 -- by moment, then rank, then number
 abbrev pub comes_first : Due → Due → Bool
 comes_first a b =
-    nat_lt a.moment b.moment
-    || (a.moment == b.moment
+    nat_lt a.moment b.moment || (a.moment == b.moment
     && (nat_lt a.rank b.rank || (a.rank == b.rank && nat_lt a.number b.number)))
 
--- the sooner of the two, and the earlier one of two alike
+-- the sooner of the two; if they are equal, the first
 abbrev pub sooner : Option Due → Due → Option Due
 sooner None b = Some b
 sooner (Some a) b = if comes_first b a then Some b else Some a
@@ -54,7 +53,7 @@ sooner (Some a) b = if comes_first b a then Some b else Some a
 abbrev pub least : List Due → Option Due
 least dues = fold sooner None dues
 
--- COPIES UNDER WAY, by their due moment, and of one moment in the order of their sendings
+-- COPIES UNDER WAY, by their due moment, and at one moment in the order of their sendings
 
 -- a copy of a packet that is under way: when it is due, at which place of the history it was sent,
 -- and its packet and hop
@@ -64,12 +63,12 @@ pub record Underway : Type 0 where
   pub packet : ℕ
   pub hop : Hop
 
--- one more copy, behind those that are due no later
+-- the copy added after those that are due no later
 abbrev pub put : Underway → List Underway → List Underway
 put d [] = d ∷ []
 put d (x ∷ dues) = if nat_lt d.moment x.moment then d ∷ x ∷ dues else x ∷ put d dues
 
--- so many copies of one sending
+-- this many copies of one sending added
 abbrev pub put_all : ℕ → Underway → List Underway → List Underway
 put_all zero d dues = dues
 put_all (suc n) d dues = put d (put_all n d dues)
@@ -102,15 +101,14 @@ wire fates (e ∷ past) =
 
 -- a call that is due at a moment, with the rank of its kind and its number
 abbrev pub due_at : ℕ → ℕ → ℕ → Call → Due
-due_at moment rank number call =
-    record { moment = moment; rank = rank; number = number; call = call }
+due_at moment rank n call = record { moment = moment; rank = rank; number = n; call = call }
 
 -- the publication of a change, which leads from version v to the next
 abbrev pub publish_due : ℕ → Option Change → List Due
 publish_due v None = []
 publish_due v (Some c) = due_at c.moment.0 0 v (Publishes (suc v)) ∷ []
 
--- the mux's Switch to the version after v, as late after its change as the mux lags
+-- the mux's Switch to the version after v, which is due the mux's lag after the change
 abbrev pub switch_due : ℕ → ℕ → ℕ → ℕ → Option Change → List Due
 switch_due muxes lag m v None = []
 switch_due muxes lag m v (Some c) =
@@ -175,7 +173,7 @@ abbrev pub arrival_due : List Underway → List Due
 arrival_due [] = []
 arrival_due (u ∷ dues) = due_at u.moment 5 u.place (Arrives u.packet u.hop) ∷ []
 
--- those of the list that haven't come, since they come in its order
+-- those of the list that haven't come yet; they come in the list's order
 abbrev pub left : List Due → List Event → (Call → Bool) → List Due
 left dues past test = dropped (counts past (λ what. test (call_of what))) dues
 
@@ -199,8 +197,8 @@ abbrev pub steers : Call → Bool
 steers (Steers k) = true
 steers _ = false
 
--- what can come: the next of each kind, where a copy comes in the order of the due moments and each
--- mux has its own next Switch
+-- what can come: the next call of each kind; copies come in the order of their due moments, and
+-- each mux has its own next Switch
 abbrev pub can_come : List Underway → Stage → List Event → List Due
 can_come wire stage past =
     publish_due (newest past) (next_change stage.script.plan (newest past))
@@ -217,7 +215,7 @@ abbrev pub loss_of_fate : Fate → Option Sending → Option Call
 loss_of_fate fate None = None
 loss_of_fate fate (Some s) = if fate.copies == 0 then Some (Loses s.packet s.hop) else None
 
--- the Lose that has to come next
+-- the Lose that must come next
 abbrev pub due_loss : List Fate → List Event → Option Call
 due_loss fates [] = None
 due_loss fates (e ∷ past) = loss_of_fate (fate_now fates) (sending_of e.what)

@@ -1,4 +1,4 @@
--- Fates by which copies are few and come soon, so that a replay ends and its clocks stay small.
+-- Fates with few copies that come soon, so that a replay ends and its clocks stay small.
 use Rattle.std.specs.Prelude.{◌*◌, ◌^◌, ◌≤◌, List, [], ◌∷◌, IfSome}
 use Rattle.bm_base.specs.declared.fate.Fate.{Fate}
 use Rattle.bm_core.specs.declared.events.Event.{Event}
@@ -9,7 +9,7 @@ use Rattle.bm_core.specs.Accounts.{fate_now, before}
 abbrev pub IsSoon : Fate → Type 0
 IsSoon f = (f.copies ≤ 3) × (f.delay ≤ 60 * 10 ^ 9)
 
--- each sending's fate is such a one
+-- each sending's fate has few copies that come soon
 abbrev pub AreSoon : List Fate → List Event → Type 0
 AreSoon fates [] = Unit {0}
 AreSoon fates (e ∷ past) =

@@ -7,5 +7,5 @@ pub use Rattle.bm_base.specs.Captures.{AreRising, IsService, IsFit, IsReplayable
 -- what a history may be about
 pub record IsSound (stage : Stage) : Type 0 where
   pub script : IsSoundScript stage.script
-  -- the records' moments don't fall, and what is steered goes to a service
+  -- the records' moments never decrease, and what is steered goes to a service
   pub capture : IsReplayable stage.script.setting.vips stage.capture

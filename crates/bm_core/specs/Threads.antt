@@ -39,8 +39,8 @@ last_own stage past (Some a) = unwrap_or (own_clock stage past a) 0
 
 -- COMMANDS
 
--- how far the script is carried out: so many commands, and of the next one, if it is a retire,
--- these shards
+-- how far the script is carried out: this many commands, and these shards of the next one, if it is
+-- a retire
 pub record Progress : Type 0 where
   pub commands : ℕ
   pub shards : List ℕ
@@ -58,7 +58,7 @@ goes_on shards (Retire server h at result) p =
     if suc (length p.shards) == shards then next_command p else record p { shards = h ∷ p.shards }
 goes_on shards _ p = p
 
--- how far the script is carried out, with so many shards at each server
+-- how far the script is carried out, with this many shards at each server
 abbrev pub progress : ℕ → List Event → Progress
 progress shards [] = record { commands = 0; shards = [] }
 progress shards (e ∷ past) = goes_on shards e.what (progress shards past)
@@ -76,8 +76,8 @@ abbrev pub is_number_among : List ℕ → ℕ → Bool
 is_number_among [] n = false
 is_number_among (x ∷ xs) n = x == n || is_number_among xs n
 
--- the event is one of the command's, of which these shards have retired; an event that no command
--- has is free
+-- the event belongs to the command, and not to one of the shards of a retire that are done; an
+-- event that belongs to no command may always come
 abbrev pub IsOf : Option Command → List ℕ → What → Type 0
 IsOf (Some (ChangeCommand v)) done (Publish w) = w ≡ v
 IsOf (Some (CloseCommand at server flow)) done (Close s f closed) = (s ≡ server) × (f ≡ flow)
@@ -98,7 +98,7 @@ is_command (Retire server h at result) = true
 is_command Sync = true
 is_command _ = false
 
--- the greatest clock of the commands' events, but for the newest so many of them
+-- the greatest clock of the commands' events, without the newest `skip` of them
 abbrev pub commands_clock : ℕ → List Event → ℕ
 commands_clock skip [] = 0
 commands_clock zero (e ∷ past) =
@@ -106,7 +106,7 @@ commands_clock zero (e ∷ past) =
 commands_clock (suc skip) (e ∷ past) =
     if is_command e.what then commands_clock skip past else commands_clock (suc skip) past
 
--- the controller's clock: the greatest clock of the events of earlier commands, so not of those of
+-- the controller's clock: the greatest clock of the events of earlier commands, without those of
 -- the same retire
 abbrev pub controller_at : Stage → List Event → ℕ
 controller_at stage past = commands_clock (length (progress_at stage past).shards) past
@@ -124,7 +124,7 @@ command_moment stage past = max (moment_at (command_at stage past)) (controller_
 
 -- PHASES
 
--- how many Syncs came
+-- how many Syncs there were
 abbrev pub phase : List Event → ℕ
 phase past = counts past is_sync
 
@@ -186,7 +186,7 @@ publish_clock [] v = 0
 publish_clock (e ∷ past) v = if is_publish_of e.what v then e.clock.0 else publish_clock past v
 
 -- the first Switch of a mux in a phase is to a version no older than its own and than the newest
--- from before the phase; each other one is to a newer version
+-- from before the phase; each later one is to a newer version
 abbrev pub IsLook : List Event → MuxId → ℕ → Type 0
 IsLook past m v =
     MatchBool (has_looked past m.0) ((version_at past m).0 < v)
@@ -224,8 +224,8 @@ ArrivesInOrder stage past k server =
     (λ s. counts past
     (λ what. arrives_later stage past what server (shard stage s.flow) l.mux.0 k) ≡ 0))
 
--- by one of the sendings of the packet and hop, a copy has this clock at a shard whose last clock
--- is own
+-- one of the sendings of the packet and hop gives a copy this clock, at a shard whose last clock is
+-- own
 abbrev pub IsDueAt : List Fate → List Event → ℕ → Hop → ℕ → ℕ → Type 0
 IsDueAt fates [] k hop own clock = ⊥
 IsDueAt fates (e ∷ past) k hop own clock =
@@ -255,17 +255,17 @@ IsTimed fates stage past own clock (Arrive k hop server verdict) =
     ArrivesInOrder stage past k server × IsDueAt fates past k hop own clock
 IsTimed fates stage past own clock (Lose k hop) = Unit {0}
 
--- the event may stand after these in a threaded run
+-- the event may come after these in a threaded run
 pub record IsThreadStep (fates : List Fate) (stage : Stage) (past : List Event) (e : Event) : Type
     0 where
-  -- the events of the commands stand in the script's order, those of one retire in any order
+  -- the events of the commands are in the script's order, those of one retire in any order
   pub command : IsOf (command_at stage past) (progress_at stage past).shards e.what
-  -- the events of a packet stand in its phase
+  -- the events of a packet are in its phase
   pub phase : IfSome (packet_of e.what) (λ k. phase past ≡ phase_of stage k)
   pub timed : IsTimed fates stage past (last_own stage past (actor_of stage e.what)) e.clock.0
       e.what
 
--- each event may stand where it stands
+-- each event may come where it is
 abbrev pub AreThreadSteps : List Fate → Stage → List Event → Type 0
 AreThreadSteps fates stage [] = Unit {0}
 AreThreadSteps fates stage (e ∷ past) =
@@ -275,7 +275,7 @@ AreThreadSteps fates stage (e ∷ past) =
 abbrev pub FollowsInThreads : List Fate → Stage → List Event → Type 0
 FollowsInThreads fates stage all = AreThreadSteps fates stage all × HaveLooked stage all
 
--- a run that the workers of a threaded run make of their stage, to the end of the last phase
+-- a run made by the workers of a threaded run, to the end of the last phase
 pub record IsThreadedRun (R : Routes) (F : Rules) (h : History) : Type 0 where
   pub run : IsRun h
   -- one fate for each event, the newest first

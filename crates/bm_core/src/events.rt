@@ -7,7 +7,7 @@ use bm_seq::Receiver;
 use bm_table::{Retirement, Script};
 
 /// Why a packet is dropped or reset.
-#[derive(Clone, Copy, Debug, PartialEq, Eq)]
+#[derive(Clone, Copy, PartialEq, Eq)]
 pub enum Why {
     NoPrevious,
     ChainExpired,
@@ -18,7 +18,7 @@ pub enum Why {
 }
 
 /// What a server does with a packet.
-#[derive(Clone, Copy, Debug, PartialEq, Eq)]
+#[derive(Clone, Copy, PartialEq, Eq)]
 pub enum Verdict {
     Accept,
     Process(Taken),
@@ -28,7 +28,7 @@ pub enum Verdict {
 }
 
 /// What happens in one event.
-#[derive(Clone, Copy, Debug, PartialEq, Eq)]
+#[derive(Clone, Copy, PartialEq, Eq)]
 pub enum What {
     Publish(Version),
     Switch {
@@ -64,14 +64,14 @@ pub enum What {
 }
 
 /// An event and its clock.
-#[derive(Clone, Copy, Debug, PartialEq, Eq)]
+#[derive(Clone, Copy, PartialEq, Eq)]
 pub struct Event {
     pub clock: Moment,
     pub what: What,
 }
 
 /// What a server's shard knows of a flow.
-#[derive(Clone, Copy, Debug, PartialEq, Eq)]
+#[derive(Clone, Copy, PartialEq, Eq)]
 pub struct Local {
     pub retired: bool,
     pub held: Option<Receiver>,
@@ -79,12 +79,12 @@ pub struct Local {
 }
 
 /// Which premise is broken.
-#[derive(Clone, Copy, Debug, PartialEq, Eq)]
+#[derive(Clone, Copy, PartialEq, Eq)]
 pub enum Cause {
     NeverAccepted,
     NotHeld,
     StaleMux,
-    MovedTwice,
+    MovedThrice,
     ChainLate,
     SynElsewhere,
     Full,
@@ -92,14 +92,14 @@ pub enum Cause {
 }
 
 /// What a history is about.
-#[derive(Debug, Drop)]
+#[derive(Drop)]
 pub struct Stage {
     pub script: Script,
     pub capture: Capture,
 }
 
 impl Stage {
-    /// The segment of the packet of this number, counted from 1, where it is steered.
+    /// The segment of the packet of this number, counted from 1, if it is steered.
     pub fn segment(&self, packet: u32) -> Option<Segment>
         ensures { result ≡ past.segment_of self.now packet }
     {
@@ -112,11 +112,11 @@ impl Stage {
 }
 
 /// What happened, in order.
-#[derive(Debug, Drop)]
+#[derive(Drop)]
 pub struct History {
     pub stage: Stage,
     pub events: List<Event>,
 }
 
-/// The events of one actor, in the order in which it wrote them down.
+/// The events of one actor, in the order in which it recorded them.
 pub type Log = List<Event>;

@@ -28,16 +28,16 @@ ghost use Rattle.bm_core.specs.Soon.{AreSoon};
 
 use crate::{History, Stage};
 
-/// A packet whose premises hold where a copy of it arrives is processed by its owner's server, or,
-/// where it is a direct copy, forwarded to it.
+/// Where a copy of a packet arrives and the packet's premises hold, the copy is processed by its
+/// owner's server, or forwarded one step nearer to it.
 pub fn safety(h: &History, place: usize)
     requires run { IsRun h.now }
     requires unbroken { At h.now place IsUnbrokenArrival }
     ensures { At h.now place (λ stage past clock what. IsServed stage past what) }
 {}
 
-/// A packet whose premises hold at all its arrivals is at each of them processed by its owner's
-/// server or, as a direct copy, forwarded to it: no other server processes it, and none drops or
+/// If a packet's premises hold at all its arrivals, each of them is processed by its owner's server
+/// or forwarded one step nearer to it: no other server processes the packet, and none drops or
 /// resets it.
 pub fn served(h: &History, packet: u32)
     requires run { IsRun h.now }
@@ -59,17 +59,18 @@ pub fn only_faults(stage: &Stage)
         → is_some (cause stage.now past clock what) ≡ true → IsFault stage.now past what }
 {}
 
-/// What a retired shard drops comes late: the clock is past the stamp of its label by more than the
-/// timeout. This is said of a direct copy at a server that isn't its owner's, by a label no older
-/// than the owner's version, since which the bucket moved at most once.
+/// A copy that a retired shard drops is late: there is a server to which it would be passed on, and
+/// the clock is past that server's stamp by more than the timeout. This is said of a server other
+/// than the owner's, if the label is no older than the owner's version and the bucket moved since
+/// then at most twice, and at least as often as the copy went back.
 pub fn retired_late(h: &History, place: usize)
     requires run { IsRun h.now }
     requires dropped { At h.now place (λ stage past clock what. IsRetiredDrop stage past what) }
     ensures { At h.now place IsLate }
 {}
 
-/// A connection whose packets keep to the premises is served by the server that accepted it: each
-/// copy of its other packets is processed there or, as a direct copy, forwarded there.
+/// If a connection's packets keep to the premises, the server that accepted it serves it: each copy
+/// of its other packets is processed there or, as a direct copy, forwarded there.
 pub fn pinned(h: &History, packet: u32)
     requires { IsRun h.now }
     ensures { (pin : IsPinned h.now.stage (reverse h.now.events) packet)
@@ -93,7 +94,7 @@ pub fn one_replay(a: &History, b: &History)
         → a.now.events ≡ b.now.events }
 {}
 
-/// After the same events of a replay, with the same answers, one event comes next.
+/// After the same events of a replay, with the same answers, only one event can come next.
 pub fn one_next(stage: &Stage)
     ensures { (mux : ℕ → Flow → ℕ) (fates : List Fate) (past : List Event) (a b : Event)
         → IsNextIn mux fates stage.now past a
@@ -101,18 +102,18 @@ pub fn one_next(stage: &Stage)
         → a ≡ b }
 {}
 
-/// A replay of a sound stage, whose sendings have at most three copies each, a minute late at most,
-/// has at most 13 events for each of 200,000 packets and 65 for each of 65,536 commands, and its
-/// clocks are at most 5 × 10^18 nanoseconds.
+/// A replay of a sound stage, whose sendings have at most three copies each, at most a minute late,
+/// has at most 40 events for each of 200,000 packets and 65 for each of 65,536 commands, and its
+/// clocks are at most 6 × 10^18 nanoseconds.
 pub fn short_replay(stage: &Stage)
     requires { IsSound stage.now }
     ensures events { (fates : List Fate) (past : List Event)
-        → Follows fates stage.now past → AreSoon fates past → length past ≤ 6859840 }
+        → Follows fates stage.now past → AreSoon fates past → length past ≤ 12259840 }
     ensures clocks { (fates : List Fate) (past : List Event)
-        → Follows fates stage.now past → AreSoon fates past → last_clock past ≤ 5 * 10 ^ 18 }
+        → Follows fates stage.now past → AreSoon fates past → last_clock past ≤ 6 * 10 ^ 18 }
 {}
 
-/// What a server knows of a flow is what the turns of the flow's shard say.
+/// What a server knows of a flow follows from the turns of the flow's shard.
 pub fn shard_book(stage: &Stage)
     ensures { (past : List Event) (s : ServerId) (f : Flow)
         → let book = book_of stage.now past s (shard stage.now f) in
@@ -129,7 +130,7 @@ pub fn held_flows(stage: &Stage)
         → AreDistinct (flows_held stage.now past s h) }
 {}
 
-/// A mux's version, and the label of each packet that has one, are what the mux's own log says.
+/// A mux's version, and the label of each packet that has one, follow from the mux's own log.
 pub fn mux_log(stage: &Stage)
     ensures version { (past : List Event) (m : MuxId)
         → version_at (log_of stage.now past (MuxOf m.0)) m ≡ version_at past m }

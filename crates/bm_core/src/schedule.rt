@@ -1,8 +1,8 @@
 //! What can come next in a replay.
 use bm_base::{Flow, Hop, ServerId};
 
-/// An event without what it answers.
-#[derive(Clone, Copy, Debug, PartialEq, Eq)]
+/// An event without its result.
+#[derive(Clone, Copy, PartialEq, Eq)]
 pub enum Call {
     Publishes(u32),
     Switches(u16, u32),
@@ -14,8 +14,8 @@ pub enum Call {
     Loses(u32, Hop),
 }
 
-/// What can come, with its stated moment and, at equal moments, its rank and number.
-#[derive(Clone, Copy, Debug, PartialEq, Eq)]
+/// A call that can come next, with its stated moment and, for equal moments, its rank and number.
+#[derive(Clone, Copy, PartialEq, Eq)]
 pub struct Due {
     pub moment: u64,
     pub rank: u8,

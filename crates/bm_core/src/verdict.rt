@@ -1,14 +1,14 @@
 //! The verdict on a copy of a packet.
-ghost use Rattle.std.specs.Prelude.{◌≡◌, ◌≤◌, if◌then◌else◌};
+ghost use Rattle.std.specs.Prelude.{◌≡◌, ◌≤◌, ◌+◌, nat_le, if◌then◌else◌};
 ghost use Rattle.bm_core.specs.Verdicts.{entry_of, onward, passed_on, verdict_on};
 ghost use Rattle.bm_base.specs.Segments.{has_flag};
 
 use crate::{Local, Verdict, Why};
 use bm_base::flags::RST;
-use bm_base::{Hop, Moment, Segment, Tag, is_opening};
+use bm_base::{Hop, Moment, Past, Segment, Tag, is_opening};
 
 /// The verdict on a segment that carries a tag, at a shard that knows this of the segment's flow.
-/// `clock` and `timeout` are nanoseconds. Takes no memory.
+/// `clock` and `timeout` are in nanoseconds. Takes no memory.
 pub fn decide(local: &Local, tag: &Tag, s: &Segment, clock: Moment, timeout: u64) -> Verdict
     requires len { s.now.len ≤ 1048576 }
     ensures { result ≡ verdict_on local.now timeout clock.0 tag.now s.now }
@@ -31,17 +31,19 @@ fn pass_on(tag: &Tag, s: &Segment, clock: Moment, timeout: u64) -> Verdict
     ensures { result ≡ passed_on timeout clock.0 tag.now.hop (onward (entry_of tag.now) tag.now.hop)
         s.now }
 {
-    match (tag.hop, tag.prev) {
-        (Hop::Chained, _) => refuse(Why::ChainedUnknown, s),
-        (Hop::Direct, None) => refuse(Why::NoPrevious, s),
-        (Hop::Direct, Some(server)) => {
-            if u128::from(clock.0) <= u128::from(tag.stamp.0) + u128::from(timeout) {
-                Verdict::Forward(server)
-            } else {
-                refuse(Why::ChainExpired, s)
-            }
-        }
+    match tag.onward() {
+        Some(past) if is_in_time(&past, clock, timeout) => Verdict::Forward(past.server),
+        Some(_) => refuse(Why::ChainExpired, s),
+        None if tag.hop == Hop::Direct => refuse(Why::NoPrevious, s),
+        None => refuse(Why::ChainedUnknown, s),
     }
+}
+
+/// Whether at most the timeout has passed since the bucket left the server.
+fn is_in_time(past: &Past, clock: Moment, timeout: u64) -> bool
+    ensures { result ≡ nat_le clock.0 (past.now.stamp.0 + timeout) }
+{
+    u128::from(clock.0) <= u128::from(past.stamp.0) + u128::from(timeout)
 }
 
 fn refuse(why: Why, s: &Segment) -> Verdict

@@ -1,5 +1,5 @@
-//! Tests of `bm_seq`, `bm_conn`, `bm_core`, `bm_shard` and `bm_merge`, in a crate of their own: a
-//! run of tests proves its crate again.
+//! Tests of `bm_seq`, `bm_conn`, `bm_core`, `bm_shard` and `bm_merge`, in a crate of their own:
+//! running tests proves their crate again.
 #![tactic(auto)]
 
 #[cfg(test)]

@@ -1,4 +1,4 @@
-//! Tests of `bm_merge`: logs put together.
+//! Tests of `bm_merge`: merging logs.
 ghost use Rattle.std.specs.Prelude.{map, IfOk};
 ghost use Rattle.std.specs.List.{AllByRecursion};
 ghost use Rattle.bm_merge.specs.Rising.{IsRising};
@@ -46,7 +46,6 @@ fn arrive(clock: u64, packet: u32, hop: Hop, server: u16, verdict: Verdict) -> E
     )
 }
 
-/// The logs with these events.
 fn logs(alloc: Global, parts: &[&[Event]]) -> Result<Vec<Log>, Memory> {
     let mut logs = Vec::new(alloc);
     for part in parts {
@@ -55,7 +54,7 @@ fn logs(alloc: Global, parts: &[&[Event]]) -> Result<Vec<Log>, Memory> {
     Ok(logs)
 }
 
-/// No change, no command and no record.
+/// A stage without changes, commands and records.
 fn stage(alloc: Global) -> Result<Stage, Memory> {
     let records = List::of(Vec::new(alloc));
     let script = Script {
@@ -67,7 +66,7 @@ fn stage(alloc: Global) -> Result<Stage, Memory> {
     Ok(Stage { script, capture })
 }
 
-/// Whether the logs with these events merge to the others.
+/// Whether the logs with these events merge into the others.
 fn merge_to(alloc: Global, parts: &[&[Event]], want: &[Event]) -> Result<bool, Memory> {
     let logs = logs(alloc, parts)?;
     let history = merge(alloc, stage(alloc)?, logs)?;
@@ -124,7 +123,7 @@ fn a_loss_may_have_a_later_clock_than_what_stands_behind_it(rt: HostRuntime) -> 
     Ok(())
 }
 
-/// Events whose clocks don't fall, as a log.
+/// Events whose clocks never decrease, as a log.
 #[derive(Drop)]
 struct Row {
     events: Vec<Event>,
@@ -152,7 +151,7 @@ fn make_row(alloc: Global, events: &[Event]) -> Result<Row, Memory>
     Ok(Row { events })
 }
 
-/// So many logs, each with an event at one clock and another at the next.
+/// This many logs, each with an event at one clock and another at the next.
 fn make_rows(alloc: Global, count: u32) -> Result<Vec<Row>, Memory>
     ensures { IfOk result (λ rows. AllByRecursion IsRising
         (map (λ (row : RowOf). row.events.items) rows.items)) }
@@ -183,7 +182,7 @@ fn events_of_one_clock_keep_the_order_of_their_logs(rt: HostRuntime) -> Result<(
     Ok(())
 }
 
-/// They are too many to look at the next event of each.
+/// These are too many to look at the next event of each.
 #[test]
 fn the_events_of_65_logs_keep_their_order(rt: HostRuntime) -> Result<(), Fail> {
     let alloc = rt.alloc();
@@ -198,7 +197,7 @@ fn the_events_of_65_logs_keep_their_order(rt: HostRuntime) -> Result<(), Fail> {
     Ok(())
 }
 
-/// So many events as a log, with each second clock from this one on.
+/// This many events as a log, with every second clock from this one on.
 fn make_long_row(alloc: Global, first: u32, count: u32) -> Result<Row, Memory>
     ensures { IfOk result (λ row. IsRising row.events.items) }
 {

@@ -27,7 +27,7 @@ fn segment(seq: u32, len: u16, flags: u8) -> Segment
     }
 }
 
-// The four cases of the table of RFC 9293, section 3.10.7.4, at their edges.
+// The four cases of the table in RFC 9293, section 3.10.7.4, at their edges.
 #[test]
 fn a_segment_is_acceptable_where_it_has_a_part_in_the_window(rt: HostRuntime) {
     // next, window, seq, len
@@ -62,7 +62,7 @@ fn an_rst_ends_a_connection_only_at_the_next_number(rt: HostRuntime) {
         (101, Taken::Ended),
     ] {
         let got = receiver.take(&segment(seq, 0, RST));
-        assert_eq!(rt; got, want, "at {seq}");
+        assert!(rt; got == want, "at {seq}");
     }
 }
 
@@ -83,12 +83,12 @@ fn octets_come_in_turn_once_also_past_the_last_number(rt: HostRuntime) {
     ];
     for (seq, len, flags, want) in rows {
         let got = receiver.take(&segment(seq, len, flags));
-        assert_eq!(rt; got, want, "at {seq} {len} {flags}");
+        assert!(rt; got == want, "at {seq} {len} {flags}");
     }
     let want = Receiver {
         start: 4294967290,
         next: 6,
         finished: true,
     };
-    assert_eq!(rt; receiver, want);
+    assert!(rt; receiver == want);
 }

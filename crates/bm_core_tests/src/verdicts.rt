@@ -1,6 +1,6 @@
 //! Tests of `bm_core`: verdicts and clocks.
 use crate::flows::flow;
-use bm_base::{Hop, Moment, MuxId, Segment, ServerId, Tag, Taken, Version};
+use bm_base::{Hop, Moment, MuxId, Past, Segment, ServerId, Tag, Taken, Version};
 use bm_core::{Local, Verdict, Why, decide, next_clock};
 use bm_seq::Receiver;
 use std::process::Abort;
@@ -23,15 +23,33 @@ const FINISHED: Receiver = Receiver {
     finished: true,
 };
 
-/// What a shard knows, the hop and the previous server, the flags, sequence number and length, the
+/// What a shard knows, the hop and the previous servers, the flags, sequence number and length, the
 /// clock, and the verdict.
-type Row = (Local, (Hop, Option<ServerId>), (u8, u32, u16), u64, Verdict);
+type Row = (Local, Moves, (u8, u32, u16), u64, Verdict);
 
-const MOVED: (Hop, Option<ServerId>) = (Hop::Direct, Some(ServerId(1)));
+/// The hop, and the servers that had the bucket before: the previous one until 500, the older one
+/// until 300.
+type Moves = (Hop, Option<Past>, Option<Past>);
 
-const UNMOVED: (Hop, Option<ServerId>) = (Hop::Direct, None);
+const PREV: Option<Past> = Some(Past {
+    server: ServerId(1),
+    stamp: Moment(500),
+});
 
-const CHAINED: (Hop, Option<ServerId>) = (Hop::Chained, Some(ServerId(1)));
+const OLDER: Option<Past> = Some(Past {
+    server: ServerId(3),
+    stamp: Moment(300),
+});
+
+const MOVED: Moves = (Hop::Direct, PREV, None);
+
+const UNMOVED: Moves = (Hop::Direct, None, None);
+
+const CHAINED: Moves = (Hop::Chained, PREV, None);
+
+const CHAINED_TWICE: Moves = (Hop::Chained, PREV, OLDER);
+
+const TWICE: Moves = (Hop::Twice, PREV, OLDER);
 
 const OPENING: (u8, u32, u16) = (SYN, 100, 1);
 
@@ -50,15 +68,14 @@ fn knows(held: Option<Receiver>, full: bool) -> Local {
     }
 }
 
-/// Tests the verdicts where a bucket went from server 1 to server 2 at 500, and the timeout is a
-/// second.
+/// Checks the verdicts of moves, with a timeout of a second.
 fn check(rt: &impl Abort, rows: &[Row]) {
-    for &(known, (hop, prev), (flags, seq, len), clock, want) in rows {
+    for &(known, (hop, prev, older), (flags, seq, len), clock, want) in rows {
         let tag = Tag {
             hop,
             dest: ServerId(2),
             prev,
-            stamp: Moment(500),
+            older,
             version: Version(1),
             mux: MuxId(0),
         };
@@ -70,7 +87,10 @@ fn check(rt: &impl Abort, rows: &[Row]) {
             flags,
         };
         let got = decide(&known, &tag, &segment, Moment(clock), 1_000_000_000);
-        assert_eq!(rt; got, want, "at {known:?} {tag:?} {segment:?}");
+        assert!(rt;
+            got == want,
+            "at {clock}, of flags {flags} and sequence number {seq}"
+        );
     }
 }
 
@@ -108,12 +128,16 @@ fn a_held_connection_processes(rt: HostRuntime) {
 fn a_segment_of_no_connection_is_passed_on_or_refused(rt: HostRuntime) {
     let empty = knows(None, false);
     let forward = Verdict::Forward(ServerId(1));
+    let older = Verdict::Forward(ServerId(3));
     let expired = Verdict::Reset(Why::ChainExpired);
     let unknown = Verdict::Reset(Why::ChainedUnknown);
     let rows = [
         (empty, MOVED, DATA, 1_000_000_500, forward),
         (empty, MOVED, (PSH_ACK, 111, 10), 1_000_000_501, expired),
         (empty, CHAINED, DATA, 1_003, unknown),
+        (empty, CHAINED_TWICE, DATA, 1_000_000_300, older),
+        (empty, CHAINED_TWICE, DATA, 1_000_000_301, expired),
+        (empty, TWICE, DATA, 1_004, unknown),
         (empty, UNMOVED, DATA, 2, Verdict::Reset(Why::NoPrevious)),
         (empty, UNMOVED, END, 5_002, Verdict::Drop(Why::Silent)),
         (empty, MOVED, END, 1_002, forward),
@@ -124,6 +148,6 @@ fn a_segment_of_no_connection_is_passed_on_or_refused(rt: HostRuntime) {
 
 #[test]
 fn a_clock_is_after_both(rt: HostRuntime) {
-    assert_eq!(rt; next_clock(Moment(2), Moment(500)), Moment(501));
-    assert_eq!(rt; next_clock(Moment(501), Moment(500)), Moment(502));
+    assert!(rt; next_clock(Moment(2), Moment(500)) == Moment(501));
+    assert!(rt; next_clock(Moment(501), Moment(500)) == Moment(502));
 }

@@ -34,7 +34,7 @@ published clock _ = []
 abbrev pub changes_in : List Event → List Published
 changes_in events = flat_map (λ (e : Event). published e.clock e.what) events
 
--- the numbers with that of one more server, in rising order
+-- the numbers with that of another server, in rising order
 abbrev pub with_server : List ℕ → Option ServerId → List ℕ
 with_server servers None = servers
 with_server servers (Some server) = insert_key nat_cmp servers server.0
@@ -63,11 +63,11 @@ span_of changes table =
 
 -- WHERE
 
--- under the legend, which has eight servers in a row: the numbers at the axis
+-- under the legend, which has eight servers in a row: the place of the numbers at the axis
 abbrev pub top : Plot → ℕ
 top p = 54 + 18 * ((p.servers + 7) / 8)
 
--- the connection at this place
+-- the place of the connection of this number
 abbrev pub row : Plot → ℕ → ℕ
 row p place = top p + 29 + 6 * place
 
@@ -88,17 +88,17 @@ svg_start = codes "<svg xmlns='http://www.w3.org/2000/svg' version='1.1'"
 unfoldable pub size : ℕ → List ℕ
 size height = codes " width='1080' height='" ++ decimal height ++ codes "'"
 
--- what is seen of the plane (section 7.7)
+-- which part of the plane is seen (section 7.7)
 unfoldable pub view : ℕ → List ℕ
 view height = codes " viewBox='0 0 1080 " ++ decimal height ++ codes "'"
 
--- how words are written (section 10.10), and a title (5.4)
+-- the font (section 10.10), and a title (5.4)
 unfoldable pub heading : List ℕ
 heading =
     codes " font-family='sans-serif' font-size='11'>" ++ newline
     ++ codes "<title>connections</title>" ++ newline
 
--- a white ground (section 9.2)
+-- a white background (section 9.2)
 unfoldable pub ground : ℕ → List ℕ
 ground height = codes "<rect" ++ size height ++ codes " fill='#ffffff'/>" ++ newline
 
@@ -107,7 +107,7 @@ frame height = svg_start ++ size height ++ view height ++ heading ++ ground heig
 
 -- LEGEND
 
--- eight colours that differ for colour-blind readers too (Okabe and Ito)
+-- eight colours that colour-blind readers can tell apart too (Okabe and Ito)
 abbrev pub colour : ℕ → List ℕ
 colour n =
     if n % 8 == 0 then codes "#f0e442" else if n % 8 == 1 then codes "#0072b2"
@@ -191,13 +191,13 @@ change_line p c =
     dashed ++ version_title c.version.0
     ++ line (x p.span c.clock.0) (top p + 20) (x p.span c.clock.0) (bottom p) ++ group_end
 
--- the version over the line, where there is room from `free` on
+-- the version above the line, if there is room from `free` on
 unfoldable pub version_label : Plot → ℕ → Published → List ℕ
 version_label p free c =
     if nat_lt (x p.span c.clock.0) free then []
     else label (x p.span c.clock.0) (top p + 16) (decimal c.version.0)
 
--- from where on there is room behind that
+-- from where on there is room after that
 abbrev pub next_free : Plot → ℕ → Published → ℕ
 next_free p free c =
     if nat_lt (x p.span c.clock.0) free then free else x p.span c.clock.0 + 30
@@ -266,7 +266,7 @@ plot_of cs servers table = record {
   connections = length table;
 }
 
--- a group of texts in the middle over their points (section 10.9)
+-- a group of texts centred on their points (section 10.9)
 unfoldable pub middle : List ℕ
 middle = codes "<g text-anchor='middle'>" ++ newline
 
@@ -281,7 +281,7 @@ rows p table = thick ++ connections p 0 table ++ group_close
 abbrev pub svg_end : List ℕ
 svg_end = codes "</svg>" ++ newline
 
--- the parts, one behind the other
+-- the parts, one after another
 abbrev pub parts : Plot → List Published → List ℕ → List Connection → List ℕ
 parts p cs servers table =
     frame (height p) ++ legend servers ++ times p cs ++ rows p table ++ svg_end

@@ -59,7 +59,6 @@ fn write_tick(text: &mut String, plot: Plot, moment: u64) -> Result<(), AllocErr
     writeln!(text, "{above}{below}</g>")
 }
 
-/// The ticks of the axis.
 pub(crate) fn write_axis(text: &mut String, plot: Plot) -> Result<(), AllocError>
     ensures { OnOk result (string_bytes text.new ≡ string_bytes text.old ++ spec.axis plot) }
 {

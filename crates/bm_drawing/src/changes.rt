@@ -79,7 +79,7 @@ fn write_line(text: &mut String, plot: Plot, change: Published) -> Result<(), Al
     write!(text, "{}{title}{line}</g>", Dashed)
 }
 
-/// The version over its line, where there is room from `free` on.
+/// The version above its line, if there is room from `free` on.
 #[derive(Clone, Copy)]
 struct VersionLabel {
     plot: Plot,
@@ -105,7 +105,7 @@ impl fmt::Display for VersionLabel {
     }
 }
 
-/// From where on there is room for the next version, behind that of this change.
+/// From where on there is room for the next version, after that of this change.
 fn next_free(plot: Plot, free: u128, change: Published) -> u128
     ensures { result ≡ spec.next_free plot free change }
 {

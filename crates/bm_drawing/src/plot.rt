@@ -48,7 +48,7 @@ impl Plot {
     }
 }
 
-/// Notes the number of one more server.
+/// Adds the number of another server.
 fn note_server(servers: &mut BTreeSet<u16>, server: Option<ServerId>) -> Result<(), AllocError>
     ensures { OnOk result (servers.new.keys ≡ spec.with_server servers.old.keys server) }
 {
@@ -115,7 +115,7 @@ fn span_of(changes: &[Published], table: &[Connection]) -> u64
     span
 }
 
-/// The plot of these changes, of as many servers, and of these connections.
+/// The plot of these changes, with as many servers, and of these connections.
 pub(crate) fn plot_of(changes: &[Published], servers: &[u16], table: &[Connection]) -> Plot
     ensures { result ≡ spec.plot_of changes.now servers.now table.now }
 {

@@ -1,4 +1,4 @@
-//! The connections, one under the other.
+//! The connections, one below another.
 ghost use Rattle.std.specs.Prelude.{◌≡◌, ◌++◌, Some, OnOk, string_bytes};
 ghost use Rattle.bm_connections.specs.Text.{server_word};
 ghost use Rattle.bm_drawing.specs.Drawing as spec;
@@ -28,7 +28,7 @@ impl fmt::Display for ServerWord {
     }
 }
 
-/// A packet that was dropped, reset or a stray, each word behind a space.
+/// A packet that was dropped, reset or a stray, each word after a space.
 #[derive(Clone, Copy)]
 struct FaultWords(Break);
 
@@ -43,7 +43,7 @@ impl fmt::Display for FaultWords {
     }
 }
 
-/// What broke or refused a connection, each word behind a space, or whether a server accepted it.
+/// What broke or refused a connection, each word after a space, or whether a server accepted it.
 #[derive(Clone, Copy)]
 struct EndWords {
     broken: Option<Break>,
@@ -141,7 +141,7 @@ fn write_connection(
     writeln!(text, "{line}{mark}</g>")
 }
 
-/// The connections, one under the other.
+/// The connections, one below another.
 pub(crate) fn write_connections(
     text: &mut String,
     plot: Plot,

@@ -4,7 +4,7 @@ ghost use Rattle.bm_drawing.specs.Scales as spec;
 
 use std::fmt;
 
-/// Where a moment is drawn, of an axis of so many nanoseconds.
+/// Where a moment is drawn, on an axis of `span` nanoseconds.
 pub(crate) fn x_of(span: u64, moment: u64) -> u128
     ensures place { result ≡ spec.x span moment }
     ensures bound { result < 2 ^ 100 }
@@ -34,7 +34,7 @@ fn step_of(power: u64, times: u64) -> u64
     }
 }
 
-/// How many nanoseconds lie between two ticks of an axis of so many.
+/// How many nanoseconds there are between two ticks of an axis of `span` nanoseconds.
 pub(crate) fn tick_step(span: u64) -> u64
     ensures step { result ≡ spec.tick_step span }
     ensures some { 0 < result }
@@ -59,7 +59,7 @@ impl fmt::Display for ThreeDigits {
     }
 }
 
-/// The last three of a moment's digits behind the point, or none.
+/// The last three of a moment's digits after the point, or none.
 #[derive(Clone, Copy)]
 struct Nanoseconds {
     step: u64,
@@ -98,7 +98,7 @@ impl fmt::Display for Microseconds {
     }
 }
 
-/// The point and what is behind it, or nothing.
+/// The point and what comes after it, or nothing.
 #[derive(Clone, Copy)]
 struct Milliseconds {
     step: u64,
@@ -119,7 +119,7 @@ impl fmt::Display for Milliseconds {
     }
 }
 
-/// A moment in seconds, with as many groups of three digits behind the point as multiples of the
+/// A moment in seconds, with as many groups of three digits after the point as multiples of the
 /// step need.
 #[derive(Clone, Copy)]
 pub(crate) struct Seconds {

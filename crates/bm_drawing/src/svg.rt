@@ -27,7 +27,7 @@ impl fmt::Display for Size {
     }
 }
 
-/// What of the plane is shown.
+/// Which part of the plane is shown.
 #[derive(Clone, Copy)]
 struct View(u128);
 
@@ -49,7 +49,7 @@ fn write_start(text: &mut String) -> Result<(), AllocError>
     Ok(())
 }
 
-/// How words are written, and a title.
+/// The font, and a title.
 #[tactic(auto, unfolding(crate::specs::Drawing::heading))]
 fn write_heading(text: &mut String) -> Result<(), AllocError>
     ensures { OnOk result (string_bytes text.new ≡ string_bytes text.old ++ spec.heading) }
@@ -61,7 +61,7 @@ fn write_heading(text: &mut String) -> Result<(), AllocError>
     Ok(())
 }
 
-/// A white ground.
+/// A white background.
 #[tactic(auto, unfolding(crate::specs::Drawing::ground))]
 fn write_ground(text: &mut String, height: u128) -> Result<(), AllocError>
     ensures { OnOk result (string_bytes text.new ≡ string_bytes text.old ++ spec.ground height) }
@@ -70,7 +70,7 @@ fn write_ground(text: &mut String, height: u128) -> Result<(), AllocError>
     writeln!(text, "<rect{size} fill='#ffffff'/>")
 }
 
-/// The beginning, a title, and a white ground.
+/// The beginning, a title, and a white background.
 #[tactic(auto, unfolding(crate::specs::Drawing::frame))]
 fn write_frame(text: &mut String, height: u128) -> Result<(), AllocError>
     ensures { OnOk result (string_bytes text.new ≡ string_bytes text.old ++ spec.frame height) }
@@ -83,7 +83,7 @@ fn write_frame(text: &mut String, height: u128) -> Result<(), AllocError>
     write_ground(text, height)
 }
 
-/// The beginning of a group of words in the middle over their points.
+/// The beginning of a group of texts centred on their points.
 #[tactic(auto, unfolding(crate::specs::Drawing::middle))]
 fn write_middle(text: &mut String) -> Result<(), AllocError>
     ensures { OnOk result (string_bytes text.new ≡ string_bytes text.old ++ spec.middle) }
@@ -117,7 +117,7 @@ fn write_rows(text: &mut String, plot: Plot, table: &[Connection]) -> Result<(),
     Ok(())
 }
 
-/// The parts, one behind the other.
+/// The parts, one after another.
 #[tactic(auto, unfolding(crate::specs::Drawing::drawing_of))]
 fn write_parts(
     text: &mut String,
@@ -139,8 +139,8 @@ fn write_parts(
 
 /// A drawing of the table's connections over time, as an SVG 1.1 text that is 1,080 units wide. A
 /// line for each connection goes from its first to its last packet, in the colour of the server
-/// that accepted it last; a vertical line for each change of the table stands at its clock.
-/// Moments are seconds since record 1.
+/// that accepted it last; a vertical line for each change of the table is at its clock. Moments are
+/// seconds since record 1.
 pub fn drawing(alloc: Global, history: &History, table: &[Connection]) -> Result<Text, Memory>
     ensures { IfOk result (λ text. text ≡ spec.drawing history.now table.now) }
 {

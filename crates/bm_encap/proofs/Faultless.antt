@@ -10,7 +10,7 @@ use Rattle.bm_encap.specs.declared.fault.EncapFault.{EncapFault}
 use Rattle.bm_encap.specs.declared.fault.EncapFault.TheVariants.{Short, BadSum, BadLength}
 
 pub record IsFaultless (octets : List ℕ) : Type 0 where
-  pub long : nat_lt (length octets) 44 ≡ false
+  pub long : nat_lt (length octets) 56 ≡ false
   pub outer : outer_fault octets ≡ None
   pub sum : (checksum_of (without_sum octets) == u16_at octets 10) ≡ true
   pub option : option_fault octets ≡ None
@@ -32,7 +32,7 @@ not_false false is = absurd (cc)
 
 pub faultless : (octets : List ℕ) → encap_fault octets ≡ None → IsFaultless octets
 faultless octets is =
-    let a = first_none (fault_when (nat_lt (length octets) 44) Short) _ is in
+    let a = first_none (fault_when (nat_lt (length octets) 56) Short) _ is in
     let b = first_none (outer_fault octets) _ a.1 in
     let c = first_none (fault_when (not (checksum_of (without_sum octets) == u16_at octets 10)) BadSum) _ b.1 in
     let d = first_none (option_fault octets) _ c.1 in
@@ -45,17 +45,17 @@ faultless octets is =
       total = not_false _ (when_none _ BadLength e.0);
     }
 
-pub reads : (octets : List ℕ) → IsFaultless octets → unwrapped octets ≡ Ok (tag_in octets, drop 44 octets)
+pub reads : (octets : List ℕ) → IsFaultless octets → unwrapped octets ≡ Ok (tag_in octets, drop 56 octets)
 unfolding unwrapped
 reads octets is = rw (is.long, is.outer, is.sum, is.option, is.total) refl
 
 read_none : (fault : Option EncapFault) (octets : List ℕ) (read : Tag × List ℕ) → or_read fault octets ≡ Ok read
-    → (fault ≡ None) × (read ≡ (tag_in octets, drop 44 octets))
+    → (fault ≡ None) × (read ≡ (tag_in octets, drop 56 octets))
 read_none None octets read is = (refl, cc)
 read_none (Some fault) octets read is = absurd (cc)
 
 -- what was read is what the octets say
 pub read_is : (octets : List ℕ) (read : Tag × List ℕ) → unwrapped octets ≡ Ok read → IsFaultless octets
-    × (read ≡ (tag_in octets, drop 44 octets))
+    × (read ≡ (tag_in octets, drop 56 octets))
 unfolding unwrapped
 read_is octets read is = let r = read_none (encap_fault octets) octets read is in (faultless octets r.0, r.1)

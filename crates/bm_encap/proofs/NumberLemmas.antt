@@ -91,7 +91,7 @@ pair_at xs at =
     let second : slice_index (drop at xs) 1 ≡ octet_at xs (at + 1) =
     get_or-drop at xs 1 0 in omega (arith, first_at xs at, second)
 
--- numbers that stand one behind the other
+-- the numbers are in the list, one after another
 abbrev pub AllStand : List ℕ → ℕ → List (ℕ × ℕ) → Type 0
 AllStand xs at [] = Unit {0}
 AllStand xs at (f ∷ fields) = Stands xs at f.0 f.1 × AllStand xs (at + f.0) fields

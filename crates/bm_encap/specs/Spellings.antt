@@ -1,33 +1,34 @@
--- The carrier header of a tag (docs/FORMATS.md): an IPv4 header (RFC 791) with one option of 24
+-- The carrier header of a tag (docs/FORMATS.md): an IPv4 header (RFC 791) with one option of 36
 -- octets.
 use Rattle.std.specs.Prelude.{ℕ, ◌+◌, List, [], ◌∷◌, ◌++◌, length, Option, Some, None}
 use Rattle.byteorder.specs.Endian.{big_bytes}
-use Rattle.bm_base.specs.declared.ids.ServerId.{ServerId}
-use Rattle.bm_base.specs.declared.label.Hop.{Hop}
-use Rattle.bm_base.specs.declared.label.Hop.TheVariants.{Direct, Chained}
+use Rattle.bm_base.specs.Labels.{hop_number}
+use Rattle.bm_base.specs.declared.label.Past.{Past}
 use Rattle.bm_base.specs.declared.label.Tag.{Tag}
 use Rattle.bm_ipv4.specs.Checksum.{checksum_of}
 use Rattle.bm_base.specs.Addresses.{mux_address, server_address}
 
-abbrev pub hop_code : Hop → ℕ
-hop_code Direct = 0
-hop_code Chained = 1
+-- how many previous servers there are
+abbrev pub past_count : Option Past → Option Past → ℕ
+past_count None None = 0
+past_count (Some p) (Some o) = 2
+past_count prev older = 1
 
--- whether there is a previous server
-abbrev pub prev_code : Option ServerId → ℕ
-prev_code None = 0
-prev_code (Some s) = 1
+-- the address of a previous server, or zero
+abbrev pub past_address : Option Past → ℕ
+past_address None = 0
+past_address (Some p) = server_address p.server
 
--- the previous server's address, or zero
-abbrev pub prev_address : Option ServerId → ℕ
-prev_address None = 0
-prev_address (Some s) = server_address s
+-- its stamp, or zero
+abbrev pub past_stamp : Option Past → ℕ
+past_stamp None = 0
+past_stamp (Some p) = p.stamp.0
 
 -- the numbers of the header, each with how many octets it takes
 abbrev pub fields : Tag → ℕ → ℕ → List (ℕ × ℕ)
 fields tag total sum =
-    -- IPv4 with a header of 11 words, ordinary service
-    (2, 0x4b00)
+    -- IPv4 with a header of 14 words, ordinary service
+    (2, 0x4e00)
     -- total length
     ∷ (2, total)
     -- identification; don't fragment; a time to live of 64, and IPv4 within
@@ -38,12 +39,14 @@ fields tag total sum =
     ∷ (2, sum)
     ∷ (4, mux_address tag.mux)
     ∷ (4, server_address tag.dest)
-    -- an option of type 0x9e with 24 octets
-    ∷ (2, 0x9e18)
-    ∷ (1, hop_code tag.hop)
-    ∷ (1, prev_code tag.prev)
-    ∷ (4, prev_address tag.prev)
-    ∷ (8, tag.stamp.0)
+    -- an option of type 0x9e with 36 octets
+    ∷ (2, 0x9e24)
+    ∷ (1, hop_number tag.hop)
+    ∷ (1, past_count tag.prev tag.older)
+    ∷ (4, past_address tag.prev)
+    ∷ (8, past_stamp tag.prev)
+    ∷ (4, past_address tag.older)
+    ∷ (8, past_stamp tag.older)
     ∷ (4, tag.version.0)
     ∷ (2, tag.mux.0)
     ∷ (2, 0)
@@ -60,10 +63,10 @@ header tag total sum = spelled (fields tag total sum)
 
 -- how many octets the header has
 abbrev pub header_length : ℕ
-header_length = 44
+header_length = 56
 
--- the header of the tag, and behind it the packet within. The checksum is that of the header with
--- zero in its place
+-- the header of the tag, and after it the packet. The checksum is that of the header with zero in
+-- its place
 abbrev pub spelling : Tag → List ℕ → List ℕ
 spelling tag inner =
     header tag (header_length + length inner)

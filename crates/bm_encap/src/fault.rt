@@ -1,7 +1,7 @@
 //! Why octets carry no tag.
 use thiserror::Error;
 
-/// Why octets are no carrier header with a packet: the first of these that stands. The numbers are
+/// Why octets aren't a carrier header with a packet: the first of these that holds. The numbers are
 /// places of octets, counted from 0.
 #[derive(Clone, Copy, Debug, PartialEq, Eq, Error)]
 pub enum EncapFault {

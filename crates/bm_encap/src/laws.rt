@@ -5,16 +5,18 @@ ghost use Rattle.bm_encap.specs.Faults.{unwrapped};
 ghost use Rattle.bm_encap.specs.Spellings.{spelling};
 ghost use Rattle.bm_base.specs.Tags.{IsTag};
 
+use crate::header::past_stamp;
 use bm_base::Tag;
 
-/// The spelling of a valid tag has no fault, and says the tag and the packet. So no octets spell
-/// two tags.
+/// The spelling of a valid tag has no fault, and reads as the tag and the packet. So no octets
+/// spell two tags.
 pub fn spelling_is_read(tag: &Tag, inner: &[u8])
     requires tag { IsTag tag.now }
-    requires inner { length inner.now ≤ 65491 }
+    requires inner { length inner.now ≤ 65479 }
     ensures { unwrapped (spelling tag.now inner.now) ≡ Ok (tag.now, inner.now) }
 {
-    let _stamp = tag.stamp.0;
+    let _prev = past_stamp(tag.prev);
+    let _older = past_stamp(tag.older);
     let _version = tag.version.0;
 }
 

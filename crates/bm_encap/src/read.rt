@@ -1,11 +1,12 @@
 //! Reads carrier headers.
 ghost use Rattle.std.specs.Prelude.{◌≡◌, ◌≤◌, ◌<◌, ◌+◌, ℕ, nat_lt, ◌^◌, length, All, IfOk};
-ghost use Rattle.std.specs.Prelude.{MatchResult, Ok as ok, Err as err, Some, None};
+ghost use Rattle.std.specs.Prelude.{MatchResult, Ok as ok, Err as err, Some, None, true, false};
 ghost use Rattle.std.specs.Option.{option_map};
 ghost use Rattle.bm_ipv4.specs.Fields.{octet_at, u32_at};
 ghost use Rattle.bm_encap.specs.Faults as faults;
-ghost use Rattle.bm_encap.specs.Faults.{fault_when, hop_of, option_fault, outer_fault, prev_fault};
-ghost use Rattle.bm_encap.specs.Faults.{prev_in, server_of_address, tag_in, u64_at, unwrapped};
+ghost use Rattle.bm_encap.specs.Faults.{bad_count, fault_when, hop_of, option_fault, outer_fault};
+ghost use Rattle.bm_encap.specs.Faults.{past_at, past_fault, server_of_address, tag_in, u64_at};
+ghost use Rattle.bm_encap.specs.Faults.{unwrapped};
 ghost use Rattle.bm_encap.specs.Faults.{without_sum};
 ghost use Rattle.bm_base.specs.Tags.{IsTag};
 ghost use Rattle.bm_encap.specs.declared.fault.EncapFault.{EncapFault as Fault};
@@ -14,18 +15,18 @@ ghost use Rattle.bm_ipv4.specs.Checksum.{checksum_of};
 
 use crate::fault::EncapFault;
 use crate::header::HEADER;
-use bm_base::{Hop, Moment, MuxId, ServerId, Tag, Version, mux_addr, mux_at, server_of};
+use bm_base::{Hop, Moment, MuxId, Past, ServerId, Tag, Version, mux_addr, mux_at, server_of};
 use bm_ipv4::fields::{read_u16, read_u32};
 use bm_ipv4::header_sum;
 use byteorder::{BigEndian, ByteOrder};
 
-/// The tag of the header, and the packet behind it, which borrows the octets. Takes no memory.
+/// The tag of the header, and the packet after it, which borrows the octets. Takes no memory.
 #[tactic(auto, unfolding(crate::specs::Faults::unwrapped))]
 pub fn unwrap(octets: &[u8]) -> Result<(Tag, &[u8]), EncapFault>
     ensures read { MatchResult result (λ read. unwrapped octets.now ≡ ok (read.0, read.1.now))
         (λ fault. unwrapped octets.now ≡ err fault) }
     ensures total { IfOk result
-        (λ read. (length octets.now ≡ 44 + length read.1.now) × (length octets.now < 2 ^ 16)) }
+        (λ read. (length octets.now ≡ 56 + length read.1.now) × (length octets.now < 2 ^ 16)) }
     ensures tag { IfOk result (λ read. IsTag read.0) }
 {
     if octets.len() < HEADER {
@@ -44,7 +45,7 @@ pub fn unwrap(octets: &[u8]) -> Result<(Tag, &[u8]), EncapFault>
 
 /// Octets of the outer header that are always the same, by their places.
 const OUTER: [(u8, u8); 8] = [
-    (0, 0x4b),
+    (0, 0x4e),
     (1, 0x00),
     (4, 0x00),
     (5, 0x00),
@@ -55,12 +56,12 @@ const OUTER: [(u8, u8); 8] = [
 ];
 
 /// The type and the length of the option, by their places.
-const OPTION: [(u8, u8); 2] = [(20, 0x9e), (21, 0x18)];
+const OPTION: [(u8, u8); 2] = [(20, 0x9e), (21, 0x24)];
 
-/// The first place where another octet stands.
+/// The first place with another octet.
 fn differing(octets: &[u8], fixed: &[(u8, u8)]) -> Option<u8>
-    requires long { 44 ≤ length octets.now }
-    requires fixed { All (λ p. p.0 < 44) fixed.now }
+    requires long { 56 ≤ length octets.now }
+    requires fixed { All (λ p. p.0 < 56) fixed.now }
     ensures { (fault : ℕ → Fault)
         → faults.differing octets.now fault fixed.now ≡ option_map fault result }
 {
@@ -72,10 +73,10 @@ fn differing(octets: &[u8], fixed: &[(u8, u8)]) -> Option<u8>
     None
 }
 
-/// Tests the outer header, its checksum and length aside, and reads the destination.
+/// Checks the outer header, except its checksum and length, and reads the destination.
 #[tactic(auto, unfolding(crate::specs::Faults::outer_fault))]
 fn read_outer(octets: &[u8]) -> Result<ServerId, EncapFault>
-    requires { 44 ≤ length octets.now }
+    requires { 56 ≤ length octets.now }
     ensures { MatchResult result
         (λ dest. (outer_fault octets.now ≡ None)
         × (dest ≡ server_of_address (u32_at octets.now 16)))
@@ -92,7 +93,7 @@ fn read_outer(octets: &[u8]) -> Result<ServerId, EncapFault>
 
 /// The checksum of the header with zero in its place.
 fn sum_of(octets: &[u8]) -> u16
-    requires { 44 ≤ length octets.now }
+    requires { 56 ≤ length octets.now }
     ensures { result ≡ checksum_of (without_sum octets.now) }
 {
     let mut header = [0; HEADER];
@@ -102,10 +103,10 @@ fn sum_of(octets: &[u8]) -> u16
     header_sum(&header)
 }
 
-/// Tests the option, and reads the tag.
+/// Checks the option, and reads the tag.
 #[tactic(auto, unfolding(crate::specs::Faults::option_fault))]
 fn read_option(octets: &[u8], dest: ServerId) -> Result<Tag, EncapFault>
-    requires long { 44 ≤ length octets.now }
+    requires long { 56 ≤ length octets.now }
     requires dest { dest ≡ server_of_address (u32_at octets.now 16) }
     ensures { MatchResult result
         (λ tag. (option_fault octets.now ≡ None) × (tag ≡ tag_in octets.now))
@@ -115,61 +116,136 @@ fn read_option(octets: &[u8], dest: ServerId) -> Result<Tag, EncapFault>
         return Err(EncapFault::BadOption(place));
     }
     let hop = read_hop(octets[22])?;
-    let prev = read_prev(octets, hop)?;
-    let stamp = read_u64(octets, 28);
-    if prev.is_none() && stamp != 0 {
-        return Err(EncapFault::BadOption(28));
-    }
-    let mux = MuxId(read_u16(octets, 40));
+    let count = read_count(octets)?;
+    let prev = read_past(octets, 24, count > 0, is_prev_wrong(octets, hop))?;
+    let older = read_past(octets, 36, count > 1, is_older_wrong(octets, hop))?;
+    let mux = MuxId(read_u16(octets, 52));
     if mux_addr(mux) != read_u32(octets, 12) {
-        return Err(EncapFault::BadOption(40));
+        return Err(EncapFault::BadOption(52));
     }
-    if read_u16(octets, 42) != 0 {
-        return Err(EncapFault::BadOption(42));
+    if read_u16(octets, 54) != 0 {
+        return Err(EncapFault::BadOption(54));
     }
     Ok(Tag {
         hop,
         dest,
         prev,
-        stamp: Moment(stamp),
-        version: Version(read_u32(octets, 36)),
+        older,
+        version: Version(read_u32(octets, 48)),
         mux,
     })
 }
 
 fn read_hop(octet: u8) -> Result<Hop, EncapFault>
     ensures { MatchResult result
-        (λ hop. (fault_when (nat_lt 1 octet) (BadOption 22) ≡ None) × (octet ≤ 1)
-        × (hop ≡ hop_of octet))
-        (λ fault. fault_when (nat_lt 1 octet) (BadOption 22) ≡ Some fault) }
+        (λ hop. (fault_when (nat_lt 2 octet) (BadOption 22) ≡ None) × (hop ≡ hop_of octet))
+        (λ fault. fault_when (nat_lt 2 octet) (BadOption 22) ≡ Some fault) }
 {
     match octet {
         0 => Ok(Hop::Direct),
         1 => Ok(Hop::Chained),
+        2 => Ok(Hop::Twice),
         _ => Err(EncapFault::BadOption(22)),
     }
 }
 
-/// Tests the octets of the previous server, and reads it.
-#[tactic(auto, unfolding(crate::specs::Faults::prev_fault))]
-fn read_prev(octets: &[u8], hop: Hop) -> Result<Option<ServerId>, EncapFault>
-    requires long { 44 ≤ length octets.now }
-    requires hop { (octet_at octets.now 22 ≤ 1) × (hop ≡ hop_of (octet_at octets.now 22)) }
+/// How many previous servers there are.
+fn read_count(octets: &[u8]) -> Result<u8, EncapFault>
+    requires { 56 ≤ length octets.now }
     ensures { MatchResult result
-        (λ prev. (prev_fault octets.now ≡ None) × (prev ≡ prev_in octets.now))
-        (λ fault. prev_fault octets.now ≡ Some fault) }
+        (λ count. (fault_when (bad_count octets.now) (BadOption 23) ≡ None)
+        × (count ≡ octet_at octets.now 23))
+        (λ fault. fault_when (bad_count octets.now) (BadOption 23) ≡ Some fault) }
 {
-    let addr = read_u32(octets, 24);
-    let to_dest = addr == read_u32(octets, 16);
-    match (octets[23], hop) {
-        (0, Hop::Direct) if addr == 0 => Ok(None),
-        (0, Hop::Direct) => Err(EncapFault::BadOption(24)),
-        (1, _) => match server_of(addr) {
-            Some(prev) if to_dest == (hop == Hop::Chained) => Ok(Some(prev)),
-            _ => Err(EncapFault::BadOption(24)),
-        },
-        _ => Err(EncapFault::BadOption(23)),
+    let count = octets[23];
+    if count > 2 || count < octets[22] {
+        return Err(EncapFault::BadOption(23));
     }
+    Ok(count)
+}
+
+/// Whether the previous server's address is wrong for this hop and destination.
+fn is_prev_wrong(octets: &[u8], hop: Hop) -> bool
+    requires { 56 ≤ length octets.now }
+    ensures { result ≡ faults.is_prev_wrong hop (u32_at octets.now 24) (u32_at octets.now 16) }
+{
+    let to_dest = read_u32(octets, 24) == read_u32(octets, 16);
+    match hop {
+        Hop::Direct => to_dest,
+        Hop::Chained => !to_dest,
+        Hop::Twice => false,
+    }
+}
+
+/// Whether the older server's address is wrong for this hop, previous server and destination.
+fn is_older_wrong(octets: &[u8], hop: Hop) -> bool
+    requires { 56 ≤ length octets.now }
+    ensures { result ≡ faults.is_older_wrong hop (u32_at octets.now 36) (u32_at octets.now 24)
+        (u32_at octets.now 16) }
+{
+    let addr = read_u32(octets, 36);
+    if addr == read_u32(octets, 24) {
+        return true;
+    }
+    match hop {
+        Hop::Twice => addr != read_u32(octets, 16),
+        _ => false,
+    }
+}
+
+/// Checks the octets of a previous server from this place on, and reads it, if there is one.
+/// `wrong` says that its address doesn't fit the others.
+#[tactic(auto, unfolding(crate::specs::Faults::past_fault))]
+fn read_past(octets: &[u8], at: u8, there: bool, wrong: bool) -> Result<Option<Past>, EncapFault>
+    requires long { 56 ≤ length octets.now }
+    requires at { at ≤ 36 }
+    ensures { MatchResult result
+        (λ past. (past_fault octets.now at there wrong ≡ None) × (past ≡ past_at octets.now at there))
+        (λ fault. past_fault octets.now at there wrong ≡ Some fault) }
+{
+    if there {
+        Ok(Some(read_server(octets, at, wrong)?))
+    } else {
+        read_zeros(octets, at)?;
+        Ok(None)
+    }
+}
+
+/// The server and the stamp at this place.
+#[tactic(auto, unfolding(crate::specs::Faults::past_fault))]
+fn read_server(octets: &[u8], at: u8, wrong: bool) -> Result<Past, EncapFault>
+    requires long { 56 ≤ length octets.now }
+    requires at { at ≤ 36 }
+    ensures { MatchResult result
+        (λ past. (past_fault octets.now at true wrong ≡ None)
+        × (Some past ≡ past_at octets.now at true))
+        (λ fault. past_fault octets.now at true wrong ≡ Some fault) }
+{
+    match server_of(read_u32(octets, usize::from(at))) {
+        Some(server) if !wrong => Ok(Past {
+            server,
+            stamp: Moment(read_u64(octets, usize::from(at) + 4)),
+        }),
+        _ => Err(EncapFault::BadOption(at)),
+    }
+}
+
+/// Checks that the address and the stamp at this place are zero.
+#[tactic(auto, unfolding(crate::specs::Faults::past_fault))]
+fn read_zeros(octets: &[u8], at: u8) -> Result<(), EncapFault>
+    requires long { 56 ≤ length octets.now }
+    requires at { at ≤ 36 }
+    ensures { MatchResult result
+        (λ _. past_fault octets.now at false false ≡ None)
+        (λ fault. past_fault octets.now at false false ≡ Some fault) }
+{
+    if read_u32(octets, usize::from(at)) != 0 {
+        return Err(EncapFault::BadOption(at));
+    }
+    if read_u64(octets, usize::from(at) + 4) != 0 {
+        return Err(EncapFault::BadOption(at + 4));
+    }
+    Ok(())
 }
 
 /// The number in the eight octets from this place on.

@@ -11,7 +11,7 @@ use Rattle.std.specs.Cmp.{unsigned_tied}
 use Rattle.std.proofs.lemmas.Bool.{cond_both}
 use Rattle.std.proofs.lemmas.Bool.Decides.{nat_tests}
 use Rattle.bm_base.specs.declared.label.Hop.{Hop}
-use Rattle.bm_base.specs.declared.label.Hop.TheVariants.{Direct, Chained}
+use Rattle.bm_base.specs.declared.label.Hop.TheVariants.{Direct, Chained, Twice}
 use Rattle.bm_base.specs.declared.fate.Fate.{Fate}
 use Rattle.bm_table.specs.declared.setting.FaultRow.{FaultRow}
 use Rattle.bm_table.specs.Settings.{IsFaultRow}
@@ -58,34 +58,53 @@ or_none : (a : Option Fate) → fate_or a None ≡ a
 or_none None = refl
 or_none (Some a) = refl
 
-found_direct : (r : Inside) (k : ℕ) → found_in (rows_of r) k Direct ≡ get nat_cmp r.direct k
-found_direct r k =
-    found_append (map (row_of Direct) r.direct.entries) (map (row_of Chained) r.chained.entries) k Direct
-    ∙ (ap (λ f. fate_or (found_in (map (row_of Direct) r.direct.entries) k Direct) f)
-    (found_elsewhere k Chained Direct r.chained.entries refl)
-    ∙ (or_none (found_in (map (row_of Direct) r.direct.entries) k Direct) ∙ found_here k Direct r.direct.entries refl))
+-- the fates of a hop
+abbrev pub fates_of : Inside → Hop → BTreeMap ℕ Fate
+fates_of r Direct = r.direct
+fates_of r Chained = r.chained
+fates_of r Twice = r.twice
 
-found_chained : (r : Inside) (k : ℕ) → found_in (rows_of r) k Chained ≡ get nat_cmp r.chained k
-found_chained r k =
-    found_append (map (row_of Direct) r.direct.entries) (map (row_of Chained) r.chained.entries) k Chained
-    ∙ (ap (λ f. fate_or f (found_in (map (row_of Chained) r.chained.entries) k Chained))
-    (found_elsewhere k Direct Chained r.direct.entries refl)
-    ∙ found_here k Chained r.chained.entries refl)
+-- the rows of this hop
+abbrev rows_for : Inside → Hop → List FaultRow
+rows_for r hop = map (row_of hop) (fates_of r hop).entries
+
+found_each : (r : Inside) (k : ℕ) (hop : Hop)
+    → found_in (rows_of r) k hop
+    ≡ fate_or (found_in (rows_for r Direct) k hop)
+    (fate_or (found_in (rows_for r Chained) k hop) (found_in (rows_for r Twice) k hop))
+found_each r k hop =
+    found_append (rows_for r Direct) (rows_for r Chained ++ rows_for r Twice) k hop
+    ∙ ap (λ f. fate_or (found_in (rows_for r Direct) k hop) f)
+    (found_append (rows_for r Chained) (rows_for r Twice) k hop)
+
+found_hop : (r : Inside) (k : ℕ) (hop : Hop) → found_in (rows_of r) k hop ≡ get nat_cmp (fates_of r hop) k
+found_hop r k Direct =
+    found_each r k Direct
+    ∙ rw (
+      found_elsewhere k Chained Direct r.chained.entries refl,
+      found_elsewhere k Twice Direct r.twice.entries refl,
+    ) (or_none (found_in (rows_for r Direct) k Direct) ∙ found_here k Direct r.direct.entries refl)
+found_hop r k Chained =
+    found_each r k Chained
+    ∙ rw (
+      found_elsewhere k Direct Chained r.direct.entries refl,
+      found_elsewhere k Twice Chained r.twice.entries refl,
+    ) (or_none (found_in (rows_for r Chained) k Chained) ∙ found_here k Chained r.chained.entries refl)
+found_hop r k Twice =
+    found_each r k Twice
+    ∙ rw (
+      found_elsewhere k Direct Twice r.direct.entries refl,
+      found_elsewhere k Chained Twice r.chained.entries refl,
+    ) (found_here k Twice r.twice.entries refl)
 
 -- the fate of a hop is what its entries say
-pub fate_direct : (r : Inside) (rows : List FaultRow) (k : ℕ) → rows_of r ≡ rows
-    → unwrap_or (get nat_cmp r.direct k) plain_fate ≡ fate_in rows k Direct
-fate_direct r rows k is =
-    ap (λ f. unwrap_or f plain_fate) (sym (found_direct r k))
-    ∙ (sym (fate_found (rows_of r) k Direct) ∙ ap (λ (xs : List FaultRow). fate_in xs k Direct) is)
+pub fate_hop : (r : Inside) (rows : List FaultRow) (k : ℕ) (hop : Hop) → rows_of r ≡ rows
+    → unwrap_or (get nat_cmp (fates_of r hop) k) plain_fate ≡ fate_in rows k hop
+fate_hop r rows k hop is =
+    ap (λ f. unwrap_or f plain_fate) (sym (found_hop r k hop))
+    ∙ (sym (fate_found (rows_of r) k hop) ∙ ap (λ (xs : List FaultRow). fate_in xs k hop) is)
 
-pub fate_chained : (r : Inside) (rows : List FaultRow) (k : ℕ) → rows_of r ≡ rows
-    → unwrap_or (get nat_cmp r.chained k) plain_fate ≡ fate_in rows k Chained
-fate_chained r rows k is =
-    ap (λ f. unwrap_or f plain_fate) (sym (found_chained r k))
-    ∙ (sym (fate_found (rows_of r) k Chained) ∙ ap (λ (xs : List FaultRow). fate_in xs k Chained) is)
-
--- what a row says of its own hop, and of the other
+-- what a row says of its own hop, and of the others
 row_says : (row : FaultRow) (k : ℕ) (hop : Hop) → same_hop row.hop hop ≡ true
     → row_fate row k hop ≡ (if row.packet == k then Some row.fate else None)
 row_says row k hop same = grind (arith, nat_tests, same)
@@ -102,37 +121,52 @@ Notes old new row =
 abbrev pub Adds : List FaultRow → List FaultRow → FaultRow → Type 0
 Adds old new row = (k : ℕ) (hop : Hop) → found_in new k hop ≡ fate_or (found_in old k hop) (row_fate row k hop)
 
+-- a row was noted among the fates of its hop, and those of the others stayed
+abbrev pub AddsTo : Inside → Inside → FaultRow → Type 0
+AddsTo old new row =
+    (hop : Hop) (k : ℕ)
+    → get nat_cmp (fates_of new hop) k
+    ≡ (if same_hop row.hop hop
+    then fate_or (get nat_cmp (fates_of old hop) k) (if row.packet == k then Some row.fate else None)
+    else get nat_cmp (fates_of old hop) k)
+
+one_noted : (row : FaultRow) (k : ℕ) (hop : Hop) (o : Option Fate) (b : Bool) → same_hop row.hop hop ≡ b
+    → (if b then fate_or o (if row.packet == k then Some row.fate else None) else o) ≡ fate_or o (row_fate row k hop)
+one_noted row k hop o true is = ap (λ f. fate_or o f) (sym (row_says row k hop is))
+one_noted row k hop o false is = sym (or_none o) ∙ ap (λ f. fate_or o f) (sym (row_silent row k hop is))
+
+pub noted : (old new : Inside) (rows : List FaultRow) (row : FaultRow) → rows_of old ≡ rows → AddsTo old new row
+    → Adds rows (rows_of new) row
+noted old new rows row is adds k hop =
+    found_hop new k hop
+    ∙ (adds hop k
+    ∙ (one_noted row k hop (get nat_cmp (fates_of old hop) k) (same_hop row.hop hop) refl
+    ∙ ap (λ f. fate_or f (row_fate row k hop))
+    (sym (found_hop old k hop) ∙ ap (λ (xs : List FaultRow). found_in xs k hop) is)))
+
 pub noted_direct : (r : Inside) (rows : List FaultRow) (new : BTreeMap ℕ Fate) (row : FaultRow) → rows_of r ≡ rows
-    → row.hop ≡ Direct → Notes r.direct new row → Adds rows (rows_of (record { direct = new; chained = r.chained })) row
-noted_direct r rows new row is hop notes k Direct =
-    found_direct (record { direct = new; chained = r.chained }) k
-    ∙ (notes k
-    ∙ (ap (λ f. fate_or f (if row.packet == k then Some row.fate else None))
-    (sym (found_direct r k) ∙ ap (λ (xs : List FaultRow). found_in xs k Direct) is)
-    ∙ ap (λ f. fate_or (found_in rows k Direct) f) (sym (row_says row k Direct (ap (λ h. same_hop h Direct) hop)))))
-noted_direct r rows new row is hop notes k Chained =
-    found_chained (record { direct = new; chained = r.chained }) k
-    ∙ (sym (found_chained r k)
-    ∙ (ap (λ (xs : List FaultRow). found_in xs k Chained) is
-    ∙ (sym (or_none (found_in rows k Chained))
-    ∙ ap (λ f. fate_or (found_in rows k Chained) f)
-    (sym (row_silent row k Chained (ap (λ h. same_hop h Chained) hop))))))
+    → row.hop ≡ Direct → Notes r.direct new row → Adds rows (rows_of (record r { direct = new })) row
+noted_direct r rows new row is own notes = noted r (record r { direct = new }) rows row is adds where
+  adds : AddsTo r (record r { direct = new }) row
+  adds Direct k = rw own (notes k)
+  adds Chained k = rw own refl
+  adds Twice k = rw own refl
 
 pub noted_chained : (r : Inside) (rows : List FaultRow) (new : BTreeMap ℕ Fate) (row : FaultRow) → rows_of r ≡ rows
-    → row.hop ≡ Chained → Notes r.chained new row
-    → Adds rows (rows_of (record { direct = r.direct; chained = new })) row
-noted_chained r rows new row is hop notes k Chained =
-    found_chained (record { direct = r.direct; chained = new }) k
-    ∙ (notes k
-    ∙ (ap (λ f. fate_or f (if row.packet == k then Some row.fate else None))
-    (sym (found_chained r k) ∙ ap (λ (xs : List FaultRow). found_in xs k Chained) is)
-    ∙ ap (λ f. fate_or (found_in rows k Chained) f) (sym (row_says row k Chained (ap (λ h. same_hop h Chained) hop)))))
-noted_chained r rows new row is hop notes k Direct =
-    found_direct (record { direct = r.direct; chained = new }) k
-    ∙ (sym (found_direct r k)
-    ∙ (ap (λ (xs : List FaultRow). found_in xs k Direct) is
-    ∙ (sym (or_none (found_in rows k Direct))
-    ∙ ap (λ f. fate_or (found_in rows k Direct) f) (sym (row_silent row k Direct (ap (λ h. same_hop h Direct) hop))))))
+    → row.hop ≡ Chained → Notes r.chained new row → Adds rows (rows_of (record r { chained = new })) row
+noted_chained r rows new row is own notes = noted r (record r { chained = new }) rows row is adds where
+  adds : AddsTo r (record r { chained = new }) row
+  adds Direct k = rw own refl
+  adds Chained k = rw own (notes k)
+  adds Twice k = rw own refl
+
+pub noted_twice : (r : Inside) (rows : List FaultRow) (new : BTreeMap ℕ Fate) (row : FaultRow) → rows_of r ≡ rows
+    → row.hop ≡ Twice → Notes r.twice new row → Adds rows (rows_of (record r { twice = new })) row
+noted_twice r rows new row is own notes = noted r (record r { twice = new }) rows row is adds where
+  adds : AddsTo r (record r { twice = new }) row
+  adds Direct k = rw own refl
+  adds Chained k = rw own refl
+  adds Twice k = rw own (notes k)
 
 -- WHAT IS KEPT AND WHAT IS LEFT SAY WHAT ALL ROWS SAY
 

@@ -1,4 +1,4 @@
--- A copy that is inserted behind those due no later stands where it comes.
+-- A copy is inserted at its place: after those due no later.
 use Rattle.std.proofs.Common.{◌≡◌, ℕ, zero, suc, ◌<◌, ◌≤◌, true, false, List, [], ◌∷◌, length, drop, get_or, map, refl}
 use Rattle.std.proofs.Common.{ap, ◌∙◌, arith, leb}
 use Rattle.std.specs.Prelude.{nat_lt}

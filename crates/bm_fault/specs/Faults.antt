@@ -9,7 +9,7 @@ module _ {F : Type 0} (g : Shared F (ℕ × (Hop × Unit {0})) Fate) (f : F) whe
   abbrev pub Gives : ℕ → Hop → Fate → Type 0
   Gives packet hop fate = g.post f (packet, (hop, tt)) fate
 
-  -- it may always be called, and each answer has at most 3 copies, at most a minute late
+  -- it may always be called, and every answer has at most 3 copies, at most a minute late
   pub record IsRule : Type 0 where
     pub takes : (packet : ℕ) (hop : Hop) → g.pre f (packet, (hop, tt))
     pub copies : (packet : ℕ) (hop : Hop) (fate : Fate) → Gives packet hop fate → fate.copies ≤ 3

@@ -1,7 +1,7 @@
 -- How contracts see the fault rows and the wire.
 use Rattle.std.specs.Prelude.{ℕ, List, ◌++◌, map}
 use Rattle.bm_base.specs.declared.label.Hop.{Hop}
-use Rattle.bm_base.specs.declared.label.Hop.TheVariants.{Direct, Chained}
+use Rattle.bm_base.specs.declared.label.Hop.TheVariants.{Direct, Chained, Twice}
 use Rattle.bm_base.specs.declared.fate.Fate.{Fate}
 use Rattle.bm_table.specs.declared.setting.FaultRow.{FaultRow}
 use Rattle.bm_fault.specs.declared.rows.FaultRows.TheInside.{Inside as RowsInside}
@@ -16,7 +16,9 @@ row_of hop e = record { packet = e.0; hop = hop; fate = e.1 }
 
 -- the rows of each hop in the order of their packets
 abbrev pub rows_of : RowsInside → List FaultRow
-rows_of rows = map (row_of Direct) rows.direct.entries ++ map (row_of Chained) rows.chained.entries
+rows_of rows =
+    map (row_of Direct) rows.direct.entries
+    ++ (map (row_of Chained) rows.chained.entries ++ map (row_of Twice) rows.twice.entries)
 
 -- a copy in the queue
 abbrev pub flying_of : Queued → Flying
@@ -26,6 +28,6 @@ flying_of copy = record { due = copy.due; flight = copy.flight }
 abbrev pub flying : WireInside → List Flying
 flying wire = map flying_of wire.flights.items
 
--- the due moments don't fall
+-- the due moments never decrease
 abbrev pub IsKept : WireInside → Type 0
 IsKept wire = DueRise 0 (flying wire)

@@ -1,10 +1,10 @@
--- The order in which copies under way come.
+-- The order in which copies under way arrive.
 use Rattle.std.specs.Prelude.{ℕ, ◌≤◌, nat_lt, if◌then◌else◌, List, [], ◌∷◌, Option, Some, None}
 use Rattle.bm_base.specs.declared.ids.Moment.{Moment}
 use Rattle.bm_fault.specs.Flying.{Flying}
 use Rattle.bm_fault.specs.declared.wire.Flight.{Flight}
 
--- one more copy, behind those that are due no later
+-- the copy added after those that are due no later
 abbrev pub put_flying : Flying → List Flying → List Flying
 put_flying f [] = f ∷ []
 put_flying f (x ∷ flying) =
@@ -25,7 +25,7 @@ abbrev pub others : List Flying → List Flying
 others [] = []
 others (f ∷ flying) = flying
 
--- the due moments don't fall, from low on
+-- the due moments never decrease, and are at least `low`
 abbrev pub DueRise : ℕ → List Flying → Type 0
 DueRise low [] = Unit {0}
 DueRise low (f ∷ flying) = (low ≤ f.due.0) × DueRise f.due.0 flying

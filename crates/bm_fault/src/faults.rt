@@ -1,10 +1,10 @@
-//! A rule for the fate of each sending, beside the fact that its answers are within the limits.
+//! A rule for the fate of each sending, with the fact that its answers are within the limits.
 ghost use Rattle.std.specs.Prelude.{◌≡◌, ◌≤◌, ◌*◌, ◌^◌};
 ghost use Rattle.bm_fault.specs.Faults.{Gives, IsRule};
 
 use bm_base::{Fate, Hop};
 
-/// A rule that says, by a packet's number and a hop, what becomes of each such sending.
+/// A rule that says, by a packet's number and a hop, what becomes of that sending.
 #[derive(Drop)]
 pub struct Faults<F> {
     pub rule: F,
@@ -21,7 +21,7 @@ impl<F: Fn(u32, Hop) -> Fate> Faults<F> {
         Faults { rule: f }
     }
 
-    /// The fate of a sending of this packet with this hop: what the rule answers. The delay is
+    /// The fate of a sending of this packet with this hop, by the rule. The delay is in
     /// nanoseconds.
     pub fn fate(&self, packet: u32, hop: Hop) -> Fate
         requires { IsRule F.Fn self.now.rule }

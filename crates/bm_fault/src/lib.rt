@@ -1,4 +1,4 @@
-//! What becomes of the sendings of a packet, and the copies that are under way.
+//! Impairments, which say what becomes of a packet's sendings, and the copies under way.
 #![tactic(auto)]
 
 mod faults;

@@ -22,6 +22,7 @@ const PLAIN: Fate = Fate {
 pub struct FaultRows {
     direct: BTreeMap<u32, Fate>,
     chained: BTreeMap<u32, Fate>,
+    twice: BTreeMap<u32, Fate>,
 }
 
 impl Model for FaultRows {
@@ -37,7 +38,7 @@ impl Model for FaultRows {
 
 impl FaultRows {
     /// The rows that count: of two with the same packet and hop, the first. `Memory` where memory
-    /// was refused. Takes time in proportion to n log n, which no clause says.
+    /// was refused. Takes time in proportion to n log n, which isn't proved.
     pub fn new(alloc: Global, rows: &[FaultRow]) -> Result<FaultRows, Memory>
         ensures { IfOk result
             (λ kept. (packet : ℕ) (hop : _)
@@ -46,6 +47,7 @@ impl FaultRows {
         let mut kept = FaultRows {
             direct: BTreeMap::new(alloc),
             chained: BTreeMap::new(alloc),
+            twice: BTreeMap::new(alloc),
         };
         for row in rows {
             kept.note(row)?;
@@ -53,7 +55,7 @@ impl FaultRows {
         Ok(kept)
     }
 
-    /// Takes a row, unless one with its packet and hop is there.
+    /// Adds a row, unless there is one with its packet and hop.
     fn note(&mut self, row: &FaultRow) -> Result<(), Memory>
         ensures { IfOk result
             (λ _. (packet : ℕ) (hop : _)
@@ -63,17 +65,19 @@ impl FaultRows {
         match row.hop {
             Hop::Direct => note_fate(&mut self.direct, row.packet, row.fate),
             Hop::Chained => note_fate(&mut self.chained, row.packet, row.fate),
+            Hop::Twice => note_fate(&mut self.twice, row.packet, row.fate),
         }
     }
 
     /// The fate in the first row of the packet and hop, or else one copy without delay. Takes time
-    /// in proportion to log n.
+    /// in proportion to log n, which isn't proved.
     pub fn fate(&self, packet: u32, hop: Hop) -> Fate
         ensures { result ≡ fate_in self.now packet hop }
     {
         match hop {
             Hop::Direct => fate_of(&self.direct, packet),
             Hop::Chained => fate_of(&self.chained, packet),
+            Hop::Twice => fate_of(&self.twice, packet),
         }
     }
 }
@@ -85,7 +89,7 @@ fn fate_of(fates: &BTreeMap<u32, Fate>, packet: u32) -> Fate
     fates.get(&packet).copied().unwrap_or(PLAIN)
 }
 
-/// Takes a packet's fate, unless the packet has one.
+/// Adds a packet's fate, unless the packet has one.
 fn note_fate(fates: &mut BTreeMap<u32, Fate>, packet: u32, fate: Fate) -> Result<(), Memory>
     ensures { IfOk result
         (λ _. (k : ℕ)

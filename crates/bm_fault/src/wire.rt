@@ -10,7 +10,7 @@ use std::collections::VecDeque;
 use std::marker::Model;
 
 /// A copy of a packet that is under way, with what it carries.
-#[derive(Clone, Copy, Debug, PartialEq, Eq)]
+#[derive(Clone, Copy, PartialEq, Eq)]
 pub struct Flight {
     pub packet: u32,
     pub tag: Tag,
@@ -23,8 +23,8 @@ struct Queued {
     flight: Flight,
 }
 
-/// The copies that are under way, in the order in which they come: by their due moments, and of one
-/// moment in the order in which they were put.
+/// The copies that are under way, in the order in which they arrive: by their due moments, and at
+/// one moment in the order in which they were put.
 #[derive(Drop)]
 pub struct Wire {
     flights: VecDeque<Queued>,
@@ -48,8 +48,8 @@ impl Wire {
         }
     }
 
-    /// Puts a copy behind those that are due no later. Where memory is refused, the wire stays as
-    /// it was. Memory is taken only where more copies are under way than ever before.
+    /// Puts a copy after those that are due no later. Where memory is refused, the wire stays as it
+    /// was. Takes memory only if more copies are under way than ever before.
     pub fn put(&mut self, due: Moment, flight: Flight) -> Result<(), Memory>
         ensures { MatchResult result
             (λ _. self.new ≡ put_flying (record { due = due; flight = flight }) self.old)
@@ -60,7 +60,7 @@ impl Wire {
         Ok(())
     }
 
-    /// The due moment of the copy that comes next; None where no copy is under way.
+    /// The due moment of the next copy; None if no copy is under way.
     pub fn least(&self) -> Option<Moment>
         ensures first { result ≡ first_due self.now }
         ensures rising { DueRise 0 self.now }
@@ -68,8 +68,8 @@ impl Wire {
         Some(self.flights.front()?.due)
     }
 
-    /// Takes the copy that comes next: the one that is due first, and of one moment the one that
-    /// was put first. None where no copy is under way. The others stay.
+    /// Takes the next copy: the one that is due first, and at one moment the one that was put
+    /// first. None if no copy is under way. The others stay.
     pub fn pop(&mut self) -> Option<Flight>
         ensures first { result ≡ first_flight self.old }
         ensures others { self.new ≡ others self.old }

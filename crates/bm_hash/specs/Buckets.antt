@@ -11,7 +11,7 @@ flow_octets f =
     to_be_bytes w32 f.src ++ to_be_bytes w32 f.dst ++ to_be_bytes w16 f.sport
     ++ to_be_bytes w16 f.dport ++ 6 ∷ []
 
--- one octet more: exclusive or, then times the prime, with 64 bits
+-- the hash with one more octet: exclusive or, then times the prime, modulo 2^64
 unfoldable pub fnv_step : ℕ → ℕ → ℕ
 fnv_step hash octet = bit_xor hash octet * 0x100000001b3 % 2 ^ 64
 
@@ -22,10 +22,10 @@ fnv_1a octets = fold fnv_step 0xcbf29ce484222325 octets
 unfoldable pub flow_hash : Flow → ℕ
 flow_hash f = fnv_1a (flow_octets f)
 
--- the bucket of a flow, of so many
+-- the bucket of a flow, among this many buckets
 abbrev pub bucket_of : ℕ → Flow → ℕ
 bucket_of buckets f = flow_hash f % buckets
 
--- the shard of a flow at its server, of so many
+-- the shard of a flow at its server, among this many shards
 abbrev pub shard_of : ℕ → Flow → ℕ
 shard_of shards f = flow_hash f / 2 ^ 32 % shards

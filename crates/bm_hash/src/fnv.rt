@@ -39,7 +39,7 @@ pub fn flow_hash(f: &Flow) -> u64
     fnv_1a(&flow_octets(f))
 }
 
-/// The remainder of a hash. Where the divisor is a power of two a mask gives it, in a tenth of the
+/// The remainder of a hash. If the divisor is a power of two, a mask gives it in a tenth of the
 /// time of a division.
 pub fn remainder(hash: u64, divisor: u64) -> u64
     requires { 1 ≤ divisor }

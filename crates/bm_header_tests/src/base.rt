@@ -1,7 +1,7 @@
 //! Tests of `bm_base`.
 use bm_base::flags::{ACK, CWR, ECE, FIN, PSH, RST, SYN, URG};
 use bm_base::{
-    Entry, Flow, Hop, LAST, Label, List, Moment, MuxId, Octets, Segment, ServerId, Tag, Text,
+    Entry, Flow, Hop, LAST, Label, List, Moment, MuxId, Octets, Past, Segment, ServerId, Tag, Text,
     Version, is_opening, mux_addr, mux_at, server_addr, server_of, tag_of,
 };
 use std::test::Fail;
@@ -46,6 +46,13 @@ fn a_segment_opens_with_syn_and_without_ack_rst_and_fin(rt: HostRuntime) {
     }
 }
 
+fn past(server: u16, stamp: u64) -> Past {
+    Past {
+        server: ServerId(server),
+        stamp: Moment(stamp),
+    }
+}
+
 #[test]
 fn a_tag_has_the_destination_of_its_hop(rt: HostRuntime) {
     let label = Label {
@@ -53,20 +60,24 @@ fn a_tag_has_the_destination_of_its_hop(rt: HostRuntime) {
         version: Version(1),
         entry: Entry {
             cur: ServerId(2),
-            prev: Some(ServerId(1)),
-            stamp: Moment(500),
+            prev: Some(past(1, 500)),
+            older: Some(past(3, 400)),
         },
     };
-    for (hop, dest) in [(Hop::Direct, ServerId(2)), (Hop::Chained, ServerId(1))] {
+    for (hop, dest) in [
+        (Hop::Direct, ServerId(2)),
+        (Hop::Chained, ServerId(1)),
+        (Hop::Twice, ServerId(3)),
+    ] {
         let want = Tag {
             hop,
             dest,
-            prev: Some(ServerId(1)),
-            stamp: Moment(500),
+            prev: Some(past(1, 500)),
+            older: Some(past(3, 400)),
             version: Version(1),
             mux: MuxId(0),
         };
-        assert_eq!(rt; tag_of(&label, hop), want);
+        assert!(rt; tag_of(&label, hop) == want);
     }
 }
 
@@ -108,12 +119,12 @@ fn servers_and_muxes_have_addresses(rt: HostRuntime) {
         (0xac0f_ffff, None),
     ];
     for (addr, server) in rows {
-        assert_eq!(rt; server_of(addr), server);
+        assert!(rt; server_of(addr) == server);
     }
     assert_eq!(rt; server_addr(ServerId(2)), 0xac10_0002);
     assert_eq!(rt; mux_addr(MuxId(63)), 0xac1f_003f);
-    assert_eq!(rt; mux_at(0xac1f_003f), Some(MuxId(63)));
-    assert_eq!(rt; mux_at(0xac1f_0040), None);
+    assert!(rt; mux_at(0xac1f_003f) == Some(MuxId(63)));
+    assert!(rt; mux_at(0xac1f_0040) == None);
 }
 
 // RFC 9293, section 3.1

@@ -1,7 +1,7 @@
-//! Tests of `bm_encap`: carrier headers, also damaged ones.
+//! Tests of `bm_encap`: carrier headers, intact and damaged.
 ghost use Rattle.std.specs.Prelude.{◌<◌};
 
-use bm_base::{Hop, Moment, MuxId, ServerId, Tag, Version};
+use bm_base::{Hop, Moment, MuxId, Past, ServerId, Tag, Version};
 use bm_encap::EncapFault::{BadLength, BadOption, BadOuter, BadSum, Short};
 use bm_encap::{EncapFault, chain, set_chained, unwrap, wrap};
 use bm_ipv4::header_sum;
@@ -10,53 +10,98 @@ use std::test::Fail;
 
 // The carrier header of a packet of 50 octets from mux 0 at version 1, direct to server 2, where
 // server 1 had the bucket until the moment 500.
-const DIRECT: [u8; 44] = [
-    0x4b, 0x00, 0x00, 0x5e, 0x00, 0x00, 0x40, 0x00, 0x40, 0x04, 0x90, 0x4a, 0xac, 0x1f, 0x00, 0x00,
-    0xac, 0x10, 0x00, 0x02, 0x9e, 0x18, 0x00, 0x01, 0xac, 0x10, 0x00, 0x01, 0x00, 0x00, 0x00, 0x00,
-    0x00, 0x00, 0x01, 0xf4, 0x00, 0x00, 0x00, 0x01, 0x00, 0x00, 0x00, 0x00,
+const DIRECT: [u8; 56] = [
+    0x4e, 0x00, 0x00, 0x6a, 0x00, 0x00, 0x40, 0x00, 0x40, 0x04, 0x8d, 0x32, 0xac, 0x1f, 0x00, 0x00,
+    0xac, 0x10, 0x00, 0x02, 0x9e, 0x24, 0x00, 0x01, 0xac, 0x10, 0x00, 0x01, 0x00, 0x00, 0x00, 0x00,
+    0x00, 0x00, 0x01, 0xf4, 0x00, 0x00, 0x00, 0x00, 0x00, 0x00, 0x00, 0x00, 0x00, 0x00, 0x00, 0x00,
+    0x00, 0x00, 0x00, 0x01, 0x00, 0x00, 0x00, 0x00,
 ];
 
-// The header of its next hop, to server 1.
-const CHAINED: [u8; 44] = [
-    0x4b, 0x00, 0x00, 0x5e, 0x00, 0x00, 0x40, 0x00, 0x40, 0x04, 0x8f, 0x4b, 0xac, 0x1f, 0x00, 0x00,
-    0xac, 0x10, 0x00, 0x01, 0x9e, 0x18, 0x01, 0x01, 0xac, 0x10, 0x00, 0x01, 0x00, 0x00, 0x00, 0x00,
-    0x00, 0x00, 0x01, 0xf4, 0x00, 0x00, 0x00, 0x01, 0x00, 0x00, 0x00, 0x00,
+// The same, if the bucket hasn't moved yet.
+const UNMOVED: [u8; 56] = [
+    0x4e, 0x00, 0x00, 0x6a, 0x00, 0x00, 0x40, 0x00, 0x40, 0x04, 0x3b, 0x3a, 0xac, 0x1f, 0x00, 0x00,
+    0xac, 0x10, 0x00, 0x02, 0x9e, 0x24, 0x00, 0x00, 0x00, 0x00, 0x00, 0x00, 0x00, 0x00, 0x00, 0x00,
+    0x00, 0x00, 0x00, 0x00, 0x00, 0x00, 0x00, 0x00, 0x00, 0x00, 0x00, 0x00, 0x00, 0x00, 0x00, 0x00,
+    0x00, 0x00, 0x00, 0x00, 0x00, 0x00, 0x00, 0x00,
 ];
+
+// The header of the first one's next hop, to server 1.
+const CHAINED: [u8; 56] = [
+    0x4e, 0x00, 0x00, 0x6a, 0x00, 0x00, 0x40, 0x00, 0x40, 0x04, 0x8c, 0x33, 0xac, 0x1f, 0x00, 0x00,
+    0xac, 0x10, 0x00, 0x01, 0x9e, 0x24, 0x01, 0x01, 0xac, 0x10, 0x00, 0x01, 0x00, 0x00, 0x00, 0x00,
+    0x00, 0x00, 0x01, 0xf4, 0x00, 0x00, 0x00, 0x00, 0x00, 0x00, 0x00, 0x00, 0x00, 0x00, 0x00, 0x00,
+    0x00, 0x00, 0x00, 0x01, 0x00, 0x00, 0x00, 0x00,
+];
+
+// The header of such a packet at version 2, direct to server 1, where server 3 had the bucket until
+// the moment 600, and server 2 before it until 500.
+const MOVED_TWICE: [u8; 56] = [
+    0x4e, 0x00, 0x00, 0x6a, 0x00, 0x00, 0x40, 0x00, 0x40, 0x04, 0xde, 0xc4, 0xac, 0x1f, 0x00, 0x00,
+    0xac, 0x10, 0x00, 0x01, 0x9e, 0x24, 0x00, 0x02, 0xac, 0x10, 0x00, 0x03, 0x00, 0x00, 0x00, 0x00,
+    0x00, 0x00, 0x02, 0x58, 0xac, 0x10, 0x00, 0x02, 0x00, 0x00, 0x00, 0x00, 0x00, 0x00, 0x01, 0xf4,
+    0x00, 0x00, 0x00, 0x02, 0x00, 0x00, 0x00, 0x00,
+];
+
+// The header of its last hop, to server 2.
+const TWICE: [u8; 56] = [
+    0x4e, 0x00, 0x00, 0x6a, 0x00, 0x00, 0x40, 0x00, 0x40, 0x04, 0xdc, 0xc3, 0xac, 0x1f, 0x00, 0x00,
+    0xac, 0x10, 0x00, 0x02, 0x9e, 0x24, 0x02, 0x02, 0xac, 0x10, 0x00, 0x03, 0x00, 0x00, 0x00, 0x00,
+    0x00, 0x00, 0x02, 0x58, 0xac, 0x10, 0x00, 0x02, 0x00, 0x00, 0x00, 0x00, 0x00, 0x00, 0x01, 0xf4,
+    0x00, 0x00, 0x00, 0x02, 0x00, 0x00, 0x00, 0x00,
+];
+
+fn past(server: u16, stamp: u64) -> Past {
+    Past {
+        server: ServerId(server),
+        stamp: Moment(stamp),
+    }
+}
 
 fn tag() -> Tag {
     Tag {
         hop: Hop::Direct,
         dest: ServerId(2),
-        prev: Some(ServerId(1)),
-        stamp: Moment(500),
+        prev: Some(past(1, 500)),
+        older: None,
         version: Version(1),
         mux: MuxId(0),
     }
 }
 
-// The header and 50 octets behind it.
-fn packet(header: &[u8; 44]) -> [u8; 94] {
-    let mut octets = [7; 94];
+fn moved_twice() -> Tag {
+    Tag {
+        hop: Hop::Direct,
+        dest: ServerId(1),
+        prev: Some(past(3, 600)),
+        older: Some(past(2, 500)),
+        version: Version(2),
+        mux: MuxId(0),
+    }
+}
+
+// The header and 50 octets after it.
+fn packet(header: &[u8; 56]) -> [u8; 106] {
+    let mut octets = [7; 106];
     for (octet, given) in octets.iter_mut().zip(header) {
         *octet = *given;
     }
     octets
 }
 
-// Makes the checksum right.
-fn mend(octets: &mut [u8; 94]) {
+// Corrects the checksum.
+fn mend(octets: &mut [u8; 106]) {
     octets[10] = 0;
     octets[11] = 0;
-    let [high, low] = header_sum(&octets[..44]).to_be_bytes();
+    let [high, low] = header_sum(&octets[..56]).to_be_bytes();
     octets[10] = high;
     octets[11] = low;
 }
 
-/// What is wrong where an octet of these places, both ends included, is changed.
+/// What is wrong if an octet of these places, both ends included, is changed.
 type Row = (usize, usize, Option<EncapFault>);
 
 // At each place of a range, the header with that octet changed has this fault.
-fn assert_damaged(rt: &impl Abort, header: &[u8; 44], mended: bool, change: u8, rows: &[Row]) {
+fn assert_damaged(rt: &impl Abort, header: &[u8; 56], mended: bool, change: u8, rows: &[Row]) {
     for (first, last, want) in rows {
         for place in *first..last.saturating_add(1) {
             let mut octets = packet(header);
@@ -71,7 +116,7 @@ fn assert_damaged(rt: &impl Abort, header: &[u8; 44], mended: bool, change: u8, 
     }
 }
 
-// Octets that are always the same, whether or not the checksum is made right.
+// Octets that are always the same, whether or not the checksum is corrected.
 const FIXED: [Row; 8] = [
     (0, 0, Some(BadOuter(0))),
     (1, 1, Some(BadOuter(1))),
@@ -89,7 +134,7 @@ const DAMAGED_01: [Row; 6] = [
     (12, 14, Some(BadOuter(12))),
     (15, 15, Some(BadSum)),
     (16, 17, Some(BadOuter(16))),
-    (18, 43, Some(BadSum)),
+    (18, 55, Some(BadSum)),
 ];
 
 const DAMAGED_80_FF: [Row; 5] = [
@@ -97,7 +142,7 @@ const DAMAGED_80_FF: [Row; 5] = [
     (10, 11, Some(BadSum)),
     (12, 15, Some(BadOuter(12))),
     (16, 18, Some(BadOuter(16))),
-    (19, 43, Some(BadSum)),
+    (19, 55, Some(BadSum)),
 ];
 
 #[test]
@@ -110,81 +155,138 @@ fn an_octet_is_changed(rt: HostRuntime) {
     assert_damaged(&rt, &DIRECT, false, 0xff, &DAMAGED_80_FF);
 }
 
-// The same for both headers, where the checksum is made right.
+// The same for all headers, if the checksum is corrected.
 const MENDED: [Row; 5] = [
     (2, 3, Some(BadLength)),
     (20, 20, Some(BadOption(20))),
     (21, 21, Some(BadOption(21))),
-    (40, 41, Some(BadOption(40))),
-    (42, 43, Some(BadOption(42))),
+    (52, 53, Some(BadOption(52))),
+    (54, 55, Some(BadOption(54))),
 ];
 
-const DIRECT_01: [Row; 8] = [
+const DIRECT_01: [Row; 11] = [
     (12, 14, Some(BadOuter(12))),
-    (15, 15, Some(BadOption(40))),
+    (15, 15, Some(BadOption(52))),
     (16, 17, Some(BadOuter(16))),
     (18, 19, None),
     (22, 25, Some(BadOption(24))),
     (26, 26, None),
     (27, 27, Some(BadOption(24))),
-    (28, 39, None),
+    (28, 35, None),
+    (36, 39, Some(BadOption(36))),
+    (40, 47, Some(BadOption(40))),
+    (48, 51, None),
 ];
 
-const DIRECT_80_FF: [Row; 7] = [
+const DIRECT_80_FF: [Row; 10] = [
     (12, 15, Some(BadOuter(12))),
     (16, 18, Some(BadOuter(16))),
     (19, 19, None),
     (22, 22, Some(BadOption(22))),
     (23, 23, Some(BadOption(23))),
     (24, 26, Some(BadOption(24))),
-    (27, 39, None),
+    (27, 35, None),
+    (36, 39, Some(BadOption(36))),
+    (40, 47, Some(BadOption(40))),
+    (48, 51, None),
 ];
 
-const CHAINED_01: [Row; 9] = [
+const UNMOVED_01: [Row; 11] = [
     (12, 14, Some(BadOuter(12))),
-    (15, 15, Some(BadOption(40))),
+    (15, 15, Some(BadOption(52))),
+    (16, 17, Some(BadOuter(16))),
+    (18, 19, None),
+    (22, 22, Some(BadOption(23))),
+    (23, 27, Some(BadOption(24))),
+    (28, 35, Some(BadOption(28))),
+    (36, 39, Some(BadOption(36))),
+    (40, 47, Some(BadOption(40))),
+    (48, 51, None),
+    (56, 105, None),
+];
+
+const CHAINED_01: [Row; 12] = [
+    (12, 14, Some(BadOuter(12))),
+    (15, 15, Some(BadOption(52))),
     (16, 17, Some(BadOuter(16))),
     (18, 18, Some(BadOption(24))),
     (19, 19, Some(BadOuter(16))),
     (22, 22, Some(BadOption(24))),
     (23, 23, Some(BadOption(23))),
     (24, 27, Some(BadOption(24))),
-    (28, 39, None),
+    (28, 35, None),
+    (36, 39, Some(BadOption(36))),
+    (40, 47, Some(BadOption(40))),
+    (48, 51, None),
 ];
 
-const CHAINED_80_FF: [Row; 7] = [
+const CHAINED_80_FF: [Row; 10] = [
     (12, 15, Some(BadOuter(12))),
     (16, 18, Some(BadOuter(16))),
     (19, 19, Some(BadOption(24))),
     (22, 22, Some(BadOption(22))),
     (23, 23, Some(BadOption(23))),
     (24, 27, Some(BadOption(24))),
-    (28, 39, None),
+    (28, 35, None),
+    (36, 39, Some(BadOption(36))),
+    (40, 47, Some(BadOption(40))),
+    (48, 51, None),
+];
+
+const TWICE_01: [Row; 12] = [
+    (12, 14, Some(BadOuter(12))),
+    (15, 15, Some(BadOption(52))),
+    (16, 17, Some(BadOuter(16))),
+    (18, 19, Some(BadOption(36))),
+    (22, 22, Some(BadOption(22))),
+    (23, 23, Some(BadOption(23))),
+    (24, 25, Some(BadOption(24))),
+    (26, 26, None),
+    (27, 27, Some(BadOption(36))),
+    (28, 35, None),
+    (36, 39, Some(BadOption(36))),
+    (40, 51, None),
+];
+
+const TWICE_80_FF: [Row; 9] = [
+    (12, 15, Some(BadOuter(12))),
+    (16, 18, Some(BadOuter(16))),
+    (19, 19, Some(BadOption(36))),
+    (22, 22, Some(BadOption(22))),
+    (23, 23, Some(BadOption(23))),
+    (24, 26, Some(BadOption(24))),
+    (27, 35, None),
+    (36, 39, Some(BadOption(36))),
+    (40, 51, None),
 ];
 
 #[test]
 fn an_octet_is_changed_and_the_checksum_too(rt: HostRuntime) {
-    for header in [&DIRECT, &CHAINED] {
+    for header in [&DIRECT, &UNMOVED, &CHAINED, &TWICE] {
         for change in [0x01, 0x80, 0xff] {
             assert_damaged(&rt, header, true, change, &FIXED);
             assert_damaged(&rt, header, true, change, &MENDED);
         }
     }
-    // The first octet as that of a header without options, 45.
-    assert_damaged(&rt, &DIRECT, true, 0x0e, &[(0, 0, Some(BadOuter(0)))]);
+    // The first octet as in a header without options, 45.
+    assert_damaged(&rt, &DIRECT, true, 0x0b, &[(0, 0, Some(BadOuter(0)))]);
     assert_damaged(&rt, &DIRECT, true, 0x01, &DIRECT_01);
     assert_damaged(&rt, &DIRECT, true, 0x80, &DIRECT_80_FF);
     assert_damaged(&rt, &DIRECT, true, 0xff, &DIRECT_80_FF);
+    assert_damaged(&rt, &UNMOVED, true, 0x01, &UNMOVED_01);
     assert_damaged(&rt, &CHAINED, true, 0x01, &CHAINED_01);
     assert_damaged(&rt, &CHAINED, true, 0x80, &CHAINED_80_FF);
     assert_damaged(&rt, &CHAINED, true, 0xff, &CHAINED_80_FF);
+    assert_damaged(&rt, &TWICE, true, 0x01, &TWICE_01);
+    assert_damaged(&rt, &TWICE, true, 0x80, &TWICE_80_FF);
+    assert_damaged(&rt, &TWICE, true, 0xff, &TWICE_80_FF);
 }
 
 #[test]
 fn a_header_is_read_and_spelled(rt: HostRuntime) -> Result<(), Fail> {
     let octets = packet(&DIRECT);
     let (read, inner) = unwrap(&octets)?;
-    assert_eq!(rt; read, tag());
+    assert!(rt; read == tag());
     assert!(rt; inner == [7; 50].as_slice());
     let mut out = vec![in rt.alloc(); 9]?;
     wrap(&read, inner, &mut out)?;
@@ -210,32 +312,69 @@ fn the_next_hop_is_written_in_place(rt: HostRuntime) {
     let mut octets = packet(&DIRECT);
     assert!(rt; set_chained(&mut octets) == Ok(()));
     assert!(rt; octets == packet(&CHAINED));
-    assert!(rt; set_chained(&mut octets) == Err(BadOption(22)));
+    // There is no server before that.
+    assert!(rt; set_chained(&mut octets) == Err(BadOption(23)));
     assert!(rt; octets == packet(&CHAINED));
     // A direct packet without a previous server.
-    let mut alone = packet(&DIRECT);
-    alone[23] = 0;
-    alone[26] = 0;
-    alone[25] = 0;
-    alone[24] = 0;
-    alone[27] = 0;
-    alone[34] = 0;
-    alone[35] = 0;
-    mend(&mut alone);
-    let before = alone;
+    let mut alone = packet(&UNMOVED);
     assert!(rt; unwrap(&alone).is_ok());
     assert!(rt; set_chained(&mut alone) == Err(BadOption(23)));
-    assert!(rt; alone == before);
+    assert!(rt; alone == packet(&UNMOVED));
+}
+
+#[test]
+fn an_older_server_has_no_previous_one(rt: HostRuntime) {
+    let mut octets = packet(&MOVED_TWICE);
+    for octet in &mut octets[24..36] {
+        *octet = 0;
+    }
+    mend(&mut octets);
+    assert_eq!(rt; unwrap(&octets).err(), Some(BadOption(24)));
+    octets[23] = 1;
+    mend(&mut octets);
+    assert_eq!(rt; unwrap(&octets).err(), Some(BadOption(24)));
+    octets[23] = 0;
+    mend(&mut octets);
+    assert_eq!(rt; unwrap(&octets).err(), Some(BadOption(36)));
+}
+
+#[test]
+fn servers_before_differ_and_are_where_the_copy_goes(rt: HostRuntime) {
+    // The older server is the previous one.
+    let mut octets = packet(&MOVED_TWICE);
+    octets[39] = 3;
+    mend(&mut octets);
+    assert_eq!(rt; unwrap(&octets).err(), Some(BadOption(36)));
+    // A chained copy goes to the older server.
+    let mut octets = packet(&MOVED_TWICE);
+    octets[22] = 1;
+    octets[19] = 2;
+    mend(&mut octets);
+    assert_eq!(rt; unwrap(&octets).err(), Some(BadOption(24)));
+}
+
+#[test]
+fn a_packet_goes_on_twice(rt: HostRuntime) -> Result<(), Fail> {
+    let mut octets = packet(&MOVED_TWICE);
+    assert!(rt; unwrap(&octets)?.0 == moved_twice());
+    assert!(rt; set_chained(&mut octets) == Ok(()));
+    let [high, low] = [octets[10], octets[11]];
+    assert!(rt; (high, low) == (0xdd, 0xc2));
+    assert!(rt; set_chained(&mut octets) == Ok(()));
+    assert!(rt; octets == packet(&TWICE));
+    assert!(rt; set_chained(&mut octets) == Err(BadOption(22)));
+    assert!(rt; octets == packet(&TWICE));
+    Ok(())
 }
 
 #[test]
 fn octets_are_cut_or_added(rt: HostRuntime) {
     let octets = packet(&DIRECT);
-    for len in 0..94 {
-        let want = if len < 44 { Short } else { BadLength };
+    for len in 0..106 {
+        let want = if len < 56 { Short } else { BadLength };
         assert_eq!(rt; unwrap(&octets[..len]).err(), Some(want), "at {len}");
     }
-    let mut longer = [7; 95];
+    let mut longer = [7; 107];
     for (octet, given) in longer.iter_mut().zip(&octets) {
         *octet = *given;
     }

@@ -1,5 +1,5 @@
-//! Tests of `bm_base`, `bm_ipv4`, `bm_tcp`, `bm_link` and `bm_encap`, in a crate of their own: a
-//! run of tests proves its crate again.
+//! Tests of `bm_base`, `bm_ipv4`, `bm_tcp`, `bm_link` and `bm_encap`, in a crate of their own:
+//! running tests proves their crate again.
 #![tactic(auto)]
 
 #[cfg(test)]

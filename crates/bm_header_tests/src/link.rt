@@ -2,7 +2,7 @@
 use bm_base::{Body, Flow, Reason, Segment, Vip};
 use bm_link::{LinkFault, classify, network_part};
 
-// A SYN on Ethernet with a tag, cut behind the fixed part of its TCP header.
+// A SYN on Ethernet with a tag, cut after the fixed part of its TCP header.
 const TAGGED: [u8; 58] = [
     0xe6, 0x92, 0x85, 0xe3, 0xb4, 0xb8, 0x06, 0x82, 0xf8, 0x4a, 0x38, 0xcc, 0x81, 0x00, 0x00, 0x05,
     0x08, 0x00, 0x45, 0x00, 0x00, 0x3c, 0xf9, 0x19, 0x40, 0x00, 0x40, 0x06, 0x55, 0x6a, 0xc6, 0x33,
@@ -88,32 +88,17 @@ fn syn(src: u32, sport: u16, dport: u16, seq: u32) -> Body {
 #[test]
 fn captured_frames_hold_what_tshark_reads(rt: HostRuntime) {
     let tagged = syn(0xc633_6403, 57262, 80, 2_144_339_887);
-    assert_eq!(rt; classify(1, &TAGGED, &VIPS), (tagged, &TAGGED[18..]));
+    assert!(rt; classify(1, &TAGGED, &VIPS) == (tagged, &TAGGED[18..]));
     let cooked = syn(0xc633_6401, 39634, 6379, 1_844_306_504);
-    assert_eq!(rt; classify(113, &COOKED, &VIPS), (cooked, &COOKED[16..]));
+    assert!(rt; classify(113, &COOKED, &VIPS) == (cooked, &COOKED[16..]));
     let raw = syn(0xc633_6401, 44120, 80, 3_830_462_710);
-    assert_eq!(rt; classify(101, &RAW, &VIPS), (raw, RAW.as_slice()));
-    assert_eq!(rt; classify(228, &RAW, &VIPS), (raw, RAW.as_slice()));
-    assert_eq!(rt;
-        classify(1, &ARP, &VIPS).0,
-        Body::Unsteered(Reason::NotIpv4)
-    );
-    assert_eq!(rt;
-        classify(1, &IPV6, &VIPS).0,
-        Body::Unsteered(Reason::NotIpv4)
-    );
-    assert_eq!(rt;
-        classify(1, &ICMP, &VIPS).0,
-        Body::Unsteered(Reason::NotTcp)
-    );
-    assert_eq!(rt;
-        classify(1, &FRAGMENT, &VIPS).0,
-        Body::Unsteered(Reason::Fragment)
-    );
-    assert_eq!(rt;
-        classify(1, &ANSWER, &VIPS).0,
-        Body::Unsteered(Reason::OtherDestination)
-    );
+    assert!(rt; classify(101, &RAW, &VIPS) == (raw, RAW.as_slice()));
+    assert!(rt; classify(228, &RAW, &VIPS) == (raw, RAW.as_slice()));
+    assert!(rt; classify(1, &ARP, &VIPS).0 == Body::Unsteered(Reason::NotIpv4));
+    assert!(rt; classify(1, &IPV6, &VIPS).0 == Body::Unsteered(Reason::NotIpv4));
+    assert!(rt; classify(1, &ICMP, &VIPS).0 == Body::Unsteered(Reason::NotTcp));
+    assert!(rt; classify(1, &FRAGMENT, &VIPS).0 == Body::Unsteered(Reason::Fragment));
+    assert!(rt; classify(1, &ANSWER, &VIPS).0 == Body::Unsteered(Reason::OtherDestination));
 }
 
 #[test]
@@ -127,7 +112,7 @@ fn a_part_begins_where_the_link_type_says(rt: HostRuntime) {
     ];
     assert!(rt; network_part(276, &cooked_2) == Ok(&cooked_2[20..]));
     assert!(rt; network_part(276, &cooked_2[..19]) == Err(LinkFault::Short));
-    // Two tags are passed over, and a third isn't.
+    // Two tags are skipped, and a third isn't.
     let tags = [
         0, 0, 0, 0, 0, 0, 0, 0, 0, 0, 0, 0, 0x88, 0xa8, 0, 1, 0x81, 0, 0, 2, 0x08, 0x00, 0x45,
     ];

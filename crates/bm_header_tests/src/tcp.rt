@@ -4,7 +4,7 @@ use bm_ipv4::read_ipv4;
 use bm_tcp::{InnerFault, TcpFault, read_tcp, reset_for};
 use std::test::Fail;
 
-// Packets of a visit to a web server, as a capture has them, each cut behind 52 octets: the first,
+// Packets of a visit to a web server, as a capture has them, each cut after 52 octets: the first,
 // one with data, and the one that ends the visit.
 const SYN: [u8; 52] = [
     0x45, 0x00, 0x00, 0x3c, 0x91, 0x75, 0x40, 0x00, 0x40, 0x06, 0xbd, 0x10, 0xc6, 0x33, 0x64, 0x01,
@@ -51,7 +51,7 @@ fn captured_segments_have_the_fields_that_tshark_reads(rt: HostRuntime) -> Resul
         };
         let view = read_ipv4(&octets)?;
         assert_eq!(rt; view.protocol(), 6);
-        assert_eq!(rt; read_tcp(&view)?, want, "at {seq}");
+        assert!(rt; read_tcp(&view)? == want, "at {seq}");
     }
     Ok(())
 }

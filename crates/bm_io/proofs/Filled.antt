@@ -14,7 +14,7 @@ take_front n xs ys e = let P : ℕ → Type 0 = λ m. take m (xs ++ ys) ≡ xs i
 drop_front : (n : ℕ) (xs ys : List ℕ) → length xs ≡ n → drop n (xs ++ ys) ≡ ys
 drop_front n xs ys e = let P : ℕ → Type 0 = λ m. drop m (xs ++ ys) ≡ ys in subst P e (drop-append_seam xs ys)
 
--- the front of `&mut buf[at..]` stands behind what is before it
+-- the front of `&mut buf[at..]` comes after what is before it
 take_put : (at k n : ℕ) (buf piece : List ℕ) → at ≤ length buf → n ≤ length piece
     → take (at + n) (put_mid at k buf piece) ≡ take at buf ++ take n piece
 take_put at k n buf piece within fits =

@@ -5,7 +5,7 @@ use Rattle.std.specs.List.{list_any}
 use Rattle.bm_io.specs.declared.fault.IoFault.{IoFault}
 use Rattle.bm_io.specs.declared.fault.IoFault.TheVariants.{Failed, Memory}
 
--- the number of the call after so many; the count ends at 2^64 - 1
+-- the number of the next call, after this many calls; it never passes 2^64 - 1
 abbrev pub next_call : ℕ → ℕ
 next_call calls = min (calls + 1) (2 ^ 64 - 1)
 
@@ -13,11 +13,11 @@ next_call calls = min (calls + 1) (2 ^ 64 - 1)
 abbrev pub is_asked : List ℕ → ℕ → Bool
 is_asked fails call = list_any (λ n. n == call) fails
 
--- the count of faults behind a call, which failed or didn't; the count ends at 2^64 - 1
+-- the count of faults after a call that failed or didn't; it never passes 2^64 - 1
 abbrev pub faults_after : Bool → ℕ → ℕ
 faults_after failed faults = if failed then min (faults + 1) (2 ^ 64 - 1) else faults
 
--- it was refused, and not for want of memory
+-- it failed, and not because memory was refused
 abbrev pub has_failed : {T : Type 0} → Result T IoFault → Bool
 has_failed (Ok x) = false
 has_failed (Err Failed) = true

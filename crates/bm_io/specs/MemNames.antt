@@ -21,7 +21,7 @@ octets_of files name = octets_in (file_of files name)
 abbrev pub IsSourceOf : MemFile → MemSource → Type 0
 IsSourceOf file src = (src.step ≡ file.step) × (src.fails.items ≡ file.fails) × (src.calls ≡ 0)
 
--- A file that is there gives a source of it, or memory is wanted. One that isn't is refused.
+-- A file that is there gives its source, or memory is refused. One that isn't there gives an error.
 abbrev pub Opens : Option MemFile → Result MemSource IoFault → Type 0
 Opens None (Ok src) = ⊥
 Opens None (Err e) = Unit {0}

@@ -8,7 +8,7 @@ find_by name_of name [] = None
 find_by name_of name (file ∷ files) =
     if bytes_eq (name_of file) name then Some file else find_by name_of name files
 
--- what it holds, and nothing where there is none
+-- its octets; none where there is no file
 abbrev pub octets_by : {X : Type 0} → (X → List ℕ) → Option X → List ℕ
 octets_by octets_of None = []
 octets_by octets_of (Some file) = octets_of file

@@ -1,11 +1,11 @@
--- What files tell of their names.
+-- What is known of files by name.
 use Rattle.std.specs.Prelude.{◌≡◌, ℕ, suc, List, [], ◌∷◌, ◌++◌, Result, Ok, Err}
 use Rattle.std.specs.declared.option.Option.{Option}
 use Rattle.std.specs.declared.option.Option.TheVariants.{Some, None}
 use Rattle.bm_io.specs.declared.fault.IoFault.{IoFault}
 use Rattle.bm_io.specs.declared.fault.IoFault.TheVariants.{Failed, Memory}
 
--- Where the files tell the octets of each name, the source has those of this name left.
+-- If the octets of each name are known, the source has those of this name left.
 abbrev pub HasOctetsOf : Option (List ℕ → List ℕ) → List ℕ → Option (List ℕ) → Type 0
 HasOctetsOf None name left = Unit {0}
 HasOctetsOf (Some octets) name left = left ≡ Some (octets name)
@@ -22,7 +22,7 @@ Asks old new name (Ok x) = AddsName old new name
 Asks old new name (Err Failed) = AddsName old new name
 Asks old new name (Err Memory) = new ≡ old
 
--- how many sources are open behind a call that was to open one more
+-- how many sources are open after a call that was to open one more
 abbrev pub open_after : {T E : Type 0} → Result T E → ℕ → ℕ
 open_after (Ok x) before = suc before
 open_after (Err e) before = before

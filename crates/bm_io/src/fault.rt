@@ -1,4 +1,4 @@
-//! Why a read, a write or an opening is refused.
+//! Why a read, a write or an opening failed.
 ghost use Rattle.std.specs.Prelude.{◌≡◌};
 ghost use Rattle.bm_io.specs.declared.fault.IoFault.TheVariants.{Memory};
 

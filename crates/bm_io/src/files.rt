@@ -11,10 +11,10 @@ use crate::{IoFault, Source};
 pub trait Files {
     type Src: Source;
 
-    /// The octets of each name, none for a name that isn't there, where the files tell them.
+    /// The octets of each name (none for a name that isn't there), or None if they aren't known.
     ghost octets: { Self → Option (List ℕ → List ℕ) };
 
-    /// The names asked for so far, where the files tell them.
+    /// The names asked for so far, or None if they aren't known.
     ghost asked: { Self → Option (List (List ℕ)) };
 
     /// How often the files have failed, at most 2^64 - 1.
@@ -23,8 +23,8 @@ pub trait Files {
     /// How many sources are open now.
     ghost open_now: { Self → ℕ };
 
-    /// A source that has the octets of the name left and has not failed. `Failed` where the files
-    /// failed, which is counted; `Memory` where memory was refused, which isn't.
+    /// Opens the file of this name: all its octets are left, and it hasn't failed. `Failed` where
+    /// the files failed, which is counted; `Memory` where memory was refused, which isn't.
     fn open(&mut self, name: &str) -> Result<Self::Src, IoFault>
         requires room { open_now self.old < 4294967295 }
         ensures left { IfOk result

@@ -5,8 +5,8 @@ ghost use Rattle.bm_io.specs.Fill.{Fills};
 
 use crate::{Failed, Source};
 
-/// Fills the buffer as far as the source's octets go, and answers how many there were. Of how many
-/// were taken before a failure nothing is said.
+/// Fills the buffer as far as the source's octets go, and returns how many there were. After a
+/// failure it isn't specified how many were taken.
 pub fn fill<S: Source>(src: &mut S, buf: &mut [u8]) -> Result<usize, Failed>
     ensures bound { IfOk result (λ n. n ≤ length buf.new) }
     ensures octets { IfOk result (λ n. Fills (S.left src.old) (S.left src.new) n buf.new) }

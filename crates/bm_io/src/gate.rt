@@ -1,6 +1,6 @@
-//! What may hold the workers of a threaded run back.
+//! What may hold back the workers of a threaded run.
 
-/// A place at which a worker can be held. `at` returns, and touches nothing of the product.
+/// A place at which a worker can be held. `at` returns, and touches nothing of the run's state.
 pub trait Gate: Sync {
     /// Worker m + 1 is about to deliver its packet number `step` of the whole run; worker 0 is
     /// about to carry out command number `step`. Both count from 1.
@@ -8,7 +8,7 @@ pub trait Gate: Sync {
 }
 
 /// The gate that holds nobody.
-#[derive(Clone, Copy, Debug)]
+#[derive(Clone, Copy)]
 pub struct OpenGate;
 
 impl Gate for OpenGate {

@@ -1,4 +1,4 @@
-//! Files in memory that fail where they are asked to.
+//! Files in memory that fail at chosen calls.
 ghost use Rattle.std.specs.Prelude.{◌≡◌, [], Some, IfOk, option_map};
 ghost use Rattle.bm_io.specs.MemNames.{octets_in, octets_of};
 ghost use Rattle.bm_io.specs.Inside.MemNames.{IsSourceOfFound};
@@ -19,7 +19,7 @@ pub struct MemFiles {
 }
 
 impl MemFiles {
-    /// These files, of which none was asked for.
+    /// These files; none was asked for yet.
     pub fn new(alloc: Global, files: Vec<MemFile>) -> MemFiles
         ensures octets { ⟦<MemFiles as Files>⟧.octets result ≡ Some (octets_of files.items) }
         ensures asked { ⟦<MemFiles as Files>⟧.asked result ≡ Some [] }

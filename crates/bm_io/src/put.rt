@@ -6,7 +6,7 @@ ghost use Rattle.bm_io.specs.Written.{WritesPart};
 
 use crate::{IoFault, Sink};
 
-/// Appends the whole piece. On a refusal a first part of it was appended, and not all.
+/// Appends the whole piece. On an error only a first part of it was appended, not all.
 pub fn put_all<K: Sink>(out: &mut K, piece: &[u8]) -> Result<(), IoFault>
     ensures ok { OnOk result (Appends (K.written out.old) (K.written out.new) piece.now) }
     ensures err { OnErr result

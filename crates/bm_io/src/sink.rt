@@ -9,14 +9,14 @@ use crate::IoFault;
 
 /// What octets are written to.
 pub trait Sink {
-    /// The octets written so far, where the sink tells them.
+    /// The octets written so far, or None if they aren't known.
     ghost written: { Self → Option (List ℕ) };
 
     /// How often the sink has failed, at most 2^64 - 1.
     ghost faults: { Self → ℕ };
 
-    /// Appends the first octets of the piece, and answers how many: at least one of a piece that
-    /// isn't empty. A refusal appends nothing.
+    /// Appends the first octets of the piece, and returns how many: at least one, unless the piece
+    /// is empty. On an error nothing is appended.
     fn put(&mut self, piece: &[u8]) -> Result<usize, IoFault>
         ensures bound { WritesAtMost result piece.now }
         ensures some { 0 < length piece.now → IfOk result (λ n. 0 < n) }

@@ -7,17 +7,17 @@ ghost use Rattle.bm_io.specs.Causes.{HasCause};
 
 use crate::Failed;
 
-/// What octets are read from. One of `Files` that is let go and not closed stays open in their
-/// count.
+/// What octets are read from. A source of `Files` that is dropped without `close` still counts as
+/// open.
 pub trait Source: Drop {
-    /// The octets that are left, where the source tells them.
+    /// The octets that are left, or None if they aren't known.
     ghost left: { Self → Option (List ℕ) };
 
     /// How often the source has failed, at most 2^64 - 1.
     ghost faults: { Self → ℕ };
 
-    /// Moves the first octets that are left into the buffer, and answers how many. 0 for a buffer
-    /// that isn't empty means that nothing is left. `Failed` where the source failed, which is
+    /// Moves the first octets that are left into the buffer, and returns how many. 0 means that
+    /// nothing is left, unless the buffer is empty. `Failed` where the source failed, which is
     /// counted.
     fn take(&mut self, buf: &mut [u8]) -> Result<usize, Failed>
         ensures bound { ReadsAtMost result buf.new }

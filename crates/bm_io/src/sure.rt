@@ -55,7 +55,7 @@ impl Source for SureSource {
     }
 }
 
-/// Keeps what is written in memory. It never fails, but memory may run out.
+/// Keeps in memory what is written to it. It never fails, but memory may run out.
 #[derive(Drop)]
 pub struct SureSink {
     octets: Vec<u8>,

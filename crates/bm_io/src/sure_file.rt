@@ -3,7 +3,8 @@ ghost use Rattle.std.specs.Prelude.{◌≤◌};
 
 use bm_base::{List, Text};
 
-/// A file in memory: its name, its octets, and how many of them its source gives at most at once.
+/// A file in memory: its name, its octets, and how many of them its source gives at a time, at
+/// most.
 #[derive(Drop)]
 pub struct SureFile {
     pub name: Text,

@@ -19,7 +19,7 @@ pub struct SureFiles {
 }
 
 impl SureFiles {
-    /// These files, of which none was asked for.
+    /// These files; none was asked for yet.
     pub fn new(alloc: Global, files: Vec<SureFile>) -> SureFiles
         ensures octets { ⟦<SureFiles as Files>⟧.octets result ≡ Some (octets_of files.items) }
         ensures asked { ⟦<SureFiles as Files>⟧.asked result ≡ Some [] }

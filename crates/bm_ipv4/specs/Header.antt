@@ -34,7 +34,7 @@ pub record Packet : Type 0 where
   pub src : ℕ
   pub dst : ℕ
 
--- the octets, cut at the total length; a total length of 0 stands for all of them
+-- the octets, cut at the total length; a total length of 0 means all of them
 abbrev pub cut : List ℕ → List ℕ
 cut octets = if total_length octets == 0 then octets else take (total_length octets) octets
 
@@ -52,7 +52,7 @@ packet_of octets = record {
   dst = u32_at octets 16;
 }
 
--- the first fault that stands, else the packet
+-- the first fault, else the packet
 unfoldable pub ipv4_of : List ℕ → Result Packet Ipv4Fault
 ipv4_of octets =
     if nat_lt (length octets) 20 then Err Short

@@ -4,7 +4,7 @@ ghost use Rattle.bm_ipv4.specs.Checksum.{checksum_of};
 ghost use Rattle.bm_ipv4.specs.Inside.Folding.{folded};
 
 /// The one's complement of the one's complement sum of the big-endian 16-bit words. Over a header
-/// whose checksum stands in it, this is 0.
+/// that includes its correct checksum, this is 0.
 #[tactic(auto, unfolding(crate::specs::Checksum::checksum_of))]
 pub fn header_sum(octets: &[u8]) -> u16
     requires even { length octets.now % 2 ≡ 0 }
@@ -20,8 +20,8 @@ pub fn header_sum(octets: &[u8]) -> u16
     u16::MAX - folded(sum)
 }
 
-/// The one's complement sum of words whose plain sum this is: what is carried out of the top is
-/// added at the bottom.
+/// The one's complement sum of words whose plain sum this is: carries out of the top are added at
+/// the bottom.
 fn folded(sum: u32) -> u16
     ensures { result ≡ folded sum }
 {

@@ -1,7 +1,7 @@
-//! Why octets are no IPv4 header.
+//! Why octets aren't an IPv4 header.
 use thiserror::Error;
 
-/// Why octets are no IPv4 packet: the first of these that holds.
+/// Why octets aren't an IPv4 packet: the first of these that holds.
 #[derive(Clone, Copy, Debug, PartialEq, Eq, Error)]
 pub enum Ipv4Fault {
     #[error("the IPv4 header is cut short")]

@@ -8,7 +8,7 @@ use crate::fields::{read_u16, read_u32};
 use std::marker::Model;
 
 /// A packet whose header was read, and which borrows its octets.
-#[derive(Debug, Drop)]
+#[derive(Drop)]
 pub struct Ipv4View<'a> {
     packet: &'a [u8],
     header: usize,
@@ -39,9 +39,9 @@ impl<'a> Model for Ipv4View<'a> {
         × (a.stated_payload ≤ max 65535 (length a.packet.now)) };
 }
 
-/// Reads the header of a packet (RFC 791, section 3.1). Options are passed over, and the checksum
-/// isn't tested. Octets behind the total length are cut off, and where it is 0, all octets are the
-/// packet. A packet may have fewer octets than its total length says, as captures cut them.
+/// Reads the header of a packet (RFC 791, section 3.1). Options are skipped, and the checksum isn't
+/// checked. Octets after the total length are cut off; where it is 0, all octets are the packet. A
+/// packet may have fewer octets than its total length states, since captures cut packets short.
 #[tactic(auto, unfolding(crate::specs::Header::ipv4_of))]
 pub fn read_ipv4(octets: &[u8]) -> Result<Ipv4View<'_>, Ipv4Fault>
     requires { length octets.now < 2 ^ 32 }
@@ -107,15 +107,15 @@ impl<'a> Ipv4View<'a> {
         self.packet
     }
 
-    /// The octets of the packet behind its header.
+    /// The octets of the packet after its header.
     pub fn payload(&self) -> &'a [u8]
         ensures { result.now ≡ self.now.payload }
     {
         &self.packet[self.header..]
     }
 
-    /// How many octets of payload the header states. Only where its total length is 0 these are
-    /// more than 65,535, and then they are there.
+    /// How many octets of payload the header states. Only where the total length is 0 can this be
+    /// above 65,535, and then all of them are there.
     pub fn stated_payload(&self) -> u32
         ensures stated { result ≡ self.now.stated_payload }
         ensures bound { result ≤ max 65535 (length self.now.packet) }

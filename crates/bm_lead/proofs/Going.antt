@@ -27,7 +27,7 @@ pub last_snoc : (low c : ℕ) (clocks : List ℕ) → last_or low (clocks ++ c �
 last_snoc low c [] = refl
 last_snoc low c (x ∷ clocks) = last_snoc x c clocks
 
--- what was posted, of which the last may be new
+-- what was posted; the last post may be new
 record ArePosts (p : Posted) (b : Head) (n : ℕ) : Type 0 where
   pub count : length p.clocks ≡ b.published.0
   pub last : last_post p ≡ b.last_post.0

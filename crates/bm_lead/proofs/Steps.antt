@@ -87,13 +87,13 @@ none_before i n before is earlier =
     (each_so (λ y. y.command < i) (λ y. cond (is_same_part n y) 1 0 ≡ 0) before
     (λ y low. let other : eqb y.command n.command ≡ false = ne_eqb _ _ (λ e. omega arith) in rw other refl) earlier)
 
--- the deeds of earlier commands, of which the greatest clock is the controller's
+-- the deeds of earlier commands; their greatest clock is the controller's
 pub record Stands (latest i : ℕ) (before : List Note) : Type 0 where
   pub earlier : AllByRecursion (λ y. y.command < i) before
   pub kinds : AllByRecursion (λ y. is_command y.event.what ≡ true) before
   pub clock : latest ≡ greatest (λ y. y.event.clock.0) before
 
--- the deeds of the command i, behind those of earlier ones
+-- the deeds of the command i, after those of earlier ones
 pub record IsStep (stage : Stage) (servers : List Serving) (latest published i : ℕ) (c : Command) (e : List Note)
     : Type 0 where
   pub commands : AllByRecursion (λ n. n.command ≡ i) e
@@ -116,7 +116,7 @@ pub record IsStep (stage : Stage) (servers : List Serving) (latest published i :
   pub each : (before : List Note) → Stands latest i before → AtEach (IsCommanded stage) before
       → AtEach (IsCommanded stage) (e ++ before)
 
--- a note of the command i, behind earlier commands
+-- a note of the command i, after earlier commands
 commanded : (stage : Stage) (latest i : ℕ) (c : Command) (n : Note) (before : List Note) → n.command ≡ i
     → is_command n.event.what ≡ true → slice_get stage.script.commands i ≡ Some c → IsOf (Some c) [] n.event.what
     → Stands latest i before → IsMeant stage before n n.event.what → IsCommanded stage before n
@@ -244,7 +244,7 @@ marks_below i k server at outcome (n ∷ e) are =
       each_so (λ y. mark_of y.event.what < are.1) (λ y. mark_of y.event.what < k) e (λ y low. omega arith) old,
     )
 
--- what the deeds of so many shards are
+-- the deeds of the first k shards
 record IsPart (stage : Stage) (latest i k : ℕ) (server : ServerId) (e : List Note) : Type 0 where
   pub commands : AllByRecursion (λ n. n.command ≡ i) e
   pub size : many (λ n. n.command == i) e ≡ k

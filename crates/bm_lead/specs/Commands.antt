@@ -1,5 +1,5 @@
--- Deeds of worker 0 (docs/DEFINITIONS.md), as notes, and what holds of those by which the first
--- commands of a script are carried out. Deeds have the newest first.
+-- What worker 0 does (docs/DEFINITIONS.md), as notes (its deeds), and what holds of those that
+-- carry out the first commands of a script. Deeds have the newest first.
 use Rattle.std.specs.Prelude.{◌≡◌, ℕ, ◌<◌, ◌≤◌, ◌==◌, if◌then◌else◌, List, [], ◌∷◌, ◌++◌, take}
 use Rattle.std.specs.Prelude.{IfSome, slice_get}
 use Rattle.std.specs.List.{AllByRecursion}
@@ -27,7 +27,7 @@ syncing clock command = deed clock Sync no_fate command 0 0
 
 -- THE CONTROLLER'S LOG
 
--- the events of the deeds that stand in it
+-- the events of the deeds that are in it
 abbrev pub control_log : Stage → List Note → List Event
 control_log stage deeds = events_of (home_part stage Controller deeds)
 
@@ -37,12 +37,12 @@ posted_clocks [] = []
 posted_clocks (e ∷ past) =
     if is_publish e.what then posted_clocks past ++ e.clock.0 ∷ [] else posted_clocks past
 
--- the clocks of the log rise, and it publishes the versions in their order
+-- the clocks of the log increase, and it publishes the versions in order
 pub record IsControlStep (stage : Stage) (rest : List Event) (e : Event) : Type 0 where
   pub own : IfSome (own_clock stage rest Controller) (λ c. c < e.clock.0)
   pub version : IsNextVersion stage rest e.what
 
--- a retirement is answered by the versions that the log publishes up to its clock
+-- the answer to a retire follows from the versions that the log publishes up to its clock
 abbrev pub IsJudgedBy : Stage → List Event → ℕ → What → Type 0
 IsJudgedBy stage control clock (Retire server h at result) =
     IsRetirement stage.script.plan (timeout stage) (newest_until clock control) server at.0 result
@@ -56,7 +56,7 @@ pub record AreDone (stage : Stage) (i : ℕ) (deeds : List Note) : Type 0 where
   pub complete : (j : ℕ) → j < i
       → many (λ n. n.command == j) deeds
       ≡ size_of stage.script.setting.shards (slice_get stage.script.commands j)
-  -- so many of each kind as these commands ask for
+  -- as many of each kind as these commands ask for
   pub closes : (s : ServerId) (f : Flow)
       → many (λ n. closes_flow n.event.what s f) deeds
       ≡ count_of (λ c. wants_close c s f) (take i stage.script.commands)

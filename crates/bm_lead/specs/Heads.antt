@@ -29,10 +29,10 @@ pub record IsReady (stage : Stage) (servers : List Serving) (posted : Posted) (h
   pub versions : NamesVersions (head.published.0 + 1) (length stage.script.plan.changes)
       (drop head.next stage.script.commands)
   pub posted_is : HasPosted stage posted head
-  -- the last post is no later than what worker 0 did, and than LAST less 4,096
+  -- the last post is no later than what worker 0 did, and than LAST - 4,096
   pub below : head.last_post.0 ≤ head.porter.latest
   pub early : head.last_post.0 + 4096 ≤ 9 * 10 ^ 18
-  -- one call for each shard of a command
+  -- at most one call for each shard of a command
   pub tries : head.porter.tries ≤ 64 * head.next
   pub number : head.porter.number ≡ 0
   pub sits : Sits servers head.porter
@@ -52,7 +52,7 @@ abbrev pub IsSyncCommand : Option Command → Type 0
 IsSyncCommand (Some (Sync at)) = Unit {0}
 IsSyncCommand _ = ⊥
 
--- the commands at the places from the first to below the second, which are no syncs
+-- the commands at the places from..until, which aren't syncs
 pub record IsPhase (commands : List Command) («from» until : ℕ) : Type 0 where
   pub order : «from» ≤ until
   pub end : until ≤ length commands
@@ -63,12 +63,12 @@ abbrev pub UnlessMemory : {T : Type 0} → Result T Stop → Type 0 → Type 0
 UnlessMemory (Err Memory) P = Unit {0}
 UnlessMemory _ P = P
 
--- what holds where a moment is too large
+-- what holds if a moment is too large
 abbrev pub OnLate : {T : Type 0} → Result T Stop → Type 0 → Type 0
 OnLate (Err (Late moment clock)) P = P
 OnLate _ P = Unit {0}
 
--- why worker 0 gave up: memory, or a moment above the most, at most one above this clock
+-- why worker 0 gave up: memory, or a moment above the most, which is at most one above this clock
 abbrev pub IsStopFrom : ℕ → ℕ → Stop → Type 0
 IsStopFrom most clock Memory = Unit {0}
 IsStopFrom most clock (Late moment c) =

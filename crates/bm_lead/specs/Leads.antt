@@ -1,4 +1,4 @@
--- What worker 0 promises of its deeds (docs/DEFINITIONS.md). Deeds have the newest first.
+-- What worker 0 promises of what it does (docs/DEFINITIONS.md). Deeds have the newest first.
 use Rattle.std.specs.Prelude.{◌≡◌, ℕ, false, ◌+◌, ◌*◌, ◌^◌, ◌<◌, ◌≤◌, List, [], ◌∷◌, ◌++◌, reverse}
 use Rattle.std.specs.Prelude.{slice_get}
 use Rattle.std.specs.List.{AllByRecursion}
@@ -43,29 +43,29 @@ IsPlaced stage servers (Retire server h at result) =
     HasServer servers server × (h < stage.script.setting.shards)
 IsPlaced stage servers _ = Unit {0}
 
--- by these deeds worker 0 goes on, from p and a to q and b
+-- by these deeds worker 0 goes from p and a to q and b
 pub record Leads (stage : Stage) (servers : List Serving) (p q : Posted) (a b : Head)
     (deeds : List Note) : Type 0 where
   pub led : (before : List Note) → IsLed stage p a before → IsLed stage q b (deeds ++ before)
   pub board : q.board ≡ p.board
   pub same : IsSamePorter a.porter b.porter
-  -- what its seats hear is just what it does at their shards
+  -- what its seats hear is exactly what it does at their shards
   pub heard : Hears stage servers a.porter.seats b.porter.seats deeds
   pub placed : AllByRecursion (λ n. IsPlaced stage servers n.event.what) deeds
-  -- each clock is above all that were before
+  -- each clock is above all clocks before
   pub since : AllByRecursion (λ n. a.porter.latest < n.event.clock.0) deeds
   pub rises : a.porter.latest ≤ b.porter.latest
 
--- they have no Sync
+-- none of them is a Sync
 abbrev pub HaveNoSync : List Note → Type 0
 HaveNoSync deeds = AllByRecursion (λ n. is_sync n.event.what ≡ false) deeds
 
--- worker 0 went on by some deeds, of which none is a Sync, and may go on
+-- worker 0 went on by some deeds, none of which is a Sync, and may go on
 abbrev pub HasLed : Stage → List Serving → Posted → Posted → Head → Head → Type 0
 HasLed stage servers p q a b = IsReady stage servers q b
     × ((deeds : List Note) × Leads stage servers p q a b deeds × HaveNoSync deeds)
 
--- worker 0 logged a Sync above all clocks, of which this one is the greatest
+-- worker 0 logged a Sync above all clocks; the greatest of these is top
 pub record HasSynced (stage : Stage) (servers : List Serving) (posted : Posted) (top : ℕ)
     (a b : Head) : Type 0 where
   pub clock : Moment

@@ -11,8 +11,8 @@ use Rattle.bm_lead.specs.declared.head.Head.{Head}
 use Rattle.bm_lead.specs.Commands.{posted_clocks}
 use Rattle.bm_lead.specs.Leads.{IsLed}
 
--- by these deeds worker 0 goes on, from p and a to q and b: each is a Publish at the clock after
--- that of the one before, of which the last is the greatest
+-- by these deeds worker 0 goes from p and a to q and b: each is a Publish at the clock after that
+-- of the one before, and the last one's is the greatest
 pub record Adds (stage : Stage) (p q : Posted) (a b : Head) (deeds : List Note) : Type 0 where
   pub underway : (before : List Note) → IsLed stage p a before
       → AtEach (IsUnderway stage) (deeds ++ before)

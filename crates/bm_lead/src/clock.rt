@@ -1,4 +1,4 @@
-//! Clocks and moments that may be handed in.
+//! Clocks, and moments that may be passed to shards.
 ghost use Rattle.std.specs.Prelude.{◌≡◌, ◌*◌, ◌^◌, ◌<◌, ◌≤◌, max, IfErr, IfOk};
 ghost use Rattle.bm_core.specs.Runs.{next_clock};
 ghost use Rattle.bm_lead.specs.Heads.{IsStopFrom};
@@ -23,7 +23,7 @@ pub(crate) fn clock_up_to(most: u64, last: Moment, cause: Moment) -> Result<Mome
     Ok(next_clock(last, cause))
 }
 
-/// The moment to be handed in for a command: its own, or the controller's clock if that is later.
+/// The moment that is passed on for a command: its own, or the controller's clock if that is later.
 pub(crate) fn due_moment(at: Moment, clock: Moment) -> Result<Moment, Stop>
     requires at { at.0 ≤ 9 * 10 ^ 18 }
     ensures ok { IfOk result (λ due. (due.0 ≡ max at.0 clock.0) × (due.0 ≤ 9 * 10 ^ 18)) }

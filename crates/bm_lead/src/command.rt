@@ -21,7 +21,6 @@ use bm_table::{Command, Retirement, Script};
 use bm_worker::{Porter, Stop, place_of};
 use std::sync::Wait;
 
-/// The most changes of a plan.
 const MAX_CHANGES: u64 = 4_096;
 
 /// The place of a server that the script knows.
@@ -45,7 +44,7 @@ pub(crate) fn write_down(log: &mut Vec<Event>, clock: Moment, what: What) -> Res
     Ok(())
 }
 
-/// Publishes the plan's next version. Late where its clock would be above LAST less 4,096.
+/// Publishes the plan's next version. Late if its clock would be above LAST - 4,096.
 fn publish<R: Wait>(
     rt: &R,
     stage: &Stage,
@@ -73,7 +72,7 @@ fn publish<R: Wait>(
     Ok(())
 }
 
-/// A server ends a connection. Late where the moment would be above LAST.
+/// A server ends a connection. Late if the moment would be above LAST.
 fn close<R: Wait>(
     rt: &R,
     stage: &Stage,
@@ -100,7 +99,7 @@ fn close<R: Wait>(
     Ok(())
 }
 
-/// All shards of a server are asked to retire, one after the other.
+/// Asks all shards of a server to retire, one after another.
 fn retire_shards<R: Wait>(
     rt: &R,
     stage: &Stage,
@@ -129,8 +128,8 @@ fn retire_shards<R: Wait>(
     Ok(())
 }
 
-/// A server is asked to retire: each of its shards has the answer of the versions that are
-/// published. Late where the moment would be above LAST.
+/// Asks a server to retire: each of its shards gets the answer by the versions that are published.
+/// Late if the moment would be above LAST.
 fn retire<R: Wait>(
     rt: &R,
     stage: &Stage,
@@ -160,7 +159,7 @@ fn retire<R: Wait>(
     Ok(())
 }
 
-/// Carries out one command, which is no sync.
+/// Carries out one command, which isn't a sync.
 pub(crate) fn carry_out<R: Wait>(
     rt: &R,
     stage: &Stage,

@@ -17,11 +17,11 @@ use std::alloc::Global;
 pub struct Head {
     /// Its seats. The greatest clock of what it did is the controller's clock.
     pub porter: Porter,
-    /// The place of the next command, from 0.
+    /// The place of the next command, counted from 0.
     pub next: usize,
     /// How many versions are published.
     pub published: Version,
-    /// The clock of the last version that is published, or 0.
+    /// The clock of the last version published, or 0.
     pub last_post: Moment,
     /// The controller's log of Publishes and Syncs.
     pub log: Vec<Event>,

@@ -1,4 +1,4 @@
-//! What worker 0 has done in the end. The law is a function that does nothing: its contract is the
+//! What worker 0 has done at the end. The law is a function that does nothing: its contract is the
 //! law.
 ghost use Rattle.std.specs.Prelude.{◌≡◌, List, length};
 ghost use Rattle.bm_core.specs.Past.{newest};
@@ -13,7 +13,7 @@ ghost use Rattle.bm_lead.specs.Leads.{IsLed};
 
 use bm_core::Stage;
 
-/// Where no command is left, worker 0 has done what a threaded run asks of it, and all changes are
+/// If no command is left, worker 0 has done what a threaded run asks of it, and all changes are
 /// published.
 pub fn carried_out(stage: &Stage)
     ensures { (servers : List Serving) (posted : Posted) (head : Heading) (deeds : List Note)

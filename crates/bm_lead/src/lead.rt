@@ -1,4 +1,4 @@
-//! The commands of a phase, and the Sync behind it.
+//! The commands of a phase, and the Sync after them.
 ghost use Rattle.std.specs.Prelude.{◌≡◌, ◌+◌, ◌-◌, ◌*◌, ◌^◌, ◌<◌, ◌≤◌, length, List};
 ghost use Rattle.std.specs.Prelude.{slice_get, Some, IfErr, OnOk};
 ghost use Rattle.bm_table.specs.declared.script.Command.TheVariants.{Sync};
@@ -22,7 +22,7 @@ use bm_table::Command;
 use bm_worker::Stop;
 use std::sync::Wait;
 
-/// Carries out the next command, which is no sync.
+/// Carries out the next command, which isn't a sync.
 fn lead_next<R: Wait, G: Gate>(
     rt: &R,
     gate: &G,
@@ -49,10 +49,10 @@ fn lead_next<R: Wait, G: Gate>(
     Ok(())
 }
 
-/// Carries out the commands of a phase: those from the next one on whose places are below `until`,
-/// where a sync stands, or no command. Directly before each it comes to the gate. `Late` where a
-/// moment would be above LAST, or the clock of a post above LAST less 4,096; then the commands
-/// before it are carried out. `Memory` where memory was refused. It may wait.
+/// Carries out the commands of a phase: from the next one on, those whose places are below `until`,
+/// where there is a sync or no command. Right before each it comes to the gate. `Late` if a moment
+/// would be above LAST, or the clock of a post above LAST - 4,096; the commands before it are then
+/// carried out. `Memory` where memory was refused. It may wait.
 pub fn lead_phase<R: Wait, G: Gate>(
     rt: &R,
     gate: &G,
@@ -77,7 +77,6 @@ pub fn lead_phase<R: Wait, G: Gate>(
     Ok(())
 }
 
-/// The moment of the sync at a place.
 fn sync_moment(commands: &[Command], place: usize) -> Moment
     requires there { place < length commands.now }
     requires sync { IsSyncCommand (slice_get commands.now place) }
@@ -90,7 +89,7 @@ fn sync_moment(commands: &[Command], place: usize) -> Moment
 }
 
 /// All workers have met, and this is the greatest clock of what they did. Logs the Sync that is the
-/// next command. `Late` where its clock would be above LAST; then nothing changes. `Memory` where
+/// next command. `Late` if its clock would be above LAST; then nothing changes. `Memory` where
 /// memory was refused.
 pub fn sync(stage: &Stage, head: &mut Head, greatest: Moment) -> Result<(), Stop>
     requires sound { IsSound stage.now }

@@ -48,13 +48,12 @@ goes_to vips f = list_any (λ v. v.addr == f.dst && v.port == f.dport) vips
 abbrev pub unsteered : Reason → Body × List ℕ
 unsteered r = (Unsteered r, [])
 
--- A packet that is longer than 65,491 octets has no room for a carrier header of 44 octets below
--- 65,535.
+-- With a carrier header of 56 octets, a packet of more than 65,479 octets would pass 65,535.
 abbrev pub of_segment : List Vip → Result (Segment × List ℕ) InnerFault → Body × List ℕ
 of_segment vips (Err e) = unsteered (packet_reason e)
 of_segment vips (Ok read) =
     if not (goes_to vips read.0.flow) then unsteered reason.OtherDestination
-    else if nat_lt 65491 (length read.1) then unsteered reason.TooLong
+    else if nat_lt 65479 (length read.1) then unsteered reason.TooLong
     else (Steerable read.0, read.1)
 
 abbrev pub of_part : List Vip → Result (List ℕ) LinkFault → Body × List ℕ

@@ -5,10 +5,10 @@ use Rattle.bm_base.specs.declared.capture.Body.TheVariants.{Steerable, Unsteered
 use Rattle.bm_base.specs.declared.capture.Record.{Record}
 pub use Rattle.bm_tcp.specs.Packets.{ReadsAs}
 
--- the packet of a record: one that is steered reads as its segment, and leaves room for a carrier
--- header
+-- the packet of a record; if the record is steered, it reads as the segment, and leaves room for a
+-- carrier header
 abbrev pub IsPacketOf : Body → List ℕ → Type 0
-IsPacketOf (Steerable s) packet = (length packet ≤ 65491) × ReadsAs packet s
+IsPacketOf (Steerable s) packet = (length packet ≤ 65479) × ReadsAs packet s
 IsPacketOf (Unsteered why) packet = packet ≡ []
 
 -- for each record its packet

@@ -14,7 +14,7 @@ is_link link = link == 1 || link == 101 || link == 113 || link == 228 || link ==
 abbrev pub is_tag : ℕ → Bool
 is_tag kind = kind == 0x8100 || kind == 0x88a8
 
--- What follows the EtherType at the front, behind at most so many tags. A tag is an EtherType of
+-- What follows the EtherType at the front, after at most this many tags. A tag is an EtherType of
 -- its own and two octets; the next EtherType follows.
 unfoldable pub behind_tags : ℕ → List ℕ → Result (List ℕ) LinkFault
 behind_tags zero octets =
@@ -25,7 +25,7 @@ behind_tags (suc tags) octets =
     else if is_tag (u16_at octets 0) then behind_tags tags (drop 4 octets)
     else if u16_at octets 0 == 0x0800 then Ok (drop 2 octets) else Err NotIpv4
 
--- Ethernet: the EtherType stands behind two addresses of six octets
+-- Ethernet: the EtherType comes after two addresses of six octets
 unfoldable pub ethernet_part : List ℕ → Result (List ℕ) LinkFault
 ethernet_part octets = behind_tags 2 (drop 12 octets)
 
@@ -35,7 +35,7 @@ raw_part octets =
     if length octets == 0 then Err Short else if octet_at octets 0 / 16 == 4 then Ok octets
     else Err NotIpv4
 
--- Linux cooked: a header of so many octets, whose protocol stands at this place
+-- Linux cooked: a header of this many octets, with the protocol at this place
 unfoldable pub cooked_part : ℕ → ℕ → List ℕ → Result (List ℕ) LinkFault
 cooked_part header place octets =
     if nat_lt (length octets) header then Err Short

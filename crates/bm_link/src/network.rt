@@ -44,7 +44,7 @@ fn ethernet(octets: &[u8]) -> Result<&[u8], LinkFault>
     behind(2, &octets[12..])
 }
 
-/// What follows the EtherType at the front, behind at most so many tags.
+/// What follows the EtherType at the front, after at most `tags` tags.
 #[tactic(auto, using(crate::proofs::Tags::cut_in_a_tag), unfolding(crate::specs::Links::behind_tags))]
 fn behind(tags: u8, octets: &[u8]) -> Result<&[u8], LinkFault>
     ensures part { result_map_both (λ part. part.now) (λ e. e) result

@@ -5,8 +5,8 @@ use Rattle.std.specs.Prelude.{IfSome, slice_get}
 use Rattle.std.proofs.lemmas.Bool.{eq-eqb}
 use Rattle.bm_base.specs.declared.fate.Fate.{Fate}
 use Rattle.bm_base.specs.declared.label.Hop.{Hop}
-use Rattle.bm_base.specs.declared.label.Hop.TheVariants.{Direct, Chained}
-use Rattle.bm_base.specs.Labels.{same_hop}
+use Rattle.bm_base.specs.declared.label.Hop.TheVariants.{Direct, Chained, Twice}
+use Rattle.bm_base.proofs.Hops.{same_hop_refl}
 use Rattle.bm_core.specs.Accounts.{AreAnswered, before, copyless_at, counts, fate_now, loses, lost_at}
 use Rattle.bm_core.specs.Accounts.{sent_copies, steers_packet}
 use Rattle.bm_core.specs.declared.events.Event.{Event}
@@ -55,7 +55,7 @@ copies_one : (f : Fate) (o : Option Sending) (k : ℕ) (hop : Hop) → IfSome o 
 copies_one f None k hop single = refl
 copies_one f (Some s) k hop single = rw single refl
 
--- so many copies were sent as there were sendings
+-- as many copies were sent as there were sendings
 pub sent_once : (fates : List Fate) (all : List Event) (k : ℕ) (hop : Hop) → AreSingle fates all
     → sent_copies fates all k hop ≡ counts all (λ what. sends what k hop)
 sent_once fates [] k hop single = refl
@@ -98,7 +98,8 @@ direct_steers k (Publish v) = refl
 direct_steers k (Switch m v) = refl
 direct_steers k (Lose packet hop) = refl
 direct_steers k (Arrive packet Direct server (Forward to)) = and_false (eqb packet k)
-direct_steers k (Arrive packet Chained server (Forward to)) = refl
+direct_steers k (Arrive packet Chained server (Forward to)) = and_false (eqb packet k)
+direct_steers k (Arrive packet Twice server (Forward to)) = refl
 direct_steers k (Arrive packet hop server Accept) = refl
 direct_steers k (Arrive packet hop server (Process taken)) = refl
 direct_steers k (Arrive packet hop server (Reset why)) = refl
@@ -108,10 +109,6 @@ direct_steers k (Retire server h at result) = refl
 direct_steers k Sync = refl
 
 -- QUIET
-
-hop_same : (h : Hop) → same_hop h h ≡ true
-hop_same Direct = refl
-hop_same Chained = refl
 
 command_changes : (commands : List Command) (i : ℕ) → AreChanges commands
     → IfSome (slice_get commands i) (λ c. is_change c ≡ true)
@@ -154,7 +151,7 @@ quiet_step stage past e (Publish v) is kept may other = refl
 quiet_step stage past e (Switch m v) is kept may other = refl
 quiet_step stage past e (Steer k m) is kept may other = refl
 quiet_step stage past e (Lose k hop) is kept may other =
-    let mine : loses e.what k hop ≡ true = rw (is, eq-eqb k k refl, hop_same hop) refl
+    let mine : loses e.what k hop ≡ true = rw (is, eq-eqb k k refl, same_hop_refl hop) refl
     in let next : e.clock.0 ≡ suc may.0 = (let a = may.1 in omega arith)
     in let at : eqb e.clock.0 (suc may.0) ≡ true = eq-eqb _ _ next
     in let here : once (loses e.what k hop && eqb e.clock.0 (suc may.0)) ≡ 1 = rw (mine, at) refl

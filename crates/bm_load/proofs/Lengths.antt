@@ -7,7 +7,7 @@ use Rattle.std.proofs.lemmas.Bool.{cases_Bool, eqb-true}
 use Rattle.bm_base.specs.declared.flow.Segment.{Segment}
 use Rattle.bm_base.specs.declared.ids.MuxId.{MuxId}
 use Rattle.bm_base.specs.declared.label.Hop.{Hop}
-use Rattle.bm_base.specs.declared.label.Hop.TheVariants.{Direct, Chained}
+use Rattle.bm_base.specs.declared.label.Hop.TheVariants.{Direct, Chained, Twice}
 use Rattle.bm_base.specs.declared.fate.Fate.{Fate}
 use Rattle.bm_core.proofs.Pasts.{newest_within, version_published}
 use Rattle.bm_core.specs.Accounts.{arrives, before, counts, is_sync, steers_packet}
@@ -212,7 +212,11 @@ sent_step k (Steer packet m) = go (eqb packet k) where
   go true = omega arith
   go false = omega arith
 sent_step k (Arrive packet Direct server (Forward to)) = omega arith
-sent_step k (Arrive packet Chained server (Forward to)) = omega arith
+sent_step k (Arrive packet Chained server (Forward to)) = go (eqb packet k) where
+  go : (b : Bool) → once (b && false) ≤ once (b && false)
+  go true = omega arith
+  go false = omega arith
+sent_step k (Arrive packet Twice server (Forward to)) = omega arith
 sent_step k (Arrive packet hop server Accept) = omega arith
 sent_step k (Arrive packet hop server (Process taken)) = omega arith
 sent_step k (Arrive packet hop server (Reset why)) = omega arith
@@ -230,17 +234,46 @@ pub chained_few : (all : List Event) (k : ℕ)
 chained_few [] k = omega arith
 chained_few (e ∷ past) k = let old = chained_few past k in let here = sent_step k e.what in omega arith
 
+twice_step : (k : ℕ) (what : What) → once (sends what k Twice) ≤ once (arrives what k Chained)
+twice_step k (Steer packet m) = go (eqb packet k) where
+  go : (b : Bool) → once (b && false) ≤ 0
+  go true = omega arith
+  go false = omega arith
+twice_step k (Arrive packet Direct server (Forward to)) = go (eqb packet k) where
+  go : (b : Bool) → once (b && false) ≤ once (b && false)
+  go true = omega arith
+  go false = omega arith
+twice_step k (Arrive packet Chained server (Forward to)) = omega arith
+twice_step k (Arrive packet Twice server (Forward to)) = omega arith
+twice_step k (Arrive packet hop server Accept) = omega arith
+twice_step k (Arrive packet hop server (Process taken)) = omega arith
+twice_step k (Arrive packet hop server (Reset why)) = omega arith
+twice_step k (Arrive packet hop server (Drop why)) = omega arith
+twice_step k (Publish v) = omega arith
+twice_step k (Switch m v) = omega arith
+twice_step k (Lose packet hop) = omega arith
+twice_step k (Close server flow closed) = omega arith
+twice_step k (Retire server h at result) = omega arith
+twice_step k Sync = omega arith
+
+-- a twice-chained copy is sent at an arrival of a chained one
+pub twice_few : (all : List Event) (k : ℕ)
+    → counts all (λ what. sends what k Twice) ≤ counts all (λ what. arrives what k Chained)
+twice_few [] k = omega arith
+twice_few (e ∷ past) k = let old = twice_few past k in let here = twice_step k e.what in omega arith
+
 -- ALL EVENTS
 
 kind_step : (what : What) → is_quiet what ≡ true
     → once (is_publish what) + once (is_switch what) + once (is_steer what) + once (is_arrival Direct what)
-    + once (is_arrival Chained what)
+    + once (is_arrival Chained what) + once (is_arrival Twice what)
     ≡ 1
 kind_step (Publish v) quiet = refl
 kind_step (Switch m v) quiet = refl
 kind_step (Steer k m) quiet = refl
 kind_step (Arrive k Direct server verdict) quiet = refl
 kind_step (Arrive k Chained server verdict) quiet = refl
+kind_step (Arrive k Twice server verdict) quiet = refl
 kind_step (Lose k hop) quiet = absurd (cc)
 kind_step (Close server flow closed) quiet = absurd (cc)
 kind_step (Retire server h at result) quiet = absurd (cc)
@@ -248,7 +281,7 @@ kind_step Sync quiet = absurd (cc)
 
 by_kinds : (all : List Event) → AtEach (λ past e. is_quiet e.what ≡ true) all
     → counts all is_publish + counts all is_switch + counts all is_steer + counts all (is_arrival Direct)
-    + counts all (is_arrival Chained)
+    + counts all (is_arrival Chained) + counts all (is_arrival Twice)
     ≡ length all
 by_kinds [] quiet = refl
 by_kinds (e ∷ past) quiet =
@@ -259,8 +292,9 @@ pub events_few : (fates : List Fate) (stage : Stage) (n : ℕ) → IsLoadLike st
     → Run stage all → AreThreadSteps fates stage all → AtEach (λ past e. is_quiet e.what ≡ true) all
     → ((k : ℕ) → counts all (λ what. steers_packet what k) ≤ 1)
     → ((k : ℕ) → counts all (λ what. arrives what k Direct) ≤ 1)
-    → ((k : ℕ) → counts all (λ what. arrives what k Chained) ≤ 1) → length all ≤ 1000000
-events_few fates stage n like all run steps quiet steers direct chained =
+    → ((k : ℕ) → counts all (λ what. arrives what k Chained) ≤ 1)
+    → ((k : ℕ) → counts all (λ what. arrives what k Twice) ≤ 1) → length all ≤ 1000000
+events_few fates stage n like all run steps quiet steers direct chained twice =
     let a = by_kinds all quiet
     in let b = publishes_few stage all run
     in let c = newest_within stage all run
@@ -272,5 +306,7 @@ events_few fates stage n like all run steps quiet steers direct chained =
     in let i = sum_ones (4 * n) (λ k. counts all (λ what. arrives what k Direct)) (λ k low high. direct k)
     in let j = arrivals_by_packets (4 * n) Chained all (arrivals_within stage n like Chained all run)
     in let l = sum_ones (4 * n) (λ k. counts all (λ what. arrives what k Chained)) (λ k low high. chained k)
+    in let p = arrivals_by_packets (4 * n) Twice all (arrivals_within stage n like Twice all run)
+    in let q = sum_ones (4 * n) (λ k. counts all (λ what. arrives what k Twice)) (λ k low high. twice k)
     in let few = like.few
     in omega arith

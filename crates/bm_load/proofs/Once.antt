@@ -2,7 +2,7 @@
 use Rattle.std.proofs.Common.{◌≡◌, ℕ, ◌+◌, ◌≤◌, true, List, length, ◌∙◌, arith}
 use Rattle.std.specs.Prelude.{is_some}
 use Rattle.bm_base.specs.declared.fate.Fate.{Fate}
-use Rattle.bm_base.specs.declared.label.Hop.TheVariants.{Direct, Chained}
+use Rattle.bm_base.specs.declared.label.Hop.TheVariants.{Direct, Chained, Twice}
 use Rattle.bm_core.specs.Accounts.{arrives, counts, steers_packet}
 use Rattle.bm_core.specs.declared.events.Event.{Event}
 use Rattle.bm_core.specs.declared.events.Stage.{Stage}
@@ -10,7 +10,7 @@ use Rattle.bm_core.specs.Past.{segment_of, sends}
 use Rattle.bm_core.specs.Runs.{AtEach}
 use Rattle.bm_load.proofs.Clocks.{clocks_by, each_by}
 use Rattle.bm_load.proofs.Copies.{AreSingle, are_quiet, are_single, direct_steers, sent_once}
-use Rattle.bm_load.proofs.Lengths.{chained_few, events_few, once_most}
+use Rattle.bm_load.proofs.Lengths.{chained_few, events_few, once_most, twice_few}
 use Rattle.bm_load.proofs.Shape.{AreOnce, IsRunLike, is_quiet, once as one_if}
 use Rattle.bm_load.proofs.Summing.{counts_same}
 
@@ -35,6 +35,11 @@ chained_in : {stage : Stage} {n : ℕ} {fates : List Fate} {all : List Event} �
 chained_in {stage} {n} {fates} {all} run k =
     run.account.arrived k Chained ∙ sent_once fates all k Chained (single_in run)
 
+twice_in : {stage : Stage} {n : ℕ} {fates : List Fate} {all : List Event} → IsRunLike stage n fates all → (k : ℕ)
+    → counts all (λ what. arrives what k Twice) ≡ counts all (λ what. sends what k Twice)
+twice_in {stage} {n} {fates} {all} run k =
+    run.account.arrived k Twice ∙ sent_once fates all k Twice (single_in run)
+
 few_in : {stage : Stage} {n : ℕ} {fates : List Fate} {all : List Event} → IsRunLike stage n fates all
     → length all ≤ 1000000
 few_in {stage} {n} {fates} {all} run =
@@ -47,6 +52,14 @@ few_in {stage} {n} {fates} {all} run =
     in let c = chained_in run k
     in let d = chained_few all k
     in omega arith)
+    (λ k.
+    let a = direct_in run k
+    in let b = once_most (is_some (segment_of stage k))
+    in let c = chained_in run k
+    in let d = chained_few all k
+    in let e = twice_in run k
+    in let f = twice_few all k
+    in omega arith)
 
 pub once : {stage : Stage} {n : ℕ} {fates : List Fate} {all : List Event} → IsRunLike stage n fates all
     → AreOnce stage n all
@@ -54,6 +67,7 @@ once {stage} {n} {fates} {all} run = record {
   steered = run.account.steered;
   direct = direct_in run;
   chained = chained_in run;
+  twice = twice_in run;
   quiet = quiet_in run;
   clocks = each_by 81000000 (80000000 + length all) all (let h = few_in run in omega arith)
       (clocks_by stage n run.like fates all run.steps (single_in run) (quiet_in run));

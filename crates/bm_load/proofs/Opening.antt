@@ -9,7 +9,8 @@ use Rattle.bm_base.specs.declared.flow.Flow.{Flow}
 use Rattle.bm_base.specs.declared.flow.Segment.{Segment}
 use Rattle.bm_base.specs.declared.ids.ServerId.{ServerId}
 use Rattle.bm_base.specs.declared.label.Hop.{Hop}
-use Rattle.bm_base.specs.declared.label.Hop.TheVariants.{Direct, Chained}
+use Rattle.bm_base.specs.declared.label.Hop.TheVariants.{Direct, Chained, Twice}
+use Rattle.bm_base.specs.declared.label.Past.{Past}
 use Rattle.bm_base.specs.Segments.{is_opening, same_flow}
 use Rattle.bm_core.specs.Accounts.{arrives, counts}
 use Rattle.bm_core.specs.declared.events.Event.{Event}
@@ -22,9 +23,9 @@ use Rattle.bm_core.specs.declared.events.What.TheVariants.{Publish, Switch, Stee
 use Rattle.bm_core.specs.Past.{ends, flows_after, flows_arrived, flows_held, held, held_after, is_accept, is_direct}
 use Rattle.bm_core.specs.Past.{is_done, is_forward, is_full, is_sent, retired, retires, segment_of, sends, shard}
 use Rattle.bm_core.specs.Past.{timeout, without}
-use Rattle.bm_core.specs.Runs.{AtEach, IsArrival, MayCome}
-use Rattle.bm_core.specs.Verdicts.{Onward, local_at, onward, receiver_of, verdict_of}
-use Rattle.bm_core.proofs.Pasts.{arrival_sends, hop_before, none_stays, none_unless, steer_sends}
+use Rattle.bm_core.specs.Runs.{AtEach, IsArrival, MayCome, Run}
+use Rattle.bm_core.specs.Verdicts.{local_at, onward, receiver_of, verdict_of}
+use Rattle.bm_core.proofs.Pasts.{arrival_sends, hop_before, none_stays, none_unless, sent_before, steer_sends}
 use Rattle.bm_table.specs.Tables.{same_server}
 use Rattle.bm_load.proofs.Along.{counts_here, counts_more, none_here, upward}
 use Rattle.bm_load.proofs.Shape.{IsLoadLike, is_quiet}
@@ -33,12 +34,12 @@ use Rattle.bm_load.proofs.Steps.{IsLoadStep}
 -- VERDICTS
 
 -- an opening segment isn't forwarded by its first hop
-opening_stays : (local : Local) (timeout clock : ℕ) (onto : Option Onward) (s : Segment) → is_opening s ≡ true
+opening_stays : (local : Local) (timeout clock : ℕ) (onto : Option Past) (s : Segment) → is_opening s ≡ true
     → is_forward (verdict_of local timeout clock Direct onto s) ≡ false
 opening_stays local timeout clock onto s opens = grind arith
 
 -- and is accepted by a shard that has room and doesn't hold its flow
-opening_accepted : (local : Local) (timeout clock : ℕ) (onto : Option Onward) (s : Segment) → is_opening s ≡ true
+opening_accepted : (local : Local) (timeout clock : ℕ) (onto : Option Past) (s : Segment) → is_opening s ≡ true
     → local.retired ≡ false → local.held ≡ None → local.full ≡ false
     → verdict_of local timeout clock Direct onto s ≡ Accept
 opening_accepted local timeout clock onto s opens stays none room = grind arith
@@ -46,13 +47,14 @@ opening_accepted local timeout clock onto s opens stays none room = grind arith
 direct_is : (hop : Hop) → is_direct hop ≡ true → hop ≡ Direct
 direct_is Direct is = refl
 direct_is Chained is = absurd (cc)
+direct_is Twice is = absurd (cc)
 
-accept_directly : (local : Local) (timeout clock : ℕ) (hop : Hop) (onto : Option Onward) (s : Segment)
+accept_directly : (local : Local) (timeout clock : ℕ) (hop : Hop) (onto : Option Past) (s : Segment)
     → is_accept (verdict_of local timeout clock hop onto s) ≡ true → (is_direct hop ≡ true) × (is_opening s ≡ true)
 accept_directly local timeout clock hop onto s is = grind arith
 
 -- an Accept is of the direct copy of an opening segment
-accept_opens : (local : Local) (timeout clock : ℕ) (hop : Hop) (onto : Option Onward) (s : Segment)
+accept_opens : (local : Local) (timeout clock : ℕ) (hop : Hop) (onto : Option Past) (s : Segment)
     → is_accept (verdict_of local timeout clock hop onto s) ≡ true → (hop ≡ Direct) × (is_opening s ≡ true)
 accept_opens local timeout clock hop onto s is =
     let both = accept_directly local timeout clock hop onto s is in (direct_is hop both.0, both.1)
@@ -101,11 +103,18 @@ unchained {stage = stage} {o = o} opener past steps =
     upward (IsLoadStep stage) (λ x. is_sent x o Chained ≡ false) refl
     (λ x e older here old. or_from _ _ (unchained_step x e.clock.0 e.what opener here.step.may) old) past steps
 
+run_of : (stage : Stage) (past : List Event) → AtEach (IsLoadStep stage) past → Run stage past
+run_of stage [] steps = tt
+run_of stage (e ∷ past) steps = (steps.0.step, run_of stage past steps.1)
+
 -- so each of its arrivals is a direct one
 pub arrives_direct : {stage : Stage} {o : ℕ} {t : Segment} → IsOpener stage o t → (past : List Event)
     → AtEach (IsLoadStep stage) past → (hop : Hop) → is_sent past o hop ≡ true → hop ≡ Direct
 arrives_direct opener past steps Direct sent = refl
 arrives_direct opener past steps Chained sent = absurd (both_ways _ (unchained opener past steps) sent)
+arrives_direct {stage = stage} {o = o} opener past steps Twice sent =
+    absurd (both_ways _ (unchained opener past steps)
+    (sent_before stage past (run_of stage past steps) o Chained Twice (omega arith) sent))
 
 accepts_opening : {stage : Stage} (past : List Event) (clock k : ℕ) (hop : Hop) (server : ServerId) (verdict : Verdict)
     → IsArrival stage past clock k hop server verdict → (s : Segment) → segment_of stage k ≡ Some s
@@ -301,7 +310,7 @@ flows_step {n = n} past e (Steer k m) s h flows like may is old = let more = upt
 flows_step {n = n} past e (Lose k hop) s h flows like may is old = let more = upto_more n past e in omega arith
 flows_step {n = n} past e Sync s h flows like may is old = let more = upto_more n past e in omega arith
 
--- a shard holds no more flows than opening packets arrived
+-- a shard holds at most as many flows as opening packets arrived
 flows_few : {stage : Stage} {n : ℕ} → IsLoadLike stage n → (past : List Event) → AtEach (IsLoadStep stage) past
     → (s : ServerId) (h : ℕ) → length (flows_held stage past s h) ≤ arrivals_upto n past
 flows_few {stage = stage} {n = n} like past steps s h =

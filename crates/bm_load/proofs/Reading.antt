@@ -12,12 +12,12 @@ use Rattle.bm_tcp.specs.Packets.{ReadsAs}
 abbrev Reads : ℕ → Round → Type 0
 Reads port round =
     (port / 256 ^ 1 % 256 * 256 ^ 1 + (port % 256 * 256 ^ 0 + 0) ≡ port)
-    → (length (packet_from round port) ≤ 65491) × ReadsAs (packet_from round port) (segment_from round port)
+    → (length (packet_from round port) ≤ 65479) × ReadsAs (packet_from round port) (segment_from round port)
 
 -- the same, with the port as it is read
 abbrev ReadsWith : ℕ → Round → Type 0
 ReadsWith port round =
-    (length (packet_from round port) ≤ 65491)
+    (length (packet_from round port) ≤ 65479)
     × ReadsAs (packet_from round port)
     (segment_from round (port / 256 ^ 1 % 256 * 256 ^ 1 + (port % 256 * 256 ^ 0 + 0)))
 
@@ -39,11 +39,11 @@ last_reads port = (omega arith, refl)
 
 with_port : (port : ℕ) (round : Round) → ReadsWith port round → Reads port round
 with_port port round reads is =
-    subst (λ p. (length (packet_from round port) ≤ 65491) × ReadsAs (packet_from round port) (segment_from round p)) is
+    subst (λ p. (length (packet_from round port) ≤ 65479) × ReadsAs (packet_from round port) (segment_from round p)) is
     reads
 
 pub reads : (r port : ℕ) → port < 65536
-    → (length (packet_from (round_at r) port) ≤ 65491)
+    → (length (packet_from (round_at r) port) ≤ 65479)
     × ReadsAs (packet_from (round_at r) port) (segment_from (round_at r) port)
 reads r port short =
     each_round (Reads port) (with_port port opening (opening_reads port)) (with_port port first (first_reads port))

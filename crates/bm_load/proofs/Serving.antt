@@ -10,7 +10,7 @@ use Rattle.bm_base.specs.declared.flow.Flow.{Flow}
 use Rattle.bm_base.specs.declared.flow.Segment.{Segment}
 use Rattle.bm_base.specs.declared.ids.ServerId.{ServerId}
 use Rattle.bm_base.specs.declared.label.Hop.{Hop}
-use Rattle.bm_base.specs.declared.label.Hop.TheVariants.{Direct, Chained}
+use Rattle.bm_base.specs.declared.label.Hop.TheVariants.{Direct, Chained, Twice}
 use Rattle.bm_base.specs.declared.label.Label.{Label}
 use Rattle.bm_base.specs.Segments.{is_opening}
 use Rattle.bm_core.specs.Accounts.{arrives, counts, steers_packet}
@@ -52,6 +52,7 @@ arrives_is (Arrive k Direct server verdict) o is =
     let same : k ≡ o = eqb-true k o (and_parts (eqb k o) _ is).0
     in (server, verdict, ap (λ (j : ℕ). Arrive j Direct server verdict) same)
 arrives_is (Arrive k Chained server verdict) o is = absurd (let bad = (and_parts (eqb k o) false is).1 in cc)
+arrives_is (Arrive k Twice server verdict) o is = absurd (let bad = (and_parts (eqb k o) false is).1 in cc)
 arrives_is (Publish v) o is = absurd (cc)
 arrives_is (Switch m v) o is = absurd (cc)
 arrives_is (Steer k m) o is = absurd (cc)
@@ -360,8 +361,10 @@ module _ {stage : Stage} {n o : ℕ} {t : Segment} (own : Label) (a : Accepted) 
       (λ s is flow. record {
         one = one_accept past e here k hop server verdict s at is flow;
         in_time =
-            λ other away. if_some (label_of stage past k) (λ l. e.clock.0 ≤ l.entry.stamp.0 + timeout stage)
-            (λ l lab. let early = here.step.clock in let long = like.long in omega arith);
+            λ other away. if_some (label_of stage past k)
+            (λ l. IfSome l.entry.prev (λ p. e.clock.0 ≤ p.stamp.0 + timeout stage))
+            (λ l lab. if_some l.entry.prev (λ p. e.clock.0 ≤ p.stamp.0 + timeout stage)
+            (λ p past. let early = here.step.clock in let long = like.long in omega arith));
         after = behind past e here k hop server verdict s at is flow;
         version =
             λ other. if_some (label_of stage past k)

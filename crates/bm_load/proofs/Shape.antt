@@ -5,7 +5,7 @@ use Rattle.bm_base.specs.declared.fate.Fate.{Fate}
 use Rattle.bm_base.specs.declared.flow.Flow.{Flow}
 use Rattle.bm_base.specs.declared.flow.Segment.{Segment}
 use Rattle.bm_base.specs.declared.label.Hop.{Hop}
-use Rattle.bm_base.specs.declared.label.Hop.TheVariants.{Direct, Chained}
+use Rattle.bm_base.specs.declared.label.Hop.TheVariants.{Direct, Chained, Twice}
 use Rattle.bm_base.specs.Segments.{has_flag, is_opening, RST}
 use Rattle.bm_core.specs.Accounts.{IsAccountOf, arrives, counts, steers_packet}
 use Rattle.bm_core.specs.Causes.{is_process}
@@ -32,8 +32,7 @@ abbrev pub AreChanges : List Command → Type 0
 AreChanges [] = Unit {0}
 AreChanges (c ∷ commands) = (is_change c ≡ true) × AreChanges commands
 
--- n connections of four packets each, the first n of which open them, in the one phase of a plan
--- with one change
+-- n connections of four packets each, opened by the first n packets, in the one phase of a plan with one change
 pub record IsLoadLike (stage : Stage) (n : ℕ) : Type 0 where
   pub few : n ≤ 20000
   pub records : length stage.capture.records ≡ 4 * n
@@ -87,9 +86,11 @@ pub record AreOnce (stage : Stage) (n : ℕ) (all : List Event) : Type 0 where
       → counts all (λ what. steers_packet what k) ≡ once (is_some (segment_of stage k))
   pub direct : (k : ℕ)
       → counts all (λ what. arrives what k Direct) ≡ once (is_some (segment_of stage k))
-  -- a chained copy arrives for each Forward, and for nothing else
+  -- a chained or twice-chained copy arrives for each Forward before it, and for nothing else
   pub chained : (k : ℕ)
       → counts all (λ what. arrives what k Chained) ≡ counts all (λ what. sends what k Chained)
+  pub twice : (k : ℕ)
+      → counts all (λ what. arrives what k Twice) ≡ counts all (λ what. sends what k Twice)
   pub quiet : AtEach (λ past e. is_quiet e.what ≡ true) all
   pub clocks : AtEach (λ past e. e.clock.0 ≤ 81000000) all
 

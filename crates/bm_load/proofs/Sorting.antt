@@ -4,7 +4,7 @@ use Rattle.std.proofs.Common.{MatchBool, List, [], ◌∷◌, eqb, inl, inr, ref
 use Rattle.std.proofs.lemmas.Bool.{cases_lt, ne_eqb, le-leb, lt-leb, leb-false}
 use Rattle.bm_base.specs.declared.ids.ServerId.{ServerId}
 use Rattle.bm_base.specs.declared.label.Hop.{Hop}
-use Rattle.bm_base.specs.declared.label.Hop.TheVariants.{Direct, Chained}
+use Rattle.bm_base.specs.declared.label.Hop.TheVariants.{Direct, Chained, Twice}
 use Rattle.bm_base.specs.Labels.{same_hop}
 use Rattle.bm_core.specs.Accounts.{arrives, counts}
 use Rattle.bm_core.specs.Causes.{is_process}
@@ -34,13 +34,16 @@ passes_on _ = false
 
 -- what the event is, by its verdict
 record IsSorted (n : ℕ) (what : What) : Type 0 where
-  accepts : once (comes is_accept what) ≡ once (opens_by n Direct what) + once (opens_by n Chained what)
-  arrivals : once (is_arrival Direct what) + once (is_arrival Chained what)
+  accepts : once (comes is_accept what)
+      ≡ once (opens_by n Direct what) + once (opens_by n Chained what) + once (opens_by n Twice what)
+  arrivals : once (is_arrival Direct what) + once (is_arrival Chained what) + once (is_arrival Twice what)
       ≡ once (comes is_accept what) + once (comes is_process what) + once (passes_on what)
   no_reset : comes is_reset what ≡ false
   no_drop : comes is_drop what ≡ false
   -- a packet that opens isn't forwarded
   ends_here : (k : ℕ) → k ≤ n → sends what k Chained ≡ false
+  -- nor is a chained copy
+  ends_there : (k : ℕ) → sends what k Twice ≡ false
 
 and_no : (b : Bool) → (b && false) ≡ false
 and_no true = refl
@@ -53,6 +56,7 @@ accepted n k Direct server low = record {
   no_reset = refl;
   no_drop = refl;
   ends_here = λ j within. refl;
+  ends_there = λ j. refl;
 }
 accepted n k Chained server low = record {
   accepts = rw low refl;
@@ -60,6 +64,15 @@ accepted n k Chained server low = record {
   no_reset = refl;
   no_drop = refl;
   ends_here = λ j within. refl;
+  ends_there = λ j. refl;
+}
+accepted n k Twice server low = record {
+  accepts = rw low refl;
+  arrivals = refl;
+  no_reset = refl;
+  no_drop = refl;
+  ends_here = λ j within. refl;
+  ends_there = λ j. refl;
 }
 
 processed : (n k : ℕ) (hop : Hop) (server : ServerId) (verdict : Verdict) → nat_le k n ≡ false
@@ -70,6 +83,7 @@ processed n k Direct server (Process t) high is = record {
   no_reset = refl;
   no_drop = refl;
   ends_here = λ j within. refl;
+  ends_there = λ j. refl;
 }
 processed n k Chained server (Process t) high is = record {
   accepts = rw high refl;
@@ -77,6 +91,15 @@ processed n k Chained server (Process t) high is = record {
   no_reset = refl;
   no_drop = refl;
   ends_here = λ j within. refl;
+  ends_there = λ j. refl;
+}
+processed n k Twice server (Process t) high is = record {
+  accepts = rw high refl;
+  arrivals = refl;
+  no_reset = refl;
+  no_drop = refl;
+  ends_here = λ j within. refl;
+  ends_there = λ j. refl;
 }
 processed n k hop server Accept high is = absurd (cc)
 processed n k hop server (Forward to) high is = absurd (cc)
@@ -91,6 +114,7 @@ forwarded n k server (Forward to) high is = record {
   no_reset = refl;
   no_drop = refl;
   ends_here = λ j within. ap (λ b. b && true) (ne_eqb k j (λ e. absurd (omega (arith, within, leb-false k n high, e))));
+  ends_there = λ j. and_no (eqb k j);
 }
 forwarded n k server Accept high is = absurd (cc)
 forwarded n k server (Process t) high is = absurd (cc)
@@ -117,45 +141,93 @@ sorted n past clock (Steer packet m) served = record {
   no_reset = refl;
   no_drop = refl;
   ends_here = λ k low. and_no (eqb packet k);
+  ends_there = λ k. and_no (eqb packet k);
 }
-sorted n past clock (Publish v) served =
-    record { accepts = refl; arrivals = refl; no_reset = refl; no_drop = refl; ends_here = λ k low. refl }
-sorted n past clock (Switch m v) served =
-    record { accepts = refl; arrivals = refl; no_reset = refl; no_drop = refl; ends_here = λ k low. refl }
-sorted n past clock (Lose packet hop) served =
-    record { accepts = refl; arrivals = refl; no_reset = refl; no_drop = refl; ends_here = λ k low. refl }
-sorted n past clock (Close server flow closed) served =
-    record { accepts = refl; arrivals = refl; no_reset = refl; no_drop = refl; ends_here = λ k low. refl }
-sorted n past clock (Retire server h at result) served =
-    record { accepts = refl; arrivals = refl; no_reset = refl; no_drop = refl; ends_here = λ k low. refl }
-sorted n past clock Sync served =
-    record { accepts = refl; arrivals = refl; no_reset = refl; no_drop = refl; ends_here = λ k low. refl }
+sorted n past clock (Publish v) served = record {
+  accepts = refl;
+  arrivals = refl;
+  no_reset = refl;
+  no_drop = refl;
+  ends_here = λ k low. refl;
+  ends_there = λ k. refl;
+}
+sorted n past clock (Switch m v) served = record {
+  accepts = refl;
+  arrivals = refl;
+  no_reset = refl;
+  no_drop = refl;
+  ends_here = λ k low. refl;
+  ends_there = λ k. refl;
+}
+sorted n past clock (Lose packet hop) served = record {
+  accepts = refl;
+  arrivals = refl;
+  no_reset = refl;
+  no_drop = refl;
+  ends_here = λ k low. refl;
+  ends_there = λ k. refl;
+}
+sorted n past clock (Close server flow closed) served = record {
+  accepts = refl;
+  arrivals = refl;
+  no_reset = refl;
+  no_drop = refl;
+  ends_here = λ k low. refl;
+  ends_there = λ k. refl;
+}
+sorted n past clock (Retire server h at result) served = record {
+  accepts = refl;
+  arrivals = refl;
+  no_reset = refl;
+  no_drop = refl;
+  ends_here = λ k low. refl;
+  ends_there = λ k. refl;
+}
+sorted n past clock Sync served = record {
+  accepts = refl;
+  arrivals = refl;
+  no_reset = refl;
+  no_drop = refl;
+  ends_here = λ k low. refl;
+  ends_there = λ k. refl;
+}
 
 -- the same of all events together
 record AreSorted (n : ℕ) (all : List Event) : Type 0 where
-  accepts : counts all (comes is_accept) ≡ counts all (opens_by n Direct) + counts all (opens_by n Chained)
-  arrivals : counts all (is_arrival Direct) + counts all (is_arrival Chained)
+  accepts : counts all (comes is_accept)
+      ≡ counts all (opens_by n Direct) + counts all (opens_by n Chained) + counts all (opens_by n Twice)
+  arrivals : counts all (is_arrival Direct) + counts all (is_arrival Chained) + counts all (is_arrival Twice)
       ≡ counts all (comes is_accept) + counts all (comes is_process) + counts all passes_on
   no_reset : counts all (comes is_reset) ≡ 0
   no_drop : counts all (comes is_drop) ≡ 0
   ends_here : (k : ℕ) → k ≤ n → counts all (λ what. sends what k Chained) ≡ 0
+  ends_there : (k : ℕ) → counts all (λ what. sends what k Twice) ≡ 0
 
 add_none : (b : Bool) (c : ℕ) → b ≡ false → c ≡ 0 → once b + c ≡ 0
 add_none b c none old = rw (none, old) refl
 
 all_sorted : (n : ℕ) (all : List Event) → AreWellServed n all → AreSorted n all
 all_sorted n [] served =
-    record { accepts = refl; arrivals = refl; no_reset = refl; no_drop = refl; ends_here = λ k low. refl }
+    record {
+      accepts = refl;
+      arrivals = refl;
+      no_reset = refl;
+      no_drop = refl;
+      ends_here = λ k low. refl;
+      ends_there = λ k. refl;
+    }
 all_sorted n (e ∷ past) served =
     let here = sorted n past e.clock.0 e.what served.0
     in let old = all_sorted n past served.1
     in let here_accepts : once (comes is_accept e.what)
-    ≡ once (opens_by n Direct e.what) + once (opens_by n Chained e.what) = here.accepts
+    ≡ once (opens_by n Direct e.what) + once (opens_by n Chained e.what) + once (opens_by n Twice e.what) = here.accepts
     in let old_accepts : counts past (comes is_accept)
-    ≡ counts past (opens_by n Direct) + counts past (opens_by n Chained) = old.accepts
+    ≡ counts past (opens_by n Direct) + counts past (opens_by n Chained) + counts past (opens_by n Twice) = old.accepts
     in let here_arrivals : once (is_arrival Direct e.what) + once (is_arrival Chained e.what)
+    + once (is_arrival Twice e.what)
     ≡ once (comes is_accept e.what) + once (comes is_process e.what) + once (passes_on e.what) = here.arrivals
     in let old_arrivals : counts past (is_arrival Direct) + counts past (is_arrival Chained)
+    + counts past (is_arrival Twice)
     ≡ counts past (comes is_accept) + counts past (comes is_process) + counts past passes_on = old.arrivals
     in record {
       accepts = omega (arith, here_accepts, old_accepts);
@@ -163,6 +235,7 @@ all_sorted n (e ∷ past) served =
       no_reset = add_none (comes is_reset e.what) _ here.no_reset old.no_reset;
       no_drop = add_none (comes is_drop e.what) _ here.no_drop old.no_drop;
       ends_here = λ k low. add_none (sends e.what k Chained) _ (here.ends_here k low) (old.ends_here k low);
+      ends_there = λ k. add_none (sends e.what k Twice) _ (here.ends_there k) (old.ends_there k);
     }
 
 -- COUNTS BY PACKETS
@@ -185,7 +258,7 @@ opens_once n p true low = elim (cases_lt n p) [
 opens_once n p false low =
     ap once (and_no (nat_le p n)) ∙ sym (sum_zero n (λ k. once (p == k && false)) (λ k a b. ap once (and_no (p == k))))
 
--- each arrival is of one of so many packets
+-- each arrival is of one of the 4n packets
 arrival_packet : (n : ℕ) (what : What) (stage : Stage) (past : List Event) (clock : ℕ) → IsLoadLike stage n
     → MayCome stage past clock what → (hop : Hop) → is_arrival hop what ≡ true → HasPacket (4 * n) (packet_of what)
 arrival_packet n (Arrive k came server verdict) stage past clock like may hop is =
@@ -234,11 +307,16 @@ passed_of k (Arrive packet Direct server Accept) = refl
 passed_of k (Arrive packet Direct server (Process t)) = refl
 passed_of k (Arrive packet Direct server (Reset why)) = refl
 passed_of k (Arrive packet Direct server (Drop why)) = refl
-passed_of k (Arrive packet Chained server (Forward to)) = refl
+passed_of k (Arrive packet Chained server (Forward to)) = and_turned false (eqb packet k)
 passed_of k (Arrive packet Chained server Accept) = refl
 passed_of k (Arrive packet Chained server (Process t)) = refl
 passed_of k (Arrive packet Chained server (Reset why)) = refl
 passed_of k (Arrive packet Chained server (Drop why)) = refl
+passed_of k (Arrive packet Twice server (Forward to)) = refl
+passed_of k (Arrive packet Twice server Accept) = refl
+passed_of k (Arrive packet Twice server (Process t)) = refl
+passed_of k (Arrive packet Twice server (Reset why)) = refl
+passed_of k (Arrive packet Twice server (Drop why)) = refl
 passed_of k (Steer packet m) = and_turned false (eqb packet k)
 passed_of k (Publish v) = refl
 passed_of k (Switch m v) = refl
@@ -316,13 +394,22 @@ counted stage n all like run times served =
     opening_arrivals stage n like Chained all run
     ∙ sum_zero n (λ k. counts all (λ what. arrives what k Chained))
     (λ k low high. times.chained k ∙ kinds.ends_here k high)
-    in let accepts : counts all (comes is_accept) ≡ counts all (opens_by n Direct) + counts all (opens_by n Chained) =
+    in let twice : counts all (is_arrival Twice) ≡ 0 =
+    arrivals_by_packets (4 * n) Twice all (arrivals_in stage n like Twice all run)
+    ∙ sum_zero (4 * n) (λ k. counts all (λ what. arrives what k Twice))
+    (λ k low high. times.twice k ∙ kinds.ends_there k)
+    in let none_twice : counts all (opens_by n Twice) ≡ 0 =
+    opening_arrivals stage n like Twice all run
+    ∙ sum_zero n (λ k. counts all (λ what. arrives what k Twice))
+    (λ k low high. times.twice k ∙ kinds.ends_there k)
+    in let accepts : counts all (comes is_accept)
+    ≡ counts all (opens_by n Direct) + counts all (opens_by n Chained) + counts all (opens_by n Twice) =
     kinds.accepts
-    in let arrivals : counts all (is_arrival Direct) + counts all (is_arrival Chained)
+    in let arrivals : counts all (is_arrival Direct) + counts all (is_arrival Chained) + counts all (is_arrival Twice)
     ≡ counts all (comes is_accept) + counts all (comes is_process) + counts all passes_on = kinds.arrivals
     in record {
-      accepted = omega (arith, accepts, opening, no_more);
-      processed = omega (arith, accepts, opening, no_more, direct, chained, arrivals);
+      accepted = omega (arith, accepts, opening, no_more, none_twice);
+      processed = omega (arith, accepts, opening, no_more, none_twice, direct, chained, twice, arrivals);
       reset = kinds.no_reset;
       dropped = kinds.no_drop;
       lost = none_lost all times.quiet;

@@ -48,7 +48,7 @@ opened = record { buckets = 64; servers = load_servers; changes = [] }
 unfoldable pub load_plan : ℕ → Planned
 load_plan n = with_change opened (addition opened (record { 0 = n * 2000 }) (record { 0 = 5 }))
 
--- the rounds, from 0: SYN, twice 100 octets of data, FIN
+-- the rounds, from 0: SYN, 100 octets of data twice, FIN
 abbrev pub round_at : ℕ → Round
 round_at r =
     if r == 0 then record { seq = 1000; ack = 0; flags = 0x02; payload = 0 }
@@ -69,7 +69,7 @@ segment_from round port = record {
   flags = round.flags;
 }
 
--- the headers of IPv4 and TCP, with zero as both checksums
+-- the headers of IPv4 and TCP, with both checksums zero
 unfoldable pub headers_from : Round → ℕ → List ℕ
 headers_from round port =
     0x45 ∷ 0 ∷ [] ++ to_be_bytes w16 (40 + round.payload) ++ 0 ∷ 0 ∷ 0x40 ∷ 0 ∷ 64 ∷ 6 ∷ 0 ∷ 0 ∷ []
@@ -81,7 +81,7 @@ headers_from round port =
 abbrev pub packet_from : Round → ℕ → List ℕ
 packet_from round port = headers_from round port ++ replicate round.payload 0x61
 
--- the connections, from 0, have ports from 10,000 on
+-- the connections, from 0, have the ports from 10,000 on
 abbrev pub port_of : ℕ → ℕ
 port_of i = 10000 + i
 

@@ -8,8 +8,8 @@ use bm_base::{Body, Flow, List, Memory, Moment, Octets, Record, Segment};
 use bm_ipv4::fields::{write_u16, write_u32};
 use std::alloc::Global;
 
-/// What each connection sends in a round, with so many octets of data.
-#[derive(Clone, Copy, Debug, PartialEq, Eq)]
+/// What each connection sends in a round, with `payload` octets of data.
+#[derive(Clone, Copy, PartialEq, Eq)]
 pub(crate) struct Round {
     seq: u32,
     ack: u32,
@@ -17,7 +17,7 @@ pub(crate) struct Round {
     payload: u16,
 }
 
-/// The rounds, from 0: SYN, twice 100 octets of data, FIN.
+/// The rounds, from 0: SYN, 100 octets of data twice, FIN.
 fn round_at(round: u32) -> Round
     ensures round { result ≡ load.round_at round }
     ensures short { result.payload ≤ 100 }
@@ -69,7 +69,7 @@ fn segment_from(round: &Round, port: u16) -> Segment
     }
 }
 
-/// 1 where the flag is set.
+/// 1 if the flag is set, else 0.
 fn count(flags: u8, flag: u8) -> u32
     ensures count { result ≡ count_of flag flags }
     ensures bound { result ≤ 1 }

@@ -53,7 +53,7 @@ fn load_plan(alloc: Global, n: u32) -> Result<Plan, Memory>
     }
 }
 
-/// Want of memory, as an answer here.
+/// Refused memory, the only refusal possible here.
 fn want(_refusal: Refusal) -> Memory
     requires { _refusal ≡ memory }
 {
@@ -61,8 +61,8 @@ fn want(_refusal: Refusal) -> Memory
 }
 
 /// The load of n connections, and the packet of each of its records. Each connection opens, sends
-/// 100 octets twice, and ends, by one mux; at the moment of the third round's first packet a server
-/// is added. `Memory` where memory was refused.
+/// 100 octets twice, and ends, through one mux; at the moment of the third round's first packet a
+/// server is added. `Memory` where memory was refused.
 pub fn load_stage(alloc: Global, n: u32) -> Result<(Stage, Octets), Memory>
     requires { (1 ≤ n) × (n ≤ 20000) }
     ensures stage { IfOk result (λ made. made.0 ≡ load.load_of n) }

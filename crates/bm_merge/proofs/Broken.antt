@@ -76,7 +76,7 @@ opening_label s =
     record {
       mux = record { 0 = 0 };
       version = record { 0 = 0 };
-      entry = record { cur = server s; prev = None; stamp = record { 0 = 0 } };
+      entry = record { cur = server s; prev = None; older = None };
     }
 
 -- WHAT AN EVENT KEEPS, where each sending has one copy without delay
@@ -112,7 +112,7 @@ pub record LacksOrder (stage : Stage) (events : List Event) : Type 0 where
   pub steps : AtEach (λ past e. IsInPhase stage past e × IsInTime stage past e) events
   pub looked : HaveLooked stage events
 
--- all, but for what is asked of the time of the event with so many before it
+-- all of it, except what is asked of the time of the event with n before it
 pub record LacksTime (stage : Stage) (n : ℕ) (events : List Event) : Type 0 where
   pub sound : IsSound stage
   pub run : Run stage events

@@ -203,7 +203,7 @@ parts_of clock (z ∷ logs) (x ∷ low) [] are all = absurd are
 parts_of clock (z ∷ logs) (x ∷ low) (y ∷ high) are all =
     parts_more clock logs low high z x y (parts_of clock logs low high are.2 all.1) are.0 are.1 all.0
 
--- the logs in order are their halves in order, one behind the other
+-- the logs in order are their halves in order, one after the other
 pub order_of_parts : (clock : ℕ) (logs low high : List (List Event)) → Parts clock logs low high
     → in_order (joined logs) ≡ in_order (joined low) ++ in_order (joined high)
 order_of_parts clock logs low high parts =

@@ -99,7 +99,7 @@ up_all logs (h ∷ heads) n stand up =
     (up_left n h.event (drop h.behind (slice_index_or logs h.log [])) stand.0.rising (up 0 h refl))
     (up_all logs heads n stand.1 (λ i x here. up (suc i) x here))
 
--- what stands before the head at a place and behind it
+-- what comes before the head at a place and after it
 pub record Split (logs : List (List Event)) (heads : List Head) (at : ℕ) (h : Head) : Type 0 where
   pub a : List Event
   pub b : List Event
@@ -188,7 +188,7 @@ took_last logs heads at h s none =
     ∙ ap (λ (l : List Event). h.event ∷ in_order l)
     (ap (λ (l : List Event). s.a ++ (l ++ s.b)) none ∙ sym s.without)
 
--- there is one behind it
+-- there is one after it
 pub took_one : (logs : List (List Event)) (heads : List Head) (at : ℕ) (h x : Head) → Split logs heads at h
     → behind_of logs h ≡ left_of logs x
     → in_order (joined (lefts logs heads)) ≡ h.event ∷ in_order (joined (lefts logs (set heads at x)))
@@ -197,7 +197,7 @@ took_one logs heads at h x s next =
     ∙ ap (λ (l : List Event). h.event ∷ in_order l)
     (ap (λ (l : List Event). s.a ++ (l ++ s.b)) next ∙ sym (s.with x))
 
--- what was taken stands behind what was taken before
+-- what was taken comes after what was taken before
 pub onto : (done more all rest left : List Event) (e : Event) → more ≡ done ++ e ∷ [] → done ++ left ≡ all
     → left ≡ e ∷ rest → more ++ rest ≡ all
 onto done more all rest left e is was next =

@@ -16,7 +16,7 @@ use Rattle.bm_base.specs.declared.flow.Segment.{Segment}
 use Rattle.bm_seq.specs.declared.receiver.Receiver.{Receiver}
 use Rattle.bm_base.specs.declared.label.Label.{Label}
 use Rattle.bm_base.specs.declared.label.Hop.{Hop}
-use Rattle.bm_base.specs.declared.label.Hop.TheVariants.{Direct, Chained}
+use Rattle.bm_base.specs.declared.label.Hop.TheVariants.{Direct, Chained, Twice}
 use Rattle.bm_core.specs.declared.events.Verdict.{Verdict}
 use Rattle.bm_core.specs.declared.events.Verdict.TheVariants.{Accept, Process, Forward, Reset, Drop}
 use Rattle.bm_core.specs.declared.events.Local.{Local}
@@ -175,7 +175,9 @@ direct_steers (Retire server x at result) k h = absurd (cc)
 direct_steers Sync k h = absurd (cc)
 direct_steers (Arrive packet Direct server (Forward to)) k h =
     let bad = (and_parts (eqb packet k) false h).1 in absurd (cc)
-direct_steers (Arrive packet Chained server (Forward to)) k h = absurd (cc)
+direct_steers (Arrive packet Chained server (Forward to)) k h =
+    let bad = (and_parts (eqb packet k) false h).1 in absurd (cc)
+direct_steers (Arrive packet Twice server (Forward to)) k h = absurd (cc)
 direct_steers (Arrive packet hop server Accept) k h = absurd (cc)
 direct_steers (Arrive packet hop server (Process t)) k h = absurd (cc)
 direct_steers (Arrive packet hop server (Reset why)) k h = absurd (cc)

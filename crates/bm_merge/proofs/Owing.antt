@@ -20,8 +20,8 @@ use Rattle.bm_merge.proofs.Reaching.{one_if}
 
 -- COPIES
 
--- up to each clock no more copies came than were sent with lower clocks, less so many that are to come from a sending
--- at that clock
+-- up to each clock at most as many copies arrived as were sent at lower clocks, minus those still to arrive from a
+-- sending at that clock
 abbrev pub IsOwing : List Note → ℕ → Hop → ℕ → ℕ → Type 0
 IsOwing deeds k hop clock left =
     (c : ℕ) → many (λ n. arrives n.event.what k hop && leb n.event.clock.0 c) deeds + cond (ltb clock c) left 0
@@ -43,7 +43,7 @@ owes_more n deeds k hop old not is owing c =
       go true h = omega arith
       go false h = omega arith
 
--- a copy that comes later than it was sent is owed no more
+-- a copy that arrives later than it was sent is no longer owed
 pub owes_less : (n : Note) (deeds : List Note) (k : ℕ) (hop : Hop) (clock left : ℕ)
     → arrives n.event.what k hop ≡ true → sends n.event.what k hop ≡ false → clock < n.event.clock.0
     → IsOwing deeds k hop clock (suc left) → IsOwing (n ∷ deeds) k hop clock left
@@ -71,7 +71,7 @@ owes_same n deeds k hop clock left none not owing c = let before = owing c in rw
 
 -- PHASES
 
--- the controller's log up to the clock has so many Syncs
+-- the controller's log up to the clock has p Syncs
 abbrev pub IsInPhase : List Event → ℕ → ℕ → Type 0
 IsInPhase control clock p = counts (until clock control) is_sync ≡ p
 

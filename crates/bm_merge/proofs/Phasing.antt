@@ -25,7 +25,7 @@ abbrev pub IsPhasedIn : Stage → List Event → Note → Type 0
 IsPhasedIn stage control n =
     IfSome (packet_of n.event.what) (λ k. IsInPhase control n.event.clock.0 (phase_of stage k))
 
--- after so many Syncs, with this log of the controller and all that was done
+-- after p Syncs, with this log of the controller and all that was done
 pub record IsPhased (stage : Stage) (p : ℕ) (control deeds : List Note) : Type 0 where
   pub syncs : counts (events_of control) is_sync ≡ p
   pub phases : AllByRecursion (IsPhasedIn stage (events_of control)) deeds

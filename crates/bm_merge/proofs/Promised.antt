@@ -113,7 +113,7 @@ pub record ArePromised (R : Routes) (F : Rules) (stage : Stage) (logs : List Not
   pub lost : (k : ℕ) (hop : Hop) (clock : ℕ)
       → many (λ n. loses n.event.what k hop && n.event.clock.0 == suc clock) (all_notes logs)
       ≡ many (λ n. sends n.event.what k hop && (n.fate.copies == 0 && n.event.clock.0 == clock)) (all_notes logs)
-  -- up to each clock no more copies came than were sent with lower clocks
+  -- up to each clock at most as many copies arrived as were sent at lower clocks
   pub sent : (k : ℕ) (hop : Hop) (clock : ℕ)
       → many (λ n. arrives n.event.what k hop && leb n.event.clock.0 clock) (all_notes logs)
       ≤ total (λ n. if sends n.event.what k hop && ltb n.event.clock.0 clock then n.fate.copies else 0)

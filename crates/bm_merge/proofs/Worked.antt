@@ -95,7 +95,7 @@ old_label =
     record {
       mux = record { 0 = 0 };
       version = record { 0 = 0 };
-      entry = record { cur = server 1; prev = None; stamp = record { 0 = 0 } };
+      entry = record { cur = server 1; prev = None; older = None };
     }
 
 abbrev pub new_label : Label
@@ -103,7 +103,11 @@ new_label =
     record {
       mux = record { 0 = 0 };
       version = record { 0 = 1 };
-      entry = record { cur = server 2; prev = Some (server 1); stamp = record { 0 = 500 } };
+      entry = record {
+        cur = server 2;
+        prev = Some (record { server = server 1; stamp = record { 0 = 500 } });
+        older = None;
+      };
     }
 
 one_steer : (k : ℕ) → count_of (λ e. steers_packet e.what k) (gathered (plain logs)) ≤ 1

@@ -166,7 +166,7 @@ label =
     record {
       mux = record { 0 = 0 };
       version = record { 0 = 0 };
-      entry = record { cur = server 1; prev = None; stamp = record { 0 = 0 } };
+      entry = record { cur = server 1; prev = None; older = None };
     }
 
 one_steer : (k : ℕ) → count_of (λ e. steers_packet e.what k) (gathered (plain logs)) ≤ 1

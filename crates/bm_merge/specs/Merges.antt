@@ -1,6 +1,6 @@
--- The logs of a threaded run, what they merge to, when they agree, and how their clocks are bounded
--- (docs/DEFINITIONS.md). A log is what one actor wrote down: the controller, a mux, or a shard of a
--- server. It has its newest event first.
+-- The logs of a threaded run, what they merge into, when they agree, and how their clocks are
+-- bounded (docs/DEFINITIONS.md). A log is what one actor recorded: the controller, a mux, or a
+-- shard of a server. It has its newest event first.
 use Rattle.std.specs.Prelude.{◌≡◌, ◌≤◌, ◌<◌, ◌+◌, ◌*◌, ◌^◌, ◌⊎◌, ℕ, suc, Bool, true, false}
 use Rattle.std.specs.Prelude.{◌&&◌, ◌||◌, ◌==◌}
 use Rattle.std.specs.Prelude.{nat_le, nat_lt, if◌then◌else◌, List, [], ◌∷◌, ◌++◌, length, reverse}
@@ -30,7 +30,7 @@ pub use Rattle.bm_core.specs.Runs.{AtEach}
 use Rattle.bm_core.specs.Runs.{Actor, same_actor, actor_of, is_by, own_clock, next_clock}
 use Rattle.bm_core.specs.Runs.Actor.{Controller, MuxOf, ShardOf}
 
--- what one actor wrote down
+-- what one actor recorded
 pub record Log : Type 0 where
   pub actor : Actor
   pub events : List Event
@@ -47,12 +47,12 @@ abbrev pub place_in : Event → List Event → List Event
 place_in e [] = e ∷ []
 place_in e (x ∷ past) = if nat_le x.clock.0 e.clock.0 then e ∷ x ∷ past else x ∷ place_in e past
 
--- the events by clock, those of one clock in the order that they have
+-- the events by clock; those of one clock keep their order
 abbrev pub by_clock : List Event → List Event
 by_clock [] = []
 by_clock (e ∷ events) = place_in e (by_clock events)
 
--- the past that the logs merge to
+-- the past into which the logs merge
 abbrev pub merged : List Log → List Event
 merged logs = by_clock (gathered logs)
 
@@ -67,7 +67,7 @@ AreLogs [] [] = Unit {0}
 AreLogs (l ∷ named) (x ∷ logs) = (l.events ≡ reverse x) × AreLogs named logs
 AreLogs _ _ = ⊥
 
--- WORDS ON LOGS
+-- TERMS FOR LOGS
 
 -- one of the events passes the test
 abbrev pub some_event : (Event → Bool) → List Event → Bool
@@ -127,7 +127,7 @@ is_mux Controller = false
 is_mux (MuxOf m) = true
 is_mux (ShardOf s h) = false
 
--- an event stands in the log of its actor, and a Lose, which has none, in a mux's
+-- the log in which an event is: its actor's, or for a Lose, which has no actor, a mux's
 abbrev pub stands_in : Stage → What → Actor → Bool
 stands_in stage (Lose k hop) a = is_mux a
 stands_in stage what a = is_by (actor_of stage what) a
@@ -138,13 +138,13 @@ IsNextVersion stage rest (Publish v) =
     (v.0 ≡ suc (newest rest)) × (v.0 ≤ length stage.script.plan.changes)
 IsNextVersion stage rest _ = Unit {0}
 
--- a Switch and a Steer are of a mux that there is
+-- a Switch or a Steer is of a mux that exists
 abbrev pub IsOfMux : Stage → What → Type 0
 IsOfMux stage (Switch m v) = m.0 < stage.script.setting.muxes
 IsOfMux stage (Steer k m) = m.0 < stage.script.setting.muxes
 IsOfMux stage _ = Unit {0}
 
--- a Switch is to version 0, or to one that is published at a lower clock
+-- a Switch is to version 0, or to one that was published at a lower clock
 abbrev pub IsPublishedBefore : List Log → ℕ → What → Type 0
 IsPublishedBefore logs clock (Switch m v) =
     (v.0 ≡ 0)
@@ -157,7 +157,7 @@ abbrev pub IsOfRecord : Stage → What → Type 0
 IsOfRecord stage (Steer k m) = is_some (segment_of stage k) ≡ true
 IsOfRecord stage _ = Unit {0}
 
--- an Arrive has its sending at a lower clock; a Lose has one, and the clock after it
+-- an Arrive has its sending at a lower clock; a Lose has one at the clock before its own
 abbrev pub IsSentBefore : List Log → ℕ → What → Type 0
 IsSentBefore logs clock (Arrive k hop server verdict) =
     some_event (λ e. sends e.what k hop && nat_lt e.clock.0 clock) (gathered logs) ≡ true
@@ -172,8 +172,8 @@ IsInPlace stage logs (Arrive k hop server verdict) =
     (label : Label) × HasLabel stage logs k label × (arrives_at label.entry hop ≡ Some server)
 IsInPlace stage logs _ = Unit {0}
 
--- a shard's log replays: after the rest of it, its book gives this verdict of the packet's segment
--- and label, and tells whether the flow that is closed was held
+-- a shard's log replays: after the rest of it, its book gives this verdict for the packet's segment
+-- and label, and says whether the flow that is closed was held
 abbrev pub IsReplayed : Stage → List Log → List Event → ℕ → What → Type 0
 IsReplayed stage logs rest clock (Arrive k hop server verdict) =
     (s : Segment) × (segment_of stage k ≡ Some s)
@@ -194,7 +194,7 @@ IsJudged stage logs clock _ = Unit {0}
 pub record IsEntry (stage : Stage) (logs : List Log) (a : Actor) (rest : List Event) (e : Event)
     : Type 0 where
   pub stands : stands_in stage e.what a ≡ true
-  -- the clocks of the actor's own events rise
+  -- the clocks of the actor's own events increase
   pub own : IfSome (actor_of stage e.what)
       (λ b. IfSome (own_clock stage rest b) (λ c. c < e.clock.0))
   pub version : IsNextVersion stage rest e.what
@@ -213,17 +213,17 @@ pub record Agree (stage : Stage) (logs : List Log) : Type 0 where
   pub actors : HaveOwnLogs logs
   -- no packet has two Steers
   pub once : (k : ℕ) → count_of (λ e. steers_packet e.what k) (gathered logs) ≤ 1
-  -- each log has what it may have
+  -- each log has only entries that it may have
   pub entries : AllByRecursion (λ l. AtEach (IsEntry stage logs l.actor) l.events) logs
 
 -- CLOCKS
 
--- an event of these has that clock
+-- one of these events has this clock
 abbrev pub is_clock : List Event → ℕ → Bool
 is_clock past c = some_event (λ e. e.clock.0 == c) past
 
--- the clock is at most one above the greater of two numbers: 0 or an earlier clock, and a moment of
--- the script or the capture, or one that a short delay leads to from an earlier clock
+-- the clock is at most one above the greater of two numbers: 0 or an earlier clock; and a moment of
+-- the script or the capture, or an earlier clock plus a short delay
 pub record IsPaced (past : List Event) (e : Event) : Type 0 where
   pub a : ℕ
   pub b : ℕ
@@ -231,10 +231,10 @@ pub record IsPaced (past : List Event) (e : Event) : Type 0 where
   pub moment : (b ≤ 45 * 10 ^ 17) ⊎ ((c : ℕ) × (is_clock past c ≡ true) × (b ≤ c + 60000000000))
   pub clock : e.clock.0 ≤ next_clock a b
 
--- so is each clock, after those before it
+-- each clock is, after those before it
 abbrev pub ArePaced : List Event → Type 0
 ArePaced past = AtEach IsPaced past
 
--- no clock of that many events is higher
+-- no clock of n events is higher
 abbrev pub highest : ℕ → ℕ
 highest n = 45 * 10 ^ 17 + n * 60000000001

@@ -1,4 +1,4 @@
--- What the workers of a threaded run know of their events, and the words in which they promise
+-- What the workers of a threaded run know of their events, and the terms of their promises
 -- (docs/DEFINITIONS.md). A log has its newest note first, and so has what a worker did.
 use Rattle.std.specs.Prelude.{ℕ, ◌+◌, ◌<◌, ◌≤◌, max, Bool, false, ◌&&◌, ◌||◌, nat_le}
 use Rattle.std.specs.Prelude.{nat_lt, MatchBool}
@@ -18,19 +18,19 @@ use Rattle.bm_merge.specs.Merges.{Log, named}
 
 -- NOTES
 
--- an event, and what its worker knows beside it
+-- an event, and what its worker knows besides
 pub record Note : Type 0 where
   pub event : Event
   -- the fate that was drawn for what the event sends
   pub fate : Fate
   -- the number of the command that it carries out
   pub command : ℕ
-  -- the moment that was handed in to the shard
+  -- the moment that was passed to the shard
   pub due : ℕ
-  -- the worker: 0, or the mux's number and one
+  -- the worker: 0, or the mux's number plus one
   pub seat : ℕ
 
--- a log whose events are noted so
+-- a log whose events have notes
 pub record NotedLog : Type 0 where
   pub actor : Actor
   pub notes : List Note
@@ -40,7 +40,7 @@ abbrev pub events_of : List Note → List Event
 events_of [] = []
 events_of (n ∷ notes) = n.event ∷ events_of notes
 
--- the logs without what was noted beside the events
+-- the logs without what was noted besides the events
 abbrev pub plain : List NotedLog → List Log
 plain [] = []
 plain (l ∷ logs) = record { actor = l.actor; events = events_of l.notes } ∷ plain logs
@@ -50,9 +50,9 @@ abbrev pub all_notes : List NotedLog → List Note
 all_notes [] = []
 all_notes (l ∷ logs) = all_notes logs ++ l.notes
 
--- SUMS AND GREATEST NUMBERS, which the order of the notes doesn't change
+-- SUMS AND GREATEST NUMBERS, which don't depend on the order of the notes
 
--- the sum of a number over the notes
+-- the sum of f over the notes
 abbrev pub total : (Note → ℕ) → List Note → ℕ
 total f [] = 0
 total f (n ∷ notes) = f n + total f notes
@@ -61,7 +61,7 @@ total f (n ∷ notes) = f n + total f notes
 abbrev pub many : (Note → Bool) → List Note → ℕ
 many test notes = total (λ n. if test n then 1 else 0) notes
 
--- the greatest of a number over the notes, or 0
+-- the greatest f over the notes, or 0
 abbrev pub greatest : (Note → ℕ) → List Note → ℕ
 greatest f [] = 0
 greatest f (n ∷ notes) = max (f n) (greatest f notes)
@@ -72,11 +72,11 @@ top_clock test notes = greatest (λ n. if test n then n.event.clock.0 else 0) no
 
 -- COMMANDS
 
--- the note is of an earlier command than that of this number
+-- the note is of a command earlier than this number
 abbrev pub is_earlier : ℕ → Note → Bool
 is_earlier i n = is_command n.event.what && nat_lt n.command i
 
--- the shard that an event of a retire is of; 0 for an event of another command
+-- the shard of a retire's event; 0 for an event of another command
 abbrev pub mark_of : What → ℕ
 mark_of (Retire server h at result) = h
 mark_of _ = 0
@@ -86,7 +86,7 @@ abbrev pub size_of : ℕ → Option Command → ℕ
 size_of shards (Some (RetireCommand at server)) = shards
 size_of shards _ = 1
 
--- WHAT A MUX SEES OF THE CONTROLLER: what it had done up to the clock of the mux's event
+-- WHAT A MUX SEES OF THE CONTROLLER: what the controller did up to the clock of the mux's event
 
 -- the events up to this clock
 abbrev pub until : ℕ → List Event → List Event
@@ -107,9 +107,9 @@ switched_since since m (e ∷ past) =
 abbrev pub look_moment : List Event → ℕ → ℕ
 look_moment control v = max (publish_clock control v) (sync_clock control)
 
--- a look of a mux whose log was rest, where the controller had done this: the first since the last
--- Sync is to a version no older than the mux's own and than the newest from before that Sync; each
--- other one is to a newer version
+-- a look of a mux, after the rest of its log and this log of the controller: the first since the
+-- last Sync is to a version no older than the mux's own and than the newest from before that Sync;
+-- each later one is to a newer version
 abbrev pub IsLookAfter : List Event → List Event → MuxId → ℕ → Type 0
 IsLookAfter control rest m v =
     MatchBool (switched_since (sync_clock control) m.0 rest)

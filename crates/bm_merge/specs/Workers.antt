@@ -1,7 +1,7 @@
--- What each worker of a threaded run promises of what it did, so that the logs merge to such a run
--- (docs/DEFINITIONS.md). Worker 0 carries out the commands, worker m + 1 the packets of mux m. Each
--- promise is in words that the worker knows by itself: its own deeds, in its order, and what a mux
--- or a shard answered it. What a worker did is a list of notes, over all logs.
+-- What each worker of a threaded run promises of what it did, so that the logs merge into such a
+-- run (docs/DEFINITIONS.md). Worker 0 carries out the commands, worker m + 1 the packets of mux m.
+-- Each promise is about what the worker knows by itself: what it did, in its order, and what a mux
+-- or a shard answered. What a worker did is a list of notes, over all logs.
 use Rattle.std.specs.Prelude.{◌≡◌, ℕ, zero, suc, ◌+◌, ◌-◌, ◌<◌, ◌≤◌, max, Bool, true, false, ◌&&◌}
 use Rattle.std.specs.Prelude.{◌==◌, nat_le, nat_lt}
 use Rattle.std.specs.Prelude.{if◌then◌else◌, ◌⊎◌, List, [], ◌∷◌, ◌++◌, length, slice_get, Option}
@@ -33,7 +33,7 @@ use Rattle.bm_merge.specs.Notes.{Note, NotedLog, events_of, plain, all_notes, to
 use Rattle.bm_merge.specs.Notes.{top_clock, is_earlier, mark_of, look_moment}
 use Rattle.bm_merge.specs.Notes.{size_of, switched_since, until, controlled, IsLookAfter}
 
--- what each note of the logs keeps, after the rest of its log
+-- P holds of each note of the logs, after the rest of its log
 abbrev pub AtNotes : (List Note → Note → Type 0) → List NotedLog → Type 0
 AtNotes P logs = AllByRecursion (λ l. AtEach P l.notes) logs
 
@@ -54,12 +54,12 @@ abbrev pub all_deeds : List (List Note) → List Note
 all_deeds [] = []
 all_deeds (d ∷ workers) = d ++ all_deeds workers
 
--- the actor in whose log a worker's event stands: its own, and for a Lose the worker's mux
+-- the actor in whose log a worker's event is: its own, and for a Lose the worker's mux
 abbrev pub home_of : Stage → ℕ → What → Option Actor
 home_of stage seat (Lose k hop) = Some (MuxOf (seat - 1))
 home_of stage seat what = actor_of stage what
 
--- the note stands in the actor's log
+-- the note is in the actor's log
 abbrev pub is_home : Stage → Actor → Note → Bool
 is_home stage a n = is_by (home_of stage n.seat n.event.what) a
 
@@ -73,7 +73,7 @@ abbrev pub seat_part : ℕ → List Note → List Note
 seat_part w [] = []
 seat_part w (n ∷ notes) = if n.seat == w then n ∷ seat_part w notes else seat_part w notes
 
--- the notes that stand in the actor's log
+-- the notes that are in the actor's log
 abbrev pub home_part : Stage → Actor → List Note → List Note
 home_part stage a [] = []
 home_part stage a (n ∷ notes) =
@@ -84,20 +84,20 @@ abbrev pub IsSeated : Stage → NotedLog → List (List Note) → Type 0
 IsSeated stage l workers =
     (w : ℕ) → seat_part w l.notes ≡ home_part stage l.actor (deeds_of workers w)
 
--- so are those of all logs
+-- the same for all logs
 abbrev pub AreSeated : Stage → List NotedLog → List (List Note) → Type 0
 AreSeated stage logs workers = AllByRecursion (λ l. IsSeated stage l workers) logs
 
--- each note in the logs is of one of so many workers
+-- each note in the logs is of one of this many workers
 abbrev pub HaveSeats : ℕ → List NotedLog → Type 0
 HaveSeats workers logs = AllByRecursion (λ l. AllByRecursion (λ n. n.seat < workers) l.notes) logs
 
--- there is a log for each thing that was done
+-- everything that was done has a log
 abbrev pub HaveHomes : Stage → List NotedLog → List Note → Type 0
 HaveHomes stage logs deeds =
     AllByRecursion (λ n. has_log (plain logs) (home_of stage n.seat n.event.what) ≡ true) deeds
 
--- MUXES AND SHARDS: what the actor of an event gives for it. A mux gives it by its look at the
+-- MUXES AND SHARDS: how the actor of an event determines it. A mux does so by its look at the
 -- board, a shard by the turn that the worker took there; own is the actor's last clock.
 
 -- the event is an arrival of a later packet
@@ -105,10 +105,11 @@ abbrev pub arrives_after : ℕ → What → Bool
 arrives_after k (Arrive packet hop server verdict) = nat_lt k packet
 arrives_after k _ = false
 
--- after the rest of its log, where the controller's whole log is control. A Switch and a Steer see
--- the controller's log up to their clock, and so the last Sync and the version's Publish that the
--- definition of a threaded run asks for. A shard's clock is the one after its last clock and the
--- moment that was handed in; each worker hands in its packets in their order.
+-- what the actor gives, after the rest of its log, where control is the controller's whole log. A
+-- Switch and a Steer see the controller's log up to their clock, and so the last Sync and the
+-- version's Publish that the definition of a threaded run asks for. A shard's clock is the one
+-- after its last clock and the moment that was passed to it; each worker passes its packets in
+-- order.
 abbrev pub IsGivenBy : Stage → List Event → List Note → ℕ → Note → What → Type 0
 IsGivenBy stage control rest own n (Switch m v) =
     IsLookAfter (until n.event.clock.0 control) (events_of rest) m v.0
@@ -126,12 +127,12 @@ IsGivenBy stage control rest own n (Retire server h at result) =
     n.event.clock.0 ≡ next_clock own at.0
 IsGivenBy stage control rest own n _ = Unit {0}
 
--- the same, where the controller's log is that of the logs
+-- the same, with the controller's log among these logs
 abbrev pub IsGiven : Stage → List Log → List Note → ℕ → Note → What → Type 0
 IsGiven stage logs rest own n what = IsGivenBy stage (named logs Controller) rest own n what
 
--- WORKER 0: the commands, one after the other. Its clock at a command is the greatest of those of
--- earlier commands, which it knows from its own deeds.
+-- WORKER 0: the commands, one after another. Its clock at a command is the greatest of those of
+-- earlier commands, which it knows from what it did itself.
 
 -- the note's command
 abbrev pub command_of : Stage → Note → Option Command
@@ -145,7 +146,7 @@ clock_before rest n = top_clock (is_earlier n.command) rest
 abbrev pub moment_before : Stage → List Note → Note → ℕ
 moment_before stage rest n = max (moment_at (command_of stage n)) (clock_before rest n)
 
--- the clock, or the moment, of a command's event after what worker 0 did before
+-- the clock, or the moment, of a command's event after what worker 0 did before it
 abbrev pub IsMeant : Stage → List Note → Note → What → Type 0
 IsMeant stage rest n (Publish v) =
     (u : ℕ) × (v.0 ≡ suc u)
@@ -179,7 +180,7 @@ pub record IsController (stage : Stage) (deeds : List Note) : Type 0 where
   pub complete : (i : ℕ) → i < length stage.script.commands
       → many (λ n. n.command == i) deeds
       ≡ size_of stage.script.setting.shards (slice_get stage.script.commands i)
-  -- so the events of each kind are those that the account asks for
+  -- the events of each kind are as many as the account asks for
   pub closes : (s : ServerId) (f : Flow)
       → many (λ n. closes_flow n.event.what s f) deeds
       ≡ count_of (λ c. wants_close c s f) stage.script.commands
@@ -191,7 +192,7 @@ pub record IsController (stage : Stage) (deeds : List Note) : Type 0 where
   pub syncs : many (λ n. is_sync n.event.what) deeds ≡ count_of wants_sync stage.script.commands
 
 -- WORKER m + 1: the packets of mux m. It steers a packet, draws its fate, and delivers its copies,
--- or loses it; likewise where a copy is forwarded. So it knows of each sending what became of it.
+-- or loses it; the same where a copy is forwarded. So it knows for each sending what became of it.
 
 -- the event is one of those of worker m + 1
 abbrev pub carries : ℕ → What → Bool
@@ -205,7 +206,7 @@ carries m _ = false
 abbrev pub is_due_at : ℕ → Hop → ℕ → Note → Bool
 is_due_at k hop due n = sends n.event.what k hop && due == n.event.clock.0 + n.fate.delay
 
--- an arrival is of a packet that the worker steered, and due by a sending of the worker
+-- an arrival is of a packet that the worker steered, and is due by a sending of the worker
 abbrev pub IsOwed : List Note → Note → What → Type 0
 IsOwed deeds n (Arrive k hop server verdict) =
     (1 ≤ many (λ y. steers_packet y.event.what k) deeds) × (1 ≤ many (is_due_at k hop n.due) deeds)
@@ -237,7 +238,7 @@ copies_in k hop n = if sends n.event.what k hop then n.fate.copies else 0
 abbrev pub IsDrawn : Rules → Note → Type 0
 IsDrawn F n = IfSome (sending_of n.event.what) (λ s. F s.packet s.hop n.fate)
 
--- and the route the mux
+-- and the route may give the mux
 abbrev pub IsAnswer : Routes → Rules → Stage → Note → Type 0
 IsAnswer R F stage n =
     IsRouted R stage n.event.what × IsDrawn F n
@@ -251,10 +252,10 @@ pub record IsCarrier (R : Routes) (F : Rules) (stage : Stage) (m : ℕ) (deeds :
   -- a sending without copies, and no other, has one Lose, at its clock plus one
   pub lost : (k : ℕ) (hop : Hop) (clock : ℕ)
       → many (is_lost k hop (suc clock)) deeds ≡ many (is_copyless k hop clock) deeds
-  -- up to each clock no more copies came than were sent at lower clocks
+  -- up to each clock at most as many copies arrived as were sent at lower clocks
   pub sent : (k : ℕ) (hop : Hop) (clock : ℕ)
       → many (has_come k hop clock) deeds ≤ total (copies_below k hop clock) deeds
-  -- and in the end all that were sent
+  -- and in the end as many arrived as were sent
   pub arrived : (k : ℕ) (hop : Hop)
       → many (λ n. arrives n.event.what k hop) deeds ≡ total (copies_in k hop) deeds
 
@@ -283,26 +284,26 @@ IsMet stage all rest n Sync =
     ≡ next_clock (top_clock (is_below n.event.clock.0) all) (moment_at (command_of stage n)))
 IsMet stage all rest n _ = Unit {0}
 
--- a packet's event comes after as many Syncs as its phase says
+-- a packet's event comes after as many Syncs as its phase requires
 abbrev pub IsInItsPhase : Stage → List Log → Note → Type 0
 IsInItsPhase stage logs n =
     IfSome (packet_of n.event.what)
     (λ k. counts (controlled logs n.event.clock.0) is_sync ≡ phase_of stage k)
 
--- the workers did all of the stage, and these are the logs of it
+-- the workers did all of the stage, and these are its logs
 pub record ArePromises (R : Routes) (F : Rules) (stage : Stage) (logs : List NotedLog)
     (controller : List Note) (carriers : List (List Note)) : Type 0 where
   pub agree : Agree stage (plain logs)
   -- each mux has a worker
   pub muxes : length carriers ≡ stage.script.setting.muxes
-  -- the logs have just what the workers did
+  -- the logs have exactly what the workers did
   pub seated : AreSeated stage logs (controller ∷ carriers)
   pub seats : HaveSeats (suc (length carriers)) logs
   pub homes : HaveHomes stage logs (all_deeds (controller ∷ carriers))
-  -- what each mux and each shard gives
+  -- what each mux and each shard determines
   pub given : AtNotes
       (λ rest n. IsGiven stage (plain logs) rest (own_before stage rest n) n n.event.what) logs
-  -- what each worker gives
+  -- what each worker did
   pub controls : IsController stage controller
   pub carried : (m : ℕ) → m < length carriers → IsCarrier R F stage m (deeds_of carriers m)
   -- each steerable record is steered once, by one of the workers, and no other is
@@ -317,14 +318,14 @@ pub record ArePromises (R : Routes) (F : Rules) (stage : Stage) (logs : List Not
   pub looked : (m : ℕ) → m < stage.script.setting.muxes
       → 1 ≤ many (looks_since m (sync_clock (named (plain logs) Controller))) (all_notes logs)
 
--- AT EVERY MOMENT: what holds before the end, and where a worker has given up
+-- AT EVERY MOMENT: what holds before the end, and when a worker has given up
 
--- 0, or a lower clock of these notes
+-- c is 0, or a lower clock of these notes
 abbrev pub IsBefore : List Note → ℕ → ℕ → Type 0
 IsBefore all clock c = (c ≡ 0) ⊎ ((c < clock) × (1 ≤ many (λ y. y.event.clock.0 == c) all))
 
--- where the clock of an event comes from, whose actor's last clock is own; worker 0 tells that of a
--- Publish
+-- where the clock of an event comes from; own is its actor's last clock. That of a Publish is part
+-- of what worker 0 did
 abbrev pub IsClocked : Stage → List Note → ℕ → Note → What → Type 0
 IsClocked stage all own n (Switch m v) =
     (post : ℕ) × (sync : ℕ) × IsBefore all n.event.clock.0 post × IsBefore all n.event.clock.0 sync
@@ -345,7 +346,7 @@ abbrev pub is_publish : What → Bool
 is_publish (Publish v) = true
 is_publish _ = false
 
--- a Publish at the clock after the last one's
+-- a Publish at the clock after that of the last one
 abbrev pub IsAdded : List Note → Note → What → Type 0
 IsAdded rest n what =
     (is_publish what ≡ true)
@@ -357,13 +358,13 @@ pub record IsUnderway (stage : Stage) (rest : List Note) (n : Note) : Type 0 whe
   pub kind : is_command n.event.what ≡ true
   pub meant : IsMeant stage rest n n.event.what ⊎ IsAdded rest n n.event.what
 
--- what worker m + 1 did, of which these are all
+-- what worker m + 1 did; deeds are all of it
 abbrev pub IsCarried : ℕ → List Note → Note → Type 0
 IsCarried m deeds n = (carries m n.event.what ≡ true) × IsOwed deeds n n.event.what
 
--- what the logs and the workers keep while they are underway. The changes that are published once a
--- worker has given up may stand below Syncs and below Retires that were judged without them, so
--- these logs need not agree.
+-- what holds of the logs and the workers while the run is in progress. The changes that are
+-- published once a worker has given up may be below Syncs, and below Retires that were judged
+-- without them, so these logs need not agree.
 pub record AreUnderway (F : Rules) (stage : Stage) (logs : List NotedLog) (controller : List Note)
     (carriers : List (List Note)) : Type 0 where
   pub sound : IsSound stage

@@ -1,4 +1,4 @@
-//! Logs whose clocks don't fall, merged by several threads.
+//! Logs whose clocks never decrease, merged by several threads.
 ghost use Rattle.std.specs.Prelude.{◌≡◌, ◌<◌, ◌≤◌, length, map, take, drop, IfOk, OnOk};
 ghost use Rattle.std.specs.Prelude.{vec_len};
 ghost use Rattle.std.specs.List.{AllByRecursion};
@@ -16,7 +16,7 @@ use std::thread::{Threads, join_mut};
 /// Fewer events than these aren't worth a thread.
 const LEAST: usize = 4096;
 
-/// An event in whose place another is put.
+/// Fills a place until its event is put there.
 const BLANK: Event = Event {
     clock: Moment(0),
     what: What::Sync,
@@ -37,9 +37,9 @@ impl<'a> EventLog for &'a [Event] {
 /// Logs that were cut in two at a clock.
 #[derive(Drop)]
 struct Halves<'a> {
-    /// Of each log the events below the clock.
+    /// Of each log, the events below the clock.
     low: Vec<&'a [Event]>,
-    /// Of each log the others.
+    /// Of each log, the other events.
     high: Vec<&'a [Event]>,
 }
 
@@ -68,7 +68,7 @@ fn cut<'a>(alloc: Global, logs: &[&'a [Event]], clock: u64) -> Result<Halves<'a>
     Ok(Halves { low, high })
 }
 
-/// A clock near the middle of the logs: that of the middle event of the longest.
+/// A clock near the middle of the logs: that of the middle event of the longest log.
 fn middle_clock(logs: &[&[Event]]) -> u64 {
     let mut most = 0;
     let mut clock = 0;
@@ -81,8 +81,8 @@ fn middle_clock(logs: &[&[Event]]) -> u64 {
     clock
 }
 
-/// Puts all events of the logs, by clock, in the places of `out`, of which there are as many. They
-/// are cut in halves so many times, and each part is put in its places by a thread of its own.
+/// Puts all events of the logs, by clock, in the places of `out`, which are as many. The logs are
+/// cut in halves this many times, and each part is put in its places by a thread of its own.
 #[cycle(halves)]
 fn fill_beside<R: Threads + Sync>(
     rt: &R,
@@ -105,7 +105,7 @@ fn fill_beside<R: Threads + Sync>(
     fill_halves(rt, alloc, halvings, low, high, front, back)
 }
 
-/// Puts the events of either half in their places, side by side.
+/// Puts the events of both halves in their places, in parallel.
 #[cycle(halves)]
 fn fill_halves<R: Threads + Sync>(
     rt: &R,
@@ -146,15 +146,15 @@ fn fill_halves<R: Threads + Sync>(
     second
 }
 
-/// Room for so many events to be merged in, whose memory is ready.
+/// Room for this many events to be merged into, with its memory.
 pub fn room_for(alloc: Global, count: usize) -> Result<Vec<Event>, Memory>
     ensures { IfOk result (λ room. vec_len room ≡ count) }
 {
     Ok(vec![in alloc; BLANK; count]?)
 }
 
-/// All events of the logs, whose clocks don't fall, by clock, as `merge_rising` gives them, but by
-/// several threads, at most so many. It is made for few logs. The room is best made for as many
+/// All events of the logs, whose clocks never decrease, by clock, as `merge_rising` gives them, but
+/// with several threads, at most `threads`. Meant for few logs. The room is best made for as many
 /// events as there are.
 pub fn merge_rising_beside<R: Threads + Sync>(
     rt: &R,

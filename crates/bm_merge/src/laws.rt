@@ -12,13 +12,14 @@ ghost use Rattle.bm_merge.specs.Workers.{ArePromises, AreUnderway};
 
 use bm_core::History;
 
-/// Logs that agree merge to a run.
+/// Logs that agree merge into a run.
 pub fn merges(h: &History)
     ensures { (logs : List Log)
         → Agree h.now.stage logs → h.now.events ≡ reverse (merged logs) → IsRun h.now }
 {}
 
-/// Logs whose workers keep their promises merge to a threaded run that is accounted for.
+/// Logs whose workers keep their promises merge into a threaded run with every packet, copy and
+/// command accounted for.
 pub fn threaded(h: &History)
     ensures { (mux : ℕ → Flow → ℕ) (fate : ℕ → Hop → Fate)
         (logs : List NotedLog) (controller : List Note) (carriers : List (List Note))
@@ -27,14 +28,14 @@ pub fn threaded(h: &History)
         → IsThreadedRun (RouteBy mux) (RuleBy fate) h.now }
 {}
 
-/// Where each clock comes from earlier ones by a short delay, no clock is large.
+/// If each clock follows earlier ones by a short delay, no clock is large.
 pub fn bounded(h: &History, place: usize)
     requires within { place < length h.now.events }
     requires paced { ArePaced (reverse h.now.events) }
     ensures { IfSome (event_at h.now place) (λ e. e.clock.0 ≤ highest (place + 1)) }
 {}
 
-/// So it is in logs that are underway, also where a worker has given up.
+/// The same holds for logs in progress, also if a worker has given up.
 pub fn underway(h: &History, place: usize)
     ensures { (fate : ℕ → Hop → Fate)
         (logs : List NotedLog) (controller : List Note) (carriers : List (List Note))

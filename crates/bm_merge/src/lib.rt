@@ -1,4 +1,4 @@
-//! The logs of a threaded run, put together.
+//! The logs of a threaded run, merged.
 #![tactic(auto)]
 
 mod beside;

@@ -1,4 +1,4 @@
-//! The logs of a threaded run, put together.
+//! The logs of a threaded run, merged.
 ghost use Rattle.std.specs.Prelude.{◌≡◌, ◌^◌, ◌-◌, IfOk, List, length, min, reverse};
 ghost use Rattle.bm_core.specs.Runs.{IsRun};
 ghost use Rattle.bm_merge.specs.Rising.{IsRising, in_order as by_order};
@@ -30,7 +30,7 @@ fn join(alloc: Global, logs: &[Log]) -> Result<Vec<Event>, Memory>
     Ok(events)
 }
 
-/// The events by clock, those of one clock in the order that they have.
+/// The events by clock; those of one clock keep their order.
 pub(crate) fn in_order(events: Vec<Event>) -> Result<Vec<Event>, Memory>
     ensures { IfOk result (λ v. v.items ≡ reverse (by_clock (reverse events.items))) }
 {
@@ -39,7 +39,7 @@ pub(crate) fn in_order(events: Vec<Event>) -> Result<Vec<Event>, Memory>
     Ok(events)
 }
 
-/// All events of the logs, by clock. Those of one clock stand in the order of the logs.
+/// All events of the logs, by clock. Those of one clock are in the order of the logs.
 pub fn join_in_order(alloc: Global, logs: &[Log]) -> Result<Vec<Event>, Memory>
     ensures order { IfOk result (λ events. events.items ≡ by_order (joined logs.now)) }
     ensures rising { IfOk result (λ events. IsRising events.items) }
@@ -47,9 +47,9 @@ pub fn join_in_order(alloc: Global, logs: &[Log]) -> Result<Vec<Event>, Memory>
     in_order(join(alloc, logs)?)
 }
 
-/// All events of the logs, by clock. Those of one clock stand in the order of the logs, which is
-/// the controller, the muxes, and the shards by server and shard. Where the logs agree, that is a
-/// run of the stage.
+/// All events of the logs, by clock. Those of one clock are in the order of the logs, which is the
+/// controller, the muxes, and the shards by server and shard. If the logs agree, this is a run of
+/// the stage.
 pub fn merge(alloc: Global, stage: Stage, logs: Vec<Log>) -> Result<History, Memory>
     ensures order { IfOk result (λ h. h.events ≡ reverse (by_clock (reverse (joined logs.items)))) }
     ensures stage { IfOk result (λ h. h.stage ≡ stage) }

@@ -1,4 +1,4 @@
-//! Logs whose clocks don't fall, merged event by event.
+//! Logs whose clocks never decrease, merged event by event.
 ghost use Rattle.std.specs.Prelude.{◌≡◌, ◌<◌, ◌^◌, ◌-◌, ◌++◌, ◌∷◌, List, length, map, min};
 ghost use Rattle.std.specs.Prelude.{slice_get};
 ghost use Rattle.std.specs.Prelude.{Some};
@@ -14,7 +14,8 @@ use bm_base::Memory;
 use bm_core::Event;
 use std::alloc::{AllocError, Global};
 
-/// Of more logs than these the events are sorted: to look at the next event of each takes longer.
+/// With more logs than these the events are sorted instead, as looking at the next event of each
+/// log would take longer.
 const MOST_HEADS: usize = 64;
 
 /// A log that is read event by event.
@@ -32,15 +33,15 @@ pub trait EventLog {
         ensures { slice_get (events self.now) place ≡ Some result };
 }
 
-/// The next event of a log: which log it is, the event, and the place behind it.
-#[derive(Clone, Copy, Debug, PartialEq, Eq)]
+/// The next event of a log: which log it is, the event, and the place after it.
+#[derive(Clone, Copy, PartialEq, Eq)]
 struct Head {
     log: usize,
     event: Event,
     behind: usize,
 }
 
-/// The event of the log at this place, where there is one.
+/// The event of the log at this place, if there is one.
 fn head_at<L: EventLog>(logs: &[L], log: usize, place: usize) -> Option<Head>
     requires { log < length logs.now }
     ensures { IsNextOf (map L.events logs.now) log place result }
@@ -75,7 +76,7 @@ fn first_heads<L: EventLog>(alloc: Global, logs: &[L]) -> Result<Vec<Head>, Allo
     Ok(heads)
 }
 
-/// The place of the head with the least clock, the first of these.
+/// The place of the head with the least clock, the first of several.
 fn earliest(heads: &[Head]) -> usize
     requires { 0 < length heads.now }
     ensures { IsEarliest heads.now result }
@@ -124,7 +125,7 @@ fn join_all<L: EventLog>(alloc: Global, logs: &[L]) -> Result<Vec<Event>, AllocE
     Ok(events)
 }
 
-/// Takes the event of the least clock, of which the log's next event takes the place.
+/// Takes the event with the least clock; the log's next event takes its place.
 fn take_next<L: EventLog>(logs: &[L], heads: &mut Vec<Head>) -> Event
     requires standing { AreStanding (map L.events logs.now) heads.old.items }
     requires some { 0 < length heads.old.items }
@@ -161,8 +162,8 @@ fn take_all<L: EventLog>(
     Ok(events)
 }
 
-/// Puts all events of the logs, whose clocks don't fall, by clock in the places of `out`, of which
-/// there are as many. Those of one clock stand in the order of the logs.
+/// Puts all events of the logs, whose clocks never decrease, by clock in the places of `out`, which
+/// are as many. Those of one clock are in the order of the logs.
 pub(crate) fn fill<L: EventLog>(
     alloc: Global,
     logs: &[L],
@@ -179,8 +180,8 @@ pub(crate) fn fill<L: EventLog>(
     Ok(())
 }
 
-/// All events of the logs, whose clocks don't fall, by clock. Those of one clock stand in the order
-/// of the logs.
+/// All events of the logs, whose clocks never decrease, by clock. Those of one clock are in the
+/// order of the logs.
 pub fn merge_rising<L: EventLog>(alloc: Global, logs: &[L]) -> Result<Vec<Event>, Memory>
     requires { AllByRecursion IsRising (map L.events logs.now) }
     ensures { IfOk result

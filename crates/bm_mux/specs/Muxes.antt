@@ -22,14 +22,14 @@ pub record MuxState : Type 0 where
   pub seen : Posted
   pub log : List Event
 
--- in each version the server of each bucket has the number of a server
+-- in each version the server of each bucket has a valid number
 abbrev pub HasServers : Planned → Type 0
 HasServers plan =
     (v b : ℕ) → v ≤ length plan.changes → b < plan.buckets → IsServer (table plan v b).cur
 
 -- the item's moment and octets are within their limits
 abbrev pub IsItem : MuxItem → Type 0
-IsItem i = (i.moment.0 ≤ 44 * 10 ^ 17) × (length i.inner.now ≤ 65491)
+IsItem i = (i.moment.0 ≤ 44 * 10 ^ 17) × (length i.inner.now ≤ 65479)
 
 -- THE LOG
 
@@ -40,25 +40,25 @@ IsOwn m (Steer k x) = x ≡ m
 IsOwn m (Lose k hop) = Unit {0}
 IsOwn m _ = ⊥
 
--- the clock of the post of this version: 0 of version 0
+-- the clock of the post of this version; 0 for version 0
 abbrev pub post_clock : List ℕ → ℕ → Option ℕ
 post_clock clocks zero = Some 0
 post_clock clocks (suc v) = slice_get clocks v
 
--- a Switch names version 0 or one of these posts, which has a lower clock
+-- a Switch is to version 0 or to that of one of these posts, which has a lower clock
 abbrev pub IsShown : List ℕ → ℕ → What → Type 0
 IsShown clocks clock (Switch m v) =
     (post : ℕ) × (post_clock clocks v.0 ≡ Some post) × (post < clock)
 IsShown clocks clock _ = Unit {0}
 
--- the events may stand in the log of a mux that was shown these posts
+-- the events may be in the log of a mux that was shown these posts
 abbrev pub AreShown : MuxId → List ℕ → List Event → Type 0
 AreShown m clocks log = AllByRecursion (λ e. IsOwn m e.what × IsShown clocks e.clock.0 e.what) log
 
 -- the log of a mux that heard these posts, and then looked
 pub record IsLogOf (mux : MuxState) (told : Posted) (log : List Event) : Type 0 where
   pub log_is : log ≡ mux.log
-  -- what it was shown at last
+  -- what it was shown last
   pub seen : Posted
   pub posted : IsPosted seen
   pub later : Continues mux.seen seen
@@ -67,7 +67,7 @@ pub record IsLogOf (mux : MuxState) (told : Posted) (log : List Event) : Type 0 
 
 -- CALLS
 
--- the mux with one event more in its log
+-- the mux with one more event in its log
 abbrev pub with_event : MuxState → Event → MuxState
 with_event mux e = record mux { log = mux.log ++ e ∷ [] }
 

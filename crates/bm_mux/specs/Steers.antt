@@ -1,5 +1,5 @@
--- What a mux writes down and sends under one table (docs/DEFINITIONS.md). A past has its newest
--- event first.
+-- What a mux records and sends under one table (docs/DEFINITIONS.md). A past has its newest event
+-- first.
 use Rattle.std.specs.Prelude.{ℕ, Bool, true, false, if◌then◌else◌, nat_lt, List, [], ◌∷◌, ◌++◌}
 use Rattle.bm_base.specs.declared.flow.Segment.{Segment}
 use Rattle.bm_base.specs.declared.ids.MuxId.{MuxId}
@@ -36,14 +36,14 @@ abbrev pub switch_to : MuxId → Posted → List Event → ℕ → Event
 switch_to m seen past cause =
     at_clock (next_clock (steering_clock past) cause) (Switch m (record { 0 = last_version seen }))
 
--- the same, where that version is newer than the mux's
+-- the same, if that version is newer than the mux's
 abbrev pub switches : MuxId → Posted → List Event → List Event
 switches m seen past =
     if nat_lt (version_at past m).0 (last_version seen)
     then switch_to m seen past (last_post seen) ∷ []
     else []
 
--- the clock from which the Steers then go on
+-- the mux's clock before the Steers
 abbrev pub clock_under : MuxId → Posted → List Event → ℕ
 clock_under m seen past = steering_clock (switches m seen past ++ past)
 
@@ -57,7 +57,7 @@ steers m last [] = []
 steers m last (i ∷ items) =
     at_clock (steer_clock last i) (Steer i.packet m) ∷ steers m (steer_clock last i) items
 
--- what the mux writes on a packet of the segment, by the table to which the posts lead
+-- the mux's label for a packet of the segment, by the table to which the posts lead
 abbrev pub label_by : MuxId → Posted → Segment → Label
 label_by m seen s = record {
   mux = m;
@@ -65,7 +65,7 @@ label_by m seen s = record {
   entry = table seen.plan (last_version seen) (bucket_of seen.plan.buckets s.flow);
 }
 
--- the tag of its direct copy
+-- the tag of the packet's direct copy
 abbrev pub tag_by : MuxId → Posted → Segment → Tag
 tag_by m seen s = tag_for (label_by m seen s) Direct (label_by m seen s).entry.cur
 

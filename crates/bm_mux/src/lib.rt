@@ -1,4 +1,4 @@
-//! The muxes: each keeps a log and writes on packets what its table says.
+//! The muxes: each keeps a log and labels packets by its table.
 #![tactic(auto)]
 
 mod item;

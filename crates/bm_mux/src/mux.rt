@@ -19,7 +19,7 @@ use std::marker::Model;
 /// A mux. Contracts see its number, the posts that its look has seen or heard of, and its log.
 #[derive(Drop)]
 pub struct Mux {
-    /// None only while a call looks.
+    /// None only while a call is looking.
     look: Option<Look>,
     notes: Notes,
 }
@@ -42,7 +42,7 @@ impl Model for Mux {
 }
 
 impl Mux {
-    /// A mux with an empty log, of the plan that the look shows. Takes no memory.
+    /// A mux with an empty log, for the plan that the look shows. Takes no memory.
     pub fn new(alloc: Global, id: MuxId, look: Look, buckets: u32) -> Mux
         requires mux { id.0 < 64 }
         requires buckets { buckets ≡ look.plan.buckets }
@@ -63,8 +63,8 @@ impl Mux {
     }
 
     /// Hears what was told, looks, and logs one Switch to the version that it sees, with a clock
-    /// above `after`, that of its last Switch or Steer and that of the last post. `Memory` where
-    /// memory or the look was refused; then it has heard, and the log is as it was.
+    /// above `after`, above that of its last Switch or Steer, and above that of the last post.
+    /// `Memory` where memory or the look was refused; then it has heard, and the log is as it was.
     pub fn begin(&mut self, told: Told, after: Moment) -> Result<(), Memory>
         requires board { told.board ≡ self.old.seen.board }
         requires after { after.0 ≤ 9 * 10 ^ 18 }
@@ -81,8 +81,8 @@ impl Mux {
         done
     }
 
-    /// Steers the items under one look: a Switch where the version is newer than the mux's, then a
-    /// Steer of each item in order, and what is sent for each behind `out`. `Memory` where memory
+    /// Steers the items under one look: a Switch if the version is newer than the mux's, then a
+    /// Steer of each item in order. What is sent for each is added to `out`. `Memory` where memory
     /// or the look was refused; then the log and `out` are as they were.
     pub fn batch(&mut self, items: &[MuxItem<'_>], out: &mut Vec<Steered>) -> Result<(), Memory>
         requires room { length self.old.log < 2 ^ 48 }
@@ -122,9 +122,9 @@ impl Mux {
         self.notes.clock
     }
 
-    /// The log, after the mux heard what was told and looked once more. Each Switch of the log
-    /// names version 0 or a post that the mux was shown, with a lower clock. `Memory` where the
-    /// look was refused.
+    /// The log, after the mux heard what was told and looked once more. Each Switch of the log is
+    /// to version 0 or to the version of a post that the mux was shown, which has a lower clock.
+    /// `Memory` where the look was refused.
     pub fn into_log(self, told: Told) -> Result<Log, Memory>
         requires { told.board ≡ self.seen.board }
         ensures { IfOk result (IsLogOf self told) }
@@ -137,7 +137,6 @@ impl Mux {
     }
 }
 
-/// The look hears what was told.
 fn hear(look: &mut Option<Look>, told: Told)
     requires some { IsSome look.old }
     requires board { told.board ≡ (seen_by look.old).board }
@@ -149,7 +148,7 @@ fn hear(look: &mut Option<Look>, told: Told)
     look.hear(told);
 }
 
-/// The look is taken, and looks. Where it is refused it is put back.
+/// Takes the look, and looks. If that is refused the look is put back.
 fn enter(look: &mut Option<Look>) -> Result<Guard, Memory>
     requires { IsSome look.old }
     ensures ok { IfOk result (Continues (seen_by look.old)) }

@@ -1,4 +1,4 @@
-//! What a mux writes down.
+//! What a mux records.
 ghost use Rattle.std.specs.Prelude.{◌≡◌, ◌+◌, ◌*◌, ◌^◌, ◌<◌, ◌≤◌, [], ◌∷◌, ◌++◌, All, IfOk};
 ghost use Rattle.std.specs.Prelude.{OnErr, OnOk, length, reverse};
 ghost use mathlib.Core.List.{IsPrefix};
@@ -53,7 +53,7 @@ impl Notes {
         Ok(())
     }
 
-    /// Logs a Switch where the guard's version is newer.
+    /// Logs a Switch, if the guard's version is newer.
     fn catch_up(&mut self, guard: &Guard) -> Result<(), Memory>
         requires kept { AreKept self.old guard.now }
         requires room { length self.old.log.items < 2 ^ 48 }
@@ -85,7 +85,7 @@ impl Notes {
         tag_of(&label, Hop::Direct)
     }
 
-    /// Logs a Steer of the item, and gives what is sent.
+    /// Logs a Steer of the item, and returns what is sent.
     fn steer(&mut self, guard: &Guard, item: &MuxItem<'_>) -> Result<Steered, Memory>
         requires kept { AreKept self.old guard.now }
         requires room { length self.old.log.items < 2 ^ 48 + 257 }
@@ -115,7 +115,7 @@ impl Notes {
         })
     }
 
-    /// Steers the items in order. Where memory is refused the first of them stand in the log.
+    /// Steers the items in order. Where memory is refused the first of them are in the log.
     fn steer_all(
         &mut self,
         guard: &Guard,
@@ -141,7 +141,7 @@ impl Notes {
         Ok(())
     }
 
-    /// Makes room for a batch of so many items.
+    /// Makes room for a batch of this many items.
     pub(crate) fn reserve(&mut self, items: usize, out: &mut Vec<Steered>) -> Result<(), Memory>
         requires { items ≤ 256 }
         ensures same { IsSameVersion self.old self.new × (self.new.clock ≡ self.old.clock) }
@@ -153,7 +153,7 @@ impl Notes {
         Ok(())
     }
 
-    /// Logs a Switch where the guard's version is newer, and steers the items. Where memory is
+    /// Logs a Switch, if the guard's version is newer, and steers the items. Where memory is
     /// refused the log and `out` are as they were.
     pub(crate) fn batch(
         &mut self,

@@ -1,4 +1,4 @@
--- The logs of authors, while the events are parted and behind the last one.
+-- The logs of authors, while the events are being split and after the last one.
 use Rattle.std.proofs.Common.{◌≡◌, Bool, true, false, List, [], ◌∷◌, ◌++◌, map, reverse, Option, Some, None}
 use Rattle.std.proofs.Common.{if◌then◌else◌, option_map, unwrap_or, is_some, sym, ap, subst, ◌∙◌, refl, ◌≢◌}
 use Rattle.std.specs.List.{AllByRecursion}

@@ -9,7 +9,7 @@ use Rattle.bm_base.specs.contracts.label.HopPartialEq.TheImpl as hop_eq
 use Rattle.bm_base.specs.contracts.receive.TakenPartialEq.TheImpl as taken_eq
 use Rattle.bm_base.specs.declared.flow.Flow.{Flow}
 use Rattle.bm_base.specs.declared.label.Hop.{Hop}
-use Rattle.bm_base.specs.declared.label.Hop.TheVariants.{Direct, Chained}
+use Rattle.bm_base.specs.declared.label.Hop.TheVariants.{Direct, Chained, Twice}
 use Rattle.bm_base.specs.declared.receive.Taken.{Taken}
 use Rattle.bm_base.specs.declared.receive.Taken.TheVariants.{Advance, Duplicate, Ahead, Outside}
 use Rattle.bm_base.specs.declared.receive.Taken.TheVariants.{Challenge, Ended}
@@ -35,6 +35,7 @@ use Rattle.bm_table.specs.declared.plan.Retirement.TheVariants.{Done, NotDrained
 hop_same : (a b : Hop) → (hop_eq.ghosts).eq a b ≡ true → a ≡ b
 hop_same Direct Direct h = refl
 hop_same Chained Chained h = refl
+hop_same Twice Twice h = refl
 hop_same _ _ h = absurd (cc)
 
 taken_same : (a b : Taken) → (taken_eq.ghosts).eq a b ≡ true → a ≡ b

@@ -1,4 +1,4 @@
--- The parts of a history: what each actor wrote down. A past has its newest event first.
+-- The parts of a history: what each actor recorded. A past has its newest event first.
 use Rattle.std.specs.Prelude.{◌≡◌, ◌≢◌, ◌<◌, ◌⊎◌, Bool, false, ◌||◌, if◌then◌else◌, List, [], ◌∷◌}
 use Rattle.std.specs.Prelude.{map}
 use Rattle.std.specs.Prelude.{reverse, unwrap_or}
@@ -8,13 +8,13 @@ use Rattle.bm_core.specs.declared.events.Stage.{Stage}
 use Rattle.bm_core.specs.Runs.{Actor, actor_of, same_actor}
 use Rattle.bm_core.specs.Runs.Actor.{Controller, MuxOf, ShardOf}
 
--- Who wrote the newest of these events down: its actor, and of a loss, which has none, who wrote
--- the event before it down, which in a replay is its sending.
+-- Who recorded the newest of these events: its actor; for a loss, which has none, whoever recorded
+-- the event before it, which in a replay is its sending.
 abbrev pub writer : Stage → List Event → Actor
 writer stage [] = Controller
 writer stage (e ∷ past) = unwrap_or (actor_of stage e.what) (writer stage past)
 
--- the events that this actor wrote down
+-- the events that this actor recorded
 abbrev pub written_by : Stage → Actor → List Event → List Event
 written_by stage a [] = []
 written_by stage a (e ∷ past) =
@@ -41,15 +41,15 @@ abbrev pub is_among : List Actor → Actor → Bool
 is_among [] a = false
 is_among (b ∷ actors) a = same_actor b a || is_among actors a
 
--- the events, with the oldest first, were parted into these logs
+-- the events, with the oldest first, were split into these logs
 pub record ArePartsOf (stage : Stage) (events : List Event) (logs : List (List Event))
     : Type 0 where
-  -- whose they are
+  -- the actors of the logs
   pub actors : List Actor
   pub order : AreInOrder actors
-  -- each has just what its actor wrote down, the oldest event first
+  -- each log has exactly what its actor recorded, the oldest event first
   pub each : logs ≡ map (λ a. reverse (written_by stage a (reverse events))) actors
-  -- each of them wrote something down
+  -- each of them recorded something
   pub some : AllByRecursion (λ a. written_by stage a (reverse events) ≢ []) actors
-  -- who isn't among them wrote nothing down
+  -- no other actor recorded anything
   pub all : (a : Actor) → is_among actors a ≡ false → written_by stage a (reverse events) ≡ []

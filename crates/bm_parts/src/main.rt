@@ -1,6 +1,6 @@
-//! Replays a capture through the servers of a script, parts the events of the history into the logs
-//! of the controller, the muxes and the shards, and merges these logs. Where they merge to the same
-//! events, it prints their report, which is that of `beamer replay` (tests/parted compares the
+//! Replays a capture through the servers of a script, splits the events of the history into the
+//! logs of the controller, the muxes and the shards, and merges these logs. If they merge into the
+//! same events, it prints their report, which is that of `beamer replay` (tests/parted compares the
 //! two). Status 3 says that they don't.
 //!
 //! usage: bm_parts CAPTURE SCRIPT
@@ -25,7 +25,7 @@ use std::alloc::Global;
 use std::env;
 use std::process::ExitCode;
 
-/// The names of a capture and a script, where the words are just these.
+/// The names of a capture and a script, if the words are exactly these.
 fn read_words(rt: &HostRuntime) -> Option<(String, String)> {
     let mut words = env::args(rt).ok()?.skip(1);
     let names = (words.next()?, words.next()?);
@@ -35,7 +35,7 @@ fn read_words(rt: &HostRuntime) -> Option<(String, String)> {
     }
 }
 
-/// The report of the history, where its parted logs merge to its events again.
+/// The report of the history, if the logs into which it splits merge into its events again.
 fn merged_report(alloc: Global, history: History) -> Result<Option<Vec<u8>>, Memory>
     requires { IsRun history }
     ensures text { IfOk result (λ some. IfSome some (λ text. text.items ≡ told.text history)) }

@@ -13,15 +13,15 @@ use bm_hash::shard_of;
 use std::alloc::Global;
 use std::collections::BTreeMap;
 
-/// Who writes an event down. In this order their logs are merged.
-#[derive(Clone, Copy, Debug, PartialEq, Eq, PartialOrd, Ord, Drop)]
+/// Who records an event. The logs are merged in this order.
+#[derive(Clone, Copy, PartialEq, Eq, PartialOrd, Ord, Drop)]
 pub(crate) enum Author {
     Controller,
     Mux(u16),
     Shard(u16, u16),
 }
 
-/// Who writes the event down; nobody is the actor of a loss.
+/// Who records the event; a loss has no actor.
 fn author_of(stage: &Stage, what: What) -> Option<Author>
     requires { IsWithin 1 64 stage.now.script.setting.shards }
     ensures { option_map actor result ≡ actor_of stage.now what }
@@ -40,7 +40,7 @@ fn author_of(stage: &Stage, what: What) -> Option<Author>
     }
 }
 
-/// The log of each author who wrote something down.
+/// The log of each author that recorded something.
 #[derive(Drop)]
 struct Logs {
     logs: BTreeMap<Author, Vec<Event>>,
@@ -57,7 +57,7 @@ impl Logs {
         }
     }
 
-    /// Adds the event to the log of its author, which is begun where there is none.
+    /// Adds the event to the log of its author, which is created if there is none.
     fn note(&mut self, alloc: Global, author: Author, event: Event) -> Result<(), Memory>
         ensures { OnOk result ((q : Author) → log self.new q
             ≡ noted author event q (log self.old q)) }
@@ -81,8 +81,8 @@ impl Logs {
     }
 }
 
-/// The events, parted by who writes them down. A loss stands in the log of the event before it,
-/// which in a replay is its sending.
+/// The events, split by who records them. A loss is in the log of the event before it, which in a
+/// replay is its sending.
 #[tactic(auto, using(crate::proofs::Noting::writes, crate::proofs::Noting::noted_more))]
 pub fn part(alloc: Global, stage: &Stage, events: &[Event]) -> Result<Vec<Log>, Memory>
     requires { IsSound stage.now }

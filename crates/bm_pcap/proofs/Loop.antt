@@ -56,7 +56,7 @@ pub stands_ahead : (now : Option (List ℕ)) (ahead : List ℕ) (form : Form) (o
 stands_ahead now ahead form octets none stands =
     (stands.0, ap₂ (λ (x : List ℕ) (y : Option (List ℕ)). prepend_known x y) none stands.1)
 
--- one step of the definition, whatever comes behind it
+-- one step of the definition, whatever follows
 any_step : (form : Form) (vips : List Vip) (most : ℕ) (place : Place) (left : List ℕ)
     → (others : Place → List ℕ → Captured)
     × (records_from form vips most place left ≡ after_found form vips others place left (next_of form place left))
@@ -270,8 +270,8 @@ wants_memory result e is memory not = let wrong : fault.Memory ≡ fault.ReadFau
 pub first_number : (place : Place) → place ≡ first_place → place.number ≡ 1
 first_number place is = ap (λ (p : Place). p.number) is
 
--- Where so many octets of a capture are answered, the source has those behind what is held: what was taken from
--- it and is not answered is what is held.
+-- Once this many octets of a capture are consumed, the source has left what comes after the octets held: what was taken
+-- from it and isn't consumed is what is held.
 pub taken : (left : Option (List ℕ)) (ahead octets : List ℕ) (answered : ℕ)
     → prepend_known ahead left ≡ Some (drop answered octets) → left ≡ Some (drop (answered + length ahead) octets)
 taken None ahead octets answered is = absurd (cc)

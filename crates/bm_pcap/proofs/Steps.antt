@@ -65,7 +65,7 @@ known : (octets : List ℕ) (new : Option (List ℕ)) → Keeps (Some octets) ne
 known octets None keeps = absurd keeps
 known octets (Some same) keeps = ap (λ z. Some z) keeps
 
--- behind the last record that is allowed
+-- after the last record that is allowed
 
 pub past_more : (old : Option (List ℕ)) (form : Form) (place : Place) (n : ℕ) (ahead : List ℕ)
     → most_records < place.number → Ahead old 1 n ahead → 0 < n → HeadGives old form place (Err TooManyPackets)

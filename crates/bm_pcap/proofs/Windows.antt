@@ -1,4 +1,4 @@
--- The octets of a window, behind a read at its end or a step of its start.
+-- The octets of a window, after a read at its end or a step of its start.
 use Rattle.std.proofs.Common.{◌≡◌, ℕ, ◌+◌, ◌-◌, ◌≤◌, List, ◌++◌, length, take, drop, slice_range, Option, Some, None}
 use Rattle.std.proofs.Common.{refl, sym, ap, ap₂, ◌∙◌, arith, append_assoc, length-append, length-drop}
 use Rattle.std.proofs.lemmas.List.{append-nil, take_all, take-take, take_at, drop_at, take-append-le, drop-append-le}
@@ -96,7 +96,7 @@ pub front_held : (xs : List ℕ) (start end size : ℕ) → start ≡ 0 → end 
 front_held xs start end size zero within is =
     omega (arith, zero, within, length_range xs start end (omega (arith, within, is)))
 
--- More of a list behind more of it.
+-- A beginning of a beginning is a beginning.
 pub front_trans : (xs ys zs : List ℕ) → take (length xs) ys ≡ xs → take (length ys) zs ≡ ys → take (length xs) zs ≡ xs
 front_trans xs ys zs h k =
     let less : length xs ≤ length ys = omega (arith, ap length h, length-take (length xs) ys) in

@@ -5,14 +5,14 @@ use Rattle.bm_pcap.specs.declared.form.Form.{Form}
 use Rattle.bm_pcap.specs.Header.{form_of}
 use Rattle.bm_pcap.specs.Records.{Found, whole, cut, end, next_of, first_place}
 
--- the captured time of a whole record, and 0 elsewhere
+-- the captured time of a whole record, 0 otherwise
 abbrev pub time_in : Result Found PcapFault → ℕ
 time_in (Ok (whole time octets)) = time
 time_in (Ok cut) = 0
 time_in (Ok end) = 0
 time_in (Err e) = 0
 
--- record 1 stands behind the header
+-- the captured time of record 1, which comes after the header
 abbrev pub first_time : List ℕ → Result Form PcapFault → ℕ
 first_time left (Ok form) = time_in (next_of form first_place left)
 first_time left (Err e) = 0

@@ -22,17 +22,17 @@ CapturedOr E = Result (Capture × List (List ℕ)) E
 abbrev pub Captured : Type 0
 Captured = CapturedOr PcapFault
 
--- no record more
+-- no more records
 abbrev pub ends : {E : Type 0} → Option ℕ → CapturedOr E
 ends cut_record = Ok (record { records = []; cut = cut_record }, [])
 
--- one record more before the others
+-- a record before the others
 abbrev pub with_record : {E : Type 0} → Record → List ℕ → CapturedOr E → CapturedOr E
 with_record one packet (Ok others) =
     Ok (record { records = one ∷ others.0.records; cut = others.0.cut }, packet ∷ others.1)
 with_record one packet (Err e) = Err e
 
--- what was found at a place, before the records behind it
+-- what was found at a place, followed by the records after it
 abbrev pub after_found : Form → List Vip → (Place → List ℕ → Captured) → Place → List ℕ
     → Result Found PcapFault → Captured
 after_found form vips others place left (Ok (whole time octets)) =
@@ -44,7 +44,7 @@ after_found form vips others place left (Ok cut) = ends (Some place.number)
 after_found form vips others place left (Ok end) = ends None
 after_found form vips others place left (Err e) = Err e
 
--- the records from a place on, of which at most so many are left to come
+-- the records from a place on, where at most this many may follow the next one
 unfoldable pub records_from : Form → List Vip → ℕ → Place → List ℕ → Captured
 records_from form vips zero place left =
     after_found form vips (λ _ _. Err TooManyPackets) place left (next_of form place left)

@@ -6,7 +6,7 @@ use Rattle.bm_pcap.specs.declared.fault.PcapFault.TheVariants.{NotACapture, BadV
 use Rattle.bm_pcap.specs.declared.fault.PcapFault.TheVariants.{ReadFault, TooLarge, BadLength}
 use Rattle.bm_pcap.specs.declared.fault.PcapFault.TheVariants.{TooManyPackets, Memory}
 
--- The count rises where `ReadFault` is answered, and stays elsewhere.
+-- The count rises if `ReadFault` is returned, and stays the same otherwise.
 pub record HasStepCause {T : Type 0} (before now : ℕ) (result : Result T PcapFault) : Type 0 where
   pub later : before ≤ now
   pub failed : IsErrOf result ReadFault → Rose before now
@@ -23,7 +23,7 @@ IsHeaderFault TooLarge = ⊥
 IsHeaderFault (BadLength number n) = ⊥
 IsHeaderFault TooManyPackets = ⊥
 
--- the faults of a capture's records, none of which takes memory
+-- the faults of a capture's records; reading these takes no memory
 abbrev pub IsRecordFault : PcapFault → Type 0
 IsRecordFault ReadFault = Unit {0}
 IsRecordFault TooLarge = Unit {0}
@@ -34,7 +34,7 @@ IsRecordFault NotACapture = ⊥
 IsRecordFault BadVersion = ⊥
 IsRecordFault (BadLink link) = ⊥
 
--- what the reading of all records may end with: one of these, or want of memory
+-- the faults of reading all records: one of these, or `Memory`
 abbrev pub IsCaptureFault : PcapFault → Type 0
 IsCaptureFault Memory = Unit {0}
 IsCaptureFault e = IsRecordFault e

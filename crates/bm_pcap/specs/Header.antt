@@ -11,7 +11,7 @@ use Rattle.bm_pcap.specs.declared.form.Order.TheVariants.{Big, Little}
 use Rattle.bm_pcap.specs.declared.form.Unit.{Unit as Unit_of_time}
 use Rattle.bm_pcap.specs.declared.form.Unit.TheVariants.{Microsecond, Nanosecond}
 
--- the number in so many octets from this place on, in an order
+-- the number in `size` octets from this place on, in this order
 unfoldable pub number_at : Order → ℕ → ℕ → List ℕ → ℕ
 number_at Big size at octets = big_number size (drop at octets)
 number_at Little size at octets = little_number size (drop at octets)
@@ -20,8 +20,8 @@ abbrev pub nanoseconds_in : Unit_of_time → ℕ
 nanoseconds_in Microsecond = 1000
 nanoseconds_in Nanosecond = 1
 
--- The magic number, octets 0 to 3, tells the order, and the unit of fractions of a second. Read big
--- endian, it stands the other way round where the order is little endian.
+-- The magic number, octets 0 to 3, gives the order, and the unit of fractions of a second. It is
+-- read big endian here, so it is reversed where the order is little endian.
 abbrev pub magic_of : List ℕ → Option (Order × Unit_of_time)
 magic_of octets =
     if number_at Big 4 0 octets == 0xa1b2c3d4 then Some (Big, Microsecond)
@@ -38,7 +38,7 @@ is_version order octets = number_at order 2 4 octets == 2 && number_at order 2 6
 abbrev pub link_of : Order → List ℕ → ℕ
 link_of order octets = number_at order 4 20 octets % 2 ^ 16
 
--- the rest of the header, behind the magic number
+-- the rest of the header, after the magic number
 abbrev pub form_by : Option (Order × Unit_of_time) → List ℕ → Result Form PcapFault
 form_by None header = Err NotACapture
 form_by (Some magic) header =

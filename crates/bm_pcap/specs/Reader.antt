@@ -21,9 +21,9 @@ use Rattle.bm_pcap.specs.Records.{Found, IsOpen, whole, cut, end, next_of, first
 use Rattle.bm_pcap.specs.Records.{behind_record}
 use Rattle.bm_pcap.specs.Taken.{FormLeaves}
 
--- What a reader is: the source behind what was read ahead, what the capture's header says, the
--- place behind what was answered, the octets that were read ahead, those before them that the
--- buffer still has, and the answer that it gives from now on, if it has ended.
+-- A reader: the source after what was read ahead, what the capture's header says, the place after
+-- what was consumed, the octets that were read ahead, those before them that the buffer still has,
+-- and what it returns from now on, if it has ended.
 pub record Reader (S : Type 0) : Type 0 where
   pub source : S
   pub form : Form
@@ -32,12 +32,12 @@ pub record Reader (S : Type 0) : Type 0 where
   pub passed : List ℕ
   pub ended : Option (Result Step PcapFault)
 
--- The octets that are not answered yet, where the source tells its octets: those that were read
+-- The octets that aren't consumed yet, if the source's octets are known: those that were read
 -- ahead, and then those that the source has left.
 abbrev pub to_come : {S : Type 0} → (S → Option (List ℕ)) → Reader S → Option (List ℕ)
 to_come left reader = prepend_known reader.held (left reader.source)
 
--- what was taken from the source and is not answered yet
+-- what was read ahead and isn't consumed yet is bounded
 abbrev pub IsBounded : {S : Type 0} → Reader S → Type 0
 IsBounded reader = length reader.held ≤ widest
 
@@ -45,39 +45,38 @@ IsBounded reader = length reader.held ≤ widest
 abbrev pub IsFresh : {S : Type 0} → Reader S → Type 0
 IsFresh reader = (reader.place ≡ first_place) × (reader.ended ≡ None) × (reader.held ≡ [])
 
--- What was answered is a reader of what the header says, or the header's first fault. The source
--- comes back with a fault.
+-- The result is a reader of what the header says, or the header's first fault with the source.
 abbrev pub Starts : {S : Type 0} → (S → Option (List ℕ)) → S → Result (Reader S) (S × PcapFault)
     → Type 0
 Starts left old (Ok reader) = FormGives (left old) (left reader.source) (Ok reader.form)
 Starts left old (Err refused) = FormGives (left old) (left refused.0) (Err refused.1)
 
--- Behind the header, or its fault, the source has the rest left.
+-- After the header, or its fault, the source has the rest left.
 abbrev pub StartLeaves : {S : Type 0} → (S → Option (List ℕ)) → S
     → Result (Reader S) (S × PcapFault) → Type 0
 StartLeaves left old (Ok reader) = FormLeaves (left old) (left reader.source) (Ok reader.form)
 StartLeaves left old (Err refused) = FormLeaves (left old) (left refused.0) (Err refused.1)
 
--- the count rises where `ReadFault` is answered, and stays elsewhere
+-- the count rises if `ReadFault` is returned, and stays the same otherwise
 abbrev pub StartsWithCause : {S : Type 0} → (S → ℕ) → S → Result (Reader S) (S × PcapFault) → Type 0
 StartsWithCause {S} faults old (Ok reader) = faults reader.source ≡ faults old
 StartsWithCause {S} faults old (Err refused) =
     HasStepCause {T = Reader S} (faults old) (faults refused.0) (Err refused.1)
 
--- what the code's answer stands for; a record's octets are the last that were answered
+-- what a step means; a record's octets are the last that were consumed
 abbrev pub found_in : Step → List ℕ → Found
 found_in (step.Record time len) passed = whole time (drop (length passed - len) passed)
 found_in step.Cut passed = cut
 found_in step.End passed = end
 
--- A record answers its header and its octets, the rest answers none.
+-- How many octets a step consumes: a record's header and its octets, and otherwise none.
 abbrev pub step_taken : Step → ℕ
 step_taken (step.Record time len) = 16 + len
 step_taken step.Cut = 0
 step_taken step.End = 0
 
--- What was answered is what stands next, and what is behind it is still to come. Of a failed read
--- no more is said than that nothing is lost, and nothing where the source doesn't tell its octets.
+-- What was returned is what comes next, and what follows it is still to come. After a failed read
+-- nothing is lost. If the source's octets aren't known, nothing is said.
 abbrev pub StepGives : Option (List ℕ) → Option (List ℕ) → Form → Place → Result Step PcapFault
     → List ℕ → Type 0
 StepGives None new form place result passed = Unit {0}
@@ -89,12 +88,12 @@ StepGives (Some octets) new form place (Err Memory) passed = Unit {0}
 StepGives (Some octets) new form place (Err e) passed =
     (next_of form place octets ≡ Err e) × (new ≡ Some octets)
 
--- A read failed only where what is held doesn't tell what stands next: a record that is whole, and
--- a fault of the capture, are answered before it.
+-- A read fails only if the octets that are held don't decide what comes next: a whole record, or a
+-- fault of the capture, is returned first.
 abbrev pub FailsOpen : Form → Place → Result Step PcapFault → List ℕ → Type 0
 FailsOpen form place result ahead = IsErrOf result ReadFault → IsOpen (next_of form place ahead)
 
--- Behind a record a reader stands at the next place; any other answer it keeps, and gives from then
+-- After a record a reader is at the next place; any other result it keeps, and returns from then
 -- on.
 abbrev pub Keeps : {S : Type 0} → Reader S → Reader S → Result Step PcapFault → Type 0
 Keeps old new (Ok (step.Record time len)) =
@@ -104,7 +103,7 @@ Keeps old new (Ok (step.Record time len)) =
     × (new.ended ≡ None)
 Keeps old new result = (new.form ≡ old.form) × (new.place ≡ old.place) × (new.ended ≡ Some result)
 
--- A reader that has ended answers the same again and changes nothing; any other gives what stands
+-- A reader that has ended returns the same again and changes nothing; any other returns what comes
 -- next.
 abbrev pub AdvancesFrom : {S : Type 0} → (S → Option (List ℕ)) → (S → ℕ)
     → Option (Result Step PcapFault) → Reader S → Reader S → Result Step PcapFault → Type 0
@@ -119,8 +118,8 @@ abbrev pub Advances : {S : Type 0} → (S → Option (List ℕ)) → (S → ℕ)
     → Result Step PcapFault → Type 0
 Advances left faults old new result = AdvancesFrom left faults old.ended old new result
 
--- What `next` answers and leaves. An item has the number of the place; a record has its moment, and
--- its octets.
+-- What `next` returns, and what it leaves. An item has the number of the place; a record has its
+-- moment, and its octets.
 abbrev pub GivesNext : {S : Type 0} → (S → Option (List ℕ)) → (S → ℕ) → Reader S → Reader S
     → Result Item PcapFault → Type 0
 GivesNext left faults old new (Ok (item.Record number moment octets)) =
@@ -134,13 +133,13 @@ GivesNext left faults old new (Ok (item.Cut number)) =
 GivesNext left faults old new (Ok item.End) = Advances left faults old new (Ok step.End)
 GivesNext left faults old new (Err e) = Advances left faults old new (Err e)
 
--- Behind the header of a capture that has these octets: the header says what the reader's form is,
--- and the source has the rest left.
+-- After the header of a capture that has these octets: the header gives the reader's form, and the
+-- source has the rest left.
 abbrev pub StandsIn : Option (List ℕ) → Form → List ℕ → Type 0
 StandsIn left form octets = (form_of octets ≡ Ok form) × (left ≡ Some (drop 24 octets))
 
--- What was answered is the capture that the octets are, for these services. Of a failed read and of
--- want of memory nothing is said.
+-- The result is the capture that the octets are, for these services. `ReadFault` and `Memory` say
+-- nothing.
 abbrev pub Captures : Captured → Captured → Type 0
 Captures wanted (Ok answer) = Ok answer ≡ wanted
 Captures wanted (Err ReadFault) = Unit {0}
@@ -153,7 +152,7 @@ ReadsCapture left reader vips result =
     (octets : List ℕ) → StandsIn (left reader.source) reader.form octets
     → Captures (capture vips octets) result
 
--- the captured time of record 1, or 0 before a record was answered
+-- the captured time of record 1, or 0 before a record was returned
 abbrev pub time_began : {S : Type 0} → Reader S → ℕ
 time_began reader = unwrap_or reader.place.first 0
 
@@ -162,20 +161,20 @@ abbrev pub KnowsBegan : {S : Type 0} → (S → Option (List ℕ)) → Reader S 
 KnowsBegan left old new =
     (octets : List ℕ) → StandsIn (left old.source) old.form octets → time_began new ≡ began octets
 
--- what a reader answers from now on, where its capture was read to the record that is cut short, or
--- to the end
+-- what a reader returns from now on, after its capture was read to the end or to the record that is
+-- cut short
 abbrev pub last_step : Option ℕ → Step
 last_step None = step.End
 last_step (Some number) = step.Cut
 
--- A reader whose capture was read answers the cut or the end from now on, one whose capture has a
--- fault that fault. Of want of memory nothing is said.
+-- A reader whose capture was read returns the cut or the end from now on; if the capture has a
+-- fault, that fault. `Memory` says nothing.
 abbrev pub HasEnded : Captured → Option (Result Step PcapFault) → Type 0
 HasEnded (Ok read) ended = ended ≡ Some (Ok (last_step read.0.cut))
 HasEnded (Err Memory) ended = Unit {0}
 HasEnded (Err e) ended = ended ≡ Some (Err e)
 
--- The last that was done to the reader is the call that answered the end, the cut or the fault.
+-- The last call to the reader returned the end, the cut or the fault.
 abbrev pub EndsWith : {S : Type 0} → (S → Option (List ℕ)) → (S → ℕ) → Captured → Reader S → Type 0
 EndsWith {S} left faults (Ok read) new =
     (before : Reader S)

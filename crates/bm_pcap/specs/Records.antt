@@ -11,7 +11,7 @@ use Rattle.bm_pcap.specs.Limits.{longest, most_octets, most_records}
 use Rattle.bm_pcap.specs.Header.{nanoseconds_in, number_at}
 
 -- A record's header has 16 octets: seconds, a fraction, the captured length, the original length.
--- This is the captured time in nanoseconds. A fraction past one second is taken as it stands.
+-- This is the captured time in nanoseconds. A fraction above one second is taken as it is.
 abbrev pub time_of : Form → List ℕ → ℕ
 time_of form header =
     number_at form.order 4 0 header * 10 ^ 9 + number_at form.order 4 4 header * nanoseconds_in
@@ -20,19 +20,19 @@ time_of form header =
 abbrev pub captured_length : Form → List ℕ → ℕ
 captured_length form header = number_at form.order 4 8 header
 
--- What stands next: a whole record, with its captured time and its octets; one that is cut short;
+-- What comes next: a whole record, with its captured time and its octets; one that is cut short;
 -- the end.
 pub data Found : Type 0 where
   whole : ℕ → List ℕ → Found
   cut : Found
   end : Found
 
--- the octets end before the record does, or one too many comes before that
+-- the octets end before the record does, or the capture gets too large before that
 abbrev pub short : ℕ → List ℕ → Result Found PcapFault
 short room left = if nat_lt room (length left) then Err TooLarge else Ok cut
 
--- Behind a record's header, which states n octets. A fault of the length stands at the header's
--- last octet, before one that is too many.
+-- What follows a record's header, which states n octets. A fault of the length is at the header's
+-- last octet, and so comes before an octet that is too many.
 abbrev pub behind_header : Form → ℕ → ℕ → ℕ → List ℕ → Result Found PcapFault
 behind_header form number room n left =
     if nat_lt longest n then Err (BadLength number n)
@@ -40,31 +40,31 @@ behind_header form number room n left =
     && nat_le (16 + n) room then Ok (whole (time_of form (take 16 left)) (take n (drop 16 left)))
     else short room left
 
--- What stands at the front of the octets that are left, at the place of the record of this number,
--- where the capture may have so many octets more. A header that ends behind octet room + 1 is
--- behind one that is too many.
+-- What is at the front of the octets that are left, at the place of the record of this number,
+-- where the capture may have `room` more octets. A header that ends after octet room + 1 comes
+-- after an octet that is too many.
 abbrev pub record_at : Form → ℕ → ℕ → List ℕ → Result Found PcapFault
 record_at form number room left =
     if nat_lt (length left) 16 || nat_lt room 15 then short room left
     else behind_header form number room (captured_length form (take 16 left)) left
 
--- the same, where the octets may end, and where no record may follow the last one that is allowed
+-- the same, with the end of the octets, and a fault for a record after the last one that is allowed
 unfoldable pub next_of : Form → Place → List ℕ → Result Found PcapFault
 next_of form place left =
     if length left == 0 then Ok end
     else if nat_lt most_records place.number then Err TooManyPackets
     else record_at form place.number place.room left
 
--- the place behind the header of the capture
+-- the place after the header of the capture
 abbrev pub first_place : Place
 first_place = record { number = 1; room = most_octets - 24; first = None; last = record { 0 = 0 } }
 
--- The captured time less that of record 1, at least 0, and never below the moment of the record
+-- The captured time minus that of record 1, at least 0, and never below the moment of the record
 -- before.
 abbrev pub moment_at : Place → ℕ → Moment
 moment_at place time = record { 0 = max place.last.0 (time - unwrap_or place.first time) }
 
--- the place behind a record with this captured time and so many octets
+-- the place after a record with this captured time and n octets
 abbrev pub behind_record : Place → ℕ → ℕ → Place
 behind_record place time n = record {
   number = place.number + 1;
@@ -73,7 +73,7 @@ behind_record place time n = record {
   last = moment_at place time;
 }
 
--- These octets alone are no whole record and have no fault: only what comes behind them can tell.
+-- These octets alone are no whole record and have no fault: what follows them decides.
 abbrev pub IsOpen : Result Found PcapFault → Type 0
 IsOpen (Ok (whole time octets)) = ⊥
 IsOpen (Ok cut) = Unit {0}

@@ -1,5 +1,5 @@
--- How many octets of those left are gone behind a capture's header. Where fewer are left than are
--- counted here, all are gone.
+-- How many of the octets left are gone after a capture's header was read; if fewer are left than
+-- are counted here, all are gone.
 use Rattle.std.specs.Prelude.{◌≡◌, ℕ, List, take, drop, Option, Some, None, Result, Err}
 use Rattle.bm_pcap.specs.declared.fault.PcapFault.{PcapFault}
 use Rattle.bm_pcap.specs.declared.fault.PcapFault.TheVariants.{NotACapture, ReadFault}
@@ -8,8 +8,7 @@ use Rattle.bm_pcap.specs.declared.form.Order.{Order}
 use Rattle.bm_pcap.specs.declared.form.Unit.{Unit as Unit_of_time}
 use Rattle.bm_pcap.specs.Header.{magic_of}
 
--- as much of a capture's header as is read: what is behind the magic number only where that tells a
--- form
+-- how much of a capture's header is read: what follows the magic number only if that is known
 abbrev pub behind_magic : Option (Order × Unit_of_time) → ℕ
 behind_magic None = 4
 behind_magic (Some magic) = 24
@@ -19,7 +18,7 @@ abbrev pub form_taken : List ℕ → Result Form PcapFault → ℕ
 form_taken left (Err NotACapture) = behind_magic (magic_of (take 4 left))
 form_taken left other = 24
 
--- Behind the header, or its fault, the source has the rest left. Of a failed read nothing is said.
+-- After the header, or its fault, the source has the rest left. A failed read says nothing.
 abbrev pub FormLeaves : Option (List ℕ) → Option (List ℕ) → Result Form PcapFault → Type 0
 FormLeaves None new result = Unit {0}
 FormLeaves (Some left) new (Err ReadFault) = Unit {0}

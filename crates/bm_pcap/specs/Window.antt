@@ -1,9 +1,9 @@
--- A source that is read ahead of what is answered.
+-- A source that is read ahead of what is consumed.
 use Rattle.std.specs.Prelude.{◌≡◌, ℕ, List, length, take, min, slice_range, Option, Some, None}
 use Rattle.std.specs.Io.KnownBytes.{prepend_known}
 use Rattle.bm_pcap.specs.declared.window.Window.{Window}
 
--- the source behind what was read ahead
+-- the source after what was read ahead
 abbrev pub source_of : {S : Type 0} → Window S → S
 source_of window = window.src
 
@@ -15,11 +15,11 @@ width window = length window.octets.items
 abbrev pub held : {S : Type 0} → Window S → List ℕ
 held window = slice_range window.octets.items window.from window.upto
 
--- what stands before it in the buffer: the last that was answered is at its end
+-- what is before it in the buffer: the last octet that was consumed is at its end
 abbrev pub passed : {S : Type 0} → Window S → List ℕ
 passed window = take window.from window.octets.items
 
--- The octets that are not answered yet, where the source tells its octets: those that were read
+-- The octets that aren't consumed yet, if the source's octets are known: those that were read
 -- ahead, and then those that the source has left.
 abbrev pub rest : {S : Type 0} → (S → Option (List ℕ)) → Window S → Option (List ℕ)
 rest left window = prepend_known (held window) (left window.src)

@@ -15,7 +15,7 @@ pub enum PcapFault {
     /// The version isn't 2.4.
     #[error("bad version")]
     BadVersion,
-    /// The link type isn't read.
+    /// The link type isn't supported.
     #[error("bad link type {0}")]
     BadLink(u16),
     /// The source failed.
@@ -24,7 +24,7 @@ pub enum PcapFault {
     /// The capture has more than 268,435,456 octets.
     #[error("too many octets")]
     TooLarge,
-    /// The record of this number states this captured length, which is above 262,144.
+    /// The record with this number states this captured length, which is above 262,144.
     #[error("record {0} states {1} octets")]
     BadLength(u32, u32),
     /// An octet follows record 200,000.

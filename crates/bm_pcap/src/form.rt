@@ -12,14 +12,14 @@ use bm_link::is_link;
 use byteorder::{BigEndian, ByteOrder, LittleEndian};
 
 /// The order of the octets in a capture's numbers.
-#[derive(Clone, Copy, Debug, PartialEq, Eq)]
+#[derive(Clone, Copy, PartialEq, Eq)]
 pub enum Order {
     Big,
     Little,
 }
 
 /// What a capture counts fractions of a second in.
-#[derive(Clone, Copy, Debug, PartialEq, Eq)]
+#[derive(Clone, Copy, PartialEq, Eq)]
 pub enum Unit {
     Microsecond,
     Nanosecond,
@@ -27,7 +27,7 @@ pub enum Unit {
 
 /// What a capture's header says: the order of its numbers, the unit of its times, and its link
 /// type.
-#[derive(Clone, Copy, Debug, PartialEq, Eq)]
+#[derive(Clone, Copy, PartialEq, Eq)]
 pub struct Form {
     pub order: Order,
     pub unit: Unit,
@@ -69,7 +69,7 @@ impl Order {
     }
 }
 
-/// The order and the unit that the magic number tells.
+/// The order and the unit by the magic number.
 fn magic(octets: &[u8]) -> Option<(Order, Unit)>
     requires { length octets.now ≡ 4 }
     ensures { result ≡ magic_of octets.now }
@@ -83,7 +83,7 @@ fn magic(octets: &[u8]) -> Option<(Order, Unit)>
     }
 }
 
-/// The rest of the header, behind the magic number.
+/// The rest of the header, after the magic number.
 fn form_behind(order: Order, unit: Unit, header: &[u8]) -> Result<Form, PcapFault>
     requires { length header.now ≡ 24 }
     ensures form { result ≡ form_by (Some (order, unit)) header.now }
@@ -100,7 +100,7 @@ fn form_behind(order: Order, unit: Unit, header: &[u8]) -> Result<Form, PcapFaul
     Ok(Form { order, unit, link })
 }
 
-/// Reads the header of a capture, and nothing behind the first fault.
+/// Reads the header of a capture, and no more than the magic number if that is wrong.
 pub(crate) fn read_form<S: Source>(src: &mut S) -> Result<Form, PcapFault>
     ensures form { FormGives (S.left src.old) (S.left src.new) result }
     ensures leaves { FormLeaves (S.left src.old) (S.left src.new) result }
@@ -124,7 +124,7 @@ pub(crate) fn read_form<S: Source>(src: &mut S) -> Result<Form, PcapFault>
     form_behind(order, unit, &header)
 }
 
-/// Puts one part behind the other.
+/// Writes both parts, one after the other.
 fn join(whole: &mut [u8], front: &[u8], back: &[u8])
     requires { length front.now + length back.now ≡ length whole.old }
     ensures { whole.new ≡ front.now ++ back.now }

@@ -1,4 +1,4 @@
-//! Where a reader stands in a capture.
+//! A reader's place in a capture.
 ghost use Rattle.std.specs.Prelude.{◌≡◌, ◌≤◌, ◌<◌, ◌+◌, ◌^◌};
 ghost use Rattle.bm_pcap.specs.Records.{first_place, behind_record};
 
@@ -18,7 +18,7 @@ pub const WIDEST: u32 = LONGEST + 16;
 
 /// The number of the next record, how many octets the capture may have from here on, the captured
 /// time of record 1, and the moment of the record before.
-#[derive(Clone, Copy, Debug, PartialEq, Eq)]
+#[derive(Clone, Copy, PartialEq, Eq)]
 pub struct Place {
     pub number: u32,
     pub room: u32,
@@ -27,7 +27,7 @@ pub struct Place {
 }
 
 impl Place {
-    /// Behind the header of a capture.
+    /// The place after the header of a capture.
     pub(crate) fn first() -> Place
         ensures { result ≡ first_place }
     {
@@ -39,7 +39,7 @@ impl Place {
         }
     }
 
-    /// Behind a record with this captured time and so many octets.
+    /// The place after a record with this captured time and `len` octets.
     pub(crate) fn behind(&self, time: u64, len: u32) -> Place
         requires few { self.now.number < 2 ^ 31 }
         requires fits { 16 + len ≤ self.now.room }

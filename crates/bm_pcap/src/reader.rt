@@ -23,8 +23,7 @@ use bm_link::classify;
 use std::alloc::Global;
 use std::marker::Model;
 
-/// Reads a capture record by record, over any source. It reads ahead, and at most 262,160 octets of
-/// what was read are not answered yet.
+/// Reads a capture record by record, over any source. It reads at most 262,160 octets ahead.
 #[derive(Drop)]
 pub struct PcapReader<S> {
     window: Window<S>,
@@ -61,7 +60,8 @@ impl<S: Source> PcapReader<S> {
     ghost use Rattle.std.specs.Io.BufRead.{Rests};
     ghost use Rattle.bm_pcap.specs.contracts.reader.PcapReader.{the_row};
 
-    /// A reader of a capture, whose header is read. The source comes back with a fault.
+    /// Reads the header of a capture, and returns a reader of its records. On a fault the source is
+    /// given back.
     pub fn start(alloc: Global, mut src: S) -> Result<PcapReader<S>, (S, PcapFault)>
         ensures starts { Starts S.left src result }
         ensures leaves { StartLeaves S.left src result }
@@ -102,14 +102,14 @@ impl<S: Source> PcapReader<S> {
         self.form.link
     }
 
-    /// The captured time of record 1, in nanoseconds since 1970, or 0 before a record was answered.
+    /// The captured time of record 1, in nanoseconds since 1970, or 0 before a record was returned.
     pub fn began(&self) -> u64
         ensures { result ≡ time_began self.now }
     {
         self.place.first.unwrap_or(0)
     }
 
-    /// The source, behind what was read ahead.
+    /// The source, after what was read ahead.
     pub fn into_source(self) -> S
         ensures { result ≡ self.source }
     {
@@ -122,7 +122,7 @@ impl<S: Source> PcapReader<S> {
         window.into_source()
     }
 
-    /// Reads what stands next. After a fault, a record that is cut short or the end it answers the
+    /// Reads what comes next. After a fault, a record that is cut short, or the end, it returns the
     /// same again.
     fn advance(&mut self) -> Result<Step, PcapFault>
         ensures advances { Advances S.left S.faults self.old self.new result }
@@ -142,7 +142,7 @@ impl<S: Source> PcapReader<S> {
     }
 
     /// The next record, the one that is cut short, or the end. After a fault, a record that is cut
-    /// short or the end it answers the same again. Takes no memory.
+    /// short, or the end, it returns the same again. Takes no memory.
     pub fn next(&mut self) -> Result<Item<'_>, PcapFault>
         ensures others { IfErr result IsRecordFault }
         ensures* after { sem 𝓛
@@ -162,10 +162,10 @@ impl<S: Source> PcapReader<S> {
     }
 }
 
-/// Reads the records of a capture, classified for these services, and the packet of each. The
-/// reader is one that was not asked for a record yet. Afterwards it answers the end, the cut or
-/// the fault again, unless memory was refused, and knows when the capture began. A fault is the
-/// first in order of place; `ReadFault` where the source failed, and `Memory` where memory was
+/// Reads all records of a capture, classified for these services, and the packet of each. The
+/// reader must not have been asked for a record yet. Afterwards it returns the end, the cut or the
+/// fault again, unless memory was refused, and knows when the capture began. A fault is the first
+/// in order of place; but `ReadFault` where the source failed, and `Memory` where memory was
 /// refused, may come at any place.
 pub fn read_capture<S: Source>(
     alloc: Global,

@@ -1,4 +1,4 @@
-//! What stands next in a capture.
+//! What comes next in a capture.
 ghost use Rattle.std.specs.Prelude.{◌≡◌, ◌≤◌, ◌<◌, length, if◌then◌else◌, IfOk, IfErr};
 ghost use Rattle.std.specs.Prelude.{IsErrOf, Ok, Err};
 ghost use Rattle.bm_pcap.specs.Causes.{HasStepCause, IsRecordFault};
@@ -17,8 +17,8 @@ use crate::place::{LONGEST, MOST_RECORDS, Place};
 use crate::window::Window;
 use bm_io::Source;
 
-/// What stands next: a record, with its captured time and how many octets are its own.
-#[derive(Clone, Copy, Debug, PartialEq, Eq)]
+/// What comes next: a record, with its captured time and how many octets are its own.
+#[derive(Clone, Copy, PartialEq, Eq)]
 pub enum Step {
     Record { time: u64, len: u32 },
     Cut,
@@ -26,14 +26,14 @@ pub enum Step {
 }
 
 /// What a record's header says: a captured time and a length.
-#[derive(Clone, Copy, Debug, PartialEq, Eq)]
+#[derive(Clone, Copy, PartialEq, Eq)]
 pub enum Head {
     End,
     Cut,
     States { time: u64, len: u32 },
 }
 
-/// Reads what stands next at this place. A record's octets are the last that the window answered.
+/// Reads what comes next at this place. A record's octets are the last that were consumed.
 pub(crate) fn read_step<S: Source>(
     window: &mut Window<S>,
     form: &Form,
@@ -68,7 +68,7 @@ pub(crate) fn read_step<S: Source>(
     }
 }
 
-/// Reads the header of a record at this place, and answers none of its octets.
+/// Reads the header of a record at this place, and consumes none of its octets.
 fn read_head<S: Source>(
     window: &mut Window<S>,
     form: &Form,
@@ -103,7 +103,7 @@ fn read_head<S: Source>(
     states(form, place, &window.held()[..16])
 }
 
-/// Looks for an octet behind the last record that is allowed.
+/// Looks for an octet after the last record that is allowed.
 fn read_end<S: Source>(
     window: &mut Window<S>,
     form: &Form,

@@ -1,4 +1,4 @@
-//! A source that is read ahead of what is answered.
+//! A source that is read ahead of what is consumed.
 ghost use Rattle.std.specs.Prelude.{◌≡◌, ◌<◌, ◌≤◌, ◌+◌, ◌-◌, [], ◌++◌, length, take, drop, IfOk};
 ghost use Rattle.std.specs.Prelude.{IfErr, OnErr};
 ghost use Rattle.std.specs.Io.KnownBytes.{Keeps, IsAtEnd};
@@ -7,8 +7,8 @@ ghost use Rattle.bm_io.specs.Causes.{HasCause};
 use bm_io::{Failed, Source};
 use std::alloc::Global;
 
-/// A source, and the octets that were read ahead of what was answered: those from `from` to `upto`.
-/// What stands before them was answered.
+/// A source, and the octets that were read ahead and aren't consumed yet: those from `from` to
+/// `upto`. Those before them were consumed.
 #[derive(Drop)]
 pub struct Window<S> {
     src: S,
@@ -22,8 +22,8 @@ pub struct Window<S> {
 impl<S> Window<S> {
     ghost use Rattle.bm_pcap.specs.Window.{held, passed, source_of, width};
 
-    /// A window of a source from which at most so many octets are read ahead, and none is yet. The
-    /// source comes back where memory was refused.
+    /// A window of a source, from which at most `most` octets are read ahead, and none yet. The
+    /// source is given back where memory was refused.
     pub fn new(alloc: Global, src: S, most: usize) -> Result<Window<S>, S>
         ensures ok { IfOk result (λ window. (source_of window ≡ src) × (held window ≡ [])) }
         ensures width { IfOk result (λ window. width window ≡ most) }
@@ -41,7 +41,7 @@ impl<S> Window<S> {
         })
     }
 
-    /// The source, behind what was read ahead.
+    /// The source, after what was read ahead.
     pub fn into_source(self) -> S
         ensures { result ≡ source_of self }
     {
@@ -61,7 +61,7 @@ impl<S> Window<S> {
         &self.octets[self.from..self.upto]
     }
 
-    /// The last octets that were answered.
+    /// The last `count` octets that were consumed.
     pub fn last(&self, count: usize) -> &[u8]
         requires { count ≤ length (passed self.now) }
         ensures { result.now ≡ drop (length (passed self.now) - count) (passed self.now) }
@@ -69,7 +69,7 @@ impl<S> Window<S> {
         &self.octets[self.from - count..self.from]
     }
 
-    /// Answers the first octets that were read ahead.
+    /// Consumes the first octets that were read ahead.
     pub fn skip(&mut self, count: usize)
         requires { count ≤ length (held self.old) }
         ensures held { held self.new ≡ drop count (held self.old) }
@@ -97,8 +97,8 @@ impl<S> Window<S> {
 impl<S: Source> Window<S> {
     ghost use Rattle.bm_pcap.specs.Window.{Ahead, held, rest, source_of, width};
 
-    /// One piece more of the source, as much as it gives and the buffer has room for. Answers how
-    /// many octets these are.
+    /// Reads one more piece of the source, as much as it gives and the buffer has room for. Returns
+    /// how many octets these are.
     fn read(&mut self) -> Result<usize, Failed>
         ensures keeps { Keeps (rest S.left self.old) (rest S.left self.new) }
         ensures grows { take (length (held self.old)) (held self.new) ≡ held self.old }
@@ -116,9 +116,9 @@ impl<S: Source> Window<S> {
         Ok(count)
     }
 
-    /// Reads ahead until so many octets are held, or all that are left, and answers how many of
-    /// these there are. It reads nothing where they are held, and else in pieces as large as the
-    /// buffer has room for. Behind a failure what was read ahead is kept.
+    /// Reads ahead until `most` octets are held, or all that are left, and returns how many of
+    /// these there are. It reads nothing if they are held already, and otherwise in pieces as large
+    /// as the buffer has room for. After a failure what was read ahead is kept.
     pub fn want(&mut self, most: usize) -> Result<usize, Failed>
         requires { most ≤ width self.old }
         ensures bound { IfOk result (λ n. (n ≤ most) × (n ≤ length (held self.new))) }

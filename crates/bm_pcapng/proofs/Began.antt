@@ -33,7 +33,7 @@ began_starts now order interfaces place octets stands is none =
     let Q : List Interface → Type 0 = λ i. BeganAt now order i first_place time in
     subst P (sym is) (subst Q (sym none) (octets, (stands.1, sym (ap (first_time octets) stands.0))))
 
--- one step of the definition, whatever comes behind it
+-- one step of the definition, whatever follows
 any_time : (most : ℕ) (order : Order) (interfaces : List Interface) (place : Place) (left : List ℕ)
     → (others : Order → List Interface → Place → List ℕ → Option ℕ)
     × (time_from most order interfaces place left

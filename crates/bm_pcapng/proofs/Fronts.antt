@@ -14,7 +14,7 @@ none_ahead : (xs : List ℕ) (from upto : ℕ) → from ≡ upto → slice_range
 none_ahead xs from upto is =
     let e : upto - from ≡ 0 = omega (arith, is) in ap (λ n. take n (drop from xs)) e
 
--- behind the first octets the source gives
+-- after the first octets the source gives
 pub behind_front : {E : Type 0} (xs : List ℕ) (from upto : ℕ) (old new : Option (List ℕ)) (r : Result ℕ E)
     (buf : List ℕ) → from ≡ upto → ReadConsumes old new r buf
     → ReadConsumes (prepend_known (slice_range xs from upto) old) (prepend_known (slice_range xs from upto) new) r buf

@@ -133,7 +133,7 @@ longer ahead octets begins = omega (arith, ap length begins, length-take (length
 pub begins_trans : (xs ys zs : List ℕ) → Begins xs ys → Begins ys zs → Begins xs zs
 begins_trans xs ys zs h k = same_front (length xs) ys zs (longer xs ys h) k ∙ h
 
--- the kind of a block stays as more octets come behind its type
+-- the kind of a block doesn't change as more octets follow its type
 pub kind_told : (order : Order) (ahead shown : List ℕ) (kind : Kind) → shown ≡ ahead
     → kind ≡ kind_in order (take 4 shown) → kind ≡ kind_at order ahead
 kind_told order ahead shown kind same is = is ∙ ap (kind_at order) same

@@ -55,7 +55,7 @@ starts now order interfaces vips place octets stands is none =
       (stands.1, no_front (records_from vips most_octets order [] first_place octets) ∙ rw stands.0),
     ))
 
--- one step of the definition, whatever comes behind it
+-- one step of the definition, whatever follows
 pub any_step : (vips : List Vip) (most : ℕ) (order : Order) (interfaces : List Interface) (place : Place)
     (left : List ℕ) → (others : Order → List Interface → Place → List ℕ → Captured)
     × (records_from vips most order interfaces place left
@@ -306,7 +306,7 @@ without_packet (Begins order) is = tt
 without_packet (Describes interface) is = tt
 without_packet Nothing is = tt
 
--- the place behind a block
+-- the place after a block
 pub place_of : (place : Place) (n : ℕ) (content : Content)
     → ((place_behind place n content).block ≡ place.block + 1) × ((place_behind place n content).room ≡ place.room - n)
 place_of place n (Holds packet) = (refl, refl)

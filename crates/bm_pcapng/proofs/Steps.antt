@@ -23,7 +23,7 @@ use Rattle.bm_pcapng.specs.Parts.{BlockGives, IsOpen, last_of}
 use Rattle.bm_pcapng.specs.Inside.Parts.{HeadGives, HeadIn, StepGives}
 use Rattle.bm_pcapng.proofs.Heads.{known, short_cut, short_large}
 
--- a block of which not all octets are there, or more than may be
+-- a block that isn't there as a whole, or is longer than it may be
 part : (kind : Kind) (own : Order) (interfaces : List Interface) (place : Place) (n : ℕ) (left : List ℕ)
     → min (length left) place.room < n
     → behind_head kind own interfaces place n left ≡ short place.room left

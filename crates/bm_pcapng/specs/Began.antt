@@ -26,7 +26,7 @@ abbrev pub first_of : Option ℕ → Option ℕ → Option ℕ
 first_of None later = later
 first_of (Some time) later = Some time
 
--- what was found at a place, before the blocks behind it
+-- what was found at a place, followed by the blocks after it
 abbrev pub time_found : (Order → List Interface → Place → List ℕ → Option ℕ) → Order
     → List Interface → Place → List ℕ → Result Step NgFault → Option ℕ
 time_found others order interfaces place left (Ok (Block n content)) =
@@ -37,15 +37,15 @@ time_found others order interfaces place left (Ok Cut) = None
 time_found others order interfaces place left (Ok End) = None
 time_found others order interfaces place left (Err e) = None
 
--- The time of the first packet that has one, from a place on, where at most so many blocks are left
--- to come.
+-- The time of the first packet that has one, from a place on, where at most this many blocks may
+-- follow the next one.
 unfoldable pub time_from : ℕ → Order → List Interface → Place → List ℕ → Option ℕ
 time_from zero order interfaces place left =
     time_found (λ _ _ _ _. None) order interfaces place left (next_of order interfaces place left)
 time_from (suc more) order interfaces place left =
     time_found (time_from more) order interfaces place left (next_of order interfaces place left)
 
--- of a capture
+-- of a whole capture
 abbrev pub first_time : List ℕ → Option Order → Option ℕ
 first_time octets None = None
 first_time octets (Some order) = time_from most_octets order [] first_place octets

@@ -26,7 +26,7 @@ kind_of type =
     if type == 1 then InterfaceDescription else if type == 6 then EnhancedPacket
     else if type == 3 then SimplePacket else Other
 
--- The type of a section header stands the same way round in both orders.
+-- The type of a section header reads the same in both orders.
 abbrev pub is_section : List ℕ → Bool
 is_section type = number_at Big 4 0 type == 0x0a0d0d0a
 
@@ -39,19 +39,19 @@ is_packet EnhancedPacket = true
 is_packet SimplePacket = true
 is_packet _ = false
 
--- "Section Header Block": the magic at octet 8 tells the order of the section's numbers. Read big
--- endian, it stands the other way round where the order is little endian.
+-- "Section Header Block": the magic at octet 8 gives the order of the section's numbers. It is read
+-- big endian here, so it is reversed where the order is little endian.
 abbrev pub magic_of : List ℕ → Option Order
 magic_of head =
     if number_at Big 4 8 head == 0x1a2b3c4d then Some Big
     else if number_at Big 4 8 head == 0x4d3c2b1a then Some Little else None
 
--- the order of a block's numbers: a section header tells its own, any other has its section's
+-- the order of a block's numbers: a section header gives its own, any other has its section's
 abbrev pub order_of : Kind → Order → List ℕ → Option Order
 order_of SectionHeader order head = magic_of head
 order_of _ order head = Some order
 
--- as many octets as tell a block's total length: behind the magic, in a section header
+-- how many octets it takes to know a block's total length; a section header's, through the magic
 abbrev pub head_size : Kind → ℕ
 head_size SectionHeader = 12
 head_size _ = 8
@@ -67,7 +67,7 @@ least_length Other = 12
 abbrev pub is_length : Kind → ℕ → Bool
 is_length kind n = n % 4 == 0 && nat_le (least_length kind) n && nat_le n longest_block
 
--- The octets end before the n-th, or one too many comes before it.
+-- The octets end before the n-th, or the capture gets too large before it.
 abbrev pub lacks : ℕ → ℕ → List ℕ → Bool
 lacks n room left = nat_lt (length left) n || nat_lt (room + 1) n
 
@@ -109,7 +109,7 @@ block_at kind order interfaces place left =
     if lacks (head_size kind) place.room left then short place.room left
     else ordered kind (order_of kind order (take (head_size kind) left)) interfaces place left
 
--- What stands at the front of the octets that are left, at a place of a section with this order and
+-- What is at the front of the octets that are left, at a place of a section with this order and
 -- these interfaces: a block, one that is cut short, or the end.
 unfoldable pub next_of : Order → List Interface → Place → List ℕ → Result Step NgFault
 next_of order interfaces place left =

@@ -28,23 +28,23 @@ use Rattle.bm_pcapng.specs.Places.{place_behind}
 abbrev pub Captured : Type 0
 Captured = Result (Capture × List (List ℕ)) NgFault
 
--- A record of a link type that isn't read is not IPv4.
+-- A record of an unsupported link type is not IPv4.
 abbrev pub classified_by : ℕ → List Vip → List ℕ → Body × List ℕ
 classified_by link vips octets =
     if is_link link then classified link vips octets else unsteered NotIpv4
 
--- the octets of a packet, whose block stands at the front
+-- the octets of a packet, whose block is at the front
 abbrev pub packet_octets : Packet → List ℕ → List ℕ
 packet_octets packet left = take packet.len (drop packet.at left)
 
--- what a block adds to the records behind it
+-- what a block adds to the records after it
 abbrev pub with_block : List Vip → Place → List ℕ → Content → Captured → Captured
 with_block vips place left (Holds packet) others =
     let class = classified_by packet.link vips (packet_octets packet left) in
     with_record (record { moment = moment_at place packet.time; body = class.0 }) class.1 others
 with_block vips place left other others = others
 
--- what was found at a place, before the blocks behind it
+-- what was found at a place, followed by the blocks after it
 abbrev pub after_found : List Vip → (Order → List Interface → Place → List ℕ → Captured) → Order
     → List Interface → Place → List ℕ → Result Step NgFault → Captured
 after_found vips others order interfaces place left (Ok (Block n content)) =
@@ -55,7 +55,7 @@ after_found vips others order interfaces place left (Ok Cut) = ends (Some place.
 after_found vips others order interfaces place left (Ok End) = ends None
 after_found vips others order interfaces place left (Err e) = Err e
 
--- The records from a place on, where at most so many blocks are left to come.
+-- The records from a place on, where at most this many blocks may follow the next one.
 unfoldable pub records_from : List Vip → ℕ → Order → List Interface → Place → List ℕ → Captured
 records_from vips zero order interfaces place left =
     after_found vips (λ _ _ _ _. Err TooLarge) order interfaces place left
@@ -64,7 +64,7 @@ records_from vips (suc more) order interfaces place left =
     after_found vips (records_from vips more) order interfaces place left
     (next_of order interfaces place left)
 
--- A capture begins with a section header, which tells an order by its first twelve octets.
+-- A capture begins with a section header, whose first twelve octets give an order.
 unfoldable pub first_order : List ℕ → Option Order
 first_order octets =
     if nat_lt (length octets) 12 || not (is_section (take 4 octets)) then None

@@ -6,7 +6,7 @@ use Rattle.bm_pcapng.specs.declared.fault.NgFault.TheVariants.{NotACapture, BadV
 use Rattle.bm_pcapng.specs.declared.fault.NgFault.TheVariants.{ReadFault, TooLarge, BadLength}
 use Rattle.bm_pcapng.specs.declared.fault.NgFault.TheVariants.{TooManyPackets, Memory}
 
--- The count rises where `ReadFault` is answered, and stays elsewhere.
+-- The count rises if `ReadFault` is returned, and stays the same otherwise.
 pub record HasStepCause {T : Type 0} (before now : ℕ) (result : Result T NgFault) : Type 0 where
   pub later : before ≤ now
   pub failed : IsErrOf result ReadFault → Rose before now
@@ -23,7 +23,7 @@ IsStartFault TooLarge = ⊥
 IsStartFault (BadLength number n) = ⊥
 IsStartFault TooManyPackets = ⊥
 
--- the faults of a capture's blocks, none of which takes memory
+-- the faults of a capture's blocks; reading these takes no memory
 abbrev pub IsBlockFault : NgFault → Type 0
 IsBlockFault BadVersion = Unit {0}
 IsBlockFault (BadBlock block) = Unit {0}
@@ -34,7 +34,7 @@ IsBlockFault TooManyPackets = Unit {0}
 IsBlockFault Memory = ⊥
 IsBlockFault NotACapture = ⊥
 
--- what the reading of all records may end with: one of these, or want of memory
+-- the faults of reading all records: one of these, or `Memory`
 abbrev pub IsCaptureFault : NgFault → Type 0
 IsCaptureFault Memory = Unit {0}
 IsCaptureFault e = IsBlockFault e

@@ -47,7 +47,7 @@ time_of order interface block =
     nanoseconds interface.resolution
     (number_at order 4 12 block * 2 ^ 32 + number_at order 4 16 block)
 
--- the packet has so many octets from this octet of its block on, and the second total length behind
+-- the packet's octets, from this octet of its block on, and the second total length fit the block
 abbrev pub fits_in : ℕ → ℕ → ℕ → Bool
 fits_in at len n = nat_le (at + len + 4) n
 
@@ -59,7 +59,7 @@ packet_at place at len block (Some interface) time =
     then Ok (Holds (record { time = time interface; link = interface.link; at = at; len = len }))
     else Err (BadBlock place.block)
 
--- a captured length above the limit comes before what else is wrong with a packet
+-- a captured length above the limit is reported before anything else that is wrong with a packet
 abbrev pub packet_content : Place → ℕ → ℕ → List ℕ → Option Interface → (Interface → Option ℕ)
     → Result Content NgFault
 packet_content place at len block interface time =
@@ -72,8 +72,9 @@ enhanced_content order interfaces place block =
     (slice_get interfaces (number_at order 4 8 block))
     (λ interface. Some (time_of order interface block))
 
--- "Simple Packet Block": the original length at octet 8, the packet from 12. It is of interface 0,
--- and what was captured is cut at that interface's snapshot length, where 0 is no limit.
+-- "Simple Packet Block": the original length at octet 8, the packet from 12. It belongs to
+-- interface 0, and what was captured is cut at that interface's snapshot length, where 0 is no
+-- limit.
 abbrev pub captured_of : Option Interface → ℕ → ℕ
 captured_of None original = original
 captured_of (Some interface) original =

@@ -1,4 +1,4 @@
--- The limits of a capture of the pcapng form, beside those of every capture.
+-- The limits of a capture of the pcapng form, in addition to those of every capture.
 use Rattle.std.specs.Prelude.{ℕ}
 
 -- the most interfaces of a section

@@ -23,8 +23,8 @@ is_over order octets =
     nat_lt (length octets) 4 || code_of order octets == 0
     || nat_lt (length octets) (4 + length_of order octets)
 
--- The first options, at most so many. An option is its code and the length of its value, two octets
--- each, and its value, padded: here a code with a value.
+-- The first options, at most this many, each as a code with a value. In the octets an option is its
+-- code and the length of its value, two octets each, and its value, padded.
 unfoldable pub options_in : ℕ → Order → List ℕ → List (ℕ × List ℕ)
 options_in zero order octets = []
 options_in (suc more) order octets =
@@ -32,13 +32,13 @@ options_in (suc more) order octets =
     else (code_of order octets, take (length_of order octets) (drop 4 octets))
     ∷ options_in more order (drop (4 + padded (length_of order octets)) octets)
 
--- the first option 9 of one octet tells the resolution
+-- the first option 9 of one octet gives the resolution
 unfoldable pub resolution_in : List (ℕ × List ℕ) → Resolution
 resolution_in [] = microseconds
 resolution_in (option ∷ others) =
     if option.0 == 9 && length option.1 == 1 then resolution_of (slice_index option.1 0)
     else resolution_in others
 
--- the resolution that these options tell
+-- the resolution that these options give
 abbrev pub resolution_by : Order → List ℕ → Resolution
 resolution_by order octets = resolution_in (options_in (length octets) order octets)

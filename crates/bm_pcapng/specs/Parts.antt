@@ -32,15 +32,15 @@ StepFits interfaces place (step.Block n said) =
     × HoldsAt place n said
 StepFits interfaces place other = Unit {0}
 
--- These octets alone are no whole block and have no fault: only what comes behind them can tell.
+-- These octets alone are no whole block and have no fault: what follows them decides.
 abbrev pub IsOpen : Result Step NgFault → Type 0
 IsOpen (Ok (step.Block n said)) = ⊥
 IsOpen (Ok step.Cut) = Unit {0}
 IsOpen (Ok step.End) = Unit {0}
 IsOpen (Err e) = ⊥
 
--- A read failed only where what is held doesn't tell what stands next: a block that is whole, and a
--- fault of the capture, are answered before it.
+-- A read fails only if the octets that are held don't decide what comes next: a whole block, or a
+-- fault of the capture, is returned first.
 abbrev pub FailsOpen : {T : Type 0} → Order → List Interface → Place → Result T NgFault → List ℕ
     → Type 0
 FailsOpen order interfaces place result ahead =
@@ -50,9 +50,9 @@ FailsOpen order interfaces place result ahead =
 abbrev pub last_of : ℕ → List ℕ → List ℕ
 last_of n octets = drop (length octets - n) octets
 
--- What was answered is what stands next, a block is the last that was answered, and what is behind
--- it is still to come. Of a failed read no more is said than that nothing is lost, and nothing
--- where the source doesn't tell its octets.
+-- What was returned is what comes next, a block's octets are the last that were consumed, and what
+-- follows is still to come. After a failed read nothing is lost. If the source's octets aren't
+-- known, nothing is said.
 abbrev pub BlockGives : Option (List ℕ) → Option (List ℕ) → Order → List Interface → Place
     → Result Step NgFault → List ℕ → Type 0
 BlockGives None new order interfaces place result passed = Unit {0}

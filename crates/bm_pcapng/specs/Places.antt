@@ -1,4 +1,4 @@
--- Where a reader stands in a capture, and its section.
+-- A reader's place in a capture, and its section.
 use Rattle.std.specs.Prelude.{ℕ, ◌+◌, ◌-◌, max, min, List, [], ◌∷◌, ◌++◌, Option, Some, None}
 use Rattle.std.specs.Prelude.{unwrap_or}
 use Rattle.bm_base.specs.declared.ids.Moment.{Moment}
@@ -9,12 +9,12 @@ use Rattle.bm_pcapng.specs.declared.content.Content.TheVariants.{Begins, Describ
 use Rattle.bm_pcapng.specs.declared.interface.Interface.{Interface}
 use Rattle.bm_pcapng.specs.declared.place.Place.{Place}
 
--- the order of the numbers behind a block
+-- the order of the numbers after a block
 abbrev pub order_behind : Order → Content → Order
 order_behind order (Begins new) = new
 order_behind order other = order
 
--- the interfaces behind a block: a new section forgets those before it
+-- the interfaces after a block: a new section forgets those before it
 abbrev pub interfaces_behind : List Interface → Content → List Interface
 interfaces_behind interfaces (Begins order) = []
 interfaces_behind interfaces (Describes interface) = interfaces ++ interface ∷ []
@@ -31,8 +31,9 @@ first_place = record {
   last = record { 0 = 0 };
 }
 
--- The moment of a packet: its time less that of the first packet that has one, at least 0, at most
--- the latest, and never below the moment of the packet before, which a packet without a time has.
+-- The moment of a packet: its time minus that of the first packet that has one, at least 0, at most
+-- the latest, and never below the moment of the packet before. A packet without a time has the
+-- moment of the packet before.
 abbrev pub moment_at : Place → Option ℕ → Moment
 moment_at place None = place.last
 moment_at place (Some time) =
@@ -42,7 +43,7 @@ abbrev pub first_behind : Option ℕ → Option ℕ → Option ℕ
 first_behind first None = first
 first_behind first (Some time) = Some (unwrap_or first time)
 
--- the place behind a block of n octets
+-- the place after a block of n octets
 abbrev pub place_behind : Place → ℕ → Content → Place
 place_behind place n (Holds packet) = record {
   block = place.block + 1;

@@ -23,9 +23,9 @@ use Rattle.bm_pcapng.specs.Limits.{longest_block}
 use Rattle.bm_pcapng.specs.Parts.{BlockGives, FailsOpen, StepFits, last_of}
 use Rattle.bm_pcapng.specs.Places.{first_place, interfaces_behind, order_behind, place_behind}
 
--- What a reader is: the source behind what was read ahead, the order of its section's numbers and
--- its interfaces, the place behind what was answered, the octets that were read ahead, those before
--- them that the buffer still has, and the answer that it gives from now on, if it has ended.
+-- A reader: the source after what was read ahead, the order of its section's numbers and its
+-- interfaces, the place after what was consumed, the octets that were read ahead, those before them
+-- that the buffer still has, and what it returns from now on, if it has ended.
 pub record Reader (S : Type 0) : Type 0 where
   pub source : S
   pub order : Order
@@ -35,12 +35,12 @@ pub record Reader (S : Type 0) : Type 0 where
   pub passed : List ℕ
   pub ended : Option (Result Step NgFault)
 
--- The octets that are not answered yet, where the source tells its octets: those that were read
+-- The octets that aren't consumed yet, if the source's octets are known: those that were read
 -- ahead, and then those that the source has left.
 abbrev pub to_come : {S : Type 0} → (S → Option (List ℕ)) → Reader S → Option (List ℕ)
 to_come left reader = prepend_known reader.held (left reader.source)
 
--- what was taken from the source and is not answered yet
+-- what was read ahead and isn't consumed yet is bounded
 abbrev pub IsBounded : {S : Type 0} → Reader S → Type 0
 IsBounded reader = length reader.held ≤ longest_block
 
@@ -48,17 +48,17 @@ IsBounded reader = length reader.held ≤ longest_block
 abbrev pub octets_in : Packet → List ℕ → List ℕ
 octets_in packet block = take packet.len (drop packet.at block)
 
--- nothing was answered yet
+-- nothing was returned yet
 abbrev pub IsFresh : {S : Type 0} → Reader S → Type 0
 IsFresh reader = (reader.place ≡ first_place) × (reader.ended ≡ None) × (reader.interfaces ≡ [])
 
--- At the front of a capture that has these octets: the reader has the order that they tell, and all
+-- At the front of a capture that has these octets: the reader has the order that they give, and all
 -- of them are to come.
 abbrev pub StandsIn : Option (List ℕ) → Order → List ℕ → Type 0
 StandsIn left order octets = (first_order octets ≡ Some order) × (left ≡ Some octets)
 
--- What was answered is the capture that the octets are, for these services. Of a failed read and of
--- want of memory nothing is said.
+-- The result is the capture that the octets are, for these services. `ReadFault` and `Memory` say
+-- nothing.
 abbrev pub Captures : Captured → Captured → Type 0
 Captures wanted (Ok answer) = Ok answer ≡ wanted
 Captures wanted (Err ReadFault) = Unit {0}
@@ -70,23 +70,23 @@ abbrev pub Refuses : Option (List ℕ) → NgFault → Type 0
 Refuses None e = Unit {0}
 Refuses (Some octets) e = (vips : List Vip) → Captures (capture vips octets) (Err e)
 
--- The first octets of the capture tell this order, and its first block has no fault.
+-- The first octets of the capture give this order, and its first block has no fault.
 abbrev pub IsOpened : Option (List ℕ) → Order → Type 0
 IsOpened None order = Unit {0}
 IsOpened (Some octets) order =
     (first_order octets ≡ Some order)
     × ((found : Step) × (next_of order [] first_place octets ≡ Ok found))
 
--- What was answered is a reader at the front of a capture, or the fault of its first block. The
--- source comes back with a fault.
+-- The result is a reader at the front of a capture, or the fault of its first block with the
+-- source.
 abbrev pub Starts : {S : Type 0} → (S → Option (List ℕ)) → S → Result (Reader S) (S × NgFault)
     → Type 0
 Starts left old (Ok reader) =
     IsOpened (left old) reader.order × Keeps_octets (left old) (to_come left reader)
 Starts left old (Err refused) = Refuses (left old) refused.1
 
--- A refused source stands behind some octets that were read ahead, and these aren't more than a
--- reader holds.
+-- A source that is given back is past some octets that were read ahead, and these aren't more than
+-- a reader holds.
 abbrev pub StartLeaves : {S : Type 0} → (S → Option (List ℕ)) → S → Result (Reader S) (S × NgFault)
     → Type 0
 StartLeaves left old (Ok reader) = Unit {0}
@@ -94,14 +94,13 @@ StartLeaves left old (Err refused) =
     (ahead : List ℕ) × (length ahead ≤ longest_block)
     × Keeps_octets (left old) (prepend_known ahead (left refused.0))
 
--- the count rises where `ReadFault` is answered, and stays elsewhere
+-- the count rises if `ReadFault` is returned, and stays the same otherwise
 abbrev pub StartsWithCause : {S : Type 0} → (S → ℕ) → S → Result (Reader S) (S × NgFault) → Type 0
 StartsWithCause {S} faults old (Ok reader) = faults reader.source ≡ faults old
 StartsWithCause {S} faults old (Err refused) =
     HasStepCause {T = Reader S} (faults old) (faults refused.0) (Err refused.1)
 
--- Behind a block a reader stands at the next place; any other answer it keeps, and gives from then
--- on.
+-- After a block a reader is at the next place; any other result it keeps, and returns from then on.
 abbrev pub Keeps : {S : Type 0} → Reader S → Reader S → Result Step NgFault → Type 0
 Keeps old new (Ok (Block n content)) =
     StepFits old.interfaces old.place (Block n content)
@@ -115,7 +114,7 @@ Keeps old new result =
     × (new.place ≡ old.place)
     × (new.ended ≡ Some result)
 
--- A reader that has ended answers the same again and changes nothing; any other gives what stands
+-- A reader that has ended returns the same again and changes nothing; any other returns what comes
 -- next.
 abbrev pub AdvancesFrom : {S : Type 0} → (S → Option (List ℕ)) → (S → ℕ)
     → Option (Result Step NgFault) → Reader S → Reader S → Result Step NgFault → Type 0
@@ -136,7 +135,7 @@ abbrev pub IsPassedOver : Content → Type 0
 IsPassedOver (Holds packet) = ⊥
 IsPassedOver other = Unit {0}
 
--- One reader comes to be the other by passing over blocks without a packet.
+-- Skipping blocks without a packet leads from one reader to the other.
 pub data Passes {S : Type 0} (left : S → Option (List ℕ)) (faults : S → ℕ) (from : Reader S)
     : Reader S → Type 0 where
   here : Passes left faults from from
@@ -144,7 +143,7 @@ pub data Passes {S : Type 0} (left : S → Option (List ℕ)) (faults : S → �
       → IsPassedOver content → Advances left faults mid new (Ok (Block n content))
       → Passes left faults from new
 
--- Behind blocks without a packet the reader answers this.
+-- After blocks without a packet the reader returns this.
 abbrev pub Stops : {S : Type 0} → (S → Option (List ℕ)) → (S → ℕ) → Reader S → Reader S → ℕ
     → Result Step NgFault → Type 0
 Stops {S} left faults old new number result =
@@ -152,8 +151,8 @@ Stops {S} left faults old new number result =
     × (Passes left faults old mid × Advances left faults mid new result
     × (number ≡ mid.place.number))
 
--- What `next` answers and leaves. A record has the number of its place, its moment, the link type
--- of its interface, and its octets.
+-- What `next` returns, and what it leaves. A record has the number of its place, its moment, the
+-- link type of its interface, and its octets.
 abbrev pub GivesNext : {S : Type 0} → (S → Option (List ℕ)) → (S → ℕ) → Reader S → Reader S
     → Result NgItem NgFault → Type 0
 GivesNext left faults old new (Ok (item.Record number moment link octets)) =
@@ -173,7 +172,7 @@ ReadsCapture left reader vips result =
     (octets : List ℕ) → StandsIn (to_come left reader) reader.order octets
     → Captures (capture vips octets) result
 
--- the time of the first packet that has one, or 0 before a packet was answered
+-- the time of the first packet that has one, or 0 before such a packet was returned
 abbrev pub time_began : {S : Type 0} → Reader S → ℕ
 time_began reader = time_or_zero reader.place.first
 
@@ -182,20 +181,20 @@ abbrev pub KnowsBegan : {S : Type 0} → (S → Option (List ℕ)) → Reader S 
 KnowsBegan left old new =
     (octets : List ℕ) → StandsIn (to_come left old) old.order octets → time_began new ≡ began octets
 
--- what a reader answers from now on, where its capture was read to the record that is cut short, or
--- to the end
+-- what a reader returns from now on, after its capture was read to the end or to the record that is
+-- cut short
 abbrev pub last_step : Option ℕ → Step
 last_step None = End
 last_step (Some number) = Cut
 
--- A reader whose capture was read answers the cut or the end from now on, one whose capture has a
--- fault that fault. Of want of memory nothing is said.
+-- A reader whose capture was read returns the cut or the end from now on; if the capture has a
+-- fault, that fault. `Memory` says nothing.
 abbrev pub HasEnded : Captured → Option (Result Step NgFault) → Type 0
 HasEnded (Ok read) ended = ended ≡ Some (Ok (last_step read.0.cut))
 HasEnded (Err Memory) ended = Unit {0}
 HasEnded (Err e) ended = ended ≡ Some (Err e)
 
--- The last that was done to the reader is the call that answered the end, the cut or the fault.
+-- The last call to the reader returned the end, the cut or the fault.
 abbrev pub EndsWith : {S : Type 0} → (S → Option (List ℕ)) → (S → ℕ) → Captured → Reader S → Type 0
 EndsWith {S} left faults (Ok read) new =
     (before : Reader S)

@@ -9,8 +9,8 @@ abbrev pub per_second : Resolution → ℕ
 per_second (Decimal exponent) = 10 ^ exponent
 per_second (Binary exponent) = 2 ^ exponent
 
--- Where the high bit of the option's octet is set, the low seven bits are an exponent of two,
--- elsewhere of ten.
+-- If the high bit of the option's octet is set, the low seven bits are an exponent of two;
+-- otherwise they are an exponent of ten.
 abbrev pub resolution_of : ℕ → Resolution
 resolution_of octet = if nat_lt octet 128 then Decimal octet else Binary (octet % 128)
 
@@ -18,6 +18,6 @@ resolution_of octet = if nat_lt octet 128 then Decimal octet else Binary (octet 
 abbrev pub microseconds : Resolution
 microseconds = Decimal 6
 
--- a time of so many units, in nanoseconds, rounded down
+-- a time in these units, in nanoseconds, rounded down
 unfoldable pub nanoseconds : Resolution → ℕ → ℕ
 nanoseconds resolution units = units * 10 ^ 9 / per_second resolution

@@ -7,7 +7,7 @@ use crate::place::LONGEST_BLOCK;
 use bm_pcap::Order;
 
 /// The kinds of block that are told apart.
-#[derive(Clone, Copy, Debug, PartialEq, Eq)]
+#[derive(Clone, Copy, PartialEq, Eq)]
 pub enum Kind {
     SectionHeader,
     InterfaceDescription,
@@ -55,7 +55,7 @@ impl Kind {
         matches!(self, Kind::EnhancedPacket | Kind::SimplePacket)
     }
 
-    /// How many octets tell a block's total length.
+    /// How many octets it takes to know a block's total length.
     pub(crate) fn head_size(self) -> usize
         ensures { result ≡ head_size self }
     {
@@ -65,7 +65,7 @@ impl Kind {
         }
     }
 
-    /// The fixed octets of a block.
+    /// How many fixed octets a block has.
     fn least_length(self) -> u32
         ensures { result ≡ least_length self }
     {
@@ -78,7 +78,7 @@ impl Kind {
         }
     }
 
-    /// Whether a block may have so many octets.
+    /// Whether a block may have this many octets.
     pub(crate) fn is_length(self, size: u32) -> bool
         ensures { result ≡ is_length self size }
     {
@@ -86,7 +86,7 @@ impl Kind {
     }
 }
 
-/// The order that the magic in a section header tells.
+/// The order by the magic in a section header.
 pub(crate) fn magic(head: &[u8]) -> Option<Order>
     requires { 12 ≤ length head.now }
     ensures { result ≡ magic_of head.now }

@@ -17,8 +17,8 @@ use crate::{Interface, Kind, NgFault, Place};
 use bm_pcap::Order;
 
 /// A packet in its block: its time, if it has one, the link type of its interface, and where its
-/// octets begin and how many they are.
-#[derive(Clone, Copy, Debug, PartialEq, Eq)]
+/// octets begin and how many there are.
+#[derive(Clone, Copy, PartialEq, Eq)]
 pub struct Packet {
     pub time: Option<u128>,
     pub link: u16,
@@ -28,7 +28,7 @@ pub struct Packet {
 
 /// What a block says: it begins a section with this order, describes an interface, holds a packet,
 /// or says nothing that is read.
-#[derive(Clone, Copy, Debug, PartialEq, Eq)]
+#[derive(Clone, Copy, PartialEq, Eq)]
 pub enum Content {
     Begins(Order),
     Describes(Interface),
@@ -160,7 +160,7 @@ fn captured(interface: Option<&Interface>, original: u32) -> u32
     }
 }
 
-/// A packet whose octets begin here, where they fit its block.
+/// A packet whose octets begin here, if they fit its block.
 fn packet_in(
     place: &Place,
     at: u32,

@@ -10,13 +10,13 @@ use thiserror::Error;
 /// from 1.
 #[derive(Clone, Copy, Debug, PartialEq, Eq, Error)]
 pub enum NgFault {
-    /// The first block is no section header, or its magic is in neither order.
+    /// The first block isn't a section header, or its magic is in neither order.
     #[error("not a capture")]
     NotACapture,
     /// The major version of a section isn't 1.
     #[error("bad version")]
     BadVersion,
-    /// The block of this number has a length that can't be, a magic in neither order, an interface
+    /// The block with this number has an impossible length, a magic in neither order, an interface
     /// that isn't there, a packet that doesn't fit, or is interface 1,025 of its section.
     #[error("block {0} is bad")]
     BadBlock(u32),
@@ -26,10 +26,10 @@ pub enum NgFault {
     /// The capture has more than 268,435,456 octets.
     #[error("too many octets")]
     TooLarge,
-    /// The record of this number has this captured length, which is above 262,144.
+    /// The record with this number has this captured length, which is above 262,144.
     #[error("record {0} states {1} octets")]
     BadLength(u32, u32),
-    /// There is a packet behind record 200,000.
+    /// There is a packet after record 200,000.
     #[error("too many packets")]
     TooManyPackets,
     /// Memory was refused.

@@ -1,9 +1,9 @@
-//! A source whose first octets are looked at.
+//! A source whose first octets can be looked at.
 ghost use Rattle.std.specs.Prelude.{◌≡◌, ◌≤◌};
 
 use bm_io::{Failed, Source, fill};
 
-/// A source, and its first four octets, or all where these are fewer, which it gives first.
+/// A source, and its first four octets (all, if it has fewer), which it gives first.
 #[derive(Drop)]
 pub struct Front<S> {
     src: S,
@@ -19,7 +19,7 @@ impl<S: Source> Front<S> {
     ghost use Rattle.std.specs.Io.KnownBytes.{Keeps};
     ghost use Rattle.bm_pcapng.specs.Front.{HasFrontCause, IsMagic, left_in, magic_in};
 
-    /// Takes the first four octets of a source. The source comes back where it failed.
+    /// Takes the first four octets of a source. The source is given back where it failed.
     pub fn new(mut src: S) -> Result<Front<S>, (S, Failed)>
         ensures octets { IfOk result (λ front. Keeps (S.left src) (left_in S.left front)) }
         ensures magic { IfOk result (λ front. IsMagic (S.left src) (magic_in front)) }
@@ -44,7 +44,7 @@ impl<S: Source> Front<S> {
         &self.octets[..self.upto]
     }
 
-    /// The source behind the first octets.
+    /// The source after the first octets.
     pub fn into_source(self) -> S
         ensures { result ≡ self.src }
     {

@@ -7,9 +7,9 @@ ghost use Rattle.bm_pcapng.specs.Inside.Options.{is_resolution};
 use crate::Resolution;
 use bm_pcap::Order;
 
-/// What is captured at: its link type, the most octets of a packet that are captured, where 0 is no
-/// limit, and its unit of time.
-#[derive(Clone, Copy, Debug, PartialEq, Eq)]
+/// An interface: its link type, how many octets of a packet are captured at most (0 for no limit),
+/// and its unit of time.
+#[derive(Clone, Copy, PartialEq, Eq)]
 pub struct Interface {
     pub link: u16,
     pub snapshot: u32,
@@ -30,7 +30,7 @@ impl Interface {
     }
 }
 
-/// The resolution that options tell.
+/// The resolution that these options give.
 fn resolution_in(order: Order, options: &[u8]) -> Resolution
     ensures { result ≡ resolution_by order options.now }
 {
@@ -44,7 +44,7 @@ fn resolution_in(order: Order, options: &[u8]) -> Resolution
     Resolution::Decimal(6)
 }
 
-/// Whether no option stands at the front.
+/// Whether there is no option at the front.
 fn is_over(order: Order, octets: &[u8]) -> bool
     ensures { result ≡ is_over order octets.now }
 {
@@ -53,7 +53,7 @@ fn is_over(order: Order, octets: &[u8]) -> bool
         || octets.len() < 4 + usize::from(order.read_u16(octets, 2))
 }
 
-/// Whether the option at the front tells a resolution.
+/// Whether the option at the front gives a resolution.
 fn is_resolution(order: Order, octets: &[u8]) -> bool
     requires { 4 ≤ length octets.now }
     ensures { result ≡ is_resolution order octets.now }
@@ -61,7 +61,7 @@ fn is_resolution(order: Order, octets: &[u8]) -> bool
     order.read_u16(octets, 0) == 9 && order.read_u16(octets, 2) == 1
 }
 
-/// The octets behind an option whose value has this length.
+/// The octets after an option whose value has this length.
 fn behind(octets: &[u8], len: u16) -> &[u8]
     ensures { result.now ≡ drop (4 + padded len) octets.now }
 {

@@ -1,9 +1,9 @@
-//! What a reader answers.
+//! What a reader returns.
 use bm_base::Moment;
 
-/// What stands next in a capture: a record, with its number counted from 1, its moment, the link
+/// What comes next in a capture: a record, with its number counted from 1, its moment, the link
 /// type of its interface and its octets; the number of a record that is cut short; the end.
-#[derive(Clone, Copy, Debug)]
+#[derive(Clone, Copy)]
 pub enum NgItem<'a> {
     Record {
         number: u32,

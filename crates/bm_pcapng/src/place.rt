@@ -1,4 +1,4 @@
-//! Where a reader stands in a capture.
+//! A reader's place in a capture.
 ghost use Rattle.std.specs.Prelude.{◌≡◌, ◌≤◌, ◌<◌, ◌+◌, ◌^◌};
 ghost use Rattle.bm_pcapng.specs.Places.{first_place, moment_at, place_behind};
 
@@ -13,12 +13,12 @@ pub const LONGEST_BLOCK: usize = 16_777_216;
 /// The most interfaces of a section.
 pub const MOST_INTERFACES: usize = 1024;
 
-/// No captured moment is later, in nanoseconds.
+/// The latest captured moment, in nanoseconds.
 pub(crate) const LATEST: u64 = 4_400_000_000_000_000_000;
 
 /// The numbers of the next block and of the next record, how many octets the capture may have from
 /// here on, the time of the first packet that has one, and the moment of the record before.
-#[derive(Clone, Copy, Debug, PartialEq, Eq)]
+#[derive(Clone, Copy, PartialEq, Eq)]
 pub struct Place {
     pub block: u32,
     pub number: u32,
@@ -55,7 +55,7 @@ impl Place {
         }
     }
 
-    /// Behind a block of so many octets.
+    /// The place after a block of `size` octets.
     pub(crate) fn behind(&self, size: u32, content: &Content) -> Place
         requires blocks { self.now.block < 2 ^ 31 }
         requires few { self.now.number < 2 ^ 31 }

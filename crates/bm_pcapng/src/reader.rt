@@ -31,8 +31,7 @@ use bm_pcap::Window;
 use std::alloc::Global;
 use std::marker::Model;
 
-/// Reads a capture block by block, over any source. It reads ahead, and at most 16,777,216 octets
-/// of what was read are not answered yet.
+/// Reads a capture block by block, over any source. It reads at most 16,777,216 octets ahead.
 #[derive(Drop)]
 pub struct NgReader<S> {
     window: Window<S>,
@@ -66,8 +65,8 @@ impl<S> Model for NgReader<S> {
         × (a.place.number ≤ most_records + 1) × (width a.window ≡ longest_block) };
 }
 
-/// What `next` comes to behind the blocks that it passes over.
-#[derive(Clone, Copy, Debug, PartialEq, Eq)]
+/// What `next` finds after the blocks that it skips.
+#[derive(Clone, Copy, PartialEq, Eq)]
 pub enum Stop {
     Packet(u32, u32, Packet),
     Cut(u32),
@@ -79,8 +78,8 @@ impl<S: Source> NgReader<S> {
     ghost use Rattle.std.specs.Io.BufRead.{Rests};
     ghost use Rattle.bm_pcapng.specs.contracts.reader.NgReader.{the_row};
 
-    /// A reader of a capture, whose first block is read. The source comes back with a fault, behind
-    /// at most 16,777,216 octets that were read ahead.
+    /// Reads the first block of a capture, and returns a reader at its front. On a fault the source
+    /// is given back, after at most 16,777,216 octets that were read ahead.
     pub fn start(alloc: Global, src: S) -> Result<NgReader<S>, (S, NgFault)>
         ensures starts { Starts S.left src result }
         ensures leaves { StartLeaves S.left src result }
@@ -104,14 +103,14 @@ impl<S: Source> NgReader<S> {
     }
 
     /// The time of the first packet that has one, in nanoseconds since 1970 and at most
-    /// 4,400,000,000,000,000,000, or 0 before such a packet was answered.
+    /// 4,400,000,000,000,000,000, or 0 before such a packet was returned.
     pub fn began(&self) -> u64
         ensures { result ≡ time_began self.now }
     {
         self.place.first.unwrap_or(0).min(u128::from(LATEST)) as u64
     }
 
-    /// The source, behind what was read ahead.
+    /// The source, after what was read ahead.
     pub fn into_source(self) -> S
         ensures { result ≡ self.source }
     {
@@ -124,7 +123,7 @@ impl<S: Source> NgReader<S> {
         window.into_source()
     }
 
-    /// Reads the next block. After a fault, a block that is cut short or the end it answers the
+    /// Reads the next block. After a fault, a block that is cut short, or the end, it returns the
     /// same again.
     fn advance(&mut self) -> Result<Step, NgFault>
         ensures advances { Advances S.left S.faults self.old self.new result }
@@ -146,7 +145,7 @@ impl<S: Source> NgReader<S> {
         result
     }
 
-    /// Passes over blocks without a packet.
+    /// Skips blocks without a packet.
     fn stop(&mut self) -> Result<Stop, NgFault>
         ensures gives { GivesStop S.left S.faults self.old self.new result }
         ensures last { IfOk result (IsStopLast self.new.passed) }
@@ -166,7 +165,7 @@ impl<S: Source> NgReader<S> {
         }
     }
 
-    /// The octets of a packet in the last block, which has so many octets.
+    /// The octets of a packet in the last block, which has `size` octets.
     fn octets(&self, size: u32, packet: &Packet) -> &[u8]
         requires last { size ≤ length self.now.passed }
         requires within { packet.now.at + packet.now.len ≤ size }
@@ -179,7 +178,7 @@ impl<S: Source> NgReader<S> {
     }
 
     /// The next record, the one that is cut short, or the end. After a fault, a record that is cut
-    /// short or the end it answers the same again. Takes no memory.
+    /// short, or the end, it returns the same again. Takes no memory.
     pub fn next(&mut self) -> Result<NgItem<'_>, NgFault>
         ensures others { IfErr result IsBlockFault }
         ensures* after { sem 𝓛
@@ -199,7 +198,7 @@ impl<S: Source> NgReader<S> {
     }
 }
 
-/// Reads the first block of a capture, and answers none of its octets.
+/// Reads the first block of a capture, and consumes none of its octets.
 fn open<S: Source>(alloc: Global, window: &mut Window<S>) -> Result<Section, NgFault>
     requires { width window.old ≡ longest_block }
     ensures opens { OpensIn (rest S.left window.old) result }
@@ -216,11 +215,11 @@ fn open<S: Source>(alloc: Global, window: &mut Window<S>) -> Result<Section, NgF
     Ok(section)
 }
 
-/// Reads the records of a capture, classified for these services, and the packet of each. The
-/// reader is one whose `next` was not called yet. Afterwards it answers the end, the cut or the
+/// Reads all records of a capture, classified for these services, and the packet of each. The
+/// reader's `next` must not have been called yet. Afterwards it returns the end, the cut or the
 /// fault again, unless memory was refused, and knows when the capture began. A fault is the first
-/// in order of place; `ReadFault` where the source failed, and `Memory` where memory was refused,
-/// may come at any place.
+/// in order of place; but `ReadFault` where the source failed, and `Memory` where memory was
+/// refused, may come at any place.
 pub fn read_ng<S: Source>(
     alloc: Global,
     r: &mut NgReader<S>,
@@ -256,7 +255,7 @@ pub fn read_ng<S: Source>(
     }
 }
 
-/// What a record of this link type holds: one of a type that isn't read is not IPv4.
+/// What a record of this link type holds; one of an unsupported type is not IPv4.
 fn classify_by<'a>(link: u16, octets: &'a [u8], vips: &[Vip]) -> (Body, &'a [u8])
     requires { length octets.now < 2 ^ 32 }
     ensures class { (result.0, result.1.now) ≡ classified_by link vips.now octets.now }

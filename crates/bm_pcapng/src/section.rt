@@ -5,7 +5,7 @@ use crate::{Content, Interface};
 use bm_pcap::Order;
 use std::alloc::{AllocError, Global};
 
-/// The order of a section's numbers, and its interfaces, for all of which there is memory.
+/// The order of a section's numbers, and its interfaces. Memory for all of them is reserved.
 #[derive(Drop)]
 pub(crate) struct Section {
     pub(crate) order: Order,
@@ -35,7 +35,7 @@ impl Section {
         self.interfaces.as_slice()
     }
 
-    /// Goes on behind a block. Takes no memory.
+    /// Moves past a block. Takes no memory.
     pub(crate) fn pass(&mut self, content: &Content)
         requires { IsRoomFor self.old.interfaces.items content.now }
         ensures order { self.new.order ≡ order_behind self.old.order content.now }

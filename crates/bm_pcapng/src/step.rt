@@ -1,4 +1,4 @@
-//! What stands next in a capture.
+//! What comes next in a capture.
 ghost use Rattle.std.specs.Prelude.{◌≡◌, ◌≤◌, length, nat_lt, if◌then◌else◌, IfOk, IfErr, OnOk, Ok};
 ghost use Rattle.std.specs.Prelude.{Err};
 ghost use Rattle.std.specs.Io.KnownBytes.{Keeps};
@@ -24,8 +24,9 @@ use crate::{Content, Kind, NgFault, Place};
 use bm_io::Source;
 use bm_pcap::{Order, Window};
 
-/// What stands next: a block of so many octets, and what it says; one that is cut short; the end.
-#[derive(Clone, Copy, Debug, PartialEq, Eq)]
+/// What comes next: a block, with how many octets it has and what it says; one that is cut short;
+/// the end.
+#[derive(Clone, Copy, PartialEq, Eq)]
 pub enum Step {
     Block(u32, Content),
     Cut,
@@ -33,14 +34,14 @@ pub enum Step {
 }
 
 /// What the head of a block says: its kind, the order of its numbers, and its total length.
-#[derive(Clone, Copy, Debug, PartialEq, Eq)]
+#[derive(Clone, Copy, PartialEq, Eq)]
 pub enum Head {
     End,
     Cut,
     States(Kind, Order, u32),
 }
 
-/// Reads what stands next at this place. A block's octets are the last that the window answered.
+/// Reads what comes next at this place. A block's octets are the last that were consumed.
 pub(crate) fn read_step<S: Source>(
     window: &mut Window<S>,
     section: &Section,
@@ -65,7 +66,7 @@ pub(crate) fn read_step<S: Source>(
     Ok(step)
 }
 
-/// Looks for what stands next at this place, and answers none of its octets.
+/// Looks for what comes next at this place, and consumes none of its octets.
 pub(crate) fn look<S: Source>(
     window: &mut Window<S>,
     section: &Section,
@@ -105,7 +106,7 @@ pub(crate) fn look<S: Source>(
     }
 }
 
-/// The octets end before what was wanted, or one too many comes before that.
+/// The octets end before what was wanted, or the capture gets too large before that.
 fn short(count: usize, room: usize) -> Result<Head, NgFault>
     ensures { result ≡ (if nat_lt room count then Err TooLarge else Ok Head.Cut) }
 {
@@ -116,7 +117,7 @@ fn short(count: usize, room: usize) -> Result<Head, NgFault>
     }
 }
 
-/// Reads the head of a block, and answers none of its octets.
+/// Reads the head of a block, and consumes none of its octets.
 fn read_head<S: Source>(
     window: &mut Window<S>,
     section: &Section,
@@ -176,7 +177,7 @@ fn states(kind: Kind, order: Order, place: &Place, head: &[u8]) -> Result<Head, 
     Ok(Head::States(kind, order, size))
 }
 
-/// What a whole block of so many octets says.
+/// What a whole block of this many octets says.
 fn framed(
     kind: Kind,
     order: Order,
@@ -200,7 +201,7 @@ fn framed(
     Ok(Step::Block(size, said))
 }
 
-/// Reads the order that the first twelve octets of a capture tell, and answers none of them.
+/// Reads the order that the first twelve octets of a capture give, and consumes none of them.
 pub(crate) fn read_order<S: Source>(window: &mut Window<S>) -> Result<Order, NgFault>
     requires { width window.old ≡ longest_block }
     ensures gives { OrderGives (rest S.left window.old) result }

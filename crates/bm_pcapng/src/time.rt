@@ -3,7 +3,7 @@ ghost use Rattle.std.specs.Prelude.{◌≡◌, ◌≤◌, ◌<◌, ◌*◌, ◌^
 ghost use Rattle.bm_pcapng.specs.Times.{nanoseconds, per_second, resolution_of};
 
 /// How many units of time a second has: a power of ten or of two, with this exponent.
-#[derive(Clone, Copy, Debug, PartialEq, Eq)]
+#[derive(Clone, Copy, PartialEq, Eq)]
 pub enum Resolution {
     Decimal(u8),
     Binary(u8),
@@ -32,7 +32,7 @@ impl Resolution {
         }
     }
 
-    /// So many units in nanoseconds, rounded down.
+    /// This many units in nanoseconds, rounded down.
     pub(crate) fn nanoseconds(self, units: u64) -> u128
         ensures value { result ≡ nanoseconds self units }
         ensures few { result < 2 ^ 94 }

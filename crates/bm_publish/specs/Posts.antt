@@ -17,7 +17,7 @@ pub record Posted : Type 0 where
 abbrev pub last_version : Posted → ℕ
 last_version p = length p.clocks
 
--- the last clock, or this one where there is none
+-- the last clock, or this one if there is none
 abbrev pub last_or : ℕ → List ℕ → ℕ
 last_or clock [] = clock
 last_or clock (c ∷ clocks) = last_or c clocks
@@ -26,22 +26,22 @@ last_or clock (c ∷ clocks) = last_or c clocks
 abbrev pub last_post : Posted → ℕ
 last_post p = last_or 0 p.clocks
 
--- with one post more
+-- one more post
 abbrev pub with_post : Posted → ℕ → Posted
 with_post p clock = record p { clocks = p.clocks ++ clock ∷ [] }
 
--- the same board and plan; what was posted goes on
+-- the same board and plan, with these posts and maybe more
 pub record Continues (p q : Posted) : Type 0 where
   pub board : q.board ≡ p.board
   pub plan : q.plan ≡ p.plan
   pub posts : IsPrefix p.clocks q.clocks
 
--- the clocks rise, above the first number, and end at most at LAST
+-- the clocks rise, are above `low`, and are at most LAST
 abbrev pub RiseAbove : ℕ → List ℕ → Type 0
 RiseAbove low [] = low ≤ 9 * 10 ^ 18
 RiseAbove low (c ∷ clocks) = (low < c) × RiseAbove c clocks
 
--- what holds of all that is posted
+-- what holds of everything that is posted
 pub record IsPosted (p : Posted) : Type 0 where
   pub plan : IsPlan p.plan
   pub few : length p.clocks ≤ length p.plan.changes

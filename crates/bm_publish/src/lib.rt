@@ -1,4 +1,4 @@
-//! The board: a table that one thread posts and others read, without locks and without copies.
+//! The board: a table that one thread publishes and others read, without locks and without copies.
 #![tactic(auto)]
 
 mod look;

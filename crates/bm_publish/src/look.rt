@@ -1,4 +1,4 @@
-//! The ends that read.
+//! The readers' ends of a board.
 ghost use Rattle.std.specs.Prelude.{◌≡◌, ◌*◌, ◌^◌, ◌<◌, ◌≤◌, ◌⊎◌, MatchResult};
 ghost use Rattle.bm_table.specs.Tables.{table};
 ghost use Rattle.bm_publish.specs.Inside.Boards.{Knows};
@@ -11,7 +11,8 @@ use bm_base::{Entry, Memory, Moment, Version};
 use left_right::reader::{Reader, Reading};
 use std::marker::Model;
 
-/// An end of a board that isn't reading. Contracts see what it has seen or heard of.
+/// A reader's end of a board, while it isn't reading. Contracts see the posts that it has seen or
+/// heard of.
 #[derive(Drop)]
 pub struct Look {
     reader: Reader<Shown, Option<Told>, Kept>,
@@ -57,7 +58,7 @@ impl Look {
         Look { reader, told }
     }
 
-    /// Hears what the poster tells. From then on the look shows nothing older.
+    /// Hears what the poster tells. From then on it shows nothing older.
     pub fn hear(&mut self, told: Told)
         requires { told.board ≡ self.old.board }
         ensures one { (self.new ≡ self.old) ⊎ (self.new ≡ told) }
@@ -67,8 +68,8 @@ impl Look {
         self.told = self.told.longer(&told);
     }
 
-    /// Looks at the table that is posted. It waits for nobody, and takes no lock, no copy and no
-    /// memory. `Memory` where the place is refused; then the look comes back as it was.
+    /// Looks at the table that is posted. Waits for nobody, and takes no lock, no copy and no
+    /// memory. `Memory` where the place is refused; then the look is given back as it was.
     pub fn look(self) -> Result<Guard, (Look, Memory)>
         ensures { MatchResult result (λ guard. Continues self guard) (λ back. back.0 ≡ self) }
     {
@@ -115,7 +116,7 @@ impl Guard {
         self.reading.get().told.clock()
     }
 
-    /// What the table says of a bucket. Takes no memory.
+    /// The table's entry for a bucket. Takes no memory.
     pub fn entry(&self, bucket: u32) -> Entry
         requires { bucket < self.now.plan.buckets }
         ensures { result ≡ table self.now.plan (last_version self.now) bucket }

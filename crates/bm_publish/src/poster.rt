@@ -1,4 +1,4 @@
-//! The end that posts, and how a board is made.
+//! The poster's end of a board, and how a board is made.
 ghost use Rattle.std.specs.Prelude.{◌≡◌, ◌*◌, ◌^◌, ◌<◌, ◌≤◌, [], Some, All, IfOk, OnErr, OnOk};
 ghost use Rattle.std.specs.Prelude.{drop, length};
 ghost use Rattle.bm_table.specs.Tables.{next_change};
@@ -42,8 +42,8 @@ impl Model for Poster {
         × (p.head ≡ head_of p.writer.desk.shown.value.told.board) };
 }
 
-/// A board that shows version 0 and clock 0 of the plan, its poster and so many looks. `Memory`
-/// where memory was refused; then it waits for nobody, since nobody reads.
+/// A board that shows version 0 and clock 0 of the plan, its poster and this many looks. `Memory`
+/// where memory was refused; it then waits for nobody, since nobody reads.
 pub fn board<R: Wait>(
     rt: &R,
     alloc: Global,
@@ -76,7 +76,7 @@ fn idle_change(alloc: Global) -> Change
     }
 }
 
-/// Shows a post. The ends come back, and show what they showed where memory was refused.
+/// Shows a post. The ends are given back, and still show what they showed if memory was refused.
 fn publish<R: Wait>(rt: &R, mut writer: Ends, post: Post) -> (Ends, Result<(), Memory>)
     requires idle { drop writer.behind writer.log.items ≡ [] }
     requires right { IsRight writer.desk.shown.value.table writer.desk.shown.value.told }
@@ -125,7 +125,7 @@ impl Poster {
         Ok(Poster { writer, head })
     }
 
-    /// One look more.
+    /// One more look.
     fn seat(&mut self) -> Result<Look, Memory>
         ensures kept { self.new ≡ self.old }
         ensures look { IfOk result (λ look. look ≡ self.old) }
@@ -135,7 +135,7 @@ impl Poster {
         Ok(Look::new(reader, self.tell()))
     }
 
-    /// So many looks.
+    /// This many looks.
     fn seats(&mut self, alloc: Global, readers: u16) -> Result<Vec<Look>, Memory>
         ensures kept { self.new ≡ self.old }
         ensures count { IfOk result (λ looks. length looks.items ≡ readers) }
@@ -178,14 +178,14 @@ impl Poster {
         (Poster { writer, head }, answer)
     }
 
-    /// What carries all that was posted, for one look to hear. Takes no memory.
+    /// All that was posted, for a look to hear. Takes no memory.
     pub fn tell(&self) -> Told
         ensures { result ≡ self.now }
     {
         self.writer.published().told.again()
     }
 
-    /// Gives the board up. It waits for the looks that read.
+    /// Drops the board. Waits for the looks that read.
     pub fn end<R: Wait>(self, rt: &R) {
         let Poster {
             writer,

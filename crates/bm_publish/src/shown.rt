@@ -38,7 +38,7 @@ impl Absorb<Post> for Shown {
     }
 }
 
-/// The rule of a board. A seat's view is what it was told, if it was told anything.
+/// The rule of a board. A seat's view is what it was told, if anything.
 pub struct Kept;
 
 impl Protocol<Shown, Option<Told>> for Kept {
@@ -68,7 +68,7 @@ impl Split<Option<Told>> for Telling {
     ghost right = { λ v. v };
 }
 
-/// A reader takes that over.
+/// A reader takes over what it is told.
 pub(crate) struct Hearing;
 
 impl Join<Option<Told>> for Hearing {

@@ -47,7 +47,7 @@ impl Opening<Plan, Line> for Begin {
     ghost log = { λ words plan. Opens plan ∷ [] };
 }
 
-/// Who posts trades nothing.
+/// The poster gains nothing by a post.
 struct Nothing;
 
 impl Gain<Line, u64> for Nothing {
@@ -77,8 +77,8 @@ impl Plain<Moment, Line, u64> for Add {
 /// How many posts the history has. Only the poster has it.
 pub(crate) type Head = Word<Line, u64, Counted>;
 
-/// What was posted on a board up to some moment. It has the last version and clock; contracts see
-/// the board, the plan and the clock of each post.
+/// What was posted on a board up to some moment. It has the last version and its clock; contracts
+/// see the board, the plan and the clock of each post.
 #[derive(Drop)]
 pub struct Told {
     version: Version,
@@ -100,7 +100,7 @@ impl Model for Told {
         × (t.clock.0 ≡ last_post (posted_in t.seen.book t.seen.log)) };
 }
 
-/// The history of a new board, and its word.
+/// The history of a new board, and what it tells.
 pub(crate) fn open(plan: &Plan) -> (Head, Told)
     ensures head { result.0 ≡ head_of result.1.board }
     ensures told { (result.1.plan ≡ plan.now) × (result.1.clocks ≡ []) }
@@ -145,7 +145,7 @@ impl Told {
         }
     }
 
-    /// Whether the other goes on from here. Of two of one board one goes on from the other.
+    /// Whether the other continues this one. Of two of one board, one continues the other.
     pub(crate) fn begins(&self, other: &Told) -> bool
         requires { other.now.board ≡ self.now.board }
         ensures { IsTrue result → Continues self.now other.now }
@@ -158,7 +158,7 @@ impl Told {
         false
     }
 
-    /// The longer of two that are of one board.
+    /// The longer of two of one board.
     pub(crate) fn longer(&self, other: &Told) -> Told
         requires { other.now.board ≡ self.now.board }
         ensures one { (result ≡ self.now) ⊎ (result ≡ other.now) }
@@ -174,7 +174,7 @@ impl Told {
         }
     }
 
-    /// With one post more, which the history then has. None where the history has other posts.
+    /// One more post, which the history then has. None if the history has other posts.
     pub(crate) fn with_post(&self, head: &Head, clock: Moment) -> Option<Told>
         requires head { head.now ≡ head_of self.now.board }
         requires next { last_version self.now < length self.now.plan.changes }

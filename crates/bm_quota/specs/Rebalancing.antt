@@ -1,4 +1,4 @@
--- Quotas of servers, and the list of moves that reaches them.
+-- Quotas of servers, and the list of moves that meets them.
 use Rattle.std.specs.Prelude.{◌≡◌, ℕ, zero, suc, ◌+◌, ◌-◌, ◌/◌, ◌%◌, nat_lt, nat_le, if◌then◌else◌}
 use Rattle.std.specs.Prelude.{List, [], ◌∷◌, map, replicate, unwrap_or}
 use Rattle.std.specs.List.{flat_map, range_with_len}
@@ -36,16 +36,16 @@ abbrev pub ReachQuotas : List ServerId → List ServerId → List ℕ → List M
 ReachQuotas owners active quotas moves =
     (s : ServerId) → owned (owners_after moves 0 owners) s ≡ quota_of active quotas s
 
--- what a server owns above its quota
+-- how many buckets a server owns above its quota
 abbrev pub surplus : List ServerId → List ServerId → List ℕ → ServerId → ℕ
 surplus owners active quotas s = owned owners s - quota_of active quotas s
 
--- the sum of a number of each server below number n
+-- the sum of f over the servers with numbers below n
 abbrev pub sum_below : (ServerId → ℕ) → ℕ → ℕ
 sum_below f zero = 0
 sum_below f (suc n) = f (record { 0 = n }) + sum_below f n
 
--- of the buckets from b on, the highest of each server, as many as it has to give
+-- of the buckets from b on, the highest of each server, as many as it has to give away
 abbrev pub highest : (ServerId → ℕ) → ℕ → List ServerId → List ℕ
 highest gives b [] = []
 highest gives b (owner ∷ owners) =
@@ -62,7 +62,7 @@ moves_to [] servers = []
 moves_to (b ∷ buckets) [] = []
 moves_to (b ∷ buckets) (s ∷ servers) = record { bucket = b; to = s } ∷ moves_to buckets servers
 
--- Each server gives its highest buckets, as many as it is above its quota. The given buckets, in
+-- Each server gives away its highest buckets, as many as it is above its quota. These buckets, in
 -- rising order, go to the servers below their quota, in rising number, each filled before the next.
 abbrev pub rebalancing : List ServerId → List ServerId → List ℕ → List Move
 rebalancing owners active quotas =

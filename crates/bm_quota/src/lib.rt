@@ -1,4 +1,4 @@
-//! Quotas, and the shortest list of moves that reaches them.
+//! Quotas, and the shortest list of moves that meets them.
 #![tactic(auto)]
 
 mod rebalance;

@@ -12,14 +12,14 @@ use bm_base::{Memory, ServerId};
 use bm_table::Move;
 use std::alloc::Global;
 
-/// How many numbers a server may have.
+/// How many server numbers there may be.
 const NUMBERS: usize = 65_536;
 
-/// The moves after which each active server owns its quota and no other server owns a bucket, as
-/// few as can be. Each server that owns more than its quota gives its highest buckets. The given
-/// buckets, in rising order, go to the servers below their quota, in rising number, each filled
-/// before the next. `owner` is the server of each bucket. The moves rise by their bucket. `Memory`
-/// where memory was refused.
+/// The fewest moves after which each active server owns its quota and no other server owns a
+/// bucket. Each server that owns more than its quota gives away its highest buckets. These buckets,
+/// in rising order, go to the servers below their quota, in rising number, each filled before the
+/// next. `owner` is the server of each bucket. The moves rise by their bucket. `Memory` where
+/// memory was refused.
 pub fn moves(
     alloc: Global,
     owner: &[ServerId],
@@ -36,11 +36,11 @@ pub fn moves(
     ensures reach { IfOk result (λ moves.
         rule.ReachQuotas owner.now active.now quotas.now moves.items) }
 
-    // They are as many as the servers own above their quotas, together.
+    // There are as many moves as buckets that the servers own above their quotas, together.
     ensures surpluses { IfOk result (λ moves. (n : ℕ) → All (λ s. s.0 < n) owner.now
         → length moves.items ≡ rule.sum_below (rule.surplus owner.now active.now quotas.now) n) }
 
-    // No list of moves that reaches the quotas is shorter.
+    // No list of moves that meets the quotas is shorter.
     ensures least { IfOk result (λ moves. (others : List Move)
         → rule.ReachQuotas owner.now active.now quotas.now others
         → length moves.items ≤ length others) }
@@ -73,7 +73,8 @@ fn zeros(alloc: Global, count: usize) -> Result<Vec<u32>, Memory>
     Ok(vec![in alloc; 0; count]?)
 }
 
-/// The buckets for which their servers have no room, in rising order. Rooms end as what is left.
+/// The buckets for which their servers have no room, in rising order. `rooms` ends as the room that
+/// is left.
 fn give(alloc: Global, owner: &[ServerId], rooms: &mut [u32]) -> Result<Vec<u32>, Memory>
     requires numbers { length rooms.old ≡ NUMBERS }
     requires buckets { length owner.now ≤ 65536 }
@@ -90,7 +91,7 @@ fn give(alloc: Global, owner: &[ServerId], rooms: &mut [u32]) -> Result<Vec<u32>
     Ok(buckets)
 }
 
-/// Whether there was room at the place, which is then one less.
+/// Whether there was room at the place; if so, it is one less afterwards.
 fn has_kept(rooms: &mut [u32], place: usize) -> bool
     requires { place < length rooms.old }
     ensures room { result ≡ nat_lt 0 (slice_index rooms.old place) }

@@ -8,11 +8,11 @@ use bm_table::{Limit, PlanFault};
 use std::alloc::AllocError;
 use thiserror::Error;
 
-/// Why a command is refused. A server is known from the opening or from its add on, for good, and
-/// active until its drain.
+/// Why a command is refused. A server is known from the opening, or from when it is added, for
+/// good; it is active until it is drained.
 #[derive(Clone, Copy, Debug, Drop, Error, PartialEq, Eq)]
 pub enum Refusal {
-    /// The server that is added is known.
+    /// The server to add is already known.
     #[error("known server")]
     KnownServer,
     /// The server isn't known.
@@ -27,13 +27,13 @@ pub enum Refusal {
     /// The bucket isn't below the number of buckets.
     #[error("bad bucket")]
     BadBucket,
-    /// The bucket is at that server.
+    /// The bucket is already at that server.
     #[error("same server")]
     SameServer,
     /// The moment is below that of the last command.
     #[error("the moment is below that of the last command")]
     StampFell,
-    /// A limit would be passed.
+    /// A limit would be exceeded.
     #[error("too many {0}")]
     TooMany(Limit),
     /// Memory was refused.

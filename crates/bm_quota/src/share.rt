@@ -5,8 +5,8 @@ ghost use Rattle.bm_quota.specs.Rebalancing.{quotas_of};
 use bm_base::{Memory, ServerId};
 use std::alloc::Global;
 
-/// The number of buckets divided by the number of servers, and one more for the first servers, as
-/// many as the remainder says. `Memory` where memory was refused.
+/// The number of buckets divided by the number of servers; the first servers, as many as the
+/// remainder, get one more. `Memory` where memory was refused.
 pub fn quotas(alloc: Global, buckets: u32, active: &[ServerId]) -> Result<Vec<u32>, Memory>
     requires { 0 < length active.now }
     ensures parts { IfOk result (λ quotas. quotas.items ≡ quotas_of buckets (length active.now)) }

@@ -10,11 +10,11 @@ use Rattle.bm_base.specs.declared.flow.Segment.{Segment}
 use Rattle.bm_base.specs.declared.capture.Record.{Record}
 use Rattle.bm_base.specs.declared.capture.Vip.{Vip}
 use Rattle.bm_base.specs.declared.label.Hop.{Hop}
-use Rattle.bm_base.specs.declared.label.Hop.TheVariants.{Direct, Chained}
+use Rattle.bm_base.proofs.Entries.{IsPassed, tag_passed}
 use Rattle.bm_base.specs.declared.label.Label.{Label}
-use Rattle.bm_base.specs.declared.label.Tag.{Tag}
 use Rattle.bm_base.specs.declared.fate.Fate.{Fate}
-use Rattle.bm_base.specs.Labels.{arrives_at, tag_for, tag_of}
+use Rattle.bm_base.specs.Labels.{arrives_at, hop_after, tag_of}
+use Rattle.bm_base.specs.Inside.Labels.{later_hop}
 use Rattle.bm_fault.specs.declared.wire.Flight.{Flight}
 use Rattle.bm_fault.specs.Flying.{Flying}
 use Rattle.bm_fault.specs.Wires.{first_flight, others}
@@ -200,15 +200,6 @@ arrive_answered p past at flight s u is number some later keeps seg = record {
   verdict_is = verdict_same p past at flight s u is number some later keeps;
 }
 
--- WHERE IT IS FORWARDED TO
-
--- the tag of the chained copy
-chained_tag : (l : Label) (hop : Hop) (t : Tag) (to : ServerId) → l.entry.prev ≡ Some to → tag_for l hop t.dest ≡ t
-    → tag_of l Chained ≡ Some (record t { hop = Chained; dest = to })
-chained_tag l hop t to prev is =
-    let there : tag_of l Chained ≡ Some (tag_for l Chained to) = rw prev refl
-    in there ∙ ap (λ (x : Tag). Some (record x { hop = Chained; dest = to })) is
-
 -- THE STATE AFTER IT
 
 abbrev arrive_what : Moment → Flight → Segment → Player → What
@@ -277,7 +268,7 @@ kept_arrival R F p at flight s states c f o flying loss is are behind owes = rec
       behind;
 }
 
--- the others are still behind the packets that were let go
+-- the others are still of packets after those that were freed
 others_held : (R : Routes) (F : Rules) (p : Player) (at : Moment) (flight : Flight) (s : Segment)
     (states : List State) → IsAtStop R F p at flight s states → AreBehind p.cleared (others p.wire)
 others_held R F p at flight s states c = others_behind p.cleared p.wire c.copy.ready.state.packets.under_way
@@ -307,9 +298,9 @@ ended R F p q at flight s states c none is =
     (others_arrived R F p at flight s states c plain played) (others_held R F p at flight s states c)
     (c.copy.ready.state.loss ∙ c.copy.ready.no_loss_due)))
 
-sends_on : (k : ℕ) (hop : Hop) (server to : ServerId) → hop ≡ Direct
-    → sending_of (Arrive k hop server (Forward to)) ≡ Some (record { packet = k; hop = Chained })
-sends_on k hop server to is = rw is refl
+sends_on : (k : ℕ) (hop next : Hop) (server to : ServerId) → hop_after hop ≡ Some next
+    → sending_of (Arrive k hop server (Forward to)) ≡ Some (record { packet = k; hop = next })
+sends_on k hop next server to is = rw is refl
 
 -- it is forwarded
 went_on : (R : Routes) (F : Rules) (p q : Player) (at : Moment) (flight : Flight) (s : Segment)
@@ -319,29 +310,26 @@ went_on R F p q at flight s states to c forward sending =
     subst (λ (x : Player). HasPlayed R F p x) (sym sending.is)
     (packaged R F p (sent sending.fate at (chained to flight) (after_arrival at flight s states p)) sending.fate
     c.copy.ready.fates (arrive_event at flight s p) refl refl played
-    (kept_arrival R F p at flight s states c sending.fate (Some (record { packet = flight.packet; hop = Chained })) _ _
+    (kept_arrival R F p at flight s states c sending.fate (Some (record { packet = flight.packet; hop = later_hop flight.tag.hop })) _ _
     sends (copies_fly p.stage (arrive_event at flight s p ∷ past_of p) _ _ flying sending.fate.copies (others p.wire)
     (rest (wire c.copy.ready.fates (past_of p))) (others_arrived R F p at flight s states c sending.fate played))
     (copies_behind p.cleared _ c.behind sending.fate.copies (others p.wire) (others_held R F p at flight s states c))
-    (loss_is_due sending.fate (chained to flight) (record { packet = flight.packet; hop = Chained }) refl refl))) where
-      passed : (flight.tag.hop ≡ Direct) × (c.is_landing.label.entry.prev ≡ Some to)
+    (loss_is_due sending.fate (chained to flight) (record { packet = flight.packet; hop = later_hop flight.tag.hop }) refl refl))) where
+      passed : IsPassed c.is_landing.label.entry flight.tag.hop to
       passed = forwarded (local_at p.stage (past_of p) flight.tag.dest s.flow) (timeout p.stage) at.0
           c.is_landing.label.entry flight.tag.hop s to
           (sym (verdict_same p (past_of p) at flight s c.copy.copy c.is_landing c.number c.some c.later
           c.copy.ready.state.shards) ∙ forward)
 
-      sends : sending_of (arrive_what at flight s p) ≡ Some (record { packet = flight.packet; hop = Chained })
+      sends : sending_of (arrive_what at flight s p) ≡ Some (record { packet = flight.packet; hop = later_hop flight.tag.hop })
       sends = ap (λ (v : Verdict). sending_of (Arrive flight.packet flight.tag.hop flight.tag.dest v)) forward
-          ∙ sends_on flight.packet flight.tag.hop flight.tag.dest to passed.0
+          ∙ sends_on flight.packet flight.tag.hop (later_hop flight.tag.hop) flight.tag.dest to passed.next
 
       given : IfSome (sending_of (arrive_what at flight s p)) (λ x. F x.packet x.hop sending.fate)
       given = subst (λ (o : Option Sending). IfSome o (λ x. F x.packet x.hop sending.fate)) (sym sends) sending.gives
 
       played : IsPlayed R F p.stage (sending.fate ∷ c.copy.ready.fates) (arrive_event at flight s p ∷ past_of p)
       played = told_arrival R F p at flight s states c sending.fate given sending.soon
-
-      stop_here : HasStopAt c.is_landing.label flight.tag.hop flight.tag
-      stop_here = tag_stop c.is_landing.label flight.tag.hop flight.tag c.is_landing.tag
 
       flying : IsFlying p.stage (arrive_event at flight s p ∷ past_of p)
           (record { due = record { 0 = at.0 + sending.fate.delay }; flight = chained to flight })
@@ -350,7 +338,7 @@ went_on R F p q at flight s states to c forward sending =
             place = length (past_of p);
             packet = flight.packet;
             hop =
-                Chained;
+                later_hop flight.tag.hop;
           })
       flying = record {
         due = refl;
@@ -359,7 +347,8 @@ went_on R F p q at flight s states to c forward sending =
         is_label =
             label_stays p.stage (past_of p) (arrive_event at flight s p) flight.packet c.is_landing.label played.run.0
             c.is_landing.is_label;
-        tag = chained_tag c.is_landing.label flight.tag.hop flight.tag to passed.1 stop_here.is_tag;
+        tag = tag_passed c.is_landing.label flight.tag.hop (later_hop flight.tag.hop) flight.tag to passed.stop
+            c.is_landing.tag;
       }
 
 by_verdict : (R : Routes) (F : Rules) (p q : Player) (at : Moment) (flight : Flight) (s : Segment)

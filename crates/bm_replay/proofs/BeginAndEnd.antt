@@ -103,9 +103,9 @@ ends R F p playing none over = record {
   }
 
 -- a replay on its way has few events
-pub few_events : (R : Routes) (F : Rules) (p : Player) → IsPlaying R F p → length p.events ≤ 6859840
+pub few_events : (R : Routes) (F : Rules) (p : Player) → IsPlaying R F p → length p.events ≤ 12259840
 few_events R F p playing =
-    let few : length (past_of p) ≤ 6859840 =
+    let few : length (past_of p) ≤ 12259840 =
     length_law playing.fates p.stage (past_of p) playing.played.sound playing.played.follows playing.played.soon
     in let same : length (past_of p) ≡ length p.events = length-reverse p.events
     in omega arith

@@ -1,5 +1,5 @@
 -- What carriers carry, and where they go on to.
-use Rattle.std.proofs.Common.{◌≡◌, ℕ, zero, suc, ◌^◌, ◌<◌, ◌≤◌, List, [], ◌∷◌, ◌++◌, length, take, drop, Option, Some}
+use Rattle.std.proofs.Common.{◌≡◌, ℕ, zero, suc, ◌<◌, ◌≤◌, List, [], ◌∷◌, ◌++◌, length, take, drop, Some}
 use Rattle.std.proofs.Common.{Result, Ok, Err, refl, sym, ap, subst, ◌∙◌, arith}
 use Rattle.std.specs.Prelude.{All, MatchResult}
 use Rattle.std.specs.Int.{byte_at, bytes_high_first}
@@ -8,37 +8,38 @@ use Rattle.std.proofs.Math.Seq.{take-append_seam}
 use Rattle.std.proofs.lemmas.List.Elements.{All-from_get_or}
 use Rattle.bm_base.specs.declared.ids.ServerId.{ServerId}
 use Rattle.bm_base.specs.declared.flow.Segment.{Segment}
-use Rattle.bm_base.specs.declared.label.Hop.{Hop}
-use Rattle.bm_base.specs.declared.label.Hop.TheVariants.{Direct, Chained}
+use Rattle.bm_base.proofs.Entries.{IsPassed}
+use Rattle.bm_base.proofs.Hops.{has_past}
+use Rattle.bm_base.specs.Labels.{entry_of, onward}
+use Rattle.bm_base.specs.Inside.Labels.{later_hop}
 use Rattle.bm_base.specs.declared.label.Tag.{Tag}
 use Rattle.bm_base.specs.Tags.{IsTag}
-use Rattle.bm_tcp.specs.declared.packet.InnerFault.{InnerFault}
 use Rattle.bm_tcp.specs.Packets.{ReadsAs}
 use Rattle.bm_encap.specs.declared.fault.EncapFault.{EncapFault}
-use Rattle.bm_encap.specs.Faults.{chained, chained_from, next_from, next_hop, next_of, spelling_of, unwrapped}
+use Rattle.bm_encap.specs.Faults.{chained, chained_from, next_from, next_hop, spelling_of, unwrapped}
 use Rattle.bm_encap.specs.Spellings.{fields, header, spelled, spelling}
+use Rattle.bm_encap.specs.Inside.Spellings.{FitsFields}
 use Rattle.bm_encap.proofs.Faultless.{read_is}
 use Rattle.bm_encap.proofs.NumberLemmas.{AreOctets, octets_from}
 use Rattle.bm_encap.proofs.Spelled.{spelling_read}
-use Rattle.bm_replay.specs.Inside.Carriers.{carried, carried_by, next_tag, with_tag}
+use Rattle.bm_shard.specs.declared.fault.HandleFault.{HandleFault}
+use Rattle.bm_shard.proofs.Copies.{copy_spelled}
+use Rattle.bm_replay.specs.Inside.Carriers.{carried, next_tag}
 
 -- A CARRIER THAT SPELLS A TAG
 
-pub carries : (tag : Tag) (packet : List ℕ) (s : Segment) → IsTag tag → tag.stamp.0 < 2 ^ 64 → tag.version.0 < 2 ^ 32
-    → length packet ≤ 65491 → ReadsAs packet s
-    → carried (spelling tag packet) ≡ Some (tag, s)
-carries tag packet s is stamp version few reads =
-    ap carried_by (spelling_read tag packet is stamp version few)
-    ∙ ap (λ (r : Result (Segment × List ℕ) InnerFault). with_tag tag r) reads
+pub carries : (tag : Tag) (packet : List ℕ) (s : Segment) → IsTag tag → FitsFields tag → length packet ≤ 65479 → ReadsAs packet s
+    → carried tag.dest (spelling tag packet) ≡ Some (tag, s)
+carries tag packet s is fits few reads =
+    ap (λ (r : Result (Tag × Segment) HandleFault). result_ok r) (copy_spelled tag packet s is fits few reads)
 
-pub goes_on : (tag : Tag) (packet : List ℕ) (to : ServerId) → IsTag tag → tag.stamp.0 < 2 ^ 64 → tag.version.0 < 2 ^ 32
-    → length packet ≤ 65491 → tag.hop ≡ Direct → tag.prev ≡ Some to
-    → next_tag (spelling tag packet) ≡ Some (record tag { hop = Chained; dest = to })
-goes_on tag packet to is stamp version few direct prev =
-    ap (λ (r : Result (Tag × List ℕ) EncapFault). result_ok (next_from r))
-    (spelling_read tag packet is stamp version few)
-    ∙ (ap (λ (h : Hop). result_ok (next_of h tag.prev tag)) direct
-    ∙ ap (λ (o : Option ServerId). result_ok (next_of Direct o tag)) prev)
+pub goes_on : (tag : Tag) (packet : List ℕ) (to : ServerId) → IsTag tag → FitsFields tag → length packet ≤ 65479
+    → IsPassed (entry_of tag) tag.hop to
+    → next_tag (spelling tag packet) ≡ Some (record tag { hop = later_hop tag.hop; dest = to })
+goes_on tag packet to is fits few passed =
+    let p = has_past (onward (entry_of tag) tag.hop) to passed.onto in
+    ap (λ (r : Result (Tag × List ℕ) EncapFault). result_ok (next_from r)) (spelling_read tag packet is fits few)
+    ∙ rw (passed.next, p.1) (ap (λ (s : ServerId). Some (record tag { hop = later_hop tag.hop; dest = s })) p.2)
 
 -- OCTETS ARE BELOW 256
 
@@ -85,7 +86,7 @@ all_below xs are = All-from_get_or (λ octet. octet < 256) xs 0 (λ i inside. ar
 inner_below : (octets : List ℕ) (read : Tag × List ℕ) → AreOctets octets → unwrapped octets ≡ Ok read
     → AreOctets read.1
 inner_below octets read are is =
-    subst (λ (x : Tag × List ℕ). AreOctets x.1) (sym (read_is octets read is).1) (octets_from 44 octets are)
+    subst (λ (x : Tag × List ℕ). AreOctets x.1) (sym (read_is octets read is).1) (octets_from 56 octets are)
 
 spelling_below : (n : Result Tag EncapFault) (inner new : List ℕ) → AreOctets inner → spelling_of n inner ≡ Ok new
     → AreOctets new

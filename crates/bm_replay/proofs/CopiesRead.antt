@@ -1,16 +1,18 @@
 -- A copy that arrives carries its tag and its packet's segment, and goes on by them.
-use Rattle.std.proofs.Common.{◌≡◌, ℕ, ◌-◌, ◌<◌, ◌^◌, List, [], Option, Some, None, sym, ap, subst, ◌∙◌}
+use Rattle.std.proofs.Common.{◌≡◌, ℕ, ◌-◌, List, [], Option, Some, None, sym, ap, subst, ◌∙◌}
 use Rattle.std.specs.Prelude.{slice_index_or}
 use Rattle.std.proofs.lemmas.Option.{same_Some}
 use Rattle.bm_base.specs.declared.capture.Body.TheVariants.{Steerable}
 use Rattle.bm_base.specs.declared.flow.Segment.{Segment}
 use Rattle.bm_base.specs.declared.ids.Moment.{Moment}
 use Rattle.bm_base.specs.declared.ids.ServerId.{ServerId}
-use Rattle.bm_base.specs.declared.label.Hop.TheVariants.{Direct, Chained}
+use Rattle.bm_base.proofs.Entries.{IsPassed}
+use Rattle.bm_base.specs.Inside.Labels.{later_hop}
 use Rattle.bm_base.specs.declared.label.Tag.{Tag}
 use Rattle.bm_base.specs.Tags.{IsTag}
 use Rattle.bm_link.specs.Fits.{IsPacketOf}
 use Rattle.bm_encap.specs.Spellings.{spelling}
+use Rattle.bm_encap.specs.Inside.Spellings.{FitsFields}
 use Rattle.bm_fault.specs.declared.wire.Flight.{Flight}
 use Rattle.bm_fault.specs.Wires.{first_flight, others}
 use Rattle.bm_core.specs.declared.events.Verdict.{Verdict}
@@ -33,7 +35,7 @@ use Rattle.bm_replay.proofs.Carriers.{carries, goes_on}
 -- the copy that comes first, with a valid tag, and the packet within
 pub record IsCopy (p : Player) (flight : Flight) (s : Segment) (octets : List ℕ) : Type 0 where
   pub tag : IsTag flight.tag
-  pub fits : (flight.tag.stamp.0 < 2 ^ 64) × (flight.tag.version.0 < 2 ^ 32)
+  pub fits : FitsFields flight.tag
   pub packet : IsPacketOf (Steerable s) octets
 
 pub is_copy : (at : Moment) (p : Player) (can : CanArrive at p) (flight : Flight) (octets : List ℕ)
@@ -46,15 +48,15 @@ is_copy at p can flight octets first is =
     can.packet
     in record {
       tag = subst (λ (f : Flight). IsTag f.tag) same can.tag;
-      fits = subst (λ (f : Flight). (f.tag.stamp.0 < 2 ^ 64) × (f.tag.version.0 < 2 ^ 32)) same can.fits;
+      fits = subst (λ (f : Flight). FitsFields f.tag) same can.fits;
       packet = subst (λ (l : List ℕ). IsPacketOf (Steerable can.segment) l) (sym is) packet;
     }
 
 -- its octets say the tag and the segment
 pub says : (p : Player) (flight : Flight) (s : Segment) (octets carrier : List ℕ) → IsCopy p flight s octets
-    → carrier ≡ spelling flight.tag octets → carried carrier ≡ Some (flight.tag, s)
+    → carrier ≡ spelling flight.tag octets → carried flight.tag.dest carrier ≡ Some (flight.tag, s)
 says p flight s octets carrier is same =
-    ap (λ (l : List ℕ). carried l) same ∙ carries flight.tag octets s is.tag is.fits.0 is.fits.1 is.packet.0 is.packet.1
+    ap (λ (l : List ℕ). carried flight.tag.dest l) same ∙ carries flight.tag octets s is.tag is.fits is.packet.0 is.packet.1
 
 -- what was read of its octets
 pub record IsReadAs (flight : Flight) (s : Segment) (tag : Tag) (segment : Segment) : Type 0 where
@@ -62,14 +64,14 @@ pub record IsReadAs (flight : Flight) (s : Segment) (tag : Tag) (segment : Segme
   pub segment_is : s ≡ segment
 
 pub read_as : (flight : Flight) (s segment : Segment) (tag : Tag) (read : Option (Tag × Segment)) (carrier : List ℕ)
-    → read ≡ carried carrier → carried carrier ≡ Some (flight.tag, s) → read ≡ Some (tag, segment)
+    → read ≡ carried flight.tag.dest carrier → carried flight.tag.dest carrier ≡ Some (flight.tag, s) → read ≡ Some (tag, segment)
     → IsReadAs flight s tag segment
 read_as flight s segment tag read carrier by said is =
     let same : (flight.tag, s) ≡ (tag, segment) = same_Some _ _ (sym said ∙ (sym by ∙ is))
     in record { tag_is = ap (λ (x : Tag × Segment). x.0) same; segment_is = ap (λ (x : Tag × Segment). x.1) same }
 
 pub is_read : (flight : Flight) (s : Segment) (read : Option (Tag × Segment)) (carrier : List ℕ)
-    → read ≡ carried carrier → carried carrier ≡ Some (flight.tag, s) → read ≡ None → ⊥
+    → read ≡ carried flight.tag.dest carrier → carried flight.tag.dest carrier ≡ Some (flight.tag, s) → read ≡ None → ⊥
 is_read flight s read carrier by said none =
     let bad : ◌≡◌ {A = Option (Tag × Segment)} None (Some (flight.tag, s)) = sym none ∙ (by ∙ said) in absurd (cc)
 
@@ -86,17 +88,17 @@ pub says_next : (at : Moment) (p : Player) (flight : Flight) (s segment : Segmen
     (next : Option ServerId)
     → IsCopy p flight s octets → carrier ≡ spelling flight.tag octets → IsReadAs flight s tag segment
     → next ≡ passes_to (verdict_for p at (record { packet = flight.packet; tag = tag }) segment)
-    → (to : ServerId) → next ≡ Some to → next_tag carrier ≡ Some (record tag { hop = Chained; dest = to })
+    → (to : ServerId) → next ≡ Some to → next_tag carrier ≡ Some (record tag { hop = later_hop tag.hop; dest = to })
 says_next at p flight s segment tag octets carrier next is same read by to forward =
-    subst (λ (t : Tag). next_tag carrier ≡ Some (record t { hop = Chained; dest = to })) read.tag_is
+    subst (λ (t : Tag). next_tag carrier ≡ Some (record t { hop = later_hop t.hop; dest = to })) read.tag_is
     (ap (λ (l : List ℕ). next_tag l) same
-    ∙ goes_on flight.tag octets to is.tag is.fits.0 is.fits.1 is.packet.0 passes.0 passes.1) where
+    ∙ goes_on flight.tag octets to is.tag is.fits is.packet.0 passes) where
       forwards : verdict_for p at flight s ≡ Forward to
       forwards =
           (λ i. verdict_for p at (record { packet = flight.packet; tag = read.tag_is i }) (read.segment_is i))
           ∙ passes_forward _ to (sym by ∙ forward)
 
-      passes : (flight.tag.hop ≡ Direct) × (flight.tag.prev ≡ Some to)
+      passes : IsPassed (entry_of flight.tag) flight.tag.hop to
       passes = forwarded (known_in (state_at p.shards (place_for p flight s)) s.flow)
           (state_at p.shards (place_for p flight s)).shard.timeout
           (clock_at (state_at p.shards (place_for p flight s)) (arrival flight s at)).0

@@ -65,7 +65,7 @@ number_of : Calls → ℕ → ℕ
 number_of (Steers k) d = k
 number_of _ d = d
 
--- the next packet stands behind the first n
+-- the next packet is after the first n
 pub steers_behind : (n next k : ℕ) (head : Option Due) (d : Due) → IsBehind n next head → head ≡ Some d
     → d.call ≡ Steers k → (k ≡ next) × (n < k)
 unfolding number_of

@@ -1,13 +1,11 @@
 -- The servers that a sound script knows, and those of its entries, have the numbers of servers.
-use Rattle.std.proofs.Common.{◌≡◌, ◌≢◌, ℕ, zero, suc, ◌+◌, ◌%◌, ◌<◌, ◌≤◌, true, inl, inr, List, [], ◌∷◌, Option, Some}
-use Rattle.std.proofs.Common.{None, length, slice_get, get_or, refl, sym, subst, arith}
+use Rattle.std.proofs.Common.{◌≡◌, ℕ, zero, suc, ◌+◌, ◌%◌, ◌<◌, ◌≤◌, true, inl, inr, List, [], ◌∷◌, Option, Some}
+use Rattle.std.proofs.Common.{None, length, slice_get, get_or, subst, arith}
 use Rattle.std.specs.Prelude.{IfSome, All}
 use Rattle.std.specs.List.{AllByRecursion}
 use Rattle.std.proofs.lemmas.Bool.{or_cases}
 use Rattle.std.proofs.lemmas.Nat.{mod_below}
-use Rattle.std.proofs.lemmas.Option.{same_Some}
 use Rattle.bm_base.specs.declared.ids.ServerId.{ServerId}
-use Rattle.bm_base.specs.declared.label.Entry.{Entry}
 use Rattle.bm_base.specs.Tags.{IsServer}
 use Rattle.bm_table.specs.declared.plan.Change.{Change}
 use Rattle.bm_table.specs.declared.plan.Kind.{Kind}
@@ -15,9 +13,10 @@ use Rattle.bm_table.specs.declared.plan.Kind.TheVariants.{Add, Drain, Shift}
 use Rattle.bm_table.specs.declared.script.Script.{Script}
 use Rattle.bm_table.specs.Scripts.{IsSoundScript, NamesServer}
 use Rattle.bm_table.specs.Settings.{RiseFrom}
-use Rattle.bm_table.specs.Tables.{adds, brings, is_add, is_among, is_known, change_moment, moved, next_change, opening}
+use Rattle.bm_table.specs.Tables.{adds, brings, is_add, is_among, is_known, change_moment, next_change, opening}
 use Rattle.bm_table.specs.Tables.{same_server, table}
-use Rattle.bm_table.proofs.Tables.{same_server-true}
+use Rattle.bm_base.proofs.Entries.{IsEntry}
+use Rattle.bm_table.proofs.Tables.{moved_entry, same_server-true}
 
 -- SERVERS
 
@@ -79,23 +78,6 @@ opening_server script sound b =
 
 -- ENTRIES
 
--- the servers of an entry have numbers of servers and differ; without a previous one the stamp is 0
-pub record IsEntry (e : Entry) : Type 0 where
-  pub cur : IsServer e.cur
-  pub prev : IfSome e.prev IsServer
-  pub apart : e.prev ≢ Some e.cur
-  pub stamp : e.prev ≡ None → e.stamp.0 ≡ 0
-
-moved_entry : (e : Entry) (at : ℕ) (o : Option ServerId) → IsEntry e → IfSome o IsServer → IfSome o (λ to. to ≢ e.cur)
-    → IsEntry (moved e at o)
-moved_entry e at None is server other = is
-moved_entry e at (Some to) is server other = record {
-  cur = server;
-  prev = is.cur;
-  apart = λ same. other (sym (same_Some _ _ same));
-  stamp = λ none. absurd (cc);
-}
-
 known_target : (script : Script) → IsSoundScript script → (n : ℕ) (o : Option ServerId)
     → IfSome o (λ to. is_known script.plan n to ≡ true) → IfSome o IsServer
 known_target script sound n None is = tt
@@ -106,7 +88,7 @@ table_entry script sound zero b = record {
   cur = opening_server script sound b;
   prev = tt;
   apart = λ same. absurd (cc);
-  stamp = λ none. refl;
+  older = tt;
 }
 table_entry script sound (suc v) b =
     moved_entry (table script.plan v b) (change_moment (next_change script.plan v))

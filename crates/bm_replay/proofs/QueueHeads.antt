@@ -54,7 +54,7 @@ retire_get s at (suc n) h below = elim (cases_lt h n) [
       (slice_get-push (retire_dues s at n) (retire_at s at n) ∙ ap (λ (k : ℕ). Some (retire_at s at k)) (sym same))
 ]
 
--- the retire of a shard, and of those behind it
+-- the retire of a shard, and of those after it
 pub retire_here : (s : ServerId) (at n h : ℕ) → h < n
     → dropped h (retire_dues s at n) ≡ retire_at s at h ∷ dropped (suc h) (retire_dues s at n)
 retire_here s at n h below = dropped_at (retire_dues s at n) h (retire_at s at h) (retire_get s at n h below)
@@ -72,7 +72,7 @@ retires_head shards s at commands i d some inside is =
     ∙ (ap (λ (x : Command). retire_commands shards (x ∷ dropped (i + 1) commands)) is
     ∙ ap (λ (l : List Due). l ++ retires_from shards commands (i + 1)) (retire_here s at.0 shards 0 some))
 
--- the retire of the next shard comes behind this one
+-- the retire of the next shard comes after this one
 pub later_here : (shards : ℕ) (s : ServerId) (at h : ℕ) (c : Call) (e : Due) → h < shards - 1 → c ≡ Retires s h at
     → e ≡ retire_at s at (h + 1) → later_shards shards c ≡ e ∷ later_shards shards e.call
 later_here shards s at h c e below is here =

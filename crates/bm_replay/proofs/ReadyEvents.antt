@@ -265,7 +265,7 @@ call_what (Steers k) = refl
 call_what (Loses k hop) = refl
 
 -- the clock of what comes next is low
-pub clock_low : (R : Routes) (F : Rules) (p : Player) (at : Moment) (d : Due) → IsReady R F p at d → at.0 ≤ 5 * 10 ^ 18
+pub clock_low : (R : Routes) (F : Rules) (p : Player) (at : Moment) (d : Due) → IsReady R F p at d → at.0 ≤ 6 * 10 ^ 18
 clock_low R F p at d ready =
     clock_law (plain ∷ ready.fates) p.stage (record { clock = at; what = what_of d.call } ∷ past_of p)
     ready.played.sound

@@ -43,9 +43,9 @@ use Rattle.bm_replay.proofs.ReadyEvents.{told}
 
 -- A LOSS
 
-pub loss_low : (R : Routes) (F : Rules) (p : Player) → IsPlaying R F p → p.clock.0 ≤ 5 * 10 ^ 18
+pub loss_low : (R : Routes) (F : Rules) (p : Player) → IsPlaying R F p → p.clock.0 ≤ 6 * 10 ^ 18
 loss_low R F p playing =
-    let low : last_clock (past_of p) ≤ 5 * 10 ^ 18 =
+    let low : last_clock (past_of p) ≤ 6 * 10 ^ 18 =
     clock_law playing.fates p.stage (past_of p) playing.played.sound playing.played.follows playing.played.soon
     in let same = playing.state.clock
     in omega arith

@@ -168,7 +168,7 @@ pub ready_at : (p : Player) (s : ServerId) (h place : ℕ) → HasPlaces p → s
 ready_at p s h place places number below is =
     subst (λ (n : ℕ). IsReady n p.shards) (sym is) (places.ready s h number below)
 
--- the place is one of the first 1025 times so many
+-- the place is within 1025 times the number of shards
 pub place_inside : (s shards h n : ℕ) → s ≤ 1024 → h < shards → 1025 * shards ≤ n → s * shards + h < n
 place_inside s shards h n few in_it lie = omega (arith, mul-le-mul_left shards few)
 
@@ -183,7 +183,7 @@ places_of R F p fates past played state = record {
       record { server = ap (λ (x : Shard). x.server) shard; number = ap (λ (x : Shard). x.number) shard });
   ready = λ s h few below. record {
     inside = place_inside s.0 p.stage.script.setting.shards h (length p.shards) few below state.shards.lie;
-    clock = (let low : last_clock past ≤ 5 * 10 ^ 18 =
+    clock = (let low : last_clock past ≤ 6 * 10 ^ 18 =
         clock_law fates p.stage past played.sound played.follows played.soon
         in let own = (state.shards.each s h few below).clock
         in omega arith);

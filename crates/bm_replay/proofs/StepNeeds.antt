@@ -17,14 +17,14 @@ use Rattle.bm_replay.proofs.NextEvents.{copy_due, rank_of}
 use Rattle.bm_replay.proofs.ReadyEvents.{IsReadyCall, clock_low, ready_call, ready_copy}
 
 pub copy_fits : (R : Routes) (F : Rules) (p : Player) (m : Moment) → IsPlaying R F p → p.loss ≡ None
-    → coming_for p ≡ Arrive m → next_clock p.clock.0 m.0 ≤ 5 * 10 ^ 18
+    → coming_for p ≡ Arrive m → next_clock p.clock.0 m.0 ≤ 6 * 10 ^ 18
 copy_fits R F p m playing none come =
     let c = ready_copy R F p (record { 0 = next_clock p.clock.0 m.0 }) m
     (record { playing = playing; none_lost = none; is_coming = come; is_clock = refl })
     in clock_low R F p (record { 0 = next_clock p.clock.0 m.0 }) (copy_due c.copy) c.ready
 
 pub call_fits : (R : Routes) (F : Rules) (p : Player) (d : Due) → IsPlaying R F p → p.loss ≡ None
-    → coming_for p ≡ Call d → next_clock p.clock.0 d.moment ≤ 5 * 10 ^ 18
+    → coming_for p ≡ Call d → next_clock p.clock.0 d.moment ≤ 6 * 10 ^ 18
 call_fits R F p d playing none come =
     let c = ready_call R F p (record { 0 = next_clock p.clock.0 d.moment }) d
     (record { playing = playing; none_lost = none; is_coming = come; is_clock = refl })

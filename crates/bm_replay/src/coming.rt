@@ -1,4 +1,4 @@
-//! What comes first of what can come.
+//! Which of the calls that can come is first.
 ghost use Rattle.std.specs.Prelude.{◌≡◌};
 ghost use Rattle.bm_core.specs.Schedule.{comes_first};
 ghost use Rattle.bm_replay.specs.Inside.Comings.{is_before, is_no_later, first_coming, sooner_of};
@@ -8,14 +8,14 @@ use bm_core::Due;
 
 /// What comes next: a copy that is due at this moment arrives, a call is carried out, or nothing
 /// is left.
-#[derive(Clone, Copy, Debug, PartialEq, Eq)]
+#[derive(Clone, Copy, PartialEq, Eq)]
 pub(crate) enum Coming {
     Arrive(Moment),
     Call(Due),
     Over,
 }
 
-/// The sooner of the two, and the first of two alike.
+/// The sooner of the two; if they are equal, the first.
 pub(crate) fn sooner(a: Option<Due>, b: Option<Due>) -> Option<Due>
     ensures { result ≡ sooner_of a b }
 {
@@ -34,8 +34,8 @@ fn comes_first(a: &Due, b: &Due) -> bool
         || a.moment == b.moment && (a.rank < b.rank || a.rank == b.rank && a.number < b.number)
 }
 
-/// Of the soonest command, the moment of the first copy under way and the next packet: a copy
-/// arrives after the commands of its moment, and before the packets.
+/// The first of the soonest command, the first copy under way and the next packet: a copy arrives
+/// after the commands of its moment, and before the packets.
 pub(crate) fn first_coming(
     command: Option<Due>,
     copy: Option<Moment>,

@@ -7,7 +7,7 @@ use std::alloc::Global;
 use std::marker::Model;
 
 /// The events so far, which contracts see as a list.
-#[derive(Debug, Drop)]
+#[derive(Drop)]
 pub(crate) struct Events {
     items: Vec<Event>,
 }
@@ -22,7 +22,7 @@ impl Model for Events {
 }
 
 impl Events {
-    /// No event, with room for so many.
+    /// No events, with room for this many.
     pub(crate) fn with_room(alloc: Global, room: usize) -> Result<Events, Memory>
         ensures { IfOk result (λ events. events ≡ []) }
     {
@@ -31,7 +31,7 @@ impl Events {
         })
     }
 
-    /// One event more.
+    /// Adds an event.
     pub(crate) fn push(&mut self, event: Event) -> Result<(), Memory>
         ensures { OnOk result (self.new ≡ self.old ++ event ∷ []) }
     {

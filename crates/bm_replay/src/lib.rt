@@ -1,4 +1,4 @@
-//! The replay of a stage: one thread, one event after the other.
+//! The replay of a stage: one thread, one event after another.
 #![tactic(auto)]
 
 mod carrier;

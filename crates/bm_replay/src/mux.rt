@@ -1,4 +1,4 @@
-//! The muxes: the version of each, and its table.
+//! The muxes, each with its version and its table.
 ghost use Rattle.std.specs.Prelude.{◌≡◌, ◌≢◌, ℕ, ◌*◌, ◌^◌, ◌<◌, ◌≤◌, All, IfOk, Some, length};
 ghost use Rattle.std.specs.Prelude.{slice_get};
 ghost use Rattle.bm_core.specs.Schedule.{least};
@@ -15,14 +15,14 @@ use std::alloc::Global;
 use std::marker::Model;
 
 /// A mux: how many changes its table has, and the table.
-#[derive(Debug, Drop)]
+#[derive(Drop)]
 pub(crate) struct Mux {
     pub(crate) version: u32,
     pub(crate) table: Table,
 }
 
 /// The muxes of a stage, which contracts see as a list.
-#[derive(Debug, Drop)]
+#[derive(Drop)]
 pub(crate) struct Muxes {
     muxes: Vec<Mux>,
 }
@@ -37,7 +37,7 @@ impl Model for Muxes {
 }
 
 impl Muxes {
-    /// So many muxes, each with the table of version 0.
+    /// This many muxes, each with the table of version 0.
     pub(crate) fn new(alloc: Global, plan: &Plan, total: u16) -> Result<Muxes, Memory>
         ensures so_many { IfOk result (λ muxes. length muxes ≡ total) }
         ensures each { IfOk result
@@ -51,7 +51,7 @@ impl Muxes {
         Ok(Muxes { muxes: list })
     }
 
-    /// What the mux writes on a packet of the bucket.
+    /// The label that the mux writes on a packet of the bucket.
     pub(crate) fn label(&self, mux: MuxId, bucket: u32) -> Label
         requires there { mux.0 < length self.now }
         requires bucket { (x : Mux) → slice_get self.now mux.0 ≡ Some x → bucket < length x.table }

@@ -1,4 +1,4 @@
-//! A replay on its way: its state, what comes next, and the steps.
+//! A replay in progress: its state, what comes next, and the steps.
 ghost use Rattle.std.specs.Prelude.{◌≡◌, ◌*◌, ◌^◌, ◌<◌, ◌≤◌, IfOk, IfSome, OnOk, Some};
 ghost use Rattle.std.specs.Prelude.{length};
 ghost use Rattle.bm_base.specs.declared.ids.ServerId.{ServerId};
@@ -44,26 +44,26 @@ use bm_route::Route;
 use bm_shard::ShardCall;
 use std::alloc::Global;
 
-/// How many servers there may be, and one more, since they count from 1.
+/// One more than the number of servers that there may be, since they count from 1.
 const SERVERS: u16 = 1_025;
 
-/// The fewest packets that are let go together.
+/// The fewest packets that are freed together.
 const FEWEST_LET_GO: u32 = 16_384;
 
 /// A sending without copies, whose loss is recorded next.
-#[derive(Clone, Copy, Debug, PartialEq, Eq)]
+#[derive(Clone, Copy, PartialEq, Eq)]
 pub(crate) struct Loss {
     pub(crate) packet: u32,
     pub(crate) hop: Hop,
 }
 
-/// A replay on its way.
+/// A replay in progress.
 #[derive(Drop)]
 pub(crate) struct Player {
     pub(crate) stage: Stage,
-    /// The packet of each record, or no octets where it was let go.
+    /// The packet of each record; no octets where it was freed.
     pub(crate) packets: Octets,
-    /// How many packets in front were let go.
+    /// How many packets at the front were freed.
     pub(crate) cleared: u32,
     /// What happened so far.
     pub(crate) events: Events,
@@ -91,7 +91,7 @@ pub(crate) struct Player {
     pub(crate) shards: Shards,
 }
 
-/// The parts of a replay that memory is asked for, before anything happened.
+/// The parts of a replay that need memory, before anything has happened.
 #[derive(Drop)]
 struct Room {
     events: Events,
@@ -121,7 +121,7 @@ impl Room {
 }
 
 impl Player {
-    /// Nothing happened yet.
+    /// A replay in which nothing has happened yet.
     pub(crate) fn new(alloc: Global, stage: Stage, packets: Octets) -> Result<Player, Memory>
         requires sound { IsSound stage }
         requires packets { ArePackets stage.capture.records packets }
@@ -186,7 +186,7 @@ impl Player {
         })
     }
 
-    /// This happens at this clock.
+    /// Records that this happens at this clock.
     fn write(&mut self, clock: Moment, what: What) -> Result<(), Memory>
         ensures { IfOk result (λ _. self.new ≡ happened clock what self.old) }
     {
@@ -205,7 +205,7 @@ impl Player {
         }
     }
 
-    /// What comes next happens; false where nothing is left. Octets on their way are written into
+    /// Carries out what comes next; false if nothing is left. Packets under way are written into
     /// the carrier.
     pub(crate) fn step<R: Fn(u32, &Flow) -> u16, F: Fn(u32, Hop) -> Fate>(
         &mut self,
@@ -240,7 +240,7 @@ impl Player {
         Ok(true)
     }
 
-    /// Lets the packets go that come no more, where they are many.
+    /// Frees packets that are no longer needed, once there are many.
     pub(crate) fn let_go(&mut self)
         requires { KeepsPackets self.old }
         ensures { HasLetGo self.old self.new }
@@ -251,9 +251,9 @@ impl Player {
         }
     }
 
-    /// How many packets in front come no more: those before the one that is steered next, where no
-    /// copy is under way. None where letting them go isn't worth its time, since too few of them,
-    /// or less than half of all packets, are still held.
+    /// How many packets at the front are no longer needed: those before the one that is steered
+    /// next, if no copy is under way. None if freeing them isn't worth the time: they are fewer
+    /// than 16,384, or fewer than the packets after them.
     fn done(&self) -> Option<u32>
         requires { KeepsPackets self.now }
         ensures exact { result ≡ done_for self.now }
@@ -274,7 +274,7 @@ impl Player {
         }
     }
 
-    /// The change, command or packet that is due comes.
+    /// Carries out the change, command or packet that is due.
     fn carry_out<R: Fn(u32, &Flow) -> u16, F: Fn(u32, Hop) -> Fate>(
         &mut self,
         clock: Moment,
@@ -303,7 +303,7 @@ impl Player {
         Ok(())
     }
 
-    /// The loss is recorded, directly after its sending.
+    /// Records the loss, directly after its sending.
     fn lose(&mut self, loss: Loss) -> Result<(), Memory>
         requires { self.old.clock.0 < 2 ^ 63 }
         ensures { IfOk result (λ _. self.new ≡ after_loss loss self.old) }
@@ -318,7 +318,6 @@ impl Player {
         )
     }
 
-    /// The version is published.
     fn publish(&mut self, clock: Moment, version: u32) -> Result<(), Memory>
         ensures { IfOk result (λ _. self.new ≡ after_publish clock version self.old) }
     {
@@ -326,7 +325,6 @@ impl Player {
         self.write(clock, What::Publish(Version(version)))
     }
 
-    /// The mux switches to the version.
     fn switch(&mut self, clock: Moment, mux: u16, version: u32) -> Result<(), Memory>
         requires { CanSwitch mux version self.old }
         ensures { IfOk result (λ _. HasSwitched clock mux version self.old self.new) }
@@ -353,7 +351,7 @@ impl Player {
     fn close(&mut self, clock: Moment, server: ServerId, flow: &Flow) -> Result<(), Memory>
         requires places { HasPlaces self.old }
         requires server { server.0 ≤ 1024 }
-        requires clock { clock.0 ≤ 5 * 10 ^ 18 }
+        requires clock { clock.0 ≤ 6 * 10 ^ 18 }
         ensures { IfOk result (λ _. HasClosed clock server flow.now self.old self.new) }
     {
         let shard = shard_of(flow, self.stage.script.setting.shards);
@@ -377,7 +375,7 @@ impl Player {
         requires places { HasPlaces self.old }
         requires server { server.0 ≤ 1024 }
         requires shard { shard < self.old.stage.script.setting.shards }
-        requires at { at.0 ≤ 5 * 10 ^ 18 }
+        requires at { at.0 ≤ 6 * 10 ^ 18 }
         requires published { self.old.published ≤ length self.old.stage.script.plan.changes }
         ensures { IfOk result (λ _. HasRetired clock server shard at self.old self.new) }
     {
@@ -396,7 +394,7 @@ impl Player {
         Ok(())
     }
 
-    /// The server's shard is called, and what happens there is written at this clock.
+    /// Calls the server's shard, and records what happens there at this clock.
     fn serve(
         &mut self,
         clock: Moment,
@@ -417,7 +415,7 @@ impl Player {
         Ok(what)
     }
 
-    /// A phase ends.
+    /// Ends a phase.
     fn sync(&mut self, clock: Moment) -> Result<(), Memory>
         ensures { IfOk result (λ _. HasSynced clock self.old self.new) }
     {
@@ -425,14 +423,14 @@ impl Player {
         self.write(clock, What::Sync)
     }
 
-    /// Where the server's shard lies.
+    /// The place of the server's shard.
     fn place(&self, server: ServerId, shard: u16) -> usize
         ensures { result ≡ place_of self.now.stage server shard }
     {
         usize::from(server.0) * usize::from(self.stage.script.setting.shards) + usize::from(shard)
     }
 
-    /// The packet is steered by the mux that the route gives it, and sent.
+    /// The packet is steered by the mux to which the route assigns it, and sent.
     fn steer<R: Fn(u32, &Flow) -> u16, F: Fn(u32, Hop) -> Fate>(
         &mut self,
         clock: Moment,
@@ -461,7 +459,7 @@ impl Player {
         Ok(())
     }
 
-    /// The first copy under way arrives, and goes on where it is forwarded.
+    /// The first copy under way arrives, and is sent on if it is forwarded.
     fn arrive<F: Fn(u32, Hop) -> Fate>(
         &mut self,
         clock: Moment,
@@ -479,7 +477,7 @@ impl Player {
         let packet = flight.packet;
         let octets = self.packets.get(packet - 1);
         carrier.load(&flight.tag, octets)?;
-        let Some((tag, segment)) = carrier.read() else {
+        let Some((tag, segment)) = carrier.read(flight.tag.dest) else {
             unreachable!()
         };
         let shard = shard_of(&segment.flow, self.stage.script.setting.shards);
@@ -500,7 +498,7 @@ impl Player {
         Ok(())
     }
 
-    /// A copy that is forwarded is sent on, with its octets turned to the next hop.
+    /// Sends on a copy that is forwarded, with its octets rewritten for the next hop.
     fn go_on<F: Fn(u32, Hop) -> Fate>(
         &mut self,
         clock: Moment,
@@ -509,7 +507,7 @@ impl Player {
         next: Option<ServerId>,
         faults: &Faults<F>,
     ) -> Result<(), Memory>
-        requires clock { clock.0 ≤ 5 * 10 ^ 18 }
+        requires clock { clock.0 ≤ 6 * 10 ^ 18 }
         requires next { (to : ServerId) → next ≡ Some to
             → next_tag carrier.old ≡ Some (chained to flight).tag }
         requires faults { IsRule F.Fn faults.now.rule }
@@ -526,14 +524,14 @@ impl Player {
         Ok(())
     }
 
-    /// The flight is sent, with the fate that the faults give it.
+    /// Sends the flight, with the fate that the faults give it.
     fn send<F: Fn(u32, Hop) -> Fate>(
         &mut self,
         clock: Moment,
         flight: Flight,
         faults: &Faults<F>,
     ) -> Result<(), Memory>
-        requires clock { clock.0 ≤ 5 * 10 ^ 18 }
+        requires clock { clock.0 ≤ 6 * 10 ^ 18 }
         requires faults { IsRule F.Fn faults.now.rule }
         ensures { IfOk result
             (λ _. HasSent (Gives F.Fn faults.now.rule) clock flight self.old self.new) }
@@ -542,9 +540,9 @@ impl Player {
         self.put(clock, fate, flight)
     }
 
-    /// The copies of a sending are under way, or its loss is to be recorded.
+    /// Puts the copies of a sending under way, or its loss in line to be recorded.
     fn put(&mut self, clock: Moment, fate: Fate, flight: Flight) -> Result<(), Memory>
-        requires clock { clock.0 ≤ 5 * 10 ^ 18 }
+        requires clock { clock.0 ≤ 6 * 10 ^ 18 }
         requires soon { IsSoon fate }
         ensures { IfOk result (λ _. self.new ≡ players.sent fate clock flight self.old) }
     {
@@ -555,7 +553,7 @@ impl Player {
     }
 }
 
-/// Puts so many copies of a flight on the wire.
+/// Puts this many copies of a flight on the wire.
 fn put_copies(wire: &mut Wire, copies: u8, due: Moment, flight: Flight) -> Result<(), Memory>
     ensures { IfOk result
         (λ _. wire.new ≡ copies_put copies (record { due = due; flight = flight }) wire.old) }
@@ -566,7 +564,7 @@ fn put_copies(wire: &mut Wire, copies: u8, due: Moment, flight: Flight) -> Resul
     Ok(())
 }
 
-/// The server that an arrival passes its copy on to, if it does.
+/// The server to which an arrival's copy is forwarded, if it is.
 fn next_server(what: What) -> Option<ServerId>
     ensures { result ≡ forwards what }
 {

@@ -8,8 +8,8 @@ use bm_base::{Body, Record, ServerId};
 use bm_core::{Call, Due};
 use bm_table::Command;
 
-/// What comes next of one kind, and the place in the script or the capture behind it.
-#[derive(Clone, Copy, Debug, PartialEq, Eq)]
+/// What comes next of one kind, and the place after it in the script or the capture.
+#[derive(Clone, Copy, PartialEq, Eq)]
 pub(crate) struct Queue {
     pub(crate) head: Option<Due>,
     pub(crate) next: usize,
@@ -74,7 +74,7 @@ pub(crate) fn later_retire(commands: &[Command], shards: u16, queue: &Queue) -> 
     }
 }
 
-/// The retire of the shard after this one's, at the same server.
+/// The retire of the next shard at the same server.
 fn later_shard(shards: u16, due: Option<Due>) -> Option<Due>
     requires { 0 < shards }
     ensures { IsHead (behind shards due) (behind shards result) result }

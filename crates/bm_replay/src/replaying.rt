@@ -17,7 +17,7 @@ use std::alloc::Global;
 
 /// The history of the stage's replay: a run that follows the script, with the muxes that the route
 /// answers and the fates that the faults give, and in which every packet, copy and command is
-/// accounted for. `octets` has the packet of each record, and lets them go as they are replayed.
+/// accounted for. `octets` has the packet of each record, and frees them as they are replayed.
 /// `Memory` where memory was refused.
 pub fn replay<R: Fn(u32, &Flow) -> u16, F: Fn(u32, Hop) -> Fate>(
     alloc: Global,
@@ -40,7 +40,7 @@ pub fn replay<R: Fn(u32, &Flow) -> u16, F: Fn(u32, Hop) -> Fate>(
     Ok(player.into_history())
 }
 
-/// Plays on to the end.
+/// Plays to the end.
 fn play<R: Fn(u32, &Flow) -> u16, F: Fn(u32, Hop) -> Fate>(
     alloc: Global,
     player: &mut Player,

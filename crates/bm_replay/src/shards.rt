@@ -15,7 +15,7 @@ use std::alloc::Global;
 use std::marker::Model;
 
 /// The shards of all servers, which contracts see as a list.
-#[derive(Debug, Drop)]
+#[derive(Drop)]
 pub(crate) struct Shards {
     slots: Vec<Slot>,
 }
@@ -30,7 +30,7 @@ impl Model for Shards {
 }
 
 impl Shards {
-    /// The shards of the servers below this number, which hold nothing.
+    /// The shards of the servers with numbers below this, which hold nothing.
     #[tactic(auto, unfolding(crate::specs::Inside::Shards::all_shards))]
     pub(crate) fn new(alloc: Global, setting: &Setting, servers: u16) -> Result<Shards, Memory>
         requires { IsWithin 1 65536 setting.now.capacity }
@@ -43,7 +43,7 @@ impl Shards {
         Ok(Shards { slots })
     }
 
-    /// Makes a call to the shard at this place: what happens there.
+    /// Makes a call to the shard at this place; returns what happens there.
     pub(crate) fn call(&mut self, place: usize, call: &ShardCall) -> Result<What, Memory>
         requires place { place < length self.old }
         requires clock { (state_at self.old place).clock.0 < 2 ^ 63 }

@@ -12,7 +12,7 @@ use std::alloc::Global;
 use std::marker::Model;
 
 /// A shard. Until its first call it takes no memory of its own.
-#[derive(Debug, Drop)]
+#[derive(Drop)]
 pub(crate) struct Slot {
     shard: Shard,
     state: Option<Box<ShardState>>,
@@ -39,7 +39,7 @@ fn first_state(alloc: Global, shard: Shard) -> Result<Box<ShardState>, Memory>
     Ok(Box::new(alloc, state)?)
 }
 
-/// Makes a call: what happens.
+/// Makes a call; returns what happens.
 fn make_call(state: &mut ShardState, call: &ShardCall) -> Result<What, Memory>
     requires clock { state.old.clock.0 < 2 ^ 63 }
     requires taken { IsTaken call.now }
@@ -51,7 +51,7 @@ fn make_call(state: &mut ShardState, call: &ShardCall) -> Result<What, Memory>
 }
 
 impl Slot {
-    /// A shard that was asked nothing. Takes no memory.
+    /// A shard to which no call was made. Takes no memory.
     pub(crate) fn new(shard: Shard) -> Slot
         requires { IsWithin 1 65536 shard.capacity }
         ensures { result ≡ first_state shard }
@@ -59,7 +59,7 @@ impl Slot {
         Slot { shard, state: None }
     }
 
-    /// Makes a call to the shard: what happens there.
+    /// Makes a call to the shard; returns what happens there.
     pub(crate) fn call(&mut self, alloc: Global, call: &ShardCall) -> Result<What, Memory>
         requires clock { self.old.clock.0 < 2 ^ 63 }
         requires taken { IsTaken call.now }

@@ -1,8 +1,9 @@
-//! Tests of `bm_connections`: what is told of the connections of replays.
+//! Tests of `bm_connections`: what is reported of the connections of replays.
 ghost use Rattle.bm_core.specs.Runs.{IsRun};
 
 use crate::stages::{
     DATA, OPENING, OTHER, PSH_ACK, Row, bare_stage, capture, history, moved_stage,
+    twice_moved_stage,
 };
 use bm_base::{Moment, ServerId};
 use bm_connections::{
@@ -15,10 +16,10 @@ use std::alloc::Global;
 use std::process::Abort;
 use std::test::Fail;
 
-/// 100 seconds lie between two packets.
+/// There are 100 seconds between two packets.
 const GAP: u64 = 100_000_000_000;
 
-/// Tests the text of the history's connections.
+/// Checks the text of the history's connections.
 #[tactic(auto, using(bm_trace::proofs::Ranged::ranges_of))]
 fn check(rt: &impl Abort, alloc: Global, h: &History, text: &str) -> Result<(), Fail>
     requires { IsRun h.now }
@@ -31,7 +32,7 @@ fn check(rt: &impl Abort, alloc: Global, h: &History, text: &str) -> Result<(), 
 }
 
 /// Segments that come to one shard of this capacity, whether server 1 is asked to close the first
-/// connection behind the first of them, and the text that is wanted.
+/// connection after the first of them, and the expected text.
 #[derive(Clone, Copy)]
 struct Case {
     rows: &'static [Row],
@@ -87,7 +88,7 @@ fn check_case(rt: &impl Abort, alloc: Global, case: &Case) -> Result<(), Fail> {
     assert!(rt; case.rows.len() <= 100 && 0 < case.capacity);
     let (capture, packets) = capture(alloc, GAP, case.rows)?;
     let stage = bare_stage(alloc, u32::from(case.capacity), case.closing, capture)?;
-    let h = history(alloc, stage, packets, false)?;
+    let h = history(alloc, stage, packets, None)?;
     check(rt, alloc, &h, case.text)
 }
 
@@ -103,7 +104,7 @@ fn what_became_of_connections_is_told(rt: HostRuntime) -> Result<(), Fail> {
     check_cases(&rt, rt.alloc(), &CASES)
 }
 
-/// Tests the lines of servers 2 and 1, and of two causes.
+/// Checks the lines of servers 2 and 1, and of two causes.
 #[tactic(auto, using(bm_trace::proofs::Ranged::ranges_of))]
 fn check_counts(rt: &impl Abort, alloc: Global, h: &History) -> Result<(), Fail>
     requires { IsRun h.now }
@@ -133,21 +134,18 @@ fn servers_and_causes_are_counted(rt: HostRuntime) -> Result<(), Fail> {
     let alloc = rt.alloc();
     let (capture, packets) = capture(alloc, GAP, &[OPENING, DATA, DATA])?;
     let stage = bare_stage(alloc, 4_096, true, capture)?;
-    let h = history(alloc, stage, packets, false)?;
+    let h = history(alloc, stage, packets, None)?;
     check_counts(&rt, alloc, &h)
 }
 
-/// Tests the line of the longest wait.
+/// Checks the line of the longest wait.
 #[tactic(auto, using(bm_trace::proofs::Ranged::ranges_of))]
-fn check_late(rt: &impl Abort, alloc: Global, h: &History) -> Result<(), Fail>
+fn check_late(rt: &impl Abort, alloc: Global, h: &History, text: &str) -> Result<(), Fail>
     requires { IsRun h.now }
 {
     let causes = sweep(alloc, h)?;
     let late = late_text(alloc, longest_late(alloc, h, &causes)?)?;
-    assert_eq!(rt;
-        late.as_str(),
-        "chain-late longest 299.999999502 timeout_s 300\n"
-    );
+    assert_eq!(rt; late.as_str(), text);
     Ok(())
 }
 
@@ -157,17 +155,44 @@ fn a_moved_connection_breaks_behind_the_timeout(rt: HostRuntime) -> Result<(), F
     let alloc = rt.alloc();
     let (capture, packets) = capture(alloc, GAP, &[OPENING, DATA, DATA, DATA])?;
     let stage = moved_stage(alloc, capture)?;
-    let h = history(alloc, stage, packets, false)?;
+    let h = history(alloc, stage, packets, None)?;
     let text = "connection 10.0.0.1:1000 192.0.2.1:80 opened 1 at 0.000000000 \
                 last 4 at 300.000000000 accepted 1 times 1 \
                 processed 2 forwarded 2 dropped 0 reset 1 stray 0 \
                 last-forward 3 by 2 at 200.000000002 after 199.999999502 \
                 broken 4 reset chain-expired because chain-late at 300.000000002\n";
-    check_late(&rt, alloc, &h)?;
+    check_late(
+        &rt,
+        alloc,
+        &h,
+        "chain-late longest 299.999999502 timeout_s 300\n",
+    )?;
     check(&rt, alloc, &h, text)
 }
 
-/// A moment, when record 1 was captured, and the text that is wanted.
+/// The bucket moves at 500 nanoseconds and at 150 seconds: the fourth packet comes in time for the
+/// previous server, and its chained copy too late for the older one.
+#[test]
+fn a_twice_moved_connection_breaks_at_the_older_stamp(rt: HostRuntime) -> Result<(), Fail> {
+    let alloc = rt.alloc();
+    let (capture, packets) = capture(alloc, GAP, &[OPENING, DATA, DATA, DATA])?;
+    let stage = twice_moved_stage(alloc, Moment(150_000_000_000), capture)?;
+    let h = history(alloc, stage, packets, None)?;
+    let text = "connection 10.0.0.1:1000 192.0.2.1:80 opened 1 at 0.000000000 \
+                last 4 at 300.000000000 accepted 2 times 1 \
+                processed 2 forwarded 4 dropped 0 reset 1 stray 0 \
+                last-forward 4 by 1 at 300.000000002 after 150.000000002 \
+                broken 4 reset chain-expired because chain-late at 300.000000003\n";
+    check_late(
+        &rt,
+        alloc,
+        &h,
+        "chain-late longest 299.999999503 timeout_s 300\n",
+    )?;
+    check(&rt, alloc, &h, text)
+}
+
+/// A moment, when record 1 was captured, and the expected text.
 type Instant = (u64, u64, &'static str);
 
 static INSTANTS: [Instant; 6] = [

@@ -45,7 +45,7 @@ pub(crate) fn flow(sport: u16) -> Flow
     }
 }
 
-/// The header of a packet from 10.0.0.1 to 192.0.2.1 that has so many octets.
+/// The header of a packet from 10.0.0.1 to 192.0.2.1 with `total` octets.
 fn ip_header(total: u16) -> [u8; 20] {
     let [high, low] = total.to_be_bytes();
     [
@@ -75,7 +75,7 @@ fn packet(alloc: Global, row: Row) -> Result<Vec<u8>, Memory>
     Ok(octets)
 }
 
-/// These segments, so many nanoseconds apart, and their packets.
+/// These segments, `gap` nanoseconds apart, and their packets.
 pub(crate) fn capture(alloc: Global, gap: u64, rows: &[Row]) -> Result<(Capture, Octets), Memory>
     requires gap { gap ≤ 100_000_000_000 }
     requires few { length rows.now ≤ 20000 }
@@ -138,7 +138,7 @@ fn two_closes(alloc: Global, wanted: bool) -> Result<Vec<Command>, Memory>
     Ok(commands)
 }
 
-/// No changes, and two closes or no command.
+/// A stage without changes, with two closes or no command.
 pub(crate) fn bare_stage(
     alloc: Global,
     capacity: u32,
@@ -159,6 +159,23 @@ pub(crate) fn bare_stage(
     Ok(Stage { script, capture })
 }
 
+/// Bucket 4 goes to this server.
+fn moved(alloc: Global, moment: Moment, to: ServerId) -> Result<Change, Memory>
+    ensures { IfOk result (λ change. change ≡ record {
+      moment = moment;
+      kind = shift;
+      moves = record { bucket = 4; to = to } ∷ [];
+    }) }
+{
+    let moves = List::of(vec![in alloc; Move { bucket: 4, to }]?);
+    let kind = Kind::Shift;
+    Ok(Change {
+        moment,
+        kind,
+        moves,
+    })
+}
+
 /// Bucket 4 goes to server 2 at 500.
 fn moved_plan(alloc: Global) -> Result<Plan, Fail>
     ensures { IfOk result (λ plan. plan ≡ record {
@@ -174,12 +191,7 @@ fn moved_plan(alloc: Global) -> Result<Plan, Fail>
     }) }
 {
     let mut plan = Plan::new(alloc, 8, &[ServerId(1), ServerId(2)])?;
-    let to = ServerId(2);
-    plan.push(Change {
-        moment: Moment(500),
-        kind: Kind::Shift,
-        moves: List::of(vec![in alloc; Move { bucket: 4, to }]?),
-    })?;
+    plan.push(moved(alloc, Moment(500), ServerId(2))?)?;
     Ok(plan)
 }
 
@@ -197,13 +209,75 @@ pub(crate) fn moved_stage(alloc: Global, capture: Capture) -> Result<Stage, Fail
     Ok(Stage { script, capture })
 }
 
-/// The history of the stage's replay by one mux: packet 2 is lost and packet 3 comes three times
-/// where `faulty` is set, and each other sending has one copy.
+/// Bucket 4 goes from server 2 to server 3 at 500, and to server 1 at the second moment.
+fn twice_moved_plan(alloc: Global, second: Moment) -> Result<Plan, Fail>
+    requires later { 500 < second.0 }
+    requires soon { second.0 ≤ 150_000_000_000 }
+    ensures { IfOk result (λ plan. plan ≡ record {
+      buckets = 8;
+      servers = record { 0 = 1 } ∷ record { 0 = 2 } ∷ record { 0 = 3 } ∷ [];
+      changes =
+          record {
+            moment = record { 0 = 500 };
+            kind = shift;
+            moves =
+                record { bucket = 4; to = record { 0 = 3 } } ∷ [];
+          } ∷ record {
+            moment = second;
+            kind = shift;
+            moves =
+                record { bucket = 4; to = record { 0 = 1 } } ∷ [];
+          } ∷ [];
+    }) }
+{
+    let mut plan = Plan::new(alloc, 8, &[ServerId(1), ServerId(2), ServerId(3)])?;
+    plan.push(moved(alloc, Moment(500), ServerId(3))?)?;
+    plan.push(moved(alloc, second, ServerId(1))?)?;
+    Ok(plan)
+}
+
+/// The plain setting with servers 1, 2 and 3, and one shard.
+fn setting_of_three(alloc: Global) -> Result<Setting, Memory>
+    ensures { IfOk result (λ s. s ≡ record plain_setting {
+      servers = record { 0 = 1 } ∷ record { 0 = 2 } ∷ record { 0 = 3 } ∷ [];
+      shards = 1;
+      capacity = 4096;
+    }) }
+{
+    let servers = vec![in alloc; ServerId(1), ServerId(2), ServerId(3)]?;
+    let mut setting = setting(alloc, 4_096)?;
+    setting.servers = List::of(servers);
+    Ok(setting)
+}
+
+pub(crate) fn twice_moved_stage(
+    alloc: Global,
+    second: Moment,
+    capture: Capture,
+) -> Result<Stage, Fail>
+    requires later { 500 < second.0 }
+    requires soon { second.0 ≤ 150_000_000_000 }
+    requires capture { IsReplayable plain_setting.vips capture }
+    ensures sound { IfOk result IsSound }
+    ensures capture { IfOk result (λ stage. stage.capture ≡ capture) }
+    ensures muxes { IfOk result (λ stage. stage.script.setting.muxes ≡ 1) }
+{
+    let changes = vec![in alloc; Command::Change(Version(1)), Command::Change(Version(2))]?;
+    let script = Script {
+        setting: setting_of_three(alloc)?,
+        plan: twice_moved_plan(alloc, second)?,
+        commands: List::of(changes),
+    };
+    Ok(Stage { script, capture })
+}
+
+/// The history of the stage's replay with one mux. If `lost` names a hop, packet 2's copies of that
+/// hop are lost and each sending of packet 3 has three copies; every other sending has one.
 pub(crate) fn history(
     alloc: Global,
     stage: Stage,
     packets: Octets,
-    faulty: bool,
+    lost: Option<Hop>,
 ) -> Result<History, Memory>
     requires sound { IsSound stage }
     requires packets { ArePackets stage.capture.records packets }
@@ -211,10 +285,10 @@ pub(crate) fn history(
     ensures { IfOk result IsRun }
 {
     let route = Route::new(|_packet: u32, _flow: &Flow| -> u16 { 0 }, 1);
-    let faults = Faults::new(|packet: u32, _hop: Hop| -> Fate {
+    let faults = Faults::new(|packet: u32, hop: Hop| -> Fate {
         let copies = match packet {
-            2 if faulty => 0,
-            3 if faulty => 3,
+            2 if lost == Some(hop) => 0,
+            3 if lost.is_some() => 3,
             _ => 1,
         };
         Fate { copies, delay: 0 }

@@ -128,7 +128,7 @@ static TABLE: [Connection; 3] = [
     },
 ];
 
-/// The legend, but for its servers: what grey, the marks and the dashes are.
+/// The legend without its servers: what grey, the marks and the dashes mean.
 static LEGEND: &str = "<g stroke-width='4' stroke-linecap='round'>\n\
      <g stroke='#999999'><line x1='40' y1='20' x2='60' y2='20'/>\
      <text x='68' y='24' stroke='none'>accepted by no server</text></g>\n\
@@ -140,7 +140,7 @@ static LEGEND: &str = "<g stroke-width='4' stroke-linecap='round'>\n\
      <line x1='550' y1='12' x2='550' y2='28'/>\
      <text x='558' y='24' stroke='none'>change of the table, with its version</text></g>\n";
 
-/// Servers 1 and 9, a tick each half second, the changes and the connections.
+/// Servers 1 and 9, a tick every half second, the changes and the connections.
 static TEXT: &str = "<g stroke='#0072b2'><line x1='40' y1='38' x2='60' y2='38'/>\
      <text x='68' y='42' stroke='none'>server 1</text></g>\n\
      <g stroke='#0072b2'><line x1='165' y1='38' x2='185' y2='38'/>\
@@ -185,7 +185,7 @@ static TEXT: &str = "<g stroke='#0072b2'><line x1='40' y1='38' x2='60' y2='38'/>
      </g>\n\
      </svg>\n";
 
-/// A connection that no server accepts, of ten microseconds.
+/// A connection that no server accepts, ten microseconds long.
 static SHORT: [Connection; 1] = [Connection {
     flow: Flow {
         src: 0x0a00_0001,
@@ -255,7 +255,6 @@ static EMPTY: &str = "</g>\n\
      </g>\n\
      </svg>\n";
 
-/// A history of these events.
 fn history(alloc: Global, events: &[Event]) -> Result<History, Fail> {
     let script = Script {
         setting: Setting::plain(alloc)?,
@@ -269,7 +268,7 @@ fn history(alloc: Global, events: &[Event]) -> Result<History, Fail> {
     Ok(History { stage, events })
 }
 
-/// A drawing of this height, with this text behind the legend.
+/// A drawing of this height, with this text after the legend.
 fn drawn(alloc: Global, height: u32, text: &str) -> Result<String, AllocError> {
     let mut all = format!(in alloc;
         "<svg xmlns='http://www.w3.org/2000/svg' version='1.1' width='1080' height='{height}' \
@@ -282,7 +281,7 @@ fn drawn(alloc: Global, height: u32, text: &str) -> Result<String, AllocError> {
     Ok(all)
 }
 
-/// Tests the drawing of these connections in a history of these events.
+/// Checks the drawing of these connections in a history of these events.
 fn check(
     rt: &impl Abort,
     alloc: Global,

@@ -1,5 +1,5 @@
-//! Tests of `bm_trace`, `bm_load`, `bm_drawing` and `bm_words`, in a crate of their own: a run of
-//! tests proves its crate again.
+//! Tests of `bm_trace`, `bm_load`, `bm_drawing` and `bm_words`, in a crate of their own: running
+//! tests proves their crate again.
 #![tactic(auto)]
 
 #[cfg(test)]

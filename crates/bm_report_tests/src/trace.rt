@@ -30,6 +30,7 @@ enum Happening {
     Lose(u32),
     Direct(u32, u16, Verdict),
     Chained(u32, u16, Verdict),
+    Twice(u32, u16, Verdict),
     Close(u16, u16, bool),
     Retire(u16, u64, Retirement),
     Sync,
@@ -107,6 +108,7 @@ fn what(happening: Happening) -> What {
         },
         Direct(packet, server, verdict) => arrival(packet, Hop::Direct, server, verdict),
         Chained(packet, server, verdict) => arrival(packet, Hop::Chained, server, verdict),
+        Twice(packet, server, verdict) => arrival(packet, Hop::Twice, server, verdict),
         Close(server, sport, closed) => What::Close {
             server: ServerId(server),
             flow: flow(sport),
@@ -145,7 +147,7 @@ fn events(alloc: Global) -> Result<List<Event>, Memory> {
     Ok(List::of(list))
 }
 
-/// Eight buckets on servers 1 and 2, of which bucket 4 moves to server 2.
+/// Eight buckets on servers 1 and 2; bucket 4 moves to server 2.
 fn plan(alloc: Global) -> Result<Plan, Fail> {
     let mut plan = Plan::new(alloc, 8, &[ServerId(1), ServerId(2)])?;
     let moves = vec![in alloc;
@@ -264,8 +266,8 @@ static PROCESSED: [EventRow; 7] = [
     ),
 ];
 
-/// What else a server takes, and what it resets.
-static TAKEN: [EventRow; 6] = [
+/// What else a server processes, and what it resets.
+static TAKEN: [EventRow; 7] = [
     (
         8,
         Direct(2, 2, Verdict::Process(Taken::Duplicate)),
@@ -296,9 +298,14 @@ static TAKEN: [EventRow; 6] = [
         Chained(2, 1, Verdict::Reset(Why::ChainedUnknown)),
         "13 arrive 2 chained 1 reset chained-unknown",
     ),
+    (
+        13,
+        Twice(2, 1, Verdict::Reset(Why::ChainedUnknown)),
+        "13 arrive 2 twice 1 reset chained-unknown",
+    ),
 ];
 
-/// What is dropped or lost, what comes behind an end, and causes.
+/// What is dropped or lost, what comes after a connection's end, and causes.
 static REFUSED: [EventRow; 8] = [
     (
         14,
@@ -369,7 +376,7 @@ static PACKETS: [RecordRow; 8] = [
     (Packet(1000, SYN, 100, 1), "packet 1 accepted 1"),
     (
         Packet(1000, PSH_ACK, 101, 10),
-        "packet 2 processed 1 processed 2 processed 1 processed 1 processed 1 reset 2 reset 1 \
+        "packet 2 processed 1 processed 2 processed 1 processed 1 processed 1 reset 2 reset 1 reset 1 \
          dropped 1 dropped 1 dropped 1 processed 1 dropped 1",
     ),
     (Packet(1001, PSH_ACK, 101, 10), "packet 3 reset 2 lost"),
@@ -411,4 +418,4 @@ static OTHERS: [RecordRow; 8] = [
 ];
 
 const TOTALS: &str = "total packets 16 steered 3 unsteered 13 accepted 1 processed 6 \
-                      forwarded 1 reset 3 dropped 4 lost 1 stray 1";
+                      forwarded 1 reset 4 dropped 4 lost 1 stray 1";

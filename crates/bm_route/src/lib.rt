@@ -1,4 +1,4 @@
-//! Which mux a packet goes to: a route that a caller brings, and the program's own.
+//! Which mux a packet goes to: a route that a caller supplies, and the program's own.
 #![tactic(auto)]
 
 mod route;

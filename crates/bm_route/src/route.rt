@@ -1,4 +1,4 @@
-//! A rule for the mux of each packet, beside the fact that its answers are muxes.
+//! A rule for the mux of each packet, with the fact that its answers are muxes.
 ghost use Rattle.std.specs.Prelude.{◌≡◌, ◌<◌};
 ghost use Rattle.bm_route.specs.Routes as routes;
 ghost use Rattle.bm_route.specs.Routes.{Answers, IsRoute};
@@ -6,7 +6,7 @@ ghost use Rattle.bm_route.specs.Routes.{Answers, IsRoute};
 use bm_base::{Flow, MuxId};
 use bm_table::RouteKind;
 
-/// A rule that gives each packet, by its number and its flow, to one of so many muxes.
+/// A rule that assigns each packet, by its number and its flow, to one of `muxes` muxes.
 #[derive(Drop)]
 pub struct Route<F> {
     pub rule: F,
@@ -23,7 +23,7 @@ impl<F: Fn(u32, &Flow) -> u16> Route<F> {
         Route { rule: f, muxes }
     }
 
-    /// The mux of this packet: what the rule answers.
+    /// The mux of this packet, by the rule.
     pub fn mux_of(&self, packet: u32, flow: &Flow) -> MuxId
         requires { IsRoute F.Fn self.now.rule self.now.muxes }
         ensures answer { Answers F.Fn self.now.rule packet flow.now result.0 }
@@ -33,7 +33,7 @@ impl<F: Fn(u32, &Flow) -> u16> Route<F> {
     }
 }
 
-/// The mux to which a setting's route gives a packet: by the source port of its flow, or by its
+/// The mux to which a setting's route assigns a packet: by the source port of its flow, or by its
 /// number.
 pub fn setting_mux(kind: RouteKind, muxes: u16, packet: u32, flow: &Flow) -> u16
     requires { 0 < muxes }

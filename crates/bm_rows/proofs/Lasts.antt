@@ -85,7 +85,7 @@ module _ {S : Type 0} where
       let r = rest i q at in
       record { row = r.row; row_at = r.row_at; item_at = r.item_at }
 
-  -- rows that are cut behind the place m, and their last column
+  -- rows that are cut after the place m, and their last column
   pub rows_left : (rs : List (List S)) (ss : List S) (xs : List (List S)) (m : ℕ) → length rs ≡ length xs
       → length ss ≡ length xs → ((i : ℕ) (x : List S) → slice_get xs i ≡ Some x → m < length x)
       → glued rs ss ≡ map (take (suc m)) xs

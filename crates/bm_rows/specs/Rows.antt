@@ -2,7 +2,7 @@
 use Rattle.std.specs.Prelude.{List, [], ◌∷◌, ◌++◌, map, Vec}
 use Rattle.std.specs.declared.alloc.Global.{Global}
 
--- each row with one item more
+-- each row with its item of the column added at the end
 abbrev pub glued : {S : Type 0} → List (List S) → List S → List (List S)
 glued [] items = []
 glued (row ∷ rows) [] = []

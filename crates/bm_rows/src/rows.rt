@@ -1,4 +1,4 @@
-//! One column more, and the last column off.
+//! Adding a column at the end, and taking it off.
 ghost use Rattle.std.specs.Prelude.{◌≡◌, ◌<◌, ◌∷◌, length, IfOk, All};
 ghost use Rattle.bm_rows.specs.Rows.{glued, items_of};
 
@@ -15,8 +15,8 @@ pub fn front<S: Drop>(all: Vec<S>) -> (S, Vec<S>)
     (first, rest)
 }
 
-/// Each row with one item of the column more. `Memory` where memory was refused; the rows are then
-/// given up.
+/// Adds an item of the column to the end of each row. `Memory` where memory was refused; the rows
+/// are then dropped.
 pub fn add_column<S: Drop>(
     alloc: Global,
     rows: Vec<Vec<S>>,
@@ -39,8 +39,8 @@ pub fn add_column<S: Drop>(
     Ok(done)
 }
 
-/// Each row without its last item, and these items. `Memory` where memory was refused; the rows are
-/// then given up.
+/// Takes the last item off each row, and returns the rows and those items. `Memory` where memory
+/// was refused; the rows are then dropped.
 pub fn last_column<S: Drop>(
     alloc: Global,
     rows: Vec<Vec<S>>,

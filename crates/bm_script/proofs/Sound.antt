@@ -22,7 +22,7 @@ use Rattle.bm_table.proofs.SettingLemmas.{IsSetting-plain_setting}
 use Rattle.bm_table.specs.declared.setting.FaultRow.{FaultRow}
 use Rattle.bm_table.specs.Settings.{plain_setting, seconds, IsFaultRow, IsSetting, IsWithin, RiseFrom}
 
--- a value of which P holds, or a fault that a script may have
+-- a value that satisfies P, or a fault that a script may have
 abbrev pub Meets : {A : Type 0} → (A → Type 0) → Result A ScriptFault → Type 0
 Meets P (Ok x) = P x
 Meets P (Err fault) = IsOfScript fault

@@ -1,5 +1,5 @@
--- What the fault tables and the command tables of a script say.
--- Commands are read in their order, each beside the plan that those before it made.
+-- What the fault tables and the command tables of a script say. Commands are read in their order,
+-- each with the plan that those before it made.
 use Rattle.std.specs.Prelude.{ℕ, ◌+◌, List, [], ◌∷◌, ◌++◌, length, Option, Some, None, Result, Ok}
 use Rattle.std.specs.Prelude.{Err, if◌then◌else◌}
 use Rattle.toml.specs.Data.{as_table, Items, no_items, item, Members}
@@ -40,7 +40,7 @@ row_of n members = do
   delay ← required (at_.Fault n) key.Delay (number 0 60000000000) members
   Ok (record { packet = packet; hop = hop; fate = record { copies = copies; delay = delay } })
 
--- the rows of these tables, the first of which is number n
+-- the rows of these tables; the first has number n
 abbrev pub rows_from : ℕ → Items → Result (List FaultRow) ScriptFault
 rows_from n no_items = Ok []
 rows_from n (item d items) = do
@@ -58,7 +58,7 @@ pub record Progress : Type 0 where
   pub last : ℕ
   pub commands : List Command
 
--- the number of the command that comes next
+-- the number of the next command
 abbrev pub next : Progress → ℕ
 next p = length p.commands + 1
 
@@ -67,7 +67,7 @@ abbrev pub with_command : Progress → ℕ → Command → Progress
 with_command p at command =
     record { plan = p.plan; last = at; commands = p.commands ++ command ∷ [] }
 
--- one more change of the plan, to which a command leads, unless it is refused
+-- a change added to the plan, and the command that leads to it, unless the change is refused
 abbrev pub changed : Progress → ℕ → Change → Option Refusal → Result Progress ScriptFault
 changed p at change (Some refusal) = Err (Refused (next p) refusal)
 changed p at change None = Ok (record {
@@ -76,12 +76,12 @@ changed p at change None = Ok (record {
   commands = p.commands ++ ChangeCommand (record { 0 = length p.plan.changes + 1 }) ∷ [];
 })
 
--- a command to a server that has to be known
+-- a command to a server that must be known
 abbrev pub asked_of_known : Progress → ℕ → ServerId → Command → Result Progress ScriptFault
 asked_of_known p at s command =
     if knows p.plan s then Ok (with_command p at command) else Err (Refused (next p) UnknownServer)
 
--- after a command with this verb, at this moment
+-- what was read after a command with this verb, at this moment
 abbrev pub carried : Progress → ℕ → Verb → Members → Result Progress ScriptFault
 carried p at Add entries = do
   s ← required (at_.Command (next p)) key.Server server entries
@@ -108,7 +108,7 @@ carried p at Retire entries = do
   asked_of_known p at s (RetireCommand (record { 0 = at }) s)
 carried p at Sync entries = Ok (with_command p at (SyncCommand (record { 0 = at })))
 
--- after the command of a table; its moment isn't below that of the command before it
+-- what was read after the command of a table; its moment isn't below that of the command before it
 abbrev pub after_command : Progress → Members → Result Progress ScriptFault
 after_command p members = do
   at ← required (at_.Command (next p)) key.At (number p.last 4000000000000000000) members
@@ -116,7 +116,7 @@ after_command p members = do
   only ← only_keys (at_.Command (next p)) (verb_keys verb) members
   carried p at verb members
 
--- after the commands of these tables
+-- what was read after the commands of these tables
 abbrev pub after_commands : Progress → Items → Result Progress ScriptFault
 after_commands p no_items = Ok p
 after_commands p (item d items) = do

@@ -1,4 +1,4 @@
--- The faults of a script: their texts, and the readers that end at the first one.
+-- The faults of a script: their texts, and reading that stops at the first one.
 use Rattle.std.specs.Prelude.{◌≡◌, ◌≢◌, ℕ, List, ◌++◌, Option, Some, None, Result, Ok, Err, ok_or}
 use Rattle.std.specs.Prelude.{codes, decimal}
 use Rattle.bm_quota.specs.declared.refusal.Refusal.{Refusal}
@@ -33,7 +33,7 @@ refusal_word (TooMany Changes) = codes "too many changes"
 refusal_word (TooMany Moves) = codes "too many moves"
 refusal_word no_memory = codes "want of memory"
 
--- the place of a fault, and what it is
+-- the text of a fault: its place, and what it is
 abbrev pub fault_text : ScriptFault → List ℕ
 fault_text NotToml = codes "script: not toml"
 fault_text (Missing place key) = place_text place ++ codes "missing " ++ key_word key
@@ -42,18 +42,18 @@ fault_text (Unknown place name) = place_text place ++ codes "unknown key " ++ na
 fault_text (Refused n refusal) = place_text (Command n) ++ refusal_word refusal
 fault_text Memory = codes "script: want of memory"
 
--- a refusal that a script may meet
+-- a fault that reading a script may give
 abbrev pub IsOfScript : ScriptFault → Type 0
 IsOfScript (Refused n StampFell) = ⊥
 IsOfScript (Refused n no_memory) = ⊥
 IsOfScript _ = Unit {0}
 
--- what was answered is what the definition gives, unless memory was refused
+-- the result is what the definition gives, unless memory was refused
 abbrev pub Gives : {A : Type 0} → Result A ScriptFault → Result A ScriptFault → Type 0
 Gives (Ok x) wanted = wanted ≡ Ok x
 Gives (Err fault) wanted = fault ≢ Memory → wanted ≡ Err fault
 
--- what comes after a value; a fault ends it
+-- goes on with a value; a fault ends it
 infixl 10 ◌>>=◌
 abbrev pub ◌>>=◌ : {A B : Type 0} → Result A ScriptFault → (A → Result B ScriptFault)
     → Result B ScriptFault
@@ -64,7 +64,7 @@ Err fault >>= f = Err fault
 abbrev pub valued : {A : Type 0} → Place → Key → Option A → Result A ScriptFault
 valued place key x = ok_or x (BadValue place key)
 
--- the value of a key that has to be there
+-- the value of a required key
 abbrev pub required : {A : Type 0} → Place → Key → (Data → Option A) → Members
     → Result A ScriptFault
 required place key read members = do
@@ -76,7 +76,7 @@ abbrev pub of_optional : {A : Type 0} → Key → A → (Data → Option A) → 
 of_optional key plain read None = Ok plain
 of_optional key plain read (Some d) = valued Top key (read d)
 
--- the value of a key at the top, or what stands where the key isn't there
+-- the value of a key at the top, or `plain` if the key isn't there
 abbrev pub optional : {A : Type 0} → Key → A → (Data → Option A) → Members → Result A ScriptFault
 optional key plain read members = of_optional key plain read (value_at key members)
 
@@ -84,6 +84,6 @@ abbrev pub none_unknown : Place → Option (List ℕ) → Result (Unit {0}) Scri
 none_unknown place None = Ok tt
 none_unknown place (Some name) = Err (Unknown place name)
 
--- no key but these stands in a table
+-- a table has no other keys than these
 abbrev pub only_keys : Place → List Key → Members → Result (Unit {0}) ScriptFault
 only_keys place keys members = none_unknown place (first_unknown keys members)

@@ -1,4 +1,4 @@
--- The keys of a script, and where each may stand.
+-- The keys of a script, and where each may be.
 use Rattle.std.specs.Prelude.{ℕ, List, [], ◌∷◌, Bool, not, Option, find, codes, bytes_eq}
 use Rattle.std.specs.List.{list_any}
 use Rattle.toml.specs.Data.{Data, Members, no_members, member, get_member}
@@ -58,7 +58,7 @@ abbrev pub names : Members → List (List ℕ)
 names no_members = []
 names (member name d members) = name ∷ names members
 
--- the least key that is none of these
+-- the least key that isn't one of these
 abbrev pub first_unknown : List Key → Members → Option (List ℕ)
 first_unknown keys members = find (λ name. not (is_key keys name)) (names members)
 

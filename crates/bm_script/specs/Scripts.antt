@@ -16,11 +16,11 @@ use Rattle.bm_table.specs.declared.script.Script.{Script}
 use Rattle.bm_table.specs.declared.setting.Setting.{Setting}
 use Rattle.bm_table.specs.Settings.{plain_setting, seconds}
 
--- the table that a text gives: none where it isn't UTF-8, or no TOML
+-- the top table of a text; None if it isn't UTF-8, or isn't TOML
 unfoldable pub tree_of : List ℕ → Option Members
 tree_of text = if is_utf8 text then parse_document text else None
 
--- the setting that the top keys state, without fault rows
+-- the setting that the top keys give, without fault rows
 abbrev pub setting_of : Members → Result Setting ScriptFault
 setting_of members = do
   version ← optional key.Version 1 (number 1 1) members
@@ -46,7 +46,7 @@ setting_of members = do
     faults = [];
   })
 
--- before the first command
+-- what was read before the first command
 abbrev pub opened : Setting → Progress
 opened setting = record {
   plan = record { buckets = setting.buckets; servers = setting.servers; changes = [] };
@@ -54,7 +54,7 @@ opened setting = record {
   commands = [];
 }
 
--- The checks come in the order of these lines.
+-- The checks are made in the order of these lines.
 abbrev pub script_in : Members → Result Script ScriptFault
 script_in members = do
   only ← only_keys Top top_keys members

@@ -1,4 +1,4 @@
--- What the values of a script read as, each None where it is of another kind or out of its range.
+-- What the values of a script read as; None for one of the wrong kind or out of its range.
 use Rattle.std.specs.Prelude.{ℕ, ◌+◌, ◌-◌, ◌*◌, ℤ, pos, negsuc, List, [], ◌∷◌, Bool, true, false}
 use Rattle.std.specs.Prelude.{not, ◌&&◌, ◌==◌, nat_le, if◌then◌else◌, Option, Some, None}
 use Rattle.std.specs.Prelude.{option_map, codes, bytes_eq, is_some}
@@ -14,7 +14,7 @@ use Rattle.bm_script.specs.declared.commands.Verb.TheVariants.{Sync}
 use Rattle.bm_table.specs.declared.setting.RouteKind.{RouteKind}
 use Rattle.bm_table.specs.declared.setting.RouteKind.TheVariants.{Port, Turn}
 
--- what comes after a value that is there
+-- goes on with a value, if there is one
 infixl 10 ◌>>=◌
 abbrev pub ◌>>=◌ : {A B : Type 0} → Option A → (A → Option B) → Option B
 None >>= f = None
@@ -33,14 +33,14 @@ server d = option_map (λ n. record { 0 = n }) (number 1 1024 d)
 
 -- ENDPOINTS
 
--- the number of at most high that the digits write behind n
+-- the number that n followed by these digits writes, if it is at most high
 abbrev pub digits : ℕ → ℕ → List ℕ → Option ℕ
 digits high n [] = Some n
 digits high n (c ∷ text) =
     if (nat_le 48 c && nat_le c 57)
     && nat_le (n * 10 + (c - 48)) high then digits high (n * 10 + (c - 48)) text else None
 
--- a text that isn't empty, and begins with no 0 that others follow
+-- a text that isn't empty, and has no leading 0 before other digits
 abbrev pub is_plain : List ℕ → Bool
 is_plain [] = false
 is_plain (c ∷ []) = true
@@ -50,14 +50,14 @@ is_plain (c ∷ text) = not (c == 48)
 abbrev pub decimal_number : ℕ → List ℕ → Option ℕ
 decimal_number high text = if is_plain text then digits high 0 text else None
 
--- the text before the first such octet, and the text behind it
+-- the text before the first such octet, and the text after it
 abbrev pub parted : ℕ → List ℕ → Option (List ℕ × List ℕ)
 parted mark [] = None
 parted mark (c ∷ text) =
     if c == mark then Some ([], text)
     else option_map (λ parts. (c ∷ parts.0, parts.1)) (parted mark text)
 
--- a number of an octet before a mark, and the text behind it
+-- the number of an octet before a mark, and the text after the mark
 abbrev pub octet_before : ℕ → List ℕ → Option (ℕ × List ℕ)
 octet_before mark text = do
   parts ← parted mark text
@@ -127,7 +127,7 @@ each read (item d items) = do
   xs ← each read items
   Some (x ∷ xs)
 
--- server numbers that rise, from low on
+-- server numbers in rising order, from low on
 abbrev pub rising : ℕ → Items → Option (List ServerId)
 rising low no_items = Some []
 rising low (item d items) = do
@@ -139,7 +139,7 @@ abbrev pub count : Items → ℕ
 count no_items = 0
 count (item d items) = count items + 1
 
--- an array of as many items as from low to high
+-- an array with from low to high items
 abbrev pub items_from : ℕ → ℕ → Data → Option Items
 items_from low high d =
     as_array d >>= λ items. if nat_le low (count items) && nat_le (count items) high then Some items

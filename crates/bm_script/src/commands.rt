@@ -27,7 +27,7 @@ use toml::{Table, Value};
 const MAX_MOMENT: u64 = 4_000_000_000_000_000_000;
 
 /// What a command does.
-#[derive(Clone, Copy, Debug, PartialEq, Eq)]
+#[derive(Clone, Copy, PartialEq, Eq)]
 pub(crate) enum Verb {
     Add,
     Drain,
@@ -79,7 +79,7 @@ fn verb_of(value: &Value) -> Option<Verb>
 }
 
 /// The commands read so far, and the controller that carries them out.
-#[derive(Debug, Drop)]
+#[derive(Drop)]
 pub(crate) struct Reading {
     controller: Controller,
     /// The moment of the last command, or 0.
@@ -148,7 +148,7 @@ impl Reading {
         (controller.into_plan(), List::of(commands))
     }
 
-    /// The number of the command that comes next.
+    /// The number of the next command.
     fn number(&self) -> u32
         requires { length self.now.commands.items < 65536 }
         ensures { result ≡ commands.next (progress self.now) }
@@ -255,7 +255,7 @@ impl Reading {
         self.tell(at, server, command)
     }
 
-    /// One more command, which leads to the change that the controller made last.
+    /// Adds a command, which leads to the change that the controller made last.
     fn publish(&mut self, at: u64) -> Result<(), ScriptFault>
         requires { self.old.versions < 65536 }
         ensures ok { OnOk result (IsPublished self.old self.new at) }
@@ -268,7 +268,7 @@ impl Reading {
         Ok(())
     }
 
-    /// One more command, to a server that has to be known.
+    /// Adds a command to a server that must be known.
     fn tell(&mut self, at: u64, server: ServerId, command: Command) -> Result<(), ScriptFault>
         requires few { length self.old.commands.items < 65536 }
         requires counted { IsCounted self.old }
@@ -292,7 +292,7 @@ impl Reading {
     }
 }
 
-/// What a refusal is as a fault of the command of this number.
+/// A refusal as a fault of the command of this number.
 fn fault_of(number: u32, refusal: Refusal) -> ScriptFault
     ensures { result ≡ command_fault number refusal }
 {

@@ -3,13 +3,13 @@ ghost use Rattle.std.specs.Prelude.{◌≡◌, ◌≤◌, IfSome, option_map};
 ghost use Rattle.bm_script.specs.Values as values;
 
 /// An address and a port.
-#[derive(Clone, Copy, Debug, PartialEq, Eq)]
+#[derive(Clone, Copy, PartialEq, Eq)]
 pub(crate) struct Endpoint {
     pub(crate) addr: u32,
     pub(crate) port: u16,
 }
 
-/// The address and the port that `A.B.C.D:PORT` writes.
+/// The address and the port in `A.B.C.D:PORT`.
 pub(crate) fn read_endpoint(text: &[u8]) -> Option<Endpoint>
     ensures { result ≡ values.endpoint text.now }
 {
@@ -24,7 +24,7 @@ pub(crate) fn read_endpoint(text: &[u8]) -> Option<Endpoint>
     })
 }
 
-/// A number of an octet before a mark, and the text behind it.
+/// The number of an octet before a mark, and the text after the mark.
 fn octet_before(text: &[u8], mark: u8) -> Option<(u32, &[u8])>
     ensures gives { option_map (λ p. (p.0, p.1.now)) result ≡ values.octet_before mark text.now }
     ensures within { IfSome result (λ p. p.0 ≤ 255) }
@@ -34,7 +34,7 @@ fn octet_before(text: &[u8], mark: u8) -> Option<(u32, &[u8])>
     Some((n, rest))
 }
 
-/// The text before the first such octet, and the text behind it.
+/// The text before the first such octet, and the text after it.
 fn parted(text: &[u8], mark: u8) -> Option<(&[u8], &[u8])>
     ensures { option_map (λ p. (p.0.now, p.1.now)) result ≡ values.parted mark text.now }
 {
@@ -59,7 +59,7 @@ fn decimal_number(text: &[u8], high: u32) -> Option<u32>
     }
 }
 
-/// Whether the text isn't empty, and begins with no 0 that others follow.
+/// Whether the text isn't empty, and has no leading 0 before other digits.
 fn is_plain(text: &[u8]) -> bool
     ensures { result ≡ values.is_plain text.now }
 {
@@ -70,7 +70,7 @@ fn is_plain(text: &[u8]) -> bool
     }
 }
 
-/// The number of at most `high` that the digits write.
+/// The number that the digits write, if it is at most `high`.
 fn digits(text: &[u8], high: u32) -> Option<u32>
     requires { high ≤ 65535 }
     ensures gives { result ≡ values.digits high 0 text.now }

@@ -11,7 +11,7 @@ use std::alloc::{AllocError, AllocFailed};
 use std::fmt;
 use thiserror::Error;
 
-/// Where a fault stands: at the top of a script, or in the fault table or the command table of this
+/// Where a fault is: at the top of a script, or in the fault table or the command table of this
 /// number, from 1.
 #[derive(Clone, Copy, Debug, PartialEq, Eq)]
 pub enum Place {
@@ -38,9 +38,9 @@ impl fmt::Display for Place {
 pub enum ScriptFault {
     /// The text isn't UTF-8, or it isn't TOML.
     NotToml,
-    /// A key that has to be there isn't.
+    /// A required key isn't there.
     Missing(Place, Key),
-    /// The value of a key is of another kind, or out of its range.
+    /// The value of a key is of the wrong kind, or out of its range.
     BadValue(Place, Key),
     /// A key that isn't known there, the least in byte order.
     Unknown(Place, Text),

@@ -10,8 +10,8 @@ use std::alloc::Global;
 use std::fmt;
 use toml::Table;
 
-/// A key of a script. Those up to Command stand at its top, those up to Delay in a fault's table,
-/// and the others in a command's.
+/// A key of a script. Those up to Command are at its top, those up to Delay in a fault's table, and
+/// the others in a command's.
 #[derive(Clone, Copy, Debug, PartialEq, Eq)]
 pub enum Key {
     Version,
@@ -78,7 +78,7 @@ impl fmt::Display for Key {
     }
 }
 
-/// No key but these stands in a table.
+/// Checks that a table has no other keys than these.
 pub(crate) fn only_keys(
     alloc: Global,
     table: &Table,
@@ -94,7 +94,7 @@ pub(crate) fn only_keys(
     Err(ScriptFault::Unknown(place, Text::of(name)))
 }
 
-/// The least key in byte order that is none of these.
+/// The least key in byte order that isn't one of these.
 fn first_unknown<'a>(table: &'a Table, keys: &[Key]) -> Option<&'a str>
     ensures { option_map (λ name. name.now) result
         ≡ known.first_unknown keys.now (table_view table.now) }

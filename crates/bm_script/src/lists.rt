@@ -14,10 +14,10 @@ use bm_base::{List, ServerId, Vip};
 use std::alloc::Global;
 use toml::Value;
 
-/// The most nanoseconds of a lag.
+/// The longest lag, in nanoseconds.
 const MAX_LAG: u64 = 86_400_000_000_000;
 
-/// The items of an array that has as many as from `low` to `high`.
+/// The items of an array with from `low` to `high` items.
 pub(crate) fn items(
     value: &Value,
     key: Key,
@@ -46,7 +46,7 @@ fn is_within(count: usize, low: usize, high: usize) -> bool
     low <= count && count <= high
 }
 
-/// The items, where each is a table.
+/// The items, if each is a table.
 pub(crate) fn tables_alone(items: &[Value], key: Key) -> Result<&[Value], ScriptFault>
     ensures { MatchResult result
         (λ found. (values.are_tables (items_view items.now) ≡ true) × (found.now ≡ items.now))
@@ -70,7 +70,7 @@ fn are_tables(items: &[Value]) -> bool
     true
 }
 
-/// Server numbers that rise.
+/// Server numbers, in rising order.
 pub(crate) fn server_list(alloc: Global, items: &[Value]) -> Result<List<ServerId>, ScriptFault>
     ensures { faults.Gives result
         (faults.valued Top key_.Servers (values.rising 1 (items_view items.now))) }

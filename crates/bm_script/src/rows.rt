@@ -15,10 +15,9 @@ use toml::{Table, Value};
 /// The keys of a fault table.
 const ROW_KEYS: [Key; 4] = [Key::Packet, Key::Hop, Key::Copies, Key::Delay];
 
-/// The most nanoseconds that a fault row delays a copy.
+/// The longest delay of a fault row, in nanoseconds.
 const MAX_DELAY: u64 = 60_000_000_000;
 
-/// The rows of these tables.
 pub(crate) fn read_rows(alloc: Global, tables: &[Value]) -> Result<List<FaultRow>, ScriptFault>
     requires { length tables.now ≤ 4096 }
     ensures { faults.Gives result (commands.rows_from 1 (items_view tables.now)) }
@@ -35,7 +34,6 @@ pub(crate) fn read_rows(alloc: Global, tables: &[Value]) -> Result<List<FaultRow
     Ok(List::of(rows))
 }
 
-/// The row of the fault table of this number.
 fn read_row(alloc: Global, number: u32, table: &Table) -> Result<FaultRow, ScriptFault>
     ensures { faults.Gives result (commands.row_of number (table_view table.now)) }
 {

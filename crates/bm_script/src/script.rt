@@ -33,7 +33,7 @@ const TOP_KEYS: [Key; 12] = [
 ];
 
 /// Reads a script. A fault is the first in the order of the checks: the text, unknown keys at the
-/// top, the top keys, the fault tables, the commands. `Memory` may come in place of any answer.
+/// top, the top keys, the fault tables, the commands. `Memory` may come in place of any result.
 pub fn read_script(alloc: Global, text: &[u8]) -> Result<Script, ScriptFault>
     ensures gives { Gives result (script_of text.now) }
     ensures sound { IfOk result IsSoundScript }
@@ -43,7 +43,7 @@ pub fn read_script(alloc: Global, text: &[u8]) -> Result<Script, ScriptFault>
     read_tree(alloc, &table)
 }
 
-/// The table that the text gives.
+/// The top table of the text.
 fn read_table(alloc: Global, text: &[u8]) -> Result<Table, ScriptFault>
     ensures ok { IfOk result (λ table. tree_of text.now ≡ Some (table_view table)) }
     ensures err { IfErr result
@@ -60,7 +60,7 @@ fn read_table(alloc: Global, text: &[u8]) -> Result<Table, ScriptFault>
     }
 }
 
-/// The script that a table states.
+/// The script that a table describes.
 fn read_tree(alloc: Global, table: &Table) -> Result<Script, ScriptFault>
     ensures gives { Gives result (script_in (table_view table.now)) }
     ensures membership { IfOk result (λ script. KeepsMembership script.plan) }

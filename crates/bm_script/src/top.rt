@@ -1,4 +1,4 @@
-//! The setting that the top keys of a script state.
+//! The setting that the top keys of a script give.
 ghost use Rattle.std.specs.Prelude.{◌≡◌, ◌≤◌, ◌<◌, Ok, Err, IfOk, IfErr, length, replicate};
 ghost use Rattle.bm_script.specs.Faults as faults;
 ghost use Rattle.bm_script.specs.Scripts as scripts;
@@ -17,13 +17,11 @@ use bm_table::{RouteKind, Setting};
 use std::alloc::Global;
 use toml::{Table, Value};
 
-/// The most fault tables of a script.
 const MAX_FAULTS: usize = 4_096;
 
-/// The most command tables of a script.
 const MAX_COMMANDS: usize = 65_536;
 
-/// The setting that the top keys state, without fault rows.
+/// The setting that the top keys give, without fault rows.
 pub(crate) fn read_setting(alloc: Global, table: &Table) -> Result<Setting, ScriptFault>
     ensures { faults.Gives result (scripts.setting_of (table_view table.now)) }
 {
@@ -51,7 +49,7 @@ pub(crate) fn read_setting(alloc: Global, table: &Table) -> Result<Setting, Scri
     })
 }
 
-/// The number of a key, or `plain` where the key isn't there.
+/// The number of a key, or `plain` if the key isn't there.
 fn top_number(table: &Table, key: Key, plain: u64, low: u64, high: u64) -> Result<u64, ScriptFault>
     requires { IsWithin low high plain }
     ensures gives { result ≡ faults.optional key plain (values.number low high)
@@ -109,7 +107,7 @@ fn route(value: &Value) -> Option<RouteKind>
     }
 }
 
-/// A lag for each mux, 0 where the key isn't there.
+/// A lag for each mux, 0 if the key isn't there.
 fn top_lags(alloc: Global, table: &Table, muxes: usize) -> Result<List<u64>, ScriptFault>
     ensures { faults.Gives result
         (faults.optional key_.Lags (replicate muxes 0) (values.lags muxes) (table_view table.now)) }
@@ -146,7 +144,7 @@ pub(crate) fn command_tables(table: &Table) -> Result<&[Value], ScriptFault>
     tables(table, Key::Command, MAX_COMMANDS)
 }
 
-/// The tables of a key, none where the key isn't there.
+/// The tables of a key, none if the key isn't there.
 fn tables(table: &Table, key: Key, most: usize) -> Result<&[Value], ScriptFault>
     ensures ok { IfOk result
         (λ found. faults.optional key no_items (values.tables most) (table_view table.now)

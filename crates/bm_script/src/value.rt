@@ -39,7 +39,6 @@ fn in_range(n: i64, low: u64, high: u64) -> Option<u64>
     if low <= n && n <= high { Some(n) } else { None }
 }
 
-/// The value of a key that has to be there.
 pub(crate) fn required<'a>(
     table: &'a Table,
     place: Place,
@@ -52,7 +51,6 @@ pub(crate) fn required<'a>(
     find(table, key).ok_or(ScriptFault::Missing(place, key))
 }
 
-/// The number of a key that has to be there.
 pub(crate) fn required_number(
     table: &Table,
     place: Place,

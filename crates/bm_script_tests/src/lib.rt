@@ -1,4 +1,4 @@
-//! Tests of `bm_script`, in a crate of their own: a run of tests proves its crate again.
+//! Tests of `bm_script`, in a crate of their own: running tests proves their crate again.
 #![tactic(auto)]
 
 #[cfg(test)]

@@ -10,7 +10,7 @@ mod commands;
 mod rows;
 mod top;
 
-/// What is wrong with a script, as its fault's text says it, and nothing where it is read.
+/// What is wrong with a script, as the text of its fault; empty if nothing is.
 fn verdict(alloc: Global, text: &[u8]) -> Result<String, AllocError> {
     match read_script(alloc, text) {
         Ok(_) => Ok(String::new(alloc)),
@@ -18,7 +18,7 @@ fn verdict(alloc: Global, text: &[u8]) -> Result<String, AllocError> {
     }
 }
 
-/// A front, an item again and again, and an end.
+/// A front, an item repeated, and an end.
 fn repeated(
     alloc: Global,
     front: &str,
@@ -58,7 +58,7 @@ fn the_first_fault_is_named(rt: HostRuntime) -> Result<(), Fail> {
     Ok(())
 }
 
-/// A front, an item so many times, an end, and what is wrong with that script.
+/// A front, an item, how often it is repeated, an end, and what is wrong with that script.
 type Limit = (
     &'static str,
     &'static str,

@@ -8,7 +8,7 @@ distance_leads : (a b : ℕ) → a < 2 ^ 32 → b < 2 ^ 32 → (b + distance a b
 unfolding distance
 distance_leads a b p q = omega arith
 
--- a number in the window is so many after its beginning
+-- a number in the window is k after its beginning, for some k below the window's size
 pub in_window_after : (next window x : ℕ) → next < 2 ^ 32 → x < 2 ^ 32 → is_in_window next window x ≡ true → (k : ℕ)
     × (k < window) × ((next + k) % 2 ^ 32 ≡ x)
 in_window_after next window x p q is = (distance x next, ltb-true _ _ is, distance_leads x next q p)

@@ -8,7 +8,7 @@ use Rattle.bm_base.specs.declared.receive.Taken.TheVariants.{Challenge, Ended}
 use Rattle.bm_base.specs.Segments.{has_flag, is_opening, FIN, RST, SYN}
 use Rattle.bm_seq.specs.declared.receiver.Receiver.{Receiver}
 
--- how far a lies after b, among the sequence numbers
+-- how far a is after b, among the sequence numbers
 unfoldable pub distance : ℕ → ℕ → ℕ
 distance a b = (a + 2 ^ 32 - b) % 2 ^ 32
 
@@ -17,7 +17,7 @@ abbrev pub is_in_window : ℕ → ℕ → ℕ → Bool
 is_in_window next window x = nat_lt (distance x next) window
 
 -- the test of acceptability of RFC 9293, section 3.10.7.4: the segment begins or ends in the
--- window, or both are empty and it stands at its place
+-- window, or both are empty and the segment begins at next
 unfoldable pub acceptable : ℕ → ℕ → ℕ → ℕ → Bool
 acceptable next window seq len =
     if len == 0
@@ -33,10 +33,9 @@ receive_window = 65535
 unfoldable pub taken_reset : Receiver → Segment → Taken
 taken_reset r s =
     if nat_le receive_window (distance s.seq r.next) then Outside
-    else if s.seq == r.next then Ended
-    else Challenge
+    else if s.seq == r.next then Ended else Challenge
 
--- the next octet that is wanted lies in the segment, or the segment is empty and stands there
+-- the next octet expected is in the segment, or the segment is empty and begins there
 unfoldable pub comes_in_turn : Receiver → Segment → Bool
 comes_in_turn r s = nat_lt (distance r.next s.seq) s.len || (s.len == 0 && s.seq == r.next)
 
@@ -49,8 +48,7 @@ taken r s =
     else if not (acceptable r.next receive_window s.seq s.len)
     then (if nat_lt (distance r.next ((s.seq + s.len) % 2 ^ 32)) (2 ^ 31) then Duplicate
     else Outside)
-    else if comes_in_turn r s then Advance
-    else Ahead
+    else if comes_in_turn r s then Advance else Ahead
 
 unfoldable pub after_taken : Taken → Receiver → Segment → Receiver
 after_taken Advance r s =

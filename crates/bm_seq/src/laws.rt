@@ -3,7 +3,7 @@
 ghost use Rattle.std.specs.Prelude.{◌≡◌, ◌+◌, ◌%◌, ◌^◌, ◌<◌, ◌≤◌, ℕ, true};
 ghost use Rattle.bm_seq.specs.Receivers.{is_in_window};
 
-/// A window has just the `size` numbers from `next` on, also around the end of the sequence
+/// A window has exactly the `size` numbers from `next` on, also around the end of the sequence
 /// numbers (RFC 9293, section 3.4).
 pub fn window(next: u32, size: u32)
     requires { size ≤ 65535 }

@@ -8,16 +8,16 @@ use bm_base::{Segment, Taken, is_opening};
 /// The receive window, in octets.
 const WINDOW: u32 = 65_535;
 
-/// The receiving end of a connection: the sequence number that opened it, the next one that is
-/// wanted, and whether a FIN came in its turn.
-#[derive(Clone, Copy, Debug, PartialEq, Eq)]
+/// The receiving end of a connection: the sequence number that opened it, the next one expected,
+/// and whether a FIN came in turn.
+#[derive(Clone, Copy, PartialEq, Eq)]
 pub struct Receiver {
     pub start: u32,
     pub next: u32,
     pub finished: bool,
 }
 
-/// How far sequence number `a` lies after `b`.
+/// How far sequence number `a` is after `b`.
 #[tactic(auto, unfolding(crate::specs::Receivers::distance))]
 fn distance(a: u32, b: u32) -> u32
     ensures { result ≡ receivers.distance a b }
@@ -57,7 +57,7 @@ impl Receiver {
         }
     }
 
-    /// What the receiver makes of a segment; it stays as it is.
+    /// What the receiver makes of a segment; the receiver doesn't change.
     #[tactic(auto, unfolding(crate::specs::Receivers::taken, crate::specs::Receivers::comes_in_turn))]
     pub fn judge(&self, s: &Segment) -> Taken
         requires { s.now.len ≤ 1048576 }

@@ -1,4 +1,4 @@
--- The books of a server's shards, once all its seats are back.
+-- The books of a server's shards, once all its seats are given back.
 use Rattle.std.specs.Prelude.{◌≡◌, ℕ, List, [], reverse, slice_get, Option, Some, None}
 use Rattle.bm_shard.specs.Books.{Book, Replays}
 use Rattle.bm_shard.specs.declared.calls.ShardEntry.{ShardEntry}
@@ -26,6 +26,6 @@ pub record IsBookOf (server : Serving) (seats : List (List Seated)) (h : ℕ)
       → Covers seat_of i (seen_at seat h) book.entries
   pub mine : (i : ℕ) (seat : List Seated) → slice_get seats i ≡ Some seat
       → own seat_of i book.entries ≡ own seat_of i (seen_at seat h)
-  -- the book says of each seat what that seat was told
+  -- for each seat, the book has what that seat was told
   pub told : (i : ℕ) (seat : List Seated) → slice_get seats i ≡ Some seat
       → telling (Some (shard_at server h)) i book.entries ≡ told_at seat h

@@ -26,7 +26,7 @@ row_from shard n i h (t ∷ ts) = post t (Some (shard h)) n i ∷ row_from shard
 abbrev pub row : Serving → ℕ → List (Who Shard)
 row server i = row_from (shard_at server) server.seats i 0 server.tables
 
--- the most turns that were made at one shard
+-- the most turns that were made at any one shard
 abbrev pub most_turns : List Seated → ℕ
 most_turns [] = 0
 most_turns (s ∷ ss) = max s.turns (most_turns ss)
@@ -39,7 +39,7 @@ seat_of e = e.seat
 abbrev pub call_of : ShardEntry → ShardCall
 call_of e = e.call
 
--- what a shard replies to a call after these entries, whoever makes it
+-- a shard's reply to a call after these entries, whoever makes it
 abbrev pub reply_of : Shard → List ShardEntry → ℕ → ShardCall → ShardReply
 reply_of shard entries n call = reply_after shard (reverse entries) call
 
@@ -63,7 +63,7 @@ abbrev pub added : {M : Type 0} → ShardCall → Result ShardReply M → List A
 added call (Ok reply) = (call, reply) ∷ []
 added call (Err e) = []
 
--- what a call to the shard h adds to what the shard k told
+-- what a call to the shard h adds to what the shard k told the seat
 abbrev pub said : {M : Type 0} → ℕ → ShardCall → Result ShardReply M → ℕ → List Answered
 said h call result k = cond (k == h) (added call result) []
 
@@ -72,13 +72,13 @@ abbrev pub Tells : {M : Type 0} → ℕ → ShardCall → Result ShardReply M �
     → Type 0
 Tells h call result old new = (k : ℕ) → told_at new k ≡ told_at old k ++ said h call result k
 
--- a reply is what a shard's book gives after some entries
+-- a reply is one that a shard's book gives after some entries
 abbrev pub IsReply : {M : Type 0} → ShardCall → Result ShardReply M → Type 0
 IsReply call (Ok reply) = (shard : Shard) × (past : List ShardEntry)
     × (reply ≡ reply_after shard past call)
 IsReply call (Err e) = Unit {0}
 
--- the seat i of a server, which made no turn and was told nothing
+-- the seat i of a server, which has made no turn and was told nothing
 pub record IsNewSeat (server : Serving) (i : ℕ) (seat : List Seated) : Type 0 where
   pub «is» : map who seat ≡ row server i
   pub turns : most_turns seat ≡ 0

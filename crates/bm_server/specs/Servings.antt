@@ -8,7 +8,8 @@ use Rattle.bm_shard.specs.declared.book.Shard.{Shard}
 
 pub record Serving : Type 0 where
   pub id : ServerId
-  -- what all its shards have: how many connections each may hold, and nanoseconds after a move
+  -- the same for all its shards: how many connections each may hold, and for how many nanoseconds
+  -- after a move it passes packets on
   pub capacity : ℕ
   pub timeout : ℕ
   -- how many seats it has

@@ -5,12 +5,12 @@ ghost use Rattle.bm_base.specs.declared.capture.Body.TheVariants.{Steerable};
 ghost use Rattle.bm_base.specs.Tags.{IsTag};
 ghost use Rattle.bm_encap.specs.Spellings.{spelling};
 ghost use Rattle.bm_link.specs.Fits.{IsPacketOf};
-ghost use Rattle.bm_server.specs.Copies.{copy_in};
+ghost use Rattle.bm_shard.specs.Copies.{copy_in};
 
 use bm_base::{Segment, Tag};
 use bm_encap::laws::spelling_is_read;
 
-/// What `wrap` writes of a steerable packet and a valid tag has none of the faults at its
+/// What `wrap` writes for a steerable packet and a valid tag has none of the faults at its
 /// destination.
 pub fn steered_is_read(tag: &Tag, segment: &Segment, packet: &[u8])
     requires tag { IsTag tag.now }

@@ -3,8 +3,8 @@ use bm_shard::ShardBook;
 use bm_turnstile::TurnSeat;
 use std::marker::Model;
 
-/// A seat at each shard of a server, in their order, which one thread has. Contracts see the list
-/// of them.
+/// A seat at each shard of a server, in their order; one thread owns it. Contracts see the list of
+/// them.
 #[derive(Drop)]
 pub struct ServerSeat {
     pub(crate) seats: Vec<TurnSeat<ShardBook>>,

@@ -11,7 +11,7 @@ use bm_shard::ShardBook;
 use bm_turnstile::{TurnSeat, Turnstile};
 use std::alloc::Global;
 
-/// For each seat of a server its seats at the shards.
+/// For each seat of a server, its seats at the shards.
 pub(crate) type Rows = Vec<Vec<TurnSeat<ShardBook>>>;
 
 /// The shards, and for each seat of the server its seats at them.
@@ -43,7 +43,7 @@ pub(crate) fn make_shards(
     Ok((made, rows))
 }
 
-// So many rows without a seat.
+// This many rows without a seat.
 fn empty_rows(alloc: Global, count: u16) -> Result<Rows, Memory>
     ensures count { IfOk result (λ rows. length rows.items ≡ count) }
     ensures empty { IfOk result (λ rows. All (λ row. row.items ≡ []) rows.items) }
@@ -78,7 +78,7 @@ pub(crate) fn unseated(alloc: Global, seats: Vec<ServerSeat>) -> Result<Rows, Me
     Ok(all)
 }
 
-/// One more at the front.
+/// The others, with one more at the front.
 pub(crate) fn before<S: Drop>(first: S, others: Vec<S>) -> Result<Vec<S>, Memory>
     ensures { IfOk result (λ all. all.items ≡ first ∷ others.items) }
 {

@@ -2,20 +2,20 @@
 ghost use Rattle.std.specs.Prelude.{◌≡◌, ℕ, ◌+◌, ◌*◌, ◌^◌, ◌<◌, ◌≤◌, Some, map, length, slice_get};
 ghost use Rattle.std.specs.Prelude.{IfOk};
 ghost use Rattle.bm_shard.specs.Books.{IsTaken};
+ghost use Rattle.bm_shard.specs.Copies.{copy_in};
 ghost use Rattle.bm_shard.specs.declared.calls.ShardCall.TheVariants.{Close, Retire};
 ghost use Rattle.bm_turnstile.specs.Sittings.{who};
 ghost use Rattle.bm_server.specs.Books.{IsBookOf};
-ghost use Rattle.bm_server.specs.Copies.{TellsCopy, copy_in};
+ghost use Rattle.bm_server.specs.Copies.{TellsCopy};
 ghost use Rattle.bm_server.specs.Seats.{IsNewSeat, IsReply, Tells, most_turns, row};
 ghost use Rattle.bm_server.specs.Servings.{serving, shard_for};
 
-use crate::copy::read_copy;
+use crate::ServerSeat;
 use crate::seats::{before, make_shards, seated, unseated};
-use crate::{HandleFault, ServerSeat};
 use bm_base::{Flow, List, Memory, Moment, ServerId};
 use bm_hash::shard_of;
 use bm_rows::last_column;
-use bm_shard::{ShardBook, ShardCall, ShardReply};
+use bm_shard::{HandleFault, ShardBook, ShardCall, ShardReply, read_copy};
 use bm_table::Retirement;
 use bm_turnstile::Turnstile;
 use std::alloc::Global;
@@ -94,9 +94,9 @@ impl Server {
         self.shards.len() as u16
     }
 
-    /// A copy of this packet arrives as octets, which was due at this moment (nanoseconds). Octets
-    /// that aren't read touch no shard; others are one turn at the shard of the flow within, for
-    /// which it waits. `Memory` where the turn answered it.
+    /// A copy of this packet, which was due at this moment (nanoseconds), arrives as octets. Octets
+    /// that can't be read touch no shard; others are one turn at the shard of their flow, for which
+    /// the call waits. `Memory` where the turn was refused memory.
     pub fn handle<R: Wait>(
         &self,
         rt: &R,
@@ -127,8 +127,8 @@ impl Server {
         }
     }
 
-    /// The server ends a connection, if it holds one: one turn at the flow's shard, for which it
-    /// waits. `Memory` where the turn answered it.
+    /// The server ends a connection, if it holds one: one turn at the flow's shard, for which the
+    /// call waits. `Memory` where the turn was refused memory.
     pub fn close_flow<R: Wait>(
         &self,
         rt: &R,
@@ -148,8 +148,8 @@ impl Server {
         self.turn(rt, seat, usize::from(shard), ShardCall::Close { flow, at })
     }
 
-    /// A shard is to be retired, which has this result: one turn there, for which it waits.
-    /// `Memory` where the turn answered it.
+    /// Asks a shard to retire, with this result: one turn there, for which the call waits. `Memory`
+    /// where the turn was refused memory.
     pub fn retire<R: Wait>(
         &self,
         rt: &R,
@@ -194,8 +194,8 @@ impl Server {
         self.shards[shard].turn(rt, &mut seat.seats[shard], call)
     }
 
-    /// The books of the shards, once all seats are back, in their order. `Memory` where memory was
-    /// refused; the server and its seats are then given up.
+    /// Takes all seats back, in their order, and returns the books of the shards. `Memory` where
+    /// memory was refused; the server and its seats are then dropped.
     pub fn finish(self, alloc: Global, seats: Vec<ServerSeat>) -> Result<Books, Memory>
         requires count { length seats.items ≡ self.seats }
         requires each { (i : ℕ) (seat : _) → slice_get seats.items i ≡ Some seat

@@ -1,3 +1,4 @@
+pub mod Copies
 pub mod Counting
 pub mod Keeping
 pub mod Meaning

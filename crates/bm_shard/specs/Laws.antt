@@ -1,4 +1,4 @@
--- What the laws on books speak of.
+-- The terms of the laws on books.
 use Rattle.std.specs.Prelude.{◌≡◌, true, List, reverse}
 use Rattle.bm_core.specs.declared.events.Event.{Event}
 use Rattle.bm_core.specs.declared.events.Stage.{Stage}

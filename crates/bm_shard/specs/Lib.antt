@@ -1,3 +1,4 @@
+pub mod Copies
 pub mod Turns
 pub mod Replies
 pub mod Books

@@ -28,7 +28,7 @@ verdict_by shard knows clock tag segment =
 abbrev pub is_held_by : (Flow → Local) → Flow → Bool
 is_held_by knows flow = is_some (knows flow).held
 
--- the packet that answers a segment: a reset where the verdict is one
+-- the packet that answers a segment: a reset, if that is the verdict
 abbrev pub answer_for : Verdict → Segment → Option (List ℕ)
 answer_for (Reset why) segment = reset_packet segment
 answer_for _ segment = None

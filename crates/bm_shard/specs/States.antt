@@ -1,4 +1,4 @@
--- A shard without its calls, and what a call does to it.
+-- A shard without the book of its calls, and what a call does to it.
 use Rattle.std.specs.Prelude.{◌≡◌, Bool, false, List, []}
 use Rattle.bm_base.specs.declared.flow.Flow.{Flow}
 use Rattle.bm_base.specs.declared.ids.Moment.{Moment}
@@ -19,18 +19,18 @@ use Rattle.bm_shard.specs.Turns.{call_moment}
 -- a state as contracts see it
 pub record State : Type 0 where
   pub shard : Shard
-  -- the flows that are held, in no order that is promised
+  -- the flows that are held, in no particular order
   pub connections : List Connection
   pub retired : Bool
   -- the clock of the last call, or 0
   pub clock : Moment
 
--- a shard that was asked nothing
+-- a shard to which no call was made
 abbrev pub first_state : Shard → State
 first_state shard =
     record { shard = shard; connections = []; retired = false; clock = record { 0 = 0 } }
 
--- what it holds, wherever the flows stand
+-- what it holds, whichever slots the flows are in
 abbrev pub holding_in : State → Holding
 holding_in state = record {
   table =

@@ -1,4 +1,4 @@
--- How contracts see a shard's state and its book, and what these keep.
+-- How contracts see a shard's state and its book, and their invariants.
 use Rattle.std.specs.Prelude.{◌≡◌, ◌+◌, ◌*◌, ◌^◌, ◌≤◌, length, reverse}
 use Rattle.bm_shard.specs.Books.{Book, Replays, clock_of}
 use Rattle.bm_shard.specs.States.{State}

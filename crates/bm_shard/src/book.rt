@@ -9,8 +9,8 @@ use std::alloc::Global;
 use std::marker::Model;
 
 /// What no call to a shard changes: its server, its number there, how many connections it may hold,
-/// and how many nanoseconds after a move it passes packets on.
-#[derive(Clone, Copy, Debug, PartialEq, Eq)]
+/// and for how many nanoseconds after a move it passes packets on.
+#[derive(Clone, Copy, PartialEq, Eq)]
 pub struct Shard {
     pub server: ServerId,
     pub number: u16,
@@ -18,8 +18,8 @@ pub struct Shard {
     pub timeout: u64,
 }
 
-/// A shard with all that it was asked, in its order.
-#[derive(Debug, Drop)]
+/// A shard with all calls that were made to it, in their order.
+#[derive(Drop)]
 pub struct ShardBook {
     state: ShardState,
     entries: Vec<ShardEntry>,

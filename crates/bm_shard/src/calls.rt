@@ -9,9 +9,9 @@ use bm_table::Retirement;
 use bm_tcp::reset_for;
 
 /// What a shard is asked. Moments are nanoseconds.
-#[derive(Clone, Copy, Debug, PartialEq, Eq)]
+#[derive(Clone, Copy, PartialEq, Eq)]
 pub enum ShardCall {
-    /// A copy of a packet arrives, which was due at this moment.
+    /// A copy of a packet, which was due at this moment, arrives.
     Arrive {
         packet: u32,
         tag: Tag,
@@ -23,15 +23,16 @@ pub enum ShardCall {
         flow: Flow,
         at: Moment,
     },
-    /// The shard is to be retired, which has this result.
+    /// A request to retire the shard, and its result.
     Retire {
         at: Moment,
         result: Retirement,
     },
 }
 
-/// What a shard replies to a call of that kind. An arrival's answer is the packet that resets it.
-#[derive(Clone, Copy, Debug, PartialEq, Eq)]
+/// What a shard replies to each kind of call. An arrival's answer is the packet that resets it, if
+/// it is reset.
+#[derive(Clone, Copy, PartialEq, Eq)]
 pub enum ShardReply {
     Arrived {
         clock: Moment,
@@ -48,7 +49,7 @@ pub enum ShardReply {
 }
 
 /// A call that was made, the seat that made it, and its event.
-#[derive(Clone, Copy, Debug, PartialEq, Eq)]
+#[derive(Clone, Copy, PartialEq, Eq)]
 pub struct ShardEntry {
     pub seat: u16,
     pub call: ShardCall,
@@ -67,7 +68,7 @@ impl ShardCall {
     }
 }
 
-/// The packet that resets a segment, where the verdict is to reset it.
+/// The packet that resets a segment, if the verdict is to reset it.
 pub(crate) fn answer_to(verdict: Verdict, segment: &Segment) -> Option<[u8; 40]>
     ensures { result ≡ answer_for verdict segment.now }
 {

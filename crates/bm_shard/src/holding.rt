@@ -23,14 +23,14 @@ use bm_seq::Receiver;
 use bm_table::Retirement;
 
 /// The connections of a shard, and whether it is retired.
-#[derive(Debug, Drop)]
+#[derive(Drop)]
 pub(crate) struct Holding {
     pub(crate) table: ConnTable,
     pub(crate) retired: bool,
 }
 
 impl Holding {
-    /// What the shard knows of a flow that was sought.
+    /// What the shard knows of a flow that was searched for.
     fn local(&self, found: Found) -> Local
         requires { found.receiver ≡ receiver_in self.now.table.connections found.flow }
         ensures local { result ≡ local_in self.now found.flow }
@@ -44,7 +44,7 @@ impl Holding {
         }
     }
 
-    /// The call has its effect: what happened, and the reply.
+    /// Carries out the call: what happened, and the reply.
     pub(crate) fn serve(
         &mut self,
         shard: &Shard,
@@ -125,7 +125,7 @@ impl Holding {
         (what, ShardReply::Closed { clock, closed })
     }
 
-    /// The shard is to be retired, which has this result.
+    /// The shard is asked to retire, with this result.
     fn serve_retirement(
         &mut self,
         shard: &Shard,
@@ -147,7 +147,7 @@ impl Holding {
         (what, ShardReply::Retired { clock })
     }
 
-    /// The verdict on a copy of a packet, which takes effect.
+    /// Decides on a copy of a packet, and carries out the verdict.
     fn arrive(&mut self, tag: &Tag, segment: &Segment, clock: Moment, timeout: u64) -> Verdict
         requires room { HasRoom self.old.table }
         requires len { segment.now.len ≤ 1048576 }
@@ -162,7 +162,7 @@ impl Holding {
         verdict
     }
 
-    /// The verdict takes effect on the flow, which was sought.
+    /// Carries out the verdict on the flow, which was searched for.
     fn settle(&mut self, verdict: Verdict, segment: &Segment, found: Found)
         requires can { CanTake verdict segment.now self.old }
         requires len { segment.now.len ≤ 1048576 }
@@ -180,7 +180,7 @@ impl Holding {
         }
     }
 
-    /// The flow's connection begins, in place of one that it may have had.
+    /// Opens the flow's connection, in place of one that it may have had.
     fn accept(&mut self, segment: &Segment, found: Found)
         requires can { CanOpen segment.now.flow self.old }
         requires flow { found.flow ≡ segment.now.flow }
@@ -210,7 +210,7 @@ impl Holding {
         }
     }
 
-    /// Whether the flow was held; it no longer is.
+    /// Ends the flow's connection; whether there was one.
     fn close(&mut self, flow: &Flow) -> bool
         ensures closed { result ≡ is_some (receiver_in self.old.table.connections flow.now) }
         ensures effect { TakesTurn (Closed flow.now result) self.old self.new }

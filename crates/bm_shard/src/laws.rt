@@ -19,8 +19,8 @@ ghost use Rattle.bm_shard.specs.Replies.{is_held_by, verdict_by};
 use crate::ShardBook;
 use bm_core::Stage;
 
-/// A shard whose entries are the turns of that shard in a history decides on a copy of a packet as
-/// the history says.
+/// If a shard's entries are its turns in a history, it decides on a copy of a packet as the history
+/// says.
 pub fn verdicts(book: &ShardBook, stage: &Stage)
     requires { IsOf stage.now book.now.shard }
     ensures { (past : List Event) → AreOf stage.now past book.now
@@ -31,7 +31,7 @@ pub fn verdicts(book: &ShardBook, stage: &Stage)
         ≡ verdict_at stage.now past clock.0 label hop book.now.shard.server s }
 {}
 
-/// And it holds the flows that the history says.
+/// Such a shard holds the flows that the history says.
 pub fn holdings(book: &ShardBook, stage: &Stage)
     requires { IsOf stage.now book.now.shard }
     ensures { (past : List Event) → AreOf stage.now past book.now
@@ -40,7 +40,7 @@ pub fn holdings(book: &ShardBook, stage: &Stage)
         ≡ is_some (held stage.now past book.now.shard.server flow) }
 {}
 
-/// After a retirement that is done no connection is held, and every packet is dropped.
+/// Once a retirement is done, no connection is held, and every packet is dropped.
 pub fn retired(book: &ShardBook)
     requires { IsRetired book.now }
     ensures ended { (flow : Flow)

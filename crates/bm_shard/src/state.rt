@@ -1,4 +1,4 @@
-//! A shard without its calls.
+//! A shard without the book of its calls.
 ghost use Rattle.std.specs.Prelude.{◌≡◌, ◌<◌, ◌≤◌, ◌^◌, IfOk, OnErr, OnOk};
 ghost use Rattle.bm_shard.specs.Books.{IsTaken};
 ghost use Rattle.bm_shard.specs.States.{IsAfter, event_at, first_state, reply_at};
@@ -12,7 +12,7 @@ use std::alloc::Global;
 use std::marker::Model;
 
 /// A shard, what it holds, and the clock of its last call.
-#[derive(Debug, Drop)]
+#[derive(Drop)]
 pub struct ShardState {
     shard: Shard,
     holding: Holding,
@@ -60,7 +60,7 @@ impl ShardState {
         self.holding.table.ready()?;
         let clock = next_clock(self.clock, call.moment());
         let (what, reply) = self.holding.serve(&self.shard, clock, call);
-        // What is held is a map, and of no more flows than it may have.
+        // The connections are a map, of at most as many flows as the capacity.
         prove!(self.holding.table.len() <= self.shard.capacity);
         self.clock = clock;
         Ok((Event { clock, what }, reply))

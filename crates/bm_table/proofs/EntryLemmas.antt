@@ -118,7 +118,7 @@ pub server_in-table : (plan : Planned) (v : ℕ) (entries : List Entry) → IsTa
 server_in-table plan v entries is b h =
     ap (λ (e : Entry). e.cur)
     (get_or_from_slice_get entries b (table plan v b)
-    (record { cur = record { 0 = 0 }; prev = None; stamp = record { 0 = 0 } }) (is.each b h))
+    (record { cur = record { 0 = 0 }; prev = None; older = None }) (is.each b h))
 
 -- no bucket yet
 pub no_opening : (servers : List ServerId) → IsTable (record { buckets = 0; servers = servers; changes = [] }) 0 []
@@ -142,7 +142,7 @@ opening_more servers n entries e is here = record {
       ];
 }
 
--- the moves from the i-th on, of which one more was carried out
+-- the moves from the i-th on, once one more of them was carried out
 pub carry_step : (at : ℕ) (moves : List Move) (i : ℕ) (d : Move) → i < length moves
     → (b : ℕ) (old new start : Option Entry)
     → new ≡ option_map (after_moves at (get_or moves i d ∷ []) b) old

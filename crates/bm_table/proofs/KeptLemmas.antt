@@ -258,7 +258,7 @@ pub least-kept : (p : Inside) → IsKept p → (timeout n at : ℕ) (s : ServerI
 least-kept p kept timeout n when s h least is =
     rw is (least_since-take p kept s when timeout n (omega (arith, length-changes_of p)))
 
--- moves of which none is bad are of buckets in the table
+-- if none of the moves is bad, their buckets are in the table
 pub in_table : (p : Inside) → IsKept p → (moves : List Move) → bad_bucket p.buckets 0 moves ≡ None
     → All (λ m. m.bucket < length p.latest) moves
 in_table p kept moves e =

@@ -1,4 +1,4 @@
--- What each plan keeps, and which changes it refuses.
+-- What holds of each plan, and which changes it refuses.
 use Rattle.std.specs.Prelude.{◌≡◌, ◌≢◌, ℕ, ◌+◌, ◌-◌, ◌<◌, ◌≤◌, ◌&&◌, nat_le, nat_lt, if◌then◌else◌}
 use Rattle.std.specs.Prelude.{List, [], ◌∷◌, ◌++◌, length, map, All, IfSome, sum_by, Option, Some}
 use Rattle.std.specs.Prelude.{None}
@@ -34,7 +34,7 @@ MovesRise buckets low [] = Unit {0}
 MovesRise buckets low (m ∷ moves) =
     (low ≤ m.bucket) × (m.bucket < buckets) × MovesRise buckets (m.bucket + 1) moves
 
--- how many moves the changes have together
+-- how many moves all changes have together
 abbrev pub total_moves : List Change → ℕ
 total_moves changes = sum_by (λ c. length c.moves) changes
 
@@ -42,7 +42,7 @@ pub record IsPlan (plan : Planned) : Type 0 where
   pub buckets : IsWithin 1 65536 plan.buckets
   pub servers : 0 < length plan.servers
   pub rising : RiseFrom 0 plan.servers
-  -- stamps don't fall
+  -- stamps never decrease
   pub stamps : (v w : ℕ) → v ≤ w → w < length plan.changes
       → change_moment (next_change plan v) ≤ change_moment (next_change plan w)
   -- each move changes its bucket's server
@@ -56,15 +56,15 @@ pub record IsPlan (plan : Planned) : Type 0 where
 abbrev pub last_moment : Planned → ℕ
 last_moment plan = change_moment (next_change plan (length plan.changes - 1))
 
--- the first bucket that isn't below the number of buckets, or is below low or not above the one
--- before it
+-- the first bucket that isn't below the number of buckets, or is below `low`, or isn't above the
+-- one before it
 abbrev pub bad_bucket : ℕ → ℕ → List Move → Option ℕ
 bad_bucket buckets low [] = None
 bad_bucket buckets low (m ∷ moves) =
     if nat_le low m.bucket && nat_lt m.bucket buckets then bad_bucket buckets (m.bucket + 1) moves
     else Some m.bucket
 
--- the first bucket that a move brings to the server where it is
+-- the first bucket that is already at the server to which it is moved
 abbrev pub bucket_already_there : (ℕ → ServerId) → List Move → Option ℕ
 bucket_already_there server [] = None
 bucket_already_there server (m ∷ moves) =
@@ -79,18 +79,18 @@ first_fault (Some fault ∷ faults) = Some fault
 abbrev pub late_fault : Planned → Moment → Option PlanFault
 late_fault plan at = if nat_lt at.0 (last_moment plan) then Some StampFell else None
 
--- the limits of a plan that gets one more change, with so many moves
+-- the limits of a plan to which a change with this many moves is added
 abbrev pub limit_faults : Planned → ℕ → List (Option PlanFault)
 limit_faults plan count =
     (if nat_lt (length plan.changes) 4096 then None else Some (TooMany Changes))
     ∷ (if nat_le (total_moves plan.changes + count) 1000000 then None else Some (TooMany Moves))
     ∷ []
 
--- why the plan refuses a change at this moment with so many moves, whatever the moves
+-- why the plan refuses a change at this moment with this many moves, whatever the moves are
 abbrev pub limit_refusal : Planned → Moment → ℕ → Option PlanFault
 limit_refusal plan at count = first_fault (late_fault plan at ∷ limit_faults plan count)
 
--- why the plan refuses the change, want of memory aside
+-- why the plan refuses the change, apart from `Memory`
 abbrev pub refusal : Planned → Change → Option PlanFault
 refusal plan change = first_fault (
     late_fault plan change.moment
@@ -98,7 +98,7 @@ refusal plan change = first_fault (
     ∷ option_map SameServer (bucket_already_there (server_now plan) change.moves)
     ∷ limit_faults plan (length change.moves))
 
--- want of memory comes only where nothing else is refused
+-- `Memory` comes only if there is no other reason to refuse
 abbrev pub IsRefusal : Planned → Change → PlanFault → Type 0
 IsRefusal plan change Memory = refusal plan change ≡ None
 IsRefusal plan change fault = refusal plan change ≡ Some fault

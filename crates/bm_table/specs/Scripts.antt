@@ -22,7 +22,7 @@ moment_of_command plan (CloseCommand at server flow) = at.0
 moment_of_command plan (RetireCommand at server) = at.0
 moment_of_command plan (SyncCommand at) = at.0
 
--- the Change commands name the versions from the first number on, and end with the second
+-- the Change commands name the versions from `next` to `top`, in order
 abbrev pub NamesVersions : ℕ → ℕ → List Command → Type 0
 NamesVersions next top [] = next ≡ top + 1
 NamesVersions next top (ChangeCommand v ∷ rest) = (v.0 ≡ next) × NamesVersions (next + 1) top rest
@@ -42,13 +42,12 @@ NamesServer _ = Unit {0}
 -- what a replay may be asked to carry out
 pub record IsSoundScript (script : Script) : Type 0 where
   pub setting : IsSetting script.setting
-  -- the plan opens on the setting's servers, and is orderly
+  -- the plan opens on the setting's buckets and servers, and is orderly
   pub buckets : script.plan.buckets ≡ script.setting.buckets
   pub servers : script.plan.servers ≡ script.setting.servers
   pub adds : AllByRecursion (λ c. NamesServer c.kind) script.plan.changes
   pub plan : IsOrderly script.plan
-  -- the commands' moments don't fall, and the Change commands name the plan's versions in their
-  -- order
+  -- the commands' moments never decrease, and the Change commands name the plan's versions in order
   pub few_commands : length script.commands ≤ 65536
   pub commands_rise : AreRising 0 (4 * 10 ^ 18)
       (map (λ c. moment_of_command script.plan c) script.commands)

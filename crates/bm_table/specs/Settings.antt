@@ -1,4 +1,4 @@
--- The ranges of a setting, and the setting of a script that says nothing.
+-- The ranges of a setting, and the setting of a script that sets nothing.
 use Rattle.std.specs.Prelude.{ℕ, ◌+◌, ◌*◌, ◌^◌, ◌≤◌, ◌≡◌, List, [], ◌∷◌, length, All}
 use Rattle.bm_base.specs.declared.ids.ServerId.{ServerId}
 use Rattle.bm_table.specs.declared.setting.FaultRow.{FaultRow}
@@ -13,7 +13,7 @@ abbrev pub RiseFrom : ℕ → List ServerId → Type 0
 RiseFrom low [] = Unit {0}
 RiseFrom low (s ∷ servers) = (low ≤ s.0) × RiseFrom (s.0 + 1) servers
 
--- nanoseconds
+-- n seconds in nanoseconds
 abbrev pub seconds : ℕ → ℕ
 seconds n = n * 10 ^ 9
 
@@ -41,8 +41,8 @@ pub record IsSetting (setting : Setting) : Type 0 where
   pub rows : length setting.faults ≤ 4096
   pub faults : All IsFaultRow setting.faults
 
--- 8 buckets on servers 1 and 2, one mux without a lag, 4 shards of 4,096 connections,
--- 240 seconds, the service 192.0.2.1:80, packets given to muxes by their port, no faults
+-- 8 buckets on servers 1 and 2, one mux without a lag, 4 shards of 4,096 connections, 240 seconds,
+-- the service 192.0.2.1:80, packets assigned to muxes by their port, no faults
 abbrev pub plain_setting : Setting
 plain_setting = record {
   buckets = 8;

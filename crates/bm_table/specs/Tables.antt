@@ -1,4 +1,4 @@
--- The table of a version, by looking back through the plan's changes, and when a server may retire.
+-- The table of a version, computed from the plan's changes, and when a server may retire.
 use Rattle.std.specs.Prelude.{◌≡◌, ◌≢◌, ℕ, zero, suc, ◌+◌, ◌%◌, ◌<◌, ◌≤◌, Bool, true, false, ◌&&◌}
 use Rattle.std.specs.Prelude.{◌||◌, ◌==◌, nat_le, if◌then◌else◌, List, [], ◌∷◌, length, Option}
 use Rattle.std.specs.Prelude.{Some, None, slice_get, slice_index_or, IfSome, is_some}
@@ -15,12 +15,12 @@ use Rattle.bm_table.specs.declared.plan.Retirement.TheVariants.{Done, NotDrained
 abbrev pub same_server : ServerId → ServerId → Bool
 same_server a b = a.0 == b.0
 
--- where these moves bring the bucket
+-- the server to which these moves bring the bucket
 abbrev pub target : List Move → ℕ → Option ServerId
 target [] b = None
 target (m ∷ moves) b = if m.bucket == b then Some m.to else target moves b
 
--- where the change brings the bucket
+-- the server to which the change brings the bucket
 abbrev pub brings : Option Change → ℕ → Option ServerId
 brings None b = None
 brings (Some c) b = target c.moves b
@@ -40,14 +40,18 @@ change_moment (Some c) = c.moment.0
 -- an entry after its bucket was brought to a server, or not
 abbrev pub moved : Entry → ℕ → Option ServerId → Entry
 moved old at None = old
-moved old at (Some to) = record { cur = to; prev = Some old.cur; stamp = record { 0 = at } }
+moved old at (Some to) = record {
+  cur = to;
+  prev = Some (record { server = old.cur; stamp = record { 0 = at } });
+  older = old.prev;
+}
 
 -- bucket b opens on server number `b mod n` of the list
 abbrev pub opening : Planned → ℕ → Entry
 opening plan b = record {
   cur = slice_index_or plan.servers (b % length plan.servers) (record { 0 = 0 });
   prev = None;
-  stamp = record { 0 = 0 };
+  older = None;
 }
 
 -- the entry of a bucket after the first v changes
@@ -75,7 +79,7 @@ abbrev pub is_drained : Planned → ℕ → ServerId → Bool
 is_drained plan zero s = false
 is_drained plan (suc n) s = drains (next_change plan n) s || is_drained plan n s
 
--- by one of the first n changes the bucket left the server, and so late that it may not retire at
+-- one of the first n changes moved the bucket away from the server too late for it to retire at
 -- this moment
 abbrev pub leaves_late : Planned → ℕ → ℕ → ServerId → ℕ → ℕ → Bool
 leaves_late plan timeout zero s at b = false
@@ -84,7 +88,7 @@ leaves_late plan timeout (suc n) s at b =
     && nat_le at (change_moment (next_change plan n) + timeout))
     || leaves_late plan timeout n s at b
 
--- the answer to the wish to retire the server at this moment, when n changes are published
+-- the answer to a request to retire the server at this moment, when n changes are published
 abbrev pub IsRetirement : Planned → ℕ → ℕ → ServerId → ℕ → Retirement → Type 0
 IsRetirement plan timeout n s at NotDrained = is_drained plan n s ≡ false
 IsRetirement plan timeout n s at (TooEarly b) =
@@ -111,12 +115,12 @@ abbrev pub is_known : Planned → ℕ → ServerId → Bool
 is_known plan zero s = is_among plan.servers s
 is_known plan (suc n) s = adds (next_change plan n) s || is_known plan n s
 
--- what holds of a plan that was made change by change
+-- what holds of a plan that was made by commands, one change after another
 pub record IsOrderly (plan : Planned) : Type 0 where
   -- each move's target is known
   pub known : (v b : ℕ)
       → IfSome (brings (next_change plan v) b) (λ to. is_known plan (suc v) to ≡ true)
-  -- stamps don't fall
+  -- stamps never decrease
   pub stamps : (v w : ℕ) → v ≤ w → w < length plan.changes
       → change_moment (next_change plan v) ≤ change_moment (next_change plan w)
   -- each move changes its bucket's server

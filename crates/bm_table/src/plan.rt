@@ -15,14 +15,13 @@ use std::fmt;
 use std::marker::Model;
 use thiserror::Error;
 
-/// The most changes of a plan.
 const MAX_CHANGES: usize = 4_096;
 
-/// The most moves of a plan, those of all changes together.
+/// The most moves of a plan, over all changes.
 const MAX_MOVES: usize = 1_000_000;
 
 /// What a change is for.
-#[derive(Clone, Copy, Debug, PartialEq, Eq)]
+#[derive(Clone, Copy, PartialEq, Eq)]
 pub enum Kind {
     Add(ServerId),
     Drain(ServerId),
@@ -30,21 +29,21 @@ pub enum Kind {
 }
 
 /// A bucket goes to a server.
-#[derive(Clone, Copy, Debug, PartialEq, Eq)]
+#[derive(Clone, Copy, PartialEq, Eq)]
 pub struct Move {
     pub bucket: u32,
     pub to: ServerId,
 }
 
 /// One change of the table.
-#[derive(Debug, Drop)]
+#[derive(Drop)]
 pub struct Change {
     pub moment: Moment,
     pub kind: Kind,
     pub moves: List<Move>,
 }
 
-/// Which limit a plan would pass.
+/// Which limit a plan would exceed.
 #[derive(Clone, Copy, Debug, PartialEq, Eq)]
 pub enum Limit {
     Changes,
@@ -62,8 +61,8 @@ impl fmt::Display for Limit {
     }
 }
 
-/// The answer to a wish to retire a server.
-#[derive(Clone, Copy, Debug, PartialEq, Eq)]
+/// The answer to a request to retire a server.
+#[derive(Clone, Copy, PartialEq, Eq)]
 pub enum Retirement {
     Done,
     NotDrained,
@@ -82,7 +81,7 @@ pub enum PlanFault {
     /// A move's target is the server where its bucket is.
     #[error("bucket {0} is at that server")]
     SameServer(u32),
-    /// A limit would be passed.
+    /// A limit would be exceeded.
     #[error("too many {0}")]
     TooMany(Limit),
     /// Memory was refused.
@@ -106,22 +105,22 @@ impl From<Memory> for PlanFault {
     }
 }
 
-/// A change, and the least bucket that leaves each server by it, by the server's number.
-#[derive(Debug, Drop)]
+/// A change, and the first bucket that leaves each server by it, by the server's number.
+#[derive(Drop)]
 struct Step {
     change: Change,
     left: BTreeMap<u16, u32>,
 }
 
 /// The number of buckets, the servers that they open on, and the changes in their order.
-#[derive(Debug, Drop)]
+#[derive(Drop)]
 pub struct Plan {
     buckets: u32,
     servers: Vec<ServerId>,
     steps: Vec<Step>,
     /// The table after all changes.
     latest: Table,
-    /// How many moves the changes have together.
+    /// How many moves all changes have together.
     moves: usize,
 }
 
@@ -201,8 +200,8 @@ impl Plan {
         self.latest.server(bucket)
     }
 
-    /// The server of each bucket after all changes, by the bucket. `Memory` where memory was
-    /// refused.
+    /// The server of each bucket after all changes, in the order of the buckets. `Memory` where
+    /// memory was refused.
     pub fn owners(&self) -> Result<Vec<ServerId>, Memory>
         ensures { IfOk result (λ owners. owners.items ≡ owners_now self.now) }
     {
@@ -233,7 +232,7 @@ impl Plan {
         })
     }
 
-    /// One more change. The faults come in the order of their declaration, each for the first
+    /// Adds a change. Faults are checked in the order of their declaration, each for the first
     /// bucket that has it, and leave the plan as it was.
     pub fn push(&mut self, change: Change) -> Result<(), PlanFault>
         ensures ok { OnOk result (self.new ≡ with_change self.old change) }
@@ -251,8 +250,8 @@ impl Plan {
         Ok(())
     }
 
-    /// Whether a change at this moment with so many moves may come next, whatever the moves. The
-    /// fault is StampFell or TooMany. Takes no memory.
+    /// Whether a change at this moment with this many moves may come next, whatever the moves are.
+    /// The fault is StampFell or TooMany. Takes no memory.
     pub fn check_limits(&self, at: Moment, moves: usize) -> Result<(), PlanFault>
         ensures { MatchResult result (λ _. limit_refusal self.now at moves ≡ None)
             (λ fault. limit_refusal self.now at moves ≡ Some fault) }
@@ -335,8 +334,7 @@ impl Plan {
 }
 
 impl Step {
-    /// The least bucket that leaves the server by this step; none where the step is before the
-    /// moment.
+    /// The first bucket that leaves the server by this step; None if the step is before the moment.
     fn left_since(&self, s: ServerId, since: Moment) -> Option<u32>
         ensures { result ≡ step_left self.now s since.0 }
     {
@@ -361,7 +359,6 @@ fn first_bad_bucket(buckets: u32, moves: &[Move]) -> Option<u32>
     None
 }
 
-/// Whether one of the steps drains the server.
 fn any_drains(steps: &[Step], s: ServerId) -> bool
     ensures { result ≡ has_drain steps.now s }
 {

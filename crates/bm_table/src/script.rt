@@ -3,7 +3,7 @@ use crate::{Plan, Setting};
 use bm_base::{Flow, List, Moment, ServerId, Version};
 
 /// A command. A Change leads to the version that it names, at that change's moment.
-#[derive(Clone, Copy, Debug, PartialEq, Eq)]
+#[derive(Clone, Copy, PartialEq, Eq)]
 pub enum Command {
     Change(Version),
     Close {
@@ -21,7 +21,7 @@ pub enum Command {
 }
 
 /// A setting, its plan and its commands.
-#[derive(Debug, Drop)]
+#[derive(Drop)]
 pub struct Script {
     pub setting: Setting,
     pub plan: Plan,

@@ -4,24 +4,24 @@ ghost use Rattle.std.specs.Prelude.{◌≡◌, IfOk};
 use bm_base::{Fate, Hop, List, Memory, ServerId, Vip};
 use std::alloc::Global;
 
-/// How packets are given to muxes: by source port, or in turn.
-#[derive(Clone, Copy, Debug, PartialEq, Eq)]
+/// How packets are assigned to muxes: by source port, or in turn.
+#[derive(Clone, Copy, PartialEq, Eq)]
 pub enum RouteKind {
     Port,
     Turn,
 }
 
-/// The fate of a packet's sendings of one hop.
-#[derive(Clone, Copy, Debug, PartialEq, Eq)]
+/// An impairment: what becomes of a packet's sendings with one hop.
+#[derive(Clone, Copy, PartialEq, Eq)]
 pub struct FaultRow {
     pub packet: u32,
     pub hop: Hop,
     pub fate: Fate,
 }
 
-/// The numbers of a setting: of buckets, servers, muxes and shards. `timeout` and `lags` are
+/// The numbers of a setting: of buckets, servers, muxes and shards. `timeout` and `lags` are in
 /// nanoseconds, `capacity` is that of a shard.
-#[derive(Debug, Drop)]
+#[derive(Drop)]
 pub struct Setting {
     pub buckets: u32,
     pub servers: List<ServerId>,
@@ -38,8 +38,9 @@ pub struct Setting {
 impl Setting {
     ghost use Rattle.bm_table.specs.Settings.{plain_setting};
 
-    /// The setting of a script that says nothing: 8 buckets on servers 1 and 2, one mux without a
+    /// The setting of a script that sets nothing: 8 buckets on servers 1 and 2, one mux without a
     /// lag, 4 shards of 4,096 connections, a timeout of 240 seconds, the service 192.0.2.1:80.
+    /// `Memory` where memory was refused.
     pub fn plain(alloc: Global) -> Result<Setting, Memory>
         ensures { IfOk result (λ setting. setting ≡ plain_setting) }
     {

@@ -1,4 +1,4 @@
-//! The table of one version: an array of entries that each change alters in place.
+//! The table of one version: an array of entries that each change updates in place.
 ghost use Rattle.std.specs.Prelude.{◌≡◌, ◌<◌, ◌+◌, ◌%◌, ℕ, [], ◌∷◌, length, All, IfOk};
 ghost use Rattle.std.specs.Prelude.{if◌then◌else◌, ◌==◌, Some, None, slice_get};
 ghost use Rattle.std.specs.Option.{option_map, option_or};
@@ -12,13 +12,13 @@ ghost use Rattle.bm_table.specs.Plans.{IsPlan, bucket_already_there};
 ghost use Rattle.bm_table.specs.Tables.{next_change, opening};
 
 use crate::{Change, Move, Plan};
-use bm_base::{Entry, Memory, Moment, ServerId};
+use bm_base::{Entry, Memory, Moment, Past, ServerId};
 use std::alloc::Global;
 use std::collections::BTreeMap;
 use std::marker::Model;
 
-/// What each bucket's server is, which was the one before, and since when.
-#[derive(Debug, Drop)]
+/// Each bucket's server, and the two servers that had it before.
+#[derive(Drop)]
 pub struct Table {
     entries: Vec<Entry>,
 }
@@ -51,15 +51,15 @@ impl Table {
             entries.push(Entry {
                 cur: servers[bucket as usize % servers.len()],
                 prev: None,
-                stamp: Moment(0),
+                older: None,
             })?;
         }
         Ok(Table { entries })
     }
 
-    /// Carries out the moves in their order: the previous server becomes the current one, the
-    /// current one the move's target, and the stamp the change's moment. A move whose bucket isn't
-    /// in range changes nothing. Takes no memory.
+    /// Carries out the moves in their order: the previous server becomes the older one, the current
+    /// server becomes the previous one with the change's moment, and the move's target becomes the
+    /// current one. A move whose bucket isn't in range changes nothing. Takes no memory.
     pub fn apply(&mut self, change: &Change)
         ensures count { length self.new ≡ length self.old }
 
@@ -68,7 +68,8 @@ impl Table {
             ≡ option_map (after_moves change.now.moment.0 change.now.moves b)
             (slice_get self.old b) }
 
-        // From the table of a version a plan's next change makes the table of the next version.
+        // Applied to the table of a version, a plan's next change makes the table of the next
+        // version.
         ensures next { (plan : Planned) (v : ℕ) → IsPlan plan
             → next_change plan v ≡ Some change.now
             → IsTable plan v self.old → IsTable plan (v + 1) self.new }
@@ -96,7 +97,7 @@ impl Table {
         self.entry(bucket).cur
     }
 
-    /// The first bucket that a move brings to the server where it is.
+    /// The first bucket that is already at the server to which it is moved.
     pub(crate) fn first_already_there(&self, moves: &[Move]) -> Option<u32>
         requires { All (λ m. m.bucket < length self.now) moves.now }
         ensures { result ≡ bucket_already_there (server_in self.now) moves.now }
@@ -123,7 +124,7 @@ impl Table {
     }
 }
 
-/// Notes that a bucket leaves the server, unless another is noted.
+/// Records that a bucket leaves the server, unless another is recorded.
 fn note_left(left: &mut BTreeMap<u16, u32>, from: ServerId, bucket: u32) -> Result<(), Memory>
     ensures { IfOk result (λ _. (s : ℕ) → get nat_cmp left.new s
         ≡ option_or (get nat_cmp left.old s) (if from.0 == s then Some bucket else None)) }
@@ -151,10 +152,14 @@ fn carry(entries: &mut [Entry], m: &Move, at: Moment)
 {
     let place = m.bucket as usize;
     if place < entries.len() {
+        let old = entries[place];
         entries[place] = Entry {
             cur: m.to,
-            prev: Some(entries[place].cur),
-            stamp: at,
+            prev: Some(Past {
+                server: old.cur,
+                stamp: at,
+            }),
+            older: old.prev,
         };
     }
 }

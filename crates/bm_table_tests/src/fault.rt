@@ -1,4 +1,4 @@
-//! Tests of `bm_fault`: copies on their way, and fault rows.
+//! Tests of `bm_fault`: copies under way, and fault rows.
 ghost use Rattle.std.specs.Prelude.{◌*◌};
 
 use bm_base::{Fate, Hop, Moment, MuxId, ServerId, Tag, Version};
@@ -13,7 +13,7 @@ fn flight(packet: u32) -> Flight {
             hop: Hop::Direct,
             dest: ServerId(1),
             prev: None,
-            stamp: Moment(0),
+            older: None,
             version: Version(0),
             mux: MuxId(0),
         },
@@ -36,8 +36,8 @@ fn copies_come_by_due_moment_and_then_as_they_were_put(rt: HostRuntime) -> Resul
         assert!(rt; wire.put(Moment(due), flight(packet)) == Ok(()));
     }
     for (due, packet) in [(0, 5), (10, 2), (10, 4), (10, 6), (20, 3), (30, 1)] {
-        assert_eq!(rt; wire.least(), Some(Moment(due)));
-        assert_eq!(rt; wire.pop(), Some(flight(packet)), "at {due}");
+        assert!(rt; wire.least() == Some(Moment(due)));
+        assert!(rt; wire.pop() == Some(flight(packet)), "at {due}");
     }
     assert!(rt; wire.pop().is_none());
     Ok(())
@@ -59,9 +59,8 @@ fn the_first_row_of_a_packet_and_hop_counts(rt: HostRuntime) -> Result<(), Fail>
         (1, Hop::Chained, 1, 7),
         (2, Hop::Direct, 1, 0),
     ] {
-        assert_eq!(rt;
-            rows.fate(packet, hop),
-            Fate { copies, delay },
+        assert!(rt;
+            rows.fate(packet, hop) == Fate { copies, delay },
             "at {packet}"
         );
     }
@@ -80,5 +79,5 @@ fn a_rule_answers(rt: HostRuntime) {
         copies: 2,
         delay: 60_000_000_000,
     };
-    assert_eq!(rt; faults.fate(2, Hop::Direct), late);
+    assert!(rt; faults.fate(2, Hop::Direct) == late);
 }

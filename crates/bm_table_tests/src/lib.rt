@@ -1,5 +1,5 @@
 //! Tests of `bm_table`, `bm_quota`, `bm_controller`, `bm_route` and `bm_fault`, in a crate of their
-//! own: a run of tests proves its crate again.
+//! own: running tests proves their crate again.
 #![tactic(auto)]
 
 #[cfg(test)]

@@ -1,4 +1,4 @@
-//! Tests of `bm_quota`: quotas, and the moves to them.
+//! Tests of `bm_quota`: quotas, and the moves that meet them.
 use bm_base::ServerId;
 use bm_quota::{Refusal, moves, quotas};
 use bm_table::{Limit, Move};
@@ -27,7 +27,7 @@ fn servers_get_their_quotas_by_few_moves(rt: HostRuntime) -> Result<(), Fail> {
         active.as_slice(),
         [3, 3, 2].as_slice(),
     )?;
-    assert_eq!(rt; chosen.as_slice(), [to(6, 3), to(7, 3)].as_slice());
+    assert!(rt; chosen.as_slice() == [to(6, 3), to(7, 3)].as_slice());
 
     let parts = quotas(alloc, 8, [two, three].as_slice())?;
     assert_eq!(rt; parts.as_slice(), [4, 4].as_slice());
@@ -39,10 +39,7 @@ fn servers_get_their_quotas_by_few_moves(rt: HostRuntime) -> Result<(), Fail> {
         active.as_slice(),
         [4, 4].as_slice(),
     )?;
-    assert_eq!(rt;
-        chosen.as_slice(),
-        [to(0, 2), to(2, 3), to(4, 3)].as_slice()
-    );
+    assert!(rt; chosen.as_slice() == [to(0, 2), to(2, 3), to(4, 3)].as_slice());
     Ok(())
 }
 

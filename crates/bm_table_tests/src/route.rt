@@ -15,7 +15,7 @@ const FLOW: Flow = Flow {
 #[test]
 fn a_route_answers_by_its_rule(rt: HostRuntime) {
     let route = Route::new(|_packet: u32, flow: &Flow| -> u16 { flow.sport % 4 }, 4);
-    assert_eq!(rt; route.mux_of(1, &FLOW), MuxId(3));
+    assert!(rt; route.mux_of(1, &FLOW) == MuxId(3));
 }
 
 #[test]

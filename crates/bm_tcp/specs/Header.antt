@@ -39,7 +39,7 @@ segment_of p = record {
   flags = flags_of p.payload;
 }
 
--- the first fault that stands, else the segment
+-- the first fault, else the segment
 unfoldable pub tcp_of : Packet → Result Segment TcpFault
 tcp_of p =
     if nat_lt (length p.payload) 20 then Err Short

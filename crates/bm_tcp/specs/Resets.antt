@@ -25,27 +25,27 @@ reset_of s =
       flags = bit_or RST ACK;
     }
 
--- The header of IPv4 with this checksum (RFC 791, section 3.1): version 4, five words, type of
--- service 0, 40 octets, identification 0, not to be fragmented, time to live 64, protocol 6.
+-- The IPv4 header with this checksum (RFC 791, section 3.1): version 4, five words, type of service
+-- 0, 40 octets, identification 0, don't fragment, time to live 64, protocol 6.
 unfoldable pub ip_header : ℕ → Flow → List ℕ
 ip_header sum f =
     0x45 ∷ 0 ∷ 0 ∷ 40 ∷ 0 ∷ 0 ∷ 0x40 ∷ 0 ∷ 64 ∷ 6 ∷ [] ++ to_be_bytes w16 sum
     ++ to_be_bytes w32 f.src ++ to_be_bytes w32 f.dst
 
--- The header of TCP with this checksum (RFC 9293, section 3.1): five words, window 0, urgent
--- pointer 0.
+-- The TCP header with this checksum (RFC 9293, section 3.1): five words, window 0, urgent pointer
+-- 0.
 unfoldable pub tcp_header : ℕ → Segment → List ℕ
 tcp_header sum s =
     to_be_bytes w16 s.flow.sport ++ to_be_bytes w16 s.flow.dport ++ to_be_bytes w32 s.seq
     ++ to_be_bytes w32 s.ack
     ++ 0x50 ∷ s.flags ∷ 0 ∷ 0 ∷ [] ++ to_be_bytes w16 sum ++ 0 ∷ 0 ∷ []
 
--- what stands before the TCP octets in their checksum: the addresses, a zero, the protocol, the
+-- what comes before the TCP octets in their checksum: the addresses, a zero, the protocol, the
 -- length
 unfoldable pub pseudo_header : Flow → List ℕ
 pseudo_header f = to_be_bytes w32 f.src ++ to_be_bytes w32 f.dst ++ 0 ∷ 6 ∷ 0 ∷ 20 ∷ []
 
--- a segment without data as a packet, both checksums in it; each is taken with a zero in its place
+-- a segment without data as a packet with both checksums, each computed with zero in its place
 unfoldable pub packet_of : Segment → List ℕ
 packet_of s =
     ip_header (checksum_of (ip_header 0 s.flow)) s.flow

@@ -1,7 +1,7 @@
-//! Why a payload is no TCP segment.
+//! Why a payload isn't a TCP segment.
 use thiserror::Error;
 
-/// Why a payload is no TCP segment: the first of these that holds.
+/// Why a payload isn't a TCP segment: the first of these that holds.
 #[derive(Clone, Copy, Debug, PartialEq, Eq, Error)]
 pub enum TcpFault {
     #[error("the TCP header is cut short")]

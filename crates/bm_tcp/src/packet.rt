@@ -10,7 +10,7 @@ use thiserror::Error;
 
 const TCP: u8 = 6;
 
-/// Why octets are no packet of TCP: the first of these that holds.
+/// Why octets aren't a TCP packet: the first of these that holds.
 #[derive(Clone, Copy, Debug, PartialEq, Eq, Error)]
 pub enum InnerFault {
     #[error("{0}")]

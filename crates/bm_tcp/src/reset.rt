@@ -7,8 +7,8 @@ use bm_base::{Flow, Segment};
 use bm_ipv4::fields::{write_u16, write_u32};
 use bm_ipv4::header_sum;
 
-/// The packet that answers a segment with a reset (RFC 9293, section 3.5.2): a header of IPv4 and
-/// one of TCP, both with their checksums. A reset isn't answered.
+/// The packet that answers a segment with a reset (RFC 9293, section 3.5.2): an IPv4 header and a
+/// TCP header, both with their checksums. None for a reset, which isn't answered.
 #[tactic(auto, unfolding(crate::specs::Resets::reset_packet))]
 pub fn reset_for(s: &Segment) -> Option<[u8; 40]>
     ensures { result ≡ resets.reset_packet s.now }
@@ -65,7 +65,7 @@ fn packet_of(s: &Segment) -> [u8; 40]
     joined(&ip, &tcp_header(header_sum(&summed), s))
 }
 
-/// The header of IPv4, with zero for the checksum and the addresses.
+/// The IPv4 header, with zero for the checksum and the addresses.
 const IP: [u8; 20] = [
     0x45, 0, 0, 40, 0, 0, 0x40, 0, 64, 6, 0, 0, 0, 0, 0, 0, 0, 0, 0, 0,
 ];

@@ -8,8 +8,8 @@ use bm_base::{Flow, Segment};
 use bm_ipv4::Ipv4View;
 use bm_ipv4::fields::{read_u16, read_u32};
 
-/// Reads the segment of a packet (RFC 9293, section 3.1). Options are passed over, and the checksum
-/// isn't tested. The data octets are counted as the packet states them: a capture may have fewer.
+/// Reads the segment of a packet (RFC 9293, section 3.1). Options are skipped, and the checksum
+/// isn't checked. The data octets are counted as the packet states them: a capture may have fewer.
 #[tactic(auto, unfolding(crate::specs::Header::tcp_of))]
 pub fn read_tcp(v: &Ipv4View<'_>) -> Result<Segment, TcpFault>
     requires { v.now.protocol ≡ 6 }

@@ -1,4 +1,4 @@
-//! Captures, built of their packets.
+//! Captures, built from their packets.
 use std::alloc::{AllocError, Global};
 
 /// What a packet is.
@@ -28,11 +28,11 @@ pub(crate) const OPENED: &'static [Packet] = &[
 /// The unit and the order of octets of a capture's numbers.
 #[derive(Clone, Copy, PartialEq, Eq)]
 pub(crate) enum Form {
-    /// Microseconds, the least octet first.
+    /// Microseconds, little endian.
     Micro,
-    /// Nanoseconds, the least octet first.
+    /// Nanoseconds, little endian.
     Nano,
-    /// Microseconds, the greatest octet first.
+    /// Microseconds, big endian.
     Turned,
 }
 
@@ -47,7 +47,7 @@ pub(crate) fn raw(alloc: Global, form: Form, packets: &[Packet]) -> Result<Vec<u
 }
 
 /// A capture of Ethernet frames: ARP, IPv6, a fragment, another destination, a VLAN tag, a length
-/// that the card fills in, and a record cut short.
+/// that the network card fills in, and a record cut short.
 pub(crate) fn ethernet(alloc: Global) -> Result<Vec<u8>, AllocError> {
     let mut octets = header(alloc, Form::Micro, 1)?;
     let syn = Packet(0, 0, 1000, 100, Kind::Syn);
@@ -144,7 +144,6 @@ fn header(alloc: Global, form: Form, link: u32) -> Result<Vec<u8>, AllocError> {
     Ok(octets)
 }
 
-/// A record with these octets.
 fn record(octets: &mut Vec<u8>, form: Form, at: (u32, u32), body: &[u8]) -> Result<(), AllocError> {
     let length = u32::try_from(body.len()).unwrap_or(0);
     for number in [at.0, at.1, length, length] {
@@ -153,7 +152,7 @@ fn record(octets: &mut Vec<u8>, form: Form, at: (u32, u32), body: &[u8]) -> Resu
     octets.extend_from_slice(body)
 }
 
-/// A record with an Ethernet frame, so many microseconds after the first.
+/// A record with an Ethernet frame, `micros` microseconds after the first.
 fn frame(
     alloc: Global,
     octets: &mut Vec<u8>,

@@ -18,7 +18,7 @@ const SCRIPT: &str = "[[command]]\nat_ns = 500\ndo = \"move\"\nbucket = 4\nserve
 
 const READ_FAULT: &str = "beamer: read fault\n";
 
-/// Stands in every report of the two packets, in whatever order the threads of a run come.
+/// In every report of the two packets, whatever the order of a run's threads.
 const ENDS: &str = "total packets 2 steered 2 unsteered 0 accepted 1 processed 1 ";
 
 /// The device that fails.
@@ -95,8 +95,8 @@ fn both(alloc: Global, device: Device, call: u32) -> Result<MemFiles, AllocError
     Ok(MemFiles::new(alloc, files))
 }
 
-/// Whether the call of this number was made, and so failed. What is written then is due, and no
-/// source stays open.
+/// Whether the call with this number was made, and so failed. What is written then is what is due,
+/// and no source stays open.
 fn fail(
     rt: &(impl Abort + Threads + Wait + Sync),
     alloc: Global,
@@ -125,7 +125,7 @@ fn fail(
 }
 
 /// What was written before a write that failed: all pieces before that one. The lines of a run's
-/// events are handed on apart from the others, so that one piece may be short.
+/// events are written out apart from the others, so one piece may be short.
 fn check_part(rt: &impl Abort, form: &str, call: u32, status: u8, written: &[u8]) {
     assert_eq!(rt; status, 5);
     let made = (written.len() + STEP) as u64;
@@ -139,7 +139,7 @@ fn check_part(rt: &impl Abort, form: &str, call: u32, status: u8, written: &[u8]
     }
 }
 
-/// How many calls the device gets, each of which fails in turn.
+/// How many calls the device gets; each of them fails in turn.
 fn calls(
     rt: &(impl Abort + Threads + Wait + Sync),
     alloc: Global,
@@ -154,9 +154,10 @@ fn calls(
     Ok(100)
 }
 
-/// 64 octets of the script come in two reads, and a third finds the end. Of the capture come 4
-/// octets, which tell the form, the 20 of the rest of the header, and then 122 in four reads; a
-/// seventh finds the end. A report of 311 octets goes in eight writes; of a run also in more.
+/// The 64 octets of the script are read in two reads, and a third finds the end. Of the capture, 4
+/// octets are read, which decide the form, then the other 20 of the header, and then 122 in four
+/// reads; a seventh finds the end. A report of 311 octets takes eight writes; that of a run may
+/// take more.
 fn check(rt: &(impl Abort + Threads + Wait + Sync), alloc: Global, form: &str) -> Result<(), Fail> {
     assert_eq!(rt; calls(rt, alloc, form, Device::Script)?, 3);
     assert_eq!(rt; calls(rt, alloc, form, Device::Capture)?, 7);
@@ -172,7 +173,7 @@ fn each_call_of_a_device_may_fail(rt: HostRuntime) -> Result<(), Fail> {
     check(&rt, alloc, "run")
 }
 
-/// Opens fail where there is no such file.
+/// Opening fails if there is no such file.
 fn miss(
     rt: &(impl Abort + Threads + Wait + Sync),
     alloc: Global,

@@ -1,9 +1,9 @@
-//! Copies that were damaged or sent to another server, at servers that are new.
+//! Copies that were damaged or sent to another server, at new servers.
 ghost use Rattle.std.specs.Prelude.{◌≡◌, ◌<◌, ◌∷◌, [], length, map, IfOk};
 ghost use Rattle.bm_turnstile.specs.Sittings.{who};
 ghost use Rattle.bm_server.specs.Seats.{most_turns, row};
 
-use bm_base::{Hop, Memory, Moment, MuxId, ServerId, Tag, Version};
+use bm_base::{Hop, Memory, Moment, MuxId, Past, ServerId, Tag, Version};
 use bm_core::{Verdict, Why};
 use bm_encap::{set_chained, wrap};
 use bm_ipv4::Ipv4Fault;
@@ -27,9 +27,28 @@ const DATA: [u8; 50] = [
 const TAG: Tag = Tag {
     hop: Hop::Direct,
     dest: ServerId(2),
-    prev: Some(ServerId(1)),
-    stamp: Moment(500),
+    prev: Some(Past {
+        server: ServerId(1),
+        stamp: Moment(500),
+    }),
+    older: None,
     version: Version(1),
+    mux: MuxId(0),
+};
+
+/// Direct to server 1, where server 3 had the bucket until the moment 600, and server 2 until 500.
+const MOVED_TWICE: Tag = Tag {
+    hop: Hop::Direct,
+    dest: ServerId(1),
+    prev: Some(Past {
+        server: ServerId(3),
+        stamp: Moment(600),
+    }),
+    older: Some(Past {
+        server: ServerId(2),
+        stamp: Moment(500),
+    }),
+    version: Version(2),
     mux: MuxId(0),
 };
 
@@ -39,14 +58,16 @@ const RESET: [u8; 40] = [
     0xe8, 0, 0, 1, 0xf5, 0, 0, 0, 0, 0x50, 4, 0, 0, 0xdd, 0xb1, 0, 0,
 ];
 
-/// What is done to the copy before a server gets it.
+/// What happens to the copy before a server gets it.
 #[derive(Clone, Copy)]
 pub(crate) enum Damage {
-    /// It is turned to the previous server.
+    /// It is rewritten for the previous server.
     Chained,
+    /// Its bucket moved twice, and it is rewritten for the next hop this many times.
+    MovedTwice(u8),
     /// Nothing.
     Nothing,
-    /// An octet of the packet within, counted from 0, is put in place of its own.
+    /// The octet at this place of the packet within, counted from 0, is replaced by this one.
     Octet(usize, u8),
 }
 
@@ -59,11 +80,13 @@ const CHAINED: Result<ShardReply, HandleFault> = Ok(ShardReply::Arrived {
     answer: Some(RESET),
 });
 
-const FORWARDED: Result<ShardReply, HandleFault> = Ok(ShardReply::Arrived {
-    clock: Moment(6),
-    verdict: Verdict::Forward(ServerId(1)),
-    answer: None,
-});
+const fn forwarded(to: u16) -> Result<ShardReply, HandleFault> {
+    Ok(ShardReply::Arrived {
+        clock: Moment(6),
+        verdict: Verdict::Forward(ServerId(to)),
+        answer: None,
+    })
+}
 
 const fn bad(fault: InnerFault) -> Result<ShardReply, HandleFault> {
     Err(HandleFault::BadInner(fault))
@@ -77,7 +100,7 @@ fn alone<S: Drop>(alloc: Global, item: S) -> Result<Vec<S>, Memory>
     Ok(all)
 }
 
-/// The octets of the copy; the carrier header is the first 44 of them.
+/// The octets of the copy; the carrier header is the first 56 of them.
 fn copy_of(alloc: Global, damage: Damage) -> Result<Vec<u8>, Memory> {
     let mut inner = DATA;
     if let Damage::Octet(place, octet) = damage {
@@ -86,8 +109,13 @@ fn copy_of(alloc: Global, damage: Damage) -> Result<Vec<u8>, Memory> {
         }
     }
     let mut octets = Vec::new(alloc);
-    wrap(&TAG, &inner, &mut octets)?;
-    if let Damage::Chained = damage {
+    let (tag, hops) = match damage {
+        Damage::Chained => (&TAG, 1),
+        Damage::MovedTwice(hops) => (&MOVED_TWICE, hops),
+        _ => (&TAG, 0),
+    };
+    wrap(tag, &inner, &mut octets)?;
+    for _ in 0..hops {
         let _turned = set_chained(&mut octets);
     }
     Ok(octets)
@@ -107,7 +135,7 @@ fn hand<R: Wait>(
     server.handle(rt, seat, 2, octets, Moment(5))
 }
 
-/// What a new server answers, and how many entries its book then has.
+/// What a new server answers, and how many entries its book has then.
 pub(crate) fn ask<R: Wait>(
     rt: &R,
     alloc: Global,
@@ -141,7 +169,17 @@ fn check(
 fn a_server_judges_what_it_is_addressed(rt: HostRuntime) -> Result<(), Fail> {
     let alloc = rt.alloc();
     check(&rt, alloc, (Damage::Chained, 1), (CHAINED, 1))?;
-    check(&rt, alloc, (Damage::Nothing, 2), (FORWARDED, 1))
+    check(&rt, alloc, (Damage::Nothing, 2), (forwarded(1), 1))
+}
+
+#[test]
+fn a_copy_goes_on_to_each_server_before(rt: HostRuntime) -> Result<(), Fail> {
+    let alloc = rt.alloc();
+    let not_mine = (Err(HandleFault::NotMine), 0);
+    check(&rt, alloc, (Damage::MovedTwice(0), 1), (forwarded(3), 1))?;
+    check(&rt, alloc, (Damage::MovedTwice(1), 3), (forwarded(2), 1))?;
+    check(&rt, alloc, (Damage::MovedTwice(2), 2), (CHAINED, 1))?;
+    check(&rt, alloc, (Damage::MovedTwice(2), 3), not_mine)
 }
 
 #[test]

@@ -1,4 +1,4 @@
-//! Words of no form, and files and sinks that fail.
+//! Words that fit no form, and files and sinks that fail.
 use crate::capture::{Form, OPENED, raw};
 use crate::program::words;
 use bm_base::{List, Text};
@@ -37,7 +37,7 @@ fn words_of_no_form_get_the_usage_line(rt: HostRuntime) -> Result<(), Fail> {
     Ok(())
 }
 
-/// A file that is there, the calls that fail of its source and of the sink, the status and what is
+/// A file that is there, the calls of its source and of the sink that fail, the status, and what is
 /// written.
 type Row = (
     &'static str,

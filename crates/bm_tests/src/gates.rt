@@ -1,4 +1,4 @@
-//! Runs in threads, whose workers a gate holds against each other.
+//! Runs in threads whose workers a gate holds back.
 use crate::capture::Form::Micro;
 use crate::capture::Kind::Syn;
 use crate::capture::{Packet, raw};
@@ -41,7 +41,7 @@ impl Holds {
         }
     }
 
-    /// Waits until the other worker has come so far, but not for ever.
+    /// Waits until the other worker has come that far, but not forever.
     fn wait(&self, hold: &Hold) {
         let Some(other) = self.steps.get(hold.other as usize) else {
             return;
@@ -196,7 +196,7 @@ fn workers_run_beside_one_another(rt: HostRuntime) -> Result<(), Fail> {
     Ok(())
 }
 
-/// A bucket moves, and then the controller has a step more.
+/// A bucket moves, and then the controller has one more step.
 const MOVED: &str = "[[command]]\nat_ns = 0\ndo = \"move\"\nbucket = 4\nserver = 2\n\
      [[command]]\nat_ns = 0\ndo = \"close\"\nserver = 1\n\
      from = \"10.0.0.9:9\"\nto = \"192.0.2.1:80\"\n";
@@ -233,7 +233,7 @@ fn a_mux_looks_at_the_board_before_each_batch(rt: HostRuntime) -> Result<(), Fai
     Ok(())
 }
 
-/// The first batch has version 0, the packet behind it version 1.
+/// The first batch has version 0, the packet after it version 1.
 const BATCHES: [&str; 4] = [
     " steer 257 0 1 4\n",
     "\npacket 1 accepted 1\npacket 2 processed 1\n",

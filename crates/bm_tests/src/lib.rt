@@ -1,4 +1,4 @@
-//! Tests of `bm_server` and `bm_cli`, in a crate of their own: a run of tests proves its crate
+//! Tests of `bm_server` and `bm_cli`, in a crate of their own: running tests proves their crate
 //! again.
 #![tactic(auto)]
 

@@ -1,4 +1,4 @@
-//! Limits that a script passes.
+//! Limits that a script exceeds.
 use crate::program::check;
 use std::alloc::{AllocError, Global};
 use std::test::Fail;

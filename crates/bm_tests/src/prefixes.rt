@@ -1,4 +1,4 @@
-//! A capture that is cut behind each of its octets.
+//! A capture that is cut after each of its octets.
 use crate::capture::{Form, OPENED, raw};
 use crate::program::{files, words};
 use bm_cli::beamer;
@@ -25,8 +25,8 @@ const CUT_BEHIND_ONE: &str = "packet 1 accepted 1\n\
      total packets 1 steered 1 unsteered 0 accepted 1 processed 0 \
      forwarded 0 reset 0 dropped 0 lost 0 stray 0\n";
 
-/// The status and the last lines for the first so many octets of two records: a header of 24
-/// octets, a record of 56 and one of 66.
+/// The status and the last lines for this many first octets of two records: a header of 24 octets,
+/// a record of 56 and one of 66.
 fn due(octets: usize) -> (u8, &'static str) {
     match octets {
         0..=23 => (3, "beamer: capture: not a capture\n"),

@@ -9,7 +9,7 @@ use std::sync::Wait;
 use std::test::Fail;
 use std::thread::Threads;
 
-/// A capture and perhaps a script, and what the program ends with and writes.
+/// A capture and maybe a script, and what the program ends with and writes.
 pub(crate) struct Row {
     pub name: &'static str,
     pub form: Form,
@@ -35,7 +35,7 @@ pub(crate) fn file(alloc: Global, name: &str, octets: &[u8]) -> Result<SureFile,
     })
 }
 
-/// The file of a capture, and perhaps that of a script.
+/// The file of a capture, and maybe that of a script.
 pub(crate) fn files(
     alloc: Global,
     capture: &[u8],
@@ -48,8 +48,8 @@ pub(crate) fn files(
     }
 }
 
-/// Tests what the program ends with and writes where its words are `replay c`, or `replay c s`
-/// where there is a script.
+/// Checks what the program ends with and writes for the words `replay c`, or `replay c s` if there
+/// is a script.
 pub(crate) fn check(
     rt: &(impl Abort + Threads + Wait + Sync),
     alloc: Global,

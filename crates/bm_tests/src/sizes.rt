@@ -7,6 +7,6 @@ use std::test::Fail;
 #[test]
 fn events_and_entries_are_small(rt: HostRuntime) -> Result<(), Fail> {
     assert_eq!(rt; size_of::<Event>(), 32);
-    assert_eq!(rt; size_of::<ShardEntry>(), 112);
+    assert_eq!(rt; size_of::<ShardEntry>(), 152);
     Ok(())
 }

@@ -1,5 +1,5 @@
 //! Tests of `bm_turnstile`, `bm_publish`, `bm_server`, `bm_mux` and `bm_worker`, in a crate of
-//! their own: a run of tests proves its crate again.
+//! their own: running tests proves their crate again.
 #![tactic(auto)]
 
 #[cfg(test)]

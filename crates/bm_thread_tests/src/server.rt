@@ -5,7 +5,7 @@ ghost use Rattle.bm_server.specs.Seats.{most_turns, row};
 
 use crate::packets::{FLOW, syn};
 use crate::vectors::alone;
-use bm_base::{Hop, Memory, Moment, MuxId, ServerId, Tag, Version};
+use bm_base::{Hop, Memory, Moment, MuxId, Past, ServerId, Tag, Version};
 use bm_encap::wrap;
 use bm_rows::front;
 use bm_server::{HandleFault, Server, ServerSeat};
@@ -19,8 +19,11 @@ use std::test::Fail;
 const TAG: Tag = Tag {
     hop: Hop::Direct,
     dest: ServerId(2),
-    prev: Some(ServerId(1)),
-    stamp: Moment(500),
+    prev: Some(Past {
+        server: ServerId(1),
+        stamp: Moment(500),
+    }),
+    older: None,
     version: Version(1),
     mux: MuxId(0),
 };
@@ -49,7 +52,7 @@ fn ask<R: Wait>(rt: &R, server: &Server, seat: &mut ServerSeat, octets: &[u8]) -
     }
 }
 
-/// What the server of this number answers, and how many entries its books then have.
+/// What the server with this number answers, and how many entries its books have then.
 fn ask_server<R: Wait>(rt: &R, alloc: Global, id: ServerId) -> Result<(Answers, usize), Memory> {
     let mut octets = Vec::new(alloc);
     wrap(&TAG, &syn(1000), &mut octets)?;

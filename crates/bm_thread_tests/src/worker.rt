@@ -1,4 +1,4 @@
-//! Two muxes side by side.
+//! Two muxes in parallel.
 ghost use Rattle.std.specs.Prelude.{◌≡◌, ℕ, ◌+◌, ◌*◌, ◌^◌, ◌<◌, [], ◌∷◌, ◌++◌, List, All, IfOk};
 ghost use Rattle.std.specs.Prelude.{OnOk};
 ghost use Rattle.std.specs.Prelude.{Option, Some, true, is_some, length, slice_get};
@@ -30,7 +30,7 @@ use std::sync::Wait;
 use std::test::Fail;
 use std::thread::Threads;
 
-/// The record of a SYN from this port, whose packet is put behind the others.
+/// The record of a SYN from this port, whose packet is added after the others.
 fn add_syn(sport: u16, packets: &mut Octets) -> Result<Record, Memory>
     requires { length packets.old < 2 }
     ensures fit { IfOk result (λ r. IsFit plain_setting.vips r) }
@@ -89,7 +89,7 @@ fn small_setting(alloc: Global) -> Result<Setting, Memory>
     Ok(setting)
 }
 
-/// The capture is played without a command.
+/// The capture is played without commands.
 fn small_stage(alloc: Global, capture: Capture) -> Result<Stage, Memory>
     requires { IsReplayable plain_setting.vips capture }
     ensures sound { IfOk result IsSound }
@@ -108,7 +108,7 @@ fn small_stage(alloc: Global, capture: Capture) -> Result<Stage, Memory>
     Ok(Stage { script, capture })
 }
 
-/// The last of the seats, which is that of this number.
+/// The last of the seats, which has this number.
 fn last_seat(
     server: &Server,
     seats: &mut Vec<ServerSeat>,
@@ -128,7 +128,7 @@ fn last_seat(
     }
 }
 
-/// The worker of the mux of this number, which has heard what is posted.
+/// The worker of the mux with this number, which has heard what is posted.
 fn worker(
     alloc: Global,
     stage: &Stage,

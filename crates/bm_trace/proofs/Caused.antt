@@ -4,6 +4,7 @@ use Rattle.std.proofs.lemmas.Bool.{cases_Bool}
 use Rattle.std.proofs.lemmas.Bool.Decides.{nat_tests}
 use Rattle.bm_base.specs.declared.flow.Segment.{Segment}
 use Rattle.bm_base.specs.declared.ids.ServerId.{ServerId}
+use Rattle.bm_base.specs.declared.label.Hop.{Hop}
 use Rattle.bm_base.specs.declared.label.Label.{Label}
 use Rattle.bm_core.specs.declared.events.Event.{Event}
 use Rattle.bm_core.specs.declared.events.History.{History}
@@ -19,15 +20,15 @@ use Rattle.bm_core.proofs.Lawful.{cause_law}
 use Rattle.bm_trace.specs.CauseOf.{cause_of, is_fault, is_fault_after, is_fault_at}
 
 -- what is no fault has no cause
-no_cause : (stage : Stage) (past : List Event) (clock : ℕ) (server : ServerId) (verdict : Verdict) (a : Option Accepted)
-    (s : Option Segment) (l : Option Label)
-    → wants_cause verdict a server s ≡ false → cause_at stage past clock server verdict a s l ≡ None
-no_cause stage past clock server verdict a s l h = grind (arith, nat_tests)
+no_cause : (stage : Stage) (past : List Event) (clock : ℕ) (hop : Hop) (server : ServerId) (verdict : Verdict)
+    (a : Option Accepted) (s : Option Segment) (l : Option Label)
+    → wants_cause verdict a server s ≡ false → cause_at stage past clock hop server verdict a s l ≡ None
+no_cause stage past clock hop server verdict a s l h = grind (arith, nat_tests)
 
 none_caused : (stage : Stage) (past : List Event) (clock : ℕ) (what : What) → is_fault stage past what ≡ false
     → is_some (cause stage past clock what) ≡ false
 none_caused stage past clock (Arrive k hop server verdict) h =
-    ap is_some (no_cause stage past clock server verdict (owner stage past k) (segment_of stage k) _ h)
+    ap is_some (no_cause stage past clock hop server verdict (owner stage past k) (segment_of stage k) _ h)
 none_caused stage past clock (Publish v) h = refl
 none_caused stage past clock (Switch m v) h = refl
 none_caused stage past clock (Steer k m) h = refl

@@ -7,14 +7,14 @@ use Rattle.std.proofs.lemmas.Fmt.{decimal_injective}
 use Rattle.std.proofs.lemmas.Nat.{from_be_bytes-to_be_bytes_4}
 use Rattle.bm_base.specs.declared.flow.Flow.{Flow}
 use Rattle.bm_base.specs.declared.label.Hop.{Hop}
-use Rattle.bm_base.specs.declared.label.Hop.TheVariants.{Direct, Chained}
+use Rattle.bm_base.specs.declared.label.Hop.TheVariants.{Direct, Chained, Twice}
 use Rattle.bm_base.specs.declared.receive.Taken.{Taken}
 use Rattle.bm_base.specs.declared.receive.Taken.TheVariants.{Advance, Duplicate, Ahead, Outside, Challenge, Ended}
 use Rattle.bm_table.specs.declared.plan.Retirement.{Retirement}
 use Rattle.bm_table.specs.declared.plan.Retirement.TheVariants.{Done, NotDrained, TooEarly}
 use Rattle.bm_base.specs.declared.ids.ServerId.{ServerId}
 use Rattle.bm_core.specs.declared.events.Cause.{Cause}
-use Rattle.bm_core.specs.declared.events.Cause.TheVariants.{NeverAccepted, NotHeld, StaleMux, MovedTwice, ChainLate}
+use Rattle.bm_core.specs.declared.events.Cause.TheVariants.{NeverAccepted, NotHeld, StaleMux, MovedThrice, ChainLate}
 use Rattle.bm_core.specs.declared.events.Cause.TheVariants.{SynElsewhere, Full as FullShard, OldTable}
 use Rattle.bm_core.specs.Causes.{cause}
 use Rattle.bm_core.specs.Past.{segment_of, version_at}
@@ -47,11 +47,15 @@ first_word (w ∷ words) = w
 -- THE SMALL ENUMS
 
 abbrev hop_of : List ℕ → Hop
-hop_of w = if same_text w (codes "direct") then Direct else Chained
+hop_of w =
+    if same_text w (codes "direct") then Direct
+    else if same_text w (codes "chained") then Chained
+    else Twice
 
 hop_back : (hop : Hop) → hop_of (hop_word hop) ≡ hop
 hop_back Direct = refl
 hop_back Chained = refl
+hop_back Twice = refl
 
 same_hop_word : (a b : Hop) → hop_word a ≡ hop_word b → a ≡ b
 same_hop_word a b e = sym (hop_back a) ∙ ap hop_of e ∙ hop_back b
@@ -254,7 +258,7 @@ event_kind w =
 same_server_word : (a b : ServerId) → a.0 < 2 ^ 64 → b.0 < 2 ^ 64 → decimal a.0 ≡ decimal b.0 → a ≡ b
 same_server_word a b ha hb e = ap (λ n. record { 0 = n }) (decimal_injective a.0 b.0 ha hb e)
 
--- behind the same events, the same words name the same event
+-- after the same events, the same words name the same event
 pub same_what : (stage : Stage) (past : List Event) (clock : ℕ) (a b : What) → IsWhat a → IsWhat b
     → event_words stage past clock a ≡ event_words stage past clock b → a ≡ b
 same_what stage past clock (Publish v) (Publish u) ha hb e =
@@ -322,6 +326,7 @@ words_append (w ∷ a) b ha hb = (ha.0, words_append a b ha.1 hb)
 hop_are : (hop : Hop) → is_word (hop_word hop) ≡ true
 hop_are Direct = refl
 hop_are Chained = refl
+hop_are Twice = refl
 
 taken_are : (taken : Taken) → is_word (taken_word taken) ≡ true
 taken_are Advance = refl
@@ -343,7 +348,7 @@ cause_are : (c : Cause) → is_word (cause_word c) ≡ true
 cause_are NeverAccepted = refl
 cause_are NotHeld = refl
 cause_are StaleMux = refl
-cause_are MovedTwice = refl
+cause_are MovedThrice = refl
 cause_are ChainLate = refl
 cause_are SynElsewhere = refl
 cause_are FullShard = refl

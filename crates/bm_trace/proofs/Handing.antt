@@ -1,5 +1,5 @@
 -- Lines that reach a sink in pieces.
-use Rattle.std.proofs.Common.{◌≡◌, ℕ, ◌+◌, ◌<◌, List, [], ◌++◌, length, take, drop, Option, refl, sym, ap, subst, ◌∙◌}
+use Rattle.std.proofs.Common.{◌≡◌, ℕ, ◌<◌, List, [], ◌++◌, length, take, drop, Option, refl, sym, ap, subst, ◌∙◌}
 use Rattle.std.proofs.Common.{append_assoc, length-append, arith}
 use Rattle.std.specs.Io.KnownBytes.{Appends}
 use Rattle.std.proofs.KnownBytes.{Appends-nil, Appends-trans}
@@ -29,7 +29,7 @@ buffer_on a b waited piece waits same none sent = record {
   whole = ap (λ x. x ++ waits) same ∙ ap (λ x. waited ++ x) none;
 }
 
--- one text behind another
+-- one text after another
 pub both_on : (a b c : Option (List ℕ)) (p q r s t : List ℕ) → HandsOn a p b q s → HandsOn b q c r t
     → HandsOn a p c r (s ++ t)
 both_on a b c p q r s t first second = record {
@@ -91,7 +91,7 @@ line_more a b c p q r w s line next step before put full =
     subst (λ x. HandsOn a p c w x) (append-nil (s ++ line) ∙ step)
     (both_on a b c p r w (s ++ line) [] (both_on a b b p q r s line before (text_on b q r line put)) full)
 
--- the buffer was refused behind a line
+-- the buffer was refused after a line
 pub line_refused : (a b c : Option (List ℕ)) (p q r s line next rest whole : List ℕ) → s ++ line ≡ next
     → next ++ rest ≡ whole → HandsOn a p b q s → r ≡ q ++ line → HandsPart b r c [] → HandsPart a p c whole
 line_refused a b c p q r s line next rest whole step all before put full =
@@ -106,11 +106,11 @@ lines_lost a b p q s rest whole all on = subst (λ x. HandsPart a p b x) all (re
 
 -- THE LAST OF THE BUFFER
 
--- it was written, with a text behind it
+-- it was written, and a text after it
 pub end_on : (a b : Option (List ℕ)) (q r t : List ℕ) → r ≡ q ++ t → Appends a b r → HandsOn a q b [] t
 end_on a b q r t more last = record { sent = r; appended = last; whole = append-nil r ∙ more }
 
--- what is left of a text behind a part that isn't all
+-- what is left of a text after a part that isn't all of it
 some_left : (n : ℕ) (r : List ℕ) → n < length r → 0 < length (drop n r)
 some_left n r below = grind (arith, common_steps)
 
@@ -153,7 +153,7 @@ rest_less a b p s t part some = record {
   some = omega (arith, length-append part.lost t, some);
 }
 
--- it is refused behind another text
+-- it is refused after another text
 pub less_after : (a b c : Option (List ℕ)) (p q s t : List ℕ) → HandsOn a p b q s → HandsLess b q c t
     → HandsLess a p c (s ++ t)
 less_after a b c p q s t first less = record {

@@ -6,15 +6,18 @@ use Rattle.std.specs.Prelude.{if◌then◌else◌, nat_le, nat_lt, slice_get}
 use Rattle.std.proofs.lemmas.Bool.{cases_Bool, cases_lt, le-leb}
 use Rattle.std.proofs.lemmas.Bool.Decides.{nat_tests}
 use Rattle.std.proofs.lemmas.Grind.{common_steps}
+use Rattle.std.proofs.lemmas.List.{get_or_append_left, get_or_default}
+use Rattle.std.specs.Option.{option_map}
 use Rattle.std.specs.List.Sorted.{IsPartitionedBy}
 use Rattle.bm_base.specs.declared.ids.ServerId.{ServerId}
 use Rattle.bm_base.specs.declared.label.Entry.{Entry}
+use Rattle.bm_base.specs.declared.label.Past.{Past}
 use Rattle.bm_table.specs.declared.plan.Change.{Change}
 use Rattle.bm_table.specs.declared.plan.Move.{Move}
 use Rattle.bm_table.specs.Planned.{Planned}
 use Rattle.bm_table.specs.Tables.{brings, change_moment, moved, moves, moves_next, next_change, table, target}
 use Rattle.bm_table.proofs.Tables.{moves_before}
-use Rattle.bm_trace.specs.Inside.Movers.{AreBelow, AreFrom, IsSplit, is_last, last_stamp, movers, with_moves}
+use Rattle.bm_trace.specs.Inside.Movers.{AreBelow, AreFrom, IsSplit, is_last, movers, stamp_back, with_moves}
 
 low_at : (v : ℕ) (low rest : List ℕ) (i d : ℕ) → AreBelow v low → i < length low → get_or (low ++ rest) i d < v
 low_at v [] rest i d b h = absurd (omega arith)
@@ -218,12 +221,12 @@ moves_between plan b w (suc v) h =
           ]
     ]
 
-pub moved_twice : (plan : Planned) (b w v : ℕ) → w ≤ v
-    → nat_le 2 (moves plan b w v) ≡ nat_le 2 (length (movers plan b v) - length (movers plan b w))
-moved_twice plan b w v h =
+pub moved_thrice : (plan : Planned) (b w v : ℕ) → w ≤ v
+    → nat_le 3 (moves plan b w v) ≡ nat_le 3 (length (movers plan b v) - length (movers plan b w))
+moved_thrice plan b w v h =
     let i = moves_between plan b w v h
     in let e : moves plan b w v ≡ length (movers plan b v) - length (movers plan b w) = omega (arith, i)
-    in ap (nat_le 2) e
+    in ap (nat_le 3) e
 
 few_moves : (plan : Planned) (b w v : ℕ) → moves plan b w v ≤ v - w
 few_moves plan b w zero = omega arith
@@ -239,58 +242,112 @@ few_moves plan b w (suc v) =
           ]
     ]
 
--- a bucket that moved twice did so by two changes
-pub not_twice : (plan : Planned) (b w v : ℕ) → v - w < 2 → nat_le 2 (moves plan b w v) ≡ false
-not_twice plan b w v h =
+-- a bucket that moved three times did so by three changes
+pub not_thrice : (plan : Planned) (b w v : ℕ) → v - w < 3 → nat_le 3 (moves plan b w v) ≡ false
+not_thrice plan b w v h =
     let f = few_moves plan b w v
-    in let below : moves plan b w v < 2 = omega (arith, f, h)
+    in let below : moves plan b w v < 3 = omega (arith, f, h)
     in grind (arith, nat_tests)
 
-moved_stamp : (old : Entry) (at : ℕ) (to : Option ServerId)
-    → (moved old at to).stamp.0 ≡ (if is_some to then at else old.stamp.0)
-moved_stamp old at None = refl
-moved_stamp old at (Some to) = refl
+-- the moment of the change that has this many others after it
+abbrev at_back : (plan : Planned) (xs : List ℕ) (n others : ℕ) → Option ℕ
+at_back plan xs n others =
+    if nat_lt others n then Some (change_moment (next_change plan (get_or xs (n - 1 - others) 0))) else None
 
-stamp_last : (plan : Planned) (v : ℕ) (xs : List ℕ)
-    → last_stamp plan (xs ++ v ∷ []) ≡ change_moment (next_change plan v)
-stamp_last plan v [] = refl
-stamp_last plan v (x ∷ xs) =
-    let e : get_or (x ∷ xs ++ v ∷ []) (length (xs ++ v ∷ [])) 0 ≡ v =
-    ap (λ n. get_or (x ∷ xs ++ v ∷ []) n 0) (length_last v xs) ∙ last_of v xs
-    in ap (λ n. change_moment (next_change plan n)) e
+at_place : (plan : Planned) (xs : List ℕ) (n others i : ℕ) → others < n → n - 1 - others ≡ i
+    → at_back plan xs n others ≡ Some (change_moment (next_change plan (get_or xs i 0)))
+at_place plan xs n others i low is =
+    let yes : nat_lt others n ≡ true = grind (arith, nat_tests)
+    in rw yes (ap (λ m. Some (change_moment (next_change plan (get_or xs m 0)))) is)
 
--- the stamp of the bucket's entry is the moment of the last change that moved it
-pub stamp_is : (plan : Planned) (b v : ℕ) → (table plan v b).stamp.0 ≡ last_stamp plan (movers plan b v)
-stamp_is plan b zero = refl
-stamp_is plan b (suc v) =
-    moved_stamp (table plan v b) (change_moment (next_change plan v)) (brings (next_change plan v) b)
-    ∙ elim (cases_Bool (moves_next plan v b)) [
-      | inl goes ↦ rw goes (sym (stamp_last plan v (movers plan b v)))
-      | inr stays ↦ rw stays (stamp_is plan b v)
+at_none : (plan : Planned) (xs : List ℕ) (n others : ℕ) → n ≤ others → at_back plan xs n others ≡ None
+at_none plan xs n others high = let no : nat_lt others n ≡ false = grind (arith, nat_tests) in rw no refl
+
+-- where one change more moved the bucket, its moment is the last
+back_first : (plan : Planned) (v : ℕ) (xs : List ℕ)
+    → stamp_back plan (xs ++ v ∷ []) 0 ≡ Some (change_moment (next_change plan v))
+back_first plan v xs =
+    let a = length_last v xs
+    in at_place plan (xs ++ v ∷ []) (length (xs ++ v ∷ [])) 0 (length xs) (omega (arith, a)) (omega (arith, a))
+    ∙ ap (λ m. Some (change_moment (next_change plan m))) (last_of v xs)
+
+-- and the others are one further back
+back_later : (plan : Planned) (v others : ℕ) (xs : List ℕ)
+    → stamp_back plan (xs ++ v ∷ []) (suc others) ≡ stamp_back plan xs others
+back_later plan v others xs =
+    let a = length_last v xs
+    in elim (cases_lt others (length xs)) [
+      | inl within ↦
+          let same : get_or (xs ++ v ∷ []) (length xs - 1 - others) 0 ≡ get_or xs (length xs - 1 - others) 0 =
+          get_or_append_left xs (v ∷ []) 0 (length xs - 1 - others) (omega (arith, within))
+          in at_place plan (xs ++ v ∷ []) (length (xs ++ v ∷ [])) (suc others) (length xs - 1 - others)
+          (omega (arith, a, within)) (omega (arith, a, within))
+          ∙ (ap (λ m. Some (change_moment (next_change plan m))) same
+          ∙ sym (at_place plan xs (length xs) others (length xs - 1 - others) within refl))
+      | inr beyond ↦
+          at_none plan (xs ++ v ∷ []) (length (xs ++ v ∷ [])) (suc others) (omega (arith, a, beyond))
+          ∙ sym (at_none plan xs (length xs) others (omega (arith, beyond)))
     ]
 
-pub stamp_none : (plan : Planned) (b v r : ℕ) → r ≡ length (movers plan b v) → r ≡ 0 → (table plan v b).stamp.0 ≡ 0
-stamp_none plan b v r e z = stamp_is plan b v ∙ none_last plan (movers plan b v) (sym e ∙ z)
-  where
-    none_last : (plan : Planned) (xs : List ℕ) → length xs ≡ 0 → last_stamp plan xs ≡ 0
-    none_last plan [] h = refl
-    none_last plan (x ∷ xs) h = absurd (omega (arith, h))
+-- the stamp of a previous server
+abbrev pub stamp_in : Option Past → Option ℕ
+stamp_in past = option_map (λ p. p.stamp.0) past
 
-stamp_within : (plan : Planned) (xs rest : List ℕ) (d : ℕ) → 0 < length xs
-    → last_stamp plan xs ≡ change_moment (next_change plan (get_or (xs ++ rest) (length xs - 1) d))
-stamp_within plan [] rest d h = absurd (omega arith)
-stamp_within plan (x ∷ xs) rest d h =
-    let e : get_or (x ∷ xs) (length xs) 0 ≡ get_or (x ∷ xs ++ rest) (length xs) d = grind (arith, common_steps)
-    in let n : length xs ≡ suc (length xs) - 1 = omega arith
-    in ap (λ k. change_moment (next_change plan k)) (e ∙ ap (λ k. get_or (x ∷ xs ++ rest) k d) n)
+moved_prev : (old : Entry) (at : ℕ) (to : Option ServerId) → is_some to ≡ true → stamp_in (moved old at to).prev ≡ Some at
+moved_prev old at None is = absurd (cc)
+moved_prev old at (Some s) is = refl
 
-pub stamp_some : (plan : Planned) (b v r d : ℕ) (whole : List ℕ) → whole ≡ movers plan b (length plan.changes)
-    → r ≡ length (movers plan b v) → 0 < r
-    → (table plan v b).stamp.0 ≡ change_moment (next_change plan (get_or whole (r - 1) d))
-stamp_some plan b v r d whole is e some =
+moved_older : (old : Entry) (at : ℕ) (to : Option ServerId) → is_some to ≡ true
+    → stamp_in (moved old at to).older ≡ stamp_in old.prev
+moved_older old at None is = absurd (cc)
+moved_older old at (Some s) is = refl
+
+unmoved : (old : Entry) (at : ℕ) (to : Option ServerId) → is_some to ≡ false → moved old at to ≡ old
+unmoved old at None is = refl
+unmoved old at (Some s) is = absurd (cc)
+
+-- the previous server's stamp is the moment of the last change that moved the bucket
+pub stamp_prev : (plan : Planned) (b v : ℕ) → stamp_back plan (movers plan b v) 0 ≡ stamp_in (table plan v b).prev
+stamp_prev plan b zero = refl
+stamp_prev plan b (suc v) = elim (cases_Bool (moves_next plan v b)) [
+  | inl goes ↦
+      let t = moved_prev (table plan v b) (change_moment (next_change plan v)) (brings (next_change plan v) b) goes
+      in rw goes (back_first plan v (movers plan b v) ∙ sym t)
+  | inr stays ↦
+      let t = unmoved (table plan v b) (change_moment (next_change plan v)) (brings (next_change plan v) b) stays
+      in rw stays (stamp_prev plan b v ∙ ap (λ (e : Entry). stamp_in e.prev) (sym t))
+]
+
+-- the older server's is that of the one before
+pub stamp_older : (plan : Planned) (b v : ℕ) → stamp_back plan (movers plan b v) 1 ≡ stamp_in (table plan v b).older
+stamp_older plan b zero = refl
+stamp_older plan b (suc v) = elim (cases_Bool (moves_next plan v b)) [
+  | inl goes ↦
+      let t = moved_older (table plan v b) (change_moment (next_change plan v)) (brings (next_change plan v) b) goes
+      in rw goes (back_later plan v 0 (movers plan b v) ∙ (stamp_prev plan b v ∙ sym t))
+  | inr stays ↦
+      let t = unmoved (table plan v b) (change_moment (next_change plan v)) (brings (next_change plan v) b) stays
+      in rw stays (stamp_older plan b v ∙ ap (λ (e : Entry). stamp_in e.older) (sym t))
+]
+
+-- it is found among all changes that move the bucket
+pub back_within : (plan : Planned) (b v r others d : ℕ) (whole : List ℕ) → whole ≡ movers plan b (length plan.changes)
+    → r ≡ length (movers plan b v) → others < r
+    → stamp_back plan (movers plan b v) others ≡ Some (change_moment (next_change plan (get_or whole (r - 1 - others) d)))
+back_within plan b v r others d whole is e some =
     let s = split_all plan b v
     in let w : whole ≡ movers plan b v ++ s.rest = is ∙ s.whole_is
-    in let some' : 0 < length (movers plan b v) = omega (arith, e, some)
-    in stamp_is plan b v ∙ stamp_within plan (movers plan b v) s.rest d some'
-    ∙ ap (λ n. change_moment (next_change plan (get_or (movers plan b v ++ s.rest) (n - 1) d))) (sym e)
-    ∙ ap (λ xs. change_moment (next_change plan (get_or xs (r - 1) d))) (sym w)
+    in let t : nat_lt others (length (movers plan b v)) ≡ true = grind (arith, nat_tests)
+    in let inside : length (movers plan b v) - 1 - others < length (movers plan b v) = omega (arith, e, some)
+    in let same : get_or whole (r - 1 - others) d ≡ get_or (movers plan b v) (length (movers plan b v) - 1 - others) 0 =
+    ap (λ xs. get_or xs (r - 1 - others) d) w
+    ∙ (ap (λ n. get_or (movers plan b v ++ s.rest) (n - 1 - others) d) e
+    ∙ (get_or_append_left (movers plan b v) s.rest d (length (movers plan b v) - 1 - others) inside
+    ∙ get_or_default (movers plan b v) (length (movers plan b v) - 1 - others) d 0 inside))
+    in rw t (ap (λ n. Some (change_moment (next_change plan n))) (sym same))
+
+pub back_beyond : (plan : Planned) (b v r others : ℕ) → r ≡ length (movers plan b v) → r ≤ others
+    → stamp_back plan (movers plan b v) others ≡ None
+back_beyond plan b v r others e none =
+    let t : nat_lt others (length (movers plan b v)) ≡ false = grind (arith, nat_tests)
+    in rw t refl

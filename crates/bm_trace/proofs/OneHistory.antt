@@ -74,7 +74,7 @@ same_coming stage past (f ∷ a) (g ∷ b) x y ha hb hx hy e =
     in let t : a ≡ b = same_coming stage (f ∷ past) a b x y ha.1 hb.1 hx hy r
     in cc
 
--- what stands behind the lines of the events starts with a letter
+-- what comes after the lines of the events starts with a letter
 rest_starts : (past : List Event) (records : List Record) (cut : Option ℕ) (t : Totals)
     → starts_low (record_lines past 1 records ++ (note_line cut ++ totals_line t)) ≡ false
 rest_starts past [] None t = refl

@@ -227,7 +227,7 @@ records_left past shown records i a b p q is before =
 
 -- THE WHOLE
 
--- the buffer behind the note and the totals
+-- the buffer after the note and the totals
 pub last_put : (piece old noted new note : List ℕ) (s t : Totals) → piece ≡ new → noted ≡ old ++ note
     → new ≡ noted ++ totals_line s → s ≡ t → piece ≡ old ++ (note ++ totals_line t)
 last_put piece old noted new note s t is first second same =
@@ -240,7 +240,7 @@ more_before first rest some = omega (arith, length-append first rest, some)
 more_behind : (first rest : List ℕ) → 0 < length first → 0 < length (first ++ rest)
 more_behind first rest some = omega (arith, length-append first rest, some)
 
--- neither the last lines nor what stands behind the events is empty
+-- neither the last lines nor what comes after the events is empty
 pub some_last : (h : History) → 0 < length (last_lines h)
 some_last h =
     let five : length (codes "total") ≡ 5 = refl
@@ -249,7 +249,7 @@ some_last h =
 pub some_behind : (h : History) → 0 < length (lines_behind h)
 some_behind h = more_before (record_lines (reverse h.events) 1 h.stage.capture.records) _ (some_last h)
 
--- the report in two parts, the lines of the events and what stands behind them
+-- the report in two parts, the lines of the events and what comes after them
 pub behind_events : (h : History) → event_lines h.stage (reverse h.events) ++ lines_behind h ≡ text h
 unfolding text
 behind_events h =
@@ -277,7 +277,7 @@ pub first_refused : (first rest whole : List ℕ) (a b : Option (List ℕ)) (p :
 first_refused first rest whole a b p is empty some part =
     subst (λ x. WritesPart a b x) is (part_written a b p (first ++ rest) empty (rest_less a b p first rest part some))
 
--- what stands behind it was refused
+-- what comes after it was refused
 pub rest_refused : (first rest whole : List ℕ) (a b c : Option (List ℕ)) (p q : List ℕ) → first ++ rest ≡ whole
     → p ≡ [] → HandsOn a p b q first → HandsLess b q c rest → WritesPart a c whole
 rest_refused first rest whole a b c p q is empty before less =

@@ -41,7 +41,7 @@ lines_whole : (h : History) → first_lines h (length h.events) ≡ lines_of_eve
 lines_whole h =
     ap (λ es. event_lines h.stage (reverse es)) (take_over h.events (length h.events) (omega arith))
 
--- the lines of the events behind a place
+-- the lines of the events after a place
 abbrev lines_from : History → ℕ → List ℕ
 lines_from h i = later_lines h.stage (reverse (drop i h.events)) (reverse (take i h.events))
 

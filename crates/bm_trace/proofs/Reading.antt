@@ -75,7 +75,7 @@ read_words (w ∷ ws) (v ∷ vs) x y hw hv e =
     in let i = read_words ws vs x y hw.1 hv.1 r
     in (cc, i.1)
 
--- a line, and what stands behind it
+-- a line, and what comes after it
 pub read_line : (f g : List ℕ) (ws vs : List (List ℕ)) (x y : List ℕ) → is_word f ≡ true → is_word g ≡ true
     → AreWords ws → AreWords vs
     → line f ws ++ x ≡ line g vs ++ y → (f ≡ g) × (ws ≡ vs) × (x ≡ y)

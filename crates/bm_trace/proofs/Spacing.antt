@@ -1,4 +1,4 @@
--- Words behind words.
+-- Words after words.
 use Rattle.std.proofs.Common.{◌≡◌, ℕ, ◌+◌, ◌-◌, ◌<◌, ◌==◌, if◌then◌else◌, true, false, inl, inr, List, [], ◌∷◌}
 use Rattle.std.proofs.Common.{◌++◌, length, take, get_or, refl, subst, ap, ◌∙◌, sym, arith, append_assoc}
 use Rattle.std.specs.Prelude.{decimal, Option, Some, None}
@@ -34,13 +34,13 @@ spaced_more ends i d h =
     ∙ ap spaced (ends_push (take i ends) (get_or ends i d))
     ∙ spaced_append (words_of_ends (take i ends)) (words_of_end (get_or ends i d))
 
--- the words of the first end, and of the later ones behind it
+-- the words of the first end, and of the later ones after it
 ends_with : (first : Option End) (later : List End) → words_of_ends (with_later first later)
     ≡ words_of_option first ++ words_of_ends later
 ends_with None later = refl
 ends_with (Some end) later = refl
 
--- an end is put behind those of its packet
+-- an end is added after those of its packet
 pub end_added : (old new : ℕ → List End) (p : ℕ) (end : End) → 0 < p → new (p - 1) ≡ old (p - 1) ++ end ∷ []
     → ((k : ℕ) → (p - 1 == k) ≡ false → new k ≡ old k) → (k : ℕ)
     → words_of_ends (new k) ≡ words_of_ends (old k) ++ (if p == k + 1 then words_of_end end else [])
@@ -57,7 +57,7 @@ end_added old new p end some here apart k =
           in rw ne (ap words_of_ends (apart k off) ∙ sym (append-nil (words_of_ends (old k))))
     ]
 
--- the first end is written, and the later ones behind it
+-- the first end is written, and the later ones after it
 pub wrote_both : (base between new : List ℕ) (first : Option End) (later : List End)
     → between ≡ base ++ spaced (words_of_option first) → new ≡ between ++ spaced (words_of_ends later)
     → new ≡ base ++ spaced (words_of_ends (with_later first later))
@@ -79,7 +79,7 @@ wrote_more base written new ends i e below is before step =
     ∙ ap (λ x. base ++ (spaced (words_of_ends (take i ends)) ++ spaced (words_of_end x))) (sym is)
     ∙ ap (λ x. base ++ x) (sym (spaced_more ends i e below))
 
--- a word between spaces, and a text behind it
+-- a word between spaces, and a text after it
 pub named_is : (text word more : List ℕ) → text ≡ 32 ∷ word ++ 32 ∷ [] → text ++ more ≡ spaced (word ∷ more ∷ [])
 named_is text word more is =
     ap (λ x. x ++ more) is

@@ -194,7 +194,7 @@ swept_more h shown n d old new found stray same below is knows stray_is count be
 take_min : {X : Type 0} (n : ℕ) (xs : List X) → take (min n (length xs)) xs ≡ take n xs
 take_min n xs = grind (arith, common_steps)
 
--- behind the events nothing changes
+-- after the last event nothing changes
 pub swept_to : (h : History) (n to : ℕ) (sweeper : Sweeper) → n ≡ min to (length h.events) → HasSwept h n sweeper
     → HasSwept h to sweeper
 swept_to h n to sweeper at swept =

@@ -14,7 +14,7 @@ abbrev pub cause_after : Stage → List Event → Option Event → Option Cause
 cause_after stage past None = None
 cause_after stage past (Some e) = cause stage past e.clock.0 e.what
 
--- why the event is a drop, a reset or a stray, where it is one
+-- why the event is a drop, a reset or a stray, if it is one
 abbrev pub cause_of : History → ℕ → Option Cause
 cause_of h place = cause_after h.stage (past_at h place) (event_at h place)
 

@@ -1,10 +1,10 @@
--- The ranges of a stage's numbers, of which a text and its counts are made.
+-- The ranges of a stage's numbers, which a report and its counts need.
 use Rattle.std.specs.Prelude.{◌≡◌, ◌≤◌, length}
 use Rattle.bm_core.specs.declared.events.Stage.{Stage}
 use Rattle.bm_table.specs.Settings.{IsWithin}
 
--- its buckets, shards and records are no more than may be, and the plan has as many buckets as the
--- setting
+-- its buckets, shards and records are at most as many as may be, and the plan has as many buckets
+-- as the setting
 pub record HasRanges (stage : Stage) : Type 0 where
   pub buckets : IsWithin 1 65536 stage.script.setting.buckets
   pub shards : IsWithin 1 64 stage.script.setting.shards

@@ -1,5 +1,5 @@
--- The report of a history: a line for each event, a line for each record, a note where the capture
--- is cut short, and the totals.
+-- The report of a history: a line for each event, a line for each record, a note if the capture is
+-- cut short, and the totals.
 use Rattle.std.specs.Prelude.{ℕ, suc, ◌==◌, if◌then◌else◌, List, [], ◌∷◌, ◌++◌, Option, Some, None}
 use Rattle.std.specs.Prelude.{reverse, codes, decimal}
 use Rattle.bm_base.specs.declared.capture.Body.{Body}
@@ -29,7 +29,7 @@ abbrev pub bucket_of_packet : Stage → Option Segment → ℕ
 bucket_of_packet stage None = 0
 bucket_of_packet stage (Some s) = bucket stage s.flow
 
--- what the line of an event says behind its clock
+-- what the line of an event says after its clock
 abbrev pub event_words : Stage → List Event → ℕ → What → List (List ℕ)
 event_words stage past clock (Publish v) = codes "publish" ∷ decimal v.0 ∷ []
 event_words stage past clock (Switch m v) = codes "switch" ∷ decimal m.0 ∷ decimal v.0 ∷ []
@@ -52,14 +52,14 @@ event_words stage past clock Sync = codes "sync" ∷ []
 abbrev pub event_line : Stage → List Event → Event → List ℕ
 event_line stage past e = line (decimal e.clock.0) (event_words stage past e.clock.0 e.what)
 
--- the lines of these events, of which the newest is first, in the order in which they came
+-- the lines of these events, whose newest is first, in the order in which they happened
 abbrev pub event_lines : Stage → List Event → List ℕ
 event_lines stage [] = []
 event_lines stage (e ∷ past) = event_lines stage past ++ event_line stage past e
 
 -- THE RECORDS
 
--- how a copy of the packet ended; a forward is no end
+-- how a copy of the packet ended; a forward is not an end
 abbrev pub verdict_end : ServerId → Verdict → List (List ℕ)
 verdict_end server Accept = codes "accepted" ∷ decimal server.0 ∷ []
 verdict_end server (Process taken) = codes "processed" ∷ decimal server.0 ∷ []
@@ -67,15 +67,15 @@ verdict_end server (Forward to) = []
 verdict_end server (Reset why) = codes "reset" ∷ decimal server.0 ∷ []
 verdict_end server (Drop why) = codes "dropped" ∷ decimal server.0 ∷ []
 
--- the end of a copy of packet k, where the event is one
+-- the end of a copy of packet k, if the event is one
 abbrev pub end_words : What → ℕ → List (List ℕ)
 end_words (Arrive packet hop server verdict) k =
     if packet == k then verdict_end server verdict else []
 end_words (Lose packet hop) k = if packet == k then codes "lost" ∷ [] else []
 end_words _ k = []
 
--- the ends of packet k among these events, of which the newest is first, in the order in which they
--- came
+-- the ends of packet k among these events, whose newest is first, in the order in which they
+-- happened
 abbrev pub ends_of : List Event → ℕ → List (List ℕ)
 ends_of [] k = []
 ends_of (e ∷ past) k = ends_of past k ++ end_words e.what k
@@ -84,7 +84,7 @@ abbrev pub record_words : List Event → ℕ → Body → List (List ℕ)
 record_words past k (Unsteered reason) = codes "unsteered" ∷ reason_word reason ∷ []
 record_words past k (Steerable s) = ends_of past k
 
--- the lines of the records, of which the first has this number
+-- the lines of the records; the first has this number
 abbrev pub record_lines : List Event → ℕ → List Record → List ℕ
 record_lines past k [] = []
 record_lines past k (r ∷ records) =

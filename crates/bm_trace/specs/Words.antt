@@ -1,4 +1,4 @@
--- The words of the report, and the lines that they make: words are parted by one space, and each
+-- The words of the report, and the lines that they make: words are separated by one space, and each
 -- line ends with a line feed.
 use Rattle.std.specs.Prelude.{ℕ, List, [], ◌∷◌, ◌++◌, Option, Some, None, codes, decimal}
 use Rattle.std.specs.Int.{to_be_bytes, w32}
@@ -10,7 +10,7 @@ use Rattle.bm_base.specs.declared.capture.Reason.TheVariants.{BadTotalLength, Fr
 use Rattle.bm_base.specs.declared.capture.Reason.TheVariants.{ShortTcp, BadOffset, OtherDestination}
 use Rattle.bm_base.specs.declared.capture.Reason.TheVariants.{TooLong, Later}
 use Rattle.bm_base.specs.declared.label.Hop.{Hop}
-use Rattle.bm_base.specs.declared.label.Hop.TheVariants.{Direct, Chained}
+use Rattle.bm_base.specs.declared.label.Hop.TheVariants.{Direct, Chained, Twice}
 use Rattle.bm_base.specs.declared.receive.Taken.{Taken}
 use Rattle.bm_base.specs.declared.receive.Taken.TheVariants.{Advance, Duplicate, Ahead, Outside}
 use Rattle.bm_base.specs.declared.receive.Taken.TheVariants.{Challenge, Ended}
@@ -18,7 +18,7 @@ use Rattle.bm_table.specs.declared.plan.Retirement.{Retirement}
 use Rattle.bm_table.specs.declared.plan.Retirement.TheVariants.{Done, NotDrained, TooEarly}
 use Rattle.bm_core.specs.declared.events.Cause.{Cause}
 use Rattle.bm_core.specs.declared.events.Cause.TheVariants.{NeverAccepted, NotHeld, StaleMux}
-use Rattle.bm_core.specs.declared.events.Cause.TheVariants.{MovedTwice, ChainLate, SynElsewhere}
+use Rattle.bm_core.specs.declared.events.Cause.TheVariants.{MovedThrice, ChainLate, SynElsewhere}
 use Rattle.bm_core.specs.declared.events.Cause.TheVariants.{Full as FullShard, OldTable}
 use Rattle.bm_core.specs.declared.events.Verdict.{Verdict}
 use Rattle.bm_core.specs.declared.events.Verdict.TheVariants.{Accept, Process, Forward, Reset, Drop}
@@ -26,26 +26,27 @@ use Rattle.bm_core.specs.declared.events.Why.{Why}
 use Rattle.bm_core.specs.declared.events.Why.TheVariants.{NoPrevious, ChainExpired, ChainedUnknown}
 use Rattle.bm_core.specs.declared.events.Why.TheVariants.{Silent, Full, Retired}
 
--- each word behind a space
+-- each word after a space
 abbrev pub spaced : List (List ℕ) → List ℕ
 spaced [] = []
 spaced (word ∷ words) = 32 ∷ word ++ spaced words
 
--- the line of a first word and those behind it
+-- the line of a first word and those after it
 abbrev pub line : List ℕ → List (List ℕ) → List ℕ
 line first words = first ++ spaced words ++ 10 ∷ []
 
--- a name and a number, each behind a space
+-- a name and a number, each after a space
 unfoldable pub counted : List ℕ → ℕ → List ℕ
 counted name n = spaced (name ∷ decimal n ∷ [])
 
--- an address with points, a colon, and a port
+-- an address in dotted notation, a colon, and a port
 unfoldable pub endpoint : ℕ → ℕ → List ℕ
 endpoint addr port = ipv4_text (to_be_bytes w32 addr) ++ codes ":" ++ decimal port
 
 abbrev pub hop_word : Hop → List ℕ
 hop_word Direct = codes "direct"
 hop_word Chained = codes "chained"
+hop_word Twice = codes "twice"
 
 abbrev pub taken_word : Taken → List ℕ
 taken_word Advance = codes "advance"
@@ -74,7 +75,7 @@ abbrev pub cause_word : Cause → List ℕ
 cause_word NeverAccepted = codes "never-accepted"
 cause_word NotHeld = codes "not-held"
 cause_word StaleMux = codes "stale-mux"
-cause_word MovedTwice = codes "moved-twice"
+cause_word MovedThrice = codes "moved-thrice"
 cause_word ChainLate = codes "chain-late"
 cause_word SynElsewhere = codes "syn-elsewhere"
 cause_word FullShard = codes "full"

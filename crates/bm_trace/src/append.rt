@@ -1,4 +1,4 @@
-//! Words and numbers that are appended to a line, in less time than `write!` takes.
+//! Appending words and numbers to a line, faster than `write!` does.
 ghost use Rattle.std.specs.Prelude.{◌≡◌, ◌∷◌, ◌++◌, [], OnOk, decimal, string_bytes};
 ghost use Rattle.bm_trace.specs.Words as words;
 
@@ -29,7 +29,7 @@ pub(crate) fn push_number(line: &mut String, number: u64) -> Result<(), AllocErr
     push_digits(line, number)
 }
 
-/// Appends a text and a number. Few long appends take less time than many of a word or a space.
+/// Appends a text and a number. A few long appends are faster than many of a word or a space.
 pub(crate) fn push_named(line: &mut String, text: &str, number: u64) -> Result<(), AllocError>
     ensures { OnOk result
         (string_bytes line.new ≡ string_bytes line.old ++ (text.now ++ decimal number)) }
@@ -48,7 +48,7 @@ fn push_words(line: &mut String, text: &str, word: &str) -> Result<(), AllocErro
     Ok(())
 }
 
-/// Appends the words of a verdict, each behind a space.
+/// Appends the words of a verdict, each after a space.
 #[tactic(auto, using(crate::proofs::Spacing::named_is))]
 pub(crate) fn push_verdict(line: &mut String, verdict: Verdict) -> Result<(), AllocError>
     ensures { OnOk result (string_bytes line.new
@@ -64,7 +64,7 @@ pub(crate) fn push_verdict(line: &mut String, verdict: Verdict) -> Result<(), Al
     Ok(())
 }
 
-/// Ends a line with the words of a cause, where there is one.
+/// Ends a line with the words of a cause, if there is one.
 pub(crate) fn end_line(line: &mut String, cause: Option<Cause>) -> Result<(), AllocError>
     ensures { OnOk result (string_bytes line.new
         ≡ string_bytes line.old ++ (words.spaced (words.because_words cause) ++ 10 ∷ [])) }

@@ -1,4 +1,4 @@
-//! The whole report, with the lines of events and records written by several threads side by side.
+//! The whole report, with the lines of events and records written by several threads in parallel.
 ghost use Rattle.std.specs.Prelude.{◌≡◌, ◌+◌, ◌<◌, ◌≤◌, ℕ, All, IfOk, MatchBool, OnErr, OnOk};
 ghost use Rattle.std.specs.Prelude.{[], false, length, reverse, string_bytes, take};
 ghost use Rattle.std.specs.Prelude.{vec_len, ◌-◌};
@@ -34,10 +34,10 @@ use std::mem::swap;
 use std::thread;
 use std::thread::{Threads, join_mut};
 
-/// How many lines a piece has, but for the last one.
+/// How many lines a piece has, except for the last one.
 const PIECE: usize = 16_384;
 
-/// Writes the line of the event at a place, before which the versions are these. It has this cause.
+/// Writes the line of the event at a place, with this cause. `versions` are the versions before it.
 fn write_line(
     lines: &mut String,
     versions: &mut Vec<Version>,
@@ -76,8 +76,8 @@ pub(crate) struct Piece {
     refused: bool,
 }
 
-/// Writes the lines of the events from one place to another, before which the versions are these.
-/// They have these causes.
+/// Writes the lines of the events from one place to another, with these causes. `versions` are the
+/// versions before them.
 fn write_lines(
     lines: &mut String,
     versions: &mut Vec<Version>,
@@ -112,8 +112,8 @@ impl Piece {
         }
     }
 
-    /// Takes the events from one place to another, up to which the sweep goes on. What memory it
-    /// has it keeps.
+    /// Takes the events from one place to another, for which it advances the sweep. It keeps the
+    /// memory that it has.
     fn begin(
         &mut self,
         alloc: Global,
@@ -155,7 +155,7 @@ impl Piece {
         self.refused = written.is_err();
     }
 
-    /// Hands the piece's lines on.
+    /// Writes the piece's lines to the sink.
     fn put<K: Sink>(&self, out: &mut K) -> Result<(), IoFault>
         ensures ok { OnOk result ((self.now.refused ≡ false)
             × Appends (K.written out.old) (K.written out.new) (string_bytes self.now.lines)) }
@@ -171,7 +171,7 @@ impl Piece {
     }
 }
 
-/// So many pieces without lines.
+/// This many pieces without lines.
 fn no_pieces(alloc: Global, count: usize) -> Result<Vec<Piece>, AllocError>
     ensures { IfOk result (λ pieces. vec_len pieces ≡ count) }
 {
@@ -182,8 +182,8 @@ fn no_pieces(alloc: Global, count: usize) -> Result<Vec<Piece>, AllocError>
     Ok(pieces)
 }
 
-/// Gives the pieces the events from this place on, up to the place that it answers, where the sweep
-/// then stands.
+/// Gives the pieces the events from this place on, and returns the place where they end, which the
+/// sweep has then reached.
 fn deal_out(
     alloc: Global,
     h: &History,
@@ -207,7 +207,7 @@ fn deal_out(
     Ok(at)
 }
 
-/// Writes the lines of all pieces at once, and waits for all of them.
+/// Writes the lines of all pieces in parallel, and waits for all of them.
 fn write_all<R: Threads + Sync>(rt: &R, h: &History, pieces: &mut [Piece])
     requires ranges { HasRanges h.now.stage }
     requires can { All (CanWrite h.now) pieces.old }
@@ -226,8 +226,8 @@ fn write_all<R: Threads + Sync>(rt: &R, h: &History, pieces: &mut [Piece])
     );
 }
 
-/// Writes the lines of all pieces. Beside that the spare pieces get the events from this place on:
-/// the answer is where they end.
+/// Writes the lines of all pieces. In parallel the spare pieces get the events from this place on;
+/// returns where these end.
 fn write_beside<R: Threads + Sync>(
     rt: &R,
     alloc: Global,
@@ -263,7 +263,7 @@ fn write_beside<R: Threads + Sync>(
     dealt
 }
 
-/// Hands the lines of the pieces on, the first of which begins at this place.
+/// Writes the lines of the pieces to the sink; the first piece begins at this place.
 fn put_pieces<K: Sink>(
     h: &History,
     pieces: &[Piece],
@@ -283,23 +283,23 @@ fn put_pieces<K: Sink>(
     Ok(())
 }
 
-/// What is written next, and how far the sweep is.
+/// The pieces that are written next, and how far the sweep is.
 #[derive(Drop)]
 struct Round {
     sweeper: Sweeper,
     pieces: Vec<Piece>,
-    /// As many pieces, which get the lines behind those meanwhile.
+    /// As many pieces again, which meanwhile get the events after those.
     spare: Vec<Piece>,
     /// Where the pieces begin.
     from: usize,
-    /// Where they end, and the sweep stands.
+    /// Where they end, which the sweep has reached.
     to: usize,
 }
 
 impl Round {
     ghost use Rattle.bm_trace.specs.Inside.Pieces.{IsRound};
 
-    /// The first round, with so many pieces.
+    /// The first round, with this many pieces.
     fn first(alloc: Global, h: &History, count: usize) -> Result<Round, AllocError>
         requires ranges { HasRanges h.now.stage }
         requires count { 0 < count }
@@ -319,7 +319,7 @@ impl Round {
         })
     }
 
-    /// Writes the lines of a round, and hands them on. Then the next round is there.
+    /// Writes the lines of a round to the sink, and prepares the next round.
     fn put<R: Threads + Sync, K: Sink>(
         &mut self,
         rt: &R,
@@ -378,8 +378,8 @@ fn put_rounds<R: Threads + Sync, K: Sink>(
     Ok(())
 }
 
-/// Writes the lines of the events by so many threads. How many strays there are among the events of
-/// a run.
+/// Writes the lines of the events with this many threads. Returns how many strays there are among
+/// the events of a run.
 fn put_lines_of_events<R: Threads + Sync, K: Sink>(
     rt: &R,
     alloc: Global,
@@ -401,8 +401,8 @@ fn put_lines_of_events<R: Threads + Sync, K: Sink>(
     Ok(round.sweeper.strays())
 }
 
-/// Writes the lines of the events by so many threads. Meanwhile one thread more puts together what
-/// stands behind them: that is the answer.
+/// Writes the lines of the events with this many threads. Meanwhile one more thread puts together
+/// and returns what comes after them.
 fn put_lines<R: Threads + Sync, K: Sink>(
     rt: &R,
     alloc: Global,
@@ -439,10 +439,10 @@ fn put_lines<R: Threads + Sync, K: Sink>(
     })
 }
 
-/// Writes the report of the history by as many threads, of which 0 count as 1, beside the caller's
-/// own, which finds the causes of the events meanwhile, a round ahead, and beside one that puts the
-/// lines of the records together and counts the totals. Of the report these lines are held whole,
-/// those of the events never. Where it is refused, a first part of it was written, and not all.
+/// Writes the report of the history with this many threads (0 counts as 1), besides the caller's
+/// own, which meanwhile finds the causes of the next round's events, and one that puts the lines of
+/// the records together and counts the totals. The lines of the records are held whole, those of
+/// the events never. If an error is returned, only a first part of the report was written, not all.
 #[tactic(auto, using(crate::proofs::Ranged::ranges_of))]
 pub fn report_beside<R: Threads + Sync, K: Sink>(
     rt: &R,

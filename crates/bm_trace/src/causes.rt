@@ -1,5 +1,5 @@
 //! Why a packet is dropped, reset or processed elsewhere.
-ghost use Rattle.std.specs.Prelude.{◌≡◌, ◌+◌, ◌<◌, ◌&&◌, length, reverse, Some, None};
+ghost use Rattle.std.specs.Prelude.{◌≡◌, ◌+◌, ◌<◌, ◌&&◌, nat_lt, length, reverse, Some, None};
 ghost use Rattle.std.specs.Prelude.{option_map, is_some};
 ghost use Rattle.bm_core.specs.Past as past;
 ghost use Rattle.bm_core.specs.Causes as causes;
@@ -12,13 +12,14 @@ ghost use Rattle.bm_trace.specs.Inside.Sent.{label_from, label_sent, owner_from}
 use crate::entries::{entry_at, moves};
 use crate::held::{held_place, is_elsewhere};
 use crate::past::{Sent, newest, owner_server, sent_of};
-use bm_base::{Flow, Moment, Segment, ServerId, is_opening};
+use bm_base::{Flow, Hop, Moment, Segment, ServerId, is_opening};
 use bm_core::{Cause, Event, History, Stage, Verdict, What, Why};
 use bm_hash::bucket_of;
 
 /// An arrival of a packet, with what is known of the packet.
 #[derive(Clone, Copy)]
 pub(crate) struct Arrival {
+    pub(crate) hop: Hop,
     pub(crate) server: ServerId,
     pub(crate) verdict: Verdict,
     pub(crate) segment: Option<Segment>,
@@ -26,15 +27,17 @@ pub(crate) struct Arrival {
 }
 
 impl Arrival {
-    /// The packet's arrival, where this is known of the packet by its Steer.
+    /// The packet's arrival; `sent` is what is known of the packet from its Steer.
     pub(crate) fn new(
         stage: &Stage,
         packet: u32,
+        hop: Hop,
         server: ServerId,
         verdict: Verdict,
         sent: Option<Sent>,
     ) -> Arrival
         ensures { result ≡ record {
+          hop = hop;
           server =
               server;
           verdict = verdict;
@@ -43,6 +46,7 @@ impl Arrival {
         } }
     {
         Arrival {
+            hop,
             server,
             verdict,
             segment: stage.segment(packet),
@@ -67,8 +71,8 @@ impl Arrival {
         }
     }
 
-    /// Whether the packet isn't opening and is processed without an owner, or elsewhere than at its
-    /// owner's server.
+    /// Whether the packet isn't opening and is processed without an owner, or by a server other
+    /// than its owner's.
     pub(crate) fn is_stray(&self) -> bool
         ensures { result ≡ (causes.is_process self.now.verdict
             && causes.wants_cause self.now.verdict (owner_from self.now.sent) self.now.server
@@ -77,7 +81,7 @@ impl Arrival {
         matches!(self.verdict, Verdict::Process(_)) && self.wants_cause()
     }
 
-    /// The cause of the arrival after these events, where it has one.
+    /// The cause of the arrival after these events, if it has one.
     pub(crate) fn cause(
         &self,
         stage: &Stage,
@@ -87,8 +91,8 @@ impl Arrival {
     ) -> Option<Cause>
         requires ranges { HasRanges stage.now }
         requires newest { newest ≡ past.newest (reverse events.now) }
-        ensures { result ≡ causes.cause_at stage.now (reverse events.now) clock.0 self.now.server
-            self.now.verdict (owner_from self.now.sent) self.now.segment
+        ensures { result ≡ causes.cause_at stage.now (reverse events.now) clock.0 self.now.hop
+            self.now.server self.now.verdict (owner_from self.now.sent) self.now.segment
             (label_from stage.now self.now.segment self.now.sent) }
     {
         if !self.wants_cause() {
@@ -99,12 +103,12 @@ impl Arrival {
         if is_opening(&segment) {
             opening_cause(&self.verdict, sent.version.0, newest)
         } else {
-            first_broken(stage, events, clock, &segment.flow, self.server, &sent)
+            first_broken(stage, events, clock, &segment.flow, self, &sent)
         }
     }
 }
 
-/// The cause where an opening packet arrives.
+/// The cause for an arriving packet that is opening.
 pub(crate) fn opening_cause(verdict: &Verdict, version: u32, newest: u32) -> Option<Cause>
     ensures { result ≡ causes.opening_cause verdict.now version newest }
 {
@@ -115,13 +119,24 @@ pub(crate) fn opening_cause(verdict: &Verdict, version: u32, newest: u32) -> Opt
     }
 }
 
-fn is_late(stage: &Stage, flow: &Flow, sent: &Sent, clock: Moment) -> bool
+/// Whether the clock is past the stamp by more than the timeout.
+pub(crate) fn is_past(stamp: Moment, stage: &Stage, clock: Moment) -> bool
+    ensures { result ≡ nat_lt (stamp.0 + past.timeout stage.now) clock.0 }
+{
+    u128::from(stamp.0) + u128::from(stage.script.setting.timeout) < u128::from(clock.0)
+}
+
+fn is_late(stage: &Stage, flow: &Flow, sent: &Sent, hop: Hop, clock: Moment) -> bool
     requires { HasRanges stage.now }
-    ensures { result ≡ causes.is_late stage.now (label_sent stage.now flow.now sent.now) clock.0 }
+    ensures { result
+        ≡ causes.is_late stage.now (label_sent stage.now flow.now sent.now) hop clock.0 }
 {
     let bucket = bucket_of(flow, stage.script.setting.buckets);
     let entry = entry_at(&stage.script.plan, sent.version, bucket);
-    u128::from(entry.stamp.0) + u128::from(stage.script.setting.timeout) < u128::from(clock.0)
+    match entry.onward(hop) {
+        Some(past) => is_past(past.stamp, stage, clock),
+        None => false,
+    }
 }
 
 /// The first premise that is broken where a packet arrives that isn't opening.
@@ -130,12 +145,12 @@ fn first_broken(
     events: &[Event],
     clock: Moment,
     flow: &Flow,
-    server: ServerId,
+    arrival: &Arrival,
     sent: &Sent,
 ) -> Option<Cause>
     requires { HasRanges stage.now }
     ensures { result ≡ causes.first_broken stage.now (reverse events.now) clock.0
-        (label_sent stage.now flow.now sent.now) flow.now server
+        (label_sent stage.now flow.now sent.now) arrival.now.hop flow.now arrival.now.server
         (option_map as_accepted sent.now.owner) }
 {
     let Some(owner) = sent.owner else {
@@ -146,9 +161,9 @@ fn first_broken(
         Some(Cause::NotHeld)
     } else if sent.version.0 < owner.version {
         Some(Cause::StaleMux)
-    } else if moves(&stage.script.plan, bucket, owner.version, sent.version.0) >= 2 {
-        Some(Cause::MovedTwice)
-    } else if server != owner.server && is_late(stage, flow, sent, clock) {
+    } else if moves(&stage.script.plan, bucket, owner.version, sent.version.0) >= 3 {
+        Some(Cause::MovedThrice)
+    } else if arrival.server != owner.server && is_late(stage, flow, sent, arrival.hop, clock) {
         Some(Cause::ChainLate)
     } else if is_elsewhere(stage, events, flow, owner.server) {
         Some(Cause::SynElsewhere)
@@ -157,7 +172,7 @@ fn first_broken(
     }
 }
 
-/// The cause of the event at this place, where it has one.
+/// The cause of the event at this place, if it has one.
 pub(crate) fn cause_at(h: &History, event: usize) -> Option<Cause>
     requires place { event < length h.now.events }
     requires ranges { HasRanges h.now.stage }
@@ -169,19 +184,19 @@ pub(crate) fn cause_at(h: &History, event: usize) -> Option<Cause>
     match at.what {
         What::Arrive {
             packet,
+            hop,
             server,
             verdict,
-            ..
         } => {
             let sent = sent_of(&h.stage, before, packet);
-            let arrival = Arrival::new(&h.stage, packet, server, verdict, sent);
+            let arrival = Arrival::new(&h.stage, packet, hop, server, verdict, sent);
             arrival.cause(&h.stage, before, newest(before), at.clock)
         }
         _ => None,
     }
 }
 
-/// Why the event at this place is a drop, a reset or a stray; `None` just where it is none of
+/// Why the event at this place is a drop, a reset or a stray; `None` exactly if it is none of
 /// these. Takes no memory.
 #[tactic(auto, using(crate::proofs::Ranged::ranges_of, crate::proofs::Caused::cause_there))]
 pub fn cause(h: &History, event: usize) -> Option<Cause>

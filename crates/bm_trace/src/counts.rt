@@ -24,12 +24,12 @@ fn is_stray_after(stage: &Stage, events: &[Event], what: &What) -> bool
     match what {
         What::Arrive {
             packet,
+            hop,
             server,
             verdict,
-            ..
         } => {
             let sent = sent_of(stage, events, *packet);
-            Arrival::new(stage, *packet, *server, *verdict, sent).is_stray()
+            Arrival::new(stage, *packet, *hop, *server, *verdict, sent).is_stray()
         }
         _ => false,
     }
@@ -61,7 +61,7 @@ struct Counts {
 }
 
 impl Counts {
-    /// Counts one event more.
+    /// Counts one more event.
     fn add(&mut self, what: &What)
         requires { HasRoom self.old }
         ensures { self.new ≡ with_event what.now self.old }

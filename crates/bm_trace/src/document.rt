@@ -1,4 +1,4 @@
-//! The whole report. Its lines are put together in one buffer, which is handed on whenever it is
+//! The whole report. Its lines are put together in one buffer, which is written out whenever it is
 //! full.
 ghost use Rattle.std.specs.Prelude.{◌≡◌, ◌+◌, ◌<◌, ◌++◌, reverse, OnOk, OnErr};
 ghost use Rattle.std.specs.Prelude.{string_bytes, []};
@@ -23,10 +23,10 @@ use bm_base::Memory;
 use bm_core::History;
 use bm_io::{IoFault, Sink, SureSink, put_all};
 
-/// The buffer is handed on when it has so many octets.
+/// The buffer is written out when it has this many octets.
 const FULL: usize = 65_536;
 
-/// Hands the lines on, where they fill the buffer.
+/// Writes the lines out, if they fill the buffer.
 fn put_full<K: Sink>(lines: &mut String, out: &mut K) -> Result<(), IoFault>
     ensures ok { OnOk result (HandsOn (K.written out.old) (string_bytes lines.old)
         (K.written out.new) (string_bytes lines.new) []) }
@@ -42,7 +42,6 @@ fn put_full<K: Sink>(lines: &mut String, out: &mut K) -> Result<(), IoFault>
     Ok(())
 }
 
-/// Writes the lines of the events.
 fn put_events<K: Sink>(
     h: &History,
     causes: &CauseList,
@@ -71,7 +70,6 @@ fn put_events<K: Sink>(
     Ok(())
 }
 
-/// Writes the lines of the records.
 fn put_records<K: Sink>(h: &History, lines: &mut String, out: &mut K) -> Result<(), IoFault>
     requires { HasRanges h.now.stage }
     ensures ok { OnOk result (HandsOn (K.written out.old) (string_bytes lines.old)
@@ -97,7 +95,7 @@ fn put_records<K: Sink>(h: &History, lines: &mut String, out: &mut K) -> Result<
     Ok(())
 }
 
-/// Writes the lines that wait, and behind them the note and the totals.
+/// Writes the lines that wait, and after them the note and the totals.
 pub(crate) fn put_end<K: Sink>(
     h: &History,
     sums: &Totals,
@@ -116,7 +114,7 @@ pub(crate) fn put_end<K: Sink>(
     put_all(out, lines.as_bytes())
 }
 
-/// Writes the lines that wait, and behind them what stands behind the lines of the events.
+/// Writes the lines that wait, and after them all that comes after the lines of the events.
 fn put_rest<K: Sink>(
     h: &History,
     sums: &Totals,
@@ -136,7 +134,7 @@ fn put_rest<K: Sink>(
 }
 
 /// Writes the report of the history, with these causes of its events and these totals. The report
-/// is never held whole. Where it is refused, a first part of it was written, and not all.
+/// is never held whole. If an error is returned, only a first part of it was written, not all.
 pub fn report_to<K: Sink>(
     h: &History,
     causes: &CauseList,
@@ -156,7 +154,7 @@ pub fn report_to<K: Sink>(
     put_rest(h, sums, lines, out)
 }
 
-/// Appends the report of the history, and nothing where memory is refused.
+/// Appends the report of the history. Where memory is refused, nothing is appended.
 #[tactic(auto, using(crate::proofs::Ranged::ranges_of))]
 pub fn report(h: &History, out: &mut Vec<u8>) -> Result<(), Memory>
     requires { IsRun h.now }

@@ -27,7 +27,7 @@ pub(crate) struct EndTable {
 }
 
 impl EndTable {
-    /// No end for any of so many packets.
+    /// No end for any of this many packets.
     fn new(alloc: Global, packets: usize) -> Result<EndTable, AllocError>
         ensures count { IfOk result (λ table. vec_len table.firsts ≡ packets) }
         ensures none { IfOk result (λ table. (k : ℕ) → k < packets → ends_at table k ≡ []) }
@@ -59,7 +59,7 @@ impl EndTable {
         }
     }
 
-    /// The ends of the packet at a place that came behind its first.
+    /// The ends of the packet at a place that came after its first.
     pub(crate) fn later(&self, place: usize) -> &[End]
         requires { place < vec_len self.now.firsts }
         ensures { result.now ≡ later_at self.now place }
@@ -83,7 +83,7 @@ impl EndTable {
         Ok(())
     }
 
-    /// Puts an end behind those of the packet in the map.
+    /// Adds an end after those of the packet in the map.
     fn extend_list(&mut self, place: usize, end: End) -> Result<(), AllocError>
         ensures firsts { OnOk result (self.new.firsts ≡ self.old.firsts) }
         ensures here { OnOk result
@@ -100,7 +100,7 @@ impl EndTable {
         Ok(())
     }
 
-    /// Puts an end behind those of the packet at a place.
+    /// Adds an end after those of the packet at a place.
     fn push(&mut self, place: usize, end: End) -> Result<(), AllocError>
         requires { place < vec_len self.old.firsts }
         ensures count { OnOk result (vec_len self.new.firsts ≡ vec_len self.old.firsts) }
@@ -120,7 +120,7 @@ impl EndTable {
         Ok(())
     }
 
-    /// Puts an end behind those of its packet, where that is one of the table's.
+    /// Adds an end after those of its packet, if that is one of the table's.
     fn add(&mut self, ending: Ending) -> Result<(), AllocError>
         ensures count { OnOk result (vec_len self.new.firsts ≡ vec_len self.old.firsts) }
         ensures added { OnOk result ((k : ℕ) → k < vec_len self.old.firsts
@@ -134,7 +134,7 @@ impl EndTable {
         Ok(())
     }
 
-    /// Takes note of an event, which may be the end of a copy.
+    /// Records an event, which may be the end of a copy.
     fn note(&mut self, what: &What) -> Result<(), AllocError>
         ensures count { OnOk result (vec_len self.new.firsts ≡ vec_len self.old.firsts) }
         ensures noted { OnOk result ((k : ℕ) → k < vec_len self.old.firsts
@@ -148,7 +148,7 @@ impl EndTable {
     }
 }
 
-/// The ends of each of so many packets.
+/// The ends of each of this many packets.
 pub(crate) fn ends_of_packets(
     alloc: Global,
     packets: usize,

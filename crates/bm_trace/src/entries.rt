@@ -3,7 +3,7 @@ ghost use Rattle.std.specs.Prelude.{◌≡◌, ◌<◌, Some, None, find, ◌==�
 ghost use Rattle.std.specs.Option.{option_copied};
 ghost use Rattle.bm_table.specs.Tables as tables;
 
-use bm_base::{Entry, Moment, ServerId, Version};
+use bm_base::{Entry, Moment, Past, ServerId, Version};
 use bm_table::{Change, Move, Plan};
 
 fn move_of(moves: &[Move], bucket: u32) -> Option<&Move>
@@ -12,7 +12,7 @@ fn move_of(moves: &[Move], bucket: u32) -> Option<&Move>
     moves.iter().find(|m| m.bucket == bucket)
 }
 
-/// Where these moves bring the bucket.
+/// The server to which these moves bring the bucket.
 #[tactic(auto, using(crate::proofs::Moving::target_find))]
 fn target(moves: &[Move], bucket: u32) -> Option<ServerId>
     ensures { result ≡ tables.target moves.now bucket }
@@ -20,7 +20,7 @@ fn target(moves: &[Move], bucket: u32) -> Option<ServerId>
     Some(move_of(moves, bucket)?.to)
 }
 
-/// Where the change brings the bucket.
+/// The server to which the change brings the bucket.
 fn brings(change: Option<&Change>, bucket: u32) -> Option<ServerId>
     ensures { result ≡ tables.brings (option_copied change.entry) bucket }
 {
@@ -44,13 +44,15 @@ fn moved(old: Entry, change: Option<&Change>, bucket: u32) -> Entry
         None => old,
         Some(to) => Entry {
             cur: to,
-            prev: Some(old.cur),
-            stamp: moment_of(change),
+            prev: Some(Past {
+                server: old.cur,
+                stamp: moment_of(change),
+            }),
+            older: old.prev,
         },
     }
 }
 
-/// The entry of the bucket at this version.
 pub(crate) fn entry_at(plan: &Plan, version: Version, bucket: u32) -> Entry
     requires { bucket < plan.now.buckets }
     ensures { result ≡ tables.table plan.now version.0 bucket }
@@ -58,7 +60,7 @@ pub(crate) fn entry_at(plan: &Plan, version: Version, bucket: u32) -> Entry
     let mut entry = Entry {
         cur: plan.opening(bucket),
         prev: None,
-        stamp: Moment(0),
+        older: None,
     };
     for v in 0..version.0 {
         entry = moved(entry, plan.next_change(Version(v)), bucket);

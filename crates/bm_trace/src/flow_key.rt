@@ -4,7 +4,7 @@ ghost use Rattle.bm_trace.specs.Inside.FlowKeys.{key_of};
 
 use bm_base::Flow;
 
-/// A flow, as a key. The ports come first, since they tell most flows apart.
+/// A flow, as a key. The ports come first, since they distinguish most flows.
 #[derive(Clone, Copy, PartialEq, Eq, Hash)]
 pub(crate) struct FlowKey {
     sport: u16,

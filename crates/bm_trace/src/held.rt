@@ -64,7 +64,7 @@ fn effect_of_verdict(verdict: &Verdict) -> Effect
     }
 }
 
-/// The place of the Accept of the flow that the server holds.
+/// The place of the Accept of the connection that the server holds of the flow.
 pub(crate) fn held_place(
     stage: &Stage,
     events: &[Event],
@@ -113,7 +113,7 @@ fn accepts_elsewhere(
     }
 }
 
-/// Whether a server other than this holds the flow.
+/// Whether another server holds the flow.
 pub(crate) fn is_elsewhere(stage: &Stage, events: &[Event], flow: &Flow, server: ServerId) -> bool
     requires { HasRanges stage.now }
     ensures { result ≡ causes.is_elsewhere stage.now (reverse events.now) (reverse events.now)

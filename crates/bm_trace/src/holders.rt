@@ -1,4 +1,4 @@
-//! Which servers hold which flows, kept along the events.
+//! Which servers hold which flows, kept up to date event by event.
 ghost use Rattle.std.specs.Prelude.{◌≡◌, ◌&&◌, List, length, OnOk, IfOk};
 ghost use Rattle.std.specs.Prelude.{Option, Some, None, option_map, find, if◌then◌else◌, [], ◌∷◌};
 ghost use Rattle.std.specs.BTreeMap as tree;
@@ -27,7 +27,7 @@ use smallvec::SmallVec;
 use std::alloc::{AllocError, Global};
 use std::collections::{BTreeMap, HashMap};
 
-/// A server that holds a flow, and how many events stand before its Accept.
+/// A server that holds a flow, and how many events came before its Accept.
 #[derive(Clone, Copy)]
 pub(crate) struct Holder {
     pub(crate) server: ServerId,
@@ -59,7 +59,7 @@ fn drop_holder(holders: &mut HolderList, server: ServerId)
     holders.retain(|holder| holder.server != server);
 }
 
-/// The holder in place of what the list has of its server.
+/// Puts the holder in place of what the list has of its server.
 fn put_holder(holders: &mut HolderList, holder: Holder) -> Result<(), AllocError>
     ensures { OnOk result (holders.new.items
         ≡ put_holder holder.server (Some holder.place) holders.old.items) }
@@ -77,7 +77,8 @@ fn one_holder(alloc: Global, holder: Holder) -> Result<HolderList, AllocError>
     Ok(list)
 }
 
-/// What the verdict on an arrival at this place has the server hold, where it changes that.
+/// How this verdict, on an arrival at this place, changes what the server holds: it holds the
+/// Accept of a place, or nothing. None if it changes nothing.
 fn ruling(place: usize, verdict: &Verdict) -> Option<Option<usize>>
     ensures { result ≡ ruling place verdict.now }
 {
@@ -124,7 +125,7 @@ impl Lists {
         }
     }
 
-    /// Puts the flow's list in place of another, which it answers.
+    /// Puts the flow's list in place of another, and returns the other.
     fn put(&mut self, flow: Flow, list: HolderList) -> Result<Option<HolderList>, AllocError>
         ensures old { IfOk result (λ old. listed old ≡ holders_in self.old flow) }
         ensures new { OnOk result ((q : Flow)
@@ -135,7 +136,7 @@ impl Lists {
         Ok(self.lists.insert(FlowKey::of(&flow), list)?)
     }
 
-    /// This server holds the flow's Accept of this place alone.
+    /// Records that this server holds just the flow's Accept at this place.
     fn hold(
         &mut self,
         alloc: Global,
@@ -149,7 +150,7 @@ impl Lists {
             else holders_in self.old q)) }
     {
         let holder = Holder { server, place };
-        // Mostly there are no others, and one search does.
+        // Mostly there are no others, and one look-up is enough.
         if let Some(mut others) = self.put(flow, one_holder(alloc, holder)?)? {
             put_holder(&mut others, holder)?;
             self.put(flow, others)?;
@@ -157,7 +158,7 @@ impl Lists {
         Ok(())
     }
 
-    /// This server doesn't hold the flow.
+    /// Records that this server doesn't hold the flow.
     fn release(&mut self, flow: &Flow, server: ServerId)
         ensures { (q : Flow) → holders_in self.new q
             ≡ (if same_flow flow.now q
@@ -169,7 +170,7 @@ impl Lists {
         }
     }
 
-    /// The server holds the flow's Accept of this place alone, or none.
+    /// Records that the server holds just the flow's Accept at this place, or none.
     fn set(
         &mut self,
         alloc: Global,
@@ -191,7 +192,7 @@ impl Lists {
         }
     }
 
-    /// Takes note of a packet's arrival. Most rulings change nothing, and no segment is read.
+    /// Records a packet's arrival. Most verdicts change nothing, and then no segment is read.
     #[tactic(auto, using(crate::proofs::Holding::cond_same))]
     fn rule(
         &mut self,
@@ -243,8 +244,8 @@ impl Retirements {
         }
     }
 
-    /// The shard of the flow, by which its servers' retirements are looked up. While there are none
-    /// any number will do, which saves a hash.
+    /// The shard of the flow, for looking up its servers' retirements. While there are none any
+    /// number will do, which saves a hash.
     #[tactic(auto, using(crate::proofs::Holding::none_in))]
     fn shard_for(&self, stage: &Stage, flow: &Flow) -> u16
         requires { HasRanges stage.now }
@@ -276,7 +277,7 @@ impl Retirements {
         Ok(())
     }
 
-    /// Whether an Accept at this place is younger than the shard's last retirement.
+    /// Whether an Accept at this place came after the shard's last retirement.
     fn is_alive(&self, key: ShardKey, place: usize) -> bool
         ensures { result ≡ is_alive (tree.get ⟦<ShardKey as Ord>⟧.cmp self.now.places key) place }
     {
@@ -305,8 +306,7 @@ impl Retirements {
         }
     }
 
-    /// Whether one of these, at a server other than this, is younger than its shard's last
-    /// retirement.
+    /// Whether one of these, at another server, came after its shard's last retirement.
     fn is_other_alive(&self, holders: &[Holder], server: ServerId, shard: u16) -> bool
         ensures { result
             ≡ other_alive
@@ -403,7 +403,7 @@ impl Holders {
         Ok(())
     }
 
-    /// Takes note of the event that comes after `place` others.
+    /// Records the event that comes after `place` others.
     #[tactic(auto, using(crate::proofs::Holding::kept_still))]
     pub(crate) fn note(
         &mut self,
@@ -459,7 +459,7 @@ impl Holders {
     }
 }
 
-/// The holders of one flow, and the shard of the flow by which retirements are looked up.
+/// The holders of one flow, and the flow's shard, for looking up retirements.
 #[derive(Clone, Copy)]
 pub(crate) struct HeldBy<'a> {
     holders: &'a [Holder],
@@ -470,7 +470,7 @@ pub(crate) struct HeldBy<'a> {
 impl<'a> HeldBy<'a> {
     ghost use Rattle.bm_trace.specs.Inside.Holding.{HoldsFlow};
 
-    /// The place of the Accept of the flow that the server holds.
+    /// The place of the Accept of the connection that the server holds of the flow.
     pub(crate) fn place(&self, server: ServerId) -> Option<usize>
         ensures { (stage : Stage) (seen : List Event) (flow : Flow)
             → HoldsFlow stage seen flow self.now
@@ -479,7 +479,7 @@ impl<'a> HeldBy<'a> {
         self.retired.alive_in(self.holders, server, self.shard)
     }
 
-    /// Whether a server other than this holds the flow.
+    /// Whether another server holds the flow.
     pub(crate) fn is_elsewhere(&self, server: ServerId) -> bool
         ensures { (stage : Stage) (seen : List Event) (flow : Flow)
             → HoldsFlow stage seen flow self.now

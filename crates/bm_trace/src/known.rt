@@ -1,4 +1,4 @@
-//! What is known after some events, for the causes of those that follow.
+//! What is known after some events, to find the causes of those that follow.
 ghost use Rattle.std.specs.Prelude.{◌≡◌, List, reverse, OnOk, IfOk, Some, None, option_map};
 ghost use Rattle.std.specs.Prelude.{[], ◌∷◌, ◌≤◌, nat_le};
 ghost use Rattle.bm_table.specs.Tables as tables;
@@ -12,12 +12,12 @@ ghost use Rattle.bm_trace.specs.Inside.Running.{AreVersions};
 ghost use Rattle.bm_trace.specs.Inside.Seen.{as_accepted};
 ghost use Rattle.bm_trace.specs.Inside.Sent.{label_from, label_sent, owner_from};
 
-use crate::causes::{Arrival, opening_cause};
+use crate::causes::{Arrival, is_past, opening_cause};
 use crate::holders::Holders;
 use crate::movers::Movers;
 use crate::past::Sent;
 use crate::running::Running;
-use bm_base::{Flow, Moment, ServerId, Version, is_opening};
+use bm_base::{Flow, Hop, Moment, Version, is_opening};
 use bm_core::{Cause, Event, Stage, What};
 use bm_hash::bucket_of;
 use std::alloc::{AllocError, Global};
@@ -31,37 +31,47 @@ pub(crate) struct Known {
     movers: Movers,
 }
 
-/// Whether two or more of the changes from `since + 1` to `version` move the flow's bucket.
-#[tactic(auto, using(crate::proofs::Moved::not_twice))]
-fn moves_twice(movers: &Movers, stage: &Stage, flow: &Flow, since: u32, version: u32) -> bool
+/// Whether three or more of the changes from `since + 1` to `version` move the flow's bucket.
+#[tactic(auto, using(crate::proofs::Moved::not_thrice))]
+fn moves_thrice(movers: &Movers, stage: &Stage, flow: &Flow, since: u32, version: u32) -> bool
     requires ranges { HasRanges stage.now }
     requires kept { AreMovers stage.now.script.plan movers.now }
     requires order { since ≤ version }
-    ensures { result ≡ nat_le 2
+    ensures { result ≡ nat_le 3
         (tables.moves stage.now.script.plan (past.bucket stage.now flow.now) since version) }
 {
-    // A change moves a bucket once at most, so mostly no bucket is asked for.
-    if version - since < 2 {
+    // A change moves a bucket at most once, so mostly no bucket needs a look.
+    if version - since < 3 {
         return false;
     }
     let bucket = bucket_of(flow, stage.script.setting.buckets);
-    movers.moves_twice(&stage.script.plan, bucket, since, version)
+    movers.moves_thrice(&stage.script.plan, bucket, since, version)
 }
 
-fn is_late(movers: &Movers, stage: &Stage, flow: &Flow, sent: &Sent, clock: Moment) -> bool
+fn is_late(
+    movers: &Movers,
+    stage: &Stage,
+    flow: &Flow,
+    sent: &Sent,
+    hop: Hop,
+    clock: Moment,
+) -> bool
     requires ranges { HasRanges stage.now }
     requires kept { AreMovers stage.now.script.plan movers.now }
-    ensures { result ≡ causes.is_late stage.now (label_sent stage.now flow.now sent.now) clock.0 }
+    ensures { result
+        ≡ causes.is_late stage.now (label_sent stage.now flow.now sent.now) hop clock.0 }
 {
     let bucket = bucket_of(flow, stage.script.setting.buckets);
-    let stamp = movers.stamp(&stage.script.plan, bucket, sent.version.0);
-    u128::from(stamp.0) + u128::from(stage.script.setting.timeout) < u128::from(clock.0)
+    match movers.stamp(&stage.script.plan, bucket, sent.version.0, hop) {
+        Some(stamp) => is_past(stamp, stage, clock),
+        None => false,
+    }
 }
 
 impl Known {
     ghost use Rattle.bm_trace.specs.Inside.Known.{Knows};
 
-    /// Before the first event.
+    /// What is known before the first event.
     pub(crate) fn new(alloc: Global, stage: &Stage) -> Result<Known, AllocError>
         ensures { IfOk result (λ k. Knows stage.now [] k) }
     {
@@ -81,7 +91,7 @@ impl Known {
         self.running.versions()
     }
 
-    /// Takes note of the event that comes after these.
+    /// Records the event that comes after these.
     pub(crate) fn note(
         &mut self,
         alloc: Global,
@@ -103,13 +113,13 @@ impl Known {
         events: &[Event],
         clock: Moment,
         flow: &Flow,
-        server: ServerId,
+        arrival: &Arrival,
         sent: &Sent,
     ) -> Option<Cause>
         requires ranges { HasRanges stage.now }
         requires knows { Knows stage.now (reverse events.now) self.now }
         ensures { result ≡ causes.first_broken stage.now (reverse events.now) clock.0
-            (label_sent stage.now flow.now sent.now) flow.now server
+            (label_sent stage.now flow.now sent.now) arrival.now.hop flow.now arrival.now.server
             (option_map as_accepted sent.now.owner) }
     {
         let Some(owner) = sent.owner else {
@@ -120,9 +130,11 @@ impl Known {
             Some(Cause::NotHeld)
         } else if sent.version.0 < owner.version {
             Some(Cause::StaleMux)
-        } else if moves_twice(&self.movers, stage, flow, owner.version, sent.version.0) {
-            Some(Cause::MovedTwice)
-        } else if server != owner.server && is_late(&self.movers, stage, flow, sent, clock) {
+        } else if moves_thrice(&self.movers, stage, flow, owner.version, sent.version.0) {
+            Some(Cause::MovedThrice)
+        } else if arrival.server != owner.server
+            && is_late(&self.movers, stage, flow, sent, arrival.hop, clock)
+        {
             Some(Cause::ChainLate)
         } else if held.is_elsewhere(owner.server) {
             Some(Cause::SynElsewhere)
@@ -140,8 +152,8 @@ impl Known {
     ) -> Option<Cause>
         requires ranges { HasRanges stage.now }
         requires knows { Knows stage.now (reverse events.now) self.now }
-        ensures { result ≡ causes.cause_at stage.now (reverse events.now) clock.0 arrival.now.server
-            arrival.now.verdict (owner_from arrival.now.sent) arrival.now.segment
+        ensures { result ≡ causes.cause_at stage.now (reverse events.now) clock.0 arrival.now.hop
+            arrival.now.server arrival.now.verdict (owner_from arrival.now.sent) arrival.now.segment
             (label_from stage.now arrival.now.segment arrival.now.sent) }
     {
         if !arrival.wants_cause() {
@@ -156,11 +168,11 @@ impl Known {
                 self.running.newest(stage, events).0,
             )
         } else {
-            self.first_broken(stage, events, clock, &segment.flow, arrival.server, &sent)
+            self.first_broken(stage, events, clock, &segment.flow, arrival, &sent)
         }
     }
 
-    /// The cause of the event after these, where it has one.
+    /// The cause of the event after these, if it has one.
     pub(crate) fn cause(&self, stage: &Stage, events: &[Event], event: &Event) -> Option<Cause>
         requires ranges { HasRanges stage.now }
         requires knows { Knows stage.now (reverse events.now) self.now }
@@ -170,12 +182,12 @@ impl Known {
         match event.what {
             What::Arrive {
                 packet,
+                hop,
                 server,
                 verdict,
-                ..
             } => {
                 let sent = self.running.sent(stage, events, packet);
-                let arrival = Arrival::new(stage, packet, server, verdict, sent);
+                let arrival = Arrival::new(stage, packet, hop, server, verdict, sent);
                 self.cause_of(stage, events, &arrival, event.clock)
             }
             _ => None,

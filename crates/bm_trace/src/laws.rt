@@ -1,4 +1,4 @@
-//! What a report says of its history.
+//! What a report says about its history.
 ghost use Rattle.std.specs.Prelude.{◌≡◌, ◌<◌, ◌^◌};
 ghost use Rattle.bm_trace.specs.Report.{text};
 ghost use Rattle.bm_trace.specs.Inside.Types.{AreEvents, IsAnswer, IsEvent, IsFlow, IsVerdict};
@@ -47,7 +47,7 @@ fn read_numbers(first: u64, second: u64)
     read_number(second);
 }
 
-/// Each number of what happened is below its bound.
+/// Each number in `what` is below its bound.
 fn read_what(what: &What)
     ensures { IsWhat what.now }
 {
@@ -101,7 +101,7 @@ fn read_events(events: &[Event])
     }
 }
 
-/// Two histories of one stage with the same report have the same events: a report names one
+/// Two histories of one stage with the same report have the same events: a report determines its
 /// history.
 #[tactic(auto, using(crate::proofs::OneHistory::same_events))]
 pub fn one_history(a: &History, b: &History)

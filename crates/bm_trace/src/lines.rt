@@ -122,7 +122,7 @@ fn write_steer(
     Ok(())
 }
 
-/// The line of an event that has these before it, and this cause.
+/// The line of an event with this cause, which comes after these events.
 pub(crate) fn write_event(
     line: &mut String,
     versions: &[Version],
@@ -178,7 +178,7 @@ fn write_note(line: &mut String, number: u32) -> Result<(), AllocError>
     writeln!(line, "note record {number} cut short")
 }
 
-/// The note on the record that is cut short, where there is one.
+/// The note on the record that is cut short, if there is one.
 pub(crate) fn write_cut(line: &mut String, cut: Option<u32>) -> Result<(), AllocError>
     ensures { OnOk result
         (string_bytes line.new ≡ string_bytes line.old ++ report.note_line cut) }

@@ -6,10 +6,12 @@ ghost use Rattle.std.specs.Ordering.{nat_cmp};
 ghost use Rattle.bm_table.specs.Planned.{Planned};
 ghost use Rattle.bm_table.specs.Tables as tables;
 ghost use Rattle.bm_trace.specs.Inside.Movers.{IsSplit, add_once, is_last, movers, numbers};
-ghost use Rattle.bm_trace.specs.Inside.Movers.{with_moves};
+ghost use Rattle.bm_trace.specs.Inside.Movers.{stamp_back, with_moves};
+ghost use Rattle.bm_base.specs.Labels.{onward};
+ghost use Rattle.std.specs.Option.{option_map};
 
 use crate::entries::moment_of;
-use bm_base::{Moment, Version};
+use bm_base::{Hop, Moment, Version};
 use bm_table::{Move, Plan};
 use std::alloc::{AllocError, Global};
 use std::collections::BTreeMap;
@@ -30,11 +32,11 @@ fn add_once(changes: &mut Vec<u32>, change: u32) -> Result<(), AllocError>
     Ok(())
 }
 
-/// Whether the first number is above the second by 2 or more.
-fn is_two_above(after: usize, before: usize) -> bool
-    ensures { result ≡ nat_le 2 (after - before) }
+/// Whether `after` is above `before` by 3 or more.
+fn is_three_above(after: usize, before: usize) -> bool
+    ensures { result ≡ nat_le 3 (after - before) }
 {
-    before < after && 2 <= after - before
+    before < after && 3 <= after - before
 }
 
 /// How many of the changes are below this one.
@@ -64,7 +66,7 @@ impl Movers {
         }
     }
 
-    /// Takes the bucket's list away.
+    /// Takes the bucket's list out.
     fn take(&mut self, alloc: Global, bucket: u32) -> Vec<u32>
         ensures list { result.items ≡ numbers (tree.get nat_cmp self.old.lists bucket) }
         ensures others { (q : ℕ) → (bucket == q) ≡ false
@@ -108,7 +110,7 @@ impl Movers {
         Ok(())
     }
 
-    /// Takes note of the change that leads from this version to the next.
+    /// Records the change that leads from this version to the next.
     #[tactic(auto, using(crate::proofs::Moved::movers_same))]
     fn note(&mut self, alloc: Global, plan: &Plan, change: u32) -> Result<(), AllocError>
         requires { (q : ℕ)
@@ -123,7 +125,7 @@ impl Movers {
         Ok(())
     }
 
-    /// Those of the plan.
+    /// The changes of the plan that move each bucket.
     pub(crate) fn new(alloc: Global, plan: &Plan) -> Result<Movers, AllocError>
         ensures { IfOk result (λ m. AreMovers plan.now m) }
     {
@@ -151,28 +153,43 @@ impl Movers {
         rank(self.get(bucket), version)
     }
 
-    /// The moment of the last change up to the version that moves the bucket, or 0.
-    pub(crate) fn stamp(&self, plan: &Plan, bucket: u32, version: u32) -> Moment
+    /// The stamp of the server to which a copy of this hop may be passed on by the version's table,
+    /// if there is one: the moment of the last change that moves the bucket, or of the one before.
+    pub(crate) fn stamp(&self, plan: &Plan, bucket: u32, version: u32, hop: Hop) -> Option<Moment>
         requires { AreMovers plan.now self.now }
-        ensures { result.0 ≡ (tables.table plan.now version bucket).stamp.0 }
+        ensures { option_map (λ m. m.0) result
+            ≡ option_map (λ p. p.stamp.0) (onward (tables.table plan.now version bucket) hop) }
     {
-        let changes = self.get(bucket);
-        let passed = rank(changes, version);
-        if passed == 0 {
-            Moment(0)
-        } else {
-            moment_of(plan.next_change(Version(changes[passed - 1])))
+        match hop {
+            Hop::Direct => self.nth_back(plan, bucket, version, 0),
+            Hop::Chained => self.nth_back(plan, bucket, version, 1),
+            Hop::Twice => None,
         }
     }
 
-    /// Whether two or more of the changes from `since + 1` to `version` move the bucket.
-    #[tactic(auto, using(crate::proofs::Moved::moved_twice))]
-    pub(crate) fn moves_twice(&self, plan: &Plan, bucket: u32, since: u32, version: u32) -> bool
+    /// The moment of one of the changes up to the version that move the bucket, if there are
+    /// enough: the last of them for `others` 0, the one before it for 1.
+    fn nth_back(&self, plan: &Plan, bucket: u32, version: u32, others: usize) -> Option<Moment>
+        requires { AreMovers plan.now self.now }
+        ensures { option_map (λ m. m.0) result
+            ≡ stamp_back plan.now (movers plan.now bucket version) others }
+    {
+        let changes = self.get(bucket);
+        let passed = rank(changes, version);
+        if passed <= others {
+            return None;
+        }
+        Some(moment_of(plan.next_change(Version(changes[passed - 1 - others]))))
+    }
+
+    /// Whether three or more of the changes from `since + 1` to `version` move the bucket.
+    #[tactic(auto, using(crate::proofs::Moved::moved_thrice))]
+    pub(crate) fn moves_thrice(&self, plan: &Plan, bucket: u32, since: u32, version: u32) -> bool
         requires kept { AreMovers plan.now self.now }
         requires order { since ≤ version }
-        ensures { result ≡ nat_le 2 (tables.moves plan.now bucket since version) }
+        ensures { result ≡ nat_le 3 (tables.moves plan.now bucket since version) }
     {
-        is_two_above(
+        is_three_above(
             self.passed(plan, bucket, version),
             self.passed(plan, bucket, since),
         )

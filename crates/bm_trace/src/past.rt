@@ -1,4 +1,5 @@
-//! What the events before a place of a history say. A past is a slice with its newest event last.
+//! What follows from the events before a place of a history. A past is a slice with its newest
+//! event last.
 #![tactic(auto, using(crate::proofs::Newest::reverse_last))]
 
 ghost use Rattle.std.specs.Prelude.{◌≡◌, length, reverse, MatchOption, Some};
@@ -18,7 +19,6 @@ pub(crate) fn same_flow(a: &Flow, b: &Flow) -> bool
     a.src == b.src && a.dst == b.dst && a.sport == b.sport && a.dport == b.dport
 }
 
-/// Whether the packet is of this flow.
 pub(crate) fn is_of(stage: &Stage, packet: u32, flow: &Flow) -> bool
     ensures { result ≡ past.is_of (past.segment_of stage.now packet) flow.now }
 {
@@ -152,11 +152,11 @@ pub(crate) struct Owner {
     pub(crate) server: ServerId,
     /// The version that steered the packet that was accepted.
     pub(crate) version: u32,
-    /// How many events stand before the Accept.
+    /// How many events came before the Accept.
     pub(crate) place: usize,
 }
 
-/// What is known of a packet by its Steer.
+/// What is known of a packet from its Steer.
 #[derive(Clone, Copy)]
 pub(crate) struct Sent {
     pub(crate) mux: MuxId,
@@ -178,7 +178,7 @@ fn owner_before(stage: &Stage, events: &[Event], packet: u32) -> Option<Owner>
     })
 }
 
-/// What is known of the packet by its last Steer.
+/// What is known of the packet from its last Steer.
 pub(crate) fn sent_of(stage: &Stage, events: &[Event], packet: u32) -> Option<Sent>
     ensures { IsSent stage.now (reverse events.now) packet result }
 {
@@ -190,7 +190,6 @@ pub(crate) fn sent_of(stage: &Stage, events: &[Event], packet: u32) -> Option<Se
     })
 }
 
-/// The server of the owner.
 pub(crate) fn owner_server(sent: Option<Sent>) -> Option<ServerId>
     ensures { result ≡ option_map (λ a. a.server) (owner_from sent) }
 {

@@ -46,7 +46,7 @@ pub(crate) struct Ending {
     pub(crate) end: End,
 }
 
-/// The end of a copy, where the event is one.
+/// The end of a copy, if the event is one.
 pub(crate) fn ending_of(what: &What) -> Option<Ending>
     ensures { MatchOption result
         ((k : ℕ) → report.end_words what.now k ≡ [])
@@ -71,7 +71,7 @@ pub(crate) fn ending_of(what: &What) -> Option<Ending>
     }
 }
 
-/// An end, each word behind a space.
+/// An end, each word after a space.
 #[tactic(auto, using(crate::proofs::Spacing::named_is))]
 fn write_end(line: &mut String, end: End) -> Result<(), AllocError>
     ensures { OnOk result
@@ -87,7 +87,7 @@ fn write_end(line: &mut String, end: End) -> Result<(), AllocError>
     Ok(())
 }
 
-/// The later ends of a packet, each word behind a space.
+/// The later ends of a packet, each word after a space.
 #[tactic(auto, using(crate::proofs::Spacing::spaced_more))]
 fn write_later(line: &mut String, ends: &[End]) -> Result<(), AllocError>
     ensures { OnOk result
@@ -99,7 +99,7 @@ fn write_later(line: &mut String, ends: &[End]) -> Result<(), AllocError>
     Ok(())
 }
 
-/// The first end of a packet, where it has one, each word behind a space.
+/// The first end of a packet, if it has one, each word after a space.
 fn write_first(line: &mut String, first: Option<End>) -> Result<(), AllocError>
     ensures { OnOk result
         (string_bytes line.new ≡ string_bytes line.old ++ words.spaced (words_of_option first)) }
@@ -110,7 +110,7 @@ fn write_first(line: &mut String, first: Option<End>) -> Result<(), AllocError>
     }
 }
 
-/// The ends of a packet, each word behind a space.
+/// The ends of a packet, each word after a space.
 fn write_ends(line: &mut String, first: Option<End>, later: &[End]) -> Result<(), AllocError>
     ensures { OnOk result (string_bytes line.new
         ≡ string_bytes line.old ++ words.spaced (words_of_ends (with_later first later.now))) }
@@ -120,7 +120,7 @@ fn write_ends(line: &mut String, first: Option<End>, later: &[End]) -> Result<()
     Ok(())
 }
 
-/// Why a record isn't steered, each word behind a space.
+/// Why a record isn't steered, each word after a space.
 fn write_reason(line: &mut String, reason: Reason) -> Result<(), AllocError>
     ensures { OnOk result (string_bytes line.new ≡ string_bytes line.old
         ++ words.spaced (codes "unsteered" ∷ words.reason_word reason ∷ [])) }

@@ -1,4 +1,4 @@
-//! What stands behind the lines of a report's events.
+//! What comes after the lines of a report's events.
 ghost use Rattle.std.specs.Prelude.{◌≡◌, ◌+◌, IfOk, reverse, string_bytes};
 ghost use Rattle.bm_trace.specs.Ranges.{HasRanges};
 ghost use Rattle.bm_trace.specs.Report as report;
@@ -11,7 +11,7 @@ use crate::sums::Totals;
 use bm_core::History;
 use std::alloc::{AllocError, Global};
 
-/// What stands behind the lines of the events, but for the note.
+/// What comes after the lines of the events, except the note.
 #[derive(Drop)]
 pub(crate) struct Rest {
     /// The lines of all records.
@@ -19,7 +19,6 @@ pub(crate) struct Rest {
     pub(crate) sums: Totals,
 }
 
-/// The lines of all records.
 fn lines_of_records(alloc: Global, h: &History) -> Result<String, AllocError>
     requires { HasRanges h.now.stage }
     ensures { IfOk result (λ lines. string_bytes lines

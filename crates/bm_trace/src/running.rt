@@ -1,4 +1,4 @@
-//! What is kept of the events while their causes are found.
+//! What is kept of the events, so that their causes can be found.
 ghost use Rattle.std.specs.Prelude.{◌≡◌, ◌-◌, ◌<◌, ◌==◌, List, reverse, OnOk};
 ghost use Rattle.std.specs.Prelude.{IfOk, Some, None, if◌then◌else◌, slice_set, []};
 ghost use Rattle.std.specs.Prelude.{◌∷◌};
@@ -58,7 +58,7 @@ impl Accepts {
         Ok(())
     }
 
-    /// Takes note of an Accept of the segment's flow.
+    /// Records an Accept of the segment's flow.
     fn put_for(&mut self, segment: Option<Segment>, owner: Owner) -> Result<(), AllocError>
         ensures { OnOk result ((q : Flow) → owner_in self.new q
             ≡ (if past.is_of segment q then Some owner
@@ -96,7 +96,7 @@ impl Running {
     ghost use Rattle.bm_trace.specs.Inside.Running.{Keeps};
     ghost use Rattle.bm_trace.specs.Inside.Sent.{IsSent};
 
-    /// Before the first event, with so many muxes and packets.
+    /// What is kept before the first event, for this many muxes and packets.
     pub(crate) fn new(alloc: Global, muxes: usize, packets: usize) -> Result<Running, AllocError>
         ensures { (stage : Stage) → IfOk result (λ r. Keeps stage [] r) }
     {
@@ -216,7 +216,7 @@ impl Running {
         }
     }
 
-    /// Takes note of the event that comes after these.
+    /// Records the event that comes after these.
     pub(crate) fn note(
         &mut self,
         stage: &Stage,

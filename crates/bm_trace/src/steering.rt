@@ -1,4 +1,4 @@
-//! What is known of a packet by its Steer, in little room.
+//! What is known of a packet from its Steer, in little memory.
 ghost use Rattle.std.specs.Prelude.{◌≡◌};
 
 use crate::past::{Owner, Sent};
@@ -8,13 +8,13 @@ use std::marker::Model;
 #[derive(Clone, Copy)]
 enum Steering {
     Unsteered,
-    /// Where the packet's flow has no owner.
+    /// The packet's flow has no owner.
     First(MuxId, Version),
     Owned(MuxId, Version, Owner),
 }
 
 /// What is known of a packet, which contracts see as an `Option<Sent>`. It takes 24 octets, where
-/// that would take 40.
+/// an `Option<Sent>` would take 40.
 #[derive(Clone, Drop)]
 pub(crate) struct Packed {
     steering: Steering,

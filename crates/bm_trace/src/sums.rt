@@ -1,9 +1,9 @@
 //! What the last line of a report says.
 
-/// How many packets, and what became of them. Packets, steered and unsteered count records;
-/// accepted, processed, forwarded, reset and dropped count arrivals by their verdict; lost counts
-/// copies that were lost. Strays are among the processed.
-#[derive(Clone, Copy, Debug, PartialEq, Eq)]
+/// How many packets there are, and what became of them. Packets, steered and unsteered count
+/// records; accepted, processed, forwarded, reset and dropped count arrivals by their verdict; lost
+/// counts sendings without copies. Strays are among the processed.
+#[derive(Clone, Copy, PartialEq, Eq)]
 pub struct Totals {
     pub packets: u64,
     pub steered: u64,

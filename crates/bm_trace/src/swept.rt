@@ -1,4 +1,4 @@
-//! One sweep over a history, for the causes of all its events.
+//! One sweep over a history, which finds the causes of all its events.
 ghost use Rattle.std.specs.Prelude.{suc, ◌^◌, if◌then◌else◌, ◌≡◌, ◌&&◌, ◌<◌, ℕ, List, length};
 ghost use Rattle.std.specs.Prelude.{reverse, OnOk, IfOk, None, is_some, [], ◌+◌, ◌≤◌};
 ghost use Rattle.std.specs.Prelude.{take};
@@ -20,7 +20,7 @@ use bm_core::{Cause, History, Verdict, What};
 use std::alloc::{AllocError, Global};
 use std::marker::Model;
 
-/// The cause of each event of a history, where it has one.
+/// The cause of each event of a history, if it has one.
 #[derive(Drop)]
 pub struct CauseList {
     causes: Vec<Option<Cause>>,
@@ -52,12 +52,12 @@ impl CauseList {
         CauseList { causes }
     }
 
-    /// What its memory is taken from.
+    /// The allocator of its memory.
     pub(crate) fn allocator(&self) -> Global {
         *self.causes.allocator()
     }
 
-    /// The cause of the event at this place, where it has one. Takes no memory.
+    /// The cause of the event at this place, if it has one. Takes no memory.
     pub fn at(&self, place: usize) -> Option<Cause>
         ensures { result ≡ cause_in self.now place }
     {
@@ -78,7 +78,7 @@ fn is_stray(what: &What, cause: Option<Cause>) -> bool
     }
 }
 
-/// One more, where the event is a stray.
+/// One more, if the event is a stray.
 fn counted(count: u64, stray: bool) -> u64
     requires { suc count < 2 ^ 64 }
     ensures { result ≡ (if stray then suc count else count) }
@@ -96,7 +96,7 @@ pub(crate) struct Sweeper {
 impl Sweeper {
     ghost use Rattle.bm_trace.specs.Inside.Swept.{HasSwept};
 
-    /// Before the first event.
+    /// What is known before the first event.
     pub(crate) fn new(alloc: Global, h: &History) -> Result<Sweeper, AllocError>
         ensures { IfOk result (HasSwept h.now 0) }
     {
@@ -122,7 +122,7 @@ impl Sweeper {
         self.strays
     }
 
-    /// The cause of the next event, which stands at this place.
+    /// The cause of the next event, which is at this place.
     fn pass(
         &mut self,
         alloc: Global,

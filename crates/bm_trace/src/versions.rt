@@ -8,7 +8,7 @@ use bm_base::{MuxId, Version};
 use bm_core::{Event, What};
 use std::alloc::{AllocError, Global};
 
-/// Version 0 for each of so many muxes.
+/// Version 0 for each of this many muxes.
 pub(crate) fn no_versions(alloc: Global, muxes: usize) -> Result<Vec<Version>, AllocError>
     ensures { IfOk result (λ versions. AreVersions [] versions.items) }
 {
@@ -37,7 +37,7 @@ pub(crate) fn set_version(versions: &mut Vec<Version>, mux: MuxId, version: Vers
     }
 }
 
-/// Takes note of what happens next.
+/// Records what happens next.
 pub(crate) fn note_version(versions: &mut Vec<Version>, what: &What)
     ensures { versions.new.items ≡ versions_after what.now versions.old.items }
 {

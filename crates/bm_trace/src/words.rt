@@ -14,6 +14,7 @@ pub(crate) fn hop_word(hop: Hop) -> &'static str
     match hop {
         Hop::Direct => "direct",
         Hop::Chained => "chained",
+        Hop::Twice => "twice",
     }
 }
 
@@ -24,10 +25,11 @@ pub(crate) fn hop_text(hop: Hop) -> &'static str
     match hop {
         Hop::Direct => " direct ",
         Hop::Chained => " chained ",
+        Hop::Twice => " twice ",
     }
 }
 
-/// The words of a packet that is processed, each behind a space.
+/// The words of a packet that is processed, each after a space.
 pub(crate) fn process_text(taken: Taken) -> &'static str
     ensures { result.now ≡ words.spaced (words.verdict_words (Process taken)) }
 {
@@ -62,7 +64,7 @@ pub fn cause_word(cause: Cause) -> &'static str
         Cause::NeverAccepted => "never-accepted",
         Cause::NotHeld => "not-held",
         Cause::StaleMux => "stale-mux",
-        Cause::MovedTwice => "moved-twice",
+        Cause::MovedThrice => "moved-thrice",
         Cause::ChainLate => "chain-late",
         Cause::SynElsewhere => "syn-elsewhere",
         Cause::Full => "full",
@@ -90,7 +92,7 @@ pub(crate) fn reason_word(reason: Reason) -> &'static str
     }
 }
 
-/// The words of a verdict, each behind a space.
+/// The words of a verdict, each after a space.
 #[derive(Clone, Copy)]
 pub struct VerdictWords(pub Verdict);
 
@@ -108,7 +110,7 @@ impl fmt::Display for VerdictWords {
     }
 }
 
-/// The words of a cause, each behind a space, or nothing.
+/// The words of a cause, each after a space, or nothing.
 #[derive(Clone, Copy)]
 pub struct BecauseWords(pub Option<Cause>);
 
@@ -123,7 +125,7 @@ impl fmt::Display for BecauseWords {
     }
 }
 
-/// The words of the answer to a wish to retire, each behind a space.
+/// The words of the answer to a request to retire, each after a space.
 #[derive(Clone, Copy)]
 pub struct RetirementWords(pub Retirement);
 
@@ -156,7 +158,7 @@ impl fmt::Display for Endpoint {
     }
 }
 
-/// A name and a number, each behind a space.
+/// A name and a number, each after a space.
 #[derive(Clone, Copy)]
 pub(crate) struct Counted(pub(crate) &'static str, pub(crate) u64);
 

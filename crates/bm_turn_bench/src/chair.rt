@@ -1,4 +1,4 @@
-//! A seat beside its turnstile.
+//! A seat with its turnstile.
 ghost use Rattle.std.specs.Prelude.{◌≡◌, ◌<◌, All, length, IfOk};
 ghost use Rattle.std.specs.Arc.{arc_value};
 
@@ -9,7 +9,7 @@ use bm_turnstile::{TurnSeat, Turnstile};
 use std::alloc::Global;
 use std::sync::{Arc, Wait};
 
-/// A seat, its turnstile, and how many turns it made.
+/// A seat, its turnstile, and how many turns the seat made.
 #[derive(Drop)]
 pub struct Chair {
     turnstile: Arc<Turnstile<Tally>, Global>,
@@ -20,7 +20,7 @@ pub struct Chair {
 }
 
 impl Chair {
-    /// Makes a turn, and says whether it was answered.
+    /// Makes a turn; returns whether it was answered.
     pub fn turn<R: Wait>(&mut self, rt: &R, call: u32) -> bool {
         if self.turns == u32::MAX {
             return false;
@@ -35,7 +35,6 @@ impl Chair {
     }
 }
 
-/// A chair for each of these seats.
 fn chairs_of(
     alloc: Global,
     turnstile: &Arc<Turnstile<Tally>, Global>,

@@ -13,7 +13,7 @@ use crate::worker::make_turns;
 use std::env;
 use std::process::ExitCode;
 
-/// The three words, where they are numbers.
+/// The three words, if they are numbers.
 fn read_words(rt: &HostRuntime) -> Option<(u16, u16, u32)> {
     let mut words = env::args(rt).ok()?.skip(1);
     let threads = words.next()?.parse().ok()?;

@@ -51,7 +51,7 @@ fn make_workers(alloc: Global, threads: u16, turnstiles: u16) -> Result<Vec<Work
     Ok(workers)
 }
 
-/// How many turns were answered, where each of these threads makes so many.
+/// How many turns were answered, if each of these threads makes this many.
 pub fn make_turns<R: Threads + Wait + Sync>(
     rt: &R,
     alloc: Global,

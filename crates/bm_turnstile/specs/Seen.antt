@@ -28,8 +28,8 @@ module _ {E : Type 0} (seat_of : E → ℕ) where
     pub seen : new.seen ≡ old.seen ++ between
     pub quiet : own old.number between ≡ []
 
-  -- the seat has seen all that it had seen, then entries of others, and then one of its own with
-  -- this call, whose reply is that after the entries before it
+  -- the seat has seen what it had seen before, then entries of others, and then one of its own with
+  -- this call; the reply is the one after the entries before that
   pub record Turned {X C R : Type 0} (call_of : E → C) (reply_of : X → List E → ℕ → C → R)
       (old new : Sitting X E) (call : C) (reply : R) : Type 0 where
     pub about : X

@@ -5,8 +5,8 @@ use Rattle.bm_turnstile.specs.Sittings.{Sitting}
 
 module _ {X E C R : Type 0} (seat_of : E → ℕ) (call_of : E → C)
     (reply_of : X → List E → ℕ → C → R) where
-  -- the calls under the number n among these entries, which come after others, each with its reply
-  -- after all entries before it
+  -- the calls under the number n among these entries, which come after `before`, each with its
+  -- reply after all entries before it
   abbrev pub told_after : X → ℕ → List E → List E → List (C × R)
   told_after about n before [] = []
   told_after about n before (e ∷ es) =

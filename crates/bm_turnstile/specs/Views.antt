@@ -99,7 +99,7 @@ module _ {X E : Type 0} where
   SeatsFrom m [] = Unit {0}
   SeatsFrom m (s ∷ ss) = (s.number ≡ m) × SeatsFrom (suc m) ss
 
-  -- so do these, and they have made no turn and seen nothing
+  -- the same, for seats that have made no turn and seen nothing
   abbrev pub NewFrom : X → ℕ → List (Sitting X E) → Type 0
   NewFrom about m [] = Unit {0}
   NewFrom about m (s ∷ ss) =

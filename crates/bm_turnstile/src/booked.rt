@@ -4,17 +4,17 @@ ghost use Rattle.bm_turnstile.specs.Seen.{Adds};
 
 use bm_base::Memory;
 
-/// A state that keeps a book of its calls: an entry for each that was made, in their order. What a
-/// call is replied follows from the state's fixed data and from the entries before it.
+/// A state that keeps a book of its calls: an entry for each that was made, in their order. The
+/// reply to a call follows from the state's fixed data and from the entries before it.
 pub trait Booked {
     type Call;
 
     type Reply;
 
-    /// What no call changes. Contracts alone speak of it.
+    /// What no call changes. Only contracts use it.
     type Fixed;
 
-    /// A call that was made, and the seat that made it. Contracts alone speak of it.
+    /// A call that was made, and the seat that made it. Only contracts use it.
     type Entry;
 
     // the fixed data
@@ -32,7 +32,7 @@ pub trait Booked {
     // which calls the state takes
     ghost takes: { Self.Fixed → Self.Call → Type 0 };
 
-    // what a seat's call is replied after these entries
+    // the reply to a seat's call after these entries
     ghost reply: { Self.Fixed → List Self.Entry → ℕ → Self.Call → Self.Reply };
 
     // each entry is what its call makes of the entries before it

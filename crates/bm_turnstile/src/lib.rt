@@ -1,6 +1,6 @@
-//! A turnstile: threads call one state, one call at a time, in the order of their tickets. The
-//! state keeps a book of its calls, and contracts tell of each thread's seat which of them it has
-//! seen.
+//! A turnstile, which is a ticket lock: threads call one state, one call at a time, in the order of
+//! their tickets. The state keeps a book of its calls, and contracts say which of them each
+//! thread's seat has seen.
 #![tactic(auto)]
 
 mod booked;

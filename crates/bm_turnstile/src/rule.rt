@@ -11,7 +11,7 @@ use std::snapshot::Snapshot;
 /// A seat's place at the table.
 pub type Place<T> = Seat<Option<T>, View<<T as Booked>::Fixed, <T as Booked>::Entry>>;
 
-/// What is kept between any two steps.
+/// What holds between any two steps.
 pub struct TicketRule<T> {
     state: PhantomData<T>,
 }
@@ -29,7 +29,7 @@ impl<T, X, E> Play<Option<T>, View<X, E>> for Draw {
     ghost then = { Draws };
 }
 
-/// The number of the ticket that is served is read, and the state is taken where it is the seat's.
+/// The number of the ticket being served is read; if it is the seat's, the state is taken.
 pub struct Look<T> {
     state: PhantomData<T>,
 }

@@ -17,11 +17,12 @@ use std::alloc::Global;
 use std::snapshot::Snapshot;
 use std::sync::Wait;
 
-/// How often a thread looks before it sleeps: some 10 microseconds, for a turn takes less than one.
-/// It doesn't pause in between, since a virtual machine may take the processor from one that does.
+/// How often a thread looks before it sleeps: about 10 microseconds, as a turn takes less than one.
+/// It doesn't pause in between, since a virtual machine may take the processor from a thread that
+/// does.
 const LOOKS: u32 = 5_000;
 
-/// Word 0 is the next ticket, word 1 the one that is served, and the only slot has the state.
+/// Word 0 is the next ticket, word 1 the one being served, and the only slot has the state.
 #[derive(Drop)]
 pub struct Tickets<T: Booked + Drop> {
     pub table: Table<Option<T>, View<T::Fixed, T::Entry>, Snapshot<T>, TicketRule<T>, Global>,
@@ -38,7 +39,7 @@ fn alone<S: Drop>(alloc: Global, item: S) -> Result<Vec<S>, Memory>
 
 impl<T: Booked + Drop> Tickets<T> {
     /// The tickets of a state, and the first seat's place. `Memory` where memory was refused; the
-    /// state is given up.
+    /// state is then dropped.
     pub(crate) fn open(alloc: Global, state: T) -> Result<(Tickets<T>, Place<T>), Memory>
         requires empty { T.entries state ≡ [] }
         requires replays { T.replays (T.fixed state) [] }
@@ -81,7 +82,7 @@ impl<T: Booked + Drop> Tickets<T> {
         self.table.shared.fetch_add::<Draw>(seat, 0, 1)
     }
 
-    // Looks whether the ticket is served, a few times, and takes the state where it is.
+    // Looks a few times whether the ticket is served, and takes the state if it is.
     fn look(&self, seat: &mut Place<T>, ticket: u64) -> bool
         requires own { seat.old.table_id ≡ self.now.table.shared.table_id }
         requires waits { seat.old.me.0.stage ≡ Waiting ticket }
@@ -118,8 +119,8 @@ impl<T: Booked + Drop> Tickets<T> {
         unreachable!()
     }
 
-    // Gives the state back, and serves the next ticket. Only where that was drawn may a thread wait
-    // for it.
+    // Gives the state back, and serves the next ticket. A thread can wait for it only if it was
+    // drawn.
     fn hand_on(&self, seat: &mut Place<T>, ticket: u64, state: T)
         requires own { seat.old.table_id ≡ self.now.table.shared.table_id }
         requires small { ticket + 1 < 2 ^ 48 }
@@ -169,7 +170,7 @@ impl<T: Booked + Drop> Tickets<T> {
         answer
     }
 
-    /// The first seat takes over what another has seen, which is given back.
+    /// The first seat takes over what another has seen; the other is given back.
     pub(crate) fn join(&self, first: &mut Place<T>, other: Place<T>)
         requires own { first.old.table_id ≡ self.now.table.shared.table_id }
         requires idle { IsIdle first.old.me.0 }

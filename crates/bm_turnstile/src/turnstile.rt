@@ -35,9 +35,8 @@ impl<T: Booked + Drop> Model for Turnstile<T> {
 }
 
 impl<T: Booked + Drop> Turnstile<T> {
-    /// A turnstile round a state with an empty book, and so many seats, numbered from 0, which have
-    /// seen nothing.
-    /// `Memory` where memory was refused; the state is then given up.
+    /// A turnstile for a state with an empty book, and `seats` seats, numbered from 0, which have
+    /// seen nothing. `Memory` where memory was refused; the state is then dropped.
     pub fn new(
         alloc: Global,
         state: T,
@@ -80,10 +79,10 @@ impl<T: Booked + Drop> Turnstile<T> {
         Ok((Turnstile { tickets }, rest))
     }
 
-    /// Makes a call from a seat, once the seat's ticket is served; it waits for that. After `Ok`
-    /// the seat has seen all that it had seen, then calls of other seats, and then its own, and the
-    /// reply is what the book gives after the entries before that. `Memory` where memory was
-    /// refused; no call was made, and the seat may have seen more.
+    /// Waits until the seat's ticket is served, and makes the call. After `Ok` the seat has seen
+    /// what it had seen before, then calls of other seats, and then its own; the reply is what the
+    /// book gives after the entries before that. `Memory` where memory was refused; no call was
+    /// made, and the seat may have seen more.
     pub fn turn<R: Wait>(
         &self,
         rt: &R,
@@ -103,8 +102,8 @@ impl<T: Booked + Drop> Turnstile<T> {
         self.tickets.turn(rt, &mut seat.place, number, call)
     }
 
-    /// The state, once all seats are back, in the order of their numbers. What each seat had seen
-    /// is a prefix of the book's entries, and the book says of each seat what it was told.
+    /// Takes all seats back, in the order of their numbers, and returns the state. What each seat
+    /// had seen is a prefix of the book's entries, and the book has what each seat was told.
     pub fn close(self, seats: Vec<TurnSeat<T>>) -> T
         requires some { 0 < length seats.items }
         requires each { (k : ℕ) (s : _) → slice_get seats.items k ≡ Some s

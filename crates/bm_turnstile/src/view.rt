@@ -1,7 +1,7 @@
 //! What the rule of the tickets says of each seat. No value of these types is made.
 use std::collections::LinkedList;
 
-/// Where a seat stands.
+/// A seat's stage.
 pub enum Stage<E> {
     /// It has no ticket.
     Idle,
@@ -28,6 +28,6 @@ pub struct View<X, E> {
     pub fixed: Option<X>,
     pub seen: LinkedList<E>,
     pub stage: Stage<E>,
-    /// What the seats had seen that were given back to this one.
+    /// What the seats that were given back to this one had seen.
     pub olds: LinkedList<Old<E>>,
 }

@@ -1,5 +1,5 @@
--- What the words ask for: `replay CAPTURE`, `replay CAPTURE SCRIPT`, `run CAPTURE SCRIPT` or
--- `load N`. A word that is empty or begins with `-` makes them no form.
+-- What the words ask for: `replay CAPTURE`, `replay CAPTURE SCRIPT`, `run CAPTURE SCRIPT` or `load
+-- N`. Words fit no form if a name in them is empty or begins with `-`.
 use Rattle.std.specs.Prelude.{ℕ, List, [], ◌∷◌, Bool, false, not, ◌&&◌, ◌==◌, if◌then◌else◌}
 use Rattle.std.specs.Prelude.{Option, Some, None, codes, map, option_and_then, option_map}
 use Rattle.std.specs.Prelude.{◌≤◌, string_bytes}
@@ -19,7 +19,7 @@ use Rattle.bm_words.specs.declared.words.Names.{Names}
 
 -- NAMES AND NUMBERS
 
--- the names of a capture and perhaps of a script
+-- the names of a capture and maybe of a script
 pub record Named : Type 0 where
   pub capture : List ℕ
   pub script : Option (List ℕ)
@@ -38,16 +38,16 @@ names_of (capture ∷ script ∷ []) =
     else None
 names_of _ = None
 
--- decimal digits, of which the first isn't 0
+-- decimal digits, the first of which isn't 0
 abbrev pub is_numeral : List ℕ → Bool
 is_numeral [] = false
 is_numeral (x ∷ xs) = not (x == 48) && list_all is_ascii_digit (x ∷ xs)
 
--- the number, where it is 1 to 20,000
+-- the number, if it is 1 to 20,000
 abbrev pub if_count : ℕ → Option ℕ
 if_count n = if is_in_range 1 20000 n then Some n else None
 
--- the number of connections that the word writes in decimal, without a sign or a leading zero
+-- the number of connections in the word: in decimal, without a sign or a leading zero
 unfoldable pub count_of : List ℕ → Option ℕ
 count_of word = if is_numeral word then if_count (digits_value 10 word) else None
 
@@ -73,7 +73,7 @@ abbrev pub asked_by : Verb → Named → Option Asked
 asked_by to_replay names = Some (Replay names)
 asked_by to_run names = run_of names
 
--- the command that the word is
+-- the command with this name
 abbrev pub verb_of : List ℕ → Option Verb
 verb_of word =
     if bytes_eq word (codes "replay") then Some to_replay
@@ -86,12 +86,12 @@ play_of [] = None
 play_of (word ∷ names) =
     option_and_then (λ verb. option_and_then (asked_by verb) (names_of names)) (verb_of word)
 
--- the connections of a load, where the words ask for one
+-- the connections of a load, if the words ask for one
 abbrev pub connections_of : List (List ℕ) → Option ℕ
 connections_of (word ∷ number ∷ []) = if bytes_eq word (codes "load") then count_of number else None
 connections_of _ = None
 
--- what the words ask for; None where they are of no form
+-- what the words ask for; None if they fit no form
 abbrev pub form_of : List (List ℕ) → Option Asked
 form_of words = option_or (option_map Load (connections_of words)) (play_of words)
 
@@ -99,7 +99,7 @@ form_of words = option_or (option_map Load (connections_of words)) (play_of word
 abbrev pub form_in : {A : Type 0} → List (String A) → Option Asked
 form_in words = form_of (map string_bytes words)
 
--- WHAT THE CODE ANSWERS, without where its texts lie
+-- WHAT THE CODE RETURNS, without where its texts are
 
 abbrev pub named : Names → Named
 named names = record {

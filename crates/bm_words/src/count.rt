@@ -4,8 +4,7 @@ ghost use Rattle.std.specs.Char.{is_ascii_digit};
 ghost use Rattle.std.specs.List.{list_all};
 ghost use Rattle.bm_words.specs.Form.{count_of, if_count, is_numeral};
 
-/// The number of connections that the word writes: 1 to 20,000, in decimal without a sign or a
-/// leading zero.
+/// The number of connections in the word: 1 to 20,000, in decimal without a sign or a leading zero.
 #[tactic(auto, unfolding(crate::specs::Form::count_of))]
 pub(crate) fn count_in(word: &str) -> Option<u32>
     ensures count { result ≡ count_of word.now }
@@ -16,12 +15,12 @@ pub(crate) fn count_in(word: &str) -> Option<u32>
     }
     match word.parse::<u32>() {
         Ok(n) => if_count(n),
-        // The number is larger than its type holds.
+        // The number is too large for its type.
         Err(_) => None,
     }
 }
 
-/// The number, where it is 1 to 20,000.
+/// The number, if it is 1 to 20,000.
 fn if_count(n: u32) -> Option<u32>
     ensures count { result ≡ if_count n }
     ensures range { IfSome result (λ n. (1 ≤ n) × (n ≤ 20000)) }
@@ -33,7 +32,7 @@ fn if_count(n: u32) -> Option<u32>
     }
 }
 
-/// Whether these are decimal digits, of which the first isn't 0.
+/// Whether these are decimal digits, and the first isn't 0.
 fn is_numeral(octets: &[u8]) -> bool
     ensures { result ≡ is_numeral octets.now }
 {

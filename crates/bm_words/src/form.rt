@@ -1,4 +1,4 @@
-//! The command that the words begin with, where they are of a form.
+//! The command with which the words begin, if they fit a form.
 ghost use Rattle.std.specs.Prelude.{◌≡◌, IfSome, None, is_some, map, string_bytes};
 ghost use Rattle.bm_words.specs.Form.{connections_of, is_name, play_of, verb_of};
 ghost use Rattle.bm_words.specs.Inside.Form.{IsVerbIn};
@@ -6,7 +6,7 @@ ghost use Rattle.bm_words.specs.Inside.Form.{IsVerbIn};
 use crate::count::count_in;
 
 /// A command that plays a capture.
-#[derive(Clone, Copy, Debug, PartialEq, Eq)]
+#[derive(Clone, Copy, PartialEq, Eq)]
 pub(crate) enum Verb {
     /// `replay CAPTURE [SCRIPT]`
     Replay,
@@ -24,7 +24,7 @@ pub(crate) fn is_load(words: &[String]) -> bool
     }
 }
 
-/// The command of the words, where they play a capture.
+/// The command of the words, if they play a capture.
 pub(crate) fn verb_in(words: &[String]) -> Option<Verb>
     ensures none { result ≡ None → play_of (map string_bytes words.now) ≡ None }
     ensures some { IfSome result (IsVerbIn (map string_bytes words.now)) }
@@ -41,7 +41,7 @@ pub(crate) fn verb_in(words: &[String]) -> Option<Verb>
     }
 }
 
-/// The command that the word is.
+/// The command with this name.
 fn command_named(word: &str) -> Option<Verb>
     ensures { result ≡ verb_of word.now }
 {

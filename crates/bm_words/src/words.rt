@@ -14,31 +14,31 @@ use clap::{Arg, ArgMatches, Command};
 use std::alloc::{AllocError, Global};
 
 /// What the words ask for.
-#[derive(Debug, Drop)]
+#[derive(Drop)]
 pub enum Form<'a> {
-    /// The replay of a capture, with a script or without one.
+    /// The replay of a capture, with or without a script.
     Replay(Names<'a>),
     /// The run of a capture in threads, with a script.
     Run { capture: &'a str, script: &'a str },
-    /// The run of a generated load of so many connections, 1 to 20,000.
+    /// The run of a generated load of this many connections, 1 to 20,000.
     Load { connections: u32 },
 }
 
-/// The names of a capture, and perhaps of a script. Both are names of files.
-#[derive(Debug, Drop)]
+/// The file names of a capture, and maybe of a script.
+#[derive(Drop)]
 pub struct Names<'a> {
     pub capture: &'a str,
     pub script: Option<&'a str>,
 }
 
-/// What the words ask for: `replay CAPTURE`, `replay CAPTURE SCRIPT`, `run CAPTURE SCRIPT` or
-/// `load N`, or nothing where they are of no form. A name isn't empty and doesn't begin with `-`. N
-/// is 1 to 20,000, in decimal without a sign or a leading zero. The words are without the program's
-/// own name. `AllocError` where memory was refused.
+/// What the words ask for: `replay CAPTURE`, `replay CAPTURE SCRIPT`, `run CAPTURE SCRIPT` or `load
+/// N`; None if they fit no form. A name isn't empty and doesn't begin with `-`. N is 1 to 20,000,
+/// in decimal without a sign or a leading zero. The words are without the program's own name.
+/// `AllocError` where memory was refused.
 pub fn read_words<'a>(alloc: Global, words: &'a [String]) -> Result<Option<Form<'a>>, AllocError>
     ensures form { IfOk result (λ form. option_map asked form ≡ form_in words.entry.now) }
     ensures range { IfOk result (λ form. IfSome form (λ f. HasCount (asked f))) }
-    // Words of no form take no memory.
+    // Words that fit no form take no memory.
     ensures memory { IfErr result (λ _. IsSome (form_in words.entry.now)) }
 {
     if is_load(words) {
@@ -66,7 +66,7 @@ fn with_names<'a>(verb: Verb, names: Names<'a>) -> Form<'a>
     }
 }
 
-/// The names behind the command, where the words play a capture.
+/// The names after the command, if the words play a capture.
 fn read_names<'a>(alloc: Global, words: &'a [String]) -> Result<Names<'a>, AllocError>
     requires { is_some (play_of (map string_bytes words.now)) ≡ true }
     ensures { IfOk result
@@ -85,7 +85,7 @@ fn read_names<'a>(alloc: Global, words: &'a [String]) -> Result<Names<'a>, Alloc
     })
 }
 
-/// The connections of a load, where the words ask for one.
+/// The connections of a load, if the words ask for one.
 fn read_connections(alloc: Global, words: &[String]) -> Result<u32, AllocError>
     requires { is_some (connections_of (map string_bytes words.now)) ≡ true }
     ensures connections { IfOk result (λ n. Some n ≡ connections_of (map string_bytes words.now)) }
@@ -104,7 +104,7 @@ fn read_connections(alloc: Global, words: &[String]) -> Result<u32, AllocError>
     Ok(count)
 }
 
-/// What the command that reads the words makes of those that it takes.
+/// The matches of the command that reads the words, for words that it accepts.
 fn matches_in<'a>(alloc: Global, words: &'a [String]) -> Result<ArgMatches<'a>, AllocError>
     requires { takes beamer (map string_bytes words.now) ≡ true }
     ensures { IfOk result (λ matches.
@@ -114,7 +114,7 @@ fn matches_in<'a>(alloc: Global, words: &'a [String]) -> Result<ArgMatches<'a>, 
     match command.try_get_matches_from(words) {
         Ok(matches) => Ok(matches),
         Err(e) if e.kind() == ErrorKind::OutOfMemory => Err(AllocError),
-        // They are taken.
+        // The words are accepted.
         Err(_) => unreachable!(),
     }
 }
@@ -131,7 +131,7 @@ fn command<'a>(alloc: Global) -> Result<Command<'a>, AllocError>
     with_connections(alloc, run)
 }
 
-/// The command with one more subcommand, of this name, that takes a capture and a script.
+/// The command with another subcommand, of this name, that takes a capture and a script.
 fn with_files<'a>(
     alloc: Global,
     command: Command<'a>,
@@ -147,7 +147,7 @@ fn with_files<'a>(
     Ok(more)
 }
 
-/// The command with one more subcommand, `load`, that takes a number.
+/// The command with another subcommand, `load`, that takes a number.
 fn with_connections<'a>(alloc: Global, command: Command<'a>) -> Result<Command<'a>, AllocError>
     ensures { IfOk result (λ more.
         app_of more ≡ with_subcommand (app_of command.entry) with_connections.top) }

@@ -1,9 +1,8 @@
 -- A batch among the deeds of a phase.
-use Rattle.std.proofs.Common.{◌≡◌, ℕ, ◌+◌, ◌<◌, ◌≤◌, ◌==◌, Bool, true, false}
+use Rattle.std.proofs.Common.{◌≡◌, ℕ, ◌+◌, ◌*◌, ◌^◌, ◌<◌, ◌≤◌, ◌==◌, Bool, true, false}
 use Rattle.std.proofs.Common.{cond, List, [], ◌∷◌, ◌++◌}
-use Rattle.std.proofs.Common.{length, reverse, Option, Some, None, refl, sym, ap, ◌∙◌}
+use Rattle.std.proofs.Common.{reverse, Option, Some, refl, sym, ap, ◌∙◌}
 use Rattle.std.proofs.Common.{append_assoc, arith, ltb}
-use Rattle.std.specs.Prelude.{IfSome}
 use Rattle.std.specs.List.{AllByRecursion}
 use Rattle.std.proofs.lemmas.Bool.{eq-eqb, ltb-false, lt-ltb}
 use Rattle.std.proofs.lemmas.Bool.{le-leb, and_from}
@@ -12,14 +11,13 @@ use Rattle.bm_base.specs.declared.fate.Fate.{Fate}
 use Rattle.bm_base.specs.declared.flow.Segment.{Segment}
 use Rattle.bm_base.specs.declared.ids.Moment.{Moment}
 use Rattle.bm_base.specs.declared.ids.MuxId.{MuxId}
-use Rattle.bm_base.specs.declared.ids.ServerId.{ServerId}
 use Rattle.bm_base.specs.declared.label.Hop.TheVariants.{Direct}
 use Rattle.bm_base.specs.declared.label.Label.{Label}
 use Rattle.bm_base.specs.declared.label.Tag.{Tag}
 use Rattle.bm_base.specs.Labels.{tag_for}
-use Rattle.bm_base.specs.Tags.{IsServer, IsTag}
+use Rattle.bm_base.specs.Tags.{IsTag}
 use Rattle.bm_hash.specs.Buckets.{bucket_of}
-use Rattle.bm_table.specs.Tables.{is_known, table}
+use Rattle.bm_table.specs.Tables.{table}
 use Rattle.bm_encap.specs.Spellings.{spelling}
 use Rattle.bm_core.specs.declared.events.Event.{Event}
 use Rattle.bm_core.specs.declared.events.Stage.{Stage}
@@ -41,7 +39,11 @@ use Rattle.bm_worker.specs.Deeds.{Suits}
 use Rattle.bm_worker.specs.Inside.Debts.{IsAmong}
 use Rattle.bm_worker.specs.Phases.{IsDeed, Stint, mux_for}
 use Rattle.bm_worker.specs.Assigned.{is_mux, is_assigned, assigned_mux}
-use Rattle.bm_worker.proofs.Known.{known_server, table_entry}
+use Rattle.bm_base.proofs.Entries.{tag_valid}
+use Rattle.bm_table.proofs.Tables.{early_entry}
+use Rattle.bm_encap.proofs.Spelled.{early_fits}
+use Rattle.bm_core.proofs.Moments.{change_early}
+use Rattle.bm_worker.proofs.Known.{known_cur, numbered_entry}
 use Rattle.bm_worker.proofs.Steering.{label_high}
 use Rattle.bm_worker.proofs.Steering.{steers_above}
 
@@ -207,18 +209,7 @@ label_made stage m v clock k s past version is =
 now_valid : (stage : Stage) (m : MuxId) (v : ℕ) (s : Segment) → IsSound stage → m.0 < 64
     → IsTag (tag_for (label_now stage m v s) Direct (label_now stage m v s).entry.cur)
 now_valid stage m v s sound few =
-    let entry = table_entry stage.script sound.script v (bucket stage s.flow) in
-    record {
-      dest = known_server stage.script sound.script _ _ entry.cur;
-      prev = known_prev (table stage.script.plan v (bucket stage s.flow)).prev entry.prev;
-      mux = few;
-      hop = entry.apart;
-      stamp = entry.unmoved;
-    } where
-      known_prev : (o : Option ServerId)
-          → IfSome o (λ x. is_known stage.script.plan (length stage.script.plan.changes) x ≡ true) → IfSome o IsServer
-      known_prev None is = tt
-      known_prev (Some x) is = known_server stage.script sound.script _ x is
+    tag_valid (label_now stage m v s) Direct _ (numbered_entry stage.script sound.script v (bucket stage s.flow)) few refl
 
 sent_one : (stage : Stage) (servers : List Serving) (mux : MuxState) (routes : List (Option MuxId)) (seen : Posted)
     (clock : ℕ) (i : MuxItem)
@@ -232,8 +223,7 @@ sent_one stage servers mux routes seen clock i sound suits few plan early item l
     let tag = tag_for l Direct l.entry.cur in
     let same : tag ≡ tag_by mux.id seen i.segment =
     ap (λ (x : Label). tag_for x Direct x.entry.cur) (sym (same_label stage mux.id seen i.segment sound plan)) in
-    let entry = table_entry stage.script sound.script v (bucket stage i.segment.flow) in
-    let has = suits.known l.entry.cur entry.cur in (
+    let has = suits.known l.entry.cur (known_cur stage.script sound.script v (bucket stage i.segment.flow)) in (
       has.0,
       record {
         segment = i.segment;
@@ -244,8 +234,9 @@ sent_one stage servers mux routes seen clock i sound suits few plan early item l
         tag = tag;
         tagged = refl;
         valid = now_valid stage mux.id v i.segment sound few;
-        stamp = let e = entry.early in omega (arith, e);
-        version = omega (arith, early);
+        fits = early_fits l Direct l.entry.cur (4 * 10 ^ 18) (omega arith)
+            (early_entry stage.script.plan (4 * 10 ^ 18) (change_early stage.script sound.script) v
+            (bucket stage i.segment.flow)) (omega (arith, early));
         inner = i.inner.now;
         spelled = ap (λ (t : Tag). spelling t i.inner.now) (sym same);
         reads = item.reads;

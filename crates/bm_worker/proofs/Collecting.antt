@@ -37,7 +37,7 @@ assigned_none routes m from k = elim (cases_lt from k) [
   | inr high ↦ rw (le-ltb from k high) refl
 ]
 
--- the packet behind the place is not the mux's
+-- the packet after the place is not the mux's
 assigned_skip : (routes : List (Option MuxId)) (m from at k : ℕ) → is_mux (assigned_mux routes (at + 1)) m ≡ false
     → is_assigned routes m from (at + 1) k ≡ is_assigned routes m from at k
 assigned_skip routes m from at k other = elim (cases_lt at k) [
@@ -196,18 +196,18 @@ mux_is m (Some n) is = ap (λ (x : ℕ). Some x) (eqb-true n m is)
 -- the packet of a record
 pub packet_of_record : (stage : Stage) (octets : List (List ℕ)) (at : ℕ) (s : Segment)
     → ArePackets stage.capture.records octets
-    → segment_of stage (at + 1) ≡ Some s → (length (slice_index_or octets at []) ≤ 65491)
+    → segment_of stage (at + 1) ≡ Some s → (length (slice_index_or octets at []) ≤ 65479)
     × ReadsAs (slice_index_or octets at []) s
 packet_of_record stage octets at s packets is =
     let e : at + 1 ≡ suc at = omega arith in
     of_record (slice_get stage.capture.records at) refl (ap (segment_of stage) (sym e) ∙ is) where
       of_body : (b : Body) (r : Record) → r.body ≡ b → slice_get stage.capture.records at ≡ Some r
           → steerable (Some r) ≡ Some s
-          → (length (slice_index_or octets at []) ≤ 65491) × ReadsAs (slice_index_or octets at []) s
+          → (length (slice_index_or octets at []) ≤ 65479) × ReadsAs (slice_index_or octets at []) s
       of_body (Steerable x) r body got some =
           let same : x ≡ s =
           same_Some x s (sym (ap (λ (b : Body). steerable (Some (record r { body = b }))) body) ∙ some) in
-          subst (λ (y : Segment). (length (slice_index_or octets at []) ≤ 65491)
+          subst (λ (y : Segment). (length (slice_index_or octets at []) ≤ 65479)
           × ReadsAs (slice_index_or octets at []) y) same
           (subst (λ (b : Body). IsPacketOf b (slice_index_or octets at [])) body (packets.each at r got))
       of_body (Unsteered why) r body got some =
@@ -216,6 +216,6 @@ packet_of_record stage octets at s packets is =
 
       of_record : (o : Option Record) → slice_get stage.capture.records at ≡ o
           → steerable (slice_get stage.capture.records at) ≡ Some s
-          → (length (slice_index_or octets at []) ≤ 65491) × ReadsAs (slice_index_or octets at []) s
+          → (length (slice_index_or octets at []) ≤ 65479) × ReadsAs (slice_index_or octets at []) s
       of_record None got some = absurd (let bad : None ≡ Some s = sym (ap steerable got) ∙ some in cc)
       of_record (Some r) got some = of_body r.body r refl got (sym (ap steerable got) ∙ some)

@@ -1,9 +1,9 @@
 -- The copies of a packet, as their servers read them and as they stand in what the seats were told.
 use Rattle.std.proofs.Common.{◌≡◌, ℕ, ◌==◌, ◌&&◌, Bool, true, false, cond, List, [], ◌∷◌, ◌++◌, Option, Some}
-use Rattle.std.proofs.Common.{None, Err}
+use Rattle.std.proofs.Common.{None}
 use Rattle.std.proofs.Common.{slice_get, reverse, refl, sym, ap, ◌∙◌, subst, option_map}
 use Rattle.std.specs.List.{AllByRecursion}
-use Rattle.std.proofs.lemmas.Bool.{eqb-true, eq-eqb}
+use Rattle.std.proofs.lemmas.Bool.{eqb-true}
 use Rattle.std.proofs.lemmas.Option.{same_Some}
 use Rattle.bm_base.specs.declared.ids.Moment.{Moment}
 use Rattle.bm_base.specs.declared.ids.MuxId.{MuxId}
@@ -12,8 +12,7 @@ use Rattle.bm_base.specs.declared.label.Hop.{Hop}
 use Rattle.bm_base.specs.declared.label.Label.{Label}
 use Rattle.bm_base.specs.declared.label.Tag.{Tag}
 use Rattle.bm_base.specs.Labels.{arrives_at, tag_for, tag_of}
-use Rattle.bm_tcp.specs.Packets.{segment_in}
-use Rattle.bm_encap.proofs.Spelled.{spelling_read}
+use Rattle.bm_encap.specs.Spellings.{spelling}
 use Rattle.bm_core.specs.declared.events.Event.{Event}
 use Rattle.bm_core.specs.declared.events.Stage.{Stage}
 use Rattle.bm_core.specs.declared.events.Verdict.{Verdict}
@@ -22,10 +21,10 @@ use Rattle.bm_mux.specs.Muxes.{MuxState}
 use Rattle.bm_shard.specs.declared.calls.ShardCall.{ShardCall}
 use Rattle.bm_shard.specs.declared.calls.ShardCall.TheVariants.{Arrive, Close, Retire}
 use Rattle.bm_shard.specs.declared.calls.ShardReply.TheVariants.{Arrived}
-use Rattle.bm_server.specs.Copies.{copy_in, of_header, of_packet}
+use Rattle.bm_shard.specs.Copies.{copy_in}
+use Rattle.bm_shard.proofs.Copies.{copy_spelled}
 use Rattle.bm_server.specs.Seats.{Answered, Seated}
 use Rattle.bm_server.specs.Servings.{Serving, shard_for}
-use Rattle.bm_server.specs.declared.fault.HandleFault.TheVariants.{NotMine}
 use Rattle.bm_worker.specs.Arrivals.{HasCome, IsCopy}
 use Rattle.bm_worker.specs.Deeds.{Suits}
 use Rattle.bm_worker.specs.Inside.Debts.{IsCopyOf}
@@ -44,12 +43,9 @@ tag_hop l hop tag is = of_hop (arrives_at l.entry hop) is where
 pub copy_reads : (stage : Stage) (servers : List Serving) (mux : MuxState) (place k : ℕ) (hop : Hop) (octets : List ℕ)
     (copy : IsCopyOf stage servers mux place k hop octets) → IsCopy copy.server octets (copy.tag, copy.segment)
 copy_reads stage servers mux place k hop octets copy =
-    let id = copy.server.id in
-    ap (copy_in id) copy.spelled
-    ∙ (ap (of_header id) (spelling_read copy.tag copy.inner copy.valid copy.stamp copy.version copy.short)
-    ∙ (ap (λ (b : Bool). cond b (of_packet copy.tag (segment_in copy.inner)) (Err NotMine))
-    (eq-eqb copy.tag.dest.0 id.0 (ap (λ (s : ServerId). s.0) copy.mine))
-    ∙ ap (of_packet copy.tag) copy.reads))
+    ap (copy_in copy.server.id) copy.spelled
+    ∙ (ap (λ (s : ServerId). copy_in s (spelling copy.tag copy.inner)) (sym copy.mine)
+    ∙ copy_spelled copy.tag copy.inner copy.segment copy.valid copy.fits copy.short copy.reads)
 
 -- MORE CALLS
 

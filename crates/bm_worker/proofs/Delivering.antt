@@ -150,7 +150,7 @@ abbrev pub HasDelivered : Rules → Stage → List Serving → List Steered → 
 HasDelivered F stage servers sents fates i old now =
     (stint : Stint) (deeds : List Note) (low : ℕ) → Kept F stage servers stint old deeds
     → AreOwed stint deeds low sents fates → AllByRecursion (λ y. IsUpTo low y.event.what) deeds
-    → (x : List Note) × Kept F stage servers stint now (x ++ deeds) × (length x ≤ 12 * i)
+    → (x : List Note) × Kept F stage servers stint now (x ++ deeds) × (length x ≤ 39 * i)
     × AllByRecursion (λ y. IsDelivery y.event.what) x
     × PaysFor (sent_notes (mux_for stint) (take i sents) (take i fates)) x
     × AllByRecursion (λ y. IsUpTo (last_sent low (take i sents)) y.event.what) x
@@ -179,7 +179,7 @@ pub delivered_more : (F : Rules) (stage : Stage) (servers : List Serving) (sents
     (old now step next : MuxWorker) → slice_get sents i ≡ Some t → slice_get fates i ≡ Some f → step.mux ≡ now.mux
     → step.porter ≡ now.porter
     → HasDelivered F stage servers sents fates i old now
-    → Carries F stage servers (debt t.packet Direct t.clock.0 f) 12 step next (Ok tt)
+    → Carries F stage servers (debt t.packet Direct t.clock.0 f) 39 step next (Ok tt)
     → HasDelivered F stage servers sents fates (i + 1) old next
 delivered_more F stage servers sents fates i t f old now step next at fate mux porter done carries =
     λ stint deeds low kept owed first.
@@ -218,7 +218,7 @@ pub delivers_stop : (F : Rules) (stage : Stage) (servers : List Serving) (sents 
     → slice_get sents i ≡ Some t → slice_get fates i ≡ Some f
     → step.mux ≡ now.mux → step.porter ≡ now.porter → IsErrAnd r (λ e. e ≡ stop)
     → HasDelivered F stage servers sents fates i old now
-    → Carries F stage servers (debt t.packet Direct t.clock.0 f) 12 step next (Err stop)
+    → Carries F stage servers (debt t.packet Direct t.clock.0 f) 39 step next (Err stop)
     → Delivers F stage servers sents fates old next r
 delivers_stop F stage servers sents fates i t f old now step next stop r inside at fate mux porter is done carries =
     λ stint deeds low kept owed first.
@@ -288,8 +288,7 @@ sent_copy stage servers n a b t place id grows sent at =
       tag = copy.tag;
       tagged = copy.tagged;
       valid = copy.valid;
-      stamp = copy.stamp;
-      version = copy.version;
+      fits = copy.fits;
       inner = copy.inner;
       spelled = copy.spelled;
       reads = copy.reads;

@@ -1,33 +1,32 @@
 -- A copy that is forwarded, and the copies of a steered packet.
-use Rattle.std.proofs.Common.{◌≡◌, ◌≢◌, ℕ, ◌+◌, ◌<◌, ◌≤◌, max, true, false}
-use Rattle.std.proofs.Common.{List, [], ◌∷◌, ◌++◌, length}
+use Rattle.std.proofs.Common.{◌≡◌, ◌≢◌, ℕ, suc, ◌+◌, ◌<◌, ◌≤◌, max, true, false}
+use Rattle.std.proofs.Common.{List, [], ◌∷◌, ◌++◌}
 use Rattle.std.proofs.Common.{slice_get, reverse, Option, Some, None, Result, Ok, Err, refl, sym, ap, ◌∙◌, subst}
 use Rattle.std.proofs.Common.{append_assoc, arith, option_map}
 use Rattle.std.specs.Prelude.{IsErrAnd, IsOk, IfSome}
 use Rattle.std.proofs.lemmas.Bool.{eq-eqb, and_from}
 use Rattle.std.proofs.lemmas.List.{length-append}
-use Rattle.std.proofs.lemmas.Option.{same_Some}
 use Rattle.bm_base.specs.declared.fate.Fate.{Fate}
 use Rattle.bm_base.specs.declared.ids.Moment.{Moment}
 use Rattle.bm_base.specs.declared.ids.ServerId.{ServerId}
 use Rattle.bm_base.specs.declared.label.Entry.{Entry}
 use Rattle.bm_base.specs.declared.label.Hop.{Hop}
-use Rattle.bm_base.specs.declared.label.Hop.TheVariants.{Direct, Chained}
-use Rattle.bm_base.specs.declared.label.Label.{Label}
+use Rattle.bm_base.specs.declared.label.Hop.TheVariants.{Direct, Chained, Twice}
 use Rattle.bm_base.specs.declared.label.Tag.{Tag}
-use Rattle.bm_base.specs.Labels.{tag_for, tag_of}
-use Rattle.bm_base.specs.Tags.{IsServer}
+use Rattle.bm_base.specs.Labels.{arrives_at, entry_of, hop_after, onward, server_of}
+use Rattle.bm_base.proofs.Entries.{onward_by_label, stops_there, tag_passed, tag_turned}
+use Rattle.bm_base.proofs.Hops.{has_past, same_hop_refl}
 use Rattle.bm_encap.specs.declared.fault.EncapFault.{EncapFault}
-use Rattle.bm_encap.specs.Faults.{chained, chained_from, next_of, spelling_of}
+use Rattle.bm_encap.specs.Faults.{chained, chained_from, next_hop, spelling_of}
 use Rattle.bm_encap.specs.Spellings.{spelling}
 use Rattle.bm_encap.proofs.Spelled.{spelling_read}
-use Rattle.bm_table.specs.Tables.{is_known}
+use Rattle.bm_core.specs.Inside.Weights.{hop_weight}
 use Rattle.bm_core.specs.declared.events.Stage.{Stage}
 use Rattle.bm_core.specs.declared.events.Verdict.{Verdict}
 use Rattle.bm_core.specs.declared.events.Verdict.TheVariants.{Accept, Process, Forward, Reset, Drop}
 use Rattle.bm_core.specs.declared.events.What.TheVariants.{Arrive}
 use Rattle.bm_core.specs.Accounts.{Rules, steers_packet}
-use Rattle.bm_core.specs.Past.{is_forward, sending_of}
+use Rattle.bm_core.specs.Past.{Sending, is_forward, is_sending, sending_of}
 use Rattle.bm_core.specs.Stages.{IsSound}
 use Rattle.bm_merge.specs.Notes.{Note}
 use Rattle.bm_merge.proofs.Noting.{each_append}
@@ -41,48 +40,39 @@ use Rattle.bm_worker.specs.Deeds.{HasServer, IsSamePorter, Suits, no_fate}
 use Rattle.bm_worker.specs.Inside.Deeds.{arrival}
 use Rattle.bm_worker.specs.Inside.Debts.{Carries, CarriesOne, Debt, HasCarried, IsCopyOf, IsForwarded, IsOf}
 use Rattle.bm_worker.specs.Inside.Debts.{Owes, Pays}
-use Rattle.bm_worker.specs.Inside.Debts.{debt, with_copies}
+use Rattle.bm_worker.specs.Inside.Debts.{debt, most_tries, with_copies}
 use Rattle.bm_worker.specs.Phases.{IsStopOf, Kept, Stint, mux_for}
 use Rattle.bm_worker.specs.Told.{Stays}
 use Rattle.bm_worker.proofs.Carrying.{answered, ended, stop_of_memory}
-use Rattle.bm_worker.proofs.Copying.{copy_reads}
+use Rattle.bm_worker.proofs.Copying.{copy_reads, tag_hop}
 use Rattle.bm_worker.proofs.Keeping.{more_many}
-use Rattle.bm_worker.proofs.Known.{table_entry}
+use Rattle.bm_worker.proofs.Known.{known_stop}
 use Rattle.bm_worker.proofs.Labels.{label_entry}
 use Rattle.bm_worker.proofs.Paying.{pays_forward, pays_more, pays_one}
 use Rattle.bm_worker.proofs.Steps.{kept_arrival, kept_stays, owes_more}
 
 -- THE OCTETS
 
--- the tag of a direct copy is that of its label
-direct_tag : (l : Label) (tag : Tag) → tag_of l Direct ≡ Some tag → tag ≡ tag_for l Direct l.entry.cur
-direct_tag l tag is = sym (same_Some (tag_for l Direct l.entry.cur) tag is)
-
--- what a direct copy says of its next hop
-pub onward_tag : Tag → ServerId → Tag
-onward_tag tag to = record tag { hop = Chained; dest = to }
-
-next_is : (tag : Tag) (to : ServerId) (hop : Hop) (prev : Option ServerId) → hop ≡ Direct → prev ≡ Some to
-    → next_of hop prev tag ≡ Ok (record tag { hop = Chained; dest = to })
-next_is tag to hop prev direct some =
-    ap (λ (h : Hop). next_of h prev tag) direct ∙ ap (λ (o : Option ServerId). next_of Direct o tag) some
-
-pub turns_to : (stage : Stage) (servers : List Serving) (mux : MuxState) (place k : ℕ) (octets : List ℕ) (to : ServerId)
-    → (copy : IsCopyOf stage servers mux place k Direct octets) → copy.tag.prev ≡ Some to
-    → chained octets ≡ Ok (spelling (record copy.tag { hop = Chained; dest = to }) copy.inner)
-turns_to stage servers mux place k octets to copy prev =
-    let direct : copy.tag.hop ≡ Direct = ap (λ (t : Tag). t.hop) (direct_tag copy.label copy.tag copy.tagged) in
+pub turns_to : (stage : Stage) (servers : List Serving) (mux : MuxState) (place k : ℕ) (hop next : Hop) (octets : List ℕ)
+    (to : ServerId) → (copy : IsCopyOf stage servers mux place k hop octets) → hop_after hop ≡ Some next
+    → server_of (onward (entry_of copy.tag) copy.tag.hop) ≡ Some to
+    → chained octets ≡ Ok (spelling (record copy.tag { hop = next; dest = to }) copy.inner)
+turns_to stage servers mux place k hop next octets to copy after onto =
+    let tag = copy.tag in
+    let p = has_past (onward (entry_of tag) tag.hop) to onto in
+    let after' : hop_after tag.hop ≡ Some next = ap hop_after (tag_hop copy.label hop tag copy.tagged) ∙ after in
+    let turned : next_hop tag ≡ Ok (record tag { hop = next; dest = to }) =
+    rw (after', p.1) (ap (λ (s : ServerId). Ok (record tag { hop = next; dest = s })) p.2) in
     ap chained copy.spelled
-    ∙ (ap chained_from (spelling_read copy.tag copy.inner copy.valid copy.stamp copy.version copy.short)
-    ∙ ap (λ (r : Result Tag EncapFault). spelling_of r copy.inner)
-    (next_is copy.tag to copy.tag.hop copy.tag.prev direct prev))
+    ∙ (ap chained_from (spelling_read tag copy.inner copy.valid copy.fits copy.short)
+    ∙ ap (λ (r : Result Tag EncapFault). spelling_of r copy.inner) turned)
 
-pub is_turned : (stage : Stage) (servers : List Serving) (mux : MuxState) (place k : ℕ) (octets : List ℕ)
-    (to : ServerId)
-    → IsForwarded stage servers mux place k octets to → IsOk (chained octets)
-is_turned stage servers mux place k octets to onward =
+pub is_turned : (stage : Stage) (servers : List Serving) (mux : MuxState) (place k : ℕ) (hop next : Hop) (octets : List ℕ)
+    (to : ServerId) → hop_after hop ≡ Some next
+    → IsForwarded stage servers mux place k hop octets to → IsOk (chained octets)
+is_turned stage servers mux place k hop next octets to after passed =
     subst (λ (r : Result (List ℕ) EncapFault). IsOk r)
-    (sym (turns_to stage servers mux place k octets to onward.0 onward.1)) refl
+    (sym (turns_to stage servers mux place k hop next octets to passed.0 after passed.1)) refl
 
 same_Ok : {A E : Type 0} (x y : A) → ◌≡◌ {A = Result A E} (Ok x) (Ok y) → x ≡ y
 same_Ok x y h = ap (of_ok x) h where
@@ -90,17 +80,31 @@ same_Ok x y h = ap (of_ok x) h where
   of_ok d (Ok x) = x
   of_ok d (Err e) = d
 
+-- where the tag has a copy passed on, the label has one of the next hop arrive
+stop_of_label : (stage : Stage) (servers : List Serving) (mux : MuxState) (place k : ℕ) (hop next : Hop)
+    (octets : List ℕ) (to : ServerId) → (copy : IsCopyOf stage servers mux place k hop octets)
+    → hop_after hop ≡ Some next → server_of (onward (entry_of copy.tag) copy.tag.hop) ≡ Some to
+    → arrives_at copy.label.entry next ≡ Some to
+stop_of_label stage servers mux place k hop next octets to copy after onto =
+    let same = tag_hop copy.label hop copy.tag copy.tagged in
+    let onto' : server_of (onward (entry_of copy.tag) hop) ≡ Some to =
+    subst (λ (h : Hop). server_of (onward (entry_of copy.tag) h) ≡ Some to) same onto in
+    stops_there copy.label.entry hop next to after
+    (ap server_of (sym (onward_by_label copy.label hop copy.tag copy.tagged)) ∙ onto')
+
 -- the next hop's copy
-pub turned_copy : (stage : Stage) (servers : List Serving) (mux : MuxState) (place k : ℕ) (octets next : List ℕ)
-    (to : ServerId) (where_to : ℕ)
-    → IsForwarded stage servers mux place k octets to → chained octets ≡ Ok next
+pub turned_copy : (stage : Stage) (servers : List Serving) (mux : MuxState) (place k : ℕ) (hop next : Hop)
+    (octets turned : List ℕ) (to : ServerId) (where_to : ℕ)
+    → hop_after hop ≡ Some next → IsForwarded stage servers mux place k hop octets to → chained octets ≡ Ok turned
     → ((server : Serving) × (slice_get servers where_to ≡ Some server) × (server.id ≡ to))
-    → IsCopyOf stage servers mux where_to k Chained next
-turned_copy stage servers mux place k octets next to where_to onward is at =
-    let copy = onward.0 in
-    let tag = record copy.tag { hop = Chained; dest = to } in
-    let by_label = direct_tag copy.label copy.tag copy.tagged in
-    let prev : copy.label.entry.prev ≡ Some to = ap (λ (t : Tag). t.prev) (sym by_label) ∙ onward.1 in
+    → IsCopyOf stage servers mux where_to k next turned
+turned_copy stage servers mux place k hop next octets turned to where_to after passed is at =
+    let copy = passed.0 in
+    let tag = record copy.tag { hop = next; dest = to } in
+    let stop = stop_of_label stage servers mux place k hop next octets to copy after passed.1 in
+    let tagged = tag_passed copy.label hop next copy.tag to stop copy.tagged in
+    let after' : hop_after copy.tag.hop ≡ Some next =
+    ap hop_after (tag_hop copy.label hop copy.tag copy.tagged) ∙ after in
     record {
       segment = copy.segment;
       is_segment = copy.is_segment;
@@ -108,21 +112,13 @@ turned_copy stage servers mux place k octets next to where_to onward is at =
       by = copy.by;
       is_label = copy.is_label;
       tag = tag;
-      tagged = ap (λ (o : Option ServerId). option_map (tag_for copy.label Chained) o) prev
-          ∙ ap (λ (t : Tag). Some (record t { hop = Chained; dest = to })) (sym by_label);
-      valid = record {
-        dest = subst (λ (o : Option ServerId). IfSome o IsServer) onward.1 copy.valid.prev;
-        prev = copy.valid.prev;
-        mux = copy.valid.mux;
-        hop = onward.1;
-        stamp = copy.valid.stamp;
-      };
-      stamp = copy.stamp;
-      version = copy.version;
+      tagged = tagged;
+      valid = tag_turned copy.tag next to copy.valid after' passed.1;
+      fits = copy.fits;
       inner = copy.inner;
       spelled =
-          sym (same_Ok {A = List ℕ} {E = EncapFault} (spelling tag copy.inner) next
-          (sym (turns_to stage servers mux place k octets to copy onward.1) ∙ is));
+          sym (same_Ok {A = List ℕ} {E = EncapFault} (spelling tag copy.inner) turned
+          (sym (turns_to stage servers mux place k hop next octets to copy after passed.1) ∙ is));
       reads = copy.reads;
       short = copy.short;
       server = at.0;
@@ -130,20 +126,30 @@ turned_copy stage servers mux place k octets next to where_to onward is at =
       mine = sym at.2;
     }
 
--- the previous server is one of the run's
-pub has_onward : (stage : Stage) (servers : List Serving) (mux : MuxState) (place k : ℕ) (octets : List ℕ)
-    (to : ServerId) → IsSound stage
-    → Suits stage servers → IsForwarded stage servers mux place k octets to → HasServer servers to
-has_onward stage servers mux place k octets to sound suits onward =
-    let copy = onward.0 in
+-- the server that it goes to is one of the run's
+pub has_onward : (stage : Stage) (servers : List Serving) (mux : MuxState) (place k : ℕ) (hop next : Hop)
+    (octets : List ℕ) (to : ServerId) → IsSound stage
+    → Suits stage servers → hop_after hop ≡ Some next → IsForwarded stage servers mux place k hop octets to
+    → HasServer servers to
+has_onward stage servers mux place k hop next octets to sound suits after passed =
+    let copy = passed.0 in
     let l = label_entry stage (reverse mux.log) k copy.label copy.is_label in
-    let entry = table_entry stage.script sound.script l.version l.bucket in
-    let prev : copy.label.entry.prev ≡ Some to =
-    ap (λ (t : Tag). t.prev) (sym (direct_tag copy.label copy.tag copy.tagged)) ∙ onward.1 in
+    let stop = stop_of_label stage servers mux place k hop next octets to copy after passed.1 in
     suits.known to
-    (subst (λ (o : Option ServerId). IfSome o
-    (λ s. is_known stage.script.plan (length stage.script.plan.changes) s ≡ true))
-    (ap (λ (e : Entry). e.prev) (sym l.entry) ∙ prev) entry.prev)
+    (known_stop stage.script sound.script l.version l.bucket next to
+    (ap (λ (e : Entry). arrives_at e next) (sym l.entry) ∙ stop))
+
+-- a copy that is passed on has a next hop
+has_next : (e : Entry) (hop : Hop) (to : ServerId) → server_of (onward e hop) ≡ Some to → hop_after hop ≡ None → ⊥
+has_next e Direct to is none = let bad : Some Chained ≡ None = none in cc
+has_next e Chained to is none = let bad : Some Twice ≡ None = none in cc
+has_next e Twice to is none = let bad : None ≡ Some to = is in cc
+
+pub goes_further : (stage : Stage) (servers : List Serving) (mux : MuxState) (place k : ℕ) (hop : Hop) (octets : List ℕ)
+    (to : ServerId) → IsForwarded stage servers mux place k hop octets to → hop_after hop ≡ None → ⊥
+goes_further stage servers mux place k hop octets to passed none =
+    let copy = passed.0 in let same = tag_hop copy.label hop copy.tag copy.tagged in
+    has_next (entry_of copy.tag) copy.tag.hop to passed.1 (ap hop_after same ∙ none)
 
 pub has_place : (servers : List Serving) (to : ServerId) → HasServer servers to
     → ((s : ℕ) (server : Serving) → slice_get servers s ≡ Some server → server.id ≢ to) → ⊥
@@ -202,17 +208,22 @@ carries_one_stop F stage servers d most now next r mux stays latest porter memor
       (stop_of_memory deeds),
 )
 
+-- a copy of a hop weighs what a sending of the next one does, and one more
+pub weight_of : (hop next : Hop) → hop_after hop ≡ Some next → hop_weight hop ≡ suc (most_tries next)
+weight_of hop next after = grind arith
+
 -- the forward is owed once it was made
-owes_forward : (stint : Stint) (d : List Note) (k : ℕ) (at : ℕ) (before fate : Fate) (clock : Moment)
+owes_forward : (stint : Stint) (d : List Note) (k : ℕ) (hop next : Hop) (at : ℕ) (before fate : Fate) (clock : Moment)
     (server to : ServerId) (due w : ℕ)
-    → at < clock.0 → Owes stint d (debt k Direct at before)
-    → Owes stint (arrival clock k Direct server (Forward to) fate due w ∷ d) (debt k Chained clock.0 fate)
-owes_forward stint d k at before fate clock server to due w lt owes =
-    let n = arrival clock k Direct server (Forward to) fate due w in
+    → hop_after hop ≡ Some next → at < clock.0 → Owes stint d (debt k hop at before)
+    → Owes stint (arrival clock k hop server (Forward to) fate due w ∷ d) (debt k next clock.0 fate)
+owes_forward stint d k hop next at before fate clock server to due w after lt owes =
+    let n = arrival clock k hop server (Forward to) fate due w in
     record {
       note = n;
       among = λ f. omega arith;
-      sending = and_from _ _ (eq-eqb k k refl) refl;
+      sending = ap (λ (o : Option Hop). is_sending (option_map (λ x. record { packet = k; hop = x }) o) k next) after
+          ∙ and_from _ _ (eq-eqb k k refl) (same_hop_refl next);
       clock = refl;
       fate = refl;
       steered =
@@ -223,44 +234,47 @@ owes_forward stint d k at before fate clock server to due w lt owes =
     }
 
 -- a copy that is forwarded, and what came of the forward
-pub carries_forward : (F : Rules) (stage : Stage) (servers : List Serving) (k at : ℕ) (before fate : Fate)
+pub carries_forward : (F : Rules) (stage : Stage) (servers : List Serving) (k at : ℕ) (hop onto : Hop) (before fate : Fate)
     (now next last : MuxWorker)
     (place : ℕ) (octets : List ℕ) (due : Moment) (r : Moment × Verdict) (to : ServerId)
-    (result : Result (Unit {0}) Stop) → Suits stage servers
-    → (copy : IsCopyOf stage servers now.mux place k Direct octets)
-    → due.0 ≡ at + before.delay → due.0 < r.0.0 → r.1 ≡ Forward to → F k Chained fate
+    (result : Result (Unit {0}) Stop) → hop_after hop ≡ Some onto → Suits stage servers
+    → (copy : IsCopyOf stage servers now.mux place k hop octets)
+    → due.0 ≡ at + before.delay → due.0 < r.0.0 → r.1 ≡ Forward to → F k onto fate
     → ((server : Serving) (read : _) → slice_get servers place ≡ Some server → IsCopy server octets read
     → HasCome place server k read due r now.porter.seats next.porter.seats)
     → next.mux ≡ now.mux → next.porter.latest ≡ max now.porter.latest r.0.0 → IsSamePorter now.porter next.porter
-    → Carries F stage servers (debt k Chained r.0.0 fate) 3 next last result
-    → CarriesOne F stage servers (debt k Direct at before) 4 now last result
-carries_forward F stage servers k at before fate now next last place octets due r to result suits copy is lt forward
-    drawn come mux latest porter carries =
+    → Carries F stage servers (debt k onto r.0.0 fate) (most_tries onto) next last result
+    → CarriesOne F stage servers (debt k hop at before) (hop_weight hop) now last result
+carries_forward F stage servers k at hop onto before fate now next last place octets due r to result after suits
+    copy is lt forward drawn come mux latest porter carries =
     λ stint deeds kept owes.
     let w = (mux_for stint).0 + 1 in
-    let d = debt k Direct at before in
-    let n = arrival r.0 k Direct copy.server.id (Forward to) fate due.0 w in
+    let d = debt k hop at before in
+    let n = arrival r.0 k hop copy.server.id (Forward to) fate due.0 w in
     let came =
     subst (λ (v : Verdict). HasCome place copy.server k (copy.tag, copy.segment) due (r.0, v) now.porter.seats
     next.porter.seats) forward
     (come copy.server (copy.tag, copy.segment) copy.is_server
-    (copy_reads stage servers now.mux place k Direct octets copy)) in
+    (copy_reads stage servers now.mux place k hop octets copy)) in
+    let sent : IfSome (sending_of (Arrive k hop copy.server.id (Forward to))) (λ s. F s.packet s.hop fate) =
+    subst (λ (o : Option Hop). IfSome {T = Sending} (option_map (λ x. record { packet = k; hop = x }) o) (λ s. F s.packet s.hop fate))
+    (sym after) drawn in
     let one =
     kept_arrival F stage servers stint now next deeds d place octets due (r.0, Forward to) fate suits copy is lt
-    drawn came mux latest porter owes kept in
+    sent came mux latest porter owes kept in
     let c = carries stint (n ∷ deeds) one
-    (owes_forward stint deeds k at before fate r.0 copy.server.id to due.0 w (omega (arith, is, lt)) owes) in
+    (owes_forward stint deeds k hop onto at before fate r.0 copy.server.id to due.0 w after (omega (arith, is, lt)) owes) in
     let y = c.0 in
     let all : (y ++ n ∷ []) ++ deeds ≡ y ++ n ∷ deeds = append_assoc y (n ∷ []) deeds in (
       y ++ n ∷ [],
       record {
         kept = subst (λ (l : List Note). Kept F stage servers stint last l) (sym all) c.1.kept;
         packets = each_append (λ x. IsOf k x.event.what) y (n ∷ []) c.1.packets (refl, tt);
-        few = let e = length-append y (n ∷ []) in let f = c.1.few in omega arith;
+        few = let e = length-append y (n ∷ []) in let f = c.1.few in let w = weight_of hop onto after in omega arith;
       },
-      answered (λ _. Pays true (debt k Chained r.0.0 fate) y) (λ _. Pays false (with_copies d 1) (y ++ n ∷ []))
+      answered (λ _. Pays true (debt k onto r.0.0 fate) y) (λ _. Pays false (with_copies d 1) (y ++ n ∷ []))
           (λ stop. IsStopOf (y ++ n ∷ deeds) stop) (λ stop. IsStopOf ((y ++ n ∷ []) ++ deeds) stop) result
-          (λ _ paid. pays_forward w d r.0 copy.server.id to fate due.0 y refl is lt paid)
+          (λ _ paid. pays_forward w d onto r.0 copy.server.id to fate due.0 y after is lt paid)
           (λ stop is. subst (λ (l : List Note). IsStopOf l stop) (sym all) is) c.2,
     )
 

@@ -149,7 +149,7 @@ sent_length m seen last [] = refl
 sent_length m seen last (i ∷ items) = let old = sent_length m seen (steer_clock last i) items in omega (arith, old)
 
 batch_few : (F : Rules) (m : MuxId) (seen : Posted) (past : List Event) (items : List MuxItem) (fates : List Fate)
-    (y d : List Note) → AreDrawn F items fates → 1 ≤ length items → length y ≤ 12 * length items
+    (y d : List Note) → AreDrawn F items fates → 1 ≤ length items → length y ≤ 39 * length items
     → AllByRecursion (λ n. IsDelivery n.event.what) y → AreFew d
     → AreFew (y ++ (batch_notes m seen past items fates ++ d))
 batch_few F m seen past items fates y d drawn some short deliveries few =
@@ -214,7 +214,7 @@ delivered_in : (F : Rules) (stage : Stage) (servers : List Serving) (stint : Sti
     → HasSteered now.mux (i ∷ items) mid.mux [] sents → HasSeen now mid
     → Delivers F stage servers sents fates mid next r
     → (y : List Note) × Kept F stage servers stint next (y ++ with_batch now mid (mux_for stint) (i ∷ items) fates d)
-    × (length y ≤ 12 * length (i ∷ items)) × AllByRecursion (λ n. IsDelivery n.event.what) y
+    × (length y ≤ 39 * length (i ∷ items)) × AllByRecursion (λ n. IsDelivery n.event.what) y
     × MatchResult r
     (λ _. PaysFor (sent_notes (mux_for stint) (sent (mux_for stint) mid.mux.seen
     (clock_of_batch now mid (mux_for stint)) (i ∷ items)) fates) y
@@ -587,11 +587,11 @@ switches_few m seen past = of_test (ltb (version_at past m).0 (last_version seen
   of_test true = omega arith
   of_test false = omega arith
 
--- at most five events for each packet: a Switch, its Steer, and three Loses
+-- at most eleven events for each packet: a Switch, its Steer, and nine Loses
 pub batch_grows : (w mid next : MuxWorker) (items : List MuxItem) (sents : List Steered) (places : ℕ)
     → HasSteered w.mux items mid.mux [] sents → mid.porter.tries ≡ w.porter.tries → mid.steps ≡ w.steps
-    → next.porter.tries ≤ mid.porter.tries + 12 * length sents → next.steps ≤ mid.steps + length sents
-    → GrowsByLosses (3 * length sents) mid.mux.log next.mux.log → 0 < length items → length items ≤ places
+    → next.porter.tries ≤ mid.porter.tries + 39 * length sents → next.steps ≤ mid.steps + length sents
+    → GrowsByLosses (9 * length sents) mid.mux.log next.mux.log → 0 < length items → length items ≤ places
     → GrowsBy places w next
 batch_grows w mid next items sents places steered tries_is steps_is tries steps grows some few =
     let past = reverse w.mux.log in let seen = mid.mux.seen in let m = w.mux.id in

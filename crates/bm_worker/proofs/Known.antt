@@ -1,5 +1,5 @@
 -- The servers that a sound script knows, and those of its entries.
-use Rattle.std.proofs.Common.{◌≡◌, ◌≢◌, ℕ, zero, suc, ◌+◌, ◌-◌, ◌*◌, ◌^◌, ◌%◌, ◌<◌, ◌≤◌, true, false, Bool, inl, inr}
+use Rattle.std.proofs.Common.{◌≡◌, ℕ, zero, suc, ◌+◌, ◌-◌, ◌%◌, ◌<◌, ◌≤◌, true, false, Bool, inl, inr}
 use Rattle.std.proofs.Common.{List, [], ◌∷◌, Option}
 use Rattle.std.proofs.Common.{Some, None, length, slice_get, get_or, refl, sym, subst, arith, ◌||◌}
 use Rattle.std.specs.Prelude.{IfSome, All}
@@ -19,8 +19,11 @@ use Rattle.bm_table.specs.Scripts.{IsSoundScript, NamesServer}
 use Rattle.bm_table.specs.Settings.{RiseFrom}
 use Rattle.bm_table.specs.Tables.{adds, brings, is_add, is_among, is_known, change_moment, moved, next_change, opening}
 use Rattle.bm_table.specs.Tables.{same_server, table}
-use Rattle.bm_table.proofs.Tables.{same_server-true}
-use Rattle.bm_core.proofs.Moments.{change_early}
+use Rattle.bm_table.proofs.Tables.{moved_entry, same_server-true}
+use Rattle.bm_base.proofs.Entries.{IsEntry}
+use Rattle.bm_base.specs.Labels.{arrives_at}
+use Rattle.bm_base.specs.declared.label.Hop.{Hop}
+use Rattle.bm_base.specs.declared.label.Hop.TheVariants.{Direct, Chained, Twice}
 
 -- SERVERS HAVE NUMBERS OF SERVERS
 
@@ -110,45 +113,58 @@ among_at (s ∷ servers) (suc i) default inside =
     or_right (same_server s (get_or servers i default)) (is_among servers (get_or servers i default))
     (among_at servers i default (omega arith))
 
--- the servers of an entry are known and differ; without a previous one the stamp is 0
-pub record IsEntry (plan : Planned) (e : Entry) : Type 0 where
-  pub cur : is_known plan (length plan.changes) e.cur ≡ true
-  pub prev : IfSome e.prev (λ s. is_known plan (length plan.changes) s ≡ true)
-  pub apart : e.prev ≢ Some e.cur
-  pub unmoved : e.prev ≡ None → e.stamp.0 ≡ 0
-  pub early : e.stamp.0 ≤ 4 * 10 ^ 18
+-- the servers at which copies by an entry arrive are known
+abbrev pub AreKnown : Planned → Entry → Type 0
+AreKnown plan e =
+    (hop : Hop) (s : ServerId) → arrives_at e hop ≡ Some s → is_known plan (length plan.changes) s ≡ true
 
-moved_entry : (plan : Planned) (e : Entry) (at : ℕ) (o : Option ServerId) → IsEntry plan e → at ≤ 4 * 10 ^ 18
-    → IfSome o (λ to. is_known plan (length plan.changes) to ≡ true) → IfSome o (λ to. to ≢ e.cur)
-    → IsEntry plan (moved e at o)
-moved_entry plan e at None is early known other = is
-moved_entry plan e at (Some to) is early known other = record {
-  cur = known;
-  prev = is.cur;
-  apart = λ same. other (sym (same_Some _ _ same));
-  unmoved = λ none. absurd (cc);
-  early = early;
-}
+moved_known : (plan : Planned) (e : Entry) (at : ℕ) (to : Option ServerId) → AreKnown plan e
+    → IfSome to (λ s. is_known plan (length plan.changes) s ≡ true) → AreKnown plan (moved e at to)
+moved_known plan e at None are known hop s here = are hop s here
+moved_known plan e at (Some t) are known Direct s here =
+    subst (λ (x : ServerId). is_known plan (length plan.changes) x ≡ true) (same_Some _ _ here) known
+moved_known plan e at (Some t) are known Chained s here = are Direct s here
+moved_known plan e at (Some t) are known Twice s here = are Chained s here
 
 known_target : (plan : Planned) (n : ℕ) (o : Option ServerId) → IfSome o (λ to. is_known plan n to ≡ true)
     → IfSome o (λ to. is_known plan (length plan.changes) to ≡ true)
 known_target plan n None is = tt
 known_target plan n (Some s) is = known_in_the_end plan s n is
 
-pub table_entry : (script : Script) → IsSoundScript script → (v b : ℕ) → IsEntry script.plan (table script.plan v b)
-table_entry script sound zero b = record {
-  cur = known_in_the_end script.plan (opening script.plan b).cur 0
-      (among_at script.plan.servers (b % length script.plan.servers) (record { 0 = 0 })
-      (mod_below b (length script.plan.servers)
-      (subst (λ (l : List ServerId). 0 < length l) (sym sound.servers) sound.setting.servers.0)));
+pub known_stop : (script : Script) → IsSoundScript script → (v b : ℕ) → AreKnown script.plan (table script.plan v b)
+known_stop script sound zero b Direct s here =
+    subst (λ (x : ServerId). is_known script.plan (length script.plan.changes) x ≡ true) (same_Some _ _ here)
+    (known_in_the_end script.plan (opening script.plan b).cur 0
+    (among_at script.plan.servers (b % length script.plan.servers) (record { 0 = 0 })
+    (mod_below b (length script.plan.servers)
+    (subst (λ (l : List ServerId). 0 < length l) (sym sound.servers) sound.setting.servers.0))))
+known_stop script sound zero b Chained s here = absurd (cc)
+known_stop script sound zero b Twice s here = absurd (cc)
+known_stop script sound (suc v) b hop s here =
+    moved_known script.plan (table script.plan v b) (change_moment (next_change script.plan v))
+    (brings (next_change script.plan v) b) (known_stop script sound v b)
+    (known_target script.plan (suc v) (brings (next_change script.plan v) b) (sound.plan.known v b)) hop s here
+
+-- the bucket's server is
+pub known_cur : (script : Script) → IsSoundScript script → (v b : ℕ)
+    → is_known script.plan (length script.plan.changes) (table script.plan v b).cur ≡ true
+known_cur script sound v b = known_stop script sound v b Direct (table script.plan v b).cur refl
+
+-- and they have the numbers of servers
+pub numbered_entry : (script : Script) → IsSoundScript script → (v b : ℕ) → IsEntry (table script.plan v b)
+numbered_entry script sound zero b = record {
+  cur = known_server script sound _ _ (known_cur script sound zero b);
   prev = tt;
   apart = λ same. absurd (cc);
-  unmoved = λ none. refl;
-  early = omega arith;
+  older = tt;
 }
-table_entry script sound (suc v) b =
-    moved_entry script.plan (table script.plan v b) (change_moment (next_change script.plan v))
-    (brings (next_change script.plan v) b)
-    (table_entry script sound v b) (change_early script sound v)
-    (known_target script.plan (suc v) (brings (next_change script.plan v) b) (sound.plan.known v b))
-    (sound.plan.changes v b)
+numbered_entry script sound (suc v) b =
+    moved_entry (table script.plan v b) (change_moment (next_change script.plan v))
+    (brings (next_change script.plan v) b) (numbered_entry script sound v b)
+    (known_number (brings (next_change script.plan v) b)
+    (known_target script.plan (suc v) (brings (next_change script.plan v) b) (sound.plan.known v b)))
+    (sound.plan.changes v b) where
+      known_number : (to : Option ServerId)
+          → IfSome to (λ s. is_known script.plan (length script.plan.changes) s ≡ true) → IfSome to IsServer
+      known_number None is = tt
+      known_number (Some s) is = known_server script sound _ s is

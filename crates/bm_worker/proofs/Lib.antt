@@ -3,6 +3,7 @@ pub mod Replying
 pub mod Hearing
 pub mod Paying
 pub mod Keeping
+mod Weighing
 pub mod Copying
 pub mod Steps
 pub mod Carrying

@@ -1,21 +1,21 @@
 -- How a sending is paid: sums over notes.
 use Rattle.std.proofs.Common.{◌≡◌, ℕ, suc, ◌+◌, ◌<◌, ◌≤◌, ◌==◌, ◌&&◌, Bool, true, false, cond, inl, inr, List, [], ◌∷◌}
-use Rattle.std.proofs.Common.{◌++◌}
-use Rattle.std.proofs.Common.{None, refl, sym, ap, subst, arith, leb, ltb}
+use Rattle.std.proofs.Common.{◌++◌, Option, option_map}
+use Rattle.std.proofs.Common.{None, Some, refl, sym, ap, subst, arith, leb, ltb}
 use Rattle.std.proofs.lemmas.Bool.{cases_Bool, eqb-true, eqb-false, eq-eqb, ne_eqb, lt-ltb, leb-true}
 use Rattle.bm_base.specs.declared.ids.Moment.{Moment}
 use Rattle.bm_base.specs.declared.ids.ServerId.{ServerId}
 use Rattle.bm_base.specs.declared.label.Hop.{Hop}
-use Rattle.bm_base.specs.declared.label.Hop.TheVariants.{Direct, Chained}
+use Rattle.bm_base.specs.Labels.{hop_after}
 use Rattle.bm_base.specs.declared.fate.Fate.{Fate}
 use Rattle.bm_core.specs.declared.events.Verdict.{Verdict}
 use Rattle.bm_core.specs.declared.events.Verdict.TheVariants.{Accept, Process, Forward, Reset, Drop}
 use Rattle.bm_core.specs.declared.events.What.TheVariants.{Arrive}
-use Rattle.bm_core.specs.Past.{same_hop, is_forward, sending_of}
+use Rattle.bm_core.specs.Past.{same_hop, is_forward, is_sending, sending_of, sends}
 use Rattle.bm_merge.specs.Notes.{Note}
 use Rattle.bm_merge.proofs.Noting.{total_append}
 use Rattle.bm_worker.specs.Inside.Deeds.{arrival, loss}
-use Rattle.bm_worker.specs.Inside.Debts.{Debt, Pays, comes, comes_by, copyless_at, debt, debt_gives}
+use Rattle.bm_worker.specs.Inside.Debts.{Debt, Pays, comes, comes_by, copyless_at, debt, debt_copyless, debt_gives}
 use Rattle.bm_worker.specs.Inside.Debts.{debt_gives_by}
 use Rattle.bm_worker.specs.Inside.Debts.{gives, gives_by, is_of, lost_at, with_copies}
 
@@ -62,10 +62,6 @@ in_time true clock at c lt = elim (cases_Bool (leb at c)) [
   | inr other ↦ rw other (omega arith)
 ]
 
-pub hop_same : (h : Hop) → same_hop h h ≡ true
-hop_same Direct = refl
-hop_same Chained = refl
-
 pub no_sending : (k : ℕ) (hop : Hop) (server : ServerId) (v : Verdict) → is_forward v ≡ false
     → sending_of (Arrive k hop server v) ≡ None
 no_sending k hop server Accept not = refl
@@ -73,13 +69,6 @@ no_sending k hop server (Process t) nott = refl
 no_sending k hop server (Forward s) not = absurd (let bad : true ≡ false = not in cc)
 no_sending k hop server (Reset w) not = refl
 no_sending k hop server (Drop w) not = refl
-
-pub no_chained : (k : ℕ) (server : ServerId) (v : Verdict) → sending_of (Arrive k Chained server v) ≡ None
-no_chained k server Accept = refl
-no_chained k server (Process t) = refl
-no_chained k server (Forward s) = refl
-no_chained k server (Reset w) = refl
-no_chained k server (Drop w) = refl
 
 pub pays_one : (w : ℕ) (d : Debt) (clock : Moment) (server : ServerId) (v : Verdict) (fate : Fate) (due : ℕ)
     → sending_of (Arrive d.packet d.hop server v) ≡ None → due ≡ d.clock + d.fate.delay → due < clock.0
@@ -91,28 +80,33 @@ pays_one w d clock server v fate due none is lt = record {
 }
 
 -- a copy that is forwarded, and all copies of the forward
-pub pays_forward : (w : ℕ) (d : Debt) (clock : Moment) (server to : ServerId) (fate : Fate) (due : ℕ) (y : List Note)
-    → d.hop ≡ Direct → due ≡ d.clock + d.fate.delay → due < clock.0
-    → Pays true (debt d.packet Chained clock.0 fate) y
-    → Pays false (with_copies d 1) (y ++ arrival clock d.packet Direct server (Forward to) fate due w ∷ [])
-pays_forward w d clock server to fate due y hop is lt p =
-    let n = arrival clock d.packet Direct server (Forward to) fate due w in
+pub pays_forward : (w : ℕ) (d : Debt) (next : Hop) (clock : Moment) (server to : ServerId) (fate : Fate) (due : ℕ)
+    (y : List Note)
+    → hop_after d.hop ≡ Some next → due ≡ d.clock + d.fate.delay → due < clock.0
+    → Pays true (debt d.packet next clock.0 fate) y
+    → Pays false (with_copies d 1) (y ++ arrival clock d.packet d.hop server (Forward to) fate due w ∷ [])
+pays_forward w d next clock server to fate due y after is lt p =
+    let n = arrival clock d.packet d.hop server (Forward to) fate due w in
+    let sent : (k : ℕ) (h : Hop) → sends (Arrive d.packet d.hop server (Forward to)) k h
+    ≡ (d.packet == k && same_hop next h) =
+    λ k h. ap (λ (o : Option Hop). is_sending (option_map (λ x. record { packet = d.packet; hop = x }) o) k h) after in
     record {
       lost = λ k h c.
           let a = total_append (lost_at k h c) y (n ∷ []) in let b = total_append (copyless_at k h c) y (n ∷ []) in
-          let one = p.lost k h c in omega arith;
+          let one = p.lost k h c in
+          let same : copyless_at k h c n ≡ debt_copyless (debt d.packet next clock.0 fate) k h c =
+          ap (λ (t : Bool). cond (t && ((fate.copies == 0) && (clock.0 == c))) 1 0) (sent k h) in omega arith;
       sent = λ k h c.
           let a = total_append (comes_by k h c) y (n ∷ []) in let b =
           total_append (gives_by k h c) y (n ∷ []) in let one = p.sent k h c in
-          let le = in_time (d.packet == k && same_hop Direct h) d.clock clock.0 c (omega (arith, is, lt)) in
-          let same : debt_gives_by (with_copies d 1) k h c
-          ≡ cond ((d.packet == k && same_hop Direct h) && ltb d.clock c) 1 0 =
-          ap (λ (x : Hop). cond ((d.packet == k && same_hop x h) && ltb d.clock c) 1 0) hop in omega arith;
+          let same : gives_by k h c n ≡ debt_gives_by (debt d.packet next clock.0 fate) k h c =
+          ap (λ (t : Bool). cond (t && ltb clock.0 c) fate.copies 0) (sent k h) in
+          let le = in_time (is_of d k h) d.clock clock.0 c (omega (arith, is, lt)) in omega arith;
       arrived = λ k h.
           let a = total_append (comes k h) y (n ∷ []) in let b = total_append (gives k h) y (n ∷ []) in let one =
           p.arrived k h in
-          let same : debt_gives (with_copies d 1) k h ≡ cond (d.packet == k && same_hop Direct h) 1 0 =
-          ap (λ (x : Hop). cond (d.packet == k && same_hop x h) 1 0) hop in omega arith;
+          let same : gives k h n ≡ debt_gives (debt d.packet next clock.0 fate) k h =
+          ap (λ (t : Bool). cond t fate.copies 0) (sent k h) in omega arith;
     }
 
 -- THE WHOLE DEBT

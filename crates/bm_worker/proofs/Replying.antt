@@ -5,12 +5,12 @@ use Rattle.bm_base.specs.declared.flow.Flow.{Flow}
 use Rattle.bm_base.specs.declared.flow.Segment.{Segment}
 use Rattle.bm_base.specs.declared.ids.Moment.{Moment}
 use Rattle.bm_base.specs.declared.ids.ServerId.{ServerId}
-use Rattle.bm_base.specs.declared.label.Hop.TheVariants.{Direct}
 use Rattle.bm_base.specs.declared.label.Tag.{Tag}
 use Rattle.bm_table.specs.declared.plan.Retirement.{Retirement}
 use Rattle.bm_core.specs.declared.events.Verdict.{Verdict}
 use Rattle.bm_core.specs.declared.events.Verdict.TheVariants.{Forward}
 use Rattle.bm_core.specs.Verdicts.{entry_of}
+use Rattle.bm_base.specs.Labels.{onward, server_of}
 use Rattle.bm_core.proofs.Forwards.{forwarded}
 use Rattle.bm_shard.specs.declared.book.Shard.{Shard}
 use Rattle.bm_shard.specs.declared.calls.ShardCall.{ShardCall}
@@ -76,17 +76,17 @@ pub retirement_later : {M : Type 0} (at clock : Moment) (outcome : Retirement) (
     → IsReply (Retire at outcome) r → at.0 < clock.0
 retirement_later at clock outcome r ok is = later (Retire at outcome) (Retired clock) r ok is
 
--- what is forwarded is a direct copy, which goes to the previous server of its tag
+-- what is forwarded goes where its tag has it passed on to
 pub goes_onward : {M : Type 0} (packet : ℕ) (read : Tag × Segment) (due clock : Moment) (verdict : Verdict)
     (reset : Option (List ℕ))
     (r : Result ShardReply M) → r ≡ Ok (Arrived clock verdict reset) → IsReply (Arrive packet read.0 read.1 due) r
-    → (to : ServerId) → verdict ≡ Forward to → (read.0.hop ≡ Direct) × (read.0.prev ≡ Some to)
+    → (to : ServerId) → verdict ≡ Forward to → server_of (onward (entry_of read.0) read.0.hop) ≡ Some to
 goes_onward {M = M} packet read due clock verdict reset r ok is to forward =
     let x = subst (λ (x : Result ShardReply M). IsReply (Arrive packet read.0 read.1 due) x) ok is in
     let same : verdict ≡ verdict_in (reply_after x.0 x.1 (Arrive packet read.0 read.1 due)) = ap verdict_in x.2 in
-    forwarded (knows_after x.0 x.1 read.1.flow) x.0.timeout (clock_after x.1 (Arrive packet read.0 read.1 due)).0
+    (forwarded (knows_after x.0 x.1 read.1.flow) x.0.timeout (clock_after x.1 (Arrive packet read.0 read.1 due)).0
     (entry_of read.0)
-    read.0.hop read.1 to (sym same ∙ forward) where
+    read.0.hop read.1 to (sym same ∙ forward)).onto where
       verdict_in : ShardReply → Verdict
       verdict_in (Arrived clock v reset) = v
       verdict_in (Closed clock closed) = verdict

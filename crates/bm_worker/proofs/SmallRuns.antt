@@ -1,4 +1,4 @@
--- A run of one server and two muxes, of which each has one packet.
+-- A run of one server and two muxes, with one packet each.
 use Rattle.std.proofs.Common.{◌≡◌, ℕ, zero, suc, ◌+◌, Bool, true, false, List, [], ◌∷◌, ◌++◌}
 use Rattle.std.proofs.Common.{length, slice_get, Some, None, refl, sym, ap, ◌∙◌, subst, arith}
 use Rattle.std.proofs.lemmas.Bool.{eqb-true}
@@ -12,7 +12,7 @@ use Rattle.bm_core.specs.Stages.{IsSound}
 use Rattle.bm_mux.specs.Muxes.{HasServers}
 use Rattle.bm_server.specs.Servings.{Serving, serving}
 use Rattle.bm_worker.specs.Deeds.{Suits}
-use Rattle.bm_worker.proofs.Known.{known_server, table_entry}
+use Rattle.bm_worker.proofs.Known.{known_cur, known_server}
 
 abbrev small_plan : Planned
 small_plan = record { buckets = 8; servers = record { 0 = 1 } ∷ []; changes = [] }
@@ -58,7 +58,7 @@ suits_one stage server capacity timeout seats plan made shards setting = record 
 pub sound_servers : (stage : Stage) (plan : Planned) → IsSound stage → plan ≡ stage.script.plan → HasServers plan
 sound_servers stage plan sound is =
     subst (λ (p : Planned). HasServers p) (sym is)
-    (λ v b versions buckets. known_server stage.script sound.script _ _ (table_entry stage.script sound.script v b).cur)
+    (λ v b versions buckets. known_server stage.script sound.script _ _ (known_cur stage.script sound.script v b))
 
 -- SEATS
 

@@ -1,4 +1,4 @@
--- What a worker does, as notes, and what its seats hear of it. A worker's deeds have the newest
+-- What a worker does, as notes (its deeds), and what its seats hear of it. Deeds have the newest
 -- first.
 use Rattle.std.specs.Prelude.{◌≡◌, ℕ, if◌then◌else◌, Bool, true, List, [], ◌∷◌, ◌++◌, length, map}
 use Rattle.std.specs.Prelude.{slice_get, Some}
@@ -31,7 +31,7 @@ use Rattle.bm_worker.specs.Told.{event_told, told_there}
 abbrev pub Sits : List Serving → Porting → Type 0
 Sits servers p = map (map who) p.seats ≡ map (λ server. row server p.number) servers
 
--- what no call changes
+-- what no call of a worker's seats changes
 pub record IsSamePorter (old new : Porting) : Type 0 where
   pub number : new.number ≡ old.number
   pub who_is : map (map who) new.seats ≡ map (map who) old.seats
@@ -41,7 +41,7 @@ abbrev pub HasServer : List Serving → ServerId → Type 0
 HasServer servers id =
     (s : ℕ) × (server : Serving) × (slice_get servers s ≡ Some server) × (server.id ≡ id)
 
--- each server that the script knows at its end is among these, none stands twice, and each is as
+-- each server that the script knows at its end is among these, none is there twice, and each is as
 -- the setting has it
 pub record Suits (stage : Stage) (servers : List Serving) : Type 0 where
   pub differ : (s t : ℕ) (a b : Serving) → slice_get servers s ≡ Some a
@@ -59,7 +59,7 @@ pub record Suits (stage : Stage) (servers : List Serving) : Type 0 where
 
 -- WHAT THE SEATS HEAR
 
--- an event, and the moment that was handed in
+-- an event, and the moment that was passed to the shard
 abbrev pub Said : Type 0
 Said = Event × ℕ
 
@@ -70,13 +70,13 @@ said_of shard a = (event_told shard a.0 a.1, (call_moment a.0).0)
 abbrev pub saying : Shard → List Answered → List Said
 saying shard told = map (said_of shard) told
 
--- what the deeds say of one actor's log, in the order in which they were done
+-- what the deeds say about one actor's log, in the order in which they were done
 abbrev pub noted : Stage → Actor → List Note → List Said
 noted stage a [] = []
 noted stage a (n ∷ deeds) =
     noted stage a deeds ++ (if is_home stage a n then (n.event, n.due) ∷ [] else [])
 
--- what the seats were told grew by just these deeds, at each shard in their order
+-- what the seats were told grew by exactly these deeds, at each shard in their order
 abbrev pub Hears : Stage → List Serving → List (List Seated) → List (List Seated) → List Note
     → Type 0
 Hears stage servers a b deeds = (s h : ℕ) (server : Serving) → slice_get servers s ≡ Some server
@@ -95,7 +95,7 @@ deed clock what fate command due seat = record {
   seat = seat;
 }
 
--- the fate of what sends nothing
+-- the fate noted for an event that sends nothing
 abbrev pub no_fate : Fate
 no_fate = record { copies = 1; delay = 0 }
 
@@ -104,7 +104,7 @@ abbrev pub closing : Moment → ServerId → Flow → Bool → ℕ → ℕ → �
 closing clock server flow closed command at seat =
     deed clock (Close server flow closed) no_fate command at seat
 
--- a shard is to be retired, by the command of this number
+-- a shard is asked to retire, by the command of this number
 abbrev pub retiring : Moment → ServerId → ℕ → Moment → Retirement → ℕ → ℕ → Note
 retiring clock server shard at outcome command seat =
     deed clock (Retire server shard at outcome) no_fate command at.0 seat

@@ -1,5 +1,5 @@
--- What a mux's worker promises of one phase: the time between two Syncs, in which it carries those
--- of the mux's packets that lie in it. Its deeds have the newest first.
+-- What a mux's worker promises of one phase: the time between two Syncs, in which it carries the
+-- mux's packets of that phase. Its deeds have the newest first.
 use Rattle.std.specs.Prelude.{◌≡◌, ℕ, suc, ◌+◌, ◌-◌, ◌*◌, ◌^◌, ◌<◌, ◌≤◌, ◌==◌, max, Bool, true}
 use Rattle.std.specs.Prelude.{false, MatchBool}
 use Rattle.std.specs.Prelude.{if◌then◌else◌, List, ◌++◌, length, reverse, slice_get, Option, Some}
@@ -65,14 +65,14 @@ mux_for stint = stint.start.mux.id
 
 -- WHAT THE MUX LOGS
 
--- what these deeds say of the log of the mux m
+-- what these deeds say about the log of the mux m
 abbrev pub mux_log : Stage → ℕ → List Note → List Event
 mux_log stage m deeds = events_of (home_part stage (MuxOf m) deeds)
 
 -- an event of a mux, after the rest of its log, in a phase that begins at the clock after and with
 -- the version first, where the mux was shown these posts: the first Switch of the phase is to a
--- version no older than its own and than first, each other one to a newer one; the packets' numbers
--- rise
+-- version no older than the mux's own and than first, each later one to a newer one; the packets'
+-- numbers rise
 abbrev pub IsMuxGiven : Stage → ℕ → ℕ → List ℕ → List Event → ℕ → What → Type 0
 IsMuxGiven stage after first posts rest clock (Switch m v) =
     MatchBool (switched_since after m.0 rest) ((version_at rest m).0 < v.0)
@@ -96,7 +96,7 @@ IsCopyCall stage past m server h (Arrives packet tag segment due) =
     × (tag_of label tag.hop ≡ Some tag) × (tag.dest ≡ server.id))
 IsCopyCall stage past m server h _ = ⊥
 
--- all calls that these seats made are of such copies, by the mux's log past
+-- all calls that these seats made are of such copies, by the mux's log `past`
 abbrev pub AreCopies : Stage → MuxId → List Serving → List Event → List (List Seated) → Type 0
 AreCopies stage m servers past seats =
     (s h : ℕ) (server : Serving) → slice_get servers s ≡ Some server
@@ -104,7 +104,7 @@ AreCopies stage m servers past seats =
 
 -- EACH DEED
 
--- an arrival of a packet comes after no arrival of a later one
+-- no arrival of a later packet comes before an arrival of a packet
 abbrev pub IsInOrder : List Note → What → Type 0
 IsInOrder rest (Arrive k hop server verdict) = many (λ y. arrives_after k y.event.what) rest ≡ 0
 IsInOrder rest _ = Unit {0}
@@ -130,7 +130,7 @@ abbrev pub IsPlaced : List Serving → What → Type 0
 IsPlaced servers (Arrive k hop server verdict) = HasServer servers server
 IsPlaced servers _ = Unit {0}
 
--- a deed of the phase, of which these are all
+-- one of the deeds of the phase, where `deeds` are all of them
 pub record IsDeed (F : Rules) (stage : Stage) (servers : List Serving) (stint : Stint)
     (deeds : List Note) (n : Note) : Type 0 where
   pub kind : carries (mux_for stint).0 n.event.what ≡ true
@@ -146,49 +146,49 @@ pub record IsDeed (F : Rules) (stage : Stage) (servers : List Serving) (stint : 
 
 -- THE PHASE
 
--- what holds at every moment of a phase, and of what was done when a worker gives up
+-- what holds at every moment of a phase, and of what was done if a worker gives up
 pub record Kept (F : Rules) (stage : Stage) (servers : List Serving) (stint : Stint)
     (now : MuxWorker) (deeds : List Note) : Type 0 where
   pub each : AllByRecursion (IsDeed F stage servers stint deeds) deeds
   pub ordered : AtEach (λ rest n. IsInOrder rest n.event.what) deeds
-  -- the mux's log grew by just these deeds' events
+  -- the mux's log grew by exactly these deeds' events
   pub logged : reverse now.mux.log
       ≡ mux_log stage (mux_for stint).0 deeds ++ reverse stint.start.mux.log
   pub gives : AtEach
       (λ rest e. IsMuxGiven stage stint.after (last_version stint.told) now.mux.seen.clocks
       (rest ++ reverse stint.start.mux.log) e.clock.0 e.what)
       (mux_log stage (mux_for stint).0 deeds)
-  -- so did what the seats were told
+  -- what the seats were told grew likewise
   pub hears : Hears stage servers stint.start.porter.seats now.porter.seats deeds
   pub copies : AreCopies stage (mux_for stint) servers (reverse stint.start.mux.log)
       stint.start.porter.seats
       → AreCopies stage (mux_for stint) servers (reverse now.mux.log) now.porter.seats
-  -- the exact greatest clock
+  -- the greatest clock exactly
   pub latest : now.porter.latest ≡ max stint.start.porter.latest (greatest clock_of deeds)
   pub mux : IsSameMux stint.start.mux now.mux
   pub porter : IsSamePorter stint.start.porter now.porter
 
--- besides the first Switch, at most 14 deeds for each packet: a Switch, its Steer, 3 copies and 9
--- of their forwards
+-- besides the first Switch, at most 41 deeds for each packet: a Switch, its Steer, 3 copies, 9
+-- forwards of these and 27 of those
 abbrev pub AreFew : List Note → Type 0
-AreFew deeds = length deeds ≤ 14 * many (λ n. is_steer n.event.what) deeds + 1
+AreFew deeds = length deeds ≤ 41 * many (λ n. is_steer n.event.what) deeds + 1
 
--- what a worker did of a phase, to its end
+-- what a worker did in a phase, to its end
 pub record Phase (F : Rules) (stage : Stage) (servers : List Serving) (stint : Stint)
     (now : MuxWorker) (deeds : List Note) : Type 0 where
   pub kept : Kept F stage servers stint now deeds
   -- every sending has its copies, or its Lose
   pub carrier : IsCarrier (RoutedBy stint.routes) F stage (mux_for stint).0 deeds
-  -- the mux looked, at what was posted before the phase or later
+  -- the mux looked at what was posted before the phase, or later
   pub looked : 1 ≤ many (λ n. is_switch_of n.event.what (mux_for stint).0) deeds
   pub heard : Continues stint.told now.mux.seen
-  -- each of the mux's packets is steered once, and no other
+  -- each of the mux's packets is steered once, and no other packet is
   pub steered : (k : ℕ) → many (λ n. steers_packet n.event.what k) deeds
       ≡ (if is_assigned stint.routes (mux_for stint).0 stint.from stint.until k then 1 else 0)
   pub few : AreFew deeds
 
--- why the worker gave up: memory, or a moment that was too large, which it had from the clock of
--- one of its deeds
+-- why the worker gave up: memory, or a moment that was too large, which came from the clock of one
+-- of its deeds
 abbrev pub IsStopOf : List Note → Stop → Type 0
 IsStopOf deeds Memory = Unit {0}
 IsStopOf deeds (Late moment clock) =
@@ -224,15 +224,15 @@ pub record IsReady (stage : Stage) (servers : List Serving) (stint : Stint) : Ty
   pub told : stint.told.board ≡ stint.start.mux.seen.board
   pub plan : stint.start.mux.seen.plan ≡ stage.script.plan
   pub older : AllByRecursion (IsOlder (mux_for stint) stint.from stint.after) stint.start.mux.log
-  pub tries : stint.start.porter.tries + 12 * (stint.until - stint.from) ≤ 4294967295
+  pub tries : stint.start.porter.tries + 39 * (stint.until - stint.from) ≤ 4294967295
   pub steps : stint.start.steps + (stint.until - stint.from) ≤ 4294967295
-  pub room : length stint.start.mux.log + 5 * (stint.until - stint.from) + 1 < 2 ^ 48
+  pub room : length stint.start.mux.log + 11 * (stint.until - stint.from) + 1 < 2 ^ 48
 
--- how far the worker's counts may rise in the phase
+-- how much the worker's counts may rise in the phase
 pub record HasGrown (stint : Stint) (now : MuxWorker) : Type 0 where
-  pub tries : now.porter.tries ≤ stint.start.porter.tries + 12 * (stint.until - stint.from)
+  pub tries : now.porter.tries ≤ stint.start.porter.tries + 39 * (stint.until - stint.from)
   pub steps : now.steps ≤ stint.start.steps + (stint.until - stint.from)
-  pub log : length now.mux.log ≤ length stint.start.mux.log + 5 * (stint.until - stint.from) + 1
+  pub log : length now.mux.log ≤ length stint.start.mux.log + 11 * (stint.until - stint.from) + 1
 
 -- the phase is done, or the worker gave up in it
 abbrev pub HasEnded : Rules → Stage → List Serving → Stint → MuxWorker → Option Stop → Type 0
@@ -247,7 +247,7 @@ CanWork stage servers routes span w =
     w.stop ≡ None → (told : Posted) × (w.told ≡ Some told)
     × IsReady stage servers (stint_of routes span told w)
 
--- it did its part of the phase; one that had given up did nothing
+-- it did its part of the phase; a worker that had given up did nothing
 pub record HasWorked (F : Rules) (stage : Stage) (servers : List Serving)
     (routes : List (Option MuxId)) (span : Span)
     (old new : MuxWorker) : Type 0 where

@@ -3,11 +3,11 @@ use Rattle.std.specs.Prelude.{ℕ, List}
 use Rattle.bm_server.specs.Seats.{Seated}
 
 pub record Porting : Type 0 where
-  -- the worker: 0, or the number of its mux and one
+  -- the worker: 0, or the number of its mux plus one
   pub number : ℕ
   -- a seat of every server, in their order
   pub seats : List (List Seated)
-  -- no fewer than its turns at any one shard
+  -- at least as many as its turns at any one shard
   pub tries : ℕ
   -- the greatest clock of all that it did, or 0
   pub latest : ℕ

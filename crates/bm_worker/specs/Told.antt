@@ -20,12 +20,12 @@ told_in (Some seat) h = told_at seat h
 abbrev pub told_there : List (List Seated) → ℕ → ℕ → List Answered
 told_there seats s h = told_in (slice_get seats s) h
 
--- one call more at this place and shard, and no other
+-- one more call at this place and shard, and at no other
 abbrev pub Gains : ℕ → ℕ → ShardCall → ShardReply → List (List Seated) → List (List Seated) → Type 0
 Gains place shard call reply a b = (s h : ℕ) → told_there b s h
     ≡ told_there a s h ++ (if s == place && h == shard then (call, reply) ∷ [] else [])
 
--- no call more
+-- no more calls
 abbrev pub Stays : List (List Seated) → List (List Seated) → Type 0
 Stays a b = (s h : ℕ) → told_there b s h ≡ told_there a s h
 

@@ -23,7 +23,7 @@ use std::sync::Wait;
 /// How many packets are steered under one look.
 const BATCH: usize = 256;
 
-/// Packets that a mux takes together, with the fates of their copies, and the place behind them.
+/// Packets that a mux takes together, with the fates of their copies, and the place after them.
 #[derive(Drop)]
 pub(crate) struct Batch<'a> {
     pub(crate) items: Vec<MuxItem<'a>>,
@@ -52,7 +52,7 @@ fn moment_at(stage: &Stage, at: u32) -> Moment
     }
 }
 
-/// What the mux takes of the packet of the record at this place, which is its own.
+/// The item of the packet of the record at this place, which is the mux's.
 fn item_at<'a, F, G>(shared: &Shared<'a, F, G>, at: u32, mux: MuxId) -> MuxItem<'a>
     requires run { IsRunnable shared.now.stage.now shared.now.octets.now shared.now.routes.now
         shared.now.servers.now }
@@ -73,7 +73,7 @@ fn item_at<'a, F, G>(shared: &Shared<'a, F, G>, at: u32, mux: MuxId) -> MuxItem<
     }
 }
 
-/// The mux's packets among the records at the places `from..until`, but no more than a batch has.
+/// The mux's packets among the records at the places `from..until`, at most as many as a batch has.
 pub(crate) fn collect<'a, F: Fn(u32, Hop) -> Fate, G>(
     shared: &Shared<'a, F, G>,
     mux: MuxId,
@@ -141,11 +141,11 @@ impl MuxWorker {
             × All (λ fate. (fate.copies ≤ 3) × (fate.delay ≤ 60 * 10 ^ 9)) fates.now }
         requires sits { Sits shared.now.servers.now self.old.porter }
         requires number { self.old.porter.number ≡ self.old.mux.id.0 + 1 }
-        requires few { self.old.porter.tries + 12 * length sents.now ≤ 4294967295 }
+        requires few { self.old.porter.tries + 39 * length sents.now ≤ 4294967295 }
         requires steps { self.old.steps + length sents.now ≤ 4294967295 }
         ensures same { IsSameWorker self.old (record self.new { steps = self.old.steps }) }
-        ensures grows { GrowsByLosses (3 * length sents.now) self.old.mux.log self.new.mux.log }
-        ensures tries { self.new.porter.tries ≤ self.old.porter.tries + 12 * length sents.now }
+        ensures grows { GrowsByLosses (9 * length sents.now) self.old.mux.log self.new.mux.log }
+        ensures tries { self.new.porter.tries ≤ self.old.porter.tries + 39 * length sents.now }
         ensures steps { self.new.steps ≤ self.old.steps + length sents.now }
         ensures delivers { Delivers (Gives F.Fn shared.now.faults.now.rule) shared.now.stage.now
             shared.now.servers.now sents.now fates.now self.old self.new result }
@@ -159,12 +159,13 @@ impl MuxWorker {
             let fate = fate_at(fates, at);
             let sending = Sending {
                 packet: sent.packet,
+                hop: Hop::Direct,
                 place,
                 octets: sent.octets.items(),
                 clock: sent.clock,
                 fate,
             };
-            self.send_direct(rt, shared, &sending)?;
+            self.send(rt, shared, &sending)?;
         }
         Ok(())
     }

@@ -25,8 +25,8 @@ impl MuxWorker {
     }
 
     /// Steers and delivers the next batch of the mux's packets among the records at the places
-    /// `from..until`: the place behind it. What was sent is put into `sents`, whose items before
-    /// it are let go.
+    /// `from..until`; returns the place after it. What was sent is put into `sents` in place of
+    /// what was there.
     fn carry_batch<W: Wait, F: Fn(u32, Hop) -> Fate, G: Gate>(
         &mut self,
         rt: &W,
@@ -43,7 +43,7 @@ impl MuxWorker {
         requires mux { self.old.mux.id.0 < 64 }
         requires sits { Sits shared.now.servers.now self.old.porter }
         requires number { self.old.porter.number ≡ self.old.mux.id.0 + 1 }
-        requires tries { self.old.porter.tries + 12 * (until - from) ≤ 4294967295 }
+        requires tries { self.old.porter.tries + 39 * (until - from) ≤ 4294967295 }
         requires steps { self.old.steps + (until - from) ≤ 4294967295 }
         requires room { length self.old.mux.log < 2 ^ 48 }
         ensures more { IfOk result (λ end. (from < end) × (end ≤ until)) }
@@ -65,7 +65,7 @@ impl MuxWorker {
         Ok(batch.end)
     }
 
-    /// Carries the mux's packets of the phase, by a look at what was told or later.
+    /// Carries the mux's packets of the phase, by looks that show what was told or later posts.
     pub(crate) fn carry_phase<W: Wait, F: Fn(u32, Hop) -> Fate, G: Gate>(
         &mut self,
         rt: &W,

@@ -1,4 +1,4 @@
-//! Where a server lies among those of a run.
+//! The place of a server among those of a run.
 ghost use Rattle.std.specs.Prelude.{◌≡◌, ◌≢◌, ℕ, Some, None, slice_get};
 ghost use Rattle.std.specs.Bool.{OnTrue};
 ghost use Rattle.bm_server.specs.Servings.{Serving};
@@ -24,7 +24,7 @@ pub fn place_of(servers: &[Server], id: ServerId) -> Option<usize>
     ensures none { result ≡ None → (s : ℕ) (server : Serving)
         → slice_get servers.now s ≡ Some server → server.id ≢ id }
 {
-    // Mostly the servers are numbered from 1 on, without a gap.
+    // Mostly the servers are numbered from 1 without a gap.
     let likely = usize::from(id.0).saturating_sub(1);
     if is_at(servers, likely, id) {
         return Some(likely);

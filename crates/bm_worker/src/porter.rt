@@ -94,8 +94,8 @@ impl Porter {
         }
     }
 
-    /// A copy of the packet arrives as octets, which was due at this moment: the clock and the
-    /// verdict. `Memory` where memory was refused; then nothing was told. It may wait.
+    /// A copy of the packet, which was due at this moment, arrives as octets; returns the clock and
+    /// the verdict. `Memory` where memory was refused; then nothing was told. It may wait.
     pub fn arrive<R: Wait>(
         &mut self,
         rt: &R,
@@ -130,8 +130,8 @@ impl Porter {
         Ok((clock, verdict))
     }
 
-    /// The server at the place ends a connection at this moment: the clock, and whether it held
-    /// one. `Memory` where memory was refused; then nothing was told. It may wait.
+    /// The server at the place ends a connection at this moment; returns the clock, and whether it
+    /// held one. `Memory` where memory was refused; then nothing was told. It may wait.
     pub fn close<R: Wait>(
         &mut self,
         rt: &R,
@@ -164,8 +164,8 @@ impl Porter {
         Ok((clock, was_held))
     }
 
-    /// The server at the place is asked to retire a shard at this moment, with this outcome: the
-    /// clock. `Memory` where memory was refused; then nothing was told. It may wait.
+    /// Asks the server at the place to retire a shard at this moment, with this outcome; returns
+    /// the clock. `Memory` where memory was refused; then nothing was told. It may wait.
     pub fn retire<R: Wait>(
         &mut self,
         rt: &R,
@@ -201,7 +201,7 @@ impl Porter {
         Ok(clock)
     }
 
-    /// A sending at this clock has no copies: the clock of its Lose.
+    /// A sending at this clock has no copies; returns the clock of its Lose.
     pub fn lose(&mut self, clock: Moment) -> Moment
         requires clock { clock.0 ≤ 9 * 10 ^ 18 }
         ensures same { IsSamePorter self.old self.new }
@@ -215,7 +215,7 @@ impl Porter {
         lost
     }
 
-    /// The worker did something at this clock that was not at a shard.
+    /// Records that the worker did something at this clock that was not at a shard.
     pub fn see(&mut self, clock: Moment)
         ensures same { IsSamePorter self.old self.new }
         ensures seats { self.new.seats ≡ self.old.seats }
@@ -239,7 +239,7 @@ impl Porter {
         self.number
     }
 
-    /// The seats, to be handed back. Takes no memory.
+    /// The seats, to be given back. Takes no memory.
     pub fn into_seats(self) -> Vec<ServerSeat>
         ensures { result.items ≡ self.seats }
     {

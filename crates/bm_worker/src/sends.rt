@@ -1,13 +1,14 @@
 //! How a worker delivers what was sent.
-ghost use Rattle.std.specs.Prelude.{◌≡◌, ◌+◌, ◌*◌, ◌^◌, ◌≤◌, IfOk, IsOk, MatchResult, Ok as ok};
+ghost use Rattle.std.specs.Prelude.{◌≡◌, ◌+◌, ◌*◌, ◌^◌, ◌≤◌, IfOk, IsOk, MatchResult, Ok as ok, Some};
 ghost use Rattle.bm_encap.specs.Faults.{chained};
-ghost use Rattle.bm_base.specs.declared.label.Hop.TheVariants.{Chained, Direct};
+ghost use Rattle.bm_base.specs.Labels.{hop_after};
+ghost use Rattle.bm_core.specs.Inside.Weights.{hop_weight};
 ghost use Rattle.bm_core.specs.Stages.{IsSound};
 ghost use Rattle.bm_fault.specs.Faults.{Gives, IsRule};
 ghost use Rattle.bm_worker.specs.declared.stop.Stop.TheVariants.{Memory as stopped};
 ghost use Rattle.bm_worker.specs.Deeds.{Sits, Suits};
 ghost use Rattle.bm_worker.specs.Inside.Debts.{Carries, CarriesOne, GrowsByLosses, IsCopyOf};
-ghost use Rattle.bm_worker.specs.Inside.Debts.{IsForwarded};
+ghost use Rattle.bm_worker.specs.Inside.Debts.{IsForwarded, copy_lost, most_lost, most_tries};
 ghost use Rattle.bm_worker.specs.Inside.Debts.{IsLateFrom, IsSameWorker, debt};
 ghost use Rattle.bm_worker.specs.Inside.Lost.{with_loss};
 
@@ -19,11 +20,12 @@ use bm_encap::set_chained;
 use std::alloc::Global;
 use std::sync::Wait;
 
-/// A sending: a packet's octets on their way to the server at a place, sent at this clock, and what
-/// becomes of them.
-#[derive(Clone, Copy, Debug)]
+/// A sending: a packet's octets, sent at this clock to the server at a place, and what becomes of
+/// them.
+#[derive(Clone, Copy)]
 pub(crate) struct Sending<'a> {
     pub(crate) packet: u32,
+    pub(crate) hop: Hop,
     pub(crate) place: usize,
     pub(crate) octets: &'a [u8],
     pub(crate) clock: Moment,
@@ -46,7 +48,7 @@ fn due_of(clock: Moment, fate: Fate) -> Result<Moment, Stop>
     Ok(Moment(due))
 }
 
-/// The octets of a direct copy, turned to the next hop.
+/// The octets of a copy, rewritten for the next hop.
 fn turned(alloc: Global, octets: &[u8]) -> Result<Vec<u8>, Memory>
     requires { IsOk (chained octets.now) }
     ensures { IfOk result (λ next. chained octets.now ≡ ok next.items) }
@@ -60,7 +62,7 @@ fn turned(alloc: Global, octets: &[u8]) -> Result<Vec<u8>, Memory>
 }
 
 impl MuxWorker {
-    /// A sending at this clock has no copies.
+    /// Logs that a sending at this clock has no copies.
     fn lose(&mut self, packet: u32, hop: Hop, clock: Moment) -> Result<(), Stop>
         requires { clock.0 ≤ 9 * 10 ^ 18 }
         ensures { MatchResult result (λ _. self.new ≡ with_loss packet hop clock.0 self.old)
@@ -71,69 +73,34 @@ impl MuxWorker {
         Ok(())
     }
 
-    /// Delivers the copies of a forward, or loses it.
-    fn send_chained<W: Wait, F: Fn(u32, Hop) -> Fate, G>(
-        &mut self,
-        rt: &W,
-        shared: &Shared<'_, F, G>,
-        sending: &Sending<'_>,
-    ) -> Result<(), Stop>
-        requires suits { Suits shared.now.stage.now shared.now.servers.now }
-        requires copy { IsCopyOf shared.now.stage.now shared.now.servers.now self.old.mux
-            sending.now.place sending.now.packet Chained sending.now.octets.now }
-        requires sits { Sits shared.now.servers.now self.old.porter }
-        requires number { self.old.porter.number ≡ self.old.mux.id.0 + 1 }
-        requires few { self.old.porter.tries + 3 ≤ 4294967295 }
-        requires fate { (sending.now.fate.copies ≤ 3) × (sending.now.fate.delay ≤ 60 * 10 ^ 9) }
-        ensures same { IsSameWorker self.old self.new }
-        ensures grows { GrowsByLosses 1 self.old.mux.log self.new.mux.log }
-        ensures tries { self.new.porter.tries ≤ self.old.porter.tries + 3 }
-        ensures carries { let d = debt sending.now.packet Chained sending.now.clock.0
-            sending.now.fate in
-            Carries (Gives F.Fn shared.now.faults.now.rule) shared.now.stage.now
-            shared.now.servers.now d 3 self.old self.new result }
-    {
-        let due = due_of(sending.clock, sending.fate)?;
-        if sending.fate.copies == 0 {
-            return self.lose(sending.packet, Hop::Chained, sending.clock);
-        }
-        for _ in 0..sending.fate.copies {
-            self.porter.arrive(
-                rt,
-                shared.servers,
-                sending.place,
-                sending.packet,
-                sending.octets,
-                due,
-            )?;
-        }
-        Ok(())
-    }
-
-    /// Sends a direct copy that was forwarded at this clock on to the server.
+    /// Sends a copy that was forwarded at this clock on to the server.
+    #[cycle(sending)]
     fn forward<W: Wait, F: Fn(u32, Hop) -> Fate, G>(
         &mut self,
         rt: &W,
         shared: &Shared<'_, F, G>,
         sending: &Sending<'_>,
+        next: Hop,
         to: ServerId,
         clock: Moment,
         fate: Fate,
     ) -> Result<(), Stop>
+        requires rule { IsRule F.Fn shared.now.faults.now.rule }
         requires sound { IsSound shared.now.stage.now }
         requires suits { Suits shared.now.stage.now shared.now.servers.now }
+        requires next { hop_after sending.now.hop ≡ Some next }
         requires onward { IsForwarded shared.now.stage.now shared.now.servers.now self.old.mux
-            sending.now.place sending.now.packet sending.now.octets.now to }
+            sending.now.place sending.now.packet sending.now.hop sending.now.octets.now to }
         requires sits { Sits shared.now.servers.now self.old.porter }
         requires number { self.old.porter.number ≡ self.old.mux.id.0 + 1 }
-        requires few { self.old.porter.tries + 3 ≤ 4294967295 }
+        requires few { self.old.porter.tries + most_tries next ≤ 4294967295 }
         requires fate { (fate.copies ≤ 3) × (fate.delay ≤ 60 * 10 ^ 9) }
         ensures same { IsSameWorker self.old self.new }
-        ensures grows { GrowsByLosses 1 self.old.mux.log self.new.mux.log }
-        ensures tries { self.new.porter.tries ≤ self.old.porter.tries + 3 }
-        ensures carries { let d = debt sending.now.packet Chained clock.0 fate in
+        ensures grows { GrowsByLosses (most_lost next) self.old.mux.log self.new.mux.log }
+        ensures tries { self.new.porter.tries ≤ self.old.porter.tries + most_tries next }
+        ensures carries { let d = debt sending.now.packet next clock.0 fate in
             Carries (Gives F.Fn shared.now.faults.now.rule) shared.now.stage.now
-            shared.now.servers.now d 3 self.old self.new result }
+            shared.now.servers.now d (most_tries next) self.old self.new result }
     {
         let Some(place) = place_of(shared.servers, to) else {
             unreachable!();
@@ -141,15 +108,17 @@ impl MuxWorker {
         let octets = turned(shared.alloc, sending.octets)?;
         let onward = Sending {
             packet: sending.packet,
+            hop: next,
             place,
             octets: &octets,
             clock,
             fate,
         };
-        self.send_chained(rt, shared, &onward)
+        self.send(rt, shared, &onward)
     }
 
-    /// Delivers one copy of a steered packet, and what it is forwarded as.
+    /// Delivers one copy of a sending, and what is forwarded of it.
+    #[cycle(sending)]
     fn carry_copy<W: Wait, F: Fn(u32, Hop) -> Fate, G>(
         &mut self,
         rt: &W,
@@ -161,19 +130,20 @@ impl MuxWorker {
         requires sound { IsSound shared.now.stage.now }
         requires suits { Suits shared.now.stage.now shared.now.servers.now }
         requires copy { IsCopyOf shared.now.stage.now shared.now.servers.now self.old.mux
-            sending.now.place sending.now.packet Direct sending.now.octets.now }
+            sending.now.place sending.now.packet sending.now.hop sending.now.octets.now }
         requires sits { Sits shared.now.servers.now self.old.porter }
         requires number { self.old.porter.number ≡ self.old.mux.id.0 + 1 }
-        requires few { self.old.porter.tries + 4 ≤ 4294967295 }
+        requires few { self.old.porter.tries + hop_weight sending.now.hop ≤ 4294967295 }
         requires due { (due.0 ≡ sending.now.clock.0 + sending.now.fate.delay)
             × (due.0 ≤ 9 * 10 ^ 18) }
         ensures same { IsSameWorker self.old self.new }
-        ensures grows { GrowsByLosses 1 self.old.mux.log self.new.mux.log }
-        ensures tries { self.new.porter.tries ≤ self.old.porter.tries + 4 }
-        ensures carries { let d = debt sending.now.packet Direct sending.now.clock.0
-            sending.now.fate in
+        ensures grows { GrowsByLosses (copy_lost sending.now.hop) self.old.mux.log self.new.mux.log }
+        ensures tries { self.new.porter.tries
+            ≤ self.old.porter.tries + hop_weight sending.now.hop }
+        ensures carries { let d = debt sending.now.packet sending.now.hop
+            sending.now.clock.0 sending.now.fate in
             CarriesOne (Gives F.Fn shared.now.faults.now.rule) shared.now.stage.now
-            shared.now.servers.now d 4 self.old self.new result }
+            shared.now.servers.now d (hop_weight sending.now.hop) self.old self.new result }
     {
         let (clock, verdict) = self.porter.arrive(
             rt,
@@ -186,12 +156,16 @@ impl MuxWorker {
         let Verdict::Forward(to) = verdict else {
             return Ok(());
         };
-        let fate = shared.faults.fate(sending.packet, Hop::Chained);
-        self.forward(rt, shared, sending, to, clock, fate)
+        let Some(next) = sending.hop.next() else {
+            unreachable!();
+        };
+        let fate = shared.faults.fate(sending.packet, next);
+        self.forward(rt, shared, sending, next, to, clock, fate)
     }
 
-    /// Delivers the copies of a steered packet and of their forwards, or loses it.
-    pub(crate) fn send_direct<W: Wait, F: Fn(u32, Hop) -> Fate, G>(
+    /// Delivers the copies of a sending, and what is forwarded of them; or loses the sending.
+    #[cycle(sending)]
+    pub(crate) fn send<W: Wait, F: Fn(u32, Hop) -> Fate, G>(
         &mut self,
         rt: &W,
         shared: &Shared<'_, F, G>,
@@ -201,22 +175,23 @@ impl MuxWorker {
         requires sound { IsSound shared.now.stage.now }
         requires suits { Suits shared.now.stage.now shared.now.servers.now }
         requires copy { IsCopyOf shared.now.stage.now shared.now.servers.now self.old.mux
-            sending.now.place sending.now.packet Direct sending.now.octets.now }
+            sending.now.place sending.now.packet sending.now.hop sending.now.octets.now }
         requires sits { Sits shared.now.servers.now self.old.porter }
         requires number { self.old.porter.number ≡ self.old.mux.id.0 + 1 }
-        requires few { self.old.porter.tries + 12 ≤ 4294967295 }
+        requires few { self.old.porter.tries + most_tries sending.now.hop ≤ 4294967295 }
         requires fate { (sending.now.fate.copies ≤ 3) × (sending.now.fate.delay ≤ 60 * 10 ^ 9) }
         ensures same { IsSameWorker self.old self.new }
-        ensures grows { GrowsByLosses 3 self.old.mux.log self.new.mux.log }
-        ensures tries { self.new.porter.tries ≤ self.old.porter.tries + 12 }
-        ensures carries { let d = debt sending.now.packet Direct sending.now.clock.0
-            sending.now.fate in
+        ensures grows { GrowsByLosses (most_lost sending.now.hop) self.old.mux.log self.new.mux.log }
+        ensures tries { self.new.porter.tries
+            ≤ self.old.porter.tries + most_tries sending.now.hop }
+        ensures carries { let d = debt sending.now.packet sending.now.hop
+            sending.now.clock.0 sending.now.fate in
             Carries (Gives F.Fn shared.now.faults.now.rule) shared.now.stage.now
-            shared.now.servers.now d 12 self.old self.new result }
+            shared.now.servers.now d (most_tries sending.now.hop) self.old self.new result }
     {
         let due = due_of(sending.clock, sending.fate)?;
         if sending.fate.copies == 0 {
-            return self.lose(sending.packet, Hop::Direct, sending.clock);
+            return self.lose(sending.packet, sending.hop, sending.clock);
         }
         for _ in 0..sending.fate.copies {
             self.carry_copy(rt, shared, sending, due)?;

@@ -5,8 +5,8 @@ use bm_fault::Faults;
 use bm_server::Server;
 use std::alloc::Global;
 
-/// What all workers of a run share. The place i of `octets` and of `routes` is that of the record
-/// of packet i + 1: its packet, and its mux if it is steerable.
+/// What all workers of a run share. Place i of `octets` and of `routes` is for the record of packet
+/// i + 1: its packet, and its mux if it is steerable.
 pub struct Shared<'a, F, G> {
     pub alloc: Global,
     pub stage: &'a Stage,

@@ -1,9 +1,9 @@
-//! Where a phase lies.
+//! The extent of a phase.
 use bm_base::Moment;
 
 /// A phase of the run: its packets are those of the records at the places `from..until`, and it
-/// comes after the Sync of the clock `after`, or of 0 where there is none.
-#[derive(Clone, Copy, Debug, PartialEq, Eq)]
+/// comes after the Sync with the clock `after`, or 0 if there is none.
+#[derive(Clone, Copy, PartialEq, Eq)]
 pub struct Span {
     pub from: u32,
     pub until: u32,

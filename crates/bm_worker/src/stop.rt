@@ -4,11 +4,11 @@ ghost use Rattle.std.specs.Prelude.{◌≡◌};
 use bm_base::{Memory, Moment};
 
 /// Why a worker gave up.
-#[derive(Clone, Copy, Debug, PartialEq, Eq)]
+#[derive(Clone, Copy, PartialEq, Eq)]
 pub enum Stop {
     /// Memory was refused.
     Memory,
-    /// This moment was due, above the last that is handed in. It comes from the event of this
+    /// A moment was due above the last one that may be passed on. It comes from the event at this
     /// clock.
     Late { moment: Moment, clock: Moment },
 }

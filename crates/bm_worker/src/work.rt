@@ -1,4 +1,4 @@
-//! The workers of the muxes, side by side.
+//! The workers of the muxes, in parallel.
 ghost use Rattle.std.specs.Prelude.{◌≡◌, ℕ, All, Some, length, slice_get};
 ghost use Rattle.bm_fault.specs.Faults.{Gives, IsRule};
 ghost use Rattle.bm_worker.specs.declared.worker.MuxWorker.{MuxWorker as Worker};
@@ -34,8 +34,8 @@ impl MuxWorker {
     }
 }
 
-/// Lets each worker that hasn't given up do its part of the phase, all at once, and waits for all
-/// of them.
+/// Has each worker that hasn't given up do its part of the phase, all in parallel, and waits for
+/// all of them.
 pub fn work_all<W: Threads + Wait + Sync, F: Fn(u32, Hop) -> Fate + Sync, G: Gate>(
     rt: &W,
     shared: &Shared<'_, F, G>,

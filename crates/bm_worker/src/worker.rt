@@ -8,10 +8,10 @@ use bm_publish::Told;
 pub struct MuxWorker {
     pub mux: Mux,
     pub porter: Porter,
-    /// How many packets it delivered, of all phases.
+    /// How many packets it delivered, in all phases.
     pub steps: u32,
-    /// What was posted before the phase that comes next.
+    /// What was posted before the next phase.
     pub told: Option<Told>,
-    /// Why it gave up, if it did. Then it does nothing more.
+    /// Why it gave up, if it did. Then it does nothing any more.
     pub stop: Option<Stop>,
 }

@@ -130,8 +130,8 @@ steers_few x n few =
 
 lengths_few : (carriers : List (List Note)) (c : ℕ)
     → ((m : ℕ) → m < length carriers
-    → length (deeds_of carriers m) ≤ 14 * many (λ n. is_steer n.event.what) (deeds_of carriers m) + 65538)
-    → length (all_deeds carriers) ≤ 14 * many (λ n. is_steer n.event.what) (all_deeds carriers)
+    → length (deeds_of carriers m) ≤ 41 * many (λ n. is_steer n.event.what) (deeds_of carriers m) + 65538)
+    → length (all_deeds carriers) ≤ 41 * many (λ n. is_steer n.event.what) (all_deeds carriers)
     + 65538 * length carriers
 lengths_few [] c few = omega arith
 lengths_few (d ∷ carriers) c few =
@@ -141,14 +141,14 @@ lengths_few (d ∷ carriers) c few =
     in let b = total_append (λ n. one_if (is_steer n.event.what)) d (all_deeds carriers)
     in omega arith
 
--- so many deeds of the muxes' workers
+-- a bound on the deeds of the muxes' workers
 pub carried_few : (stage : Stage) (routes : List (Option MuxId)) (until : ℕ) (carriers : List (List Note))
     → until ≤ 200000 → length carriers ≤ 64
     → ((m : ℕ) → m < length carriers
-    → length (deeds_of carriers m) ≤ 14 * many (λ n. is_steer n.event.what) (deeds_of carriers m) + 65538)
+    → length (deeds_of carriers m) ≤ 41 * many (λ n. is_steer n.event.what) (deeds_of carriers m) + 65538)
     → ((m : ℕ) → m < length carriers → (k : ℕ)
     → many (λ n. steers_packet n.event.what k) (deeds_of carriers m) ≤ one_if (is_assigned routes m 0 until k))
-    → length (all_deeds carriers) ≤ 7000000
+    → length (all_deeds carriers) ≤ 12400000
 carried_few stage routes until carriers low muxes few steered =
     let all = lengths_few carriers 0 few
     in let steers = steers_few (all_deeds carriers) until (λ k.
@@ -199,7 +199,7 @@ count_few test (suc n) (c ∷ x) = go (test c) (count_few test n x) where
   go true old = omega arith
   go false old = omega arith
 
--- no more Syncs than commands
+-- at most as many Syncs as commands
 pub syncs_few : (stage : Stage) (i : ℕ) (x : List Note) → IsSound stage → AreDone stage i x
     → counts (control_log stage x) is_sync ≤ 65536
 syncs_few stage i x sound done =
@@ -210,7 +210,7 @@ syncs_few stage i x sound done =
     in let e = sound.script.few_commands
     in omega arith
 
--- no more changes than commands
+-- at most as many changes as commands
 pub changes_few : (next top : ℕ) (x : List Command) → NamesVersions next top x → top + 1 ≤ next + length x
 changes_few next top [] names = omega arith
 changes_few next top (ChangeCommand v ∷ x) names = let old = changes_few (next + 1) top x names.1 in omega arith

@@ -16,7 +16,7 @@ use Rattle.bm_world.specs.Inside.Crews.{rows_of, HasSeenAll, IsNewWorker}
 
 -- MADE
 
--- so many are made, of the first looks and rows, and these are left
+-- n workers are made, of the first looks and rows, and these are left
 pub record AreMade (looks : List Posted) (rows : List (List (List Seated))) (n : ℕ) (left : List Posted)
     (rest : List (List (List Seated))) (workers : List MuxWorker) : Type 0 where
   pub count : length workers ≡ n

@@ -6,7 +6,7 @@ use Rattle.std.specs.Prelude.{IfSome, is_some, ◌-◌, option_map}
 use Rattle.std.specs.List.{AllByRecursion}
 use Rattle.std.proofs.lemmas.Bool.{cases_lt, eq-eqb, eqb-true, and_parts, and_from, le-leb}
 use Rattle.bm_base.specs.declared.label.Hop.{Hop}
-use Rattle.bm_base.specs.declared.label.Hop.TheVariants.{Direct, Chained}
+use Rattle.bm_base.proofs.Hops.{same_hop_refl}
 use Rattle.bm_base.specs.declared.flow.Segment.{Segment}
 use Rattle.bm_core.specs.declared.events.Event.{Event}
 use Rattle.bm_core.specs.declared.events.Stage.{Stage}
@@ -137,17 +137,14 @@ carried_home stage controller carriers books all m seat (Lose k hop) low is at b
     in subst (λ (p : ℕ). has_actor (plain (logs_of stage controller carriers books all)) (MuxOf p) ≡ true) here
     (has_mux stage controller carriers books all m low)
 carried_home stage controller carriers books all m seat (Arrive k hop server verdict) low is at booked known owed =
-    let mine : arrives (Arrive k hop server verdict) k hop ≡ true = and_from _ _ (eq-eqb _ _ refl) (hop_same hop)
+    let mine : arrives (Arrive k hop server verdict) k hop ≡ true = and_from _ _ (eq-eqb _ _ refl) (same_hop_refl hop)
     in arrival_home stage (plain (logs_of stage controller carriers books all)) server.0 (segment_of stage k)
     (known k (owed k hop mine))
     (if_some (λ s. has_book books server.0 (shard stage s.flow) ≡ true)
     (λ s. has_actor (plain (logs_of stage controller carriers books all)) (ShardOf server.0 (shard stage s.flow))
     ≡ true)
     (segment_of stage k)
-    (λ s has. has_book_log stage controller carriers books all server.0 (shard stage s.flow) has) booked) where
-      hop_same : (h : Hop) → same_hop h h ≡ true
-      hop_same Direct = refl
-      hop_same Chained = refl
+    (λ s has. has_book_log stage controller carriers books all server.0 (shard stage s.flow) has) booked)
 carried_home stage controller carriers books all m seat (Publish v) low is at booked known owed = absurd (cc)
 carried_home stage controller carriers books all m seat (Close server flow closed) low is at booked known owed =
     absurd (cc)
@@ -347,10 +344,6 @@ copyless_some k hop clock x one =
       go true true c = omega arith
       go true false c = omega arith
       go false b c = omega arith
-
-same_hop_refl : (h : Hop) → same_hop h h ≡ true
-same_hop_refl Direct = refl
-same_hop_refl Chained = refl
 
 -- a copy has its sending at a lower clock in the logs, and a loss has its own
 sent_one : (R : Routes) (F : Rules) (stage : Stage) (controller : List Note) (carriers : List (List Note))

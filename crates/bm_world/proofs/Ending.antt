@@ -58,7 +58,7 @@ seats_same g h zero same = refl
 seats_same g h (suc n) same =
     let old = seats_same g h n (λ w low. same w (omega arith)) in let here = same n (omega arith) in omega arith
 
--- the mux is one of so many
+-- the mux is one of n
 abbrev pub is_under : Option ℕ → ℕ → Bool
 is_under None n = false
 is_under (Some m) n = ltb m n

@@ -8,14 +8,13 @@ use Rattle.std.proofs.lemmas.Bool.{cases_lt, eq-eqb, and_parts, and_from, or_lef
 use Rattle.std.proofs.lemmas.Bool.{ltb-true}
 use mathlib.Core.List.{IsPrefix}
 use Rattle.bm_base.specs.declared.ids.MuxId.{MuxId}
-use Rattle.bm_base.specs.declared.label.Hop.{Hop}
-use Rattle.bm_base.specs.declared.label.Hop.TheVariants.{Direct, Chained}
+use Rattle.bm_base.proofs.Hops.{same_hop_refl}
 use Rattle.bm_core.specs.declared.events.Event.{Event}
 use Rattle.bm_core.specs.declared.events.Stage.{Stage}
 use Rattle.bm_core.specs.declared.events.What.{What}
 use Rattle.bm_core.specs.declared.events.What.TheVariants.{Publish, Switch, Steer, Lose, Arrive, Close, Retire, Sync}
 use Rattle.bm_core.specs.Accounts.{Routes, Rules, is_sync, loses, steers_packet}
-use Rattle.bm_core.specs.Past.{segment_of, same_hop}
+use Rattle.bm_core.specs.Past.{segment_of}
 use Rattle.bm_core.specs.Runs.{AtEach, is_by}
 use Rattle.bm_core.specs.Runs.Actor.{Controller}
 use Rattle.bm_core.specs.Threads.{sync_clock, newest_before}
@@ -100,15 +99,11 @@ clocked_now stage after first control posts posts' (e ∷ new) old more sync giv
 
 -- WHAT WAS DONE BEFORE
 
-hop_same : (h : Hop) → same_hop h h ≡ true
-hop_same Direct = refl
-hop_same Chained = refl
-
 loss_of : (R : Routes) (F : Rules) (stage : Stage) (m : ℕ) (deeds : List Note) → IsCarrier R F stage m deeds
     → (n : Note)
     → IsAmong deeds n → 0 < n.event.clock.0 → (what : What) → n.event.what ≡ what → IsLossOf deeds n.event.clock.0 what
 loss_of R F stage m deeds c n among low (Lose k hop) is =
-    let mine : loses n.event.what k hop ≡ true = rw is (and_from _ _ (eq-eqb _ _ refl) (hop_same hop))
+    let mine : loses n.event.what k hop ≡ true = rw is (and_from _ _ (eq-eqb _ _ refl) (same_hop_refl hop))
     in let clock = n.event.clock.0 - 1
     in let next : n.event.clock.0 ≡ suc clock = omega arith
     in let lost : 1 ≤ many (is_lost k hop (suc clock)) deeds =

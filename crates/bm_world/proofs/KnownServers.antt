@@ -109,7 +109,7 @@ pub known_among : (plan : Planned) (s : ServerId) (n : ℕ) → is_among plan.se
 known_among plan s zero is = is
 known_among plan s (suc n) is = or_right _ _ (known_among plan s n is)
 
--- the servers of lower numbers that are known once so many changes are published
+-- the servers with lower numbers that are known once this many changes are published
 pub record AreKnownBelow (plan : Planned) (changes number : ℕ) (ids : List ServerId) : Type 0 where
   pub rise : RiseFrom 1 ids
   pub below : AllByRecursion (λ (s : ServerId). s.0 < number) ids

@@ -1,4 +1,4 @@
--- No worker of a run gives up for a moment that is too large: so many events as there are lead to no such moment.
+-- No worker of a run gives up for a moment that is too large: a run has too few events to lead to such a moment.
 use Rattle.std.proofs.Common.{◌≡◌, ℕ, zero, suc, ◌+◌, ◌*◌, ◌≤◌, Bool, true, false, cond, List, [], ◌∷◌}
 use Rattle.std.proofs.Common.{◌++◌, length, length-append, map, Option, Some, refl, sym, ap, ◌∙◌, subst, arith, eqb}
 use Rattle.std.proofs.Common.{append-nil, append_assoc, inl, inr}

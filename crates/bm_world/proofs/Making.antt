@@ -16,7 +16,7 @@ use Rattle.bm_publish.specs.Posts.{Posted}
 use Rattle.bm_server.specs.Seats.{Seated}
 use Rattle.bm_server.specs.Servings.{Serving}
 use Rattle.bm_worker.specs.Deeds.{Suits}
-use Rattle.bm_worker.proofs.Known.{table_entry}
+use Rattle.bm_worker.proofs.Known.{known_cur}
 use Rattle.bm_world.specs.Inside.Crews.{HaveNoTurns}
 use Rattle.bm_world.specs.Inside.Served.{IsNewRow, IsServerOf}
 use Rattle.bm_world.proofs.KnownServers.{known_server}
@@ -85,7 +85,7 @@ suits_made stage servers ids workers sound rise known count each = record {
 pub has_servers : (stage : Stage) → IsSound stage → HasServers stage.script.plan
 has_servers stage sound v b low here =
     known_server stage.script sound.script (length stage.script.plan.changes) (table stage.script.plan v b).cur
-    (table_entry stage.script sound.script v b).cur
+    (known_cur stage.script sound.script v b)
 
 pub looks_may : (stage : Stage) (posted : Posted) (looks : List Posted) → IsSound stage
     → posted.plan ≡ stage.script.plan → All (λ (look : Posted). look ≡ posted) looks

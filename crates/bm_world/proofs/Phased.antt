@@ -1,4 +1,4 @@
--- A phase that all workers have done, and the Sync behind it.
+-- A phase that all workers have done, and the Sync after it.
 use Rattle.std.proofs.Common.{◌≡◌, ℕ, zero, suc, ◌+◌, ◌-◌, ◌<◌, ◌≤◌, max, true, false, List, []}
 use Rattle.std.proofs.Common.{◌∷◌, ◌++◌, length, map, Option, Some, None, refl, sym, ap, ◌∙◌, subst}
 use Rattle.std.proofs.Common.{arith}
@@ -280,7 +280,7 @@ end_stands F stage servers routes posted head b workers p phases until controlle
 
 -- WHAT COMES NEXT
 
--- behind a phase that all have done
+-- after a phase that all have done
 pub record IsMeeting (F : Rules) (stage : Stage) (servers : List Serving) (routes : List (Option MuxId))
     (posted : Posted) (head : Head) (workers : List MuxWorker) (until : ℕ) : Type 0 where
   pub sound : IsSound stage

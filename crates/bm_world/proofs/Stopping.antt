@@ -84,11 +84,11 @@ large_stop x (Some (Late moment clock)) stopped late =
 
 -- A MUX'S WORKER
 
--- what the worker of mux m did of a run, with at most so many phases, of packets up to a number
+-- what the worker of mux m did of a run, in at most this many phases, with packets up to a number
 record IsPart (F : Rules) (stage : Stage) (servers : List Serving) (routes : List (Option MuxId))
     (control : List Event) (board : Board) (phases until m : ℕ) (w : MuxWorker) (deeds : List Note) : Type 0 where
   left : HasLeft F stage servers control board m w deeds
-  few : length deeds ≤ 14 * many (λ n. is_steer n.event.what) deeds + phases
+  few : length deeds ≤ 41 * many (λ n. is_steer n.event.what) deeds + phases
   steered : (k : ℕ) → many (λ n. steers_packet n.event.what k) deeds ≤ one_if (is_assigned routes m 0 until k)
   large : IsTooLate w.stop → IsLarge deeds
 
@@ -383,7 +383,7 @@ latest_under (w ∷ workers) top each =
     in let old = latest_under workers top (λ m x at. each (suc m) x at)
     in omega arith
 
--- all have done a phase, and the Sync behind it would be too late
+-- all have done a phase, and the Sync after it would be too late
 pub too_late_to_sync : (F : Rules) (stage : Stage) (servers : List Serving) (routes : List (Option MuxId))
     (posted : Posted) (head : Head) (workers : List MuxWorker) (p phases until : ℕ) (controller : List Note)
     (carriers : List (List Note)) (moment clock : Moment) → IsSound stage

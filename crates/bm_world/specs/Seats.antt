@@ -4,12 +4,12 @@ use Rattle.bm_table.specs.declared.script.Script.{Script}
 use Rattle.bm_table.specs.Planned.{Planned}
 use Rattle.bm_table.specs.Tables.{is_known}
 
--- the plan knows the server of this number once all its changes are published
+-- 1 if the plan knows the server of this number once all its changes are published, else 0
 abbrev pub known_once : Planned → ℕ → ℕ
 known_once plan n =
     if is_known plan (length plan.changes) (record { 0 = n }) then 1 else 0
 
--- how many servers of the numbers from 1 to n it then knows
+-- how many servers with numbers from 1 to n it knows then
 unfoldable pub known_up_to : Planned → ℕ → ℕ
 known_up_to plan zero = 0
 known_up_to plan (suc n) = known_up_to plan n + known_once plan (suc n)

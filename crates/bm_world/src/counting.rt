@@ -21,7 +21,8 @@ fn count_servers(script: &Script) -> u64
     known
 }
 
-/// So many servers, each with so many shards, each with a seat of worker 0 and of each mux's.
+/// This many servers, each with this many shards, each with a seat for worker 0 and for each mux's
+/// worker.
 fn product(servers: u64, shards: u16, muxes: u16) -> u64
     requires { servers ≤ 1024 }
     ensures { result ≡ servers * shards * (muxes + 1) }
@@ -29,8 +30,8 @@ fn product(servers: u64, shards: u16, muxes: u16) -> u64
     servers * u64::from(shards) * (u64::from(muxes) + 1)
 }
 
-/// How many seats a run of the script has: one of each worker at each shard of each server that the
-/// script knows. Takes no memory.
+/// How many seats a run of the script has: one for each worker at each shard of each server that
+/// the script knows. Takes no memory.
 pub fn seats(script: &Script) -> u64
     requires { script.now.plan.servers ≡ script.now.setting.servers }
     ensures { result ≡ seats_of script.now }

@@ -71,7 +71,7 @@ pub(crate) fn make_workers(
     Ok(workers)
 }
 
-/// What a mux's worker hands back: the mux's log, once it has heard what was told and looked, and
+/// What a mux's worker gives back: the mux's log, once it has heard what was told and looked, and
 /// the worker's seats.
 fn part(worker: MuxWorker, told: Told) -> Result<(Log, Vec<ServerSeat>), Memory>
     requires { told.board ≡ worker.mux.seen.board }
@@ -84,8 +84,8 @@ fn part(worker: MuxWorker, told: Told) -> Result<(Log, Vec<ServerSeat>), Memory>
     Ok((log, porter.into_seats()))
 }
 
-/// What the workers hand back: the controller's log and the muxes', and each worker's seats. Each
-/// mux looks once more, at all that is posted.
+/// What the workers give back: the logs of the controller and of the muxes, and each worker's
+/// seats. Each mux looks once more, at all that is posted.
 pub(crate) fn take_apart(
     alloc: Global,
     poster: &Poster,

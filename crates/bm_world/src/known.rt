@@ -9,7 +9,6 @@ use bm_base::{Memory, ServerId, Version};
 use bm_table::{Change, Kind, Plan, Script};
 use std::alloc::Global;
 
-/// Whether the server is one of these.
 fn is_one_of(ids: &[ServerId], id: ServerId) -> bool
     ensures { result ≡ is_among ids.now id }
 {
@@ -21,7 +20,6 @@ fn is_one_of(ids: &[ServerId], id: ServerId) -> bool
     false
 }
 
-/// Whether the change adds the server.
 fn adds(change: &Change, id: ServerId) -> bool
     ensures { result ≡ is_add change.now.kind id }
 {

@@ -1,4 +1,4 @@
-//! A run of a stage in threads: workers, phases, and the history that their logs merge to.
+//! A run of a stage in threads: workers, phases, and the history into which their logs merge.
 #![tactic(auto)]
 
 mod counting;

@@ -1,4 +1,4 @@
-//! One phase of a run: worker 0 beside the muxes' workers, and the Sync behind it.
+//! One phase of a run: worker 0 and the muxes' workers in parallel, and the Sync after it.
 ghost use Rattle.std.specs.Prelude.{◌≡◌, ℕ, suc, ◌+◌, ◌-◌, ◌*◌, ◌^◌, ◌<◌, ◌≤◌, max, length, map};
 ghost use Rattle.std.specs.Prelude.{slice_get, is_some, Ok as ok, All, IfErr};
 ghost use Rattle.std.specs.Prelude.{IfOk, OnOk, MatchBool};
@@ -28,8 +28,8 @@ use bm_worker::{MuxWorker, Shared, Span, Stop, work_all};
 use std::sync::Wait;
 use std::thread::{Threads, join_mut};
 
-/// What comes behind a phase.
-#[derive(Clone, Copy, Debug, PartialEq, Eq)]
+/// What comes after a phase.
+#[derive(Clone, Copy, PartialEq, Eq)]
 pub(crate) enum Next {
     /// A phase, with the records from this place on.
     Phase(u32),
@@ -39,7 +39,7 @@ pub(crate) enum Next {
     Late,
 }
 
-/// The place of the first record behind a phase, whose commands end at this place.
+/// The place of the first record after a phase, whose commands end at this place.
 fn records_end(stage: &Stage, place: usize, from: u32) -> u32
     requires sound { IsSound stage.now }
     requires sync { place < length stage.now.script.commands
@@ -70,7 +70,7 @@ fn tell_all(poster: &Poster, workers: &mut [MuxWorker])
     }
 }
 
-/// A phase of all workers, each in a thread of its own. It waits for all.
+/// A phase of all workers, each in a thread of its own. Waits for all of them.
 fn work_beside<W: Threads + Wait + Sync, F: Fn(u32, Hop) -> Fate + Sync, G: Gate>(
     rt: &W,
     shared: &Shared<'_, F, G>,
@@ -138,14 +138,14 @@ fn stop_of(led: Result<(), Stop>) -> Option<Stop>
     }
 }
 
-/// Whether a worker gave up for want of memory.
+/// Whether a worker gave up because memory was refused.
 fn is_wanting(stop: Option<Stop>) -> bool
     ensures { result ≡ wants_memory stop }
 {
     matches!(stop, Some(Stop::Memory))
 }
 
-/// Whether one of these did.
+/// Whether one of these workers did.
 fn is_one_wanting(workers: &[MuxWorker]) -> bool
     ensures { result ≡ one_stopped wants_memory workers.now }
 {
@@ -169,8 +169,8 @@ fn is_one_stopped(workers: &[MuxWorker]) -> bool
     false
 }
 
-/// Whether a worker gave up, for a moment that was too large. `Memory` where one gave up for want
-/// of it.
+/// Whether a worker gave up for a moment that was too large. `Memory` where one gave up because
+/// memory was refused.
 fn is_late(led: Result<(), Stop>, workers: &[MuxWorker]) -> Result<bool, Memory>
     ensures { IfOk result (λ late. MatchBool late (IsLate led workers.now)
         ((led ≡ ok tt) × HaveNotStopped workers.now)) }
@@ -193,8 +193,8 @@ fn latest_of(head: &Head, workers: &[MuxWorker]) -> Moment
     latest
 }
 
-/// Logs the Sync that stands behind a phase, once all workers have done it. What comes next, if the
-/// records behind the phase begin at this place.
+/// Logs the Sync after a phase, once all workers have done the phase. Returns what comes next;
+/// `start` is the place of the first record after the phase.
 fn meet(stage: &Stage, head: &mut Head, workers: &[MuxWorker], start: u32) -> Result<Next, Memory>
     requires sound { IsSound stage.now }
     requires sync { head.old.next < length stage.now.script.commands
@@ -211,7 +211,7 @@ fn meet(stage: &Stage, head: &mut Head, workers: &[MuxWorker], start: u32) -> Re
     }
 }
 
-/// A phase with the records from a place on, and the Sync behind it. What comes next.
+/// A phase with the records from a place on, and the Sync after it. Returns what comes next.
 pub(crate) fn run_phase<W: Threads + Wait + Sync, F: Fn(u32, Hop) -> Fate + Sync, G: Gate>(
     rt: &W,
     shared: &Shared<'_, F, G>,
@@ -247,7 +247,7 @@ pub(crate) fn run_phase<W: Threads + Wait + Sync, F: Fn(u32, Hop) -> Fate + Sync
     meet(stage, head, workers, until)
 }
 
-/// All phases. Whether a worker gave up for a moment that was too large.
+/// All phases. Returns whether a worker gave up for a moment that was too large.
 pub(crate) fn run_phases<W: Threads + Wait + Sync, F: Fn(u32, Hop) -> Fate + Sync, G: Gate>(
     rt: &W,
     shared: &Shared<'_, F, G>,

@@ -8,7 +8,7 @@ ghost use Rattle.bm_lead.specs.Heads.{IsPhase, IsSyncCommand};
 use bm_base::{Moment, Record};
 use bm_table::Command;
 
-/// The place of the first sync from a place on, or that behind the last command.
+/// The place of the first sync from a place on, or the place after the last command.
 pub(crate) fn sync_place(commands: &[Command], from: usize) -> usize
     requires { from ≤ length commands.now }
     ensures phase { IsPhase commands.now from result }
@@ -21,14 +21,13 @@ pub(crate) fn sync_place(commands: &[Command], from: usize) -> usize
     place
 }
 
-/// Whether the command is a sync.
 fn is_sync(command: Command) -> bool
     ensures { result ≡ wants_sync command }
 {
     matches!(command, Command::Sync { .. })
 }
 
-/// The moment of the sync that stands at the place, if one does.
+/// The moment of the sync at the place, if there is one.
 pub(crate) fn sync_at(commands: &[Command], place: usize) -> Option<Moment>
     ensures some { IfSome result (λ at. slice_get commands.now place ≡ Some (Sync at)) }
     ensures none { IfNone result (IsSyncCommand (slice_get commands.now place) → ⊥) }
@@ -39,8 +38,8 @@ pub(crate) fn sync_at(commands: &[Command], place: usize) -> Option<Moment>
     }
 }
 
-/// The place of the first record from a place on that is no earlier than the moment, or that behind
-/// the last record.
+/// The place of the first record from a place on that is no earlier than the moment, or the place
+/// after the last record.
 pub(crate) fn record_place(records: &[Record], from: u32, at: Moment) -> u32
     requires within { from ≤ length records.now }
     requires few { length records.now ≤ 200000 }

@@ -21,7 +21,7 @@ fn mux_of_packet<R: Fn(u32, &Flow) -> u16>(
     Some(route.mux_of(packet, &segment.flow))
 }
 
-/// The mux of each packet: at the place i that of packet i + 1. The route is asked once for each.
+/// The mux of each packet: place i is for packet i + 1. The route is asked once for each.
 pub(crate) fn route_all<R: Fn(u32, &Flow) -> u16>(
     alloc: Global,
     stage: &Stage,

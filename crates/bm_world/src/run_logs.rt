@@ -19,8 +19,8 @@ use std::alloc::Global;
 use std::thread;
 use std::thread::Threads;
 
-/// What happened at a shard. Events alone are merged in less time than the entries of books, which
-/// are larger.
+/// What happened at a shard. Merging events alone is faster than merging the entries of books,
+/// which are larger.
 #[derive(Drop)]
 struct RunLog {
     events: Vec<Event>,
@@ -63,8 +63,8 @@ fn add_books(alloc: Global, books: &Books, logs: &mut Vec<RunLog>) -> Result<(),
     Ok(())
 }
 
-/// What happened at the shards of these servers. Each server's books are let go as soon as they are
-/// read.
+/// What happened at the shards of these servers. Each server's books are dropped as soon as they
+/// are read.
 fn book_logs(alloc: Global, all: Vec<Books>) -> Result<Vec<RunLog>, Memory>
     ensures logs { IfOk result
         (λ logs. map logged.log_events logs.items ≡ books_logs all.items) }
@@ -78,7 +78,7 @@ fn book_logs(alloc: Global, all: Vec<Books>) -> Result<Vec<RunLog>, Memory>
     Ok(logs)
 }
 
-/// Some logs of a run in a row.
+/// Several logs of a run in a row.
 #[derive(Drop)]
 enum Source {
     /// Those of the controller and the muxes.
@@ -88,7 +88,7 @@ enum Source {
 }
 
 impl Source {
-    /// How many workers or servers these are the logs of.
+    /// How many workers or servers these logs belong to.
     fn len(&self) -> usize
         ensures { result ≡ logged.source_size self.now }
     {
@@ -98,7 +98,7 @@ impl Source {
         }
     }
 
-    /// Splits off the logs behind those of the first so many workers or servers.
+    /// Splits off the logs after those of the first `size` workers or servers.
     fn split_off(&mut self, size: usize) -> Result<Source, Memory>
         requires { size ≤ logged.source_size self.old }
         ensures logs { IfOk result (λ rest. logged.source_logs self.new ++ logged.source_logs rest
@@ -150,7 +150,7 @@ impl Group {
         }
     }
 
-    /// Merges the logs, and lets them go.
+    /// Merges the logs, and drops them.
     fn merge(&mut self, alloc: Global)
         ensures { HasMerged self.old self.new }
     {
@@ -162,7 +162,7 @@ impl Group {
     }
 }
 
-/// Adds these logs in so many groups at most, all but the last of as many workers or servers.
+/// Adds these logs in at most `most` groups, all but the last of equally many workers or servers.
 fn add_groups(
     alloc: Global,
     source: Source,
@@ -184,7 +184,8 @@ fn add_groups(
     Ok(())
 }
 
-/// The logs in groups: the workers' in so many at most, and behind them the servers' in so many.
+/// The logs in groups: the workers' in at most `most`, and after them the servers' in at most as
+/// many.
 fn grouped(
     alloc: Global,
     workers: Vec<Log>,
@@ -201,7 +202,7 @@ fn grouped(
     Ok(groups)
 }
 
-/// Merges the logs of each group, all at once, and waits for all of them.
+/// Merges the logs of each group, all in parallel, and waits for all of them.
 fn merge_each<R: Threads + Sync>(rt: &R, alloc: Global, groups: &mut [Group])
     ensures count { length groups.new ≡ length groups.old }
     ensures each { HaveMerged groups.old groups.new }
@@ -217,7 +218,7 @@ fn merge_each<R: Threads + Sync>(rt: &R, alloc: Global, groups: &mut [Group])
     );
 }
 
-/// Merges the logs of each group. Beside that it makes room for so many events.
+/// Merges the logs of each group. In parallel it makes room for this many events.
 fn merge_and_make_room<R: Threads + Sync>(
     rt: &R,
     alloc: Global,
@@ -263,7 +264,7 @@ fn is_one_refused(groups: &[Group]) -> bool
     false
 }
 
-/// How many events the workers wrote down.
+/// How many events the workers recorded.
 fn count_of_workers(workers: &[Log]) -> usize {
     workers.iter().fold(0usize, |count, log| count.saturating_add(log.items().len()))
 }
@@ -283,10 +284,10 @@ fn count_of_servers(all: &[Books]) -> usize {
     )
 }
 
-/// What the workers wrote down and what happened at the shards of all servers, by clock. Those of
-/// one clock stand in the order of the logs. The workers' logs are put in order in groups, twice
-/// as many as these threads at most, and the servers' books in as many beside them; what comes of
-/// the groups is merged by these threads.
+/// What the workers recorded and what happened at the shards of all servers, by clock. Those of one
+/// clock are in the order of the logs. The workers' logs are merged in groups, at most twice as
+/// many as these threads, and the servers' books in as many again; the merged groups are then
+/// merged by these threads.
 pub(crate) fn merge_beside<R: Threads + Sync>(
     rt: &R,
     alloc: Global,
@@ -298,7 +299,7 @@ pub(crate) fn merge_beside<R: Threads + Sync>(
         (λ events. events.items ≡ by_order (joined (workers.items ++ books_logs all.items))) }
 {
     let count = count_of_workers(&workers).saturating_add(count_of_servers(&all));
-    // A thread with much to do has the others wait, so there are more groups than threads.
+    // A thread with much to do keeps the others waiting, so there are more groups than threads.
     let most = threads.max(1).saturating_mul(2);
     let mut groups = grouped(alloc, workers, all, most)?;
     let room = merge_and_make_room(rt, alloc, groups.as_mut_slice(), count)?;

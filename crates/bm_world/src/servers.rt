@@ -12,10 +12,10 @@ use bm_server::{Books, Server, ServerSeat};
 use bm_table::Setting;
 use std::alloc::Global;
 
-/// For each worker its seats at the servers.
+/// For each worker, its seats at the servers.
 pub(crate) type Rows = Vec<Vec<ServerSeat>>;
 
-/// So many rows without a seat.
+/// This many rows without a seat.
 fn empty_rows(alloc: Global, count: u16) -> Result<Rows, Memory>
     ensures count { IfOk result (λ rows. length rows.items ≡ count) }
     ensures empty { IfOk result (λ rows. All (λ row. row.items ≡ []) rows.items) }
@@ -27,7 +27,7 @@ fn empty_rows(alloc: Global, count: u16) -> Result<Rows, Memory>
     Ok(rows)
 }
 
-/// The servers of these numbers, and for each worker its seats at them.
+/// The servers with these numbers, and for each worker its seats at them.
 pub(crate) fn make_servers(
     alloc: Global,
     setting: &Setting,
@@ -63,7 +63,7 @@ pub(crate) fn make_servers(
     Ok((servers, rows))
 }
 
-/// One more at the front.
+/// The others, with one more at the front.
 fn before(first: Books, others: Vec<Books>) -> Result<Vec<Books>, Memory>
     ensures { IfOk result (λ all. all.items ≡ first ∷ others.items) }
 {
@@ -74,7 +74,7 @@ fn before(first: Books, others: Vec<Books>) -> Result<Vec<Books>, Memory>
     }
 }
 
-/// The books of all servers, once all seats are back.
+/// The books of all servers, once all seats are given back.
 pub(crate) fn finish_all(
     alloc: Global,
     servers: Vec<Server>,

@@ -35,10 +35,10 @@ use std::alloc::Global;
 use std::sync::Wait;
 use std::thread::Threads;
 
-/// By more threads than these what comes of the groups of logs isn't merged.
+/// The most threads that merge the merged groups of logs.
 const MOST_MERGING: usize = 8;
 
-/// What the workers hand back.
+/// What the workers give back.
 #[derive(Drop)]
 struct Back {
     /// A worker gave up for a moment that was too large.
@@ -49,7 +49,7 @@ struct Back {
     rows: Rows,
 }
 
-/// Posts the changes that are left, where a worker has given up.
+/// Posts the changes that are left, if a worker has given up.
 fn post_left<W: Wait>(
     rt: &W,
     stage: &Stage,
@@ -70,7 +70,7 @@ fn post_left<W: Wait>(
     Ok(())
 }
 
-/// The workers of a run, at a board on which nothing is posted.
+/// The workers of a run, on a board where nothing is posted.
 fn run_on_board<W: Threads + Wait + Sync, F: Fn(u32, Hop) -> Fate + Sync, G: Gate>(
     rt: &W,
     shared: &Shared<'_, F, G>,
@@ -125,7 +125,7 @@ fn run_workers<W: Threads + Wait + Sync, F: Fn(u32, Hop) -> Fate + Sync, G: Gate
     back
 }
 
-/// The events of a run, of which each packet has this mux, by clock.
+/// The events of a run, by clock, where each packet has this mux.
 fn run_stage<W: Threads + Wait + Sync, F: Fn(u32, Hop) -> Fate + Sync, G: Gate>(
     rt: &W,
     alloc: Global,
@@ -165,7 +165,7 @@ fn run_stage<W: Threads + Wait + Sync, F: Fn(u32, Hop) -> Fate + Sync, G: Gate>(
         faults: _faults,
         gate: _gate,
     } = shared;
-    // Only the workers read these, and the merge wants their memory.
+    // Only the workers read these, and the merge needs their memory.
     drop(octets);
     drop(routes);
     let Back { late, logs, rows } = back?;
@@ -178,9 +178,9 @@ fn run_stage<W: Threads + Wait + Sync, F: Fn(u32, Hop) -> Fate + Sync, G: Gate>(
 }
 
 /// Carries the packets of a stage through its muxes and servers, the packets of each mux in a
-/// thread of its own and the commands in another, and gives the history of what they did: a run
+/// thread of its own and the commands in another, and returns the history of what they did: a run
 /// that follows the script as such threads do, and in which every packet, copy and command is
-/// accounted for. `octets` has the packet of each record, and is let go once all are carried.
+/// accounted for. `octets` has the packet of each record, and is dropped once all are carried.
 /// `Memory` where memory was refused. It may wait.
 pub fn run_threads<
     W: Threads + Wait + Sync,

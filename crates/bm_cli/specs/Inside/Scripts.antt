@@ -6,18 +6,18 @@ use Rattle.bm_cli.specs.Plain.{plain_script}
 use Rattle.bm_cli.specs.Reading.{Octets, script_in}
 use Rattle.bm_cli.specs.Stages.{IsRead}
 
--- where no script is named it is the one that says nothing, whatever the files tell
+-- if no script is named it is the one that sets nothing, whatever the files hold
 abbrev pub ReadsScript : Octets → Option (List ℕ) → Result Script StageFault → Type 0
 ReadsScript told None result = IsRead (Ok plain_script) result
 ReadsScript None (Some name) result = Unit {0}
 ReadsScript (Some octets) (Some name) result = IsRead (script_in (octets name)) result
 
--- the first octets of the file, at most so many
+-- the first octets of the file, at most this many
 abbrev pub HasFront : Octets → List ℕ → ℕ → List ℕ → Type 0
 HasFront None name most text = Unit {0}
 HasFront (Some octets) name most text = text ≡ take most (octets name)
 
--- the first octets that the source had, at most so many
+-- the first octets that the source had, at most this many
 abbrev pub IsFront : Option (List ℕ) → ℕ → List ℕ → Type 0
 IsFront None most text = Unit {0}
 IsFront (Some left) most text = text ≡ take most left

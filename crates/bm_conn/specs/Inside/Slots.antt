@@ -1,4 +1,4 @@
--- Beside Slots: what the contracts of private calls and the proofs of bodies use.
+-- What the contracts of private calls and the proofs of bodies use in addition to Slots.
 use Rattle.std.specs.Prelude.{◌≡◌, ℕ, ◌+◌, ◌<◌, false, if◌then◌else◌, ◌==◌}
 use Rattle.std.specs.Prelude.{List, [], ◌∷◌, length, slice_set, ◌≤◌, ◌⊎◌}
 use Rattle.std.specs.Prelude.{Option, Some, None}
@@ -22,11 +22,11 @@ abbrev pub receiver_of : Slot → Option Receiver
 receiver_of Free = None
 receiver_of (Used f receiver) = Some receiver
 
--- the next place, going round at the end
+-- the next place, wrapping around at the end
 abbrev pub after : ℕ → ℕ → ℕ
 after count place = if (place + 1) == count then 0 else place + 1
 
--- so many steps from the flow's home to this place, over slots of other flows
+-- the place is this many steps from the flow's home, past slots of other flows only
 pub record IsWalked (slots : List Slot) (f : Flow) (place steps : ℕ) : Type 0 where
   pub within : place < length slots
   pub gone : steps < length slots → distance (length slots) (home (length slots) f) place ≡ steps
@@ -34,7 +34,7 @@ pub record IsWalked (slots : List Slot) (f : Flow) (place steps : ℕ) : Type 0 
       → distance (length slots) (home (length slots) f) between < steps
       → (is_free (slot_at slots between) ≡ false) × (is_of f (slot_at slots between) ≡ false)
 
--- each way is without a free slot but this hole
+-- no flow's probe meets a free slot other than this hole
 pub record HasHole (slots : List Slot) (count hole : ℕ) : Type 0 where
   pub inside : hole < count
   pub free : slot_at slots hole ≡ Free
@@ -50,7 +50,7 @@ pub record HoldsSame (old new : List Slot) : Type 0 where
   pub once : AreOnce (used new)
   pub each : (f : Flow) → receiver_in (used new) f ≡ receiver_in (used old) f
 
--- so many places from the start on were looked at for flows whose way goes over the hole
+-- this many places from the start on were checked for flows whose probe passes the hole
 pub record IsShifting (slots : List Slot) (count start hole place steps : ℕ) : Type 0 where
   pub size : length slots ≡ count
   pub few : length (used slots) + 2 ≤ count
@@ -61,13 +61,13 @@ pub record IsShifting (slots : List Slot) (count start hole place steps : ℕ) :
   pub ways : HasHole slots count hole
   pub seen : (k : ℕ) → k < count → distance count start k < steps → (k ≡ hole → ⊥)
       → is_free (slot_at slots k) ≡ false
-  -- no way to a slot behind the hole, as far as they were looked at, goes over the hole
+  -- no probe to a slot after the hole, as far as these were checked, passes the hole
   pub clear : (k : ℕ) (f : Flow) (receiver : Receiver) → k < count
       → slot_at slots k ≡ Used f receiver
       → 0 < distance count hole k → distance count hole k ≤ distance count hole place
       → distance count (home count f) k ≤ distance count (home count f) hole
 
--- the flow at the place is put into the hole, if its way goes over it; where the hole is then
+-- the flow at the place is moved into the hole, if its probe passes it; where the hole is then
 abbrev pub Shifts : ℕ → Flow → List Slot → List Slot → ℕ → ℕ → ℕ → Type 0
 Shifts count f old new hole place result =
     ((distance count (home count f) hole < distance count (home count f) place)
@@ -75,7 +75,7 @@ Shifts count f old new hole place result =
     ⊎ ((distance count (home count f) place ≤ distance count (home count f) hole) × (new ≡ old)
     × (result ≡ hole))
 
--- each flow stands once, within reach
+-- each flow is in one slot, and its probe reaches it
 pub record IsPlaced (slots : List Slot) : Type 0 where
   pub once : AreOnce (used slots)
   pub reached : AreReached slots (length slots)
@@ -87,7 +87,7 @@ pub record IsPutInto (f : Flow) (receiver : Option Receiver) (old new : List Slo
   pub each : (g : Flow)
       → receiver_in (used new) g ≡ (if same_flow f g then receiver else receiver_in (used old) g)
 
--- the flows of the one in the other
+-- the flows of the old slots are in the new ones
 pub record AreMoved (old new : List Slot) (places : ℕ) : Type 0 where
   pub size : length new ≡ places
   pub placed : IsPlaced new

@@ -30,7 +30,7 @@ same_key a b = a.server == b.server && a.shard == b.shard
 
 -- WHAT AN EVENT DOES
 
--- the flows of a shard after this was done to it
+-- the flows of a shard after this change
 abbrev pub flows_by : FlowChange → List Flow → List Flow
 flows_by (Opens f) flows = f ∷ without f flows
 flows_by (Ends f) flows = without f flows
@@ -42,7 +42,7 @@ verdict_change Accept f = Some (Opens f)
 verdict_change (Process Ended) f = Some (Ends f)
 verdict_change _ f = None
 
--- this is done to this shard of the server
+-- this change of this shard of the server
 abbrev pub change_at : ServerId → ℕ → Option FlowChange → Option ShardChange
 change_at s h None = None
 change_at s h (Some flow_change) =
@@ -54,7 +54,7 @@ arrival_change stage s verdict None = None
 arrival_change stage s verdict (Some seg) =
     change_at s (shard stage seg.flow) (verdict_change verdict seg.flow)
 
--- what the event does to a shard, where it does anything
+-- what the event does to a shard, if it does anything
 abbrev pub change_of : Stage → What → Option ShardChange
 change_of stage (Arrive k hop server verdict) =
     arrival_change stage server verdict (segment_of stage k)
@@ -66,13 +66,13 @@ change_of stage _ = None
 
 -- WHAT IS KEPT
 
--- the set holds just these flows, each once
+-- the set holds exactly these flows, each once
 pub record AreFlows (flows : List Flow) (held : set.BTreeSet Flow) : Type 0 where
   pub listed : (q : Flow) → set.contains (flow_order.ghosts).cmp held q ≡ is_listed flows q
   pub count : set.btree_set_len held ≡ length flows
 
--- this is kept of a shard that holds these flows, and held so many at most; where nothing is kept,
--- there were none
+-- this is kept of a shard that holds these flows and held at most this many at once; if nothing is
+-- kept, there were none
 abbrev pub AreHeldFlows : List Flow → ℕ → Option HeldFlows → Type 0
 AreHeldFlows flows most None = (flows ≡ []) × (most ≡ 0)
 AreHeldFlows flows most (Some x) = AreFlows flows x.flows × (x.most ≡ most)

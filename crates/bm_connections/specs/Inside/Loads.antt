@@ -20,7 +20,7 @@ served past s = record {
   processed = arrivals_at s is_process past;
 }
 
--- the counts of a server, where there are some, and else none
+-- the counts of a server; zeros, if none are kept
 abbrev pub count_or_none : Option Served → ServerId → Served
 count_or_none None s = record { server = s; accepted = 0; processed = 0 }
 count_or_none (Some c) s = c
@@ -38,7 +38,7 @@ pub record CanCount (c : Served) : Type 0 where
   pub accepted : suc c.accepted < 2 ^ 64
   pub processed : suc c.processed < 2 ^ 64
 
--- the counts of each server, where there are some
+-- the counts of each server, if any are kept
 abbrev pub load : Loads → ServerId → Option Served
 load loads s = tree.get (server_order.ghosts).cmp loads.counts s
 

@@ -28,7 +28,7 @@ use Rattle.bm_connections.specs.Seen.{first_seen, flows_of, last_seen}
 abbrev pub none : Tally
 none = record { accepted = 0; processed = 0; forwarded = 0; reset = 0; dropped = 0; stray = 0 }
 
--- a flow of which these records were seen first and last, and no arrivals
+-- a flow that was first and last seen in these records, without arrivals
 abbrev pub seen_from : Flow → Sight → Sight → Connection
 seen_from f first last = record {
   flow = f;
@@ -41,11 +41,11 @@ seen_from f first last = record {
   refused = None;
 }
 
--- a connection after one more packet of it was seen
+-- a connection after another packet of it was seen
 abbrev pub seen_again : Sight → Connection → Connection
 seen_again s c = record c { last = s }
 
--- the counts after an arrival with this verdict, which is a fault or isn't
+-- the counts after an arrival with this verdict, which is a fault or not
 abbrev pub tallied : Verdict → Bool → Tally → Tally
 tallied verdict fault t = record {
   accepted = one_more (is_accept verdict) t.accepted;
@@ -60,7 +60,7 @@ tallied verdict fault t = record {
 abbrev pub server_after : Break → Option ServerId → Option ServerId
 server_after b before = if is_accept b.verdict then Some b.server else before
 
--- the last forwarding after an arrival that came so long after its bucket's move
+-- the last forwarding after an arrival with this wait
 abbrev pub forwarded_after : Break → ℕ → Option Forwarding → Option Forwarding
 forwarded_after b wait before =
     if is_forward b.verdict
@@ -68,13 +68,13 @@ forwarded_after b wait before =
     (record { packet = b.packet; clock = b.clock; server = b.server; wait = wait })
     else before
 
--- the refusal after an arrival, where the flow then has this server
+-- the refusal after an arrival, if the flow then has this server
 abbrev pub refused_after : Break → Option ServerId → Option Break → Option Break
 refused_after b server before =
     if is_some server then None
     else first_of_two before (if is_some b.cause then Some b else None)
 
--- the row of a flow after an arrival of one of its packets, so long after its bucket's move
+-- the connection of a flow after an arrival of one of its packets, with this wait
 abbrev pub noted : Break → ℕ → Connection → Connection
 noted b wait c = record {
   flow = c.flow;
@@ -100,7 +100,7 @@ pub record HasRoom (t : Tally) : Type 0 where
 
 -- PLACES
 
--- the place of a flow among these, where it is one of them
+-- the place of a flow among these, if it is one of them
 abbrev pub place_in : List Flow → Flow → Option ℕ
 place_in [] f = None
 place_in (g ∷ flows) f =
@@ -111,7 +111,7 @@ abbrev pub place_of : List Flow → Option Segment → Option ℕ
 place_of flows None = None
 place_of flows (Some s) = place_in flows s.flow
 
--- of each record, in order, the place of its flow
+-- for each record, in order, the place of its flow
 abbrev pub places_of : List Record → List (Option ℕ)
 places_of [] = []
 places_of (r ∷ records) =
@@ -150,7 +150,7 @@ pub record AreRows (stage : Stage) (records : List Record) (past : List Event) (
   pub places : rows.places.items ≡ places_of records
   pub connections : rows.connections.items ≡ table stage records past
 
--- the connection of a flow that these records have, before any event
+-- the connection of a flow by these records, before any event
 abbrev pub seen : List Record → Flow → Connection
 seen records f = seen_from f (first_seen records f) (last_seen records f)
 

@@ -1,4 +1,4 @@
--- Beside Waits: what the contracts of private calls and the proofs of bodies use.
+-- What the contracts of private calls and the proofs of bodies use in addition to Waits.
 use Rattle.std.specs.Prelude.{ℕ, List, Option, Some, None}
 use Rattle.bm_core.specs.declared.events.Event.{Event}
 use Rattle.bm_core.specs.declared.events.History.{History}

@@ -4,7 +4,7 @@ use Rattle.csv.specs.Writing.{default_writer, fields_written, has_written, text_
 use Rattle.csv.specs.Writing.{writer_setup}
 use Rattle.csv.specs.declared.writer.Writer.{Writer}
 
--- a writer as it is made wrote these octets, in whole records
+-- a writer with the default setup has written these octets, in whole records
 pub record HasWritten {W : Type 0} (contents : W → Option (List ℕ)) (w : Writer W)
     (octets : List ℕ) : Type 0 where
   pub setup : writer_setup w ≡ default_writer

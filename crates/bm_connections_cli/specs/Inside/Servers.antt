@@ -1,4 +1,4 @@
--- Beside Servers: what the contracts of private calls and the proofs of bodies use.
+-- What the contracts of private calls and the proofs of bodies use in addition to Servers.
 use Rattle.std.specs.Prelude.{List, [], Option, Some, None}
 use Rattle.bm_base.specs.declared.ids.ServerId.{ServerId}
 use Rattle.bm_table.specs.declared.plan.Change.{Change}

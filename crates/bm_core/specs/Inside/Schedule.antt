@@ -1,4 +1,4 @@
--- Beside Schedule: what the contracts of private calls and the proofs of bodies use.
+-- What the contracts of private calls and the proofs of bodies use in addition to Schedule.
 use Rattle.std.specs.Prelude.{◌≡◌, ℕ, ◌<◌}
 use Rattle.std.specs.Prelude.{List}
 use Rattle.std.specs.Prelude.{Some, is_some}
@@ -29,7 +29,7 @@ pub record IsServing (stage : Stage) (past : List Event) (clock k : ℕ) (hop : 
   pub place : arrives_at label.entry hop ≡ Some server
   pub verdict_is : verdict ≡ verdict_at stage past clock label hop server segment
 
--- what is answered where the event comes: by the route, the tables and the shards
+-- what the event answers is what the route, the tables and the shards answer
 abbrev pub IsAnswered : Stage → List Event → ℕ → What → Type 0
 IsAnswered stage past clock (Steer k m) = m.0 < stage.script.setting.muxes
 IsAnswered stage past clock (Arrive k hop server verdict) =

@@ -1,4 +1,4 @@
--- Beside Rows: what the contracts of private calls and the proofs of bodies use.
+-- What the contracts of private calls and the proofs of bodies use in addition to Rows.
 use Rattle.std.specs.Prelude.{ℕ, ◌&&◌, ◌==◌, if◌then◌else◌, List, [], ◌∷◌, Option, Some, None}
 use Rattle.bm_base.specs.declared.label.Hop.{Hop}
 use Rattle.bm_base.specs.declared.fate.Fate.{Fate}

@@ -1,4 +1,4 @@
--- Beside MemNames: what the contracts of private calls and the proofs of bodies use.
+-- What the contracts of private calls and the proofs of bodies use in addition to MemNames.
 use Rattle.std.specs.Prelude.{Option, Some, None}
 use Rattle.bm_io.specs.declared.mem.MemSource.{MemSource}
 use Rattle.bm_io.specs.declared.mem_file.MemFile.{MemFile}

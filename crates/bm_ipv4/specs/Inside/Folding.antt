@@ -1,4 +1,4 @@
--- A plain sum of words brought back to 16 bits. For proofs of bodies alone.
+-- A plain sum of words brought back to 16 bits. Only the proofs of bodies use this.
 use Rattle.std.specs.Prelude.{ℕ, ◌+◌, ◌-◌, ◌%◌, ◌==◌, if◌then◌else◌}
 
 -- the one's complement sum of words whose plain sum this is

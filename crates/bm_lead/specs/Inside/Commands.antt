@@ -1,4 +1,4 @@
--- Beside Commands: what the contracts of private calls and the proofs of bodies use.
+-- What the contracts of private calls and the proofs of bodies use in addition to Commands.
 use Rattle.std.specs.Prelude.{ℕ}
 use Rattle.bm_base.specs.declared.ids.Moment.{Moment}
 use Rattle.bm_base.specs.declared.ids.Version.{Version}

@@ -1,4 +1,4 @@
--- Beside Rests: what the contracts of private calls and the proofs of bodies use.
+-- What the contracts of private calls and the proofs of bodies use in addition to Rests.
 use Rattle.std.specs.Prelude.{◌≡◌, ◌+◌, [], ◌∷◌, ◌++◌}
 use Rattle.bm_base.specs.declared.ids.Moment.{Moment}
 use Rattle.bm_base.specs.declared.ids.Version.{Version}
@@ -6,7 +6,7 @@ use Rattle.bm_core.specs.declared.events.What.TheVariants.{Publish}
 use Rattle.bm_publish.specs.Posts.{Posted, with_post}
 use Rattle.bm_lead.specs.declared.head.Head.{Head}
 
--- one change more
+-- one more change
 pub record HasAdded (p q : Posted) (a b : Head) : Type 0 where
   pub version : Version
   pub clock : Moment

@@ -20,14 +20,14 @@ use Rattle.bm_lead.specs.declared.head.Head.{Head}
 use Rattle.bm_lead.specs.Commands.{control_log, posted_clocks, syncing}
 use Rattle.bm_lead.specs.Inside.Commands.{publishing}
 
--- the shards below h of a server were asked to retire, in their order, by the command i
+-- the shards below h of a server were asked to retire, in order, by the command i
 abbrev pub AreRetirings : ℕ → ServerId → Moment → Retirement → ℕ → List Note → Type 0
 AreRetirings i server at outcome h [] = h ≡ 0
 AreRetirings i server at outcome h (n ∷ deeds) =
     (clock : Moment) × (k : ℕ) × (h ≡ suc k) × (n ≡ retiring clock server k at outcome i 0)
     × (at.0 < clock.0) × AreRetirings i server at outcome k deeds
 
--- the deeds carry out the command i, where the controller's clock was latest and so many versions
+-- the deeds carry out the command i, where the controller's clock was latest and this many versions
 -- were published
 abbrev pub AreOf : Stage → ℕ → ℕ → ℕ → Command → List Note → Type 0
 AreOf stage latest published i (Change v) deeds =
@@ -45,7 +45,7 @@ AreOf stage latest published i (Retire at server) deeds =
 AreOf stage latest published i (Sync at) deeds =
     (clock : Moment) × (deeds ≡ syncing clock i ∷ []) × (latest < clock.0)
 
--- what the worker's seats and clock are after these deeds, of which at most so many are calls
+-- the worker's seats and clock after these deeds, at most this many of which are calls
 pub record HasCalled (stage : Stage) (servers : List Serving) (calls : ℕ) (a b : Porting)
     (deeds : List Note) : Type 0 where
   pub heard : Hears stage servers a.seats b.seats deeds
@@ -68,7 +68,7 @@ pub record HasDone (stage : Stage) (servers : List Serving) (p q : Posted) (a b 
   pub last_post : b.last_post.0 ≡ last_or a.last_post.0 (posted_clocks (control_log stage deeds))
   pub published : b.published.0 ≡ published_after (control_log stage deeds) a.published.0
 
--- so worker 0 carried out a command, from p and a to q and b
+-- worker 0 carried out a command like this, from p and a to q and b
 abbrev pub CarriesOut : Stage → List Serving → Posted → Posted → Head → Head → Command → Type 0
 CarriesOut stage servers p q a b c =
     (deeds : List Note) × AreOf stage a.porter.latest a.published.0 a.next c deeds

@@ -1,4 +1,4 @@
--- The events that come next in logs whose clocks don't fall.
+-- The next events of logs whose clocks never decrease.
 use Rattle.std.specs.Prelude.{◌≡◌, ◌≤◌, ◌<◌, ℕ, List, [], ◌∷◌, ◌++◌, length, map, drop}
 use Rattle.std.specs.Prelude.{slice_get, slice_index_or, Option, Some, None}
 use Rattle.std.specs.List.{AllByRecursion}
@@ -6,7 +6,7 @@ use Rattle.bm_core.specs.declared.events.Event.{Event}
 use Rattle.bm_merge.specs.declared.rising.Head.{Head}
 use Rattle.bm_merge.specs.Rising.{IsRising}
 
--- the logs of groups, one group after the other
+-- the logs of groups, one group after another
 abbrev pub all_logs : List (List (List Event)) → List (List Event)
 all_logs [] = []
 all_logs (logs ∷ groups) = logs ++ all_logs groups
@@ -26,7 +26,7 @@ pub record Stands (logs : List (List Event)) (h : Head) : Type 0 where
 abbrev pub AreStanding : List (List Event) → List Head → Type 0
 AreStanding logs heads = AllByRecursion (Stands logs) heads
 
--- the event at this place of the log comes next, where there is one
+-- the event at this place of the log comes next, if there is one
 abbrev pub IsNextOf : List (List Event) → ℕ → ℕ → Option Head → Type 0
 IsNextOf logs log place (Some h) =
     (h.log ≡ log) × (drop place (slice_index_or logs log []) ≡ left_of logs h)

@@ -1,4 +1,4 @@
--- What a mux keeps beside its log. Only the proofs of bodies use this.
+-- What a mux keeps besides its log. Only the proofs of bodies use this.
 use Rattle.std.specs.Prelude.{◌≡◌, ℕ, ◌+◌, ◌*◌, ◌^◌, ◌<◌, ◌≤◌}
 use Rattle.std.specs.Prelude.{List, [], length, reverse, Option, Some, None}
 use Rattle.bm_base.specs.declared.ids.MuxId.{MuxId}
@@ -8,7 +8,7 @@ use Rattle.bm_publish.specs.Posts.{Posted, last_version}
 use Rattle.bm_mux.specs.Steers.{steering_clock}
 use Rattle.bm_mux.specs.Muxes.{AreShown, HasServers}
 
--- what a look has seen or heard of, where there is one
+-- what a look has seen or heard of, if there is one
 abbrev pub seen_by : Option Posted → Posted
 seen_by None = record {
   board = record { number = 0; log_name = 0; cells_name = 0 };

@@ -12,11 +12,11 @@ use Rattle.bm_mux.specs.Inside.Keeping.{IsKept}
 abbrev pub AreKept : Notes → Posted → Type 0
 AreKept n seen = IsKept n.id n.buckets n.version.0 n.clock.0 n.log.items seen
 
--- they are of the same mux
+-- both are of the same mux
 abbrev pub IsSame : Notes → Notes → Type 0
 IsSame old new = (new.id ≡ old.id) × (new.buckets ≡ old.buckets)
 
--- and have the same version
+-- and both have the same version
 abbrev pub IsSameVersion : Notes → Notes → Type 0
 IsSameVersion old new =
     (new.id ≡ old.id) × (new.buckets ≡ old.buckets) × (new.version ≡ old.version)

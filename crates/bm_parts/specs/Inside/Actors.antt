@@ -1,4 +1,4 @@
--- The authors of logs as the definitions name them.
+-- The authors of logs, as the definitions name them.
 use Rattle.bm_core.specs.Runs.{Actor}
 use Rattle.bm_core.specs.Runs.Actor.{Controller, MuxOf, ShardOf}
 use Rattle.bm_parts.specs.declared.parting.Author.{Author}

@@ -1,4 +1,4 @@
--- The logs while the events are parted.
+-- The logs while the events are being split.
 use Rattle.std.specs.Prelude.{◌≡◌, [], ◌∷◌, ◌++◌, if◌then◌else◌, List, reverse, Option, Some, None}
 use Rattle.std.specs.Prelude.{false, true, is_some, map, option_map, unwrap_or}
 use Rattle.std.specs.List.{AllByRecursion}
@@ -12,21 +12,21 @@ use Rattle.bm_parts.specs.declared.parting.Logs.{Logs}
 use Rattle.bm_parts.specs.Inside.Actors.{actor}
 use Rattle.bm_parts.specs.Parts.{AreInOrder, is_among, written_by}
 
--- the author's log, where there is one
+-- the author's log, if there is one
 abbrev pub log : Logs → Author → Option (List Event)
 log logs a = option_map (λ v. v.items) (tree.get (author_order.ghosts).cmp logs.logs a)
 
--- what there is of an author's log once this author noted an event
+-- an author's log once this author has recorded an event
 abbrev pub noted : Author → Event → Author → Option (List Event) → Option (List Event)
 noted author e a before =
     if same_actor (actor author) (actor a) then Some (unwrap_or before [] ++ e ∷ []) else before
 
--- nothing, where there is nothing to have
+-- the events, if there are any
 abbrev pub if_any : List Event → Option (List Event)
 if_any [] = None
 if_any (e ∷ events) = Some (reverse (e ∷ events))
 
--- just who wrote something down among these events has a log, with the oldest event first
+-- exactly those who recorded something among these events have a log, with the oldest event first
 abbrev pub AreLogsOf : Stage → List Event → Logs → Type 0
 AreLogsOf stage past logs =
     (a : Author) → log logs a ≡ if_any (written_by stage (actor a) past)

@@ -11,8 +11,8 @@ use Rattle.bm_pcap.specs.declared.step.Head.{Head}
 use Rattle.bm_pcap.specs.declared.step.Head.TheVariants as head
 use Rattle.bm_pcap.specs.Records.{cut, end, next_of, behind_header, time_of, captured_length}
 
--- Where a record's header states a time and a length, the rest of the definition asks what stands
--- behind it; elsewhere the header decides. A failed read says nothing.
+-- If a record's header states a time and a length, what follows the header decides; otherwise the
+-- header decides alone. A failed read says nothing.
 abbrev pub HeadGives : Option (List ℕ) → Form → Place → Result Head PcapFault → Type 0
 HeadGives None form place result = Unit {0}
 HeadGives (Some octets) form place (Ok head.End) = next_of form place octets ≡ Ok end
@@ -30,12 +30,12 @@ HeadIn form ahead (head.States time len) =
     (16 ≤ length ahead) × (len ≡ captured_length form (take 16 ahead))
 HeadIn form ahead other = Unit {0}
 
--- the time that a header states is no later
+-- the time that a header states is at most the latest
 abbrev pub IsEarly : Head → Type 0
 IsEarly (head.States time len) = time ≤ latest
 IsEarly other = Unit {0}
 
--- a header that is read on fits its place
+-- a header after which reading goes on fits its place
 abbrev pub HeadFits : Place → Head → Type 0
 HeadFits place (head.States time len) =
     (place.number ≤ most_records) × (16 ≤ place.room) × (len ≤ longest) × (time ≤ latest)

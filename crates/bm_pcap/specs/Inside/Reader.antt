@@ -1,4 +1,4 @@
--- Beside Reader: what the contracts of private calls and the proofs of bodies use.
+-- What the contracts of private calls and the proofs of bodies use in addition to Reader.
 use Rattle.std.specs.Prelude.{ℕ, ◌≤◌, List, length, Option, Some, None}
 use Rattle.std.specs.Prelude.{Result, Ok, Err}
 use Rattle.bm_pcap.specs.declared.fault.PcapFault.{PcapFault}
@@ -6,13 +6,13 @@ use Rattle.bm_pcap.specs.declared.step.Step.{Step}
 use Rattle.bm_pcap.specs.declared.step.Step.TheVariants as step
 use Rattle.bm_pcap.specs.Causes.{IsRecordFault}
 
--- a record's octets are the last that were answered
+-- a record's octets are the last that were consumed
 abbrev pub IsLast : List ℕ → Step → Type 0
 IsLast passed (step.Record time len) = len ≤ length passed
 IsLast passed step.Cut = Unit {0}
 IsLast passed step.End = Unit {0}
 
--- the answer that a reader gives from now on is no record, and its faults are those of records
+-- what a reader that has ended returns is no record, and its faults are those of records
 abbrev pub EndsWell : Option (Result Step PcapFault) → Type 0
 EndsWell None = Unit {0}
 EndsWell (Some (Ok (step.Record time len))) = ⊥

@@ -1,4 +1,4 @@
--- Beside Causes: what the contracts of private calls and the proofs of bodies use.
+-- What the contracts of private calls and the proofs of bodies use in addition to Causes.
 use Rattle.bm_pcapng.specs.declared.fault.NgFault.{NgFault}
 use Rattle.bm_pcapng.specs.declared.fault.NgFault.TheVariants.{NotACapture, BadVersion, BadBlock}
 use Rattle.bm_pcapng.specs.declared.fault.NgFault.TheVariants.{ReadFault, TooLarge, BadLength}

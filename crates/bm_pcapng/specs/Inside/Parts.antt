@@ -30,7 +30,7 @@ use Rattle.bm_pcapng.specs.Parts.{IsRoomFor}
 abbrev pub Begins : List ℕ → List ℕ → Type 0
 Begins ahead octets = take (length ahead) octets ≡ ahead
 
--- The order that was read is the one that a capture's first octets tell. A failed read says
+-- The order that was read is the one that a capture's first octets give. A failed read says
 -- nothing.
 abbrev pub OrderGives : Option (List ℕ) → Result Order NgFault → Type 0
 OrderGives None result = Unit {0}
@@ -38,8 +38,8 @@ OrderGives (Some octets) (Ok order) = first_order octets ≡ Some order
 OrderGives (Some octets) (Err NotACapture) = first_order octets ≡ None
 OrderGives (Some octets) (Err e) = Unit {0}
 
--- Where a head states a kind, an order and a total length, the definition asks what stands behind
--- it; elsewhere the head decides. A failed read says nothing.
+-- If a head states a kind, an order and a total length, what follows the head decides; otherwise
+-- the head decides alone. A failed read says nothing.
 abbrev pub HeadSays : Result Step NgFault → List Interface → Place → List ℕ → Result Head NgFault
     → Type 0
 HeadSays found interfaces place octets (Ok head.End) = found ≡ Ok step.End
@@ -55,14 +55,14 @@ HeadGives None order interfaces place result = Unit {0}
 HeadGives (Some octets) order interfaces place result =
     HeadSays (next_of order interfaces place octets) interfaces place octets result
 
--- The head that states this is held, whatever comes behind what is held.
+-- The head that states this is held, whatever follows what is held.
 abbrev pub HeadIn : Order → List Interface → Place → List ℕ → Head → Type 0
 HeadIn order interfaces place ahead (head.States kind own n) =
     (octets : List ℕ) → Begins ahead octets
     → next_of order interfaces place octets ≡ behind_head kind own interfaces place n octets
 HeadIn order interfaces place ahead other = Unit {0}
 
--- A head that is read on has a length that its kind may have, and fits its place.
+-- A head after which reading goes on has a length that its kind may have, and fits its place.
 abbrev pub HeadFits : Place → Head → Type 0
 HeadFits place (head.States kind order n) =
     (least_length kind ≤ n) × (12 ≤ n) × (n ≤ longest_block)
@@ -116,7 +116,7 @@ abbrev pub StepIn : List ℕ → Step → Type 0
 StepIn ahead (step.Block n said) = n ≤ length ahead
 StepIn ahead other = Unit {0}
 
--- What was read stands next. A failed read says nothing.
+-- What was read is what comes next. A failed read says nothing.
 abbrev pub StepGives : Option (List ℕ) → Order → List Interface → Place → Result Step NgFault
     → Type 0
 StepGives None order interfaces place result = Unit {0}
@@ -126,7 +126,7 @@ StepGives (Some octets) order interfaces place (Err ReadFault) = Unit {0}
 StepGives (Some octets) order interfaces place (Err e) =
     next_of order interfaces place octets ≡ Err e
 
--- a block's octets are the last that were answered
+-- a block's octets are the last that were consumed
 abbrev pub IsLast : List ℕ → Step → Type 0
 IsLast passed (step.Block n said) = n ≤ length passed
 IsLast passed other = Unit {0}

@@ -1,4 +1,4 @@
--- Beside Places: what the contracts of private calls and the proofs of bodies use.
+-- What the contracts of private calls and the proofs of bodies use in addition to Places.
 use Rattle.std.specs.Prelude.{Option, Some, None}
 use Rattle.bm_pcapng.specs.declared.content.Content.{Content}
 use Rattle.bm_pcapng.specs.declared.content.Packet.{Packet}

@@ -1,4 +1,4 @@
--- Beside Reader: what the contracts of private calls and the proofs of bodies use.
+-- What the contracts of private calls and the proofs of bodies use in addition to Reader.
 use Rattle.std.specs.Prelude.{ℕ, ◌+◌, ◌≤◌, List, length, Option, Some}
 use Rattle.std.specs.Prelude.{None, Result, Ok, Err}
 use Rattle.bm_pcapng.specs.declared.content.Content.TheVariants.{Holds}
@@ -12,13 +12,13 @@ use Rattle.bm_pcapng.specs.declared.step.Step.TheVariants.{Block, Cut, End}
 use Rattle.bm_pcapng.specs.Causes.{IsBlockFault}
 use Rattle.bm_pcapng.specs.Reader.{Reader, Refuses, IsOpened, Stops}
 
--- a packet's block is the last that was answered
+-- a packet's block is the last that was consumed
 abbrev pub IsStopLast : List ℕ → Stop → Type 0
 IsStopLast passed (stop.Packet number n packet) =
     (n ≤ length passed) × (packet.at + packet.len ≤ n)
 IsStopLast passed other = Unit {0}
 
--- the answer that a reader gives from now on is no block, and its faults are those of blocks
+-- what a reader that has ended returns is no block, and its faults are those of blocks
 abbrev pub EndsWell : Option (Result Step NgFault) → Type 0
 EndsWell None = Unit {0}
 EndsWell (Some (Ok (Block n content))) = ⊥
@@ -31,7 +31,7 @@ abbrev pub OpensIn : Option (List ℕ) → Result Section NgFault → Type 0
 OpensIn old (Ok section) = IsOpened old section.order
 OpensIn old (Err e) = Refuses old e
 
--- What was come to: a packet, with its number, and so many octets in its block.
+-- What was found: a packet, with its number, in a block of n octets.
 abbrev pub GivesStop : {S : Type 0} → (S → Option (List ℕ)) → (S → ℕ) → Reader S → Reader S
     → Result Stop NgFault → Type 0
 GivesStop left faults old new (Ok (stop.Packet number n packet)) =

@@ -1,4 +1,4 @@
--- Going over the buckets in rising order: each server keeps buckets while it has room for one.
+-- Going through the buckets in rising order: each server keeps buckets while it has room for one.
 use Rattle.std.specs.Prelude.{ℕ, ◌+◌, ◌-◌, nat_lt, if◌then◌else◌, List, [], ◌∷◌, slice_index}
 use Rattle.bm_base.specs.declared.ids.ServerId.{ServerId}
 use Rattle.bm_table.specs.Tables.{same_server}

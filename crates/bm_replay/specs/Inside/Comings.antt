@@ -7,7 +7,7 @@ use Rattle.bm_core.specs.Schedule.{sooner}
 use Rattle.bm_replay.specs.declared.coming.Coming.{Coming}
 use Rattle.bm_replay.specs.declared.coming.Coming.TheVariants.{Arrive, Call, Over}
 
--- the sooner of those that are there, and the first of two alike
+-- the sooner of the two, if there are two; if they are equal, the first
 abbrev pub sooner_of : Option Due → Option Due → Option Due
 sooner_of a None = a
 sooner_of a (Some d) = sooner a d

@@ -9,7 +9,7 @@ use Rattle.bm_core.specs.declared.events.Stage.{Stage}
 use Rattle.bm_core.specs.Schedule.{Underway}
 use Rattle.bm_core.specs.Past.{label_of}
 
--- the copy on the wire is this one, and carries what its packet's label says
+-- the copy on the wire is this one, and carries its packet's label
 pub record IsFlying (stage : Stage) (past : List Event) (f : Flying) (u : Underway) : Type 0 where
   pub due : f.due.0 ≡ u.moment
   pub packet : f.flight.packet ≡ u.packet
@@ -24,7 +24,7 @@ AreFlying stage past (f ∷ flying) (u ∷ dues) =
     IsFlying stage past f u × AreFlying stage past flying dues
 AreFlying stage past _ _ = ⊥
 
--- so many copies of one sending
+-- this many copies of one sending
 abbrev pub copies_put : ℕ → Flying → List Flying → List Flying
 copies_put zero f flying = flying
 copies_put (suc n) f flying = put_flying f (copies_put n f flying)

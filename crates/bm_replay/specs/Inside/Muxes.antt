@@ -1,4 +1,4 @@
--- The muxes of a stage: the version of each, and its table.
+-- The muxes of a stage, each with its version and its table.
 use Rattle.std.specs.Prelude.{◌≡◌, ℕ, zero, suc, ◌+◌, ◌*◌, List, [], ◌++◌, Option, Some, None}
 use Rattle.std.specs.Prelude.{slice_get, slice_index_or}
 use Rattle.bm_base.specs.declared.ids.MuxId.{MuxId}
@@ -20,7 +20,7 @@ pub record HasTable (plan : Planned) (v : ℕ) (o : Option Mux) : Type 0 where
   pub version : mux.version ≡ v
   pub table : IsTable plan v mux.table
 
--- what the mux writes on a packet of the bucket
+-- the label that the mux writes on a packet of the bucket
 pub record IsWritten (by : Mux) (m : MuxId) (bucket : ℕ) (l : Label) : Type 0 where
   pub mux : l.mux ≡ m
   pub version : l.version.0 ≡ by.version

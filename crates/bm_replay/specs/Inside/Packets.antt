@@ -1,4 +1,4 @@
--- The packets that a replay on its way holds.
+-- The packets that a replay in progress holds.
 use Rattle.std.specs.Prelude.{◌≡◌, ◌<◌, ◌≤◌, ℕ, List, [], ◌∷◌, length, Some, slice_get}
 use Rattle.std.specs.Prelude.{slice_index_or}
 use Rattle.bm_base.specs.declared.capture.Record.{Record}
@@ -7,12 +7,12 @@ use Rattle.bm_link.specs.Fits.{IsPacketOf}
 use Rattle.bm_replay.specs.declared.queue.Queue.{Queue}
 use Rattle.bm_replay.specs.Inside.Queues.{IsBehind}
 
--- the copies on the wire are of packets behind the first n
+-- the copies on the wire are of packets after the first n
 abbrev pub AreBehind : ℕ → List Flying → Type 0
 AreBehind n [] = Unit {0}
 AreBehind n (f ∷ flying) = (n < f.flight.packet) × AreBehind n flying
 
--- there is the packet of each record behind the first n, and none of the first n comes any more
+-- each record after the first n has its packet, and the first n are no longer needed
 pub record HoldsPackets (records : List Record) (n : ℕ) (packets : List (List ℕ))
     (flying : List Flying) (queue : Queue) : Type 0 where
   pub count : length packets ≡ length records

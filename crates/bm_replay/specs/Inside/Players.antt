@@ -1,4 +1,4 @@
--- The state of a replay on its way, and what each step does to it.
+-- The state of a replay in progress, and what each step does to it.
 use Rattle.std.specs.Prelude.{◌≡◌, ◌≢◌, ℕ, suc, ◌+◌, ◌-◌, ◌*◌, ◌^◌, ◌<◌, ◌≤◌, ◌==◌, true, All}
 use Rattle.std.specs.Prelude.{if◌then◌else◌, List, [], ◌∷◌, ◌++◌, length, Option, Some, None}
 use Rattle.std.specs.Prelude.{Bool, ◌&&◌, nat_le, not, is_some, slice_get, slice_index_or}
@@ -7,11 +7,13 @@ use Rattle.bm_base.specs.declared.ids.MuxId.{MuxId}
 use Rattle.bm_base.specs.declared.ids.ServerId.{ServerId}
 use Rattle.bm_base.specs.declared.flow.Flow.{Flow}
 use Rattle.bm_base.specs.declared.flow.Segment.{Segment}
-use Rattle.bm_base.specs.declared.label.Hop.TheVariants.{Direct, Chained}
+use Rattle.bm_base.specs.declared.label.Hop.TheVariants.{Direct}
 use Rattle.bm_base.specs.declared.label.Label.{Label}
 use Rattle.bm_base.specs.declared.label.Tag.{Tag}
 use Rattle.bm_base.specs.declared.fate.Fate.{Fate}
 use Rattle.bm_base.specs.Labels.{tag_of}
+use Rattle.bm_base.specs.Inside.Labels.{later_hop}
+use Rattle.bm_encap.specs.Inside.Spellings.{FitsFields}
 use Rattle.bm_base.specs.Pieces.{cleared as cleared_first}
 use Rattle.bm_base.specs.Tags.{IsTag}
 use Rattle.bm_base.specs.declared.capture.Body.TheVariants.{Steerable}
@@ -70,7 +72,7 @@ pub record HasRoom (stage : Stage) (room : Room) : Type 0 where
       → HasTable stage.script.plan 0 (slice_get room.muxes m)
   pub shards : room.shards ≡ all_shards stage.script.setting 1025
 
--- nothing happened yet
+-- nothing has happened yet
 pub record IsNew (stage : Stage) (p : Player) : Type 0 where
   pub about : p.stage ≡ stage
   pub plan : IsPlan stage.script.plan
@@ -219,7 +221,7 @@ pub record HasSteered (R : Routes) (F : Rules) (clock : Moment) (k : ℕ) (p q :
   pub sending : HasSent F clock (record { packet = k; tag = tag })
       (happened clock (Steer k mux) (record p { packet = queue })) q
 
--- where a flight's flow is kept at its destination
+-- the place of the shard that keeps a flight's flow at its destination
 abbrev pub place_for : Player → Flight → Segment → ℕ
 place_for p flight s = place_of p.stage flight.tag.dest (shard p.stage s.flow)
 
@@ -227,7 +229,7 @@ place_for p flight s = place_of p.stage flight.tag.dest (shard p.stage s.flow)
 abbrev pub what_for : Player → ServerId → ℕ → ShardCall → What
 what_for p s h call = what_at s h (state_at p.shards (place_of p.stage s h)) call
 
--- the call was made to the server's shard, and what happened there is written at this clock
+-- the call was made to the server's shard, and what happened there is recorded at this clock
 pub record HasCalled (clock : Moment) (s : ServerId) (h : ℕ) (call : ShardCall) (p q : Player) :
     Type 0 where
   pub states : List State
@@ -239,23 +241,24 @@ abbrev pub verdict_for : Player → Moment → Flight → Segment → Verdict
 verdict_for p clock flight s =
     verdict_in (state_at p.shards (place_for p flight s)) flight s clock
 
--- the copy arrived, and its verdict left these shards
+-- the copy arrived, and its verdict left the shards like this
 abbrev pub after_arrival : Moment → Flight → Segment → List State → Player → Player
 after_arrival clock flight s states p =
     happened clock
     (Arrive flight.packet flight.tag.hop flight.tag.dest (verdict_for p clock flight s))
     (record p { wire = others p.wire; shards = states })
 
--- a copy of a flight that goes on to the server
+-- a copy of a flight that is passed on to the server
 abbrev pub chained : ServerId → Flight → Flight
-chained to flight = record flight { tag = record flight.tag { hop = Chained; dest = to } }
+chained to flight =
+    record flight { tag = record flight.tag { hop = later_hop flight.tag.hop; dest = to } }
 
--- where a verdict passes a copy on to
+-- the server to which a verdict passes a copy on
 abbrev pub passes_to : Verdict → Option ServerId
 passes_to (Forward to) = Some to
 passes_to _ = None
 
--- where an arrival passes a copy on to
+-- the server to which an arrival passes a copy on
 abbrev pub forwards : What → Option ServerId
 forwards (Arrive k hop server verdict) = passes_to verdict
 forwards _ = None
@@ -265,7 +268,7 @@ abbrev pub HasGone : Rules → Moment → Flight → Option ServerId → Player 
 HasGone F clock flight (Some to) p q = HasSent F clock (chained to flight) p q
 HasGone F clock flight None p q = q ≡ p
 
--- the first copy arrived, and went on where it was forwarded
+-- the first copy arrived, and was sent on if it was forwarded
 pub record HasArrived (F : Rules) (clock : Moment) (p q : Player) : Type 0 where
   pub flight : Flight
   pub is_flight : first_flight p.wire ≡ Some flight
@@ -276,17 +279,17 @@ pub record HasArrived (F : Rules) (clock : Moment) (p q : Player) : Type 0 where
   pub is : HasGone F clock flight (passes_to (verdict_for p clock flight segment))
       (after_arrival clock flight segment states p) q
 
--- the packets of those to come are there
+-- the packets that are still needed are there
 abbrev pub KeepsPackets : Player → Type 0
 KeepsPackets p = HoldsPackets p.stage.capture.records p.cleared p.packets p.wire p.packet
 
--- to let so many packets go is worth its time, where so many are let go already: they are at least
--- 16,384, and no fewer than those behind them
+-- freeing the first `done` packets is worth its time, where the first `cleared` are freed already:
+-- there are at least 16,384 more, and no fewer than the packets after them
 abbrev pub is_worth : ℕ → ℕ → ℕ → Bool
 is_worth done cleared count =
     nat_le 16384 (done - cleared) && nat_le (count - done) (done - cleared)
 
--- before the packet that is steered next, if one is, so many come no more
+-- how many packets are before the one that is steered next, if one is
 abbrev pub before_call : Call → Option ℕ
 before_call (Steers k) = Some (k - 1)
 before_call _ = None
@@ -295,23 +298,23 @@ abbrev pub before_head : Option Due → Option ℕ
 before_head None = None
 before_head (Some d) = before_call d.call
 
--- so many, where no copy is under way and it is worth its time
+-- this many, if no copy is under way and freeing them is worth its time
 abbrev pub worth_of : Player → Option ℕ → Option ℕ
 worth_of p None = None
 worth_of p (Some done) =
     if is_worth done p.cleared (length p.packets) && not (is_some (first_due p.wire)) then Some done
     else None
 
--- how many packets in front are let go
+-- how many packets at the front are freed
 abbrev pub done_for : Player → Option ℕ
 done_for p = worth_of p (before_head p.packet.head)
 
--- so many packets in front were let go
+-- this many packets at the front were freed
 abbrev pub let_go_first : Option ℕ → Player → Player
 let_go_first None p = p
 let_go_first (Some done) p = record p { packets = cleared_first done p.packets; cleared = done }
 
--- packets were let go that come no more, or none
+-- packets that are no longer needed were freed, or none
 pub record HasLetGo (p q : Player) : Type 0 where
   pub gone : q ≡ let_go_first (done_for p) p
   pub packets : List (List ℕ)
@@ -321,7 +324,7 @@ pub record HasLetGo (p q : Player) : Type 0 where
 
 -- WHAT THE STEPS NEED
 
--- the shards of each server lie among the shards, and their clocks are low
+-- the shards of each server are there, and their clocks are low
 pub record HasPlaces (p : Player) : Type 0 where
   pub shards : IsWithin 1 64 p.stage.script.setting.shards
   pub about : (s : ServerId) (h : ℕ) → s.0 ≤ 1024 → h < p.stage.script.setting.shards
@@ -329,7 +332,7 @@ pub record HasPlaces (p : Player) : Type 0 where
   pub ready : (s : ServerId) (h : ℕ) → s.0 ≤ 1024 → h < p.stage.script.setting.shards
       → IsReady (place_of p.stage s h) p.shards
 
--- what the soonest switch is found by
+-- what finding the soonest switch needs
 pub record HasLags (stage : Stage) : Type 0 where
   pub few : length stage.script.plan.changes ≤ 4096
   pub count : stage.script.setting.muxes ≤ length stage.script.setting.lags
@@ -348,7 +351,7 @@ pub record CanSwitch (m v : ℕ) (p : Player) : Type 0 where
 pub record CanSteer (at : Moment) (k : ℕ) (p : Player) : Type 0 where
   pub segment : Segment
   pub is_segment : segment_of p.stage k ≡ Some segment
-  pub clock : at.0 ≤ 5 * 10 ^ 18
+  pub clock : at.0 ≤ 6 * 10 ^ 18
   pub buckets : IsWithin 1 65536 p.stage.script.setting.buckets
   pub muxes : p.stage.script.setting.muxes ≤ length p.muxes
   pub tables : (m : ℕ) (x : Mux) → m < p.stage.script.setting.muxes → slice_get p.muxes m ≡ Some x
@@ -362,9 +365,9 @@ pub record CanArrive (at : Moment) (p : Player) : Type 0 where
   pub is_flight : first_flight p.wire ≡ Some flight
   pub segment : Segment
   pub is_segment : segment_of p.stage flight.packet ≡ Some segment
-  pub clock : at.0 ≤ 5 * 10 ^ 18
+  pub clock : at.0 ≤ 6 * 10 ^ 18
   pub tag : IsTag flight.tag
-  pub fits : (flight.tag.stamp.0 < 2 ^ 64) × (flight.tag.version.0 < 2 ^ 32)
+  pub fits : FitsFields flight.tag
   pub len : segment.len ≤ 1048576
   pub number : (1 ≤ flight.packet) × (flight.packet ≤ length p.packets)
   pub packet : IsPacketOf (Steerable segment) (slice_index_or p.packets (flight.packet - 1) [])

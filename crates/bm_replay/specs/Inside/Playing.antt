@@ -1,4 +1,4 @@
--- What a replay on its way keeps.
+-- The invariant of a replay in progress.
 use Rattle.std.specs.Prelude.{◌≡◌, ℕ, suc, ◌<◌, Bool, true, false, List, length, reverse, Option}
 use Rattle.std.specs.Prelude.{Some, None, slice_get}
 use Rattle.bm_base.specs.declared.ids.Moment.{Moment}
@@ -68,7 +68,7 @@ abbrev pub lost_call : Option Loss → Option Calls
 lost_call None = None
 lost_call (Some loss) = Some (Loses loss.packet loss.hop)
 
--- the state is what these events leave
+-- the state is the one that these events leave
 pub record KeepsState (fates : List Fate) (past : List Event) (p : Player) : Type 0 where
   pub clock : p.clock.0 ≡ last_clock past
   pub loss : lost_call p.loss ≡ due_loss fates past
@@ -83,7 +83,7 @@ pub record KeepsState (fates : List Fate) (past : List Event) (p : Player) : Typ
 abbrev pub past_of : Player → List Event
 past_of p = reverse p.events
 
--- the events so far are a replay, with some fates, and the state is what they leave
+-- the events so far are a replay, with some fates, and the state is the one that they leave
 pub record IsPlaying (R : Routes) (F : Rules) (p : Player) : Type 0 where
   pub fates : List Fate
   pub played : IsPlayed R F p.stage fates (past_of p)
@@ -102,13 +102,13 @@ pub record IsComing (R : Routes) (F : Rules) (clock : Moment) (coming : Coming) 
   pub is_coming : coming_for p ≡ coming
   pub is_clock : clock.0 ≡ next_clock p.clock.0 (coming_moment coming)
 
--- one event more, of the same stage
+-- one more event, of the same stage
 pub record HasPlayed (R : Routes) (F : Rules) (p q : Player) : Type 0 where
   pub about : q.stage ≡ p.stage
   pub playing : IsPlaying R F q
   pub one_more : length q.events ≡ suc (length p.events)
 
--- one event more, or the replay is over
+-- one more event, or the replay is over
 abbrev pub HasStepped : Routes → Rules → Player → Player → Bool → Type 0
 HasStepped R F p q true = HasPlayed R F p q
 HasStepped R F p q false =

@@ -1,4 +1,4 @@
--- The shards of all servers, and how they tell what happened.
+-- The shards of all servers, and how what happened follows from them.
 use Rattle.std.specs.Prelude.{◌≡◌, ℕ, zero, suc, ◌+◌, ◌-◌, ◌*◌, ◌^◌, ◌<◌, ◌≤◌, Bool, List, [], ◌∷◌}
 use Rattle.std.specs.Prelude.{◌++◌, length, slice_index_or, slice_set}
 use Rattle.bm_base.specs.declared.ids.Moment.{Moment}
@@ -25,16 +25,16 @@ abbrev pub shard_by : Setting → ServerId → ℕ → Shard
 shard_by setting s h =
     record { server = s; number = h; capacity = setting.capacity; timeout = setting.timeout }
 
--- it was asked nothing
+-- the same, with no call made to it
 abbrev pub first_shard : Setting → ServerId → ℕ → State
 first_shard setting s h = first_state (shard_by setting s h)
 
--- the first h shards of a server, which were asked nothing
+-- the first h shards of a server, with no call made to them
 abbrev pub server_shards : Setting → ServerId → ℕ → List State
 server_shards setting s zero = []
 server_shards setting s (suc h) = server_shards setting s h ++ first_shard setting s h ∷ []
 
--- the shards of the servers below n, which were asked nothing
+-- the shards of the servers with numbers below n, with no call made to them
 unfoldable pub all_shards : Setting → ℕ → List State
 all_shards setting zero = []
 all_shards setting (suc s) =
@@ -49,7 +49,7 @@ no_state =
 abbrev pub state_at : List State → ℕ → State
 state_at states place = slice_index_or states place no_state
 
--- where the shard of a server lies
+-- the place of a server's shard
 abbrev pub place_of : Stage → ServerId → ℕ → ℕ
 place_of stage s h = s.0 * stage.script.setting.shards + h
 
@@ -96,12 +96,12 @@ what_at s h state call =
 -- the shard at the place is there, and its clock is low
 pub record IsReady (place : ℕ) (states : List State) : Type 0 where
   pub inside : place < length states
-  pub clock : (state_at states place).clock.0 ≤ 5 * 10 ^ 18
+  pub clock : (state_at states place).clock.0 ≤ 6 * 10 ^ 18
 
 -- EVENTS
 
--- the state is what the turns of the server's shard among these events left, and its clock isn't
--- past theirs
+-- the state is the one that the turns of the server's shard among these events left, and its clock
+-- isn't past theirs
 pub record IsShardOf (stage : Stage) (past : List Event) (s : ServerId) (h : ℕ) (state : State) :
     Type 0 where
   pub shard : state.shard ≡ shard_by stage.script.setting s h

@@ -1,4 +1,4 @@
--- The states of shards, which are made at the first call.
+-- The states of shards; a shard's state is made at its first call.
 use Rattle.std.specs.Prelude.{Option, Some, None, Box}
 use Rattle.bm_shard.specs.States.{State, first_state}
 use Rattle.bm_shard.specs.declared.book.Shard.{Shard}

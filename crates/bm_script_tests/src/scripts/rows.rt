@@ -1,4 +1,4 @@
-pub(super) const ROWS: [(&'static str, &'static str); 34] = [
+pub(super) const ROWS: [(&'static str, &'static str); 35] = [
     ("fault = []", ""),
     ("fault = [{packet=1,hop='direct',copies=0,delay_ns=0}]", ""),
     (
@@ -50,6 +50,10 @@ pub(super) const ROWS: [(&'static str, &'static str); 34] = [
     ),
     (
         "fault = [{packet=1,hop='Direct',copies=1,delay_ns=0}]",
+        "script fault 1: bad value of hop",
+    ),
+    (
+        "fault = [{packet=1,hop='twice',copies=1,delay_ns=0}]",
         "script fault 1: bad value of hop",
     ),
     (

@@ -1,4 +1,4 @@
-/// A script that has all the top keys but `command`.
+/// A script with all top keys except `command`.
 pub(super) const WHOLE: &str = "version = 1
 buckets = 16
 servers = [3, 7]

@@ -1,4 +1,4 @@
--- Beside Servings: what the contracts of private calls and the proofs of bodies use.
+-- What the contracts of private calls and the proofs of bodies use in addition to Servings.
 use Rattle.std.specs.Prelude.{◌<◌, ◌≤◌, length}
 use Rattle.bm_server.specs.Servings.{Serving}
 

@@ -12,7 +12,7 @@ use Rattle.bm_shard.specs.declared.calls.ShardCall.{ShardCall}
 use Rattle.bm_shard.specs.declared.holding.Holding.{Holding}
 use Rattle.bm_shard.specs.Books.{IsShort}
 
--- what is held after a segment was taken that ends no connection
+-- what is held after taking a segment that ends no connection
 pub record Takes (s : Segment) (old new : Holding) : Type 0 where
   pub held : (f : Flow) → receiver_in new.table.connections f
       ≡ (if same_flow s.flow f then option_map (λ r. receiver_after r s)
@@ -26,12 +26,12 @@ CanOpen f h =
     receiver_in h.table.connections f ≡ None → (length h.table.connections < h.table.capacity)
     × HasRoom h.table
 
--- an Accept has its place
+-- there is a place for the connection of an Accept
 abbrev pub CanTake : Verdict → Segment → Holding → Type 0
 CanTake Accept s h = CanOpen s.flow h
 CanTake _ s h = Unit {0}
 
--- a call may be served without memory
+-- a call can be carried out without memory
 pub record CanServe (call : ShardCall) (h : Holding) : Type 0 where
   pub room : HasRoom h.table
   pub short : IsShort call

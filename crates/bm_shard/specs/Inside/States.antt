@@ -1,4 +1,4 @@
--- Beside States: what the contracts of private calls and the proofs of bodies use.
+-- What the contracts of private calls and the proofs of bodies use in addition to States.
 use Rattle.std.specs.Prelude.{List}
 use Rattle.bm_conn.specs.Connections.{AreOnce}
 use Rattle.bm_core.specs.Books.{Turn}

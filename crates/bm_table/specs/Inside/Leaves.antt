@@ -9,7 +9,7 @@ use Rattle.bm_table.specs.declared.plan.Move.{Move}
 use Rattle.bm_table.specs.declared.plan.Step.{Step}
 use Rattle.bm_table.specs.Tables.{is_drain}
 
--- b is the least number that passes the test, or none passes
+-- b is the least number that passes the test, or no number passes
 abbrev pub IsLeast : (ℕ → Bool) → Option ℕ → Type 0
 IsLeast test None = (b : ℕ) → test b ≡ false
 IsLeast test (Some b) = (test b ≡ true) × ((other : ℕ) → other < b → test other ≡ false)
@@ -20,7 +20,7 @@ lesser_of None y = y
 lesser_of (Some x) None = Some x
 lesser_of (Some x) (Some y) = Some (min x y)
 
--- the first bucket that leaves the server of this number, where each bucket is at a server
+-- the first bucket that leaves the server of this number, given the server of each bucket
 abbrev pub first_left : (ℕ → ServerId) → List Move → ℕ → Option ℕ
 first_left server [] s = None
 first_left server (m ∷ moves) s =

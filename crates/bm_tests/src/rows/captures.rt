@@ -4,7 +4,7 @@ use crate::capture::Kind::{Data, Fin, Rst, Syn};
 use crate::capture::{OPENED, Packet};
 use crate::program::Row;
 
-/// What is written of `OPENED`, with no change.
+/// What is written for `OPENED` without changes.
 pub(crate) const OPENED_REPORT: &str = "1 steer 1 0 0 4\n\
      2 arrive 1 direct 1 accept\n\
      1001 steer 2 0 0 4\n\

@@ -5,7 +5,7 @@ use crate::capture::{OPENED, Packet};
 use crate::program::Row;
 use crate::rows::OPENED_REPORT;
 
-/// What is written of `OPENED` where bucket 4 moves to server 2 between the packets.
+/// What is written for `OPENED` if bucket 4 moves to server 2 between the packets.
 pub(crate) const MOVED_REPORT: &str = "1 steer 1 0 0 4\n\
      2 arrive 1 direct 1 accept\n\
      501 publish 1\n\
@@ -18,7 +18,7 @@ pub(crate) const MOVED_REPORT: &str = "1 steer 1 0 0 4\n\
      total packets 2 steered 2 unsteered 0 accepted 1 processed 1 \
      forwarded 1 reset 0 dropped 0 lost 0 stray 0\n";
 
-pub(crate) static MOVES: [Row; 8] = [
+pub(crate) static MOVES: [Row; 10] = [
     Row {
         name: "a script that says nothing",
         form: Micro,
@@ -126,7 +126,84 @@ pub(crate) static MOVES: [Row; 8] = [
              602 switch 0 2\n\
              1001 steer 2 0 2 4\n\
              1002 arrive 2 direct 1 forward 3\n\
-             1003 arrive 2 chained 3 reset chained-unknown because moved-twice\n\
+             1003 arrive 2 chained 3 forward 2\n\
+             1004 arrive 2 twice 2 process advance\n\
+             packet 1 accepted 2\n\
+             packet 2 processed 2\n\
+             total packets 2 steered 2 unsteered 0 accepted 1 processed 1 \
+             forwarded 2 reset 0 dropped 0 lost 0 stray 0\n",
+    },
+    Row {
+        name: "a bucket moves three times",
+        form: Micro,
+        packets: OPENED,
+        script: Some(
+            "servers = [1, 2, 3]\n\
+            [[command]]\n\
+            at_ns = 500\n\
+            do = \"move\"\n\
+            bucket = 4\n\
+            server = 3\n\
+            [[command]]\n\
+            at_ns = 600\n\
+            do = \"move\"\n\
+            bucket = 4\n\
+            server = 1\n\
+            [[command]]\n\
+            at_ns = 700\n\
+            do = \"move\"\n\
+            bucket = 4\n\
+            server = 3\n",
+        ),
+        status: 0,
+        text: "1 steer 1 0 0 4\n\
+             2 arrive 1 direct 2 accept\n\
+             501 publish 1\n\
+             502 switch 0 1\n\
+             601 publish 2\n\
+             602 switch 0 2\n\
+             701 publish 3\n\
+             702 switch 0 3\n\
+             1001 steer 2 0 3 4\n\
+             1002 arrive 2 direct 3 forward 1\n\
+             1003 arrive 2 chained 1 forward 3\n\
+             1004 arrive 2 twice 3 reset chained-unknown because moved-thrice\n\
+             packet 1 accepted 2\n\
+             packet 2 reset 3\n\
+             total packets 2 steered 2 unsteered 0 accepted 1 processed 0 \
+             forwarded 2 reset 1 dropped 0 lost 0 stray 0\n",
+    },
+    Row {
+        name: "a copy that was chained is late for the server before",
+        form: Nano,
+        packets: &[
+            Packet(0, 0, 1000, 100, Syn),
+            Packet(1, 600, 1000, 101, Data),
+        ],
+        script: Some(
+            "servers = [1, 2, 3]\n\
+            timeout_s = 1\n\
+            [[command]]\n\
+            at_ns = 500\n\
+            do = \"move\"\n\
+            bucket = 4\n\
+            server = 3\n\
+            [[command]]\n\
+            at_ns = 900000000\n\
+            do = \"move\"\n\
+            bucket = 4\n\
+            server = 1\n",
+        ),
+        status: 0,
+        text: "1 steer 1 0 0 4\n\
+             2 arrive 1 direct 2 accept\n\
+             501 publish 1\n\
+             502 switch 0 1\n\
+             900000001 publish 2\n\
+             900000002 switch 0 2\n\
+             1000000601 steer 2 0 2 4\n\
+             1000000602 arrive 2 direct 1 forward 3\n\
+             1000000603 arrive 2 chained 3 reset chain-expired because chain-late\n\
              packet 1 accepted 2\n\
              packet 2 reset 3\n\
              total packets 2 steered 2 unsteered 0 accepted 1 processed 0 \

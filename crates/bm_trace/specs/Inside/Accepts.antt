@@ -4,7 +4,7 @@ use Rattle.bm_base.specs.declared.flow.Flow.{Flow}
 use Rattle.bm_base.specs.declared.flow.Segment.{Segment}
 use Rattle.bm_trace.specs.declared.past.Owner.{Owner}
 
--- what is there for a segment's flow
+-- what is found for a segment's flow
 abbrev pub owner_before : (Flow → Option Owner) → Option Segment → Option Owner
 owner_before accepts None = None
 owner_before accepts (Some s) = accepts s.flow

@@ -21,7 +21,7 @@ counts_of events = record {
 abbrev pub one_if : Bool → ℕ
 one_if holds = if holds then 1 else 0
 
--- the counts after an event more
+-- the counts after one more event
 abbrev pub with_event : What → Counts → Counts
 with_event what c = record {
   accepted = c.accepted + one_if (arrives is_accept what);

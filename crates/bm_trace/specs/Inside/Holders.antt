@@ -1,5 +1,4 @@
--- Which servers hold a flow, and when a shard was last retired, by looking back: what the code
--- keeps of them.
+-- Which servers hold a flow, and when a shard was last retired, as the code keeps it.
 use Rattle.std.specs.Prelude.{◌≡◌, ℕ, ◌&&◌, if◌then◌else◌, List, [], ◌∷◌, length, Option, Some}
 use Rattle.std.specs.Prelude.{None}
 use Rattle.bm_base.specs.declared.ids.ServerId.{ServerId}
@@ -17,18 +16,19 @@ use Rattle.bm_trace.specs.declared.holders.Holder.{Holder}
 use Rattle.bm_trace.specs.declared.holders.ShardKey.{ShardKey}
 use Rattle.bm_trace.specs.Inside.HolderLists.{put_holder}
 
--- what the verdict has the server hold, where it changes that
+-- how this verdict changes what the server holds: the Accept of a place, or nothing; None if it
+-- changes nothing
 abbrev pub ruling : ℕ → Verdict → Option (Option ℕ)
 ruling place Accept = Some (Some place)
 ruling place (Process Ended) = Some None
 ruling place _ = None
 
--- the holders of a flow after a segment of it had this ruling
+-- the holders of a flow after a verdict on a segment of it changed them like this
 abbrev pub ruled : ServerId → Option (Option ℕ) → List Holder → List Holder
 ruled s None before = before
 ruled s (Some place) before = put_holder s place before
 
--- the holders of a flow after the event at this place; retirements are kept apart
+-- the holders of a flow after the event at this place; retirements are kept separately
 abbrev pub holders_after : Stage → ℕ → What → Flow → List Holder → List Holder
 holders_after stage place (Arrive k hop server verdict) f before =
     if is_of (segment_of stage k) f then ruled server (ruling place verdict) before else before

@@ -1,4 +1,4 @@
--- What the code keeps of holders, as maps.
+-- What the code keeps about holders, as maps.
 use Rattle.std.specs.Prelude.{List}
 use Rattle.std.specs.BTreeMap as tree
 use Rattle.bm_trace.specs.contracts.holders.ShardKeyOrd.TheImpl as key_order
@@ -15,7 +15,7 @@ HoldsAfter stage past h =
     IsHolding stage past (holders_in h.lists)
     (tree.get (key_order.ghosts).cmp h.retired.places)
 
--- the same of one flow
+-- the same for one flow
 abbrev pub HoldsFlow : Stage → List Event → Flow → HeldBy → Type 0
 HoldsFlow stage past f h =
     IsHoldingFlow stage past f h.holders.now

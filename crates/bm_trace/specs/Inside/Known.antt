@@ -1,4 +1,4 @@
--- All that the code keeps of the events before an event, for its cause.
+-- All that the code keeps of the events before an event, to find its cause.
 use Rattle.std.specs.Prelude.{List}
 use Rattle.bm_core.specs.declared.events.Event.{Event}
 use Rattle.bm_core.specs.declared.events.Stage.{Stage}

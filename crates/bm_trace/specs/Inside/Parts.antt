@@ -5,14 +5,14 @@ use Rattle.bm_core.specs.declared.events.History.{History}
 use Rattle.bm_trace.specs.Report.{event_lines, note_line, record_lines, totals_line}
 use Rattle.bm_trace.specs.Totals.{totals_of}
 
--- what waited, and then the text, was written but for its last part, which now waits
+-- what waited, and then the text, was written except for its last part, which now waits
 pub record HandsOn (before : Option (List ℕ)) (waited : List ℕ) (now : Option (List ℕ))
     (waits text : List ℕ) : Type 0 where
   pub sent : List ℕ
   pub appended : Appends before now sent
   pub whole : sent ++ waits ≡ waited ++ text
 
--- the same, but its last part is lost
+-- the same, except that its last part is lost
 pub record HandsPart (before : Option (List ℕ)) (waited : List ℕ) (now : Option (List ℕ))
     (text : List ℕ) : Type 0 where
   pub lost : List ℕ
@@ -24,7 +24,7 @@ pub record HandsLess (before : Option (List ℕ)) (waited : List ℕ) (now : Opt
   pub part : HandsPart before waited now text
   pub some : 0 < length part.lost
 
--- the lines of all events, and behind them those of all records
+-- the lines of all events, and after them those of all records
 abbrev pub all_lines : History → List ℕ
 all_lines h =
     event_lines h.stage (reverse h.events)
@@ -34,6 +34,6 @@ all_lines h =
 abbrev pub last_lines : History → List ℕ
 last_lines h = note_line h.stage.capture.cut ++ totals_line (totals_of h)
 
--- what stands behind the lines of the events: the lines of the records, the note and the totals
+-- what comes after the lines of the events: the lines of the records, the note and the totals
 abbrev pub lines_behind : History → List ℕ
 lines_behind h = record_lines (reverse h.events) 1 h.stage.capture.records ++ last_lines h

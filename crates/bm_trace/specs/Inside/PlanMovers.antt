@@ -1,4 +1,4 @@
--- What the code keeps of the changes that move buckets.
+-- What the code keeps about the changes that move buckets.
 use Rattle.std.specs.Prelude.{◌≡◌, ℕ, length}
 use Rattle.std.specs.BTreeMap as tree
 use Rattle.std.specs.Ordering.{nat_cmp}

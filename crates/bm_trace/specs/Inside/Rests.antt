@@ -1,4 +1,4 @@
--- What stands behind the lines of a report's events.
+-- What comes after the lines of a report's events.
 use Rattle.std.specs.Prelude.{◌≡◌, reverse, string_bytes}
 use Rattle.bm_core.specs.declared.events.History.{History}
 use Rattle.bm_trace.specs.Inside.Counts.{without_strays}

@@ -1,4 +1,4 @@
--- What the code keeps of the events before an event, so that a cause needs no look back.
+-- What the code keeps of the events before an event, so that finding a cause needs no search.
 use Rattle.std.specs.Prelude.{◌≡◌, ℕ, suc, ◌<◌, List, length, Option, None, option_map}
 use Rattle.std.specs.Prelude.{slice_index_or, slice_set}
 use Rattle.bm_base.specs.declared.flow.Flow.{Flow}
@@ -16,7 +16,7 @@ use Rattle.bm_trace.specs.Inside.ByFlow.{owner_in}
 use Rattle.bm_trace.specs.Inside.Seen.{as_accepted}
 use Rattle.bm_trace.specs.Inside.Sent.{label_from, owner_from}
 
--- these are the versions of the first muxes, as many as the list has
+-- these are the versions of the first muxes, as many as the list has versions
 abbrev pub AreVersions : List Event → List Version → Type 0
 AreVersions past versions =
     (m : MuxId) → m.0 < length versions
@@ -41,7 +41,7 @@ pub record IsKept (stage : Stage) (past : List Event) (published : Version)
   pub owner_of_each : (k : ℕ) → k < length packets
       → owner_from (slice_index_or packets k None) ≡ owner stage past (suc k)
 
--- they are what is kept here
+-- this is what is kept here
 abbrev pub Keeps : Stage → List Event → Running → Type 0
 Keeps stage past r =
     IsKept stage past r.newest r.versions.items (owner_in r.accepts) r.packets.items

@@ -1,4 +1,4 @@
--- What the code knows of a packet by its Steer.
+-- What the code knows of a packet from its Steer.
 use Rattle.std.specs.Prelude.{◌≡◌, ℕ, List, Option, Some, None, option_map}
 use Rattle.bm_base.specs.declared.flow.Flow.{Flow}
 use Rattle.bm_base.specs.declared.flow.Segment.{Segment}
@@ -20,12 +20,12 @@ label_sent stage f sent =
           table stage.script.plan sent.version.0 (bucket stage f);
     }
 
--- the label of a packet with this segment, where it was steered
+-- the label of a packet with this segment, if it was steered
 abbrev pub label_from : Stage → Option Segment → Option Sent → Option Label
 label_from stage None sent = None
 label_from stage (Some s) sent = option_map (λ x. label_sent stage s.flow x) sent
 
--- the owner of a packet, where it was steered
+-- the owner of a packet, if it was steered
 abbrev pub owner_from : Option Sent → Option Accepted
 owner_from None = None
 owner_from (Some sent) = option_map as_accepted sent.owner

@@ -1,4 +1,4 @@
--- Beside Swept: what the contracts of private calls and the proofs of bodies use.
+-- What the contracts of private calls and the proofs of bodies use in addition to Swept.
 use Rattle.std.specs.Prelude.{◌≡◌, ℕ, ◌+◌, ◌-◌, ◌<◌, ◌≤◌, List, length, min, reverse, take}
 use Rattle.std.specs.Prelude.{Option}
 use Rattle.bm_core.specs.declared.events.Cause.{Cause}

@@ -1,5 +1,5 @@
 -- Only the proofs of bodies use this: the rule of the tickets. Word 0 is the next ticket, word 1
--- the ticket that is served, and the one slot holds the state.
+-- the ticket being served, and the one slot holds the state.
 use Rattle.std.specs.Prelude.{◌≡◌, ◌≢◌, ◌⊎◌, ℕ, zero, suc, ◌+◌, ◌^◌, ◌<◌, ◌≤◌, ◌==◌}
 use Rattle.std.specs.Prelude.{Bool, true, false, cond, List, [], ◌∷◌, ◌++◌, length, Option, Some}
 use mathlib.Core.Option.{some}
@@ -31,7 +31,7 @@ IsServed _ = ⊥
 -- THE RULE
 
 module _ {E : Type 0} (seat_of : E → ℕ) where
-  -- the entries are the same, or one more under the number n
+  -- the entries are the same, or have one more, under the number n
   abbrev pub Grows : ℕ → List E → List E → Type 0
   Grows n log log' = (log' ≡ log) ⊎ ((e : E) × (log' ≡ log ++ e ∷ []) × (seat_of e ≡ n))
 
@@ -41,7 +41,7 @@ module _ {E : Type 0} (seat_of : E → ℕ) where
   OldsFit dead log (o ∷ os) =
       (dead o.number ≡ true) × Covers seat_of o.number o.seen log × OldsFit dead log os
 
-  -- where the seat j stands
+  -- what holds of the seat j at each stage
   module _ (serving next holder : ℕ) (owner : ℕ → ℕ) (log : List E) (j : ℕ) where
     abbrev pub Stands : Stage E → Type 0
     Stands Idle = Unit {0}
@@ -75,7 +75,7 @@ module _ {T X E : Type 0} (entries : T → List E) (fixed : T → X) (replays : 
     pub owner : ℕ → ℕ
     -- which seats were given back
     pub dead : ℕ → Bool
-    -- the entries, those that the holder found where the state is out
+    -- the entries; while a seat has the state, those that it found
     pub log : List E
     pub words : s.words ≡ next ∷ serving ∷ []
     pub order : serving ≤ next
@@ -110,13 +110,13 @@ module _ {T X E : Type 0} (entries : T → List E) (fixed : T → X) (replays : 
       (t : T) × Finds me.0 ticket t
       × (me' ≡ (record me.0 { stage = Served ticket (entries t) }, (0, Some t) ∷ me.1))
 
-  -- the seat takes the state where it was its turn, or is as before
+  -- if its ticket is served the seat takes the state; otherwise nothing changes
   abbrev pub Looks : Step (Option T) → Me (Option T) (View X E) → ℕ → Me (Option T) (View X E)
       → Type 0
   Looks step me serving me' = (ticket : ℕ) → me.0.stage ≡ Waiting ticket
       → (serving ≡ ticket → Takes me ticket me') × (serving ≢ ticket → me' ≡ me)
 
-  -- what a served seat shows of the state that it gives back
+  -- what holds of the state that a served seat gives back
   pub record Hands (v : View X E) (ticket : ℕ) (t : T) : Type 0 where
     pub note : List E
     pub stage : v.stage ≡ Served ticket note
@@ -158,7 +158,7 @@ module _ {E : Type 0} (seat_of : E → ℕ) where
 
 module _ {T X E : Type 0} (entries : T → List E) (fixed : T → X) (replays : X → List E → Type 0)
     (seat_of : E → ℕ) where
-  -- what the first seat, to which all others were given back, shows of the state
+  -- what the first seat knows of the state, once all others were given back to it
   pub record Closes (v : View X E) (t : T) : Type 0 where
     pub about : v.fixed ≡ Some (fixed t)
     pub replay : replays (fixed t) (entries t)

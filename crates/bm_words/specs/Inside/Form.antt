@@ -1,4 +1,4 @@
--- Beside Form: what the contracts of private calls and the proofs of bodies use.
+-- What the contracts of private calls and the proofs of bodies use in addition to Form.
 use Rattle.std.specs.Prelude.{ℕ, List}
 use Rattle.std.specs.Prelude.{is_some, drop, option_and_then}
 use Rattle.std.specs.Prelude.{◌≡◌, true}

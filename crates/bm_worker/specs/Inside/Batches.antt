@@ -1,5 +1,5 @@
--- A batch of a mux's packets: what the mux takes, what it logs and sends, and how far a phase then
--- is. Only the proofs of bodies use this.
+-- A batch of a mux's packets: what the mux receives, what it logs and sends, and how far a phase is
+-- after it. Only the proofs of bodies use this.
 use Rattle.std.specs.Prelude.{◌≡◌, ◌<◌, ◌≤◌, ◌*◌, ◌^◌, ◌+◌, ℕ, true, ◌==◌, if◌then◌else◌, max}
 use Rattle.std.specs.Prelude.{nat_lt}
 use Rattle.std.specs.Prelude.{List, [], ◌∷◌, ◌++◌, length, reverse, Option, Some, None, Result}
@@ -41,7 +41,7 @@ abbrev pub Rise : ℕ → List MuxItem → Type 0
 Rise low [] = Unit {0}
 Rise low (i ∷ items) = (low < i.packet) × Rise i.packet items
 
--- the last packet's number, or this one where there is none
+-- the last packet's number, or this one if there is none
 abbrev pub last_packet : ℕ → List MuxItem → ℕ
 last_packet low [] = low
 last_packet low (i ∷ items) = last_packet i.packet items
@@ -53,9 +53,9 @@ pub record IsItemOf (stage : Stage) (routes : List (Option MuxId)) (m : ℕ) (i 
   pub moment : i.moment.0 ≡ record_moment stage i.packet
   pub segment : segment_of stage i.packet ≡ Some i.segment
   pub reads : ReadsAs i.inner.now i.segment
-  pub short : length i.inner.now ≤ 65491
+  pub short : length i.inner.now ≤ 65479
 
--- the fates that were drawn for their copies
+-- the fates that were drawn for the items' copies
 abbrev pub AreDrawn : Rules → List MuxItem → List Fate → Type 0
 AreDrawn F [] [] = Unit {0}
 AreDrawn F (i ∷ items) (f ∷ fates) =
@@ -72,7 +72,7 @@ pub record AreCollected (F : Rules) (stage : Stage) (routes : List (Option MuxId
   pub drawn : AreDrawn F items fates
   pub once : (k : ℕ) → count_of (λ (i : MuxItem). i.packet == k) items
       ≡ (if is_assigned routes m from end k then 1 else 0)
-  -- no more than the places
+  -- at most as many as the places
   pub count : from + length items ≤ end
 
 -- WHAT IT LOGS AND SENDS, as notes, the newest first
@@ -102,7 +102,7 @@ switch_notes m seen past =
 
 -- DELIVERED
 
--- the notes x pay the sendings s
+-- the notes x settle the sendings s
 pub record PaysFor (s x : List Note) : Type 0 where
   pub lost : (k : ℕ) (hop : Hop) (clock : ℕ) → total (lost_at k hop clock) x
       ≡ total (copyless_at k hop clock) s + total (copyless_at k hop clock) x
@@ -122,7 +122,7 @@ pub record IsOwed (stint : Stint) (deeds : List Note) (d : Debt) : Type 0 where
   pub later : stint.after < d.clock
   pub within : (stint.from < d.packet) × (d.packet ≤ stint.until)
 
--- so is each of these, with its fate, and their numbers rise
+-- each of these is, with its fate, and their numbers rise
 abbrev pub AreOwed : Stint → List Note → ℕ → List Steered → List Fate → Type 0
 AreOwed stint deeds low [] fates = Unit {0}
 AreOwed stint deeds low (t ∷ sents) [] = ⊥
@@ -146,14 +146,15 @@ IsDelivery (Arrive k hop server verdict) = Unit {0}
 IsDelivery (Lose k hop) = Unit {0}
 IsDelivery _ = ⊥
 
--- every phase goes on with at most so many notes, which pay what was steered, or the worker gave up
+-- every phase goes on with at most this many notes, which settle what was steered, or the worker
+-- gave up
 abbrev pub Delivers : Rules → Stage → List Serving → List Steered → List Fate → MuxWorker
     → MuxWorker
     → Result (Unit {0}) Stop → Type 0
 Delivers F stage servers sents fates old new result =
     (stint : Stint) (deeds : List Note) (low : ℕ) → Kept F stage servers stint old deeds
     → AreOwed stint deeds low sents fates → AllByRecursion (λ y. IsUpTo low y.event.what) deeds
-    → (x : List Note) × Kept F stage servers stint new (x ++ deeds) × (length x ≤ 12 * length sents)
+    → (x : List Note) × Kept F stage servers stint new (x ++ deeds) × (length x ≤ 39 * length sents)
     × AllByRecursion (λ y. IsDelivery y.event.what) x
     × MatchResult result
     (λ _. PaysFor (sent_notes (mux_for stint) sents fates) x
@@ -162,7 +163,7 @@ Delivers F stage servers sents fates old new result =
 
 -- HOW FAR A PHASE IS
 
--- every sending among the deeds is paid
+-- every sending among the deeds is settled
 pub record AreSettled (deeds : List Note) : Type 0 where
   pub lost : (k : ℕ) (hop : Hop) (clock : ℕ) → total (lost_at k hop clock) deeds
       ≡ total (copyless_at k hop clock) deeds
@@ -197,7 +198,7 @@ pub record IsDoneTo (F : Rules) (stage : Stage) (servers : List Serving) (stint 
   pub switched : switched_since stint.after (mux_for stint).0 (reverse now.mux.log) ≡ true
   pub begun : stint.after < steering_clock (reverse now.mux.log)
 
--- what the worker did is noted: the porter has the mux's clock, and nothing else changed
+-- what the worker did is recorded: the porter has the mux's clock, and nothing else changed
 pub record HasSeen (old new : MuxWorker) : Type 0 where
   pub seats : new.porter.seats ≡ old.porter.seats
   pub porter : IsSamePorter old.porter new.porter
@@ -212,7 +213,7 @@ pub record HasOnlyLooked (old new : MuxWorker) : Type 0 where
   pub porter : new.porter ≡ old.porter
   pub steps : new.steps ≡ old.steps
 
--- the phase goes on from the place to that of the answer, or the worker gave up
+-- the phase goes on from the place to the one returned, or the worker gave up
 abbrev pub CarriesTo : Rules → Stage → List Serving → List (Option MuxId) → ℕ → ℕ → MuxWorker
     → MuxWorker → Result ℕ Stop → Type 0
 CarriesTo F stage servers routes from until old new result =
@@ -221,13 +222,13 @@ CarriesTo F stage servers routes from until old new result =
     → MatchResult result (λ end. (d : List Note) × IsDoneTo F stage servers stint new end d)
     (λ stop. HasEnded F stage servers stint new (Some stop))
 
--- how far so many places may raise the worker's counts
+-- how much this many places may add to the worker's counts
 pub record GrowsBy (places : ℕ) (old new : MuxWorker) : Type 0 where
-  pub tries : new.porter.tries ≤ old.porter.tries + 12 * places
+  pub tries : new.porter.tries ≤ old.porter.tries + 39 * places
   pub steps : new.steps ≤ old.steps + places
-  pub log : length new.mux.log ≤ length old.mux.log + 5 * places
+  pub log : length new.mux.log ≤ length old.mux.log + 11 * places
 
--- the phase is done, or the worker gave up in it and answers why
+-- the phase is done, or the worker gave up in it and returns why
 abbrev pub EndsAs : Rules → Stage → List Serving → Stint → MuxWorker → Result (Unit {0}) Stop
     → Type 0
 EndsAs F stage servers stint now result =

@@ -1,5 +1,5 @@
--- How a sending is paid: each of its copies arrives, and each forward of one is paid in turn; a
--- sending without copies is lost. Only the proofs of bodies use this.
+-- How a sending is settled: each of its copies arrives, and each forward of one is settled in turn;
+-- a sending without copies is lost. Only the proofs of bodies use this.
 use Rattle.std.specs.Prelude.{◌≡◌, ◌<◌, ◌≤◌, ◌*◌, ◌^◌, ◌+◌, ℕ, suc, Bool, true, false, ◌&&◌, ◌==◌}
 use Rattle.std.specs.Prelude.{nat_le, nat_lt}
 use Rattle.std.specs.Prelude.{if◌then◌else◌, List, ◌++◌, length, reverse, slice_get, Some, Result}
@@ -9,13 +9,15 @@ use Rattle.bm_base.specs.declared.fate.Fate.{Fate}
 use Rattle.bm_base.specs.declared.flow.Segment.{Segment}
 use Rattle.bm_base.specs.declared.ids.ServerId.{ServerId}
 use Rattle.bm_base.specs.declared.label.Hop.{Hop}
-use Rattle.bm_base.specs.declared.label.Hop.TheVariants.{Direct}
+use Rattle.bm_base.specs.declared.label.Hop.TheVariants.{Direct, Chained, Twice}
 use Rattle.bm_base.specs.declared.label.Label.{Label}
 use Rattle.bm_base.specs.declared.label.Tag.{Tag}
-use Rattle.bm_base.specs.Labels.{tag_of}
+use Rattle.bm_base.specs.Labels.{entry_of, onward, server_of, tag_of}
 use Rattle.bm_base.specs.Tags.{IsTag}
 use Rattle.bm_tcp.specs.Packets.{ReadsAs}
 use Rattle.bm_encap.specs.Spellings.{spelling}
+use Rattle.bm_encap.specs.Inside.Spellings.{FitsFields}
+use Rattle.bm_core.specs.Inside.Weights.{hop_weight}
 use Rattle.bm_core.specs.declared.events.Event.{Event}
 use Rattle.bm_core.specs.declared.events.Stage.{Stage}
 use Rattle.bm_core.specs.declared.events.What.{What}
@@ -32,7 +34,7 @@ use Rattle.bm_worker.specs.declared.worker.MuxWorker.{MuxWorker}
 use Rattle.bm_worker.specs.Deeds.{IsSamePorter}
 use Rattle.bm_worker.specs.Phases.{IsStopOf, Kept, Stint}
 
--- a sending, and what it owes
+-- a sending, with what has to come of it
 pub record Debt : Type 0 where
   pub packet : ℕ
   pub hop : Hop
@@ -45,11 +47,11 @@ debt k hop clock fate = record { packet = k; hop = hop; clock = clock; fate = fa
 abbrev pub is_of : Debt → ℕ → Hop → Bool
 is_of d k hop = d.packet == k && same_hop d.hop hop
 
--- the same with so many copies
+-- the same with i copies
 abbrev pub with_copies : Debt → ℕ → Debt
 with_copies d i = record d { fate = record { copies = i; delay = d.fate.delay } }
 
--- SUMS: what one note has of what a carrier promises, and what the debt has
+-- SUMS: what one note adds to what a carrier promises, and what the sending adds
 
 abbrev pub comes : ℕ → Hop → Note → ℕ
 comes k hop n = if arrives n.event.what k hop then 1 else 0
@@ -81,9 +83,8 @@ abbrev pub debt_copyless : Debt → ℕ → Hop → ℕ → ℕ
 debt_copyless d k hop clock =
     if is_of d k hop && (d.fate.copies == 0 && d.clock == clock) then 1 else 0
 
--- the notes pay the copies of the debt, and all that was sent among themselves; with whole, a debt
--- without copies has its
--- Lose among them
+-- the notes settle the copies of the sending, and all that was sent among themselves; with whole, a
+-- sending without copies has its Lose among them
 pub record Pays (whole : Bool) (d : Debt) (x : List Note) : Type 0 where
   pub lost : (k : ℕ) (hop : Hop) (clock : ℕ) → total (lost_at k hop clock) x
       ≡ (if whole then debt_copyless d k hop clock else 0) + total (copyless_at k hop clock) x
@@ -129,12 +130,12 @@ pub record GoesOn (F : Rules) (stage : Stage) (servers : List Serving) (stint : 
   pub packets : AllByRecursion (λ n. IsOf packet n.event.what) x
   pub few : length x ≤ most
 
--- so many copies of the debt are paid, or the whole of it, or the worker gave up
+-- this many copies are settled, or the whole sending, or the worker gave up
 abbrev pub IsPaid : Bool → Debt → List Note → List Note → Result (Unit {0}) Stop → Type 0
 IsPaid whole d deeds x result =
     MatchResult result (λ _. Pays whole d x) (λ stop. IsStopOf (x ++ deeds) stop)
 
--- in every phase in which the debt is owed it is paid with at most so many notes, or the worker
+-- in every phase that has this sending, it is settled with at most this many notes, or the worker
 -- gave up
 abbrev pub Carries : Rules → Stage → List Serving → Debt → ℕ → MuxWorker → MuxWorker
     → Result (Unit {0}) Stop → Type 0
@@ -143,7 +144,7 @@ Carries F stage servers d most old new result =
     → (x : List Note) × GoesOn F stage servers stint d.packet most new deeds x
     × IsPaid true d deeds x result
 
--- one copy of it is
+-- one copy of it is settled
 abbrev pub CarriesOne : Rules → Stage → List Serving → Debt → ℕ → MuxWorker → MuxWorker
     → Result (Unit {0}) Stop → Type 0
 CarriesOne F stage servers d most old new result =
@@ -151,7 +152,7 @@ CarriesOne F stage servers d most old new result =
     → (x : List Note) × GoesOn F stage servers stint d.packet most new deeds x
     × IsPaid false (with_copies d 1) deeds x result
 
--- i copies of it are
+-- i copies of it are settled
 abbrev pub HasCarried : Rules → Stage → List Serving → Debt → ℕ → ℕ → MuxWorker → MuxWorker → Type 0
 HasCarried F stage servers d i most old now =
     (stint : Stint) (deeds : List Note) → Kept F stage servers stint old deeds → Owes stint deeds d
@@ -167,13 +168,13 @@ pub record IsSameWorker (old new : MuxWorker) : Type 0 where
   pub porter : IsSamePorter old.porter new.porter
   pub steps : new.steps ≡ old.steps
 
--- the mux's log has at most so many Loses more, and nothing else
+-- the mux's log has at most this many more Loses, and nothing else
 abbrev pub GrowsByLosses : ℕ → List Event → List Event → Type 0
 GrowsByLosses most old new =
     (more : List Event) × (new ≡ old ++ more) × AllByRecursion (λ e. is_lose e.what ≡ true) more
     × (length more ≤ most)
 
--- the worker has too large a moment from this clock
+-- the worker met a moment that is too large, which came from this clock
 abbrev pub IsLateFrom : ℕ → Stop → Type 0
 IsLateFrom clock (Late moment at) =
     (9 * 10 ^ 18 < moment.0) × (moment.0 ≤ at.0 + 60 * 10 ^ 9) × (at.0 ≡ clock)
@@ -194,17 +195,35 @@ pub record IsCopyOf (stage : Stage) (servers : List Serving) (mux : MuxState) (p
   pub tag : Tag
   pub tagged : tag_of label hop ≡ Some tag
   pub valid : IsTag tag
-  pub stamp : tag.stamp.0 < 2 ^ 64
-  pub version : tag.version.0 < 2 ^ 32
+  pub fits : FitsFields tag
   pub inner : List ℕ
   pub spelled : octets ≡ spelling tag inner
   pub reads : ReadsAs inner segment
-  pub short : length inner ≤ 65491
+  pub short : length inner ≤ 65479
   pub server : Serving
   pub is_server : slice_get servers place ≡ Some server
   pub mine : tag.dest ≡ server.id
 
--- a direct copy of the packet, whose tag has this previous server
-abbrev pub IsForwarded : Stage → List Serving → MuxState → ℕ → ℕ → List ℕ → ServerId → Type 0
-IsForwarded stage servers mux place k octets to =
-    (copy : IsCopyOf stage servers mux place k Direct octets) × (copy.tag.prev ≡ Some to)
+-- a copy of the packet by this hop, whose tag has it passed on to this server
+abbrev pub IsForwarded : Stage → List Serving → MuxState → ℕ → ℕ → Hop → List ℕ → ServerId → Type 0
+IsForwarded stage servers mux place k hop octets to =
+    (copy : IsCopyOf stage servers mux place k hop octets)
+    × (server_of (onward (entry_of copy.tag) copy.tag.hop) ≡ Some to)
+
+-- HOW MUCH A SENDING LEADS TO
+
+-- the most arrivals of a sending of this hop and of its forwards, with three copies each
+abbrev pub most_tries : Hop → ℕ
+most_tries hop = 3 * hop_weight hop
+
+-- the most losses of what a copy of this hop is forwarded as
+abbrev pub copy_lost : Hop → ℕ
+copy_lost Direct = 3
+copy_lost Chained = 1
+copy_lost Twice = 0
+
+-- the most losses of a sending of this hop and of its forwards
+abbrev pub most_lost : Hop → ℕ
+most_lost Direct = 9
+most_lost Chained = 3
+most_lost Twice = 1

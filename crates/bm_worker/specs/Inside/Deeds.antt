@@ -1,4 +1,4 @@
--- Beside Deeds: what the contracts of private calls and the proofs of bodies use.
+-- What the contracts of private calls and the proofs of bodies use in addition to Deeds.
 use Rattle.std.specs.Prelude.{ℕ}
 use Rattle.bm_base.specs.declared.fate.Fate.{Fate}
 use Rattle.bm_base.specs.declared.ids.Moment.{Moment}

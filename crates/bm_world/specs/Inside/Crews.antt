@@ -1,4 +1,4 @@
--- A run between two phases, after the last one, and where a worker has given up, as the code has
+-- A run between two phases, after the last one, and after a worker has given up, as the code has
 -- it. Only the proofs of bodies use this.
 use Rattle.std.specs.Prelude.{◌≡◌, ◌⊎◌, ℕ, suc, ◌+◌, ◌-◌, ◌*◌, ◌^◌, ◌≤◌, max, List, [], ◌∷◌}
 use Rattle.std.specs.Prelude.{length, map, slice_get, Option, Some, None}
@@ -64,7 +64,7 @@ latest_in (w ∷ workers) = max w.porter.latest (latest_in workers)
 
 -- BETWEEN TWO PHASES
 
--- what the workers did, where p Syncs came, and the records before the place `until` were carried
+-- what the workers did, after p Syncs, with the records before the place `until` carried
 pub record IsStanding (F : Rules) (stage : Stage) (servers : List Serving)
     (routes : List (Option MuxId)) (posted : Posted) (head : Head) (workers : List MuxWorker)
     (p phases until : ℕ) (controller : List Note) (carriers : List (List Note)) : Type 0 where
@@ -76,7 +76,7 @@ pub record IsStanding (F : Rules) (stage : Stage) (servers : List Serving)
   pub at_work : AreAtWork (RoutedBy routes) F stage servers routes posted.board p phases until
       workers controller carriers
 
--- between two phases: the records of the next one are at the places from here on
+-- between two phases: the next one's records are at the places from here on
 pub record IsBetween (F : Rules) (stage : Stage) (servers : List Serving)
     (routes : List (Option MuxId)) (posted : Posted) (head : Head) (workers : List MuxWorker)
     (start : ℕ) : Type 0 where
@@ -111,7 +111,7 @@ HaveWorked F stage servers routes span old now =
     (m : ℕ) (x y : MuxWorker) → slice_get old m ≡ Some x → slice_get now m ≡ Some y
     → HasWorked F stage servers routes span x y
 
--- WHERE A WORKER HAS GIVEN UP
+-- AFTER A WORKER HAS GIVEN UP
 
 -- memory was refused
 abbrev pub wants_memory : Option Stop → Bool
@@ -123,7 +123,7 @@ abbrev pub stop_in : Result (Unit {0}) Stop → Option Stop
 stop_in (Ok u) = None
 stop_in (Err stop) = Some stop
 
--- one of the workers gave up so
+-- one of the workers stopped in this way
 abbrev pub one_stopped : (Option Stop → Bool) → List MuxWorker → Bool
 one_stopped test [] = false
 one_stopped test (w ∷ workers) = test w.stop || one_stopped test workers
@@ -137,7 +137,7 @@ abbrev pub IsTooLate : Option Stop → Type 0
 IsTooLate (Some (Late moment clock)) = Unit {0}
 IsTooLate _ = ⊥
 
--- nobody gave up for want of memory, but somebody for a moment that was too large
+-- nobody gave up because memory was refused, but somebody for a moment that was too large
 pub record IsLate (led : Result (Unit {0}) Stop) (workers : List MuxWorker) : Type 0 where
   pub first : led ≡ Err Memory → ⊥
   pub each : (m : ℕ) (w : MuxWorker) → slice_get workers m ≡ Some w → w.stop ≡ Some Memory → ⊥
@@ -146,7 +146,7 @@ pub record IsLate (led : Result (Unit {0}) Stop) (workers : List MuxWorker) : Ty
 
 -- WHAT COMES NEXT
 
--- how worker 0 went on behind a phase that all have done, where the next one's records begin here
+-- how worker 0 went on after a phase that all have done, where the next one's records begin here
 abbrev pub HasMet : Stage → Head → Head → List MuxWorker → ℕ → Next → Type 0
 HasMet stage a b workers start (Phase s) =
     (s ≡ start) × ((servers : List Serving) (posted : Posted) → Suits stage servers
@@ -167,7 +167,7 @@ IsNext F stage servers routes posted head workers End =
 IsNext F stage servers routes posted head workers TooLate =
     HasGivenUp F stage servers posted head workers
 
--- so many commands are left, and one where a phase comes next
+-- if a phase comes next, one more than the commands that are left; otherwise 0
 abbrev pub left_of : Next → ℕ → ℕ → ℕ
 left_of (Phase start) next all = suc (all - next)
 left_of _ next all = 0
@@ -181,7 +181,7 @@ pub record HasSeenAll (posted : Posted) (w : MuxWorker) : Type 0 where
   pub later : Continues w.mux.seen seen
   pub heard : Continues posted seen
 
--- where a worker gave up, all changes that were left are posted too
+-- if a worker gave up, all changes that were left are posted too
 pub record HasPostedRest (F : Rules) (stage : Stage) (servers : List Serving) (posted : Posted)
     (head : Head) (workers : List MuxWorker) : Type 0 where
   pub before : Posted
@@ -191,7 +191,7 @@ pub record HasPostedRest (F : Rules) (stage : Stage) (servers : List Serving) (p
   pub added : Adds stage before posted start head rest
   pub all : length posted.clocks ≡ length stage.script.plan.changes
 
--- what the workers hand back: the logs of the controller and of the muxes, and their seats
+-- what the workers give back: the logs of the controller and of the muxes, and their seats
 pub record IsBack (F : Rules) (stage : Stage) (servers : List Serving)
     (routes : List (Option MuxId)) (late : Bool) (logs : List (List Event))
     (rows : List (List (List Seated))) : Type 0 where
@@ -211,6 +211,6 @@ abbrev pub MakeRun : Routes → Rules → Stage → List Event → Type 0
 MakeRun R F stage events = (h : History) → h.stage ≡ stage → h.events ≡ events
     → IsThreadedRun R F h
 
--- the logs merge to a threaded run of the stage
+-- the logs merge into a threaded run of the stage
 abbrev pub MergeToRun : Routes → Rules → Stage → List (List Event) → Type 0
 MergeToRun R F stage logs = MakeRun R F stage (in_order (joined logs))

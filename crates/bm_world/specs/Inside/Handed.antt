@@ -1,4 +1,4 @@
--- What the workers of a run hand back when all phases are done: what each did, what its mux logged,
+-- What the workers of a run give back when all phases are done: what each did, what its mux logged,
 -- and the books of the shards. Only the proofs of bodies use this.
 use Rattle.std.specs.Prelude.{◌≡◌, ℕ, suc, ◌==◌, ◌<◌, ◌≤◌, Bool, true, false}
 use Rattle.std.specs.Prelude.{◌&&◌, ◌||◌}
@@ -33,9 +33,9 @@ use Rattle.bm_worker.specs.Phases.{mux_log, IsInOrder, IsMuxGiven}
 pub use Rattle.bm_lead.specs.Commands.{control_log, posted_clocks, IsControlStep, IsJudgedBy}
 use Rattle.bm_world.specs.Inside.Shards.{entries_by, AreNoted}
 
--- WHAT A MUX GIVES
+-- WHAT A MUX LOGS
 
--- what a mux gives with the phase that the controller's log up to the event tells
+-- what a mux logs, in the phase that follows from the controller's log up to the event
 abbrev pub IsMuxGivenBy : Stage → List Event → List ℕ → List Event → Event → Type 0
 IsMuxGivenBy stage control posts rest e =
     IsMuxGiven stage (sync_clock (until e.clock.0 control))
@@ -44,13 +44,13 @@ IsMuxGivenBy stage control posts rest e =
 
 -- WORKER m + 1
 
--- the event comes after as many Syncs as its packet's phase says
+-- the event comes after as many Syncs as its packet's phase requires
 abbrev pub IsPhasedBy : Stage → List Event → Note → Type 0
 IsPhasedBy stage control n =
     IfSome (packet_of n.event.what)
     (λ k. counts (until n.event.clock.0 control) is_sync ≡ phase_of stage k)
 
--- what worker m + 1 did, beside the controller's log and the posts
+-- what worker m + 1 did, given the controller's log and the posts
 pub record IsCarriage (R : Routes) (F : Rules) (stage : Stage) (control : List Event)
     (posts : List ℕ) (m : ℕ)
     (deeds : List Note) : Type 0 where
@@ -82,7 +82,7 @@ IsCopied stage carriers about (Arrive packet tag segment due) =
     × (tag_of label tag.hop ≡ Some tag) × (tag.dest ≡ about.server))
 IsCopied stage carriers about _ = Unit {0}
 
--- the book of a shard: it replays, and has just what the workers did there, in their order
+-- the book of a shard: it replays, and has exactly what the workers did there, in their order
 pub record IsBookOfAll (stage : Stage) (controller : List Note) (carriers : List (List Note))
     (book : Book)
     : Type 0 where
@@ -115,7 +115,7 @@ IsBooked stage books _ = Unit {0}
 
 -- TOGETHER
 
--- what the workers handed back, and the servers' books
+-- what the workers gave back, and the servers' books
 pub record AreHandedBack (R : Routes) (F : Rules) (stage : Stage) (controller : List Note)
     (carriers : List (List Note)) (books : List Book) : Type 0 where
   pub sound : IsSound stage

@@ -1,5 +1,5 @@
--- What the workers leave behind where one of them has given up: less than they hand back at the
--- end. Only the proofs of bodies use this.
+-- What the workers leave behind if one of them has given up: less than they give back at the end.
+-- Only the proofs of bodies use this.
 use Rattle.std.specs.Prelude.{◌≡◌, ◌⊎◌, ℕ, suc, ◌<◌, ◌==◌, ◌&&◌, max}
 use Rattle.std.specs.Prelude.{true, List, ◌++◌, length}
 use Rattle.std.specs.Prelude.{Some, is_some}
@@ -28,7 +28,7 @@ use Rattle.bm_world.specs.Inside.Handed.{posted_clocks}
 abbrev pub IsSyncIn : List Event → ℕ → Type 0
 IsSyncIn control c = (c ≡ 0) ⊎ (some_event (λ e. is_sync e.what && e.clock.0 == c) control ≡ true)
 
--- where a mux has the clock of its event from
+-- where the clock of a mux's event comes from
 abbrev pub IsMuxClocked : Stage → List Event → List ℕ → List Event → ℕ → What → Type 0
 IsMuxClocked stage control posts rest clock (Switch m v) =
     (post : ℕ) × (sync : ℕ) × (post_clock posts v.0 ≡ Some post) × IsSyncIn control sync
@@ -55,7 +55,7 @@ pub record IsLeft (F : Rules) (stage : Stage) (control : List Event) (posts : Li
   pub gives : AtEach (λ rest e. IsMuxClocked stage control posts rest e.clock.0 e.what)
       (mux_log stage m deeds)
 
--- a Sync is at the clock after 0 or a lower clock of what was done, and its command's moment
+-- a Sync is at the clock after both its command's moment and 0 or a lower clock of what was done
 abbrev pub IsSynced : Stage → List Note → Note → What → Type 0
 IsSynced stage all n Sync = (top : ℕ) × IsBefore all n.event.clock.0 top
     × (n.event.clock.0 ≡ next_clock top (moment_at (command_of stage n)))

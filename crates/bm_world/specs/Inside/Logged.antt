@@ -15,7 +15,7 @@ use Rattle.bm_world.specs.declared.run_logs.Source.TheVariants.{Servers, Workers
 abbrev pub book_log : Book → List Event
 book_log book = map (λ e. e.event) book.entries
 
--- those of all books, one after the other
+-- those of all books, one after another
 abbrev pub books_logs : List (List Book) → List (List Event)
 books_logs [] = []
 books_logs (books ∷ all) = map book_log books ++ books_logs all
@@ -29,7 +29,7 @@ abbrev pub source_logs : Source → List (List Event)
 source_logs (Workers logs) = logs.items
 source_logs (Servers all) = books_logs all.items
 
--- how many workers or servers these are the logs of
+-- how many workers or servers these logs belong to
 abbrev pub source_size : Source → ℕ
 source_size (Workers logs) = length logs.items
 source_size (Servers all) = length all.items
@@ -37,16 +37,16 @@ source_size (Servers all) = length all.items
 abbrev pub group_logs : Group → List (List Event)
 group_logs group = source_logs group.source
 
--- what was merged of a group
+-- what a group merged into
 abbrev pub group_events : Group → List Event
 group_events group = group.events.items
 
--- the group's logs were merged, but where memory was refused, and are let go
+-- the group's logs were merged, unless memory was refused, and are dropped
 pub record HasMerged (old new : Group) : Type 0 where
   pub events : new.refused ≡ false → new.events.items ≡ in_order (joined (group_logs old))
   pub let_go : group_logs new ≡ []
 
--- so were the logs of each of these groups
+-- the same for each of these groups
 pub record HaveMerged (before now : List Group) : Type 0 where
   pub each : (k : ℕ) (old new : Group)
       → slice_get before k ≡ Some old → slice_get now k ≡ Some new → HasMerged old new

@@ -8,13 +8,13 @@ use Rattle.bm_core.specs.Accounts.{Routes}
 use Rattle.bm_core.specs.Past.{segment_of}
 use Rattle.bm_worker.specs.Assigned.{assigned_mux}
 
--- a steerable packet is given a mux that the route may answer, and no other is given one
+-- a steerable packet gets a mux that the route may answer, and no other packet gets one
 abbrev pub IsGivenTo : Routes → Stage → ℕ → ℕ → Option MuxId → Type 0
 IsGivenTo R stage muxes k None = segment_of stage k ≡ None
 IsGivenTo R stage muxes k (Some m) =
     (m.0 < muxes) × ((s : Segment) × (segment_of stage k ≡ Some s) × R k s.flow m.0)
 
--- so is each packet of these places
+-- the same for each packet of these places
 pub record AreGiven (R : Routes) (stage : Stage) (muxes : ℕ) (routes : List (Option MuxId)) : Type
     0 where
   pub count : length routes ≡ length stage.capture.records

@@ -1,4 +1,4 @@
--- A run on its way: what the workers did so far, between two phases and where one was joined. Only
+-- A run in progress: what the workers did so far, between two phases and when one has ended. Only
 -- the proofs of bodies use this.
 use Rattle.std.specs.Prelude.{◌≡◌, ℕ, ◌+◌, ◌*◌, ◌<◌, ◌≤◌, if◌then◌else◌, List}
 use Rattle.std.specs.Prelude.{◌∷◌, ◌++◌, length}
@@ -24,13 +24,13 @@ use Rattle.bm_worker.specs.Assigned.{is_assigned}
 use Rattle.bm_worker.specs.declared.worker.MuxWorker.{MuxWorker}
 use Rattle.bm_world.specs.Inside.Handed.{control_log, IsCarriage}
 
--- what these seats were told is just what was done at each shard, in its order
+-- what these seats were told is exactly what was done at each shard, in its order
 abbrev pub HaveHeard : Stage → List Serving → List (List Seated) → List Note → Type 0
 HaveHeard stage servers seats deeds =
     (s h : ℕ) (server : Serving) → slice_get servers s ≡ Some server
     → saying (shard_at server h) (told_there seats s h) ≡ noted stage (ShardOf server.id.0 h) deeds
 
--- the worker of mux m, after so many phases, in which the records before this place were carried
+-- the worker of mux m, after this many phases, in which the records before this place were carried
 pub record IsAtWork (R : Routes) (F : Rules) (stage : Stage) (servers : List Serving)
     (routes : List (Option MuxId))
     (control : List Event) (board : Book) (phases until m : ℕ) (w : MuxWorker) (deeds : List Note) :
@@ -49,19 +49,19 @@ pub record IsAtWork (R : Routes) (F : Rules) (stage : Stage) (servers : List Ser
   pub sits : Sits servers w.porter
   pub board_is : w.mux.seen.board ≡ board
   pub plan : w.mux.seen.plan ≡ stage.script.plan
-  pub tries : w.porter.tries ≤ 12 * until
+  pub tries : w.porter.tries ≤ 39 * until
   pub steps : w.steps ≤ until
-  pub room : length w.mux.log ≤ 5 * until + phases
-  -- besides the first Switch of each phase, at most 14 deeds for each packet
-  pub few : length deeds ≤ 14 * many (λ n. is_steer n.event.what) deeds + phases
+  pub room : length w.mux.log ≤ 11 * until + phases
+  -- besides the first Switch of each phase, at most 41 deeds for each packet
+  pub few : length deeds ≤ 41 * many (λ n. is_steer n.event.what) deeds + phases
   pub stop : w.stop ≡ None
 
--- the deeds of a phase before those of the phases that were
+-- the deeds of a phase before those of earlier phases
 abbrev pub add_deeds : List (List Note) → List (List Note) → List (List Note)
 add_deeds (x ∷ more) (d ∷ carriers) = (x ++ d) ∷ add_deeds more carriers
 add_deeds _ carriers = carriers
 
--- the muxes' workers, where worker 0 did this, with p Syncs
+-- the muxes' workers, given what worker 0 did, with p Syncs
 pub record AreAtWork (R : Routes) (F : Rules) (stage : Stage) (servers : List Serving)
     (routes : List (Option MuxId))
     (board : Book) (p phases until : ℕ) (workers : List MuxWorker) (controller : List Note)

@@ -9,7 +9,7 @@ use Rattle.bm_server.specs.Servings.{Serving, shard_at}
 use Rattle.bm_turnstile.specs.Seen.{AllBelow}
 use Rattle.bm_worker.specs.Told.{told_there}
 
--- the book of the shard h of the server at the place s, where these are the seats of all workers
+-- the book of the shard h of the server at the place s, if these are the seats of all workers
 pub record IsBookThere (server : Serving) (rows : List (List (List Seated))) (s h : ℕ)
     (book : Book) : Type 0 where
   pub shard : book.shard ≡ shard_at server h

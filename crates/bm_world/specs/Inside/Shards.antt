@@ -1,5 +1,5 @@
--- The log of a shard: the entries of its book, with what their callers know beside them. A log has
--- its newest entry first. Only the proofs of bodies use this.
+-- The log of a shard: the entries of its book, with what their callers know besides. A log has its
+-- newest entry first. Only the proofs of bodies use this.
 use Rattle.std.specs.Prelude.{◌≡◌, ℕ, true, ◌&&◌, ◌==◌, nat_lt, if◌then◌else◌, List, [], ◌∷◌, Some}
 use Rattle.std.specs.List.{AllByRecursion}
 use Rattle.bm_base.specs.declared.flow.Segment.{Segment}
@@ -19,7 +19,7 @@ use Rattle.bm_shard.specs.Turns.{call_moment}
 use Rattle.bm_merge.specs.Merges.{Log, gathered, named, some_event, newest_until}
 use Rattle.bm_merge.specs.Notes.{Note}
 
--- an entry, the fate that was drawn for its copies where it forwards, and the number of its command
+-- an entry, the fate that was drawn for its copies if it forwards, and the number of its command
 pub record Kept : Type 0 where
   pub entry : ShardEntry
   pub fate : Fate
@@ -55,7 +55,7 @@ pub record IsCopy (stage : Stage) (logs : List Log) (about : Shard) (clock packe
   pub sent : some_event (λ e. sends e.what packet tag.hop && nat_lt e.clock.0 clock) (gathered logs)
       ≡ true
 
--- what the callers give
+-- what the callers pass
 abbrev pub IsAsked : Stage → List Log → Shard → ℕ → ShardCall → Type 0
 IsAsked stage logs about clock (Arrive packet tag segment due) =
     IsCopy stage logs about clock packet tag segment
@@ -75,7 +75,7 @@ entries_by w [] = []
 entries_by w (e ∷ entries) =
     if e.seat == w then e ∷ entries_by w entries else entries_by w entries
 
--- a worker noted these entries, in their order
+-- a worker noted these entries, in order
 abbrev pub AreNoted : List ShardEntry → List Note → Type 0
 AreNoted [] [] = Unit {0}
 AreNoted (e ∷ entries) (n ∷ notes) =

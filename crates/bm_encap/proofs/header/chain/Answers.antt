@@ -7,4 +7,4 @@ returns-clause-octets c =
     let octets : List ℕ = c.args.octets.now in
     chains octets _ c.in_ok-tag.tag c.in_ok-next.next c.in_ok-tag.ensures.read (sym c.in_ok-next.ensures)
     ∙ ap (λ (xs : List ℕ). Ok xs)
-    (sym (c.replace_header.ensures ∙ ap (λ (xs : List ℕ). xs ++ drop 44 octets) c.summed.ensures))
+    (sym (c.replace_header.ensures ∙ ap (λ (xs : List ℕ). xs ++ drop 56 octets) c.summed.ensures))

@@ -5,7 +5,7 @@ use Rattle.bm_encap.proofs.header.wrap.Goals as goal
 
 pub returns : goal.returns
 returns c =
-    let total : ℕ = 44 + length c.args.inner.now in
+    let total : ℕ = 56 + length c.args.inner.now in
     let out : List ℕ = c.args.out.now.items in
     c.in_ok-extend_from_slice-2.ensures.items
     ∙ (ap (λ (xs : List ℕ). xs ++ c.args.inner.now)

@@ -15,7 +15,7 @@ use Rattle.bm_encap.proofs.read.unwrap.Goals as goal
 is_faultless : (c : goal.After-result-1) → IsFaultless c.args.octets.now
 is_faultless c =
     let octets = c.args.octets.now in
-    let long : nat_lt (length octets) 44 ≡ false = grind (arith, nat_tests, c.if-octets-lt-HEADER.false) in
+    let long : nat_lt (length octets) 56 ≡ false = grind (arith, nat_tests, c.if-octets-lt-HEADER.false) in
     let sum : (checksum_of (without_sum octets) == u16_at octets 10) ≡ true =
     grind (arith, nat_tests, c.if-sum_of-read_u16.false, c.sum_of.ensures, c.read_u16.ensures) in
     let total : (u16_at octets 2 == length octets) ≡ true =
@@ -25,7 +25,7 @@ is_faultless c =
 pub returns-clause-read : goal.returns-clause-read
 returns-clause-read c =
     reads c.args.octets.now (is_faultless c)
-    ∙ ap₂ (λ (t : Tag) (i : List ℕ). Ok (t, i)) (sym c.in_ok-tag.ensures.1) (sym (take_rest c.args.octets.now 44))
+    ∙ ap₂ (λ (t : Tag) (i : List ℕ). Ok (t, i)) (sym c.in_ok-tag.ensures.1) (sym (take_rest c.args.octets.now 56))
 
 pub returns-clause-tag : goal.returns-clause-tag
 returns-clause-tag c =

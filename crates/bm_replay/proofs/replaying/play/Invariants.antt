@@ -9,4 +9,4 @@ invariant-loop-carrier g l =
     (l.player.stage ≡ l.fn.player.stage) × IsPlaying (Answers g.R.Fn l.route.rule) (Gives g.F.Fn l.faults.rule) l.player
 
 abbrev pub decreases-loop-carrier : goal.decreases-loop-carrier
-decreases-loop-carrier g l = 6859841 - length l.player.events
+decreases-loop-carrier g l = 12259841 - length l.player.events

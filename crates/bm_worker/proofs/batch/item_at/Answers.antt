@@ -14,5 +14,5 @@ returns-clause-item g c =
       moment = c.moment_at.ensures;
       segment = got;
       reads = subst (λ (l : List ℕ). ReadsAs l c.in-Some.segment) (sym c.get.ensures) packet.1;
-      short = subst (λ (l : List ℕ). length l ≤ 65491) (sym c.get.ensures) packet.0;
+      short = subst (λ (l : List ℕ). length l ≤ 65479) (sym c.get.ensures) packet.0;
     }

@@ -1,10 +1,10 @@
 use Rattle.std.proofs.Common.{◌<◌, sym, subst}
 use Rattle.std.proofs.lemmas.Nat.{mod_below}
-use Rattle.std.proofs.lemmas.Option.{same_Some}
-use Rattle.bm_base.specs.Tags.{IsTag}
+use Rattle.bm_base.specs.declared.label.Hop.TheVariants.{Direct}
 use Rattle.bm_hash.specs.Buckets.{flow_hash}
 use Rattle.bm_publish.specs.Posts.{last_version}
-use Rattle.bm_mux.proofs.Tags.{IsEntry, direct_valid, table_entry}
+use Rattle.bm_base.proofs.Entries.{IsEntry, tag_valid}
+use Rattle.bm_mux.proofs.Tags.{table_entry}
 use Rattle.bm_mux.proofs.notes.Notes.tag.Goals as goal
 
 pub returns-clause-valid : goal.returns-clause-valid
@@ -16,4 +16,4 @@ returns-clause-valid c =
     let entry : IsEntry c.entry.result = subst IsEntry (sym c.entry.ensures)
     (table_entry seen.plan posted.plan c.requires.kept.servers (last_version seen) c.bucket_of.result posted.few inside)
     in
-    subst IsTag (same_Some _ _ c.tag_of.ensures) (direct_valid _ entry c.requires.kept.mux)
+    tag_valid _ Direct _ entry c.requires.kept.mux c.tag_of.ensures

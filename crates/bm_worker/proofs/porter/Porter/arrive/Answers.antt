@@ -5,8 +5,8 @@ use Rattle.bm_base.specs.declared.label.Tag.{Tag}
 use Rattle.bm_turnstile.specs.Sittings.{who}
 use Rattle.bm_shard.specs.declared.calls.ShardCall.TheVariants.{Arrive}
 use Rattle.bm_shard.specs.declared.calls.ShardReply.TheVariants.{Arrived}
-use Rattle.bm_server.specs.Copies.{copy_in}
-use Rattle.bm_server.specs.declared.fault.HandleFault.{HandleFault}
+use Rattle.bm_shard.specs.Copies.{copy_in}
+use Rattle.bm_shard.specs.declared.fault.HandleFault.{HandleFault}
 use Rattle.bm_server.specs.Servings.{Serving}
 use Rattle.bm_server.specs.Copies.{TellsCopy}
 use Rattle.bm_server.specs.Seats.{Tells}
@@ -119,7 +119,7 @@ returns-clause-told g c = λ server' read at' copy.
           (subst (λ (x : Serving). Tells (shard_for x read.1.flow) (Arrive c.args.packet read.0 read.1 c.args.due)
           c.handle-answer.result
           c.index_mut.result.now c.handle-answer.new.seat) (sym same) told.0) given.1;
-      onward = goes_onward c.args.packet read c.args.due c.in_ok-clock.clock c.in_ok-clock.verdict given.0
+      passed = goes_onward c.args.packet read c.args.due c.in_ok-clock.clock c.in_ok-clock.verdict given.0
           c.handle-answer.result given.1 told.2;
     }
 

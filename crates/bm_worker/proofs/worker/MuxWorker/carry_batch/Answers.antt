@@ -183,7 +183,7 @@ returns-clause-carries g c =
     c.args.from b.end b.items.items b.fates.items) c.mux_id.ensures c.in_ok-batch.ensures.all in
     let s = c.deliver.ensures.same in
     carries_batch F c.args.shared.now.stage.now c.args.shared.now.servers.now c.args.shared.now.routes.now c.args.from
-    b.end c.args.until (3 * length c.deref-2.result.now) w mid c.deliver.new.self b.items.items b.fates.items
+    b.end c.args.until (9 * length c.deref-2.result.now) w mid c.deliver.new.self b.items.items b.fates.items
     c.batch.new.out.items some (let lt = c.in_ok-batch.ensures.more.0 in omega (arith, lt))
     c.in_ok-batch.ensures.more.1 got steered seen_it c.deliver.ensures.grows s.seen
     (subst (λ (l : List Steered). Delivers F c.args.shared.now.stage.now c.args.shared.now.servers.now l b.fates.items

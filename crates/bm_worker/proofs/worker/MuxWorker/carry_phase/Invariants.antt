@@ -14,9 +14,9 @@ invariant-loop-next g l = record {
   until : l.next ≤ l.span.until;
   mux : IsSameMux l.fn.self.mux l.self.mux;
   porter : IsSamePorter l.fn.self.porter l.self.porter;
-  tries : l.self.porter.tries ≤ l.fn.self.porter.tries + 12 * (l.next - l.span.from);
+  tries : l.self.porter.tries ≤ l.fn.self.porter.tries + 39 * (l.next - l.span.from);
   steps : l.self.steps ≤ l.fn.self.steps + (l.next - l.span.from);
-  log : length l.self.mux.log ≤ length l.fn.self.mux.log + 5 * (l.next - l.span.from) + 1;
+  log : length l.self.mux.log ≤ length l.fn.self.mux.log + 11 * (l.next - l.span.from) + 1;
   done : (told : Posted) → l.fn.self.told ≡ Some told → (d : List Note)
       × IsDoneTo (Gives g.F.Fn l.shared.faults.now.rule) l.shared.stage.now l.shared.servers.now
       (stint_of l.shared.routes.now l.span told l.fn.self) l.self l.next d;

@@ -11,8 +11,8 @@ invariant-loop-at g l = record {
   seen : l.self.mux.seen ≡ l.fn.self.mux.seen;
   porter : IsSamePorter l.fn.self.porter l.self.porter;
   steps : l.self.steps ≤ l.fn.self.steps + l.at;
-  grows : GrowsByLosses (3 * l.at) l.fn.self.mux.log l.self.mux.log;
-  tries : l.self.porter.tries ≤ l.fn.self.porter.tries + 12 * l.at;
+  grows : GrowsByLosses (9 * l.at) l.fn.self.mux.log l.self.mux.log;
+  tries : l.self.porter.tries ≤ l.fn.self.porter.tries + 39 * l.at;
   delivered : HasDelivered (Gives g.F.Fn l.shared.faults.now.rule) l.shared.stage.now l.shared.servers.now l.sents
       l.fates l.at l.fn.self l.self;
 }
