@@ -1,9 +1,8 @@
-# Completes the words of beamer in bash: the form, then the capture, then the script; and those of beamer-connections: the capture,
-# the script and the options.
+# Bash completion for beamer (the form, the capture, the script) and beamer-connections (the capture, the script, the options).
 #
 # usage: source tools/completion.bash
 
-# Completes a word by folders, and by files of these endings.
+# Completes a word with folders, and with files that have one of these endings.
 _beamer_files() {
   compopt -o filenames 2>/dev/null
   local restore
