@@ -1,7 +1,6 @@
-"""Makes captures of generated connections to 192.0.2.1 port 80, and measures calls, for the scripts of this folder."""
-import multiprocessing, os, struct, subprocess, sys, time
+"""Makes captures of generated connections to 192.0.2.1 port 80, for the scripts of this folder."""
+import multiprocessing, struct, sys
 
-TOP = os.path.dirname(os.path.dirname(os.path.abspath(__file__)))
 SYN, RST, ACK, DATA, FIN = 2, 4, 0x10, 0x18, 0x11
 # for each packet of a visit: when it comes in microseconds, its flags, its offset in the sequence numbers, its octets of data
 VISIT = [(0, SYN, 0, 0), (20_000, ACK, 1, 0), (20_100, DATA, 1, 400)]
@@ -10,16 +9,6 @@ VISIT += [(40_000 + 4_000 * i, ACK, 401, 0) for i in range(6)] + [(80_000, FIN, 
 APART = 200
 # packets that replace those of a visit, by the visit's number modulo four: no SYN, an RST, a second SYN
 BROKEN = {1: {0: (0, ACK, 0, 0)}, 2: {1: (20_000, RST, 1, 0)}, 3: {1: (20_000, SYN, 0, 0)}}
-
-
-def large_pages():
-    """Has the programs ask for large pages, as ./beamer does."""
-    os.environ.setdefault("GLIBC_TUNABLES", "glibc.malloc.hugetlb=1")
-
-
-def program():
-    """The proved program: ./beamer would run the source if there is none."""
-    return os.environ.get("BEAMER", os.path.join(TOP, "crates", "bm_app", "out", "bm_app"))
 
 
 def record(moment, connection, flags, sequence, size):
@@ -62,14 +51,3 @@ def write_apart(*words):
     writer.join()
     if writer.exitcode:
         sys.exit("no capture could be written")
-
-
-def measure(words, out=os.devnull):
-    """Wall time, processor time and peak memory (MiB) of a call whose output goes to `out`."""
-    began = time.time()
-    with open(out, "wb") as file:
-        child = subprocess.Popen(words, stdout=file)
-        _, status, usage = os.wait4(child.pid, 0)
-    if status:
-        sys.exit(f"status {os.waitstatus_to_exitcode(status)} of {words}")
-    return time.time() - began, usage.ru_utime + usage.ru_stime, usage.ru_maxrss / 1024

@@ -30,7 +30,7 @@ use Rattle.bm_core.specs.Past.{hop_after, sends, is_sent, Holding, after_arrival
 use Rattle.bm_core.specs.Past.{is_accept, Accepted, owner_after, owner}
 use Rattle.bm_base.specs.Labels.{arrives_at}
 use Rattle.bm_core.specs.Verdicts.{onward, local_at, verdict_of, verdict_at}
-use Rattle.bm_core.specs.Laws.{IsForwardedTo}
+use Rattle.bm_core.specs.Laws.{IsForwardedTo, IsHeldElsewhere}
 use Rattle.bm_core.specs.Stages.{IsSound}
 use Rattle.std.specs.Option.{option_map_or}
 use Rattle.bm_core.specs.Runs.{last_clock, IsArrival, MayCome, Run}
@@ -88,6 +88,34 @@ pub elsewhere_shows : (stage : Stage) (all past : List Event) (s home : ServerId
 elsewhere_shows stage all [] s home f holds other e = absurd (cc)
 elsewhere_shows stage all (x ∷ past) s home f holds other e =
     elsewhere_step stage all past x.what s home f holds other (elsewhere_shows stage all past s home f holds other) e
+
+shown_accept : (accept of same holds : Bool) → (accept && of && not same && holds) ≡ true → (same ≡ false) × (holds ≡ true)
+shown_accept accept of same holds e = grind arith
+
+one_shows : (x y : Bool) → (x || y) ≡ true → (x ≡ true) ⊎ (y ≡ true)
+one_shows true y e = inl refl
+one_shows false y e = inr e
+
+-- whatever shows is at another server that holds the flow
+pub shown_elsewhere : (stage : Stage) (all past : List Event) (home : ServerId) (f : Flow)
+    → is_elsewhere stage all past f home ≡ true → IsHeldElsewhere stage all f home
+shown_elsewhere stage all [] home f e = absurd (cc)
+shown_elsewhere stage all (x ∷ past) home f e = elim (one_shows (accepts_elsewhere stage all x.what f home) _ e) [
+  | inl now ↦ accept_elsewhere stage all x.what home f now
+  | inr old ↦ shown_elsewhere stage all past home f old
+] where
+  accept_elsewhere : (stage : Stage) (all : List Event) (what : What) (home : ServerId) (f : Flow)
+      → accepts_elsewhere stage all what f home ≡ true → IsHeldElsewhere stage all f home
+  accept_elsewhere stage all (Arrive k hop server verdict) home f e =
+      let both = shown_accept (is_accept verdict) (is_of (segment_of stage k) f) (same_server server home) _ e
+      in (server, both.0, both.1)
+  accept_elsewhere stage all (Publish v) home f e = absurd (cc)
+  accept_elsewhere stage all (Switch m v) home f e = absurd (cc)
+  accept_elsewhere stage all (Steer k m) home f e = absurd (cc)
+  accept_elsewhere stage all (Lose k hop) home f e = absurd (cc)
+  accept_elsewhere stage all (Close server flow closed) home f e = absurd (cc)
+  accept_elsewhere stage all (Retire server h at result) home f e = absurd (cc)
+  accept_elsewhere stage all Sync home f e = absurd (cc)
 
 -- HELD SO FAR
 

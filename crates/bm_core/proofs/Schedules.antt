@@ -31,7 +31,7 @@ use Rattle.bm_core.specs.Schedule.{retire_dues, retire_commands, sync_commands, 
 use Rattle.bm_core.specs.Accounts.{fate_now, before, sent_copies, copyless_at, AreSent}
 use Rattle.bm_core.specs.Schedule.{put, put_all, put_sent, rest, after_arrive, wire, dropped, first_of, arrival_due}
 use Rattle.bm_core.specs.Schedule.{left, closes, retires, syncs, steers, can_come, loss_of_fate, due_loss, ComesNext}
-use Rattle.bm_core.specs.Schedule.{IsNextBy, Follows}
+use Rattle.bm_core.specs.Schedule.{IsNextBy, Follows, rank_of}
 
 -- EACH OF A LIST
 
@@ -67,7 +67,7 @@ least_is P dues each = fold_keeps P dues None tt each
 abbrev pub IsAfterChange : Stage → Due → ℕ → Type 0
 IsAfterChange stage d v =
     (n : ℕ) × (v ≡ suc n) × (n < length stage.script.plan.changes)
-    × (change_moment (next_change stage.script.plan n) ≤ d.moment) × (d.rank ≡ 1)
+    × (change_moment (next_change stage.script.plan n) ≤ d.moment) × (rank_of d.call ≡ 1)
 
 abbrev pub IsFrom : List Underway → Stage → List Event → Due → Call → Type 0
 IsFrom w stage past d (Publishes v) =

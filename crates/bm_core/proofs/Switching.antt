@@ -5,7 +5,7 @@ use Rattle.std.specs.Prelude.{fold}
 use Rattle.std.proofs.lemmas.Bool.{cases_Bool, cases_lt}
 use Rattle.std.proofs.lemmas.Bool.Decides.{nat_tests}
 use Rattle.bm_core.specs.declared.schedule.Due.{Due}
-use Rattle.bm_core.specs.Schedule.{comes_first, sooner, least}
+use Rattle.bm_core.specs.Schedule.{comes_first, rank_of, sooner, least}
 use Rattle.std.proofs.lemmas.Option.{slice_get_cases}
 use Rattle.bm_table.specs.declared.plan.Change.{Change}
 use Rattle.bm_core.specs.declared.schedule.Call.TheVariants.{Publishes}
@@ -91,6 +91,6 @@ published stage past d v orderly a (Some x) e first = elim (cases_lt (newest pas
       in absurd (let rank = a.4 in let f = first.0 in before_it x.moment.0 (newest past) v d due rank f)
   | inr done ↦ done
 ] where
-  before_it : (moment n v : ℕ) (d : Due) → moment ≤ d.moment → d.rank ≡ 1
-      → comes_first (record { moment = moment; rank = 0; number = n; call = Publishes (suc n) }) d ≡ false → ⊥
+  before_it : (moment n v : ℕ) (d : Due) → moment ≤ d.moment → rank_of d.call ≡ 1
+      → comes_first (record { moment = moment; number = n; call = Publishes (suc n) }) d ≡ false → ⊥
   before_it moment n v d le rank f = grind (arith, nat_tests)

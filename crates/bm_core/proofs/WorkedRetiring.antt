@@ -1,7 +1,7 @@
 -- Servers that drain and retire.
 use Rattle.std.proofs.Common.{◌≡◌, ◌^◌, [], ◌∷◌, Some, None, refl}
 use Rattle.std.specs.Prelude.{reverse}
-use Rattle.bm_base.specs.declared.label.Hop.TheVariants.{Direct}
+use Rattle.bm_base.specs.declared.label.Hop.TheVariants.{Direct, Chained}
 use Rattle.bm_base.specs.Segments.{has_flag, is_opening}
 use Rattle.bm_table.specs.declared.plan.Kind.TheVariants.{Drain, Shift}
 use Rattle.bm_table.specs.declared.plan.Retirement.TheVariants.{Done, NotDrained, TooEarly}
@@ -12,7 +12,7 @@ use Rattle.bm_seq.specs.Receivers.{acceptable, distance, taken_reset, comes_in_t
 use Rattle.bm_seq.specs.Receivers.{receiver_after}
 use Rattle.bm_core.specs.declared.events.Cause.TheVariants.{ChainLate, OldTable}
 use Rattle.bm_core.specs.declared.events.Stage.{Stage}
-use Rattle.bm_core.specs.declared.events.Verdict.TheVariants.{Accept, Drop}
+use Rattle.bm_core.specs.declared.events.Verdict.TheVariants.{Accept, Drop, Forward}
 use Rattle.bm_core.specs.declared.events.Why.TheVariants.{Retired}
 use Rattle.bm_core.proofs.Playing.{play}
 use Rattle.bm_core.proofs.Worked.{server, syn, data_of, record_at, move, change_at, stage_of, publish, switch, steer}
@@ -91,3 +91,46 @@ old_table_causes : reverse (causes_of old_table (replayed old_table 7)) ≡ None
 unfolding replayed play has_flag is_opening flow_octets fnv_step fnv_1a flow_hash acceptable distance taken_reset
     comes_in_turn taken after_taken opened receiver_after
 old_table_causes = refl
+
+-- two moves, the second a drain: the copy that goes on to the drained server is delayed until that server has retired
+abbrev retired_between : Stage
+retired_between =
+    stage_of (record
+    plain_setting {
+      servers = server 1 ∷ server 2 ∷ server 3 ∷ [];
+      shards = 1;
+      timeout = 10 ^ 9;
+      faults =
+          record { packet = 2; hop = Chained; fate = record { copies = 1; delay = 3000000000 } } ∷ [];
+    })
+    (change_at 500 Shift (move 4 3 ∷ []) ∷ change_at 2000 (Drain (server 3))
+    (move 2 1 ∷ move 4 1 ∷ move 5 2 ∷ []) ∷ [])
+    (ChangeCommand (record { 0 = 1 }) ∷ ChangeCommand (record { 0 = 2 }) ∷ RetireCommand (record { 0 = 2000000000 })
+    (server 3) ∷ []) (record_at 0 (syn 1000 100) ∷ record_at 3000 (data_of 1000 101 10) ∷ [])
+
+retired_between_events : reverse (replayed retired_between 12) ≡
+    steer 1 1 0
+    ∷ arrive 2 1 Direct 2 Accept
+    ∷ publish 501 1
+    ∷ switch 502 0 1
+    ∷ publish 2001 2
+    ∷ switch 2002 0 2
+    ∷ steer 3001 2 0
+    ∷ arrive 3002 2 Direct 1 (Forward (server 3))
+    ∷ retire 2000000001 3 0 2000000000 Done
+    ∷ arrive 3000003003 2 Chained 3 (Drop Retired)
+    ∷ []
+unfolding replayed play has_flag is_opening flow_octets fnv_step fnv_1a flow_hash acceptable distance taken_reset
+    comes_in_turn taken after_taken opened receiver_after
+retired_between_events = refl
+
+retired_between_causes : reverse (causes_of retired_between (replayed retired_between 12))
+    ≡ None ∷ None ∷ None ∷ None ∷ None ∷ None ∷ None ∷ None ∷ None ∷ Some ChainLate ∷ []
+unfolding replayed play has_flag is_opening flow_octets fnv_step fnv_1a flow_hash acceptable distance taken_reset
+    comes_in_turn taken after_taken opened receiver_after
+retired_between_causes = refl
+
+retired_between_broken : newest_broken retired_between (replayed retired_between 10) ≡ ChainLate ∷ []
+unfolding replayed play has_flag is_opening flow_octets fnv_step fnv_1a flow_hash acceptable distance taken_reset
+    comes_in_turn taken after_taken opened receiver_after
+retired_between_broken = refl

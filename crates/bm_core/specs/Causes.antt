@@ -27,8 +27,7 @@ use Rattle.bm_core.specs.Past.{is_accept, Accepted, owner}
 
 -- the connection that the server holds is the one of this Accept
 abbrev pub is_holding : Option Holding → ℕ → Bool
-is_holding None place = false
-is_holding (Some h) place = h.place == place
+is_holding holding place = option_map_or (λ h. h.place == place) holding false
 
 -- the event is an Accept of the flow at another server, which holds the flow after all these events
 abbrev pub accepts_elsewhere : Stage → List Event → What → Flow → ServerId → Bool
@@ -37,7 +36,8 @@ accepts_elsewhere stage all (Arrive k hop server verdict) f s =
     && is_some (held stage all server f)
 accepts_elsewhere stage all _ f s = false
 
--- another server accepted the flow in the past, and holds it after all these events
+-- another server accepted the flow in the past, and holds it after all these events. With the same
+-- events twice: another server holds the flow (`laws::elsewhere`)
 abbrev pub is_elsewhere : Stage → List Event → List Event → Flow → ServerId → Bool
 is_elsewhere stage all [] f s = false
 is_elsewhere stage all (e ∷ past) f s =

@@ -1,8 +1,9 @@
 -- What the laws say of the event at a place of a history: if the premises hold the owner serves,
 -- and if a packet is refused or processed elsewhere there is a cause (docs/DEFINITIONS.md).
 use Rattle.std.specs.Prelude.{◌≡◌, ◌≢◌, ◌==◌, ℕ, ◌+◌, ◌<◌, ◌≤◌, Bool, true, false, ◌⊎◌, List}
-use Rattle.std.specs.Prelude.{Option, Some, None, IsSomeAnd}
+use Rattle.std.specs.Prelude.{Option, Some, None, IsSomeAnd, is_some}
 use Rattle.bm_base.specs.declared.ids.ServerId.{ServerId}
+use Rattle.bm_base.specs.declared.flow.Flow.{Flow}
 use Rattle.bm_base.specs.declared.flow.Segment.{Segment}
 use Rattle.bm_base.specs.declared.label.Entry.{Entry}
 use Rattle.bm_base.specs.declared.label.Label.{Label}
@@ -16,9 +17,9 @@ use Rattle.bm_core.specs.declared.events.What.TheVariants.{Arrive}
 use Rattle.bm_core.specs.declared.events.Event.{Event}
 use Rattle.bm_core.specs.declared.events.Stage.{Stage}
 use Rattle.bm_core.specs.declared.events.History.{History}
-use Rattle.bm_table.specs.Tables.{moves}
+use Rattle.bm_table.specs.Tables.{moves, same_server}
 use Rattle.bm_base.specs.Segments.{is_opening}
-use Rattle.bm_core.specs.Past.{segment_of, bucket, timeout, label_of, Accepted, owner}
+use Rattle.bm_core.specs.Past.{segment_of, bucket, timeout, label_of, held, Accepted, owner}
 use Rattle.bm_core.specs.Runs.{AtEach, event_at, past_at}
 use Rattle.bm_core.specs.Causes.{first_broken, is_process, wants_cause}
 
@@ -90,6 +91,12 @@ At h place P = IsSomeAnd (event_at h place) (λ e. P h.stage (past_at h place) e
 abbrev pub is_arrival_of : What → ℕ → Bool
 is_arrival_of (Arrive k hop server verdict) packet = k == packet
 is_arrival_of _ packet = false
+
+-- a server other than this one holds the flow
+abbrev pub IsHeldElsewhere : Stage → List Event → Flow → ServerId → Type 0
+IsHeldElsewhere stage past f s =
+    (other : ServerId) × (same_server other s ≡ false)
+    × (is_some (held stage past other f) ≡ true)
 
 -- at each of its arrivals, no premise of the packet is broken
 abbrev pub IsUnbrokenPacket : Stage → List Event → ℕ → Type 0

@@ -2,6 +2,7 @@
 -- server holds, and who owns a flow (docs/DEFINITIONS.md). A past has its newest event first.
 use Rattle.std.specs.Prelude.{ℕ, zero, suc, Bool, true, false, ◌&&◌, ◌||◌, not, ◌==◌, if◌then◌else◌}
 use Rattle.std.specs.Prelude.{List, [], ◌∷◌, length, Option, Some, None, slice_get, option_map}
+use Rattle.std.specs.Option.{option_map_or}
 use Rattle.std.specs.Prelude.{filter}
 use Rattle.bm_base.specs.declared.ids.ServerId.{ServerId}
 use Rattle.bm_base.specs.declared.ids.MuxId.{MuxId}
@@ -36,8 +37,7 @@ segment_of stage (suc i) = steerable (slice_get stage.capture.records i)
 
 -- the segment is of the flow
 abbrev pub is_of : Option Segment → Flow → Bool
-is_of None f = false
-is_of (Some s) f = same_flow s.flow f
+is_of segment f = option_map_or (λ s. same_flow s.flow f) segment false
 
 -- the bucket of a flow
 abbrev pub bucket : Stage → Flow → ℕ
@@ -100,8 +100,7 @@ label_of stage (e ∷ past) k = label_after stage past e.what k (label_of stage 
 
 -- the version in the label
 abbrev pub version_of : Option Label → ℕ
-version_of None = 0
-version_of (Some l) = l.version.0
+version_of label = option_map_or (λ l. l.version.0) label 0
 
 -- SENDINGS
 
@@ -267,8 +266,7 @@ accept_of stage (e ∷ past) f = accept_after stage past e.what f (accept_of sta
 
 -- the last Accept of the segment's flow
 abbrev pub accept_before : Stage → List Event → Option Segment → Option Accepted
-accept_before stage past None = None
-accept_before stage past (Some s) = accept_of stage past s.flow
+accept_before stage past segment = option_map_or (λ s. accept_of stage past s.flow) segment None
 
 -- the packet's owner after the event
 abbrev pub owner_after : Stage → List Event → What → ℕ → Option Accepted → Option Accepted

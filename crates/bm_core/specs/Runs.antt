@@ -2,6 +2,7 @@
 use Rattle.std.specs.Prelude.{◌≡◌, ℕ, suc, ◌+◌, max, ◌<◌, ◌≤◌, Bool, true, false, ◌&&◌, ◌==◌}
 use Rattle.std.specs.Prelude.{if◌then◌else◌, List, [], ◌∷◌, length, reverse, take, Option, Some}
 use Rattle.std.specs.Prelude.{None, slice_get, is_some, IfSome, option_map}
+use Rattle.std.specs.Option.{option_map_or}
 use Rattle.bm_base.specs.declared.ids.ServerId.{ServerId}
 use Rattle.bm_base.specs.declared.flow.Segment.{Segment}
 use Rattle.bm_base.specs.declared.label.Label.{Label}
@@ -48,8 +49,7 @@ actor_of stage (Lose k hop) = None
 
 -- there is an actor, and it is this one
 abbrev pub is_by : Option Actor → Actor → Bool
-is_by None a = false
-is_by (Some b) a = same_actor b a
+is_by author a = option_map_or (λ b. same_actor b a) author false
 
 -- the clock of the actor's last event
 abbrev pub own_clock : Stage → List Event → Actor → Option ℕ

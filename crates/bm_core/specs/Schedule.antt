@@ -38,11 +38,22 @@ call_of (Arrive k hop server verdict) = Arrives k hop
 call_of (Steer k m) = Steers k
 call_of (Lose k hop) = Loses k hop
 
+-- calls that are due at one moment come in this order
+abbrev pub rank_of : Call → ℕ
+rank_of (Publishes v) = 0
+rank_of (Switches m v) = 1
+rank_of (Closes server flow) = 2
+rank_of (Retires server h at) = 3
+rank_of Syncs = 4
+rank_of (Arrives k hop) = 5
+rank_of _ = 6
+
 -- by moment, then rank, then number
 abbrev pub comes_first : Due → Due → Bool
 comes_first a b =
     nat_lt a.moment b.moment || (a.moment == b.moment
-    && (nat_lt a.rank b.rank || (a.rank == b.rank && nat_lt a.number b.number)))
+    && (nat_lt (rank_of a.call) (rank_of b.call)
+    || (rank_of a.call == rank_of b.call && nat_lt a.number b.number)))
 
 -- the sooner of the two; if they are equal, the first
 abbrev pub sooner : Option Due → Due → Option Due
@@ -99,20 +110,20 @@ wire fates (e ∷ past) =
 
 -- WHAT CAN COME
 
--- a call that is due at a moment, with the rank of its kind and its number
-abbrev pub due_at : ℕ → ℕ → ℕ → Call → Due
-due_at moment rank n call = record { moment = moment; rank = rank; number = n; call = call }
+-- a call that is due at a moment, with its number among the calls of its kind
+abbrev pub due_at : ℕ → ℕ → Call → Due
+due_at moment n call = record { moment = moment; number = n; call = call }
 
 -- the publication of a change, which leads from version v to the next
 abbrev pub publish_due : ℕ → Option Change → List Due
 publish_due v None = []
-publish_due v (Some c) = due_at c.moment.0 0 v (Publishes (suc v)) ∷ []
+publish_due v (Some c) = due_at c.moment.0 v (Publishes (suc v)) ∷ []
 
 -- the mux's Switch to the version after v, which is due the mux's lag after the change
 abbrev pub switch_due : ℕ → ℕ → ℕ → ℕ → Option Change → List Due
 switch_due muxes lag m v None = []
 switch_due muxes lag m v (Some c) =
-    due_at (c.moment.0 + lag) 1 (v * muxes + m) (Switches m (suc v)) ∷ []
+    due_at (c.moment.0 + lag) (v * muxes + m) (Switches m (suc v)) ∷ []
 
 -- the next Switch of each of the first n muxes
 abbrev pub switches_due : Stage → List Event → ℕ → List Due
@@ -127,14 +138,14 @@ switches_due stage past (suc m) =
 abbrev pub close_commands : List Command → List Due
 close_commands [] = []
 close_commands (CloseCommand at server flow ∷ rest) =
-    due_at at.0 2 0 (Closes server flow) ∷ close_commands rest
+    due_at at.0 0 (Closes server flow) ∷ close_commands rest
 close_commands (_ ∷ rest) = close_commands rest
 
 -- a retire for each of the first n shards
 abbrev pub retire_dues : ServerId → ℕ → ℕ → List Due
 retire_dues server at zero = []
 retire_dues server at (suc h) =
-    retire_dues server at h ++ due_at at 3 h (Retires server h at) ∷ []
+    retire_dues server at h ++ due_at at h (Retires server h at) ∷ []
 
 -- the retires of the script, for each shard
 abbrev pub retire_commands : ℕ → List Command → List Due
@@ -146,7 +157,7 @@ retire_commands shards (_ ∷ rest) = retire_commands shards rest
 -- the syncs of the script
 abbrev pub sync_commands : List Command → List Due
 sync_commands [] = []
-sync_commands (SyncCommand at ∷ rest) = due_at at.0 4 0 Syncs ∷ sync_commands rest
+sync_commands (SyncCommand at ∷ rest) = due_at at.0 0 Syncs ∷ sync_commands rest
 sync_commands (_ ∷ rest) = sync_commands rest
 
 -- the steerable records, the first of which has this number
@@ -154,7 +165,7 @@ abbrev pub packets_from : ℕ → List Record → List Due
 packets_from k [] = []
 packets_from k (r ∷ records) =
     if is_some (steerable (Some r))
-    then due_at r.moment.0 6 k (Steers k) ∷ packets_from (suc k) records
+    then due_at r.moment.0 k (Steers k) ∷ packets_from (suc k) records
     else packets_from (suc k) records
 
 -- without the first n
@@ -171,7 +182,7 @@ first_of (d ∷ dues) = d ∷ []
 -- the first copy under way arrives
 abbrev pub arrival_due : List Underway → List Due
 arrival_due [] = []
-arrival_due (u ∷ dues) = due_at u.moment 5 u.place (Arrives u.packet u.hop) ∷ []
+arrival_due (u ∷ dues) = due_at u.moment u.place (Arrives u.packet u.hop) ∷ []
 
 -- those of the list that haven't come yet; they come in the list's order
 abbrev pub left : List Due → List Event → (Call → Bool) → List Due

@@ -1,7 +1,8 @@
 -- What a server does with a copy of a packet (Olteanu et al., NSDI 2018, daisy chaining;
 -- docs/DEFINITIONS.md): the first row of a table that applies.
-use Rattle.std.specs.Prelude.{ℕ, ◌+◌, Bool, ◌&&◌, not, ◌==◌, nat_le, if◌then◌else◌, List, Option}
-use Rattle.std.specs.Prelude.{Some, None}
+use Rattle.std.specs.Prelude.{ℕ, ◌+◌, Bool, false, ◌&&◌, not, ◌==◌, nat_le, if◌then◌else◌, List}
+use Rattle.std.specs.Prelude.{Option, Some, None, is_none, option_map}
+use Rattle.std.specs.Option.{option_map_or}
 use Rattle.bm_base.specs.declared.ids.ServerId.{ServerId}
 use Rattle.bm_base.specs.declared.flow.Flow.{Flow}
 use Rattle.bm_base.specs.declared.flow.Segment.{Segment}
@@ -10,8 +11,6 @@ use Rattle.bm_base.specs.declared.label.Label.{Label}
 use Rattle.bm_base.specs.declared.label.Past.{Past}
 use Rattle.bm_base.specs.declared.label.Tag.{Tag}
 use Rattle.bm_base.specs.declared.label.Hop.{Hop}
-use Rattle.bm_base.specs.declared.label.Hop.TheVariants.{Direct}
-use Rattle.bm_core.specs.declared.events.Why.{Why}
 use Rattle.bm_core.specs.declared.events.Why.TheVariants.{NoPrevious, ChainExpired, ChainedUnknown}
 use Rattle.bm_core.specs.declared.events.Why.TheVariants.{Silent, Full, Retired}
 use Rattle.bm_core.specs.declared.events.Verdict.{Verdict}
@@ -24,38 +23,30 @@ use Rattle.bm_base.specs.Segments.{is_opening, has_flag, RST}
 use Rattle.bm_seq.specs.Receivers.{taken}
 use Rattle.bm_core.specs.Past.{Holding, held, retired, is_full, is_direct, shard, timeout}
 
--- why a packet is reset that no other row takes
-abbrev pub why_reset : Hop → Option Past → Why
-why_reset Direct None = NoPrevious
-why_reset hop None = ChainedUnknown
-why_reset hop (Some p) = ChainExpired
+-- the held connection has finished, and a direct opening segment begins another
+abbrev pub replaces : Option Receiver → Hop → Segment → Bool
+replaces None hop s = false
+replaces (Some r) hop s = r.finished && is_direct hop && is_opening s && not (s.seq == r.start)
 
--- an RST is dropped, any other segment is reset
-abbrev pub refused : Hop → Option Past → Segment → Verdict
-refused hop onto s = if has_flag RST s then Drop Silent else Reset (why_reset hop onto)
+-- the server to which the copy may be passed on, while the bucket's move is recent
+abbrev pub in_time : ℕ → ℕ → Option Past → Option ServerId
+in_time timeout clock None = None
+in_time timeout clock (Some p) = if nat_le clock (p.stamp.0 + timeout) then Some p.server else None
 
--- forwarded while the move is recent, or else refused
-abbrev pub passed_on : ℕ → ℕ → Hop → Option Past → Segment → Verdict
-passed_on timeout clock hop None s = refused hop None s
-passed_on timeout clock hop (Some p) s =
-    if nat_le clock (p.stamp.0 + timeout) then Forward p.server else refused hop (Some p) s
-
--- a new opening segment takes the place of a finished connection
-abbrev pub replaces : Receiver → Hop → Segment → Bool
-replaces r hop s = r.finished && is_direct hop && is_opening s && not (s.seq == r.start)
-
--- the verdict where the shard is not retired
-abbrev pub by_holding : Option Receiver → Bool → ℕ → ℕ → Hop → Option Past → Segment → Verdict
-by_holding (Some r) full timeout clock hop onto s =
-    if replaces r hop s then Accept else Process (taken r s)
-by_holding None full timeout clock hop onto s =
-    if is_direct hop && is_opening s then (if full then Drop Full else Accept)
-    else passed_on timeout clock hop onto s
-
--- the verdict on a segment, from what the shard knows of its flow
+-- the verdict on a segment: the first row that applies. A row for each value of an option, such as
+-- that of a held connection, has the rows after it in parentheses
 abbrev pub verdict_of : Local → ℕ → ℕ → Hop → Option Past → Segment → Verdict
-verdict_of local timeout clock hop to s =
-    if local.retired then Drop Retired else by_holding local.held local.full timeout clock hop to s
+verdict_of local timeout clock hop onto s =
+    if local.retired then Drop Retired
+    else if replaces local.held hop s then Accept
+    else option_map_or (λ r. Process (taken r s)) local.held
+    (if is_direct hop && is_opening s && local.full then Drop Full
+    else if is_direct hop && is_opening s then Accept
+    else option_map_or (λ server. Forward server) (in_time timeout clock onto)
+    (if has_flag RST s then Drop Silent
+    else if is_direct hop && is_none onto then Reset NoPrevious
+    else if is_none onto then Reset ChainedUnknown
+    else Reset ChainExpired))
 
 -- the verdict on a segment that carries this tag
 abbrev pub verdict_on : Local → ℕ → ℕ → Tag → Segment → Verdict
@@ -64,8 +55,7 @@ verdict_on local timeout clock t s =
 
 -- the receiver of a holding
 abbrev pub receiver_of : Option Holding → Option Receiver
-receiver_of None = None
-receiver_of (Some h) = Some h.receiver
+receiver_of holding = option_map (λ h. h.receiver) holding
 
 -- what the server's shard knows of the flow after these events
 abbrev pub local_at : Stage → List Event → ServerId → Flow → Local

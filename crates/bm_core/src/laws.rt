@@ -1,7 +1,7 @@
 //! The laws of the protocol, over every run. Each is a function that does nothing: its contract is
 //! the law.
 ghost use Rattle.std.specs.Prelude.{◌≡◌, ◌≤◌, ◌*◌, ◌^◌, ◌&&◌, ◌==◌, ℕ, List, length, Some, is_some};
-ghost use Rattle.std.specs.Prelude.{reverse, true};
+ghost use Rattle.std.specs.Prelude.{◌↔◌, reverse, true};
 ghost use Rattle.bm_base.specs.declared.flow.Flow.{Flow};
 ghost use Rattle.bm_base.specs.declared.ids.MuxId.{MuxId};
 ghost use Rattle.bm_base.specs.declared.ids.ServerId.{ServerId};
@@ -11,10 +11,10 @@ ghost use Rattle.bm_base.specs.declared.fate.Fate.{Fate};
 ghost use Rattle.bm_core.specs.declared.events.Event.{Event};
 ghost use Rattle.bm_core.specs.declared.events.What.{What};
 ghost use Rattle.bm_core.specs.Books.{AreDistinct, book_local, book_of, is_listed};
-ghost use Rattle.bm_core.specs.Causes.{cause};
+ghost use Rattle.bm_core.specs.Causes.{cause, is_elsewhere};
 ghost use Rattle.bm_core.specs.Histories.{IsNextIn, IsReplay};
 ghost use Rattle.bm_core.specs.Laws.{At, IsFault, IsLate, IsRetiredDrop, IsServed, IsServedPacket};
-ghost use Rattle.bm_core.specs.Laws.{IsUnbrokenArrival, IsUnbrokenPacket};
+ghost use Rattle.bm_core.specs.Laws.{IsHeldElsewhere, IsUnbrokenArrival, IsUnbrokenPacket};
 ghost use Rattle.bm_core.specs.Logs.{log_of};
 ghost use Rattle.bm_core.specs.Past.{flows_held, held, label_of, shard, version_at};
 ghost use Rattle.bm_core.specs.Pins.{IsKeptTo, IsPinned};
@@ -57,6 +57,13 @@ pub fn causes(h: &History, place: usize)
 pub fn only_faults(stage: &Stage)
     ensures { (past : List Event) (clock : ℕ) (what : What)
         → is_some (cause stage.now past clock what) ≡ true → IsFault stage.now past what }
+{}
+
+/// What the premise `SynElsewhere` asks is that a server other than the owner's holds the flow.
+pub fn elsewhere(stage: &Stage)
+    ensures { (past : List Event) (flow : Flow) (server : ServerId)
+        → (is_elsewhere stage.now past past flow server ≡ true)
+        ↔ IsHeldElsewhere stage.now past flow server }
 {}
 
 /// A copy that a retired shard drops is late: there is a server to which it would be passed on, and

@@ -1,7 +1,9 @@
 //! The verdict on a copy of a packet.
-ghost use Rattle.std.specs.Prelude.{◌≡◌, ◌≤◌, ◌+◌, nat_le, if◌then◌else◌};
-ghost use Rattle.bm_core.specs.Verdicts.{entry_of, onward, passed_on, verdict_on};
-ghost use Rattle.bm_base.specs.Segments.{has_flag};
+ghost use Rattle.std.specs.Prelude.{◌≡◌, ◌≤◌, ◌+◌, ◌&&◌, nat_le, if◌then◌else◌, false, None};
+ghost use Rattle.bm_core.specs.declared.events.Local.{Local};
+ghost use Rattle.bm_core.specs.Past.{is_direct};
+ghost use Rattle.bm_core.specs.Verdicts.{verdict_on};
+ghost use Rattle.bm_base.specs.Segments.{has_flag, is_opening};
 
 use crate::{Local, Verdict, Why};
 use bm_base::flags::RST;
@@ -26,10 +28,11 @@ pub fn decide(local: &Local, tag: &Tag, s: &Segment, clock: Moment, timeout: u64
     }
 }
 
-/// The verdict on a segment of a flow that isn't held, and that may not be accepted.
+/// The verdict on a copy that no connection takes: its flow isn't held, and it may not begin one.
 fn pass_on(tag: &Tag, s: &Segment, clock: Moment, timeout: u64) -> Verdict
-    ensures { result ≡ passed_on timeout clock.0 tag.now.hop (onward (entry_of tag.now) tag.now.hop)
-        s.now }
+    ensures { (local : Local) → local.retired ≡ false → local.held ≡ None
+        → (is_direct tag.now.hop && is_opening s.now) ≡ false
+        → result ≡ verdict_on local timeout clock.0 tag.now s.now }
 {
     match tag.onward() {
         Some(past) if is_in_time(&past, clock, timeout) => Verdict::Forward(past.server),

@@ -4,7 +4,8 @@ ghost use Rattle.bm_ipv4.specs.Checksum.{checksum_of};
 ghost use Rattle.bm_ipv4.specs.Inside.Folding.{folded};
 
 /// The one's complement of the one's complement sum of the big-endian 16-bit words. Over a header
-/// that includes its correct checksum, this is 0.
+/// that includes its correct checksum, this is 0. Two words are added at a time: 2^16 is 1 modulo
+/// 65,535, so a number of two words leaves the same sum as the words.
 #[tactic(auto, unfolding(crate::specs::Checksum::checksum_of))]
 pub fn header_sum(octets: &[u8]) -> u16
     requires even { length octets.now % 2 ≡ 0 }
@@ -12,9 +13,14 @@ pub fn header_sum(octets: &[u8]) -> u16
     ensures { result ≡ checksum_of octets.now }
 {
     let mut sum = 0;
-    let mut rest = octets;
+    let mut pairs = octets;
+    while let [a, b, c, d, after @ ..] = pairs {
+        sum += u64::from(word(*a, *b)) * 65536 + u64::from(word(*c, *d));
+        pairs = after;
+    }
+    let mut rest = pairs;
     while let [high, low, after @ ..] = rest {
-        sum += u32::from(word(*high, *low));
+        sum += u64::from(word(*high, *low));
         rest = after;
     }
     u16::MAX - folded(sum)
@@ -22,7 +28,7 @@ pub fn header_sum(octets: &[u8]) -> u16
 
 /// The one's complement sum of words whose plain sum this is: carries out of the top are added at
 /// the bottom.
-fn folded(sum: u32) -> u16
+fn folded(sum: u64) -> u16
     ensures { result ≡ folded sum }
 {
     if sum == 0 {

@@ -23,7 +23,7 @@ use Rattle.bm_core.specs.Past.{is_switch_of, newest, steerable}
 use Rattle.bm_core.specs.Accounts.{counts}
 use Rattle.bm_core.specs.Schedule.{arrival_due, call_of, close_commands, closes, comes_first, dropped, first_of, least}
 use Rattle.bm_core.specs.Schedule.{left, packets_from, publish_due, retire_commands, retire_dues, retires, switch_due}
-use Rattle.bm_core.specs.Schedule.{switches_due, sync_commands, syncs}
+use Rattle.bm_core.specs.Schedule.{switches_due, sync_commands, syncs, rank_of}
 use Rattle.bm_core.proofs.Schedules.{Each, each_append, each_dropped}
 use Rattle.bm_replay.specs.declared.coming.Coming.{Coming}
 use Rattle.bm_replay.specs.declared.coming.Coming.TheVariants.{Arrive, Call, Over}
@@ -32,41 +32,28 @@ use Rattle.bm_replay.specs.Inside.Comings.{is_before, is_no_later, first_coming,
 
 -- RANKS
 
--- the rank of each kind
-abbrev pub rank_of : Calls → ℕ
-rank_of (Publishes v) = 0
-rank_of (Switches m v) = 1
-rank_of (Closes s f) = 2
-rank_of (Retires s h at) = 3
-rank_of Syncs = 4
-rank_of (Arrives k hop) = 5
-rank_of (Steers k) = 6
-rank_of (Loses k hop) = 7
-
--- what is due has the rank of its kind, which is this
+-- what is due has this rank
 pub record HasRank (rank : ℕ) (d : Due) : Type 0 where
-  pub is_rank : d.rank ≡ rank
-  pub of_call : rank_of d.call ≡ rank
+  pub is_rank : rank_of d.call ≡ rank
 
 -- it is a change or a command
 pub record IsCommand (d : Due) : Type 0 where
-  pub early : d.rank < 5
-  pub of_call : rank_of d.call ≡ d.rank
+  pub early : rank_of d.call < 5
 
 all_commands : (rank : ℕ) → rank < 5 → (dues : List Due) → Each (HasRank rank) dues → Each IsCommand dues
 all_commands rank low [] each = tt
 all_commands rank low (d ∷ dues) each = (
-  record { early = (let h = each.0.is_rank in omega arith); of_call = each.0.of_call ∙ sym each.0.is_rank },
+  record { early = (let h = each.0.is_rank in omega arith) },
   all_commands rank low dues each.1,
 )
 
 publish_rank : (v : ℕ) (o : Option Change) → Each (HasRank 0) (publish_due v o)
 publish_rank v None = tt
-publish_rank v (Some c) = (record { is_rank = refl; of_call = refl }, tt)
+publish_rank v (Some c) = (record { is_rank = refl }, tt)
 
 switch_rank : (muxes lag m v : ℕ) (o : Option Change) → Each (HasRank 1) (switch_due muxes lag m v o)
 switch_rank muxes lag m v None = tt
-switch_rank muxes lag m v (Some c) = (record { is_rank = refl; of_call = refl }, tt)
+switch_rank muxes lag m v (Some c) = (record { is_rank = refl }, tt)
 
 switches_rank : (stage : Stage) (past : List Event) (n : ℕ) → Each (HasRank 1) (switches_due stage past n)
 switches_rank stage past zero = tt
@@ -77,7 +64,7 @@ switches_rank stage past (suc m) =
 
 closes_rank : (commands : List Command) → Each (HasRank 2) (close_commands commands)
 closes_rank [] = tt
-closes_rank (CloseCommand at s f ∷ commands) = (record { is_rank = refl; of_call = refl }, closes_rank commands)
+closes_rank (CloseCommand at s f ∷ commands) = (record { is_rank = refl }, closes_rank commands)
 closes_rank (ChangeCommand v ∷ commands) = closes_rank commands
 closes_rank (RetireCommand at s ∷ commands) = closes_rank commands
 closes_rank (SyncCommand at ∷ commands) = closes_rank commands
@@ -85,7 +72,7 @@ closes_rank (SyncCommand at ∷ commands) = closes_rank commands
 retire_rank : (s : ServerId) (at n : ℕ) → Each (HasRank 3) (retire_dues s at n)
 retire_rank s at zero = tt
 retire_rank s at (suc n) =
-    each_append (HasRank 3) (retire_dues s at n) _ (retire_rank s at n) (record { is_rank = refl; of_call = refl }, tt)
+    each_append (HasRank 3) (retire_dues s at n) _ (retire_rank s at n) (record { is_rank = refl }, tt)
 
 retires_rank : (shards : ℕ) (commands : List Command) → Each (HasRank 3) (retire_commands shards commands)
 retires_rank shards [] = tt
@@ -100,12 +87,12 @@ syncs_rank [] = tt
 syncs_rank (CloseCommand at s f ∷ commands) = syncs_rank commands
 syncs_rank (ChangeCommand v ∷ commands) = syncs_rank commands
 syncs_rank (RetireCommand at s ∷ commands) = syncs_rank commands
-syncs_rank (SyncCommand at ∷ commands) = (record { is_rank = refl; of_call = refl }, syncs_rank commands)
+syncs_rank (SyncCommand at ∷ commands) = (record { is_rank = refl }, syncs_rank commands)
 
 steered_rank : (b : Bool) (r : Record) (k : ℕ) (others : List Due) → Each (HasRank 6) others
     → Each (HasRank 6)
-    (if b then record { moment = r.moment.0; rank = 6; number = k; call = Steers k } ∷ others else others)
-steered_rank true r k others each = (record { is_rank = refl; of_call = refl }, each)
+    (if b then record { moment = r.moment.0; number = k; call = Steers k } ∷ others else others)
+steered_rank true r k others each = (record { is_rank = refl }, each)
 steered_rank false r k others each = each
 
 pub packets_rank : (k : ℕ) (records : List Record) → Each (HasRank 6) (packets_from k records)
@@ -169,13 +156,12 @@ commands_are stage past =
 
 -- the copy that is due first
 abbrev pub copy_due : Underway → Due
-copy_due u = record { moment = u.moment; rank = 5; number = u.place; call = Arrives u.packet u.hop }
+copy_due u = record { moment = u.moment; number = u.place; call = Arrives u.packet u.hop }
 
 -- what comes of the soonest command, the copies under way and the next packet
 abbrev pub IsComingOf : Option Due → List Underway → Option Due → Coming → Type 0
 IsComingOf command w packet (Call d) =
-    (sooner_of (sooner_of command (least (arrival_due w))) packet ≡ Some d) × (rank_of d.call ≡ d.rank)
-    × (d.rank ≡ 5 → ⊥)
+    (sooner_of (sooner_of command (least (arrival_due w))) packet ≡ Some d) × (rank_of d.call ≡ 5 → ⊥)
 IsComingOf command w packet (Arrive m) =
     (u : Underway) × (others : List Underway) × (w ≡ u ∷ others) × (m.0 ≡ u.moment)
     × (sooner_of (sooner_of command (least (arrival_due w))) packet ≡ Some (copy_due u))
@@ -184,11 +170,11 @@ IsComingOf command w packet Over = (command ≡ None) × (w ≡ []) × (packet �
 called : (command packet : Option Due) → IfSome command IsCommand → IfSome packet (HasRank 6)
     → IsComingOf command [] packet (coming_of (sooner_of command packet))
 called None None early late = (refl, refl, refl)
-called (Some c) None early late = (refl, early.of_call, (let h = early.early in λ e. omega arith))
-called None (Some p) early late = (refl, late.of_call ∙ sym late.is_rank, (let h = late.is_rank in λ e. omega arith))
+called (Some c) None early late = (refl, (let h = early.early in λ e. omega arith))
+called None (Some p) early late = (refl, (let h = late.is_rank in λ e. omega arith))
 called (Some c) (Some p) early late = elim (cases_Bool (comes_first p c)) [
-  | inl first ↦ rw first (rw first refl, late.of_call ∙ sym late.is_rank, (let h = late.is_rank in λ e. omega arith))
-  | inr later ↦ rw later (rw later refl, early.of_call, (let h = early.early in λ e. omega arith))
+  | inl first ↦ rw first (rw first refl, (let h = late.is_rank in λ e. omega arith))
+  | inr later ↦ rw later (rw later refl, (let h = early.early in λ e. omega arith))
 ]
 
 -- the copy is due before the command and no later than the packet

@@ -24,7 +24,7 @@ use Rattle.bm_core.specs.Past.{Sending, sending_of, newest}
 use Rattle.bm_core.specs.Runs.{last_clock, next_clock}
 use Rattle.bm_core.specs.Schedule.{arrival_due, call_of, can_come, close_commands, closes, first_of, least, left}
 use Rattle.bm_core.specs.Schedule.{due_loss, packets_from, publish_due, retire_commands, retires, steers, switches_due}
-use Rattle.bm_core.specs.Schedule.{sync_commands, syncs, wire, IsNextBy}
+use Rattle.bm_core.specs.Schedule.{rank_of, sync_commands, syncs, wire, IsNextBy}
 use Rattle.bm_core.specs.Inside.Schedule.{IsAnswered}
 use Rattle.bm_core.specs.Soon.{IsSoon}
 use Rattle.bm_core.proofs.Existing.{clock_law}
@@ -39,7 +39,7 @@ use Rattle.bm_replay.specs.Inside.Players.{publish_after, soonest_command, comin
 use Rattle.bm_replay.specs.Inside.Playing.{HasPlayed, IsComing, IsPlayed, IsPlaying, KeepsState, lost_call, past_of}
 use Rattle.bm_replay.specs.Inside.Comings.{sooner_of}
 use Rattle.bm_replay.proofs.NextEvents.{HasRank, IsCommand, IsComingOf, commands_are, commands_due, copy_due}
-use Rattle.bm_replay.proofs.NextEvents.{head_least, left_rank, packets_rank, rank_of, coming_is}
+use Rattle.bm_replay.proofs.NextEvents.{head_least, left_rank, packets_rank, coming_is}
 use Rattle.bm_replay.proofs.Flights.{first_due_is}
 use Rattle.bm_replay.proofs.LeastOfTwo.{least_append}
 
@@ -141,8 +141,7 @@ ready_by R F p at d playing none is clock = record {
 -- a command or packet that comes next
 pub record IsReadyCall (R : Routes) (F : Rules) (p : Player) (at : Moment) (d : Due) : Type 0 where
   pub ready : IsReady R F p at d
-  pub of_call : rank_of d.call ≡ d.rank
-  pub no_copy : d.rank ≡ 5 → ⊥
+  pub no_copy : rank_of d.call ≡ 5 → ⊥
 
 pub ready_call : (R : Routes) (F : Rules) (p : Player) (at : Moment) (d : Due) → IsComing R F at (Call d) p
     → IsReadyCall R F p at d
@@ -152,9 +151,7 @@ ready_call R F p at d coming =
     coming.is_coming (state_comes coming.playing.fates (past_of p) p coming.playing.state)
     in record {
       ready = ready_by R F p at d coming.playing coming.none_lost come.0 coming.is_clock;
-      of_call =
-          come.1;
-      no_copy = come.2;
+      no_copy = come.1;
     }
 
 -- a copy that comes next

@@ -7,13 +7,13 @@ use Rattle.bm_core.specs.declared.schedule.Call.TheVariants.{Arrives, Loses}
 use Rattle.bm_core.specs.declared.schedule.Due.{Due}
 use Rattle.bm_core.specs.Accounts.{Routes, Rules}
 use Rattle.bm_core.specs.Runs.{next_clock}
-use Rattle.bm_core.specs.Schedule.{wire}
+use Rattle.bm_core.specs.Schedule.{rank_of, wire}
 use Rattle.bm_core.proofs.Schedules.{IsFrom}
 use Rattle.bm_replay.specs.declared.player.Player.{Player}
 use Rattle.bm_replay.specs.declared.coming.Coming.TheVariants.{Arrive, Call}
 use Rattle.bm_replay.specs.Inside.Players.{coming_for}
 use Rattle.bm_replay.specs.Inside.Playing.{IsPlaying, past_of}
-use Rattle.bm_replay.proofs.NextEvents.{copy_due, rank_of}
+use Rattle.bm_replay.proofs.NextEvents.{copy_due}
 use Rattle.bm_replay.proofs.ReadyEvents.{IsReadyCall, clock_low, ready_call, ready_copy}
 
 pub copy_fits : (R : Routes) (F : Rules) (p : Player) (m : Moment) → IsPlaying R F p → p.loss ≡ None
@@ -33,7 +33,7 @@ call_fits R F p d playing none come =
 -- a copy isn't called, and neither is a loss
 pub no_arrival : (R : Routes) (F : Rules) (p : Player) (at : Moment) (d : Due) (k : ℕ) (hop : Hop)
     → IsReadyCall R F p at d → d.call ≡ Arrives k hop → ⊥
-no_arrival R F p at d k hop c is = c.no_copy (sym c.of_call ∙ ap (λ (x : Calls). rank_of x) is)
+no_arrival R F p at d k hop c is = c.no_copy (ap (λ (x : Calls). rank_of x) is)
 
 pub no_loss : (R : Routes) (F : Rules) (p : Player) (at : Moment) (d : Due) (k : ℕ) (hop : Hop) → IsReadyCall R F p at d
     → d.call ≡ Loses k hop → ⊥

@@ -30,8 +30,9 @@ pub(crate) fn sooner(a: Option<Due>, b: Option<Due>) -> Option<Due>
 fn comes_first(a: &Due, b: &Due) -> bool
     ensures { result ≡ comes_first a.now b.now }
 {
+    let (a_rank, b_rank) = (a.call.rank(), b.call.rank());
     a.moment < b.moment
-        || a.moment == b.moment && (a.rank < b.rank || a.rank == b.rank && a.number < b.number)
+        || a.moment == b.moment && (a_rank < b_rank || a_rank == b_rank && a.number < b.number)
 }
 
 /// The first of the soonest command, the first copy under way and the next packet: a copy arrives

@@ -107,7 +107,6 @@ fn next_switch(plan: &Plan, total: u16, mux: u16, version: u32, lag: u64) -> Opt
     let change = plan.next_change(Version(version))?;
     Some(Due {
         moment: change.moment.0 + lag,
-        rank: 1,
         number: version as usize * usize::from(total) + usize::from(mux),
         call: Call::Switches(mux, version + 1),
     })

@@ -180,7 +180,6 @@ impl Player {
         let change = self.stage.script.plan.next_change(Version(self.published))?;
         Some(Due {
             moment: change.moment.0,
-            rank: 0,
             number: self.published as usize,
             call: Call::Publishes(self.published + 1),
         })

@@ -25,7 +25,6 @@ pub(crate) fn next_close(commands: &[Command], from: usize) -> Queue
             return Queue {
                 head: Some(Due {
                     moment: at.0,
-                    rank: 2,
                     number: 0,
                     call: Call::Closes(server, flow),
                 }),
@@ -92,7 +91,6 @@ fn retire_due(server: ServerId, shard: u16, at: u64) -> Due
 {
     Due {
         moment: at,
-        rank: 3,
         number: usize::from(shard),
         call: Call::Retires(server, shard, at),
     }
@@ -108,7 +106,6 @@ pub(crate) fn next_sync(commands: &[Command], from: usize) -> Queue
             return Queue {
                 head: Some(Due {
                     moment: at.0,
-                    rank: 4,
                     number: 0,
                     call: Call::Syncs,
                 }),
@@ -136,7 +133,6 @@ pub(crate) fn next_packet(records: &[Record], from: usize) -> Queue
             return Queue {
                 head: Some(Due {
                     moment: records[i].moment.0,
-                    rank: 6,
                     number: number as usize,
                     call: Call::Steers(number),
                 }),

@@ -23,13 +23,14 @@ fn change(alloc: Global, moment: u64, kind: Kind, moves: &[(u32, u16)]) -> Resul
 type Row = (u64, &'static [(u32, u16)], Result<(), PlanFault>);
 
 // Changes, and what a plan of servers 1 and 2 answers to each, after those before it.
-const ROWS: [Row; 6] = [
+const ROWS: [Row; 7] = [
     (500, &[(4, 2)], Ok(())),
     (499, &[(4, 1)], Err(PlanFault::StampFell)),
     (500, &[(8, 1)], Err(PlanFault::BadBucket(8))),
     (500, &[(4, 1), (4, 2)], Err(PlanFault::BadBucket(4))),
     (500, &[(4, 2)], Err(PlanFault::SameServer(4))),
     (500, &[], Ok(())),
+    (700, &[(4, 1)], Ok(())),
 ];
 
 fn assert_push(rt: &impl Abort, alloc: Global, plan: &mut Plan, row: &Row) -> Result<(), Memory> {
@@ -39,27 +40,38 @@ fn assert_push(rt: &impl Abort, alloc: Global, plan: &mut Plan, row: &Row) -> Re
     Ok(())
 }
 
-// The first change moves bucket 4 from server 1 to server 2 at 500, the second moves nothing.
-fn assert_last_move(rt: &impl Abort, alloc: Global, plan: &Plan) -> Result<(), Memory> {
-    assert!(rt; plan.buckets() == 8 && plan.versions() == 2);
+// The first change moves bucket 4 from server 1 to server 2 at 500, the second moves nothing, and
+// the third moves it back at 700.
+fn assert_last_moves(rt: &impl Abort, alloc: Global, plan: &Plan) -> Result<(), Memory> {
+    assert!(rt; plan.buckets() == 8 && plan.versions() == 3);
     assert_eq!(rt; plan.owners()?.len(), 8);
     let mut table = Table::opening(alloc, plan)?;
     table.apply(&plan.copy_change(Version(1))?);
     table.apply(&plan.copy_change(Version(2))?);
-    let want = Entry {
-        cur: ServerId(2),
-        prev: Some(Past {
-            server: ServerId(1),
-            stamp: Moment(500),
-        }),
-        older: None,
+    let first = Past {
+        server: ServerId(1),
+        stamp: Moment(500),
     };
-    assert!(rt; table.entry(4) == want);
+    assert!(rt; table.entry(4) == entry(2, Some(first), None));
+    table.apply(&plan.copy_change(Version(3))?);
+    let second = Past {
+        server: ServerId(2),
+        stamp: Moment(700),
+    };
+    assert!(rt; table.entry(4) == entry(1, Some(second), Some(first)));
     Ok(())
 }
 
+fn entry(cur: u16, prev: Option<Past>, older: Option<Past>) -> Entry {
+    Entry {
+        cur: ServerId(cur),
+        prev,
+        older,
+    }
+}
+
 #[test]
-fn a_plan_refuses_changes_in_order_and_its_table_has_the_last_move(
+fn a_plan_refuses_changes_in_order_and_its_table_has_the_last_moves(
     rt: HostRuntime,
 ) -> Result<(), Fail> {
     let alloc = rt.alloc();
@@ -69,7 +81,7 @@ fn a_plan_refuses_changes_in_order_and_its_table_has_the_last_move(
     for row in &ROWS {
         assert_push(&rt, alloc, &mut plan, row)?;
     }
-    assert_last_move(&rt, alloc, &plan)?;
+    assert_last_moves(&rt, alloc, &plan)?;
     Ok(())
 }
 

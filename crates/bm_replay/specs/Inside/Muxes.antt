@@ -42,13 +42,7 @@ version_in muxes m = (slice_index_or muxes m (record { version = 0; table = [] }
 abbrev pub switch_after : ℕ → ℕ → ℕ → ℕ → Option Change → Option Due
 switch_after total lag m v None = None
 switch_after total lag m v (Some c) =
-    Some (record {
-      moment = c.moment.0 + lag;
-      rank = 1;
-      number = v * total + m;
-      call =
-          Switches m (suc v);
-    })
+    Some (record { moment = c.moment.0 + lag; number = v * total + m; call = Switches m (suc v) })
 
 -- the next switch of each of the first n muxes, by their versions
 abbrev pub switches_of : Planned → List ℕ → ℕ → List Mux → ℕ → List Due

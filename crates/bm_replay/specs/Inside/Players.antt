@@ -105,7 +105,7 @@ pub record IsNew (stage : Stage) (p : Player) : Type 0 where
 abbrev pub publish_after : ℕ → Option Change → Option Due
 publish_after v None = None
 publish_after v (Some c) =
-    Some (record { moment = c.moment.0; rank = 0; number = v; call = Publishes (suc v) })
+    Some (record { moment = c.moment.0; number = v; call = Publishes (suc v) })
 
 -- the soonest of the changes and commands
 abbrev pub soonest_command : Player → Option Due

@@ -29,7 +29,7 @@ retires_from shards commands n = retire_commands shards (dropped n commands)
 
 -- the request to retire a shard of the server
 abbrev pub retire_at : ServerId → ℕ → ℕ → Due
-retire_at server at h = record { moment = at; rank = 3; number = h; call = Retires server h at }
+retire_at server at h = record { moment = at; number = h; call = Retires server h at }
 
 -- the retires of the later shards of the same server
 abbrev pub later_shards : ℕ → Call → List Due
