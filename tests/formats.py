@@ -314,9 +314,10 @@ def table(value):
 
 SERVER, ENDPOINT = number(1, 1024), place(0)
 TOP = {
-    "version": number(1, 1),
+    "version": number(1, 2),
     "buckets": number(1, 65536),
     "servers": rising,
+    "weights": None,
     "muxes": number(1, 64),
     "shards": number(1, 64),
     "capacity": number(1, 65536),
@@ -328,14 +329,21 @@ TOP = {
     "command": each(0, 65536, table),
 }
 FAULT = {"packet": number(1, 200_000), "hop": words("direct", "chained"), "copies": number(0, 3), "delay_ns": number(0, 60 * 10**9)}
+WEIGHT = number(1, 1000)
 COMMANDS = {
-    "add": {"server": SERVER},
+    "add": {"server": SERVER, "weight": WEIGHT},
     "drain": {"server": SERVER},
     "move": {"bucket": number(0, 65535), "server": SERVER},
     "close": {"server": SERVER, "from": ENDPOINT, "to": ENDPOINT},
     "retire": {"server": SERVER},
     "sync": {},
+    "weight": {"server": SERVER, "weight": WEIGHT},
 }
+
+
+def of_version(version, keys):
+    """The keys that a script of this version may have."""
+    return {key: read for key, read in keys.items() if version == 2 or key not in ("weight", "weights")}
 
 
 def only(place, keys, says):
@@ -359,11 +367,14 @@ def required(place, key, read, says):
 
 def read_top(says):
     """The values of the top keys, and the defaults of those that are missing."""
-    only("", TOP, says)
+    version = 2 if number(2, 2)(says.get("version")) else 1
+    only("", of_version(version, TOP), says)
     top = DEFAULTS | {"fault": [], "command": []}
     for key, read in TOP.items():
         if key == "lags_ns":
             read = each(top["muxes"], top["muxes"], number(0, 86400 * 10**9))
+        if key == "weights":
+            read = each(len(top["servers"]), len(top["servers"]), WEIGHT)
         if key in says:
             top[key] = value_of("", key, read, says[key])
     return top
@@ -389,9 +400,10 @@ def read_script(octets):
     for nth, row in enumerate(top["command"], 1):
         place = f" command {nth}"
         last = required(place, "at_ns", number(last, 4 * 10**18), row)
-        do = required(place, "do", words(*COMMANDS), row)
-        only(place, ["at_ns", "do", *COMMANDS[do]], row)
-        read = {key: required(place, key, read, row) for key, read in COMMANDS[do].items()}
+        do = required(place, "do", words(*of_version(fleet.version, COMMANDS)), row)
+        keys = of_version(fleet.version, COMMANDS[do])
+        only(place, ["at_ns", "do", *keys], row)
+        read = {key: required(place, key, read, row) for key, read in keys.items()}
         carry_out(fleet, place, last, {"do": do} | read)
     return fleet
 

@@ -83,6 +83,7 @@ def flow_of_frame(frame):
 
 MOST_CHANGES, MOST_MOVES = 4096, 1_000_000
 DEFAULTS = {
+    "version": 1,
     "buckets": 8,
     "servers": [1, 2],
     "muxes": 1,
@@ -105,7 +106,9 @@ class Fleet:
         self.vips, self.route = says["vips"], says["route"]
         self.lags = says.get("lags_ns", [0] * self.muxes)
         self.faults, self.commands, self.changes = [], [], []
-        self.active, self.known = list(self.servers), set(self.servers)
+        self.version = says["version"]
+        # the weight of each active server
+        self.active, self.known = dict(zip(self.servers, says.get("weights", [1] * len(self.servers)))), set(self.servers)
 
     def timeout(self):
         return self.timeout_s * 10**9
@@ -157,16 +160,25 @@ class Fleet:
 
     # THE CONTROLLER
 
+    def quotas(self, active):
+        """How many buckets each server is to own by its weight: whole shares, and one more for the largest remainders, of equal ones
+        for the lowest numbers."""
+        whole = sum(active.values())
+        quotas = {server: self.buckets * weight // whole for server, weight in active.items()}
+        order = sorted(active, key=lambda server: (-(self.buckets * active[server] % whole), server))
+        for server in order[: self.buckets - sum(quotas.values())]:
+            quotas[server] += 1
+        return quotas
+
     def rebalance(self, active):
         """The moves that bring each active server to its quota: servers give their highest buckets, and the first servers are filled
         first."""
-        owners = [self.server(len(self.changes), b) for b in range(self.buckets)]
-        quotas = {s: self.buckets // len(active) + (i < self.buckets % len(active)) for i, s in enumerate(active)}
+        owners, quotas = [self.server(len(self.changes), b) for b in range(self.buckets)], self.quotas(active)
         owned = {}
         for bucket, server in enumerate(owners):
             owned.setdefault(server, []).append(bucket)
         given = [bucket for server, own in owned.items() for bucket in own[quotas.get(server, 0) :]]
-        takers = [s for s in active for _ in range(quotas[s] - min(quotas[s], len(owned.get(s, []))))]
+        takers = [s for s in sorted(active) for _ in range(quotas[s] - min(quotas[s], len(owned.get(s, []))))]
         return dict(zip(sorted(given), takers))
 
     def change(self, at, words, moves):
@@ -182,17 +194,19 @@ class Fleet:
     def command(self, at, words):
         """Carries out a command in the plan, or returns why it is refused."""
         do = words[0]
-        if do in ("add", "drain"):
+        if do in ("add", "drain", "weight"):
             server = words[1]
             if do == "add" and server in self.known:
                 return "known server"
-            if do == "drain" and server not in self.known:
+            if do != "add" and server not in self.known:
                 return "unknown server"
-            if do == "drain" and server not in self.active:
+            if do != "add" and server not in self.active:
                 return "not active"
             if do == "drain" and len(self.active) == 1:
                 return "last server"
-            active = sorted(self.active + [server]) if do == "add" else [s for s in self.active if s != server]
+            active = {s: weight for s, weight in self.active.items() if s != server}
+            if do != "drain":
+                active[server] = words[2] if words[2:] else 1
             moves = self.rebalance(active)
             self.active = active
             self.known.add(server)
@@ -221,7 +235,7 @@ def words_of(command):
     """The words of a command table of a script: what it does, and to what."""
     if command["do"] == "close":
         return "close", command["server"], flow_between(command["from"], command["to"])
-    return command["do"], *(command[key] for key in ("bucket", "server") if key in command)
+    return command["do"], *(command[key] for key in ("bucket", "server", "weight") if key in command)
 
 
 # RECEIVERS

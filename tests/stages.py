@@ -69,7 +69,18 @@ def some_setting(rng, stage):
         BOUNCING: moving | {"servers": [1, 2], "muxes": 1, "timeout_s": 1, "lags_ns": [0]},
         LEAVING: {"buckets": 1, "servers": [1, 2], "muxes": 2, "timeout_s": 1, "route": "turn", "lags_ns": [9 * 10**9, rng.choice([0, 9 * 10**9])]},
     }
-    return setting | {"lags_ns": lags} | special[stage]
+    return setting | {"lags_ns": lags} | special[stage] | some_weights(rng, special[stage].get("servers", setting["servers"]))
+
+
+def some_weights(rng, servers):
+    """The keys of version 2 for half of the scripts."""
+    version = rng.choice([{}, {}, {}, {"version": 1}, {"version": 2}, {"version": 2}, {"version": 2}, {"version": 2}])
+    weights = [some_weight(rng) for _ in servers]
+    return version | {"weights": weights} if version.get("version") == 2 and rng.random() < 0.7 else version
+
+
+def some_weight(rng):
+    return rng.choice([1, 1, 2, 3, rng.randint(1, 9), 1000])
 
 
 def fault_rows(row):
@@ -82,6 +93,8 @@ def command_rows(at, words):
         rows.append(f"bucket = {words[1]}")
     if words[0] != "sync":
         rows.append(f"server = {words[2] if words[0] == 'move' else words[1]}")
+    if words[0] in ("add", "weight") and words[2:]:
+        rows.append(f"weight = {words[2]}")
     if words[0] == "close":
         rows += ['from = "%s"' % endpoints(words[2])[0], 'to = "%s"' % endpoints(words[2])[1]]
     return rows
@@ -99,14 +112,17 @@ def some_fleet(rng, stage=ANY):
     at, wrong = 0, rng.random() < 0.05
     for _ in range(rng.randint(2, 5) if stage == BOUNCING else rng.randint(0, 10)):
         at += some_step(rng, stage, 0, 1, 500, 1000)
-        elsewhere = [server for server in fleet.active if server != fleet.server(len(fleet.changes), 0)]
-        server = rng.randint(1, 6) if stage == ANY else rng.choice(elsewhere if stage != LEAVING and elsewhere else fleet.active)
+        active = sorted(fleet.active)
+        elsewhere = [server for server in active if server != fleet.server(len(fleet.changes), 0)]
+        server = rng.randint(1, 6) if stage == ANY else rng.choice(elsewhere if stage != LEAVING and elsewhere else active)
         drained = sorted(fleet.known - set(fleet.active))
         leaving = rng.choice(drained) if drained and rng.random() < 0.8 else server
-        changes = [("add", server), ("drain", server), ("drain", server), ("move", rng.randint(0, 2), server), ("move", 0, server), ("move", 0, server)]
+        weight = (some_weight(rng),) if fleet.version == 2 else ()
+        changes = [("add", server, *weight), ("drain", server), ("drain", server), ("move", rng.randint(0, 2), server), ("move", 0, server), ("move", 0, server)]
         others = [("close", server, some_flow(rng)), ("retire", leaving), ("retire", leaving), ("sync",)]
+        weighs = [("weight", server, *weight)] * 3 if weight else []
         moves, ends = [("move", 0, server)] * 12 + [("sync",)] * 4, [("drain", server), ("retire", leaving)] * 12
-        words = rng.choice(changes + others + {ANY: [], QUICK: moves, SLOW: moves, BOUNCING: moves * 3, LEAVING: ends}[stage])
+        words = rng.choice(changes + weighs + others + {ANY: [], QUICK: moves, SLOW: moves, BOUNCING: moves * 3, LEAVING: ends}[stage])
         if words[0] == "retire" and leaving in drained and rng.random() < (0.8 if stage == LEAVING else 0.4):
             at += fleet.timeout()
         before = len(fleet.commands)

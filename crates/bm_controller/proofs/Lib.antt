@@ -1,3 +1,4 @@
 pub mod Answered
+pub mod MemberFacts
 pub mod MemberLists
 pub mod MemberPlans

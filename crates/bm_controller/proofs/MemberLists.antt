@@ -3,18 +3,12 @@ use Rattle.std.proofs.Common.{◌≡◌, ℕ, suc, ◌+◌, ◌<◌, ◌≤◌, 
 use Rattle.std.proofs.Common.{filter, length, inl, inr, refl, ap, sym, ◌∙◌, subst, arith}
 use Rattle.std.proofs.lemmas.Bool.{cases_Bool, cases_order, eq-eqb, eqb-true, ne_eqb, lt-ltb, le-ltb, or_parts}
 use Rattle.std.proofs.lemmas.Bool.{both_ways}
-use Rattle.std.specs.List.{list_any}
 use Rattle.bm_base.specs.declared.ids.ServerId.{ServerId}
 use Rattle.bm_controller.specs.Membership.{with_server, without_server}
 use Rattle.bm_quota.proofs.RoomLemmas.{cases_server}
 use Rattle.bm_quota.proofs.QuotaLemmas.{first_not_among}
 use Rattle.bm_table.specs.Settings.{RiseFrom}
 use Rattle.bm_table.specs.Tables.{is_among, same_server}
-
-pub is_among-any : (servers : List ServerId) (s : ServerId)
-    → list_any (λ t. same_server t s) servers ≡ is_among servers s
-is_among-any [] s = refl
-is_among-any (t ∷ servers) s = ap (λ x. same_server t s || x) (is_among-any servers s)
 
 or_assoc : (x y z : Bool) → ((x || y) || z) ≡ (x || (y || z))
 or_assoc true y z = refl
@@ -26,11 +20,11 @@ is_among-append (x ∷ xs) ys s =
     ap (λ t. same_server x s || t) (is_among-append xs ys s)
     ∙ sym (or_assoc (same_server x s) (is_among xs s) (is_among ys s))
 
-filter-yes : (p : ServerId → Bool) (x : ServerId) (xs : List ServerId) → p x ≡ true
+pub filter-yes : (p : ServerId → Bool) (x : ServerId) (xs : List ServerId) → p x ≡ true
     → filter p (x ∷ xs) ≡ x ∷ filter p xs
 filter-yes p x xs e = rw e refl
 
-filter-no : (p : ServerId → Bool) (x : ServerId) (xs : List ServerId) → p x ≡ false → filter p (x ∷ xs) ≡ filter p xs
+pub filter-no : (p : ServerId → Bool) (x : ServerId) (xs : List ServerId) → p x ≡ false → filter p (x ∷ xs) ≡ filter p xs
 filter-no p x xs e = rw e refl
 
 -- a server that passes is among those that pass where it is among them
@@ -121,7 +115,7 @@ among-without s servers x =
     and_true true = refl
     and_true false = refl
 
-RiseFrom-lower : (low high : ℕ) (servers : List ServerId) → low ≤ high → RiseFrom high servers → RiseFrom low servers
+pub RiseFrom-lower : (low high : ℕ) (servers : List ServerId) → low ≤ high → RiseFrom high servers → RiseFrom low servers
 RiseFrom-lower low high [] h rise = tt
 RiseFrom-lower low high (x ∷ servers) h rise = (omega (arith, rise.0), rise.1)
 
@@ -140,7 +134,7 @@ pub RiseFrom-without : (s : ServerId) (low : ℕ) (servers : List ServerId) → 
     → RiseFrom low (without_server s servers)
 RiseFrom-without s low servers rise = RiseFrom-filter (λ t. not (same_server t s)) low servers rise
 
-none_below : (s : ServerId) (low : ℕ) (servers : List ServerId) → RiseFrom low servers → s.0 < low
+pub none_below : (s : ServerId) (low : ℕ) (servers : List ServerId) → RiseFrom low servers → s.0 < low
     → filter (λ t. ltb t.0 s.0) servers ≡ []
 none_below s low [] rise h = refl
 none_below s low (x ∷ servers) rise h =

@@ -4,7 +4,7 @@ use Rattle.std.proofs.Common.{List, [], ◌∷◌, ◌++◌, map, Option, Some, 
 use Rattle.std.proofs.Common.{◌∙◌, subst, arith, add-one}
 use Rattle.std.proofs.lemmas.Bool.{cases_Bool, cases_eq, cases_lt, and_from, and_left, and_parts, and_right, not-true}
 use Rattle.std.proofs.lemmas.Bool.{or_cases, or_from, or_left, or_right, le-leb, le-ltb, lt-leb, lt-ltb, both_ways}
-use Rattle.std.proofs.lemmas.List.{length_push}
+use Rattle.std.proofs.lemmas.List.{length-map, length_push}
 use Rattle.std.proofs.lemmas.List.FromFn.{length-map-range_with_len}
 use Rattle.std.proofs.lemmas.Option.{slice_get_past}
 use Rattle.std.specs.List.{range_with_len, AllByRecursion}
@@ -14,15 +14,18 @@ use Rattle.bm_base.specs.declared.ids.ServerId.{ServerId}
 use Rattle.bm_base.specs.declared.label.Entry.{Entry}
 use Rattle.bm_controller.proofs.MemberLists.{among-with, among-without, length-with, length-without, RiseFrom-with}
 use Rattle.bm_controller.proofs.MemberLists.{RiseFrom-without}
-use Rattle.bm_controller.specs.Commands.{addition, first_refusal, limits, rebalance, removal, shift_of, when}
+use Rattle.bm_controller.specs.Commands.{first_refusal, limits, rebalance, when}
+use Rattle.bm_controller.specs.Inside.Kinds.{MayCome}
 use Rattle.bm_controller.specs.Membership.{active, active_after, active_next, active_now, has_drained, is_active, knows}
 use Rattle.bm_controller.specs.Membership.{with_server, without_server, KeepsMembership}
-use Rattle.bm_quota.specs.Rebalancing.{owned, owners_after, quota_at, quotas_of, rebalancing}
+use Rattle.bm_quota.specs.Rebalancing.{owned, owners_after, quota, quotas_of, rebalancing}
 use Rattle.bm_quota.specs.declared.refusal.Refusal.{Refusal}
 use Rattle.bm_quota.specs.declared.refusal.Refusal.TheVariants.{StampFell, TooMany}
 use Rattle.bm_quota.specs.Refusals.{refusal_of}
 use Rattle.bm_table.specs.declared.plan.Limit.TheVariants.{Changes, Moves}
-use Rattle.bm_quota.proofs.QuotaLemmas.{quota_of-outside, sum-quotas_of}
+use Rattle.bm_quota.proofs.Claims.{some_weighs}
+use Rattle.bm_quota.proofs.QuotaLemmas.{quota_of-outside}
+use Rattle.bm_quota.proofs.WeightLemmas.{sum-quotas_of}
 use Rattle.bm_quota.proofs.Rebalanced.{rebalancing-changes, rebalancing-reaches, rebalancing-targets, AreQuotas}
 use Rattle.bm_quota.proofs.Rebalanced.{MovesRise-rebalancing, Serves}
 use Rattle.bm_quota.proofs.RoomLemmas.{cases_server, owned-cons, same_server-refl}
@@ -31,7 +34,7 @@ use Rattle.bm_table.proofs.PlanLemmas.{IsPlan-with_change}
 use Rattle.bm_table.proofs.Tables.{same_server-true}
 use Rattle.bm_table.specs.declared.plan.Change.{Change}
 use Rattle.bm_table.specs.declared.plan.Kind.{Kind}
-use Rattle.bm_table.specs.declared.plan.Kind.TheVariants.{Add, Drain}
+use Rattle.bm_table.specs.declared.plan.Kind.TheVariants.{Add, Drain, Shift}
 use Rattle.bm_table.specs.declared.plan.Move.{Move}
 use Rattle.bm_table.specs.Planned.{Planned}
 use Rattle.bm_table.specs.Plans.{bad_bucket, bucket_already_there, last_moment, limit_refusal, owners_now, refusal}
@@ -217,15 +220,22 @@ owned-none server b (suc n) s none x low high =
     same : {p : ServerId} → p ≡ s → same_server p s ≡ true
     same e = subst (λ q. same_server q s ≡ true) (sym e) (same_server-refl s)
 
-pub length-quotas_of : (buckets servers : ℕ) → length (quotas_of buckets servers) ≡ servers
-length-quotas_of buckets servers = length-map-range_with_len (quota_at buckets servers) 0 servers
+pub length-quotas_of : (buckets : ℕ) (weights : ServerId → ℕ) (servers : List ServerId)
+    → length (quotas_of buckets weights servers) ≡ length servers
+length-quotas_of buckets weights servers = length-map servers (quota buckets weights servers)
 
-pub AreQuotas-rebalance : (plan : Planned) (servers : List ServerId) → RiseFrom 0 servers → 0 < length servers
-    → AreQuotas (owners_now plan) servers (quotas_of plan.buckets (length servers))
-AreQuotas-rebalance plan servers rise some = record {
+-- each of these servers weighs something
+abbrev pub Weigh : (ServerId → ℕ) → List ServerId → Type 0
+Weigh weights servers = (s : ServerId) → is_among servers s ≡ true → IsWithin 1 1000 (weights s)
+
+pub AreQuotas-rebalance : (plan : Planned) (weights : ServerId → ℕ) (servers : List ServerId) → RiseFrom 0 servers
+    → 0 < length servers → Weigh weights servers
+    → AreQuotas (owners_now plan) servers (quotas_of plan.buckets weights servers)
+AreQuotas-rebalance plan weights servers rise some weigh = record {
   rising = rise;
-  count = length-quotas_of plan.buckets (length servers);
-  total = sum-quotas_of plan.buckets (length servers) some ∙ sym (length-owners_now plan);
+  count = length-quotas_of plan.buckets weights servers;
+  total = sum-quotas_of plan.buckets weights servers rise some (some_weighs weights servers some weigh)
+      ∙ sym (length-owners_now plan);
 }
 
 bad_bucket-none : (buckets low : ℕ) (moves : List Move) → MovesRise buckets low moves
@@ -235,35 +245,36 @@ bad_bucket-none buckets low (m ∷ moves) rise =
     let t : (leb low m.bucket && ltb m.bucket buckets) ≡ true = and_from _ _ (le-leb _ _ rise.0) (lt-ltb _ _ rise.1)
     in rw t (bad_bucket-none buckets (m.bucket + 1) moves rise.2)
 
-pub rebalance-buckets : (plan : Planned) (at : Moment) (kind : Kind) (servers : List ServerId)
-    → bad_bucket plan.buckets 0 (rebalance plan at kind servers).moves ≡ None
-rebalance-buckets plan at kind servers =
-    bad_bucket-none plan.buckets 0 (rebalancing (owners_now plan) servers (quotas_of plan.buckets (length servers)))
-    (subst (λ n. MovesRise n 0 (rebalancing (owners_now plan) servers (quotas_of plan.buckets (length servers))))
+pub rebalance-buckets : (plan : Planned) (weights : ServerId → ℕ) (at : Moment) (kind : Kind) (servers : List ServerId)
+    → bad_bucket plan.buckets 0 (rebalance plan weights at kind servers).moves ≡ None
+rebalance-buckets plan weights at kind servers =
+    bad_bucket-none plan.buckets 0 (rebalancing (owners_now plan) servers (quotas_of plan.buckets weights servers))
+    (subst (λ n. MovesRise n 0 (rebalancing (owners_now plan) servers (quotas_of plan.buckets weights servers)))
     (length-owners_now plan)
-    (MovesRise-rebalancing (owners_now plan) servers (quotas_of plan.buckets (length servers))))
+    (MovesRise-rebalancing (owners_now plan) servers (quotas_of plan.buckets weights servers)))
 
-pub rebalance-servers : (plan : Planned) (at : Moment) (kind : Kind) (servers : List ServerId) → RiseFrom 0 servers
-    → bucket_already_there (server_now plan) (rebalance plan at kind servers).moves ≡ None
-rebalance-servers plan at kind servers rise =
-    rebalancing-changes (server_now plan) (owners_now plan) servers (quotas_of plan.buckets (length servers)) rise
+pub rebalance-servers : (plan : Planned) (weights : ServerId → ℕ) (at : Moment) (kind : Kind) (servers : List ServerId) → RiseFrom 0 servers
+    → bucket_already_there (server_now plan) (rebalance plan weights at kind servers).moves ≡ None
+rebalance-servers plan weights at kind servers rise =
+    rebalancing-changes (server_now plan) (owners_now plan) servers (quotas_of plan.buckets weights servers) rise
     (Serves-range (server_now plan) 0 plan.buckets)
 
 -- after a rebalancing no bucket is at a server that isn't active
-rebalance-leaves : (plan : Planned) (servers : List ServerId) → RiseFrom 0 servers → 0 < length servers → (s : ServerId)
+rebalance-leaves : (plan : Planned) (weights : ServerId → ℕ) (servers : List ServerId) → RiseFrom 0 servers
+    → 0 < length servers → Weigh weights servers → (s : ServerId)
     → is_among servers s ≡ false → (b : ℕ) → b < plan.buckets
-    → unwrap_or (target (rebalancing (owners_now plan) servers (quotas_of plan.buckets (length servers))) b)
+    → unwrap_or (target (rebalancing (owners_now plan) servers (quotas_of plan.buckets weights servers)) b)
     (server_now plan b) ≢ s
-rebalance-leaves plan servers rise some s apart b h =
+rebalance-leaves plan weights servers rise some weigh s apart b h =
     let reach =
-    rebalancing-reaches (owners_now plan) servers (quotas_of plan.buckets (length servers))
-    (AreQuotas-rebalance plan servers rise some) s
-    in let none = reach ∙ quota_of-outside servers (quotas_of plan.buckets (length servers)) s apart
+    rebalancing-reaches (owners_now plan) servers (quotas_of plan.buckets weights servers)
+    (AreQuotas-rebalance plan weights servers rise some weigh) s
+    in let none = reach ∙ quota_of-outside servers (quotas_of plan.buckets weights servers) s apart
     in owned-none
-    (λ x. unwrap_or (target (rebalancing (owners_now plan) servers (quotas_of plan.buckets (length servers))) x)
+    (λ x. unwrap_or (target (rebalancing (owners_now plan) servers (quotas_of plan.buckets weights servers)) x)
     (server_now plan x)) 0 plan.buckets s
     (sym (ap (λ (xs : List ServerId). owned xs s)
-    (owners_after-range (rebalancing (owners_now plan) servers (quotas_of plan.buckets (length servers)))
+    (owners_after-range (rebalancing (owners_now plan) servers (quotas_of plan.buckets weights servers))
     (server_now plan) 0 plan.buckets)) ∙ none)
     b (omega arith) (omega arith)
 
@@ -272,16 +283,16 @@ some_to : (f g : ServerId → Bool) → ((s : ServerId) → f s ≡ true → g s
 some_to f g e None h = tt
 some_to f g e (Some s) h = e s h
 
-IsOrderlyChange-rebalance : (plan : Planned) (at : Moment) (kind : Kind) (servers : List ServerId) → RiseFrom 0 servers
-    → 0 < length servers
+IsOrderlyChange-rebalance : (plan : Planned) (weights : ServerId → ℕ) (at : Moment) (kind : Kind) (servers : List ServerId) → RiseFrom 0 servers
+    → 0 < length servers → Weigh weights servers
     → ((s : ServerId) → is_among servers s ≡ true → (is_add kind s || knows plan s) ≡ true)
     → ((s : ServerId) → (is_drain kind s || has_drained plan s) ≡ true → is_among servers s ≡ false)
-    → IsOrderlyChange plan (rebalance plan at kind servers)
-IsOrderlyChange-rebalance plan at kind servers rise some known drained = record {
+    → IsOrderlyChange plan (rebalance plan weights at kind servers)
+IsOrderlyChange-rebalance plan weights at kind servers rise some weigh known drained = record {
   known = λ b. some_to (is_among servers) (λ s. is_add kind s || knows plan s) known
-      (target (rebalancing (owners_now plan) servers (quotas_of plan.buckets (length servers))) b)
-      (rebalancing-targets (owners_now plan) servers (quotas_of plan.buckets (length servers)) rise b);
-  drained = λ s d b h. rebalance-leaves plan servers rise some s (drained s d) b h;
+      (target (rebalancing (owners_now plan) servers (quotas_of plan.buckets weights servers)) b)
+      (rebalancing-targets (owners_now plan) servers (quotas_of plan.buckets weights servers) rise b);
+  drained = λ s d b h. rebalance-leaves plan weights servers rise some weigh s (drained s d) b h;
 }
 
 -- the limits of a command are those of the plan
@@ -401,13 +412,14 @@ regrouped true false true = refl
 regrouped true false false = refl
 regrouped false p d = refl
 
-pub KeepsMembership-add : (plan : Planned) → KeepsMembership plan → (at : Moment) (s : ServerId) → IsWithin 1 1024 s.0
-    → knows plan s ≡ false → refusal plan (addition plan at s) ≡ None
-    → KeepsMembership (with_change plan (addition plan at s))
-KeepsMembership-add plan membership at s number unknown none =
-    KeepsMembership-push plan membership (addition plan at s) none
-    (IsOrderlyChange-rebalance plan at (Add s) (with_server s (active_now plan)) rise (length-with s (active_now plan))
-    known drained)
+pub KeepsMembership-add : (plan : Planned) (weights : ServerId → ℕ) → KeepsMembership plan → (at : Moment)
+    (s : ServerId) → IsWithin 1 1024 s.0 → Weigh weights (with_server s (active_now plan))
+    → knows plan s ≡ false → refusal plan (rebalance plan weights at (Add s) (with_server s (active_now plan))) ≡ None
+    → KeepsMembership (with_change plan (rebalance plan weights at (Add s) (with_server s (active_now plan))))
+KeepsMembership-add plan weights membership at s number weigh unknown none =
+    KeepsMembership-push plan membership (rebalance plan weights at (Add s) (with_server s (active_now plan))) none
+    (IsOrderlyChange-rebalance plan weights at (Add s) (with_server s (active_now plan)) rise
+    (length-with s (active_now plan)) weigh known drained)
     number rise (length-with s (active_now plan)) members left
   where
     rise : RiseFrom 0 (with_server s (active_now plan))
@@ -449,12 +461,15 @@ KeepsMembership-add plan membership at s number unknown none =
     left : (x : ServerId) → has_drained plan x ≡ true → (same_server s x || knows plan x) ≡ true
     left x d = or_right (same_server s x) (knows plan x) (membership.left x d)
 
-pub KeepsMembership-drain : (plan : Planned) → KeepsMembership plan → (at : Moment) (s : ServerId)
-    → is_active plan s ≡ true → 1 < length (active_now plan) → refusal plan (removal plan at s) ≡ None
-    → KeepsMembership (with_change plan (removal plan at s))
-KeepsMembership-drain plan membership at s is many none =
-    KeepsMembership-push plan membership (removal plan at s) none
-    (IsOrderlyChange-rebalance plan at (Drain s) (without_server s (active_now plan)) rise some known drained)
+pub KeepsMembership-drain : (plan : Planned) (weights : ServerId → ℕ) → KeepsMembership plan → (at : Moment)
+    (s : ServerId) → Weigh weights (without_server s (active_now plan))
+    → is_active plan s ≡ true → 1 < length (active_now plan)
+    → refusal plan (rebalance plan weights at (Drain s) (without_server s (active_now plan))) ≡ None
+    → KeepsMembership (with_change plan (rebalance plan weights at (Drain s) (without_server s (active_now plan))))
+KeepsMembership-drain plan weights membership at s weigh is many none =
+    KeepsMembership-push plan membership (rebalance plan weights at (Drain s) (without_server s (active_now plan))) none
+    (IsOrderlyChange-rebalance plan weights at (Drain s) (without_server s (active_now plan)) rise some
+    weigh known drained)
     tt rise some members left
   where
     rise : RiseFrom 0 (without_server s (active_now plan))
@@ -492,6 +507,19 @@ KeepsMembership-drain plan membership at s is many none =
           | inr was ↦ membership.left x was
         ]
 
+pub KeepsMembership-weigh : (plan : Planned) (weights : ServerId → ℕ) → KeepsMembership plan → (at : Moment)
+    → Weigh weights (active_now plan) → refusal plan (rebalance plan weights at Shift (active_now plan)) ≡ None
+    → KeepsMembership (with_change plan (rebalance plan weights at Shift (active_now plan)))
+KeepsMembership-weigh plan weights membership at weigh none =
+    KeepsMembership-push plan membership (rebalance plan weights at Shift (active_now plan)) none
+    (IsOrderlyChange-rebalance plan weights at Shift (active_now plan) membership.rising membership.some weigh
+    (λ x a. (active_is_known plan membership x a).0) (λ x d. drained_not_active plan membership x d))
+    tt membership.rising membership.some (λ x. membership.members x) (λ x d. membership.left x d)
+
+-- the change that moves one bucket
+abbrev pub shift_of : Moment → ℕ → ServerId → Change
+shift_of at bucket s = record { moment = at; kind = Shift; moves = record { bucket = bucket; to = s } ∷ [] }
+
 pub KeepsMembership-shift : (plan : Planned) → KeepsMembership plan → (at : Moment) (bucket : ℕ) (s : ServerId)
     → is_active plan s ≡ true → refusal plan (shift_of at bucket s) ≡ None
     → KeepsMembership (with_change plan (shift_of at bucket s))
@@ -517,3 +545,28 @@ KeepsMembership-shift plan membership at bucket s is none =
               (membership.orderly.drained (length plan.changes) (length plan.changes) b x d (omega arith) (omega arith)
               h)
         ]
+
+-- the servers that are active after a rebalancing
+pub RiseFrom-after : (plan : Planned) → KeepsMembership plan → (kind : Kind)
+    → RiseFrom 0 (active_after kind (active_now plan))
+RiseFrom-after plan membership (Add s) = RiseFrom-with s 0 (active_now plan) (omega arith) membership.rising
+RiseFrom-after plan membership (Drain s) = RiseFrom-without s 0 (active_now plan) membership.rising
+RiseFrom-after plan membership Shift = membership.rising
+
+pub some-after : (plan : Planned) → KeepsMembership plan → (kind : Kind) → MayCome plan kind
+    → 0 < length (active_after kind (active_now plan))
+some-after plan membership (Add s) may = length-with s (active_now plan)
+some-after plan membership (Drain s) may =
+    omega (arith, length-without s 0 (active_now plan) membership.rising may.0, may.1)
+some-after plan membership Shift may = membership.some
+
+pub KeepsMembership-after : (plan : Planned) (weights : ServerId → ℕ) → KeepsMembership plan → (at : Moment)
+    (kind : Kind) → MayCome plan kind → Weigh weights (active_after kind (active_now plan))
+    → refusal plan (rebalance plan weights at kind (active_after kind (active_now plan))) ≡ None
+    → KeepsMembership (with_change plan (rebalance plan weights at kind (active_after kind (active_now plan))))
+KeepsMembership-after plan weights membership at (Add s) may weigh none =
+    KeepsMembership-add plan weights membership at s may.0 weigh may.1 none
+KeepsMembership-after plan weights membership at (Drain s) may weigh none =
+    KeepsMembership-drain plan weights membership at s weigh may.0 may.1 none
+KeepsMembership-after plan weights membership at Shift may weigh none =
+    KeepsMembership-weigh plan weights membership at weigh none

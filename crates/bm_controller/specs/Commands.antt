@@ -1,8 +1,13 @@
--- The commands of a controller: the change that each makes, and why it is refused.
+-- The commands of a controller: what each makes of what the controller knows, the change that it adds
+-- to the plan, and why it is refused.
 use Rattle.std.specs.Prelude.{ℕ, ◌+◌, Bool, not, nat_lt, nat_le, if◌then◌else◌, List, [], ◌∷◌}
-use Rattle.std.specs.Prelude.{length, Option, Some, None}
+use Rattle.std.specs.Prelude.{◌++◌, length, Option, Some, None}
 use Rattle.bm_base.specs.declared.ids.Moment.{Moment}
 use Rattle.bm_base.specs.declared.ids.ServerId.{ServerId}
+use Rattle.bm_controller.specs.declared.members.Member.{Member}
+use Rattle.bm_controller.specs.Controlled.{Controlled, is_member, servers_of, weight_of}
+use Rattle.bm_controller.specs.Controlled.{with_member, without_member}
+use Rattle.bm_controller.specs.Membership.{knows}
 use Rattle.bm_quota.specs.declared.refusal.Refusal.{Refusal}
 use Rattle.bm_quota.specs.declared.refusal.Refusal.TheVariants.{KnownServer, UnknownServer}
 use Rattle.bm_quota.specs.declared.refusal.Refusal.TheVariants.{NotActive, LastServer, BadBucket}
@@ -13,28 +18,60 @@ use Rattle.bm_table.specs.declared.plan.Kind.{Kind}
 use Rattle.bm_table.specs.declared.plan.Kind.TheVariants.{Add, Drain, Shift}
 use Rattle.bm_table.specs.declared.plan.Limit.TheVariants.{Changes, Moves}
 use Rattle.bm_table.specs.Planned.{Planned}
-use Rattle.bm_table.specs.Plans.{last_moment, owners_now, server_now, total_moves}
+use Rattle.bm_table.specs.Plans.{last_moment, owners_now, server_now, total_moves, with_change}
 use Rattle.bm_table.specs.Tables.{same_server}
-use Rattle.bm_controller.specs.Membership.{active_after, active_now, is_active, knows}
 
--- the change that brings these servers, active after it, to their quotas
-abbrev pub rebalance : Planned → Moment → Kind → List ServerId → Change
-rebalance plan at kind servers = record {
+pub data Command : Type 0 where
+  -- a server with its weight becomes active
+  AddServer : ServerId → ℕ → Command
+  DrainServer : ServerId → Command
+  -- an active server gets another weight
+  WeighServer : ServerId → ℕ → Command
+  -- a bucket goes to an active server
+  MoveBucket : ℕ → ServerId → Command
+
+-- WHAT A COMMAND MAKES
+
+-- the members after a command
+abbrev pub members_after : Command → List Member → List Member
+members_after (AddServer s weight) members =
+    with_member (record { server = s; weight = weight }) members
+members_after (DrainServer s) members = without_member s members
+members_after (WeighServer s weight) members =
+    with_member (record { server = s; weight = weight }) members
+members_after (MoveBucket bucket s) members = members
+
+-- the change that brings these servers, active after it, to their quotas by these weights
+abbrev pub rebalance : Planned → (ServerId → ℕ) → Moment → Kind → List ServerId → Change
+rebalance plan weight at kind servers = record {
   moment = at;
   kind = kind;
-  moves = rebalancing (owners_now plan) servers (quotas_of plan.buckets (length servers));
+  moves = rebalancing (owners_now plan) servers (quotas_of plan.buckets weight servers);
 }
 
-abbrev pub addition : Planned → Moment → ServerId → Change
-addition plan at s = rebalance plan at (Add s) (active_after (Add s) (active_now plan))
+-- the change that brings the members, as they are after it, to their quotas
+abbrev pub change_to : Planned → Moment → Kind → List Member → Change
+change_to plan at kind members = rebalance plan (weight_of members) at kind (servers_of members)
 
-abbrev pub removal : Planned → Moment → ServerId → Change
-removal plan at s = rebalance plan at (Drain s) (active_after (Drain s) (active_now plan))
-
--- the change that moves one bucket
-abbrev pub shift_of : Moment → ℕ → ServerId → Change
-shift_of at bucket s =
+-- the change that a command makes
+abbrev pub change_of : Controlled → Moment → Command → Change
+change_of c at (AddServer s weight) =
+    change_to c.plan at (Add s) (members_after (AddServer s weight) c.members)
+change_of c at (DrainServer s) =
+    change_to c.plan at (Drain s) (members_after (DrainServer s) c.members)
+change_of c at (WeighServer s weight) =
+    change_to c.plan at Shift (members_after (WeighServer s weight) c.members)
+change_of c at (MoveBucket bucket s) =
     record { moment = at; kind = Shift; moves = record { bucket = bucket; to = s } ∷ [] }
+
+-- a controller after a command that it accepted
+abbrev pub after : Controlled → Moment → Command → Controlled
+after c at command = record {
+  plan = with_change c.plan (change_of c at command);
+  members = members_after command c.members;
+}
+
+-- WHY A COMMAND IS REFUSED
 
 abbrev pub when : Bool → Refusal → Option Refusal
 when test refusal = if test then Some refusal else None
@@ -43,6 +80,20 @@ abbrev pub first_refusal : List (Option Refusal) → Option Refusal
 first_refusal [] = None
 first_refusal (None ∷ refusals) = first_refusal refusals
 first_refusal (Some refusal ∷ refusals) = Some refusal
+
+-- a server that isn't active
+abbrev pub unless_active : Controlled → ServerId → List (Option Refusal)
+unless_active c s =
+    when (not (knows c.plan s)) UnknownServer ∷ when (not (is_member c.members s)) NotActive ∷ []
+
+-- what its servers and its bucket say against a command
+abbrev pub unfit : Controlled → Command → List (Option Refusal)
+unfit c (AddServer s weight) = when (knows c.plan s) KnownServer ∷ []
+unfit c (DrainServer s) = unless_active c s ++ when (nat_le (length c.members) 1) LastServer ∷ []
+unfit c (WeighServer s weight) = unless_active c s
+unfit c (MoveBucket bucket s) =
+    when (nat_le c.plan.buckets bucket) BadBucket
+    ∷ unless_active c s ++ when (same_server (server_now c.plan bucket) s) SameServer ∷ []
 
 -- a moment below the last, and the limits of a plan to which a change with this many moves is added
 abbrev pub limits : Planned → Moment → ℕ → List (Option Refusal)
@@ -53,27 +104,9 @@ limits plan at count =
     ∷ []
 
 -- why a command that makes this many moves is refused, apart from `Memory`
-abbrev pub add_refused : Planned → Moment → ServerId → ℕ → Option Refusal
-add_refused plan at s count = first_refusal (when (knows plan s) KnownServer ∷ limits plan at count)
-
-abbrev pub drain_refused : Planned → Moment → ServerId → ℕ → Option Refusal
-drain_refused plan at s count = first_refusal (
-    when (not (knows plan s)) UnknownServer
-    ∷ when (not (is_active plan s)) NotActive
-    ∷ when (nat_le (length (active_now plan)) 1) LastServer
-    ∷ limits plan at count)
+abbrev pub refused : Controlled → Moment → Command → ℕ → Option Refusal
+refused c at command count = first_refusal (unfit c command ++ limits c.plan at count)
 
 -- why a command is refused, apart from `Memory`
-abbrev pub add_refusal : Planned → Moment → ServerId → Option Refusal
-add_refusal plan at s = add_refused plan at s (length (addition plan at s).moves)
-
-abbrev pub drain_refusal : Planned → Moment → ServerId → Option Refusal
-drain_refusal plan at s = drain_refused plan at s (length (removal plan at s).moves)
-
-abbrev pub shift_refusal : Planned → Moment → ℕ → ServerId → Option Refusal
-shift_refusal plan at bucket s = first_refusal (
-    when (nat_le plan.buckets bucket) BadBucket
-    ∷ when (not (knows plan s)) UnknownServer
-    ∷ when (not (is_active plan s)) NotActive
-    ∷ when (same_server (server_now plan bucket) s) SameServer
-    ∷ limits plan at 1)
+abbrev pub refusal : Controlled → Moment → Command → Option Refusal
+refusal c at command = refused c at command (length (change_of c at command).moves)

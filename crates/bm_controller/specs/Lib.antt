@@ -1,3 +1,5 @@
 pub mod Commands
+pub mod Controlled
 pub mod Membership
 pub mod Views
+pub mod Inside

@@ -1,15 +1,17 @@
--- A controller's fields, as contracts see them: the plan that its commands made.
-use Rattle.std.specs.Prelude.{◌≡◌, ◌<◌, false, slice_index_or, vec_len}
+-- A controller's fields, as contracts see them: the plan that its commands made, and its members.
+use Rattle.std.specs.Prelude.{◌≡◌, ◌<◌, All, false, slice_index_or, vec_len}
 use Rattle.bm_base.specs.declared.ids.ServerId.{ServerId}
+use Rattle.bm_controller.specs.Controlled.{Controlled, servers_of}
 use Rattle.bm_controller.specs.declared.controller.Controller.TheInside.{Inside}
+use Rattle.bm_controller.specs.Inside.Kinds.{HasWeight}
 use Rattle.bm_controller.specs.Membership.{active_now, knows, KeepsMembership}
-use Rattle.bm_table.specs.Planned.{Planned}
 
-abbrev pub planned : Inside → Planned
-planned c = c.plan
+abbrev pub controlled : Inside → Controlled
+controlled c = record { plan = c.plan; members = c.members.items }
 
 pub record IsKept (c : Inside) : Type 0 where
   pub membership : KeepsMembership c.plan
-  pub active : c.active.items ≡ active_now c.plan
+  pub active : servers_of c.members.items ≡ active_now c.plan
+  pub weights : All HasWeight c.members.items
   pub numbers : vec_len c.known ≡ 65536
   pub known : (s : ServerId) → s.0 < 65536 → slice_index_or c.known.items s.0 false ≡ knows c.plan s

@@ -1,7 +1,8 @@
-//! The controller: it adds and drains servers and moves buckets, and so makes a plan.
+//! The controller: it adds, drains and weighs servers and moves buckets, and so makes a plan.
 #![tactic(auto)]
 
 mod controller;
-mod servers;
+mod members;
 
 pub use controller::Controller;
+pub use members::Member;

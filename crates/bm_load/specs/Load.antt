@@ -11,14 +11,15 @@ use Rattle.bm_base.specs.declared.flow.Flow.{Flow}
 use Rattle.bm_base.specs.declared.flow.Segment.{Segment}
 use Rattle.bm_base.specs.declared.ids.ServerId.{ServerId}
 use Rattle.bm_base.specs.Segments.{FIN, SYN}
-use Rattle.bm_controller.specs.Commands.{addition}
+use Rattle.bm_controller.specs.Commands.{after, Command}
+use Rattle.bm_controller.specs.Commands.Command.{AddServer}
+use Rattle.bm_controller.specs.Controlled.{members_of, Controlled}
 use Rattle.bm_core.specs.declared.events.Stage.{Stage}
 use Rattle.bm_load.specs.declared.packets.Round.{Round}
 use Rattle.bm_table.specs.declared.script.Command.TheVariants.{Change}
 use Rattle.bm_table.specs.declared.setting.RouteKind.TheVariants.{Port}
 use Rattle.bm_table.specs.declared.setting.Setting.{Setting}
 use Rattle.bm_table.specs.Planned.{Planned}
-use Rattle.bm_table.specs.Plans.{with_change}
 use Rattle.bm_table.specs.Settings.{seconds}
 use Rattle.bm_tcp.specs.Header.{count_of}
 
@@ -40,13 +41,19 @@ load_setting = record {
   faults = [];
 }
 
--- the plan before its change
-abbrev pub opened : Planned
-opened = record { buckets = 64; servers = load_servers; changes = [] }
+-- the controller before its command; each server weighs 1
+abbrev pub opened : Controlled
+opened = record {
+  plan = record { buckets = 64; servers = load_servers; changes = [] };
+  members = members_of load_servers (replicate 4 1);
+}
+
+abbrev pub addition : Command
+addition = AddServer (record { 0 = 5 }) 1
 
 -- server 5 is added at the moment of the third round's first packet
 unfoldable pub load_plan : ℕ → Planned
-load_plan n = with_change opened (addition opened (record { 0 = n * 2000 }) (record { 0 = 5 }))
+load_plan n = (after opened (record { 0 = n * 2000 }) addition).plan
 
 -- the rounds, from 0: SYN, 100 octets of data twice, FIN
 abbrev pub round_at : ℕ → Round

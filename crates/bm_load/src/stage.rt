@@ -17,6 +17,9 @@ use std::alloc::Global;
 /// The servers before one is added.
 const SERVERS: [ServerId; 4] = [ServerId(1), ServerId(2), ServerId(3), ServerId(4)];
 
+/// Their weights.
+const WEIGHTS: [u32; 4] = [1, 1, 1, 1];
+
 fn load_setting(alloc: Global) -> Result<Setting, Memory>
     ensures { IfOk result (λ setting. setting ≡ load.load_setting) }
 {
@@ -46,8 +49,8 @@ fn load_plan(alloc: Global, n: u32) -> Result<Plan, Memory>
     ensures plan { IfOk result (λ plan. plan ≡ load.load_plan n) }
     ensures membership { IfOk result KeepsMembership }
 {
-    let mut controller = Controller::new(alloc, 64, &SERVERS)?;
-    match controller.add(Moment(u64::from(n) * 2_000), ServerId(5)) {
+    let mut controller = Controller::new(alloc, 64, &SERVERS, &WEIGHTS)?;
+    match controller.add(Moment(u64::from(n) * 2_000), ServerId(5), 1) {
         Ok(()) => Ok(controller.into_plan()),
         Err(refusal) => Err(want(refusal)),
     }

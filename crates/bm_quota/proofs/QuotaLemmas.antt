@@ -1,18 +1,17 @@
 -- Quotas, and the sums over servers.
-use Rattle.std.proofs.Common.{◌≡◌, ◌≢◌, ℕ, zero, suc, ◌+◌, ◌-◌, ◌*◌, ◌/◌, ◌%◌, ◌<◌, ◌≤◌, min, Bool, true, false, ◌||◌}
-use Rattle.std.proofs.Common.{cond, eqb, ltb, leb, List, [], ◌∷◌, ◌++◌, length, map, sum, inl, inr, refl, ap, sym, ◌∙◌}
+use Rattle.std.proofs.Common.{◌≡◌, ◌≢◌, ℕ, zero, suc, ◌+◌, ◌-◌, ◌<◌, ◌≤◌, Bool, true, false, ◌||◌}
+use Rattle.std.proofs.Common.{cond, eqb, ltb, leb, List, [], ◌∷◌, ◌++◌, length, sum, inl, inr, refl, ap, sym, ◌∙◌}
 use Rattle.std.proofs.Common.{arith, replicate}
-use Rattle.std.proofs.lemmas.Bool.{cases_Bool, cases_lt, eq-eqb, eqb-true, ne_eqb, lt-ltb, le-ltb, le-leb, lt-leb}
+use Rattle.std.proofs.lemmas.Bool.{cases_Bool, eq-eqb, eqb-true, ne_eqb, le-leb, lt-leb}
 use Rattle.std.proofs.lemmas.Bool.{or_parts}
 use Rattle.std.proofs.lemmas.List.{length-append, length-replicate}
 use Rattle.std.proofs.lemmas.List.Elements.{All-head, All-tail}
-use Rattle.std.proofs.lemmas.List.FromFn.{sum_by-map-range_with_len_more}
 use Rattle.std.proofs.lemmas.List.Sums.{sum_by-cons}
-use Rattle.std.specs.List.{All, range_with_len}
+use Rattle.std.specs.List.{All}
 use Rattle.bm_base.specs.declared.ids.ServerId.{ServerId}
 use Rattle.bm_quota.proofs.LeastLemmas.{gives}
 use Rattle.bm_quota.proofs.RoomLemmas.{cases_room, cases_server, owned-cons, same_server-refl, total}
-use Rattle.bm_quota.specs.Rebalancing.{highest, owned, quota_at, quota_of, quotas_of, sum_below, takers}
+use Rattle.bm_quota.specs.Rebalancing.{highest, owned, quota_of, sum_below, takers}
 use Rattle.bm_quota.specs.Inside.Rooms.{given, kept, left}
 use Rattle.bm_table.specs.Settings.{RiseFrom}
 use Rattle.bm_table.specs.Tables.{is_among, same_server}
@@ -362,23 +361,3 @@ gives-sum_below room (o ∷ owners) n h =
 
     given_other : (s : ServerId) → same_server o s ≡ false → owned (o ∷ owners) s - room s ≡ owned owners s - room s
     given_other s f = rw f refl
-
--- the quotas make up all buckets
-sum-quotas_below : (buckets servers k : ℕ)
-    → sum (map (quota_at buckets servers) (range_with_len 0 k)) ≡ k * (buckets / servers) + min k (buckets % servers)
-sum-quotas_below buckets servers zero = omega arith
-sum-quotas_below buckets servers (suc k) =
-    let old : sum (map (quota_at buckets servers) (range_with_len 0 k))
-    ≡ k * (buckets / servers) + min k (buckets % servers) = sum-quotas_below buckets servers k
-    in let more' : sum (map (quota_at buckets servers) (range_with_len 0 (k + 1)))
-    ≡ sum (map (quota_at buckets servers) (range_with_len 0 k)) + quota_at buckets servers k
-    = sum_by-map-range_with_len_more (λ x. x) (quota_at buckets servers) 0 k k (omega arith)
-    in let next : k + 1 ≡ suc k = omega arith
-    in ap (λ n. sum (map (quota_at buckets servers) (range_with_len 0 n))) (sym next) ∙ more'
-    ∙ elim (cases_lt k (buckets % servers)) [
-      | inl below ↦ let t : ltb k (buckets % servers) ≡ true = lt-ltb _ _ below in rw t (omega arith)
-      | inr above ↦ let t : ltb k (buckets % servers) ≡ false = le-ltb _ _ above in rw t (omega arith)
-    ]
-
-pub sum-quotas_of : (buckets servers : ℕ) → 0 < servers → sum (quotas_of buckets servers) ≡ buckets
-sum-quotas_of buckets servers h = sum-quotas_below buckets servers servers ∙ omega arith

@@ -1,17 +1,16 @@
 -- One turn of each loop.
-use Rattle.std.proofs.Common.{◌≡◌, ℕ, ◌+◌, ◌-◌, ◌/◌, ◌%◌, ◌<◌, ◌≤◌, true, false, cond, ltb, List, [], ◌∷◌, ◌++◌, length}
+use Rattle.std.proofs.Common.{◌≡◌, ℕ, ◌+◌, ◌-◌, ◌<◌, ◌≤◌, true, false, ltb, List, [], ◌∷◌, ◌++◌, length}
 use Rattle.std.proofs.Common.{map, inl, inr, refl, ap, sym, ◌∙◌, subst, arith, replicate, get_or, drop, append_assoc}
 use Rattle.std.proofs.Math.ListN.{set}
 use Rattle.std.proofs.lemmas.Bool.{cases_lt, eqb-true, ltb-false}
 use Rattle.std.proofs.lemmas.List.{at_drop_more, at_drop_all, get_or-set_same, get_or-set_other, get_or-replicate}
 use Rattle.std.proofs.lemmas.List.{get_or_past, length-replicate}
-use Rattle.std.proofs.lemmas.List.FromFn.{map-range_with_len_more}
-use Rattle.std.specs.List.{range_with_len, zip}
+use Rattle.std.specs.List.{zip}
 use Rattle.bm_base.specs.declared.ids.ServerId.{ServerId}
 use Rattle.bm_quota.proofs.QuotaLemmas.{first_not_among, quota_of-outside}
 use Rattle.bm_quota.proofs.Rebalanced.{rebalancing-rooms}
 use Rattle.bm_quota.proofs.RoomLemmas.{cases_server}
-use Rattle.bm_quota.specs.Rebalancing.{moves_to, quota_at, quota_of, rebalancing, takers}
+use Rattle.bm_quota.specs.Rebalancing.{moves_to, quota_of, rebalancing, takers}
 use Rattle.bm_quota.specs.Inside.Rooms.{given, kept, left, room_in}
 use Rattle.bm_table.specs.Settings.{RiseFrom}
 use Rattle.bm_table.specs.Tables.{same_server}
@@ -206,16 +205,6 @@ AreRooms-end active quotas rooms i h are s =
     at_drop_all (λ (xs : List ServerId). quota_of xs (drop i quotas) s) active i h
     in let e : room_in rooms s + quota_of (drop i active) (drop i quotas) s ≡ quota_of active quotas s = are.each s
     in omega arith
-
-pub quotas_more : (buckets servers i extra : ℕ) (so_far longer : List ℕ)
-    → so_far ≡ map (quota_at buckets servers) (range_with_len 0 i)
-    → longer ≡ so_far ++ (buckets / servers + extra) ∷ [] → extra ≡ cond (ltb i (buckets % servers)) 1 0
-    → longer ≡ map (quota_at buckets servers) (range_with_len 0 (i + 1))
-quotas_more buckets servers i extra so_far longer e l x =
-    l
-    ∙ ap (λ (xs : List ℕ). xs ++ (buckets / servers + extra) ∷ []) e
-    ∙ ap (λ n. map (quota_at buckets servers) (range_with_len 0 i) ++ (buckets / servers + n) ∷ []) x
-    ∙ sym (map-range_with_len_more (quota_at buckets servers) 0 i i (omega arith))
 
 -- the buckets that were given and the servers that take them are those of the rule
 pub chosen : (owner active : List ServerId) (quotas rooms lefts buckets : List ℕ) (servers : List ServerId)

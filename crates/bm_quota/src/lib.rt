@@ -1,6 +1,7 @@
 //! Quotas, and the shortest list of moves that meets them.
 #![tactic(auto)]
 
+pub mod laws;
 mod rebalance;
 mod refusal;
 mod share;

@@ -148,12 +148,12 @@ tables-end vs i total le so_far = rw (← so_far, drop_all i vs le) refl
 
 -- KEYS
 
-module _ (keys : List Key) (all : List Entry) where
+module _ (version : ℕ) (keys : List Key) (all : List Entry) where
   pub unknown-more : {A : Type 0} (shows : A → Entry) (xs : List A) (x : A)
       → (length xs < length all) × (slice_get all (length xs) ≡ Some (shows x))
-      → is_key keys (string_bytes (shows x).0) ≡ true
-      → first_unknown keys (members_view (drop (length (xs ++ x ∷ [])) all))
-      ≡ first_unknown keys (members_view (drop (length xs) all))
+      → is_key version keys (string_bytes (shows x).0) ≡ true
+      → first_unknown version keys (members_view (drop (length (xs ++ x ∷ [])) all))
+      ≡ first_unknown version keys (members_view (drop (length xs) all))
   unknown-more shows xs x at known =
       rw (
         length-append xs (x ∷ []),
@@ -162,7 +162,7 @@ module _ (keys : List Key) (all : List Entry) where
         known,
       ) refl
 
-  pub unknown-end : (n : ℕ) → n ≡ length all → None ≡ first_unknown keys (members_view (drop n all))
+  pub unknown-end : (n : ℕ) → n ≡ length all → None ≡ first_unknown version keys (members_view (drop n all))
   unknown-end n is = rw (drop_all n all (omega (arith, is))) refl
 
 -- FAULT ROWS

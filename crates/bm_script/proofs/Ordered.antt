@@ -11,19 +11,24 @@ use Rattle.bm_base.specs.declared.ids.ServerId.{ServerId}
 use Rattle.bm_controller.proofs.MemberPlans.{knows-push}
 use Rattle.bm_controller.specs.Commands as controller
 use Rattle.bm_controller.specs.Commands.{first_refusal, limits, when}
-use Rattle.bm_controller.specs.Membership.{is_active, active_now, knows}
+use Rattle.bm_controller.specs.Commands.Command.{AddServer, DrainServer, WeighServer, MoveBucket}
+use Rattle.bm_controller.specs.Controlled.{is_member, Controlled}
+use Rattle.bm_controller.specs.declared.members.Member.{Member}
+use Rattle.bm_controller.specs.Membership.{knows}
 use Rattle.bm_quota.specs.declared.refusal.Refusal.{Refusal}
 use Rattle.bm_quota.specs.declared.refusal.Refusal.TheVariants.{KnownServer, UnknownServer, NotActive, LastServer}
 use Rattle.bm_quota.specs.declared.refusal.Refusal.TheVariants.{BadBucket, SameServer, StampFell, TooMany}
 use Rattle.bm_script.specs.declared.commands.Verb.{Verb}
-use Rattle.bm_script.specs.declared.commands.Verb.TheVariants.{Add, Drain, Move, Close, Retire, Sync}
+use Rattle.bm_script.specs.declared.commands.Verb.TheVariants.{Add, Drain, Move, Close, Retire, Sync, Weigh}
+use Rattle.bm_script.specs.declared.fault.Place.{Place}
 use Rattle.bm_script.specs.declared.fault.Place.TheVariants as at_
 use Rattle.bm_script.specs.declared.fault.ScriptFault.TheVariants.{Refused}
 use Rattle.bm_script.specs.declared.key.Key.TheVariants as key
 use Rattle.bm_script.proofs.Sound.{Any, Meets, meets-only_keys, meets-required, meets-then, meets_valued, reads-number}
 use Rattle.bm_script.proofs.Sound.{reads_any}
-use Rattle.bm_script.specs.Commands.{after_command, after_commands, carried, changed, next, with_command, Progress}
-use Rattle.bm_script.specs.Faults.{IsOfScript}
+use Rattle.bm_script.specs.Commands.{after_command, after_commands, asked_of_controller, carried, changed, next}
+use Rattle.bm_script.specs.Commands.{with_command, Progress}
+use Rattle.bm_script.specs.Faults.{required, IsOfScript}
 use Rattle.bm_script.specs.Keys.{verb_keys}
 use Rattle.bm_script.specs.Values as values
 use Rattle.bm_table.proofs.PlanLemmas.{next_change-before, next_change-last}
@@ -142,13 +147,13 @@ all_known-last plan (e ∷ commands) d h k = (h.0, all_known-last plan commands 
 -- beside the plan that was there at first
 pub record AreOrdered (first : Planned) (n : ℕ) (p : Progress) : Type 0 where
   pub few : length p.commands ≡ n
-  pub buckets : p.plan.buckets ≡ first.buckets
-  pub servers : p.plan.servers ≡ first.servers
+  pub buckets : p.controller.plan.buckets ≡ first.buckets
+  pub servers : p.controller.plan.servers ≡ first.servers
   pub last : p.last ≤ 4 * 10 ^ 18
-  pub plan_last : last_moment p.plan ≤ p.last
-  pub rise : AreRising 0 p.last (map (λ d. moment_of_command p.plan d) p.commands)
-  pub versions : NamesVersions 1 (length p.plan.changes) p.commands
-  pub of_known : AllByRecursion (λ d. IsOfKnown p.plan d) p.commands
+  pub plan_last : last_moment p.controller.plan ≤ p.last
+  pub rise : AreRising 0 p.last (map (λ d. moment_of_command p.controller.plan d) p.commands)
+  pub versions : NamesVersions 1 (length p.controller.plan.changes) p.commands
+  pub of_known : AllByRecursion (λ d. IsOfKnown p.controller.plan d) p.commands
 
 longer : (plan : Planned) (c : Change) → length (with_change plan c).changes ≡ length plan.changes + 1
 longer plan c = length_push plan.changes c
@@ -162,50 +167,52 @@ last_moment-push plan c =
     let place : length (with_change plan c).changes - 1 ≡ length plan.changes = omega (arith, longer plan c) in
     ap (λ (v : ℕ). change_moment (next_change (with_change plan c) v)) place ∙ moment-last plan c
 
-with_change-ordered : (first : Planned) (n : ℕ) (p : Progress) (c : Change) → AreOrdered first n p
+with_change-ordered : (first : Planned) (n : ℕ) (p : Progress) (members : List Member) (c : Change)
+    → AreOrdered first n p
     → IsWithin p.last (4 * 10 ^ 18) c.moment.0
     → AreOrdered first (n + 1)
     (record {
-      plan = with_change p.plan c;
+      version = p.version;
+      controller = record { plan = with_change p.controller.plan c; members = members };
       last = c.moment.0;
       commands =
-          p.commands ++ ChangeCommand (record { 0 = length p.plan.changes + 1 }) ∷ [];
+          p.commands ++ ChangeCommand (record { 0 = length p.controller.plan.changes + 1 }) ∷ [];
     })
-with_change-ordered first n p c h range =
-    let command : Command = ChangeCommand (record { 0 = length p.plan.changes + 1 }) in
-    let plan : Planned = with_change p.plan c in
+with_change-ordered first n p members c h range =
+    let command : Command = ChangeCommand (record { 0 = length p.controller.plan.changes + 1 }) in
+    let plan : Planned = with_change p.controller.plan c in
     let at_last : moment_of_command plan command ≡ c.moment.0 =
-    ap (λ (v : ℕ). change_moment (next_change plan v)) (omega arith) ∙ moment-last p.plan c in
+    ap (λ (v : ℕ). change_moment (next_change plan v)) (omega arith) ∙ moment-last p.controller.plan c in
     let moments : map (λ d. moment_of_command plan d) (p.commands ++ command ∷ [])
-    ≡ map (λ d. moment_of_command p.plan d) p.commands ++ c.moment.0 ∷ [] =
+    ≡ map (λ d. moment_of_command p.controller.plan d) p.commands ++ c.moment.0 ∷ [] =
     map-append (λ d. moment_of_command plan d) p.commands (command ∷ [])
     ∙ ap (λ (ms : List ℕ). ms ++ moment_of_command plan command ∷ [])
-    (moments-push p.plan c 1 p.commands (omega arith) h.versions)
-    ∙ ap (λ (m : ℕ). map (λ d. moment_of_command p.plan d) p.commands ++ m ∷ []) at_last in
+    (moments-push p.controller.plan c 1 p.commands (omega arith) h.versions)
+    ∙ ap (λ (m : ℕ). map (λ d. moment_of_command p.controller.plan d) p.commands ++ m ∷ []) at_last in
     record {
       few = length_push p.commands command ∙ ap (λ (k : ℕ). k + 1) h.few;
       buckets = h.buckets;
       servers = h.servers;
       last = range.1;
-      plan_last = omega (arith, last_moment-push p.plan c);
+      plan_last = omega (arith, last_moment-push p.controller.plan c);
       rise = subst (AreRising 0 c.moment.0) (sym moments)
-          (AreRising-push 0 p.last c.moment.0 (map (λ d. moment_of_command p.plan d) p.commands) h.rise (omega arith)
+          (AreRising-push 0 p.last c.moment.0 (map (λ d. moment_of_command p.controller.plan d) p.commands) h.rise (omega arith)
           range.0);
       versions =
-          subst (λ (n : ℕ). NamesVersions 1 n (p.commands ++ command ∷ [])) (sym (longer p.plan c))
-          (NamesVersions-change 1 (length p.plan.changes) p.commands h.versions);
-      of_known = all_known-last plan p.commands command (all_known-push p.plan c p.commands h.of_known) tt;
+          subst (λ (n : ℕ). NamesVersions 1 n (p.commands ++ command ∷ [])) (sym (longer p.controller.plan c))
+          (NamesVersions-change 1 (length p.controller.plan.changes) p.commands h.versions);
+      of_known = all_known-last plan p.commands command (all_known-push p.controller.plan c p.commands h.of_known) tt;
     }
 
 with_command-ordered : (first : Planned) (n : ℕ) (p : Progress) (at : ℕ) (command : Command) → AreOrdered first n p
     → IsWithin p.last (4 * 10 ^ 18) at → IsOther command
-    → moment_of_command p.plan command ≡ at → IsOfKnown p.plan command
+    → moment_of_command p.controller.plan command ≡ at → IsOfKnown p.controller.plan command
     → AreOrdered first (n + 1) (with_command p at command)
 with_command-ordered first n p at command h range other moment known =
-    let moments : map (λ d. moment_of_command p.plan d) (p.commands ++ command ∷ [])
-    ≡ map (λ d. moment_of_command p.plan d) p.commands ++ at ∷ [] =
-    map-append (λ d. moment_of_command p.plan d) p.commands (command ∷ [])
-    ∙ ap (λ (m : ℕ). map (λ d. moment_of_command p.plan d) p.commands ++ m ∷ []) moment in
+    let moments : map (λ d. moment_of_command p.controller.plan d) (p.commands ++ command ∷ [])
+    ≡ map (λ d. moment_of_command p.controller.plan d) p.commands ++ at ∷ [] =
+    map-append (λ d. moment_of_command p.controller.plan d) p.commands (command ∷ [])
+    ∙ ap (λ (m : ℕ). map (λ d. moment_of_command p.controller.plan d) p.commands ++ m ∷ []) moment in
     record {
       few = length_push p.commands command ∙ ap (λ (k : ℕ). k + 1) h.few;
       buckets = h.buckets;
@@ -213,9 +220,9 @@ with_command-ordered first n p at command h range other moment known =
       last = range.1;
       plan_last = omega (arith, h.plan_last, range.0);
       rise = subst (AreRising 0 at) (sym moments)
-          (AreRising-push 0 p.last at (map (λ d. moment_of_command p.plan d) p.commands) h.rise (omega arith) range.0);
-      versions = NamesVersions-other 1 (length p.plan.changes) p.commands command other h.versions;
-      of_known = all_known-last p.plan p.commands command h.of_known known;
+          (AreRising-push 0 p.last at (map (λ d. moment_of_command p.controller.plan d) p.commands) h.rise (omega arith) range.0);
+      versions = NamesVersions-other 1 (length p.controller.plan.changes) p.commands command other h.versions;
+      of_known = all_known-last p.controller.plan p.commands command h.of_known known;
     }
 
 -- REFUSALS
@@ -242,23 +249,67 @@ refuses-limits plan when_ count le =
     (λ n r e. refuses-when (nat_le 4096 (length plan.changes)) (TooMany Changes) _ (λ m. tt)
     (refuses-when (nat_lt 1000000 (total_moves plan.changes + count)) (TooMany Moves) [] (λ m. tt) refuses-none) n r e)
 
-changed-ordered : (first : Planned) (n : ℕ) (p : Progress) (at : ℕ) (c : Change) (refusals : List (Option Refusal))
-    (answer : Option Refusal) → AreOrdered first n p → IsWithin p.last (4 * 10 ^ 18) at → c.moment.0 ≡ at
-    → Refuses refusals → first_refusal refusals ≡ answer → Meets (AreOrdered first (n + 1)) (changed p at c answer)
-changed-ordered first n p at c refusals (Some refusal) h range moment refuses e = refuses (next p) refusal e
-changed-ordered first n p at c refusals None h range moment refuses e =
+-- the change of a command is at its moment
+moment-change : (c : Controlled) (at : Moment) (command : controller.Command)
+    → (controller.change_of c at command).moment ≡ at
+moment-change c at (AddServer s weight) = refl
+moment-change c at (DrainServer s) = refl
+moment-change c at (WeighServer s weight) = refl
+moment-change c at (MoveBucket bucket s) = refl
+
+refuses-active : (c : Controlled) (s : ServerId) (refusals : List (Option Refusal)) → Refuses refusals
+    → Refuses (controller.unless_active c s ++ refusals)
+refuses-active c s refusals more =
+    refuses-when (not (knows c.plan s)) UnknownServer _ (λ n. tt)
+    (refuses-when (not (is_member c.members s)) NotActive refusals (λ n. tt) more)
+
+refuses-command : (c : Controlled) (at : Moment) (command : controller.Command) (count : ℕ) → last_moment c.plan ≤ at.0
+    → Refuses (controller.unfit c command ++ limits c.plan at count)
+refuses-command c at_ (AddServer s weight) count le =
+    refuses-when (knows c.plan s) KnownServer _ (λ n. tt) (refuses-limits c.plan at_ count le)
+refuses-command c at_ (DrainServer s) count le =
+    refuses-active c s (when (nat_le (length c.members) 1) LastServer ∷ limits c.plan at_ count)
+    (refuses-when (nat_le (length c.members) 1) LastServer _ (λ n. tt) (refuses-limits c.plan at_ count le))
+refuses-command c at_ (WeighServer s weight) count le =
+    refuses-active c s (limits c.plan at_ count) (refuses-limits c.plan at_ count le)
+refuses-command c at_ (MoveBucket bucket s) count le =
+    refuses-when (nat_le c.plan.buckets bucket) BadBucket _ (λ n. tt)
+    (refuses-active c s (when (same_server (server_now c.plan bucket) s) SameServer ∷ limits c.plan at_ count)
+    (refuses-when (same_server (server_now c.plan bucket) s) SameServer _ (λ n. tt)
+    (refuses-limits c.plan at_ count le)))
+
+changed-ordered : (first : Planned) (n : ℕ) (p : Progress) (at : ℕ) (command : controller.Command)
+    (answer : Option Refusal) → AreOrdered first n p → IsWithin p.last (4 * 10 ^ 18) at
+    → ((k : ℕ) (r : Refusal) → answer ≡ Some r → IsOfScript (Refused k r))
+    → Meets (AreOrdered first (n + 1)) (changed p at command answer)
+changed-ordered first n p at command (Some refusal) h range refuses = refuses (next p) refusal refl
+changed-ordered first n p at command None h range refuses =
+    let c = controller.change_of p.controller (record { 0 = at }) command in
+    let moment : c.moment.0 ≡ at =
+    ap (λ (m : Moment). m.0) (moment-change p.controller (record { 0 = at }) command) in
     subst (λ (m : ℕ). AreOrdered first (n + 1)
     (record {
-      plan = with_change p.plan c;
+      version = p.version;
+      controller = controller.after p.controller (record { 0 = at }) command;
       last = m;
       commands =
-          p.commands ++ ChangeCommand (record { 0 = length p.plan.changes + 1 }) ∷ [];
+          p.commands ++ ChangeCommand (record { 0 = length p.controller.plan.changes + 1 }) ∷ [];
     })) moment
-    (with_change-ordered first n p c h (subst (IsWithin p.last (4 * 10 ^ 18)) (sym moment) range))
+    (with_change-ordered first n p (controller.members_after command p.controller.members) c h
+    (subst (IsWithin p.last (4 * 10 ^ 18)) (sym moment) range))
+
+asked_of_controller-ordered : (first : Planned) (n : ℕ) (p : Progress) (at : ℕ) (command : controller.Command)
+    → AreOrdered first n p → IsWithin p.last (4 * 10 ^ 18) at
+    → Meets (AreOrdered first (n + 1)) (asked_of_controller p at command)
+asked_of_controller-ordered first n p at command h range =
+    changed-ordered first n p at command _ h range
+    (refuses-command p.controller (record { 0 = at }) command
+    (length (controller.change_of p.controller (record { 0 = at }) command).moves)
+    (omega (arith, h.plan_last, range.0)))
 
 asked_of_known-ordered : (first : Planned) (n : ℕ) (p : Progress) (at : ℕ) (s : ServerId) (command : Command)
     (known : Bool) → AreOrdered first n p → IsWithin p.last (4 * 10 ^ 18) at → IsOther command
-    → moment_of_command p.plan command ≡ at → (known ≡ true → IsOfKnown p.plan command)
+    → moment_of_command p.controller.plan command ≡ at → (known ≡ true → IsOfKnown p.controller.plan command)
     → Meets (AreOrdered first (n + 1))
     (cond known (Ok (with_command p at command)) (Err (Refused (next p) UnknownServer)))
 asked_of_known-ordered first n p at s command true h range other moment known =
@@ -267,49 +318,37 @@ asked_of_known-ordered first n p at s command false h range other moment known =
 
 -- A COMMAND
 
+meets-added : (place : Place) (inside : Members) (stated : Bool)
+    → Meets Any (cond stated (required place key.Weight values.weight inside) (Ok 1))
+meets-added place inside true = meets-required place key.Weight values.weight Any inside (reads_any values.weight)
+meets-added place inside false = tt
+
 carried-ordered : (first : Planned) (n : ℕ) (p : Progress) (at : ℕ) (verb : Verb) (inside : Members)
     → AreOrdered first n p → IsWithin p.last (4 * 10 ^ 18) at
     → Meets (AreOrdered first (n + 1)) (carried p at verb inside)
 carried-ordered first n p at Add inside h range =
     meets-then Any (AreOrdered first (n + 1)) _ _
     (meets-required (at_.Command (next p)) key.Server values.server Any inside (reads_any values.server)) λ s _.
-    let c = controller.addition p.plan (record { 0 = at }) s in
-    changed-ordered first n p at c (when (knows p.plan s) KnownServer ∷ limits p.plan c.moment (length c.moves)) _ h
-    range refl
-    (refuses-when (knows p.plan s) KnownServer _ (λ n. tt)
-    (refuses-limits p.plan c.moment (length c.moves) (omega (arith, h.plan_last, range.0)))) refl
+    meets-then Any (AreOrdered first (n + 1)) _ _
+    (meets-added (at_.Command (next p)) inside (nat_le 2 p.version)) λ weight _.
+    asked_of_controller-ordered first n p at (AddServer s weight) h range
 carried-ordered first n p at Drain inside h range =
     meets-then Any (AreOrdered first (n + 1)) _ _
     (meets-required (at_.Command (next p)) key.Server values.server Any inside (reads_any values.server)) λ s _.
-    let c = controller.removal p.plan (record { 0 = at }) s in
-    changed-ordered first n p at c
-    (when (not (knows p.plan s)) UnknownServer ∷ when (not (is_active p.plan s)) NotActive ∷ when
-    (nat_le (length (active_now p.plan)) 1) LastServer ∷ limits p.plan c.moment (length c.moves)) _ h range refl
-    (refuses-when (not (knows p.plan s)) UnknownServer _ (λ n. tt)
-    (refuses-when (not (is_active p.plan s)) NotActive _ (λ n. tt)
-    (refuses-when (nat_le (length (active_now p.plan)) 1) LastServer _ (λ n. tt)
-    (refuses-limits p.plan c.moment (length c.moves) (omega (arith, h.plan_last, range.0)))))) refl
+    asked_of_controller-ordered first n p at (DrainServer s) h range
+carried-ordered first n p at Weigh inside h range =
+    meets-then Any (AreOrdered first (n + 1)) _ _
+    (meets-required (at_.Command (next p)) key.Server values.server Any inside (reads_any values.server)) λ s _.
+    meets-then Any (AreOrdered first (n + 1)) _ _
+    (meets-required (at_.Command (next p)) key.Weight values.weight Any inside (reads_any values.weight)) λ weight _.
+    asked_of_controller-ordered first n p at (WeighServer s weight) h range
 carried-ordered first n p at Move inside h range =
     meets-then Any (AreOrdered first (n + 1)) _ _
     (meets-required (at_.Command (next p)) key.Bucket (values.number 0 65535) Any inside
     (reads_any (values.number 0 65535))) λ bucket _.
     meets-then Any (AreOrdered first (n + 1)) _ _
     (meets-required (at_.Command (next p)) key.Server values.server Any inside (reads_any values.server)) λ s _.
-    let c = controller.shift_of (record { 0 = at }) bucket s in
-    let home = when (same_server (server_now p.plan bucket) s) SameServer in
-    let inactive = when (not (is_active p.plan s)) NotActive in
-    let unknown = when (not (knows p.plan s)) UnknownServer in
-    changed-ordered first n p at c
-    (when (nat_le p.plan.buckets bucket) BadBucket ∷ unknown ∷ inactive ∷ home ∷ limits p.plan c.moment
-    (length c.moves)) _ h range refl
-    (refuses-when (nat_le p.plan.buckets bucket) BadBucket
-    (unknown ∷ inactive ∷ home ∷ limits p.plan c.moment (length c.moves)) (λ k. tt)
-    (refuses-when (not (knows p.plan s)) UnknownServer (inactive ∷ home ∷ limits p.plan c.moment (length c.moves))
-    (λ k. tt)
-    (refuses-when (not (is_active p.plan s)) NotActive (home ∷ limits p.plan c.moment (length c.moves)) (λ k. tt)
-    (refuses-when (same_server (server_now p.plan bucket) s) SameServer (limits p.plan c.moment (length c.moves))
-    (λ k. tt)
-    (refuses-limits p.plan c.moment (length c.moves) (omega (arith, h.plan_last, range.0))))))) refl
+    asked_of_controller-ordered first n p at (MoveBucket bucket s) h range
 carried-ordered first n p at Close inside h range =
     meets-then Any (AreOrdered first (n + 1)) _ _
     (meets-required (at_.Command (next p)) key.Server values.server Any inside (reads_any values.server)) λ s _.
@@ -319,11 +358,11 @@ carried-ordered first n p at Close inside h range =
     meets-then Any (AreOrdered first (n + 1)) _ _
     (meets-required (at_.Command (next p)) key.To values.endpoint_value Any inside
     (reads_any values.endpoint_value)) λ to _.
-    asked_of_known-ordered first n p at s _ (knows p.plan s) h range tt refl (λ known. known)
+    asked_of_known-ordered first n p at s _ (knows p.controller.plan s) h range tt refl (λ known. known)
 carried-ordered first n p at Retire inside h range =
     meets-then Any (AreOrdered first (n + 1)) _ _
     (meets-required (at_.Command (next p)) key.Server values.server Any inside (reads_any values.server)) λ s _.
-    asked_of_known-ordered first n p at s _ (knows p.plan s) h range tt refl (λ known. known)
+    asked_of_known-ordered first n p at s _ (knows p.controller.plan s) h range tt refl (λ known. known)
 carried-ordered first n p at Sync inside h range =
     with_command-ordered first n p at (SyncCommand (record { 0 = at })) h range tt refl tt
 
@@ -334,9 +373,10 @@ after_command-ordered first n p inside h =
     (meets-required (at_.Command (next p)) key.At (values.number p.last (4 * 10 ^ 18)) (IsWithin p.last (4 * 10 ^ 18))
     inside (reads-number p.last (4 * 10 ^ 18))) λ at range.
     meets-then Any (AreOrdered first (n + 1)) _ _
-    (meets-required (at_.Command (next p)) key.Do values.verb Any inside (reads_any values.verb)) λ verb _.
-    meets-then Any (AreOrdered first (n + 1)) _ _ (meets-only_keys (at_.Command (next p)) (verb_keys verb) inside)
-    λ only _.
+    (meets-required (at_.Command (next p)) key.Do (values.verb p.version) Any inside
+    (reads_any (values.verb p.version))) λ verb _.
+    meets-then Any (AreOrdered first (n + 1)) _ _
+    (meets-only_keys (at_.Command (next p)) p.version (verb_keys verb) inside) λ only _.
     carried-ordered first n p at verb inside h range
 
 -- THE COMMANDS

@@ -16,11 +16,12 @@ use Rattle.bm_script.specs.declared.key.Key.TheVariants as key
 use Rattle.bm_script.specs.Commands.{row_of, rows_from}
 use Rattle.bm_script.specs.Faults.{◌>>=◌, IsOfScript, none_unknown, of_optional, only_keys, optional, required, valued}
 use Rattle.bm_script.specs.Keys.{first_unknown, row_keys, value_at}
-use Rattle.bm_script.specs.Scripts.{setting_of}
+use Rattle.bm_script.specs.Inside.Openings.{IsOpening}
+use Rattle.bm_script.specs.Scripts.{opening_of}
 use Rattle.bm_script.specs.Values as values
 use Rattle.bm_table.proofs.SettingLemmas.{IsSetting-plain_setting}
 use Rattle.bm_table.specs.declared.setting.FaultRow.{FaultRow}
-use Rattle.bm_table.specs.Settings.{plain_setting, seconds, IsFaultRow, IsSetting, IsWithin, RiseFrom}
+use Rattle.bm_table.specs.Settings.{plain_setting, seconds, IsFaultRow, IsWithin, RiseFrom}
 
 -- a value that satisfies P, or a fault that a script may have
 abbrev pub Meets : {A : Type 0} → (A → Type 0) → Result A ScriptFault → Type 0
@@ -74,8 +75,9 @@ meets-none_unknown : (place : Place) (name : Option (List ℕ)) → Meets Any (n
 meets-none_unknown place None = tt
 meets-none_unknown place (Some name) = tt
 
-pub meets-only_keys : (place : Place) (keys : List Key) (inside : Members) → Meets Any (only_keys place keys inside)
-meets-only_keys place keys inside = meets-none_unknown place (first_unknown keys inside)
+pub meets-only_keys : (place : Place) (version : ℕ) (keys : List Key) (inside : Members)
+    → Meets Any (only_keys place version keys inside)
+meets-only_keys place version keys inside = meets-none_unknown place (first_unknown version keys inside)
 
 -- NUMBERS
 
@@ -217,62 +219,87 @@ no_lags (suc n) =
     let more =
     no_lags n in (ap suc more.0, All-cons (λ (lag : ℕ). lag ≤ seconds 86400) 0 (replicate n 0) (omega arith) more.1)
 
--- THE SETTING
+-- as many weights as servers
+abbrev pub AreWeights : ℕ → List ℕ → Type 0
+AreWeights servers weights = (length weights ≡ servers) × All (IsWithin 1 1000) weights
 
-pub setting-sound : (inside : Members) → Meets IsSetting (setting_of inside)
-setting-sound inside =
-    meets-then (IsWithin 1 1) IsSetting _ _
-    (meets-optional key.Version 1 (values.number 1 1) (IsWithin 1 1) inside (omega arith, omega arith)
-    (reads-number 1 1)) λ version _.
-    meets-then (IsWithin 1 65536) IsSetting _ _
+reads-weights : (servers : ℕ) → Reads (values.weights servers) (AreWeights servers)
+reads-weights servers d weights e =
+    let (items, is, after) = some-then (values.items_from servers servers d) (values.each values.weight) weights e in
+    let many = reads-items_from servers servers d items is in
+    let read = reads-each values.weight (IsWithin 1 1000) (reads-number 1 1000) items weights after in
+    (omega (arith, many.0, many.1, read.count), read.each)
+
+plain_weights : (servers : ℕ) → AreWeights servers (replicate servers 1)
+plain_weights zero = (refl, All-nil (IsWithin 1 1000))
+plain_weights (suc n) =
+    let more = plain_weights n in
+    (ap suc more.0, All-cons (IsWithin 1 1000) 1 (replicate n 1) (omega arith, omega arith) more.1)
+
+-- THE OPENING
+
+pub opening-sound : (inside : Members) → Meets IsOpening (opening_of inside)
+opening-sound inside =
+    meets-then (IsWithin 1 2) IsOpening _ _
+    (meets-optional key.Version 1 (values.number 1 2) (IsWithin 1 2) inside (omega arith, omega arith)
+    (reads-number 1 2)) λ version _.
+    meets-then (IsWithin 1 65536) IsOpening _ _
     (meets-optional key.Buckets plain_setting.buckets (values.number 1 65536) (IsWithin 1 65536) inside
     IsSetting-plain_setting.buckets (reads-number 1 65536)) λ buckets is_buckets.
-    meets-then (λ ss. IsWithin 1 1024 (length ss) × RiseFrom 1 ss × All (λ s. s.0 ≤ 1024) ss) IsSetting _ _
+    meets-then (λ ss. IsWithin 1 1024 (length ss) × RiseFrom 1 ss × All (λ s. s.0 ≤ 1024) ss) IsOpening _ _
     (meets-optional key.Servers plain_setting.servers values.servers _ inside
     (IsSetting-plain_setting.servers, IsSetting-plain_setting.rising, IsSetting-plain_setting.numbers)
     reads-servers) λ servers are_servers.
-    meets-then (IsWithin 1 64) IsSetting _ _
+    meets-then (AreWeights (length servers)) IsOpening _ _
+    (meets-optional key.Weights (replicate (length servers) 1) (values.weights (length servers))
+    (AreWeights (length servers)) inside (plain_weights (length servers)) (reads-weights (length servers))) λ weights
+    are_weights.
+    meets-then (IsWithin 1 64) IsOpening _ _
     (meets-optional key.Muxes plain_setting.muxes (values.number 1 64) (IsWithin 1 64) inside
     IsSetting-plain_setting.muxes (reads-number 1 64)) λ muxes is_muxes.
-    meets-then (IsWithin 1 64) IsSetting _ _
+    meets-then (IsWithin 1 64) IsOpening _ _
     (meets-optional key.Shards plain_setting.shards (values.number 1 64) (IsWithin 1 64) inside
     IsSetting-plain_setting.shards (reads-number 1 64)) λ shards is_shards.
-    meets-then (IsWithin 1 65536) IsSetting _ _
+    meets-then (IsWithin 1 65536) IsOpening _ _
     (meets-optional key.Capacity plain_setting.capacity (values.number 1 65536) (IsWithin 1 65536) inside
     IsSetting-plain_setting.capacity (reads-number 1 65536)) λ capacity is_capacity.
-    meets-then (IsWithin 1 86400) IsSetting _ _
+    meets-then (IsWithin 1 86400) IsOpening _ _
     (meets-optional key.Timeout 240 (values.number 1 86400) (IsWithin 1 86400) inside (omega arith, omega arith)
     (reads-number 1 86400)) λ timeout is_timeout.
-    meets-then (λ vs. IsWithin 1 64 (length vs) × All (λ v. 1 ≤ v.port) vs) IsSetting _ _
+    meets-then (λ vs. IsWithin 1 64 (length vs) × All (λ v. 1 ≤ v.port) vs) IsOpening _ _
     (meets-optional key.Vips plain_setting.vips values.vips _ inside
     (IsSetting-plain_setting.vips, IsSetting-plain_setting.ports) reads-vips) λ vips are_vips.
-    meets-then Any IsSetting _ _
+    meets-then Any IsOpening _ _
     (meets-optional key.Route plain_setting.route values.route Any inside tt (reads_any values.route)) λ route _.
-    meets-then (AreLags muxes) IsSetting _ _
+    meets-then (AreLags muxes) IsOpening _ _
     (meets-optional key.Lags (replicate muxes 0) (values.lags muxes) (AreLags muxes) inside (no_lags muxes)
     (reads-lags muxes)) λ lags are_lags.
     record {
-      buckets = is_buckets;
-      servers = are_servers.0;
-      rising = are_servers.1;
-      numbers = are_servers.2;
-      muxes = is_muxes;
-      shards = is_shards;
-      capacity = is_capacity;
-      timeout = (omega (arith, is_timeout.0), omega (arith, is_timeout.1));
-      vips = are_vips.0;
-      ports = are_vips.1;
-      lag_of_each = are_lags.0;
-      lags = are_lags.1;
-      rows = omega arith;
-      faults = All-nil IsFaultRow;
+      count = are_weights.0;
+      weights = are_weights.1;
+      setting = record {
+        buckets = is_buckets;
+        servers = are_servers.0;
+        rising = are_servers.1;
+        numbers = are_servers.2;
+        muxes = is_muxes;
+        shards = is_shards;
+        capacity = is_capacity;
+        timeout = (omega (arith, is_timeout.0), omega (arith, is_timeout.1));
+        vips = are_vips.0;
+        ports = are_vips.1;
+        lag_of_each = are_lags.0;
+        lags = are_lags.1;
+        rows = omega arith;
+        faults = All-nil IsFaultRow;
+      };
     }
 
 -- FAULT ROWS
 
 row-sound : (n : ℕ) (inside : Members) → Meets IsFaultRow (row_of n inside)
 row-sound n inside =
-    meets-then Any IsFaultRow _ _ (meets-only_keys (at_.Fault n) row_keys inside) λ only _.
+    meets-then Any IsFaultRow _ _ (meets-only_keys (at_.Fault n) 1 row_keys inside) λ only _.
     meets-then (IsWithin 1 200000) IsFaultRow _ _
     (meets-required (at_.Fault n) key.Packet (values.number 1 200000) (IsWithin 1 200000) inside
     (reads-number 1 200000)) λ packet is_packet.

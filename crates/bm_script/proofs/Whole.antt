@@ -7,14 +7,16 @@ use Rattle.bm_base.specs.Captures.{AreRising}
 use Rattle.bm_controller.specs.Membership.{KeepsMembership}
 use Rattle.bm_script.proofs.Ordered.{commands-ordered, AreOrdered, AreRising-higher}
 use Rattle.bm_script.proofs.Sound.{Any, AreRows, Meets, meets-only_keys, meets-tables, meets-then, rows-sound}
-use Rattle.bm_script.proofs.Sound.{setting-sound}
+use Rattle.bm_script.proofs.Sound.{opening-sound}
 use Rattle.bm_script.specs.declared.fault.Place.TheVariants.{Top}
 use Rattle.bm_script.specs.declared.fault.ScriptFault.{ScriptFault}
 use Rattle.bm_script.specs.declared.fault.ScriptFault.TheVariants.{NotToml, Missing, BadValue, Unknown, Refused, Memory}
 use Rattle.bm_script.specs.declared.key.Key.TheVariants as key
 use Rattle.bm_script.specs.Faults.{Gives, IsOfScript}
 use Rattle.bm_script.specs.Keys.{top_keys}
-use Rattle.bm_script.specs.Scripts.{of_tree, opened, script_in, script_of, tree_of}
+use Rattle.bm_script.specs.declared.top.Opening.{Opening}
+use Rattle.bm_script.specs.Inside.Openings.{IsOpening}
+use Rattle.bm_script.specs.Scripts.{of_tree, opened, script_in, script_of, script_with, tree_of, version_of}
 use Rattle.bm_script.specs.Values as values
 use Rattle.bm_table.specs.declared.script.Script.{Script}
 use Rattle.bm_table.specs.declared.setting.FaultRow.{FaultRow}
@@ -32,8 +34,9 @@ pub record IsRead (script : Script) : Type 0 where
   pub versions : NamesVersions 1 (length script.plan.changes) script.commands
   pub of_known : AllByRecursion (λ c. IsOfKnown script.plan c) script.commands
 
-opened-ordered : (setting : Setting) → AreOrdered (opened setting).plan 0 (opened setting)
-opened-ordered setting = record {
+opened-ordered : (version : ℕ) (opening : Opening)
+    → AreOrdered (opened version opening).controller.plan 0 (opened version opening)
+opened-ordered version opening = record {
   few = refl;
   buckets = refl;
   servers = refl;
@@ -63,28 +66,31 @@ with_rows setting items rows h few are = record {
   faults = are.0;
 }
 
-read-tree : (inside : Members) → Meets IsRead (script_in inside)
-read-tree inside =
-    meets-then Any IsRead _ _ (meets-only_keys Top top_keys inside) λ only _.
-    meets-then IsSetting IsRead _ _ (setting-sound inside) λ setting is_setting.
+read-with : (version : ℕ) (inside : Members) → Meets IsRead (script_with version inside)
+read-with version inside =
+    meets-then Any IsRead _ _ (meets-only_keys Top version top_keys inside) λ only _.
+    meets-then IsOpening IsRead _ _ (opening-sound inside) λ opening is_opening.
     meets-then (λ items. values.count items ≤ 4096) IsRead _ _ (meets-tables key.Fault 4096 inside) λ fault_tables
     few_rows.
     meets-then (λ items. values.count items ≤ 65536) IsRead _ _ (meets-tables key.Command 65536 inside) λ command_tables
     few.
     meets-then (AreRows fault_tables) IsRead _ _ (rows-sound 1 fault_tables) λ rows are_rows.
-    meets-then (AreOrdered (opened setting).plan (values.count command_tables)) IsRead _ _
-    (commands-ordered (opened setting).plan 0 (values.count command_tables) (opened setting) command_tables
-    (omega arith) (opened-ordered setting)) λ p are.
+    meets-then (AreOrdered (opened version opening).controller.plan (values.count command_tables)) IsRead _ _
+    (commands-ordered (opened version opening).controller.plan 0 (values.count command_tables) (opened version opening)
+    command_tables (omega arith) (opened-ordered version opening)) λ p are.
     record {
-      setting = with_rows setting fault_tables rows is_setting few_rows are_rows;
+      setting = with_rows opening.setting fault_tables rows is_opening.setting few_rows are_rows;
       buckets = are.buckets;
       servers = are.servers;
       few = omega (arith, are.few);
-      rise = AreRising-higher 0 p.last (4 * 10 ^ 18) (map (λ c. moment_of_command p.plan c) p.commands) are.rise
-          are.last;
+      rise = AreRising-higher 0 p.last (4 * 10 ^ 18) (map (λ c. moment_of_command p.controller.plan c) p.commands)
+          are.rise are.last;
       versions = are.versions;
       of_known = are.of_known;
     }
+
+read-tree : (inside : Members) → Meets IsRead (script_in inside)
+read-tree inside = read-with (version_of inside) inside
 
 read-of_tree : (tree : Option Members) → Meets IsRead (of_tree tree)
 read-of_tree None = tt

@@ -84,6 +84,6 @@ abbrev pub none_unknown : Place → Option (List ℕ) → Result (Unit {0}) Scri
 none_unknown place None = Ok tt
 none_unknown place (Some name) = Err (Unknown place name)
 
--- a table has no other keys than these
-abbrev pub only_keys : Place → List Key → Members → Result (Unit {0}) ScriptFault
-only_keys place keys members = none_unknown place (first_unknown keys members)
+-- a table of a script of this version has no other keys than these
+abbrev pub only_keys : Place → ℕ → List Key → Members → Result (Unit {0}) ScriptFault
+only_keys place version keys members = none_unknown place (first_unknown version keys members)

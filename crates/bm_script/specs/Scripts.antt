@@ -1,31 +1,42 @@
 -- What the text of a script means: the script, or its first fault.
-use Rattle.std.specs.Prelude.{ℕ, List, [], replicate, Option, Some, None, Result, Ok, Err}
-use Rattle.std.specs.Prelude.{if◌then◌else◌}
+use Rattle.std.specs.Prelude.{ℕ, List, [], length, replicate, Option, Some, None, Result, Ok, Err}
+use Rattle.std.specs.Prelude.{if◌then◌else◌, unwrap_or}
 use Rattle.std.specs.Str.{is_utf8}
-use Rattle.toml.specs.Data.{no_items, Members}
+use Rattle.toml.specs.Data.{Data, no_items, Members}
 use Rattle.toml.specs.Parse.{parse_document}
+use Rattle.bm_controller.specs.Controlled.{members_of}
 use Rattle.bm_script.specs.declared.fault.Place.TheVariants.{Top}
 use Rattle.bm_script.specs.declared.fault.ScriptFault.{ScriptFault}
 use Rattle.bm_script.specs.declared.fault.ScriptFault.TheVariants.{NotToml}
 use Rattle.bm_script.specs.declared.key.Key.TheVariants as key
+use Rattle.bm_script.specs.declared.top.Opening.{Opening}
 use Rattle.bm_script.specs.Commands.{Progress, after_commands, rows_from}
 use Rattle.bm_script.specs.Faults.{◌>>=◌, only_keys, optional}
-use Rattle.bm_script.specs.Keys.{top_keys}
-use Rattle.bm_script.specs.Values.{lags, number, route, servers, tables, vips}
+use Rattle.bm_script.specs.Keys.{top_keys, value_at}
+use Rattle.bm_script.specs.Values.{lags, number, route, servers, tables, vips, weights}
 use Rattle.bm_table.specs.declared.script.Script.{Script}
-use Rattle.bm_table.specs.declared.setting.Setting.{Setting}
 use Rattle.bm_table.specs.Settings.{plain_setting, seconds}
 
 -- the top table of a text; None if it isn't UTF-8, or isn't TOML
 unfoldable pub tree_of : List ℕ → Option Members
 tree_of text = if is_utf8 text then parse_document text else None
 
--- the setting that the top keys give, without fault rows
-abbrev pub setting_of : Members → Result Setting ScriptFault
-setting_of members = do
-  version ← optional key.Version 1 (number 1 1) members
+abbrev pub version_in : Option Data → ℕ
+version_in None = 1
+version_in (Some d) = unwrap_or (number 2 2 d) 1
+
+-- The version by which a script's keys are judged: 1 but where `version` is the number of a later
+-- one. So a key of a later version is unknown before a bad value of `version` is looked at.
+abbrev pub version_of : Members → ℕ
+version_of members = version_in (value_at key.Version members)
+
+-- what the top keys give: the setting without fault rows, and the servers' weights
+abbrev pub opening_of : Members → Result Opening ScriptFault
+opening_of members = do
+  version ← optional key.Version 1 (number 1 2) members
   buckets ← optional key.Buckets plain_setting.buckets (number 1 65536) members
   servers ← optional key.Servers plain_setting.servers servers members
+  weights ← optional key.Weights (replicate (length servers) 1) (weights (length servers)) members
   muxes ← optional key.Muxes plain_setting.muxes (number 1 64) members
   shards ← optional key.Shards plain_setting.shards (number 1 64) members
   capacity ← optional key.Capacity plain_setting.capacity (number 1 65536) members
@@ -34,36 +45,54 @@ setting_of members = do
   route ← optional key.Route plain_setting.route route members
   lags ← optional key.Lags (replicate muxes 0) (lags muxes) members
   Ok (record {
-    buckets = buckets;
-    servers = servers;
-    muxes = muxes;
-    shards = shards;
-    capacity = capacity;
-    timeout = seconds timeout;
-    vips = vips;
-    route = route;
-    lags = lags;
-    faults = [];
+    setting = record {
+      buckets = buckets;
+      servers = servers;
+      muxes = muxes;
+      shards = shards;
+      capacity = capacity;
+      timeout = seconds timeout;
+      vips = vips;
+      route = route;
+      lags = lags;
+      faults = [];
+    };
+    weights = weights;
   })
 
 -- what was read before the first command
-abbrev pub opened : Setting → Progress
-opened setting = record {
-  plan = record { buckets = setting.buckets; servers = setting.servers; changes = [] };
+abbrev pub opened : ℕ → Opening → Progress
+opened version opening = record {
+  version = version;
+  controller = record {
+    plan = record {
+      buckets = opening.setting.buckets;
+      servers = opening.setting.servers;
+      changes = [];
+    };
+    members = members_of opening.setting.servers opening.weights;
+  };
   last = 0;
   commands = [];
 }
 
 -- The checks are made in the order of these lines.
-abbrev pub script_in : Members → Result Script ScriptFault
-script_in members = do
-  only ← only_keys Top top_keys members
-  setting ← setting_of members
+abbrev pub script_with : ℕ → Members → Result Script ScriptFault
+script_with version members = do
+  only ← only_keys Top version top_keys members
+  opening ← opening_of members
   fault_tables ← optional key.Fault no_items (tables 4096) members
   command_tables ← optional key.Command no_items (tables 65536) members
   rows ← rows_from 1 fault_tables
-  p ← after_commands (opened setting) command_tables
-  Ok (record { setting = record setting { faults = rows }; plan = p.plan; commands = p.commands })
+  p ← after_commands (opened version opening) command_tables
+  Ok (record {
+    setting = record opening.setting { faults = rows };
+    plan = p.controller.plan;
+    commands = p.commands;
+  })
+
+abbrev pub script_in : Members → Result Script ScriptFault
+script_in members = script_with (version_of members) members
 
 abbrev pub of_tree : Option Members → Result Script ScriptFault
 of_tree None = Err NotToml

@@ -10,7 +10,7 @@ use Rattle.bm_base.specs.declared.label.Hop.TheVariants.{Direct, Chained}
 use Rattle.bm_script.specs.declared.endpoint.Endpoint.{Endpoint}
 use Rattle.bm_script.specs.declared.commands.Verb.{Verb}
 use Rattle.bm_script.specs.declared.commands.Verb.TheVariants.{Add, Drain, Move, Close, Retire}
-use Rattle.bm_script.specs.declared.commands.Verb.TheVariants.{Sync}
+use Rattle.bm_script.specs.declared.commands.Verb.TheVariants.{Sync, Weigh}
 use Rattle.bm_table.specs.declared.setting.RouteKind.{RouteKind}
 use Rattle.bm_table.specs.declared.setting.RouteKind.TheVariants.{Port, Turn}
 
@@ -30,6 +30,9 @@ number low high d = as_integer d >>= in_range low high
 
 abbrev pub server : Data → Option ServerId
 server d = option_map (λ n. record { 0 = n }) (number 1 1024 d)
+
+abbrev pub weight : Data → Option ℕ
+weight d = number 1 1000 d
 
 -- ENDPOINTS
 
@@ -104,18 +107,20 @@ hop_of word =
 abbrev pub hop : Data → Option Hop
 hop d = as_str d >>= hop_of
 
-abbrev pub verb_of : List ℕ → Option Verb
-verb_of word =
+-- what a command does; scripts of version 1 weigh no server
+abbrev pub verb_of : ℕ → List ℕ → Option Verb
+verb_of version word =
     if bytes_eq word (codes "add") then Some Add
     else if bytes_eq word (codes "drain") then Some Drain
     else if bytes_eq word (codes "move") then Some Move
     else if bytes_eq word (codes "close") then Some Close
     else if bytes_eq word (codes "retire") then Some Retire
     else if bytes_eq word (codes "sync") then Some Sync
+    else if bytes_eq word (codes "weight") && nat_le 2 version then Some Weigh
     else None
 
-abbrev pub verb : Data → Option Verb
-verb d = as_str d >>= verb_of
+abbrev pub verb : ℕ → Data → Option Verb
+verb version d = as_str d >>= verb_of version
 
 -- LISTS
 
@@ -154,6 +159,10 @@ vips d = items_from 1 64 d >>= each vip
 -- a lag for each mux, in nanoseconds, of at most a day
 abbrev pub lags : ℕ → Data → Option (List ℕ)
 lags muxes d = items_from muxes muxes d >>= each (number 0 86400000000000)
+
+-- a weight for each server
+abbrev pub weights : ℕ → Data → Option (List ℕ)
+weights servers d = items_from servers servers d >>= each weight
 
 -- TABLES
 

@@ -10,16 +10,20 @@ ghost use Rattle.bm_script.specs.Scripts.{opened};
 ghost use Rattle.bm_script.specs.Values as values;
 ghost use Rattle.bm_script.specs.declared.fault.ScriptFault.TheVariants.{Memory as memory};
 ghost use Rattle.bm_script.specs.declared.key.Key.TheVariants as key_;
-ghost use Rattle.bm_table.specs.Settings.{IsSetting};
+ghost use Rattle.bm_script.specs.Inside.Openings.{IsOpening};
+ghost use Rattle.bm_table.specs.Settings.{IsWithin};
 ghost use Rattle.toml.specs.View.{items_view, table_view, view};
 
 use crate::key::only_keys;
-use crate::value::{required, required_endpoint, required_number, required_server};
+use crate::top::Opening;
+use crate::value::{
+    required, required_endpoint, required_number, required_server, required_weight,
+};
 use crate::{Key, Place, ScriptFault};
 use bm_base::{Flow, List, Moment, ServerId, Version};
 use bm_controller::Controller;
 use bm_quota::Refusal;
-use bm_table::{Command, Plan, Setting};
+use bm_table::{Command, Plan};
 use std::alloc::Global;
 use toml::{Table, Value};
 
@@ -35,11 +39,13 @@ pub(crate) enum Verb {
     Close,
     Retire,
     Sync,
+    Weigh,
 }
 
 impl Verb {
-    fn from_word(word: &str) -> Option<Verb>
-        ensures { result ≡ values.verb_of word.now }
+    /// The verb of a word in a script of this version.
+    fn from_word(version: u8, word: &str) -> Option<Verb>
+        ensures { result ≡ values.verb_of version word.now }
     {
         match word {
             "add" => Some(Verb::Add),
@@ -48,6 +54,7 @@ impl Verb {
             "close" => Some(Verb::Close),
             "retire" => Some(Verb::Retire),
             "sync" => Some(Verb::Sync),
+            "weight" if version >= 2 => Some(Verb::Weigh),
             _ => None,
         }
     }
@@ -57,7 +64,8 @@ impl Verb {
         ensures { result.now ≡ verb_keys self }
     {
         match self {
-            Verb::Add | Verb::Drain | Verb::Retire => &[Key::At, Key::Do, Key::Server],
+            Verb::Add | Verb::Weigh => &[Key::At, Key::Do, Key::Server, Key::Weight],
+            Verb::Drain | Verb::Retire => &[Key::At, Key::Do, Key::Server],
             Verb::Move => &[Key::At, Key::Do, Key::Bucket, Key::Server],
             Verb::Close => &[Key::At, Key::Do, Key::Server, Key::From, Key::To],
             Verb::Sync => &[Key::At, Key::Do],
@@ -65,22 +73,35 @@ impl Verb {
     }
 }
 
-fn required_verb(table: &Table, place: Place) -> Result<Verb, ScriptFault>
-    ensures { result ≡ faults.required place key_.Do values.verb (table_view table.now) }
+fn required_verb(table: &Table, place: Place, version: u8) -> Result<Verb, ScriptFault>
+    ensures { result ≡ faults.required place key_.Do (values.verb version) (table_view table.now) }
 {
     let value = required(table, place, Key::Do)?;
-    verb_of(value).ok_or(ScriptFault::BadValue(place, Key::Do))
+    verb_of(version, value).ok_or(ScriptFault::BadValue(place, Key::Do))
 }
 
-fn verb_of(value: &Value) -> Option<Verb>
-    ensures { result ≡ values.verb (view value.now) }
+fn verb_of(version: u8, value: &Value) -> Option<Verb>
+    ensures { result ≡ values.verb version (view value.now) }
 {
-    Verb::from_word(value.as_str()?)
+    Verb::from_word(version, value.as_str()?)
+}
+
+/// The weight of a server that is added. A script of version 1 doesn't say it: it is 1.
+fn added_weight(table: &Table, place: Place, version: u8) -> Result<u32, ScriptFault>
+    ensures gives { result ≡ commands.added_weight version place (table_view table.now) }
+    ensures within { IfOk result (IsWithin 1 1000) }
+{
+    if version < 2 {
+        return Ok(1);
+    }
+    required_weight(table, place)
 }
 
 /// The commands read so far, and the controller that carries them out.
 #[derive(Drop)]
 pub(crate) struct Reading {
+    /// The script's version.
+    version: u8,
     controller: Controller,
     /// The moment of the last command, or 0.
     last: u64,
@@ -89,22 +110,31 @@ pub(crate) struct Reading {
     commands: Vec<Command>,
 }
 
-/// The commands of these tables, carried out on the setting's servers.
+/// The commands of these tables in a script of this version, carried out on the opening's servers.
 pub(crate) fn read_commands(
     alloc: Global,
-    setting: &Setting,
+    version: u8,
+    opening: &Opening,
     tables: &[Value],
 ) -> Result<Reading, ScriptFault>
-    requires setting { IsSetting setting.now }
+    requires setting { IsOpening opening.now }
     requires few { length tables.now ≤ 65536 }
     ensures ok { IfOk result (λ reading.
-        commands.after_commands (opened setting.now) (items_view tables.now)
+        commands.after_commands (opened version opening.now) (items_view tables.now)
         ≡ Ok (progress reading)) }
     ensures err { IfErr result (λ fault. fault ≢ memory
-        → commands.after_commands (opened setting.now) (items_view tables.now) ≡ Err fault) }
+        → commands.after_commands (opened version opening.now) (items_view tables.now)
+        ≡ Err fault) }
 {
+    let setting = &opening.setting;
     let mut reading = Reading {
-        controller: Controller::new(alloc, setting.buckets, setting.servers.items())?,
+        version,
+        controller: Controller::new(
+            alloc,
+            setting.buckets,
+            setting.servers.items(),
+            opening.weights.items(),
+        )?,
         last: 0,
         versions: 0,
         commands: Vec::new(alloc),
@@ -128,18 +158,19 @@ impl Reading {
     {
         let place = Place::Command(self.number());
         let at = required_number(table, place, Key::At, self.last, MAX_MOMENT)?;
-        let verb = required_verb(table, place)?;
-        only_keys(alloc, table, place, verb.keys())?;
+        let verb = required_verb(table, place, self.version)?;
+        only_keys(alloc, table, place, self.version, verb.keys())?;
         self.carry_out(at, verb, table)
     }
 
     /// The plan that the commands made, and the commands.
     pub(crate) fn into_parts(self) -> (Plan, List<Command>)
-        ensures plan { result.0 ≡ self.controller }
+        ensures plan { result.0 ≡ self.controller.plan }
         ensures membership { KeepsMembership result.0 }
         ensures commands { result.1 ≡ self.commands.items }
     {
         let Reading {
+            version: _,
             controller,
             last: _,
             versions: _,
@@ -169,6 +200,7 @@ impl Reading {
             Verb::Close => self.close(at, table),
             Verb::Retire => self.retire(at, table),
             Verb::Sync => self.push(at, Command::Sync { at: Moment(at) }),
+            Verb::Weigh => self.weigh(at, table),
         }
     }
 
@@ -179,8 +211,10 @@ impl Reading {
             (commands.carried (progress self.old) at Verb.Add (table_view table.now)) result }
     {
         let number = self.number();
-        let server = required_server(table, Place::Command(number))?;
-        match self.controller.add(Moment(at), server) {
+        let place = Place::Command(number);
+        let server = required_server(table, place)?;
+        let weight = added_weight(table, place, self.version)?;
+        match self.controller.add(Moment(at), server, weight) {
             Ok(()) => self.publish(at),
             Err(refusal) => Err(fault_of(number, refusal)),
         }
@@ -195,6 +229,22 @@ impl Reading {
         let number = self.number();
         let server = required_server(table, Place::Command(number))?;
         match self.controller.drain(Moment(at), server) {
+            Ok(()) => self.publish(at),
+            Err(refusal) => Err(fault_of(number, refusal)),
+        }
+    }
+
+    fn weigh(&mut self, at: u64, table: &Table) -> Result<(), ScriptFault>
+        requires few { length self.old.commands.items < 65536 }
+        requires counted { IsCounted self.old }
+        ensures { Reads self.old self.new
+            (commands.carried (progress self.old) at Verb.Weigh (table_view table.now)) result }
+    {
+        let number = self.number();
+        let place = Place::Command(number);
+        let server = required_server(table, place)?;
+        let weight = required_weight(table, place)?;
+        match self.controller.weigh(Moment(at), server, weight) {
             Ok(()) => self.publish(at),
             Err(refusal) => Err(fault_of(number, refusal)),
         }

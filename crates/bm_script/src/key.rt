@@ -10,32 +10,33 @@ use std::alloc::Global;
 use std::fmt;
 use toml::Table;
 
-/// A key of a script. Those up to Command are at its top, those up to Delay in a fault's table, and
-/// the others in a command's.
+/// A key of a script.
 #[derive(Clone, Copy, Debug, PartialEq, Eq)]
 pub enum Key {
-    Version,
+    At,
+    Bucket,
     Buckets,
-    Servers,
-    Muxes,
-    Shards,
     Capacity,
-    Timeout,
-    Vips,
-    Route,
-    Lags,
-    Fault,
     Command,
-    Packet,
-    Hop,
     Copies,
     Delay,
-    At,
     Do,
-    Server,
-    Bucket,
+    Fault,
     From,
+    Hop,
+    Lags,
+    Muxes,
+    Packet,
+    Route,
+    Server,
+    Servers,
+    Shards,
+    Timeout,
     To,
+    Version,
+    Vips,
+    Weight,
+    Weights,
 }
 
 impl Key {
@@ -66,6 +67,18 @@ impl Key {
             Key::Bucket => "bucket",
             Key::From => "from",
             Key::To => "to",
+            Key::Weight => "weight",
+            Key::Weights => "weights",
+        }
+    }
+
+    /// The first version of scripts that has the key.
+    fn since(self) -> u8
+        ensures { result ≡ known.since self }
+    {
+        match self {
+            Key::Weight | Key::Weights => 2,
+            _ => 1,
         }
     }
 }
@@ -78,16 +91,17 @@ impl fmt::Display for Key {
     }
 }
 
-/// Checks that a table has no other keys than these.
+/// Checks that a table of a script of this version has no other keys than these.
 pub(crate) fn only_keys(
     alloc: Global,
     table: &Table,
     place: Place,
+    version: u8,
     keys: &[Key],
 ) -> Result<(), ScriptFault>
-    ensures { faults.Gives result (faults.only_keys place keys.now (table_view table.now)) }
+    ensures { faults.Gives result (faults.only_keys place version keys.now (table_view table.now)) }
 {
-    let Some(name) = first_unknown(table, keys) else {
+    let Some(name) = first_unknown(table, version, keys) else {
         return Ok(());
     };
     let name = String::from_str(alloc, name)?;
@@ -95,20 +109,21 @@ pub(crate) fn only_keys(
 }
 
 /// The least key in byte order that isn't one of these.
-fn first_unknown<'a>(table: &'a Table, keys: &[Key]) -> Option<&'a str>
+fn first_unknown<'a>(table: &'a Table, version: u8, keys: &[Key]) -> Option<&'a str>
     ensures { option_map (λ name. name.now) result
-        ≡ known.first_unknown keys.now (table_view table.now) }
+        ≡ known.first_unknown version keys.now (table_view table.now) }
 {
     for (name, _) in table {
-        if !is_key(keys, name.as_str()) {
+        if !is_key(version, keys, name.as_str()) {
             return Some(name.as_str());
         }
     }
     None
 }
 
-fn is_key(keys: &[Key], name: &str) -> bool
-    ensures { result ≡ known.is_key keys.now name.now }
+fn is_key(version: u8, keys: &[Key], name: &str) -> bool
+    ensures { result ≡ known.is_key version keys.now name.now }
 {
-    keys.iter().any(|key| name == key.word())
+    keys.iter()
+        .any(|key| key.since() <= version && name == key.word())
 }

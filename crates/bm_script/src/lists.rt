@@ -8,7 +8,7 @@ ghost use Rattle.bm_script.specs.declared.fault.ScriptFault.TheVariants.{BadValu
 ghost use Rattle.bm_script.specs.declared.key.Key.TheVariants as key_;
 ghost use Rattle.toml.specs.View.{items_view, view};
 
-use crate::value::{endpoint, number};
+use crate::value::{endpoint, number, weight};
 use crate::{Key, Place, ScriptFault};
 use bm_base::{List, ServerId, Vip};
 use std::alloc::Global;
@@ -129,4 +129,19 @@ pub(crate) fn lag_list(alloc: Global, items: &[Value]) -> Result<List<u64>, Scri
         lags.push(lag)?;
     }
     Ok(List::of(lags))
+}
+
+/// The weights of servers.
+pub(crate) fn weight_list(alloc: Global, items: &[Value]) -> Result<List<u32>, ScriptFault>
+    ensures { faults.Gives result
+        (faults.valued Top key_.Weights (values.each values.weight (items_view items.now))) }
+{
+    let mut weights = Vec::new(alloc);
+    for item in items {
+        let Some(weight) = weight(item) else {
+            return Err(ScriptFault::BadValue(Place::Top, Key::Weights));
+        };
+        weights.push(weight)?;
+    }
+    Ok(List::of(weights))
 }

@@ -38,7 +38,7 @@ fn read_row(alloc: Global, number: u32, table: &Table) -> Result<FaultRow, Scrip
     ensures { faults.Gives result (commands.row_of number (table_view table.now)) }
 {
     let place = Place::Fault(number);
-    only_keys(alloc, table, place, &ROW_KEYS)?;
+    only_keys(alloc, table, place, 1, &ROW_KEYS)?;
     let packet = required_number(table, place, Key::Packet, 1, 200_000)?;
     let hop = required_hop(table, place)?;
     let copies = required_number(table, place, Key::Copies, 0, 3)?;

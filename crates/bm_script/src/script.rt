@@ -2,7 +2,7 @@
 ghost use Rattle.std.specs.Prelude.{◌≡◌, ◌≢◌, Some, None, IfOk, IfErr};
 ghost use Rattle.bm_controller.specs.Membership.{KeepsMembership};
 ghost use Rattle.bm_script.specs.Faults.{Gives, IsOfScript};
-ghost use Rattle.bm_script.specs.Scripts.{script_in, script_of, tree_of};
+ghost use Rattle.bm_script.specs.Scripts.{script_in, script_of, script_with, tree_of};
 ghost use Rattle.bm_script.specs.declared.fault.ScriptFault.TheVariants.{Memory as memory, NotToml};
 ghost use Rattle.bm_table.specs.Scripts.{IsSoundScript};
 ghost use Rattle.toml.specs.View.{table_view};
@@ -10,17 +10,18 @@ ghost use Rattle.toml.specs.View.{table_view};
 use crate::commands::read_commands;
 use crate::key::only_keys;
 use crate::rows::read_rows;
-use crate::top::{command_tables, fault_tables, read_setting};
+use crate::top::{Opening, command_tables, fault_tables, read_opening, version_of};
 use crate::{Key, Place, ScriptFault};
 use bm_table::Script;
 use std::alloc::Global;
 use toml::Table;
 
 /// The keys at the top of a script.
-const TOP_KEYS: [Key; 12] = [
+const TOP_KEYS: [Key; 13] = [
     Key::Version,
     Key::Buckets,
     Key::Servers,
+    Key::Weights,
     Key::Muxes,
     Key::Shards,
     Key::Capacity,
@@ -65,12 +66,24 @@ fn read_tree(alloc: Global, table: &Table) -> Result<Script, ScriptFault>
     ensures gives { Gives result (script_in (table_view table.now)) }
     ensures membership { IfOk result (λ script. KeepsMembership script.plan) }
 {
-    only_keys(alloc, table, Place::Top, &TOP_KEYS)?;
-    let mut setting = read_setting(alloc, table)?;
+    read_with(alloc, version_of(table), table)
+}
+
+/// The script that a table describes, with its keys judged by this version.
+fn read_with(alloc: Global, version: u8, table: &Table) -> Result<Script, ScriptFault>
+    ensures gives { Gives result (script_with version (table_view table.now)) }
+    ensures membership { IfOk result (λ script. KeepsMembership script.plan) }
+{
+    only_keys(alloc, table, Place::Top, version, &TOP_KEYS)?;
+    let opening = read_opening(alloc, table)?;
     let fault_tables = fault_tables(table)?;
     let command_tables = command_tables(table)?;
     let rows = read_rows(alloc, fault_tables)?;
-    let reading = read_commands(alloc, &setting, command_tables)?;
+    let reading = read_commands(alloc, version, &opening, command_tables)?;
+    let Opening {
+        mut setting,
+        weights: _,
+    } = opening;
     setting.faults = rows;
     let (plan, commands) = reading.into_parts();
     Ok(Script {

@@ -1,4 +1,4 @@
-//! The setting that the top keys of a script give.
+//! What the top keys of a script give.
 ghost use Rattle.std.specs.Prelude.{◌≡◌, ◌≤◌, ◌<◌, Ok, Err, IfOk, IfErr, length, replicate};
 ghost use Rattle.bm_script.specs.Faults as faults;
 ghost use Rattle.bm_script.specs.Scripts as scripts;
@@ -9,7 +9,7 @@ ghost use Rattle.bm_table.specs.Settings.{IsWithin, plain_setting};
 ghost use Rattle.toml.specs.Data.{no_items};
 ghost use Rattle.toml.specs.View.{items_view, table_view, view};
 
-use crate::lists::{items, lag_list, server_list, tables_alone, vip_list};
+use crate::lists::{items, lag_list, server_list, tables_alone, vip_list, weight_list};
 use crate::value::{find, number};
 use crate::{Key, Place, ScriptFault};
 use bm_base::{List, ServerId, Vip};
@@ -21,13 +21,33 @@ const MAX_FAULTS: usize = 4_096;
 
 const MAX_COMMANDS: usize = 65_536;
 
-/// The setting that the top keys give, without fault rows.
-pub(crate) fn read_setting(alloc: Global, table: &Table) -> Result<Setting, ScriptFault>
-    ensures { faults.Gives result (scripts.setting_of (table_view table.now)) }
+/// What the top keys give.
+#[derive(Drop)]
+pub(crate) struct Opening {
+    /// Without fault rows.
+    pub(crate) setting: Setting,
+    /// The weight of each server.
+    pub(crate) weights: List<u32>,
+}
+
+/// The version by which the keys are judged: 1 but where `version` is the number of a later one.
+pub(crate) fn version_of(table: &Table) -> u8
+    ensures { result ≡ scripts.version_of (table_view table.now) }
 {
-    top_number(table, Key::Version, 1, 1, 1)?;
+    let Some(value) = find(table, Key::Version) else {
+        return 1;
+    };
+    number(value, 2, 2).unwrap_or(1) as u8
+}
+
+/// The setting and the weights that the top keys give.
+pub(crate) fn read_opening(alloc: Global, table: &Table) -> Result<Opening, ScriptFault>
+    ensures { faults.Gives result (scripts.opening_of (table_view table.now)) }
+{
+    top_number(table, Key::Version, 1, 1, 2)?;
     let buckets = top_number(table, Key::Buckets, 8, 1, 65_536)?;
     let servers = top_servers(alloc, table)?;
+    let weights = top_weights(alloc, table, servers.items().len())?;
     let muxes = top_number(table, Key::Muxes, 1, 1, 64)?;
     let shards = top_number(table, Key::Shards, 4, 1, 64)?;
     let capacity = top_number(table, Key::Capacity, 4_096, 1, 65_536)?;
@@ -35,7 +55,7 @@ pub(crate) fn read_setting(alloc: Global, table: &Table) -> Result<Setting, Scri
     let vips = top_vips(alloc, table)?;
     let route = top_route(table)?;
     let lags = top_lags(alloc, table, muxes as usize)?;
-    Ok(Setting {
+    let setting = Setting {
         buckets: buckets as u32,
         servers,
         muxes: muxes as u16,
@@ -46,7 +66,8 @@ pub(crate) fn read_setting(alloc: Global, table: &Table) -> Result<Setting, Scri
         route,
         lags,
         faults: List::of(Vec::new(alloc)),
-    })
+    };
+    Ok(Opening { setting, weights })
 }
 
 /// The number of a key, or `plain` if the key isn't there.
@@ -69,6 +90,18 @@ fn top_servers(alloc: Global, table: &Table) -> Result<List<ServerId>, ScriptFau
     match find(table, Key::Servers) {
         None => Ok(List::of(vec![in alloc; ServerId(1), ServerId(2)]?)),
         Some(value) => server_list(alloc, items(value, Key::Servers, 1, 1_024)?),
+    }
+}
+
+/// The weight of each server, 1 if the key isn't there.
+fn top_weights(alloc: Global, table: &Table, servers: usize) -> Result<List<u32>, ScriptFault>
+    ensures { faults.Gives result
+        (faults.optional key_.Weights (replicate servers 1) (values.weights servers)
+        (table_view table.now)) }
+{
+    match find(table, Key::Weights) {
+        None => Ok(List::of(vec![in alloc; 1; servers]?)),
+        Some(value) => weight_list(alloc, items(value, Key::Weights, servers, servers)?),
     }
 }
 

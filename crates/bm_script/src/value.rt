@@ -13,6 +13,8 @@ use crate::{Key, Place, ScriptFault};
 use bm_base::{Hop, ServerId};
 use toml::{Table, Value};
 
+const MAX_WEIGHT: u64 = 1_000;
+
 /// The value of a key.
 pub(crate) fn find(table: &Table, key: Key) -> Option<&Value>
     ensures { option_map (λ v. view v.now) result ≡ keys.value_at key (table_view table.now) }
@@ -75,6 +77,25 @@ pub(crate) fn required_server(table: &Table, place: Place) -> Result<ServerId, S
     let value = required(table, place, Key::Server)?;
     let n = number(value, 1, 1_024).ok_or(ScriptFault::BadValue(place, Key::Server))?;
     Ok(ServerId(n as u16))
+}
+
+/// The weight of a server.
+pub(crate) fn required_weight(table: &Table, place: Place) -> Result<u32, ScriptFault>
+    ensures gives { result ≡ faults.required place key_.Weight values.weight
+        (table_view table.now) }
+    ensures within { IfOk result (IsWithin 1 1000) }
+{
+    let value = required(table, place, Key::Weight)?;
+    let weight = weight(value).ok_or(ScriptFault::BadValue(place, Key::Weight))?;
+    Ok(weight)
+}
+
+pub(crate) fn weight(value: &Value) -> Option<u32>
+    ensures weight { result ≡ values.weight (view value.now) }
+    ensures within { IfSome result (IsWithin 1 1000) }
+{
+    let weight = number(value, 1, MAX_WEIGHT)?;
+    Some(weight as u32)
 }
 
 /// An address and a port.

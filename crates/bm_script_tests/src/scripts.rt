@@ -55,6 +55,8 @@ fn the_first_fault_is_named(rt: HostRuntime) -> Result<(), Fail> {
     assert_verdicts(&rt, alloc, &rows::ROWS)?;
     assert_verdicts(&rt, alloc, &commands::TABLES)?;
     assert_verdicts(&rt, alloc, &commands::REFUSALS)?;
+    assert_verdicts(&rt, alloc, &top::WEIGHTS)?;
+    assert_verdicts(&rt, alloc, &commands::WEIGHTS)?;
     Ok(())
 }
 
@@ -311,5 +313,27 @@ fn commands_make_the_plan(rt: HostRuntime) -> Result<(), Fail> {
     let script = read_script(rt.alloc(), commands::WHOLE.as_bytes())?;
     assert_plan(&rt, &script.plan);
     assert_commands(&rt, script.commands.items());
+    Ok(())
+}
+
+// 8 buckets on servers 1 and 2, which weigh 1 and 2. Server 3 is added with weight 2, weighs 1 from
+// 600 on, which is said twice, and server 1 is drained.
+fn assert_weighed_plan(rt: &impl Abort, plan: &Plan) {
+    assert!(rt; plan.versions() == 4);
+    let added = [to(4, 3), to(6, 3), to(7, 3)];
+    assert_change(rt, plan, 0, 500, Kind::Add(ServerId(3)), &added);
+    assert_change(rt, plan, 1, 600, Kind::Shift, &[to(7, 2)]);
+    assert_change(rt, plan, 2, 600, Kind::Shift, &[]);
+    let drained = [to(0, 2), to(2, 3)];
+    assert_change(rt, plan, 3, 700, Kind::Drain(ServerId(1)), &drained);
+}
+
+#[test]
+fn weights_make_the_plan(rt: HostRuntime) -> Result<(), Fail> {
+    let script = read_script(rt.alloc(), commands::WEIGHED.as_bytes())?;
+    assert_weighed_plan(&rt, &script.plan);
+    let script = read_script(rt.alloc(), commands::PLAINLY_WEIGHED.as_bytes())?;
+    let added = [to(4, 3), to(5, 3), to(6, 3), to(7, 3)];
+    assert_change(&rt, &script.plan, 0, 500, Kind::Add(ServerId(3)), &added);
     Ok(())
 }

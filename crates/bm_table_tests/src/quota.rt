@@ -17,7 +17,7 @@ fn servers_get_their_quotas_by_few_moves(rt: HostRuntime) -> Result<(), Fail> {
     let alloc = rt.alloc();
     let [one, two, three] = [ServerId(1), ServerId(2), ServerId(3)];
 
-    let parts = quotas(alloc, 8, [one, two, three].as_slice())?;
+    let parts = quotas(alloc, 8, [one, two, three].as_slice(), [1, 1, 1].as_slice())?;
     assert_eq!(rt; parts.as_slice(), [3, 3, 2].as_slice());
     let owner = [one, two, one, two, one, two, one, two];
     let active = [one, two, three];
@@ -29,7 +29,12 @@ fn servers_get_their_quotas_by_few_moves(rt: HostRuntime) -> Result<(), Fail> {
     )?;
     assert!(rt; chosen.as_slice() == [to(6, 3), to(7, 3)].as_slice());
 
-    let parts = quotas(alloc, 8, [two, three].as_slice())?;
+    let parts = quotas(alloc, 8, [one, two, three].as_slice(), [1, 1, 2].as_slice())?;
+    assert_eq!(rt; parts.as_slice(), [2, 2, 4].as_slice());
+    let parts = quotas(alloc, 8, [one, two, three].as_slice(), [1, 2, 2].as_slice())?;
+    assert_eq!(rt; parts.as_slice(), [2, 3, 3].as_slice());
+
+    let parts = quotas(alloc, 8, [two, three].as_slice(), [1, 1].as_slice())?;
     assert_eq!(rt; parts.as_slice(), [4, 4].as_slice());
     let owner = [one, two, one, two, one, two, three, three];
     let active = [two, three];

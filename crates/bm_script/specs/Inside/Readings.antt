@@ -9,16 +9,22 @@ use Rattle.bm_script.specs.declared.fault.ScriptFault.TheVariants.{Refused, Memo
 use Rattle.bm_table.specs.declared.script.Command.TheVariants.{Change}
 
 abbrev pub progress : Reading → Progress
-progress r = record { plan = r.controller; last = r.last; commands = r.commands.items }
+progress r = record {
+  version = r.version;
+  controller = r.controller;
+  last = r.last;
+  commands = r.commands.items;
+}
 
 -- the count of changes is right, and each of them has a command
 pub record IsCounted (r : Reading) : Type 0 where
-  pub versions : r.versions ≡ length r.controller.changes
+  pub versions : r.versions ≡ length r.controller.plan.changes
   pub within : r.versions ≤ length r.commands.items
 
 -- a command was added for a change that the controller had made
 pub record IsPublished (old new : Reading) (at : ℕ) : Type 0 where
-  pub plan : new.controller ≡ old.controller
+  pub version : new.version ≡ old.version
+  pub controller : new.controller ≡ old.controller
   pub last : new.last ≡ at
   pub versions : new.versions ≡ old.versions + 1
   pub commands : new.commands.items ≡ old.commands.items

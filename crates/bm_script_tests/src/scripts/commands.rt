@@ -272,3 +272,145 @@ pub(super) const REFUSALS: [(&'static str, &'static str); 25] = [
         "",
     ),
 ];
+
+/// A script of version 2: weights at the top, in `add` and in `weight`.
+pub(super) const WEIGHED: &str = "version = 2
+weights = [1, 2]
+command = [
+  { at_ns = 500, do = 'add', server = 3, weight = 2 },
+  { at_ns = 600, do = 'weight', server = 3, weight = 1 },
+  { at_ns = 600, do = 'weight', server = 3, weight = 1 },
+  { at_ns = 700, do = 'drain', server = 1 },
+]
+";
+
+/// Servers 1 and 2 weigh 1 each if the script doesn't say it.
+pub(super) const PLAINLY_WEIGHED: &str =
+    "version = 2\ncommand = [{ at_ns = 500, do = 'add', server = 3, weight = 2 }]";
+
+pub(super) const WEIGHTS: [(&'static str, &'static str); 31] = [
+    (
+        "version = 2\ncommand = [{at_ns=0,do='add',server=3,weight=1}]",
+        "",
+    ),
+    (
+        "version = 2\ncommand = [{at_ns=0,do='add',server=3,weight=1000}]",
+        "",
+    ),
+    (
+        "version = 2\ncommand = [{at_ns=0,do='add',server=3}]",
+        "script command 1: missing weight",
+    ),
+    (
+        "version = 2\ncommand = [{at_ns=0,do='add',weight=1}]",
+        "script command 1: missing server",
+    ),
+    (
+        "version = 2\ncommand = [{at_ns=0,do='add',server=3,weight=0}]",
+        "script command 1: bad value of weight",
+    ),
+    (
+        "version = 2\ncommand = [{at_ns=0,do='add',server=3,weight=1001}]",
+        "script command 1: bad value of weight",
+    ),
+    (
+        "version = 2\ncommand = [{at_ns=0,do='add',server=3,weight=-1}]",
+        "script command 1: bad value of weight",
+    ),
+    (
+        "version = 2\ncommand = [{at_ns=0,do='add',server=3,weight=1.0}]",
+        "script command 1: bad value of weight",
+    ),
+    (
+        "version = 2\ncommand = [{at_ns=0,do='add',server=3,weight='1'}]",
+        "script command 1: bad value of weight",
+    ),
+    (
+        "version = 2\ncommand = [{at_ns=0,do='add',server=0,weight=0}]",
+        "script command 1: bad value of server",
+    ),
+    (
+        "version = 2\ncommand = [{at_ns=0,do='add',server=1,weight=0}]",
+        "script command 1: bad value of weight",
+    ),
+    (
+        "version = 2\ncommand = [{at_ns=0,do='add',server=1,weight=1}]",
+        "script command 1: known server",
+    ),
+    (
+        "command = [{at_ns=0,do='add',server=3,weight=1}]",
+        "script command 1: unknown key weight",
+    ),
+    (
+        "version = 1\ncommand = [{at_ns=0,do='add',server=3,weight=1}]",
+        "script command 1: unknown key weight",
+    ),
+    (
+        "version = 2\ncommand = [{at_ns=0,do='drain',server=1,weight=1}]",
+        "script command 1: unknown key weight",
+    ),
+    (
+        "command = [{at_ns=0,do='weight',server=1,weight=1}]",
+        "script command 1: bad value of do",
+    ),
+    (
+        "version = 1\ncommand = [{at_ns=0,do='weight',server=1,weight=1}]",
+        "script command 1: bad value of do",
+    ),
+    (
+        "version = 2\ncommand = [{at_ns=0,do='weight',server=1,weight=1}]",
+        "",
+    ),
+    (
+        "version = 2\ncommand = [{at_ns=0,do='weight',server=1,weight=1000},{at_ns=0,do='weight',server=1,weight=1000}]",
+        "",
+    ),
+    (
+        "version = 2\ncommand = [{at_ns=0,do='weight',server=1}]",
+        "script command 1: missing weight",
+    ),
+    (
+        "version = 2\ncommand = [{at_ns=0,do='weight',weight=1}]",
+        "script command 1: missing server",
+    ),
+    (
+        "version = 2\ncommand = [{at_ns=0,do='weight',server=1,weight=1,bucket=1}]",
+        "script command 1: unknown key bucket",
+    ),
+    (
+        "version = 2\ncommand = [{at_ns=0,do='weight',server=1,weight=0}]",
+        "script command 1: bad value of weight",
+    ),
+    (
+        "version = 2\ncommand = [{at_ns=0,do='weight',server=1,weight=1001}]",
+        "script command 1: bad value of weight",
+    ),
+    (
+        "version = 2\ncommand = [{at_ns=0,do='weight',server=1,weight=1.0}]",
+        "script command 1: bad value of weight",
+    ),
+    (
+        "version = 2\ncommand = [{at_ns=0,do='weight',server=1,weight='1'}]",
+        "script command 1: bad value of weight",
+    ),
+    (
+        "version = 2\ncommand = [{at_ns=0,do='weight',server=0,weight=0}]",
+        "script command 1: bad value of server",
+    ),
+    (
+        "version = 2\ncommand = [{at_ns=0,do='weight',server=3,weight=1}]",
+        "script command 1: unknown server",
+    ),
+    (
+        "version = 2\ncommand = [{at_ns=0,do='weight',server=3,weight=0}]",
+        "script command 1: bad value of weight",
+    ),
+    (
+        "version = 2\ncommand = [{at_ns=0,do='drain',server=1},{at_ns=0,do='weight',server=1,weight=1}]",
+        "script command 2: not active",
+    ),
+    (
+        "version = 2\ncommand = [{at_ns=5,do='sync'},{at_ns=4,do='weight',server=3,weight=1}]",
+        "script command 2: bad value of at_ns",
+    ),
+];

@@ -40,10 +40,11 @@ pub(super) const TEXTS: [(&'static str, &'static str); 16] = [
     ("[command]\n[[command]]", "script: not toml"),
 ];
 
-pub(super) const NUMBERS: [(&'static str, &'static str); 44] = [
+pub(super) const NUMBERS: [(&'static str, &'static str); 45] = [
     ("version = 1", ""),
     ("version = 0", "script: bad value of version"),
-    ("version = 2", "script: bad value of version"),
+    ("version = 2", ""),
+    ("version = 3", "script: bad value of version"),
     ("version = '1'", "script: bad value of version"),
     ("version = 1.0", "script: bad value of version"),
     ("version = true", "script: bad value of version"),
@@ -172,7 +173,7 @@ pub(super) const LISTS: [(&'static str, &'static str); 67] = [
     ),
 ];
 
-pub(super) const KEYS: [(&'static str, &'static str); 33] = [
+pub(super) const KEYS: [(&'static str, &'static str); 32] = [
     ("bucket = 8", "script: unknown key bucket"),
     ("Buckets = 8", "script: unknown key Buckets"),
     ("buckets_ = 8", "script: unknown key buckets_"),
@@ -190,7 +191,6 @@ pub(super) const KEYS: [(&'static str, &'static str); 33] = [
     ("[[x]]", "script: unknown key x"),
     ("'buckets' = 0", "script: bad value of buckets"),
     ("\"buc\\u006Bets\" = 0", "script: bad value of buckets"),
-    ("version = 2\nweights = 1", "script: unknown key weights"),
     ("command = 1\nzz = 1", "script: unknown key zz"),
     ("route = 1\nbuckets = 0", "script: bad value of buckets"),
     ("lags_ns = 1\nvips = 1", "script: bad value of vips"),
@@ -212,4 +212,76 @@ pub(super) const KEYS: [(&'static str, &'static str); 33] = [
     ("[command]", "script: bad value of command"),
     ("command = [{}, 1]", "script: bad value of command"),
     ("command = 1\n[[fault]]", "script: bad value of command"),
+];
+
+pub(super) const WEIGHTS: [(&'static str, &'static str); 24] = [
+    ("version = 2\nweights = [1, 1000]", ""),
+    ("version = 2\nservers = [3]\nweights = [7]", ""),
+    ("version = 2\nweights = []", "script: bad value of weights"),
+    ("version = 2\nweights = [1]", "script: bad value of weights"),
+    (
+        "version = 2\nweights = [1, 1, 1]",
+        "script: bad value of weights",
+    ),
+    (
+        "version = 2\nweights = [0, 1]",
+        "script: bad value of weights",
+    ),
+    (
+        "version = 2\nweights = [1, 1001]",
+        "script: bad value of weights",
+    ),
+    (
+        "version = 2\nweights = [1, -1]",
+        "script: bad value of weights",
+    ),
+    (
+        "version = 2\nweights = [1.0, 1]",
+        "script: bad value of weights",
+    ),
+    (
+        "version = 2\nweights = ['1', 1]",
+        "script: bad value of weights",
+    ),
+    (
+        "version = 2\nweights = [[1], 1]",
+        "script: bad value of weights",
+    ),
+    ("version = 2\nweights = 1", "script: bad value of weights"),
+    ("version = 2\nweights = {}", "script: bad value of weights"),
+    ("weights = [1, 1]", "script: unknown key weights"),
+    (
+        "version = 1\nweights = [1, 1]",
+        "script: unknown key weights",
+    ),
+    (
+        "version = 3\nweights = [1, 1]",
+        "script: unknown key weights",
+    ),
+    (
+        "version = 0\nweights = [1, 1]",
+        "script: unknown key weights",
+    ),
+    (
+        "version = '2'\nweights = [1, 1]",
+        "script: unknown key weights",
+    ),
+    (
+        "version = 2.0\nweights = [1, 1]",
+        "script: unknown key weights",
+    ),
+    (
+        "version = [2]\nweights = [1, 1]",
+        "script: unknown key weights",
+    ),
+    ("version = 2\nracks = 1", "script: unknown key racks"),
+    ("version = 2\nweight = 1", "script: unknown key weight"),
+    (
+        "version = 2\nweights = 0\nservers = 0",
+        "script: bad value of servers",
+    ),
+    (
+        "version = 2\nmuxes = 0\nweights = 0",
+        "script: bad value of weights",
+    ),
 ];

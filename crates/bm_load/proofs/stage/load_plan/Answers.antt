@@ -1,4 +1,5 @@
-use Rattle.std.proofs.Common.{◌∙◌}
+use Rattle.std.proofs.Common.{ap, ◌∙◌}
+use Rattle.bm_controller.specs.Controlled.{Controlled}
 use Rattle.bm_load.proofs.Adding.{added, wants_memory}
 use Rattle.bm_load.proofs.stage.load_plan.Goals as goal
 
@@ -9,5 +10,5 @@ want-requires c =
 
 pub returns-in-Ok-clause-plan : goal.returns-in-Ok-clause-plan
 returns-in-Ok-clause-plan c =
-    c.into_plan.ensures.plan ∙ (c.in-Ok.ensures.ok
+    c.into_plan.ensures.plan ∙ (ap (λ (x : Controlled). x.plan) c.in-Ok.ensures.ok
     ∙ added c.args.n c.from.result c.in_ok-controller.controller c.in_ok-controller.ensures c.from.ensures)

@@ -6,7 +6,7 @@ use Rattle.toml.specs.View.{table_view}
 use Rattle.bm_script.proofs.commands.read_commands.Goals as goal
 
 pub new-requires-clause-rising : goal.new-requires-clause-rising
-new-requires-clause-rising c = rw c.items.ensures (RiseFrom-lower c.args.setting.now.servers c.requires.setting.rising)
+new-requires-clause-rising c = rw c.items.ensures (RiseFrom-lower c.args.opening.now.setting.servers c.requires.setting.setting.rising)
 
 pub loop-value-preserved : goal.loop-value-preserved
 loop-value-preserved c = record {

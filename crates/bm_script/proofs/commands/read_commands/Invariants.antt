@@ -8,7 +8,7 @@ use Rattle.bm_script.proofs.commands.read_commands.Given as goal
 abbrev pub invariant-loop-value : goal.invariant-loop-value
 invariant-loop-value l = record {
   so_far : after_commands (progress l.reading) (items_view (drop l.value-index l.tables))
-      ≡ after_commands (opened l.setting) (items_view l.tables);
+      ≡ after_commands (opened l.fn.version l.opening) (items_view l.tables);
   counted : IsCounted l.reading;
   count : length l.reading.commands.items ≡ l.value-index;
 }

@@ -7,7 +7,7 @@ pub loop-name-preserved : goal.loop-name-preserved
 loop-name-preserved c = record {
   can = tt;
   ends = tt;
-  rest = unknown-more c.args.keys.now c.args.table.now.entries (λ e. (e.0.now, e.1.now)) c.loop-name.yielded
+  rest = unknown-more c.args.version c.args.keys.now c.args.table.now.entries (λ e. (e.0.now, e.1.now)) c.loop-name.yielded
       (c.in-Some.name, c.in-Some.field-0-1)
       (iter_turn (λ e. (e.0.now, e.1.now)) c.args.table.now.entries c.loop-name.yielded _ _ _ _
       c.into_iter-name-iterator.ensures.into_iter_gives.0 c.loop-name.yielded_by _ c.in-Some.is c.next.ensures.steps)
@@ -17,7 +17,7 @@ loop-name-preserved c = record {
 
 pub returns : goal.returns
 returns c =
-    unknown-end c.args.keys.now c.args.table.now.entries _
+    unknown-end c.args.version c.args.keys.now c.args.table.now.entries _
     (iter_end (λ e. (e.0.now, e.1.now)) c.args.table.now.entries c.loop-name.yielded _ _ _ _
     c.into_iter-name-iterator.ensures.into_iter_gives.0 c.loop-name.yielded_by c.in-None.is c.next.ensures.steps).1
     ∙ c.loop-name.invariant.rest

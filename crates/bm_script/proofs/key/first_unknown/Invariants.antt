@@ -7,6 +7,6 @@ abbrev pub invariant-loop-name : goal.invariant-loop-name
 invariant-loop-name l = record {
   can : (goal.iterator-loop-name).can_next l.name-iterator;
   ends : (goal.iterator-loop-name).is_finite l.name-iterator;
-  rest : first_unknown l.keys (members_view (drop (length l.yielded) l.table.entries))
-      ≡ first_unknown l.keys (members_view l.table.entries);
+  rest : first_unknown l.fn.version l.keys (members_view (drop (length l.yielded) l.table.entries))
+      ≡ first_unknown l.fn.version l.keys (members_view l.table.entries);
 }

@@ -1,9 +1,10 @@
-use Rattle.std.proofs.Common.{subst}
-use Rattle.bm_script.proofs.Sound.{Meets, setting-sound}
-use Rattle.bm_table.specs.Settings.{IsSetting}
+use Rattle.std.proofs.Common.{ℕ, subst}
 use Rattle.toml.specs.View.{table_view}
+use Rattle.bm_script.specs.Faults.{Gives}
+use Rattle.bm_script.specs.Scripts.{script_with}
 use Rattle.bm_script.proofs.script.read_tree.Goals as goal
 
-pub read_commands-requires-clause-setting : goal.read_commands-requires-clause-setting
-read_commands-requires-clause-setting c =
-    subst (Meets IsSetting) c.in_ok-setting.ensures (setting-sound (table_view c.args.table.now))
+pub returns-clause-gives : goal.returns-clause-gives
+returns-clause-gives c =
+    subst (λ (v : ℕ). Gives c.read_with.result (script_with v (table_view c.args.table.now))) c.version_of.ensures
+    c.read_with.ensures.gives

@@ -1,81 +1,60 @@
-use Rattle.std.proofs.Common.{◌≡◌, Some, None, ap, sym, ◌∙◌, subst, arith, rules}
+use Rattle.std.proofs.Common.{◌≡◌, [], Some, None, refl, ap, sym, ◌∙◌, subst}
 use Rattle.std.proofs.lemmas.Result.{err_from_is_err_and}
-use Rattle.std.specs.Option.{option_map}
-use Rattle.bm_controller.proofs.Answered.{add_refusal-plan, refused_by_plan, known-add}
-use Rattle.bm_controller.proofs.MemberLists.{RiseFrom-with}
-use Rattle.bm_controller.proofs.MemberPlans.{active_now-push, KeepsMembership-add}
+use Rattle.std.specs.List.{All}
+use Rattle.bm_controller.proofs.Answered.{answered, made, when-false}
+use Rattle.bm_controller.proofs.MemberFacts.{servers-with, weights-with}
 use Rattle.bm_controller.proofs.controller.Controller.add.Goals as goal
 use Rattle.bm_controller.specs.Commands as commands
-use Rattle.bm_controller.specs.Membership as members
-use Rattle.bm_quota.specs.Refusals.{refusal_of}
+use Rattle.bm_controller.specs.Commands.Command.{AddServer}
+use Rattle.bm_controller.specs.Controlled as controlled
+use Rattle.bm_controller.specs.Controlled.{Controlled}
+use Rattle.bm_controller.specs.declared.members.Member.{Member}
+use Rattle.bm_controller.specs.Inside.Kinds.{HasWeight}
+use Rattle.bm_controller.specs.Membership as membership
 use Rattle.bm_table.specs.declared.plan.Kind.TheVariants.{Add}
-use Rattle.bm_table.specs.Planned.{Planned}
-use Rattle.bm_table.specs.Plans.{with_change}
+use Rattle.bm_quota.specs.declared.refusal.Refusal.TheVariants.{KnownServer}
 
-pub rebalance-requires-clause-rising : goal.rebalance-requires-clause-rising
-rebalance-requires-clause-rising c =
-    let servers =
-    c.as_slice-2.ensures.value ∙ c.in_ok-active.ensures
-    ∙ ap (members.with_server c.args.s) (c.as_slice.ensures.value ∙ c.self.invariant.active)
-    in rw servers
-    (RiseFrom-with c.args.s 0 (members.active_now c.self.inside.plan) (omega arith) c.self.invariant.membership.rising)
+pub rebalanced-requires-clause-servers : goal.rebalanced-requires-clause-servers
+rebalanced-requires-clause-servers c =
+    let m : Member = record { server = c.args.s; weight = c.args.weight }
+    in let members = c.in_ok-members.ensures ∙ ap (controlled.with_member m) c.as_slice.ensures.value
+    in subst (λ (x : Controlled). controlled.servers_of c.in_ok-members.members.items ≡ membership.with_server c.args.s (membership.active_now x.plan)) c.self.view_is
+    (ap controlled.servers_of members ∙ servers-with m c.self.inside.members.items
+    ∙ ap (membership.with_server c.args.s) c.self.invariant.active)
 
-pub returns-in_err-push-clause-refused : goal.returns-in_err-push-clause-refused
-returns-in_err-push-clause-refused c =
-    let servers =
-    c.as_slice-2.ensures.value ∙ c.in_ok-active.ensures
-    ∙ ap (members.with_server c.args.s) (c.as_slice.ensures.value ∙ c.self.invariant.active)
-    in let change = c.in_ok-change.ensures ∙ ap (commands.rebalance c.self.inside.plan c.args.at (Add c.args.s)) servers
-    in let unknown = rw (← c.self.view_is) at (sym c.knows.ensures ∙ c.if-knows.false)
-    in let is = err_from_is_err_and c.from_residual-in_err-push.result c.from_residual-in_err-push.ensures.1
-    in let refused = rw change at c.in_err-push.ensures.refused
+pub rebalanced-requires-clause-weights : goal.rebalanced-requires-clause-weights
+rebalanced-requires-clause-weights c =
+    let m : Member = record { server = c.args.s; weight = c.args.weight }
+    in let members = c.in_ok-members.ensures ∙ ap (controlled.with_member m) c.as_slice.ensures.value
+    in subst (All HasWeight) (sym members)
+    (weights-with m c.self.inside.members.items c.requires.weight c.self.invariant.weights)
+
+pub returns-in_err-rebalanced-clause-refused : goal.returns-in_err-rebalanced-clause-refused
+returns-in_err-rebalanced-clause-refused c =
+    let m : Member = record { server = c.args.s; weight = c.args.weight }
+    in let members = c.in_ok-members.ensures ∙ ap (controlled.with_member m) c.as_slice.ensures.value
+    in let are = members ∙ ap (λ (x : Controlled). commands.members_after (AddServer c.args.s c.args.weight) x.members) c.self.view_is
+    in let fit : commands.first_refusal (commands.unfit c.args.self.now (AddServer c.args.s c.args.weight)) ≡ None =
+    when-false (membership.knows c.args.self.now.plan c.args.s) KnownServer [] (sym c.knows.ensures ∙ c.if-knows.false)
+    in let is =
+    err_from_is_err_and c.from_residual-in_err-rebalanced.result c.from_residual-in_err-rebalanced.ensures.1
     in rw (is.1, is.2) (λ other.
-    subst (λ (p : Planned). commands.add_refusal p c.args.at c.args.s ≡ Some (refusal_of c.in_err-push.field-0.0))
-    c.self.view_is
-    (add_refusal-plan c.self.inside.plan c.self.invariant.membership c.args.at c.args.s unknown
-    ∙ refused_by_plan c.self.inside.plan (commands.addition c.self.inside.plan c.args.at c.args.s)
-    c.in_err-push.field-0.0 refused other))
-
-pub invariant_of-self-2 : goal.invariant_of-self-2
-invariant_of-self-2 c =
-    let servers =
-    c.as_slice-2.ensures.value ∙ c.in_ok-active.ensures
-    ∙ ap (members.with_server c.args.s) (c.as_slice.ensures.value ∙ c.self.invariant.active)
-    in let change = c.in_ok-change.ensures ∙ ap (commands.rebalance c.self.inside.plan c.args.at (Add c.args.s)) servers
-    in let unknown = rw (← c.self.view_is) at (sym c.knows.ensures ∙ c.if-knows.false)
-    in let none = rw change at c.in_ok-push.ensures.accepted
-    in let plan = c.in_ok-push.ensures.ok ∙ ap (with_change c.self.inside.plan) change
-    in record {
-      membership =
-          rw plan (KeepsMembership-add c.self.inside.plan c.self.invariant.membership c.args.at c.args.s c.requires
-          unknown none);
-      active = c.in_ok-active.ensures
-          ∙ ap (members.with_server c.args.s) (c.as_slice.ensures.value ∙ c.self.invariant.active)
-          ∙ sym (ap members.active_now plan
-          ∙ active_now-push c.self.inside.plan (commands.addition c.self.inside.plan c.args.at c.args.s));
-      numbers = search rules;
-      known = λ x l.
-          known-add c.self.inside.known.items c.self.inside.plan c.args.at c.args.s (search rules)
-          c.self.invariant.known x l
-          ∙ ap (λ (p : Planned). members.knows p x) (sym plan);
-    }
-
-pub returns-clause-ok : goal.returns-clause-ok
-returns-clause-ok c =
-    let servers =
-    c.as_slice-2.ensures.value ∙ c.in_ok-active.ensures
-    ∙ ap (members.with_server c.args.s) (c.as_slice.ensures.value ∙ c.self.invariant.active)
-    in let change = c.in_ok-change.ensures ∙ ap (commands.rebalance c.self.inside.plan c.args.at (Add c.args.s)) servers
-    in rw (← c.self.view_is) (c.in_ok-push.ensures.ok ∙ ap (with_change c.self.inside.plan) change)
+    answered c.args.self.now c.args.at (AddServer c.args.s c.args.weight) (Add c.args.s) c.in_ok-members.members.items
+    (Some c.in_err-rebalanced.field-0.0) fit are refl (c.in_err-rebalanced.ensures.refused other))
 
 pub returns-clause-accepted : goal.returns-clause-accepted
 returns-clause-accepted c =
-    let servers =
-    c.as_slice-2.ensures.value ∙ c.in_ok-active.ensures
-    ∙ ap (members.with_server c.args.s) (c.as_slice.ensures.value ∙ c.self.invariant.active)
-    in let change = c.in_ok-change.ensures ∙ ap (commands.rebalance c.self.inside.plan c.args.at (Add c.args.s)) servers
-    in let unknown = rw (← c.self.view_is) at (sym c.knows.ensures ∙ c.if-knows.false)
-    in let none = rw change at c.in_ok-push.ensures.accepted
-    in subst (λ (p : Planned). commands.add_refusal p c.args.at c.args.s ≡ None) c.self.view_is
-    (add_refusal-plan c.self.inside.plan c.self.invariant.membership c.args.at c.args.s unknown
-    ∙ ap (option_map refusal_of) none)
+    let m : Member = record { server = c.args.s; weight = c.args.weight }
+    in let members = c.in_ok-members.ensures ∙ ap (controlled.with_member m) c.as_slice.ensures.value
+    in let are = members ∙ ap (λ (x : Controlled). commands.members_after (AddServer c.args.s c.args.weight) x.members) c.self.view_is
+    in let fit : commands.first_refusal (commands.unfit c.args.self.now (AddServer c.args.s c.args.weight)) ≡ None =
+    when-false (membership.knows c.args.self.now.plan c.args.s) KnownServer [] (sym c.knows.ensures ∙ c.if-knows.false)
+    in answered c.args.self.now c.args.at (AddServer c.args.s c.args.weight) (Add c.args.s) c.in_ok-members.members.items None fit are refl
+    c.in_ok-rebalanced.ensures.accepted
+
+pub returns-clause-ok : goal.returns-clause-ok
+returns-clause-ok c =
+    let m : Member = record { server = c.args.s; weight = c.args.weight }
+    in let members = c.in_ok-members.ensures ∙ ap (controlled.with_member m) c.as_slice.ensures.value
+    in let are = members ∙ ap (λ (x : Controlled). commands.members_after (AddServer c.args.s c.args.weight) x.members) c.self.view_is
+    in c.in_ok-rebalanced.ensures.ok ∙ made c.args.self.now c.args.at (AddServer c.args.s c.args.weight) (Add c.args.s) c.in_ok-members.members.items are refl

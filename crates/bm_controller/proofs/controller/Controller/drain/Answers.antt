@@ -1,173 +1,83 @@
-use Rattle.std.proofs.Common.{◌≡◌, ◌<◌, ◌≤◌, true, false, Some, None, length, refl, ap, sym, ◌∙◌, subst, arith}
+use Rattle.std.proofs.Common.{◌≡◌, ◌<◌, [], ◌∷◌, true, false, leb, List, length, Some, None, refl, ap, sym, ◌∙◌, subst, arith}
 use Rattle.std.proofs.lemmas.Result.{err_from_is_err_and}
-use Rattle.std.specs.Option.{option_map}
-use Rattle.bm_controller.proofs.Answered.{drain_refusal-active, drain_refusal-last, drain_refusal-plan}
-use Rattle.bm_controller.proofs.Answered.{drain_refused-limits, limits-none, limits-refused, is_active-found}
-use Rattle.bm_controller.proofs.Answered.{known-same, refused_by_plan, wanted}
-use Rattle.bm_controller.proofs.MemberLists.{length-without, RiseFrom-without}
-use Rattle.bm_controller.proofs.MemberPlans.{active_now-push, KeepsMembership-drain}
+use Rattle.std.specs.List.{All}
+use Rattle.bm_controller.proofs.Answered.{active-from, answered, first-none, made, when-false}
+use Rattle.bm_controller.proofs.MemberFacts.{member-is, servers-without, weights-without}
 use Rattle.bm_controller.proofs.controller.Controller.drain.Goals as goal
 use Rattle.bm_controller.specs.Commands as commands
-use Rattle.bm_controller.specs.Membership as members
-use Rattle.bm_quota.specs.declared.refusal.Refusal.TheVariants.{NotActive, LastServer}
-use Rattle.bm_quota.specs.Refusals.{refusal_of}
+use Rattle.bm_controller.specs.Commands.Command.{DrainServer}
+use Rattle.bm_controller.specs.Controlled as controlled
+use Rattle.bm_controller.specs.Controlled.{Controlled}
+use Rattle.bm_controller.specs.declared.members.Member.{Member}
+use Rattle.bm_controller.specs.Inside.Kinds.{HasWeight}
+use Rattle.bm_controller.specs.Membership as membership
 use Rattle.bm_table.specs.declared.plan.Kind.TheVariants.{Drain}
-use Rattle.bm_table.specs.Planned.{Planned}
-use Rattle.bm_table.specs.Plans.{with_change}
+use Rattle.std.proofs.lemmas.Bool.{lt-leb}
+use Rattle.std.proofs.lemmas.List.{length-map}
+use Rattle.bm_base.specs.declared.ids.ServerId.{ServerId}
+use Rattle.bm_table.specs.Tables.{is_among}
+use Rattle.bm_quota.specs.declared.refusal.Refusal.TheVariants.{LastServer}
 
-pub returns-then-not-is_among-clause-refused : goal.returns-then-not-is_among-clause-refused
-returns-then-not-is_among-clause-refused c = λ other.
-    let known = rw (← c.self.view_is) at (sym c.knows.ensures ∙ c.if-not-knows.false)
-    in let idle =
-    is_active-found c.self.inside.plan c.self.inside.active.items c.as_slice.result.now c.args.s _ false
-    c.self.invariant.active c.as_slice.ensures.value c.is_among.ensures c.if-not-is_among.true
-    in subst (λ (p : Planned). commands.drain_refusal p c.args.at c.args.s ≡ Some NotActive) c.self.view_is
-    (drain_refusal-active c.self.inside.plan c.args.at c.args.s known idle)
-
-pub returns-then-len-le1-clause-refused : goal.returns-then-len-le1-clause-refused
-returns-then-len-le1-clause-refused c = λ other.
-    let known = rw (← c.self.view_is) at (sym c.knows.ensures ∙ c.if-not-knows.false)
-    in let is =
-    is_active-found c.self.inside.plan c.self.inside.active.items c.as_slice.result.now c.args.s _ true
-    c.self.invariant.active c.as_slice.ensures.value c.is_among.ensures c.if-not-is_among.false
-    in let last : length (members.active_now c.self.inside.plan) ≤ 1 = omega (arith, ap length c.self.invariant.active)
-    in subst (λ (p : Planned). commands.drain_refusal p c.args.at c.args.s ≡ Some LastServer) c.self.view_is
-    (drain_refusal-last c.self.inside.plan c.args.at c.args.s known is last)
-
-pub rebalance-requires-clause-rising : goal.rebalance-requires-clause-rising
-rebalance-requires-clause-rising c =
-    let servers =
-    c.as_slice-3.ensures.value ∙ c.in_ok-active.ensures
-    ∙ ap (members.without_server c.args.s) (c.as_slice-2.ensures.value ∙ c.self.invariant.active)
-    in rw servers
-    (RiseFrom-without c.args.s 0 (members.active_now c.self.inside.plan) c.self.invariant.membership.rising)
-
-pub rebalance-requires-clause-some : goal.rebalance-requires-clause-some
-rebalance-requires-clause-some c =
-    let servers =
-    c.as_slice-3.ensures.value ∙ c.in_ok-active.ensures
-    ∙ ap (members.without_server c.args.s) (c.as_slice-2.ensures.value ∙ c.self.invariant.active)
-    in let is =
-    is_active-found c.self.inside.plan c.self.inside.active.items c.as_slice.result.now c.args.s _ true
-    c.self.invariant.active c.as_slice.ensures.value c.is_among.ensures c.if-not-is_among.false
-    in let many : 1 < length (members.active_now c.self.inside.plan) = omega (arith, ap length c.self.invariant.active)
-    in rw servers
-    (omega (
+pub rebalanced-requires-clause-kind : goal.rebalanced-requires-clause-kind
+rebalanced-requires-clause-kind c =
+    let member : is_among (controlled.servers_of c.self.inside.members.items) c.args.s ≡ true =
+    sym (member-is c.args.s c.self.inside.members.items)
+    ∙ rw (← c.self.view_is) at (active-from c.args.self.now c.args.s c.in_ok-check_active.ensures)
+    in let active = subst (λ (xs : List ServerId). is_among xs c.args.s ≡ true) c.self.invariant.active member
+    in let many : 1 < length (membership.active_now c.self.inside.plan) =
+    omega (
       arith,
-      length-without c.args.s 0 (members.active_now c.self.inside.plan) c.self.invariant.membership.rising
-          is,
-    ))
+      ap length c.self.invariant.active,
+      length-map c.self.inside.members.items (λ (m : Member). m.server),
+    )
+    in subst (λ (x : Controlled). (membership.is_active x.plan c.args.s ≡ true)
+    × (1 < length (membership.active_now x.plan))) c.self.view_is (active, many)
 
-pub returns-in_err-push-clause-refused : goal.returns-in_err-push-clause-refused
-returns-in_err-push-clause-refused c =
-    let servers =
-    c.as_slice-3.ensures.value ∙ c.in_ok-active.ensures
-    ∙ ap (members.without_server c.args.s) (c.as_slice-2.ensures.value ∙ c.self.invariant.active)
-    in let change =
-    c.in_ok-change.ensures ∙ ap (commands.rebalance c.self.inside.plan c.args.at (Drain c.args.s)) servers
-    in let known = rw (← c.self.view_is) at (sym c.knows.ensures ∙ c.if-not-knows.false)
-    in let active =
-    is_active-found c.self.inside.plan c.self.inside.active.items c.as_slice.result.now c.args.s _ true
-    c.self.invariant.active c.as_slice.ensures.value c.is_among.ensures c.if-not-is_among.false
-    in let many : 1 < length (members.active_now c.self.inside.plan) = omega (arith, ap length c.self.invariant.active)
-    in let is = err_from_is_err_and c.from_residual-in_err-push.result c.from_residual-in_err-push.ensures.1
-    in let refused = rw change at c.in_err-push.ensures.refused
+pub rebalanced-requires-clause-servers : goal.rebalanced-requires-clause-servers
+rebalanced-requires-clause-servers c =
+    let members = c.in_ok-members.ensures ∙ ap (controlled.without_member c.args.s) c.as_slice.ensures.value
+    in subst (λ (x : Controlled). controlled.servers_of c.in_ok-members.members.items ≡ membership.without_server c.args.s (membership.active_now x.plan)) c.self.view_is
+    (ap controlled.servers_of members ∙ servers-without c.args.s c.self.inside.members.items
+    ∙ ap (membership.without_server c.args.s) c.self.invariant.active)
+
+pub rebalanced-requires-clause-weights : goal.rebalanced-requires-clause-weights
+rebalanced-requires-clause-weights c =
+    let members = c.in_ok-members.ensures ∙ ap (controlled.without_member c.args.s) c.as_slice.ensures.value
+    in subst (All HasWeight) (sym members)
+    (weights-without c.args.s c.self.inside.members.items c.self.invariant.weights)
+
+pub returns-in_err-rebalanced-clause-refused : goal.returns-in_err-rebalanced-clause-refused
+returns-in_err-rebalanced-clause-refused c =
+    let members = c.in_ok-members.ensures ∙ ap (controlled.without_member c.args.s) c.as_slice.ensures.value
+    in let many : leb (length c.self.inside.members.items) 1 ≡ false = lt-leb _ _ (omega arith)
+    in let are = members ∙ ap (λ (x : Controlled). commands.members_after (DrainServer c.args.s) x.members) c.self.view_is
+    in let fit : commands.first_refusal (commands.unfit c.args.self.now (DrainServer c.args.s)) ≡ None =
+    first-none (commands.unless_active c.args.self.now c.args.s)
+    (commands.when (leb (length c.args.self.now.members) 1) LastServer ∷ []) c.in_ok-check_active.ensures
+    ∙ when-false (leb (length c.args.self.now.members) 1) LastServer []
+    (subst (λ (x : Controlled). leb (length x.members) 1 ≡ false) c.self.view_is many)
+    in let is =
+    err_from_is_err_and c.from_residual-in_err-rebalanced.result c.from_residual-in_err-rebalanced.ensures.1
     in rw (is.1, is.2) (λ other.
-    subst (λ (p : Planned). commands.drain_refusal p c.args.at c.args.s ≡ Some (refusal_of c.in_err-push.field-0.0))
-    c.self.view_is
-    (drain_refusal-plan c.self.inside.plan c.self.invariant.membership c.args.at c.args.s known active many
-    ∙ refused_by_plan c.self.inside.plan (commands.removal c.self.inside.plan c.args.at c.args.s)
-    c.in_err-push.field-0.0 refused other))
-
-pub invariant_of-self-2 : goal.invariant_of-self-2
-invariant_of-self-2 c =
-    let servers =
-    c.as_slice-3.ensures.value ∙ c.in_ok-active.ensures
-    ∙ ap (members.without_server c.args.s) (c.as_slice-2.ensures.value ∙ c.self.invariant.active)
-    in let change =
-    c.in_ok-change.ensures ∙ ap (commands.rebalance c.self.inside.plan c.args.at (Drain c.args.s)) servers
-    in let active =
-    is_active-found c.self.inside.plan c.self.inside.active.items c.as_slice.result.now c.args.s _ true
-    c.self.invariant.active c.as_slice.ensures.value c.is_among.ensures c.if-not-is_among.false
-    in let many : 1 < length (members.active_now c.self.inside.plan) = omega (arith, ap length c.self.invariant.active)
-    in let none = rw change at c.in_ok-push.ensures.accepted
-    in let plan = c.in_ok-push.ensures.ok ∙ ap (with_change c.self.inside.plan) change
-    in record {
-      membership =
-          rw plan (KeepsMembership-drain c.self.inside.plan c.self.invariant.membership c.args.at c.args.s active many
-          none);
-      active = c.in_ok-active.ensures
-          ∙ ap (members.without_server c.args.s) (c.as_slice-2.ensures.value ∙ c.self.invariant.active)
-          ∙ sym (ap members.active_now plan
-          ∙ active_now-push c.self.inside.plan (commands.removal c.self.inside.plan c.args.at c.args.s));
-      numbers = c.self.invariant.numbers;
-      known = λ x l.
-          c.self.invariant.known x l
-          ∙ known-same c.self.inside.plan (commands.removal c.self.inside.plan c.args.at c.args.s) x refl
-          ∙ ap (λ (p : Planned). members.knows p x) (sym plan);
-    }
+    answered c.args.self.now c.args.at (DrainServer c.args.s) (Drain c.args.s) c.in_ok-members.members.items
+    (Some c.in_err-rebalanced.field-0.0) fit are refl (c.in_err-rebalanced.ensures.refused other))
 
 pub returns-clause-accepted : goal.returns-clause-accepted
 returns-clause-accepted c =
-    let servers =
-    c.as_slice-3.ensures.value ∙ c.in_ok-active.ensures
-    ∙ ap (members.without_server c.args.s) (c.as_slice-2.ensures.value ∙ c.self.invariant.active)
-    in let change =
-    c.in_ok-change.ensures ∙ ap (commands.rebalance c.self.inside.plan c.args.at (Drain c.args.s)) servers
-    in let known = rw (← c.self.view_is) at (sym c.knows.ensures ∙ c.if-not-knows.false)
-    in let active =
-    is_active-found c.self.inside.plan c.self.inside.active.items c.as_slice.result.now c.args.s _ true
-    c.self.invariant.active c.as_slice.ensures.value c.is_among.ensures c.if-not-is_among.false
-    in let many : 1 < length (members.active_now c.self.inside.plan) = omega (arith, ap length c.self.invariant.active)
-    in let none = rw change at c.in_ok-push.ensures.accepted
-    in subst (λ (p : Planned). commands.drain_refusal p c.args.at c.args.s ≡ None) c.self.view_is
-    (drain_refusal-plan c.self.inside.plan c.self.invariant.membership c.args.at c.args.s known active many
-    ∙ ap (option_map refusal_of) none)
+    let members = c.in_ok-members.ensures ∙ ap (controlled.without_member c.args.s) c.as_slice.ensures.value
+    in let many : leb (length c.self.inside.members.items) 1 ≡ false = lt-leb _ _ (omega arith)
+    in let are = members ∙ ap (λ (x : Controlled). commands.members_after (DrainServer c.args.s) x.members) c.self.view_is
+    in let fit : commands.first_refusal (commands.unfit c.args.self.now (DrainServer c.args.s)) ≡ None =
+    first-none (commands.unless_active c.args.self.now c.args.s)
+    (commands.when (leb (length c.args.self.now.members) 1) LastServer ∷ []) c.in_ok-check_active.ensures
+    ∙ when-false (leb (length c.args.self.now.members) 1) LastServer []
+    (subst (λ (x : Controlled). leb (length x.members) 1 ≡ false) c.self.view_is many)
+    in answered c.args.self.now c.args.at (DrainServer c.args.s) (Drain c.args.s) c.in_ok-members.members.items None fit are refl
+    c.in_ok-rebalanced.ensures.accepted
 
-pub returns-in_err-check_limits-clause-refused : goal.returns-in_err-check_limits-clause-refused
-returns-in_err-check_limits-clause-refused c =
-    let known = rw (← c.self.view_is) at (sym c.knows.ensures ∙ c.if-not-knows.false)
-    in let active =
-    is_active-found c.self.inside.plan c.self.inside.active.items c.as_slice.result.now c.args.s _ true
-    c.self.invariant.active c.as_slice.ensures.value c.is_among.ensures c.if-not-is_among.false
-    in let many : 1 < length (members.active_now c.self.inside.plan) = omega (arith, ap length c.self.invariant.active)
-    in let is = err_from_is_err_and c.from_residual.result c.from_residual.ensures.1
-    in rw (is.1, is.2) (λ other.
-    subst (λ (p : Planned). commands.drain_refusal p c.args.at c.args.s
-    ≡ Some (refusal_of c.in_err-check_limits.field-0.0)) c.self.view_is
-    (drain_refused-limits c.self.inside.plan c.args.at c.args.s _ known active many
-    ∙ limits-refused c.self.inside.plan c.self.invariant.membership.kept c.args.at _ c.in_err-check_limits.field-0.0
-    c.in_err-check_limits.ensures))
-
-pub returns-in_err-active-clause-want : goal.returns-in_err-active-clause-want
-returns-in_err-active-clause-want c =
-    let known = rw (← c.self.view_is) at (sym c.knows.ensures ∙ c.if-not-knows.false)
-    in let active =
-    is_active-found c.self.inside.plan c.self.inside.active.items c.as_slice.result.now c.args.s _ true
-    c.self.invariant.active c.as_slice.ensures.value c.is_among.ensures c.if-not-is_among.false
-    in let many : 1 < length (members.active_now c.self.inside.plan) = omega (arith, ap length c.self.invariant.active)
-    in wanted _ _ (subst (λ (p : Planned). commands.drain_refused p c.args.at c.args.s 0 ≡ None) c.self.view_is
-    (drain_refused-limits c.self.inside.plan c.args.at c.args.s 0 known active many
-    ∙ limits-none c.self.inside.plan c.args.at 0 c.in_ok-check_limits.ensures))
-
-pub returns-in_err-change-clause-want : goal.returns-in_err-change-clause-want
-returns-in_err-change-clause-want c =
-    let known = rw (← c.self.view_is) at (sym c.knows.ensures ∙ c.if-not-knows.false)
-    in let active =
-    is_active-found c.self.inside.plan c.self.inside.active.items c.as_slice.result.now c.args.s _ true
-    c.self.invariant.active c.as_slice.ensures.value c.is_among.ensures c.if-not-is_among.false
-    in let many : 1 < length (members.active_now c.self.inside.plan) = omega (arith, ap length c.self.invariant.active)
-    in wanted _ _ (subst (λ (p : Planned). commands.drain_refused p c.args.at c.args.s 0 ≡ None) c.self.view_is
-    (drain_refused-limits c.self.inside.plan c.args.at c.args.s 0 known active many
-    ∙ limits-none c.self.inside.plan c.args.at 0 c.in_ok-check_limits.ensures))
-
-pub returns-in_err-push-clause-want : goal.returns-in_err-push-clause-want
-returns-in_err-push-clause-want c =
-    let known = rw (← c.self.view_is) at (sym c.knows.ensures ∙ c.if-not-knows.false)
-    in let active =
-    is_active-found c.self.inside.plan c.self.inside.active.items c.as_slice.result.now c.args.s _ true
-    c.self.invariant.active c.as_slice.ensures.value c.is_among.ensures c.if-not-is_among.false
-    in let many : 1 < length (members.active_now c.self.inside.plan) = omega (arith, ap length c.self.invariant.active)
-    in wanted _ _ (subst (λ (p : Planned). commands.drain_refused p c.args.at c.args.s 0 ≡ None) c.self.view_is
-    (drain_refused-limits c.self.inside.plan c.args.at c.args.s 0 known active many
-    ∙ limits-none c.self.inside.plan c.args.at 0 c.in_ok-check_limits.ensures))
+pub returns-clause-ok : goal.returns-clause-ok
+returns-clause-ok c =
+    let members = c.in_ok-members.ensures ∙ ap (controlled.without_member c.args.s) c.as_slice.ensures.value
+    in let many : leb (length c.self.inside.members.items) 1 ≡ false = lt-leb _ _ (omega arith)
+    in let are = members ∙ ap (λ (x : Controlled). commands.members_after (DrainServer c.args.s) x.members) c.self.view_is
+    in c.in_ok-rebalanced.ensures.ok ∙ made c.args.self.now c.args.at (DrainServer c.args.s) (Drain c.args.s) c.in_ok-members.members.items are refl

@@ -1,0 +1,87 @@
+//! The active servers with their weights, in the order of their numbers.
+ghost use Rattle.std.specs.Prelude.{◌≡◌, IfOk};
+ghost use Rattle.bm_base.specs.declared.ids.ServerId.{ServerId};
+ghost use Rattle.bm_controller.specs.Controlled as controlled;
+
+use bm_base::{Memory, ServerId};
+use std::alloc::Global;
+
+/// An active server, and its weight, 1 to 1,000.
+#[derive(Clone, Copy)]
+pub struct Member {
+    pub server: ServerId,
+    pub weight: u32,
+}
+
+/// Each server with the weight at its place.
+pub(crate) fn of(
+    alloc: Global,
+    servers: &[ServerId],
+    weights: &[u32],
+) -> Result<Vec<Member>, Memory>
+    ensures { IfOk result
+        (λ members. members.items ≡ controlled.members_of servers.now weights.now) }
+{
+    let members = servers
+        .iter()
+        .zip(weights)
+        .map(|(server, weight)| Member {
+            server: *server,
+            weight: *weight,
+        })
+        .collect(alloc)?;
+    Ok(members)
+}
+
+pub(crate) fn servers(alloc: Global, members: &[Member]) -> Result<Vec<ServerId>, Memory>
+    ensures { IfOk result (λ servers. servers.items ≡ controlled.servers_of members.now) }
+{
+    let servers = members.iter().map(|m| m.server).collect(alloc)?;
+    Ok(servers)
+}
+
+pub(crate) fn weights(alloc: Global, members: &[Member]) -> Result<Vec<u32>, Memory>
+    ensures { IfOk result (λ weights. weights.items ≡ controlled.weights_of members.now) }
+{
+    let weights = members.iter().map(|m| m.weight).collect(alloc)?;
+    Ok(weights)
+}
+
+/// The members with this one, which takes the place of a member with its number.
+#[tactic(auto, using(std::proofs::lemmas::List::append_assoc))]
+pub(crate) fn with(alloc: Global, members: &[Member], m: Member) -> Result<Vec<Member>, Memory>
+    ensures { IfOk result (λ more. more.items ≡ controlled.with_member m members.now) }
+{
+    let mut more: Vec<Member> = members
+        .iter()
+        .copied()
+        .filter(|t| t.server.0 < m.server.0)
+        .collect(alloc)?;
+    let above: Vec<Member> = members
+        .iter()
+        .copied()
+        .filter(|t| m.server.0 < t.server.0)
+        .collect(alloc)?;
+    more.push(m)?;
+    more.extend_from_slice(above.as_slice())?;
+    Ok(more)
+}
+
+/// The members without this server.
+pub(crate) fn without(alloc: Global, members: &[Member], s: ServerId) -> Result<Vec<Member>, Memory>
+    ensures { IfOk result (λ fewer. fewer.items ≡ controlled.without_member s members.now) }
+{
+    let fewer = members
+        .iter()
+        .copied()
+        .filter(|t| t.server != s)
+        .collect(alloc)?;
+    Ok(fewer)
+}
+
+/// Whether the server is among them.
+pub(crate) fn is_among(members: &[Member], s: ServerId) -> bool
+    ensures { result ≡ controlled.is_member members.now s }
+{
+    members.iter().any(|t| t.server == s)
+}
