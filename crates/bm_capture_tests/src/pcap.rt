@@ -87,7 +87,9 @@ fn records_have_their_reasons_and_the_last_is_cut_short(rt: HostRuntime) -> Resu
         record(4000, Body::Steerable(SYN)),
         record(5000, Body::Steerable(DATA)),
     ];
+    check(&rt, read(rt.alloc(), &ETHERNET, 1)??, &want, Some(7));
     check(&rt, read(rt.alloc(), &ETHERNET, 7)??, &want, Some(7));
+    check(&rt, read(rt.alloc(), &ETHERNET, 262_160)??, &want, Some(7));
     Ok(())
 }
 

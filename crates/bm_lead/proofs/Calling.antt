@@ -14,7 +14,8 @@ use Rattle.bm_merge.specs.Notes.{Note}
 use Rattle.bm_merge.specs.Workers.{is_home}
 use Rattle.bm_server.specs.Servings.{Serving, shard_at}
 use Rattle.bm_server.specs.Seats.{Seated}
-use Rattle.bm_worker.specs.Deeds.{Hears, IsSamePorter, Sits, retiring, saying}
+use Rattle.bm_worker.specs.Deeds.{Hears, IsSamePorter, Sits, saying}
+use Rattle.bm_worker.specs.Inside.Deeds.{retiring}
 use Rattle.bm_worker.specs.Portings.{Porting}
 use Rattle.bm_worker.specs.Told.{told_there}
 use Rattle.bm_worker.proofs.Hearing.{hears_more, hears_none}

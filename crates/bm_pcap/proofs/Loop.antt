@@ -158,19 +158,17 @@ regroup records packets one packet (Ok read) =
 regroup records packets one packet (Err e) = refl
 
 pub goes_on : (now new : Option (List ℕ)) (form : Form) (vips : List Vip) (total : Captured) (place : Place)
-    (records : List Record) (packets : List (List ℕ)) (time : ℕ) (octets buffer : List ℕ) (moment : Moment)
+    (records : List Record) (packets : List (List ℕ)) (time : ℕ) (octets : List ℕ) (moment : Moment)
     (body : Body) (packet : List ℕ)
     → SoFar now form vips total place records packets
-    → StepGives now new form place (Ok (step.Record time (length octets))) buffer
-    → place.number ≤ most_records → octets ≡ drop (length buffer - length octets) buffer → moment ≡ moment_at place time
+    → StepGives now new form place (Ok (step.Record time (length octets))) octets
+    → place.number ≤ most_records → moment ≡ moment_at place time
     → (body, packet) ≡ classified form.link vips octets
     → SoFar new form vips total (behind_record place time (length octets))
     (records ++ record { moment = moment; body = body } ∷ []) (packets ++ packet ∷ [])
-goes_on now new form vips total place records packets time octets buffer moment body packet so_far gives few is
-    is_moment class =
-    let t = told now new form vips total place records packets (step.Record time (length octets)) buffer so_far gives in
-    let found : next_of form place t.0 ≡ Ok (whole time octets) =
-    t.1.1.0 ∙ ap (λ (o : List ℕ). Ok (whole time o)) (sym is) in
+goes_on now new form vips total place records packets time octets moment body packet so_far gives few is_moment class =
+    let t = told now new form vips total place records packets (step.Record time (length octets)) octets so_far gives in
+    let found : next_of form place t.0 ≡ Ok (whole time octets) = t.1.1.0 in
     let more : Place → List ℕ → Captured = records_from form vips (most_records + 1 - (place.number + 1)) in
     let rest : List ℕ = drop (16 + length octets) t.0 in
     let behind : Place = behind_record place time (length octets) in
@@ -191,11 +189,12 @@ goes_on now new form vips total place records packets time octets buffer moment 
 
 -- what a reader that hasn't ended does
 module _ {S : Type 0} (left : S → Option (List ℕ)) (faults : S → ℕ) (old new : Reader S) where
-  advances : (result : Result Step PcapFault) → old.ended ≡ None → Advances left faults old new result
-      → StepGives (to_come left old) (to_come left new) old.form old.place result new.passed
+  advances : (result : Result Step PcapFault) (own : List ℕ) → old.ended ≡ None
+      → Advances left faults old new result own
+      → StepGives (to_come left old) (to_come left new) old.form old.place result own
       × HasStepCause (faults old.source) (faults new.source) result × Keeps old new result
-  advances result fresh h =
-      let P : Option (Result Step PcapFault) → Type 0 = λ o. AdvancesFrom left faults o old new result in let a =
+  advances result own fresh h =
+      let P : Option (Result Step PcapFault) → Type 0 = λ o. AdvancesFrom left faults o old new result own in let a =
       subst P fresh h in (a.0, a.1, a.2)
 
   pub gave : (result : Result Item PcapFault) (answer : Item) → GivesNext left faults old new result
@@ -203,21 +202,21 @@ module _ {S : Type 0} (left : S → Option (List ℕ)) (faults : S → ℕ) (old
   gave result answer h is =
       let P : Result Item PcapFault → Type 0 = λ r. GivesNext left faults old new r in subst P is h
 
-  pub stepped : (found : Step) → old.ended ≡ None → Advances left faults old new (Ok found)
-      → StepGives (to_come left old) (to_come left new) old.form old.place (Ok found) new.passed
+  pub stepped : (found : Step) (own : List ℕ) → old.ended ≡ None → Advances left faults old new (Ok found) own
+      → StepGives (to_come left old) (to_come left new) old.form old.place (Ok found) own
       × HasStepCause {T = Step} (faults old.source) (faults new.source) (Ok found) × Keeps old new (Ok found)
-  stepped found fresh h = advances (Ok found) fresh h
+  stepped found own fresh h = advances (Ok found) own fresh h
 
   pub failed : (result : Result Item PcapFault) (e : PcapFault) → old.ended ≡ None
       → GivesNext left faults old new result → result ≡ Err e
-      → StepGives (to_come left old) (to_come left new) old.form old.place (Err e) new.passed
+      → StepGives (to_come left old) (to_come left new) old.form old.place (Err e) []
       × HasStepCause {T = Step} (faults old.source) (faults new.source) (Err e)
   failed result e fresh h is =
       let P : Result Item PcapFault → Type 0 = λ r. GivesNext left faults old new r in
-      let a = advances (Err e) fresh (subst P is h) in
+      let a = advances (Err e) [] fresh (subst P is h) in
       (a.0, a.1)
 
-  last_by : (e : PcapFault) → (before : Reader S) × ((before.ended ≡ None) × Advances left faults before new (Err e))
+  last_by : (e : PcapFault) → (before : Reader S) × ((before.ended ≡ None) × Advances left faults before new (Err e) [])
       → EndsWith left faults (Err e) new
   last_by fault.ReadFault h = h
   last_by fault.Memory h = tt
@@ -239,10 +238,11 @@ module _ {S : Type 0} (left : S → Option (List ℕ)) (faults : S → ℕ) (old
       → GivesNext left faults old new result → result ≡ Ok answer
       → faults new.source ≡ faults old.source
   answered result (item.Record number moment octets) fresh h is =
-      let given = gave result (item.Record number moment octets) h is in (advances _ fresh given.1.0).1.kept (λ e. cc)
+      let given = gave result (item.Record number moment octets) h is in
+      (advances _ _ fresh given.1.0).1.kept (λ e. cc)
   answered result (item.Cut number) fresh h is =
-      (advances _ fresh (gave result (item.Cut number) h is).0).1.kept (λ e. cc)
-  answered result item.End fresh h is = (advances _ fresh (gave result item.End h is)).1.kept (λ e. cc)
+      (advances _ _ fresh (gave result (item.Cut number) h is).0).1.kept (λ e. cc)
+  answered result item.End fresh h is = (advances _ _ fresh (gave result item.End h is)).1.kept (λ e. cc)
 
 -- a cause where the count stood still before it, and where it stands still
 pub cause_from : {S T : Type 0} (before mid now : ℕ) (e : PcapFault) → mid ≡ before

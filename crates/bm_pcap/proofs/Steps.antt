@@ -304,7 +304,7 @@ pub record_step : (old mid left after : Option (List ℕ)) (form : Form) (place 
     → Keeps mid (prepend_known ahead left)
     → most ≡ min (16 + len) (place.room + 1) → n ≤ length ahead → n ≤ place.room → 16 + len ≤ n
     → behind ≡ drop (16 + len) ahead → passed ≡ before ++ take (16 + len) ahead → after ≡ left
-    → StepGives old (prepend_known behind after) form place (Ok (step.Record time len)) passed
+    → StepGives old (prepend_known behind after) form place (Ok (step.Record time len)) (drop (length passed - len) passed)
 record_step None mid left after form place time len most n ahead before passed behind said is gives fits keeps more same
     is_most there within full rest gone source = tt
 record_step (Some octets) mid left after form place time len most n ahead before passed behind said is gives fits keeps

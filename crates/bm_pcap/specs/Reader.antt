@@ -1,5 +1,5 @@
 -- A reader of a capture, and what its calls do.
-use Rattle.std.specs.Prelude.{◌≡◌, ℕ, ◌+◌, ◌≤◌, ◌-◌, List, [], length, drop, Option, Some, None}
+use Rattle.std.specs.Prelude.{◌≡◌, ℕ, ◌+◌, ◌≤◌, List, [], length, drop, Option, Some, None}
 use Rattle.std.specs.Prelude.{Result, Ok, Err, IsErrOf, unwrap_or}
 use Rattle.std.specs.Io.KnownBytes.{prepend_known}
 use Rattle.bm_pcap.specs.declared.fault.PcapFault.{PcapFault}
@@ -22,8 +22,8 @@ use Rattle.bm_pcap.specs.Records.{behind_record}
 use Rattle.bm_pcap.specs.Taken.{FormLeaves}
 
 -- A reader: the source after what was read ahead, what the capture's header says, the place after
--- what was consumed, the octets that were read ahead, those before them that the buffer still has,
--- and what it returns from now on, if it has ended.
+-- what was taken, the octets that were read ahead, those that were taken last, of which only
+-- contracts of private calls speak, and what it returns from now on, if it has ended.
 pub record Reader (S : Type 0) : Type 0 where
   pub source : S
   pub form : Form
@@ -63,11 +63,11 @@ StartsWithCause {S} faults old (Ok reader) = faults reader.source ≡ faults old
 StartsWithCause {S} faults old (Err refused) =
     HasStepCause {T = Reader S} (faults old) (faults refused.0) (Err refused.1)
 
--- what a step means; a record's octets are the last that were consumed
+-- what a step means, with the octets of its record
 abbrev pub found_in : Step → List ℕ → Found
-found_in (step.Record time len) passed = whole time (drop (length passed - len) passed)
-found_in step.Cut passed = cut
-found_in step.End passed = end
+found_in (step.Record time len) own = whole time own
+found_in step.Cut own = cut
+found_in step.End own = end
 
 -- How many octets a step consumes: a record's header and its octets, and otherwise none.
 abbrev pub step_taken : Step → ℕ
@@ -75,17 +75,18 @@ step_taken (step.Record time len) = 16 + len
 step_taken step.Cut = 0
 step_taken step.End = 0
 
--- What was returned is what comes next, and what follows it is still to come. After a failed read
--- nothing is lost. If the source's octets aren't known, nothing is said.
+-- What was returned is what comes next, a record with its own octets, and what follows it is still
+-- to come. After a failed read nothing is lost. If the source's octets aren't known, nothing is
+-- said.
 abbrev pub StepGives : Option (List ℕ) → Option (List ℕ) → Form → Place → Result Step PcapFault
     → List ℕ → Type 0
-StepGives None new form place result passed = Unit {0}
-StepGives (Some octets) new form place (Ok found) passed =
-    (next_of form place octets ≡ Ok (found_in found passed))
+StepGives None new form place result own = Unit {0}
+StepGives (Some octets) new form place (Ok found) own =
+    (next_of form place octets ≡ Ok (found_in found own))
     × (new ≡ Some (drop (step_taken found) octets))
-StepGives (Some octets) new form place (Err ReadFault) passed = new ≡ Some octets
-StepGives (Some octets) new form place (Err Memory) passed = Unit {0}
-StepGives (Some octets) new form place (Err e) passed =
+StepGives (Some octets) new form place (Err ReadFault) own = new ≡ Some octets
+StepGives (Some octets) new form place (Err Memory) own = Unit {0}
+StepGives (Some octets) new form place (Err e) own =
     (next_of form place octets ≡ Err e) × (new ≡ Some octets)
 
 -- A read fails only if the octets that are held don't decide what comes next: a whole record, or a
@@ -106,17 +107,18 @@ Keeps old new result = (new.form ≡ old.form) × (new.place ≡ old.place) × (
 -- A reader that has ended returns the same again and changes nothing; any other returns what comes
 -- next.
 abbrev pub AdvancesFrom : {S : Type 0} → (S → Option (List ℕ)) → (S → ℕ)
-    → Option (Result Step PcapFault) → Reader S → Reader S → Result Step PcapFault → Type 0
-AdvancesFrom left faults (Some ended) old new result = (result ≡ ended) × (new ≡ old)
-AdvancesFrom left faults None old new result =
-    StepGives (to_come left old) (to_come left new) old.form old.place result new.passed
+    → Option (Result Step PcapFault) → Reader S → Reader S → Result Step PcapFault → List ℕ
+    → Type 0
+AdvancesFrom left faults (Some ended) old new result own = (result ≡ ended) × (new ≡ old)
+AdvancesFrom left faults None old new result own =
+    StepGives (to_come left old) (to_come left new) old.form old.place result own
     × HasStepCause (faults old.source) (faults new.source) result
     × Keeps old new result
     × FailsOpen old.form old.place result new.held
 
 abbrev pub Advances : {S : Type 0} → (S → Option (List ℕ)) → (S → ℕ) → Reader S → Reader S
-    → Result Step PcapFault → Type 0
-Advances left faults old new result = AdvancesFrom left faults old.ended old new result
+    → Result Step PcapFault → List ℕ → Type 0
+Advances left faults old new result own = AdvancesFrom left faults old.ended old new result own
 
 -- What `next` returns, and what it leaves. An item has the number of the place; a record has its
 -- moment, and its octets.
@@ -124,14 +126,13 @@ abbrev pub GivesNext : {S : Type 0} → (S → Option (List ℕ)) → (S → ℕ
     → Result Item PcapFault → Type 0
 GivesNext left faults old new (Ok (item.Record number moment octets)) =
     (time : ℕ)
-    × (Advances left faults old new (Ok (step.Record time (length octets.now)))
+    × (Advances left faults old new (Ok (step.Record time (length octets.now))) octets.now
     × (number ≡ old.place.number)
-    × (moment ≡ new.place.last)
-    × (octets.now ≡ drop (length new.passed - length octets.now) new.passed))
+    × (moment ≡ new.place.last))
 GivesNext left faults old new (Ok (item.Cut number)) =
-    Advances left faults old new (Ok step.Cut) × (number ≡ old.place.number)
-GivesNext left faults old new (Ok item.End) = Advances left faults old new (Ok step.End)
-GivesNext left faults old new (Err e) = Advances left faults old new (Err e)
+    Advances left faults old new (Ok step.Cut) [] × (number ≡ old.place.number)
+GivesNext left faults old new (Ok item.End) = Advances left faults old new (Ok step.End) []
+GivesNext left faults old new (Err e) = Advances left faults old new (Err e) []
 
 -- After the header of a capture that has these octets: the header gives the reader's form, and the
 -- source has the rest left.
@@ -178,7 +179,7 @@ HasEnded (Err e) ended = ended ≡ Some (Err e)
 abbrev pub EndsWith : {S : Type 0} → (S → Option (List ℕ)) → (S → ℕ) → Captured → Reader S → Type 0
 EndsWith {S} left faults (Ok read) new =
     (before : Reader S)
-    × ((before.ended ≡ None) × Advances left faults before new (Ok (last_step read.0.cut)))
+    × ((before.ended ≡ None) × Advances left faults before new (Ok (last_step read.0.cut)) [])
 EndsWith left faults (Err Memory) new = Unit {0}
 EndsWith {S} left faults (Err e) new =
-    (before : Reader S) × ((before.ended ≡ None) × Advances left faults before new (Err e))
+    (before : Reader S) × ((before.ended ≡ None) × Advances left faults before new (Err e) [])

@@ -8,7 +8,7 @@ ghost use Rattle.bm_pcap.specs.Causes.{HasStepCause, IsCaptureFault, IsHeaderFau
 ghost use Rattle.bm_pcap.specs.Reader.{Advances, GivesNext, EndsWith, HasEnded, IsBounded, IsFresh};
 ghost use Rattle.bm_pcap.specs.Limits.{latest};
 ghost use Rattle.bm_pcap.specs.Reader.{KnowsBegan, ReadsCapture, StartLeaves, Starts};
-ghost use Rattle.bm_pcap.specs.Inside.Reader.{IsLast};
+ghost use Rattle.bm_pcap.specs.Inside.Reader.{IsLast, own_octets};
 ghost use Rattle.bm_pcap.specs.Reader.{StartsWithCause, time_began};
 
 use crate::PcapFault;
@@ -125,7 +125,8 @@ impl<S: Source> PcapReader<S> {
     /// Reads what comes next. After a fault, a record that is cut short, or the end, it returns the
     /// same again.
     fn advance(&mut self) -> Result<Step, PcapFault>
-        ensures advances { Advances S.left S.faults self.old self.new result }
+        ensures advances { Advances S.left S.faults self.old self.new result
+            (own_octets result self.new.passed) }
         ensures last { IfOk result (IsLast self.new.passed) }
         ensures bounded { IsBounded self.new }
         ensures others { IfErr result IsRecordFault }

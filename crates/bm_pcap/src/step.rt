@@ -7,7 +7,7 @@ ghost use Rattle.bm_pcap.specs.Parts.{StepFits};
 ghost use Rattle.bm_pcap.specs.Inside.Parts.{HeadGives, HeadFits, HeadIn, IsEarly, stated};
 ghost use Rattle.bm_pcap.specs.Limits.{latest, widest};
 ghost use Rattle.bm_pcap.specs.Reader.{FailsOpen, StepGives};
-ghost use Rattle.bm_pcap.specs.Inside.Reader.{IsLast};
+ghost use Rattle.bm_pcap.specs.Inside.Reader.{IsLast, own_octets};
 ghost use Rattle.bm_pcap.specs.Records.{IsOpen, next_of, time_of};
 ghost use Rattle.bm_pcap.specs.Window.{held, passed, rest, width};
 
@@ -33,7 +33,7 @@ pub enum Head {
     States { time: u64, len: u32 },
 }
 
-/// Reads what comes next at this place. A record's octets are the last that were consumed.
+/// Reads what comes next at this place. A record's octets are the last that were taken.
 pub(crate) fn read_step<S: Source>(
     window: &mut Window<S>,
     form: &Form,
@@ -41,7 +41,7 @@ pub(crate) fn read_step<S: Source>(
 ) -> Result<Step, PcapFault>
     requires { width window.old ≡ widest }
     ensures gives { StepGives (rest S.left window.old) (rest S.left window.new) form.now place.now
-        result (passed window.new) }
+        result (own_octets result (passed window.new)) }
     ensures last { IfOk result (IsLast (passed window.new)) }
     ensures open { FailsOpen form.now place.now result (held window.new) }
     ensures fits { IfOk result (StepFits place.now) }

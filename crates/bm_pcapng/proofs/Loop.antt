@@ -23,7 +23,8 @@ use Rattle.bm_pcapng.specs.declared.step.Step.TheVariants.{Block, Cut, End}
 use Rattle.bm_pcapng.specs.Blocks.{next_of}
 use Rattle.bm_pcapng.specs.Capture.{Captured, after_found, capture, classified_by, packet_octets, records_from}
 use Rattle.bm_pcapng.specs.Causes.{HasStepCause}
-use Rattle.bm_pcapng.specs.Parts.{BlockGives, last_of}
+use Rattle.bm_pcapng.specs.Parts.{BlockGives}
+use Rattle.bm_pcapng.specs.Inside.Parts.{own_octets}
 use Rattle.bm_pcapng.specs.Places.{first_place, interfaces_behind, moment_at, order_behind}
 use Rattle.bm_pcapng.specs.Inside.Places.{packet_in}
 use Rattle.bm_pcapng.specs.Places.{place_behind}
@@ -165,16 +166,16 @@ in_block packet n left within =
 
 pub goes_on : (now new : Option (List ℕ)) (order : Order) (interfaces : List Interface) (vips : List Vip)
     (total : Captured) (place : Place) (records : List Record) (packets : List (List ℕ)) (n : ℕ) (packet : Packet)
-    (octets passed : List ℕ) (moment : Moment) (body : Body) (part : List ℕ)
+    (octets block : List ℕ) (moment : Moment) (body : Body) (part : List ℕ)
     → SoFar now order interfaces vips total place records packets
-    → BlockGives now new order interfaces place (Ok (Block n (Holds packet))) passed
-    → place.block ≤ most_octets → packet.at + packet.len ≤ n → octets ≡ octets_in packet (last_of n passed)
+    → BlockGives now new order interfaces place (Ok (Block n (Holds packet))) block
+    → place.block ≤ most_octets → packet.at + packet.len ≤ n → octets ≡ octets_in packet block
     → moment ≡ moment_at place packet.time → (body, part) ≡ classified_by packet.link vips octets
     → SoFar new order interfaces vips total (place_behind place n (Holds packet))
     (records ++ record { moment = moment; body = body } ∷ []) (packets ++ part ∷ [])
-goes_on now new order interfaces vips total place records packets n packet octets passed moment body part so_far gives
+goes_on now new order interfaces vips total place records packets n packet octets block moment body part so_far gives
     few within is is_moment class =
-    let t = told now new order interfaces vips total place records packets (Ok (Block n (Holds packet))) passed so_far
+    let t = told now new order interfaces vips total place records packets (Ok (Block n (Holds packet))) block so_far
     gives in
     let own : octets ≡ packet_octets packet t.0 =
     is ∙ ap (octets_in packet) t.1.1.1 ∙ in_block packet n t.0 within in
@@ -234,20 +235,25 @@ passes_over now new order interfaces vips total place records packets n content 
 
 -- what a reader that hasn't ended does
 module _ {S : Type 0} (left : S → Option (List ℕ)) (faults : S → ℕ) (old new : Reader S) where
-  pub advanced : (result : Result Step NgFault) → old.ended ≡ None → Advances left faults old new result
-      → BlockGives (to_come left old) (to_come left new) old.order old.interfaces old.place result new.passed
+  pub advanced : (result : Result Step NgFault) → old.ended ≡ None
+      → Advances left faults old new result (own_octets result new.passed)
+      → BlockGives (to_come left old) (to_come left new) old.order old.interfaces old.place result
+      (own_octets result new.passed)
       × HasStepCause (faults old.source) (faults new.source) result × Keeps old new result
   advanced result fresh h =
-      let P : Option (Result Step NgFault) → Type 0 = λ o. AdvancesFrom left faults o old new result in let a =
+      let P : Option (Result Step NgFault) → Type 0 = λ o. AdvancesFrom left faults o old new result
+      (own_octets result new.passed) in let a =
       subst P fresh h in (a.0, a.1, a.2)
 
   -- what it answered, where that is known
-  pub gave : (result : Result Step NgFault) (answer : Result Step NgFault) → Advances left faults old new result
-      → result ≡ answer → Advances left faults old new answer
+  pub gave : (result : Result Step NgFault) (answer : Result Step NgFault)
+      → Advances left faults old new result (own_octets result new.passed)
+      → result ≡ answer → Advances left faults old new answer (own_octets answer new.passed)
   gave result answer h is =
-      let P : Result Step NgFault → Type 0 = λ r. Advances left faults old new r in subst P is h
+      let P : Result Step NgFault → Type 0 = λ r. Advances left faults old new r (own_octets r new.passed) in
+      subst P is h
 
-  last_by : (e : NgFault) → (before : Reader S) × ((before.ended ≡ None) × Advances left faults before new (Err e))
+  last_by : (e : NgFault) → (before : Reader S) × ((before.ended ≡ None) × Advances left faults before new (Err e) [])
       → EndsWith left faults (Err e) new
   last_by fault.ReadFault h = h
   last_by fault.Memory h = tt
@@ -259,7 +265,8 @@ module _ {S : Type 0} (left : S → Option (List ℕ)) (faults : S → ℕ) (old
   last_by fault.TooManyPackets h = h
 
   pub last_fault : (result : Result Step NgFault) (e : NgFault) → old.ended ≡ None
-      → Advances left faults old new result → result ≡ Err e → EndsWith left faults (Err e) new
+      → Advances left faults old new result (own_octets result new.passed) → result ≡ Err e
+      → EndsWith left faults (Err e) new
   last_fault result e fresh h is = last_by e (old, (fresh, gave result (Err e) h is))
 
 -- a cause where the count stood still before it, and where it stands still

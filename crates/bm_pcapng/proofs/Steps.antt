@@ -19,8 +19,8 @@ use Rattle.bm_pcapng.specs.declared.step.Head.TheVariants as head
 use Rattle.bm_pcapng.specs.declared.step.Step.{Step}
 use Rattle.bm_pcapng.specs.declared.step.Step.TheVariants as step
 use Rattle.bm_pcapng.specs.Blocks.{behind_head, framed, next_of, short}
-use Rattle.bm_pcapng.specs.Parts.{BlockGives, IsOpen, last_of}
-use Rattle.bm_pcapng.specs.Inside.Parts.{HeadGives, HeadIn, StepGives}
+use Rattle.bm_pcapng.specs.Parts.{BlockGives, IsOpen}
+use Rattle.bm_pcapng.specs.Inside.Parts.{HeadGives, HeadIn, StepGives, last_of, own_octets}
 use Rattle.bm_pcapng.proofs.Heads.{known, short_cut, short_large}
 
 -- a block that isn't there as a whole, or is longer than it may be
@@ -124,9 +124,9 @@ open_body order interfaces place said kind own n most before ahead is held grows
     ∙ short_cut place.room ahead (omega (arith, is_most, less)))) tt
 
 -- the last octets of those that were answered are the block's
-own_octets : (n : ℕ) (before ahead : List ℕ) → n ≤ length ahead
+block_octets : (n : ℕ) (before ahead : List ℕ) → n ≤ length ahead
     → last_of n (before ++ take n ahead) ≡ take n ahead
-own_octets n before ahead long =
+block_octets n before ahead long =
     let size : length (take n ahead) ≡ n = length-take-le n ahead long in
     let at : length (before ++ take n ahead) - n ≡ length before =
     omega (arith, size, length-append before (take n ahead)) in
@@ -137,7 +137,7 @@ pub block_step : (old left after : Option (List ℕ)) (order : Order) (interface
     (n : ℕ) (content : Content) (ahead before passed behind : List ℕ) (found : Step) → found ≡ step.Block n content
     → StepGives old order interfaces place (Ok found) → Keeps old (prepend_known ahead left) → n ≤ length ahead
     → behind ≡ drop n ahead → passed ≡ before ++ take n ahead → after ≡ left
-    → BlockGives old (prepend_known behind after) order interfaces place (Ok found) passed
+    → BlockGives old (prepend_known behind after) order interfaces place (Ok found) (own_octets (Ok found) passed)
 block_step None left after order interfaces place n content ahead before passed behind found is gives keeps long rest
     gone source = tt
 block_step (Some octets) None after order interfaces place n content ahead before passed behind found is gives keeps
@@ -145,14 +145,14 @@ block_step (Some octets) None after order interfaces place n content ahead befor
 block_step (Some octets) (Some ys) after order interfaces place n content ahead before passed behind found is gives
     keeps long rest gone source =
     let P : Step → Type 0 = λ f. BlockGives (Some octets) (prepend_known behind after) order interfaces place (Ok f)
-    passed in
+    (own_octets (Ok f) passed) in
     let front : take n ahead ≡ take n octets =
     sym (take-append-le n ahead ys long) ∙ ap (take n) keeps in
     let back : drop n ahead ++ ys ≡ drop n octets =
     sym (drop-append-le n ahead ys long) ∙ ap (drop n) keeps in
     subst P (sym is) (
       gives ∙ ap (λ (f : Step). Ok f) is,
-      ap (last_of n) gone ∙ own_octets n before ahead long ∙ front,
+      ap (last_of n) gone ∙ block_octets n before ahead long ∙ front,
       ap₂ (λ (x : List ℕ) (y : Option (List ℕ)). prepend_known x y) rest source ∙ ap (λ (z : List ℕ). Some z) back,
     )
 

@@ -1,5 +1,5 @@
 -- What reading a block or a step of a capture gives.
-use Rattle.std.specs.Prelude.{◌≡◌, ℕ, ◌+◌, ◌-◌, ◌≤◌, ◌<◌, List, length, take, drop, Option, Some}
+use Rattle.std.specs.Prelude.{◌≡◌, ℕ, ◌+◌, ◌≤◌, ◌<◌, List, length, take, drop, Option, Some}
 use Rattle.std.specs.Prelude.{None, Result, Ok, Err, IsErrOf}
 use Rattle.bm_pcap.specs.declared.form.Order.{Order}
 use Rattle.bm_pcap.specs.Limits.{longest, most_records}
@@ -46,20 +46,15 @@ abbrev pub FailsOpen : {T : Type 0} → Order → List Interface → Place → R
 FailsOpen order interfaces place result ahead =
     IsErrOf result ReadFault → IsOpen (next_of order interfaces place ahead)
 
--- the last octets
-abbrev pub last_of : ℕ → List ℕ → List ℕ
-last_of n octets = drop (length octets - n) octets
-
--- What was returned is what comes next, a block's octets are the last that were consumed, and what
--- follows is still to come. After a failed read nothing is lost. If the source's octets aren't
--- known, nothing is said.
+-- What was returned is what comes next, a block with its own octets, and what follows is still to
+-- come. After a failed read nothing is lost. If the source's octets aren't known, nothing is said.
 abbrev pub BlockGives : Option (List ℕ) → Option (List ℕ) → Order → List Interface → Place
     → Result Step NgFault → List ℕ → Type 0
-BlockGives None new order interfaces place result passed = Unit {0}
-BlockGives (Some octets) new order interfaces place (Ok (step.Block n said)) passed =
+BlockGives None new order interfaces place result own = Unit {0}
+BlockGives (Some octets) new order interfaces place (Ok (step.Block n said)) own =
     (next_of order interfaces place octets ≡ Ok (step.Block n said))
-    × (last_of n passed ≡ take n octets)
+    × (own ≡ take n octets)
     × (new ≡ Some (drop n octets))
-BlockGives (Some octets) new order interfaces place (Err ReadFault) passed = new ≡ Some octets
-BlockGives (Some octets) new order interfaces place result passed =
+BlockGives (Some octets) new order interfaces place (Err ReadFault) own = new ≡ Some octets
+BlockGives (Some octets) new order interfaces place result own =
     (next_of order interfaces place octets ≡ result) × (new ≡ Some octets)

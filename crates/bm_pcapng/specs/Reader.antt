@@ -20,12 +20,13 @@ use Rattle.bm_pcapng.specs.Blocks.{next_of}
 use Rattle.bm_pcapng.specs.Capture.{Captured, capture, first_order}
 use Rattle.bm_pcapng.specs.Causes.{HasStepCause}
 use Rattle.bm_pcapng.specs.Limits.{longest_block}
-use Rattle.bm_pcapng.specs.Parts.{BlockGives, FailsOpen, StepFits, last_of}
+use Rattle.bm_pcapng.specs.Parts.{BlockGives, FailsOpen, StepFits}
 use Rattle.bm_pcapng.specs.Places.{first_place, interfaces_behind, order_behind, place_behind}
 
 -- A reader: the source after what was read ahead, the order of its section's numbers and its
--- interfaces, the place after what was consumed, the octets that were read ahead, those before them
--- that the buffer still has, and what it returns from now on, if it has ended.
+-- interfaces, the place after what was taken, the octets that were read ahead, those that were
+-- taken last, of which only contracts of private calls speak, and what it returns from now on, if
+-- it has ended.
 pub record Reader (S : Type 0) : Type 0 where
   pub source : S
   pub order : Order
@@ -117,18 +118,17 @@ Keeps old new result =
 -- A reader that has ended returns the same again and changes nothing; any other returns what comes
 -- next.
 abbrev pub AdvancesFrom : {S : Type 0} → (S → Option (List ℕ)) → (S → ℕ)
-    → Option (Result Step NgFault) → Reader S → Reader S → Result Step NgFault → Type 0
-AdvancesFrom left faults (Some ended) old new result = (result ≡ ended) × (new ≡ old)
-AdvancesFrom left faults None old new result =
-    BlockGives (to_come left old) (to_come left new) old.order old.interfaces old.place result
-    new.passed
+    → Option (Result Step NgFault) → Reader S → Reader S → Result Step NgFault → List ℕ → Type 0
+AdvancesFrom left faults (Some ended) old new result own = (result ≡ ended) × (new ≡ old)
+AdvancesFrom left faults None old new result own =
+    BlockGives (to_come left old) (to_come left new) old.order old.interfaces old.place result own
     × HasStepCause (faults old.source) (faults new.source) result
     × Keeps old new result
     × FailsOpen old.order old.interfaces old.place result new.held
 
 abbrev pub Advances : {S : Type 0} → (S → Option (List ℕ)) → (S → ℕ) → Reader S → Reader S
-    → Result Step NgFault → Type 0
-Advances left faults old new result = AdvancesFrom left faults old.ended old new result
+    → Result Step NgFault → List ℕ → Type 0
+Advances left faults old new result own = AdvancesFrom left faults old.ended old new result own
 
 -- a block without a packet
 abbrev pub IsPassedOver : Content → Type 0
@@ -139,32 +139,33 @@ IsPassedOver other = Unit {0}
 pub data Passes {S : Type 0} (left : S → Option (List ℕ)) (faults : S → ℕ) (from : Reader S)
     : Reader S → Type 0 where
   here : Passes left faults from from
-  over : (mid new : Reader S) (n : ℕ) (content : Content) → Passes left faults from mid
-      → IsPassedOver content → Advances left faults mid new (Ok (Block n content))
+  over : (mid new : Reader S) (n : ℕ) (content : Content) (own : List ℕ)
+      → Passes left faults from mid
+      → IsPassedOver content → Advances left faults mid new (Ok (Block n content)) own
       → Passes left faults from new
 
--- After blocks without a packet the reader returns this.
+-- After blocks without a packet the reader returns this, a block with its own octets.
 abbrev pub Stops : {S : Type 0} → (S → Option (List ℕ)) → (S → ℕ) → Reader S → Reader S → ℕ
-    → Result Step NgFault → Type 0
-Stops {S} left faults old new number result =
+    → Result Step NgFault → List ℕ → Type 0
+Stops {S} left faults old new number result own =
     (mid : Reader S)
-    × (Passes left faults old mid × Advances left faults mid new result
+    × (Passes left faults old mid × Advances left faults mid new result own
     × (number ≡ mid.place.number))
 
 -- What `next` returns, and what it leaves. A record has the number of its place, its moment, the
--- link type of its interface, and its octets.
+-- link type of its interface, and its octets, which are in its block's.
 abbrev pub GivesNext : {S : Type 0} → (S → Option (List ℕ)) → (S → ℕ) → Reader S → Reader S
     → Result NgItem NgFault → Type 0
 GivesNext left faults old new (Ok (item.Record number moment link octets)) =
-    (n : ℕ) × ((packet : Packet)
-    × (Stops left faults old new number (Ok (Block n (Holds packet)))
+    (n : ℕ) × ((packet : Packet) × ((block : List ℕ)
+    × (Stops left faults old new number (Ok (Block n (Holds packet))) block
     × (moment ≡ new.place.last)
     × (link ≡ packet.link)
-    × (octets.now ≡ octets_in packet (last_of n new.passed))))
-GivesNext left faults old new (Ok (item.Cut number)) = Stops left faults old new number (Ok Cut)
+    × (octets.now ≡ octets_in packet block))))
+GivesNext left faults old new (Ok (item.Cut number)) = Stops left faults old new number (Ok Cut) []
 GivesNext left faults old new (Ok item.End) =
-    (number : ℕ) × Stops left faults old new number (Ok End)
-GivesNext left faults old new (Err e) = (number : ℕ) × Stops left faults old new number (Err e)
+    (number : ℕ) × Stops left faults old new number (Ok End) []
+GivesNext left faults old new (Err e) = (number : ℕ) × Stops left faults old new number (Err e) []
 
 abbrev pub ReadsCapture : {S : Type 0} → (S → Option (List ℕ)) → Reader S → List Vip → Captured
     → Type 0
@@ -198,7 +199,7 @@ HasEnded (Err e) ended = ended ≡ Some (Err e)
 abbrev pub EndsWith : {S : Type 0} → (S → Option (List ℕ)) → (S → ℕ) → Captured → Reader S → Type 0
 EndsWith {S} left faults (Ok read) new =
     (before : Reader S)
-    × ((before.ended ≡ None) × Advances left faults before new (Ok (last_step read.0.cut)))
+    × ((before.ended ≡ None) × Advances left faults before new (Ok (last_step read.0.cut)) [])
 EndsWith left faults (Err Memory) new = Unit {0}
 EndsWith {S} left faults (Err e) new =
-    (before : Reader S) × ((before.ended ≡ None) × Advances left faults before new (Err e))
+    (before : Reader S) × ((before.ended ≡ None) × Advances left faults before new (Err e) [])

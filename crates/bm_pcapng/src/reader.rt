@@ -16,8 +16,7 @@ ghost use Rattle.bm_pcapng.specs.Inside.Reader.{IsStopLast, OpensIn};
 ghost use Rattle.bm_pcapng.specs.Reader.{ReadsCapture, StartLeaves, Starts, StartsWithCause};
 ghost use Rattle.bm_pcapng.specs.Reader.{octets_in};
 ghost use Rattle.bm_pcapng.specs.Reader.{time_began};
-ghost use Rattle.bm_pcapng.specs.Parts.{last_of};
-ghost use Rattle.bm_pcapng.specs.Inside.Parts.{IsLast};
+ghost use Rattle.bm_pcapng.specs.Inside.Parts.{IsLast, last_of, own_octets};
 
 use crate::item::NgItem;
 use crate::place::{LATEST, LONGEST_BLOCK};
@@ -126,7 +125,8 @@ impl<S: Source> NgReader<S> {
     /// Reads the next block. After a fault, a block that is cut short, or the end, it returns the
     /// same again.
     fn advance(&mut self) -> Result<Step, NgFault>
-        ensures advances { Advances S.left S.faults self.old self.new result }
+        ensures advances { Advances S.left S.faults self.old self.new result
+            (own_octets result self.new.passed) }
         ensures last { IfOk result (IsLast self.new.passed) }
         ensures bounded { IsBounded self.new }
         ensures others { IfErr result IsBlockFault }

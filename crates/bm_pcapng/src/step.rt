@@ -10,7 +10,7 @@ ghost use Rattle.bm_pcapng.specs.Inside.Causes.{IsContentFault, IsOrderFault};
 ghost use Rattle.bm_pcapng.specs.Causes.{IsStartFault};
 ghost use Rattle.bm_pcapng.specs.Limits.{longest_block};
 ghost use Rattle.bm_pcapng.specs.Parts.{BlockGives, FailsOpen};
-ghost use Rattle.bm_pcapng.specs.Inside.Parts.{HeadFits, HeadGives, HeadIn};
+ghost use Rattle.bm_pcapng.specs.Inside.Parts.{HeadFits, HeadGives, HeadIn, own_octets};
 ghost use Rattle.bm_pcapng.specs.Parts.{StepFits};
 ghost use Rattle.bm_pcapng.specs.Inside.Parts.{IsAtSection, IsBlockOf, IsLast, OrderGives};
 ghost use Rattle.bm_pcapng.specs.Inside.Parts.{StartsSection, StepGives, StepIn};
@@ -41,7 +41,7 @@ pub enum Head {
     States(Kind, Order, u32),
 }
 
-/// Reads what comes next at this place. A block's octets are the last that were consumed.
+/// Reads what comes next at this place. A block's octets are the last that were taken.
 pub(crate) fn read_step<S: Source>(
     window: &mut Window<S>,
     section: &Section,
@@ -49,7 +49,8 @@ pub(crate) fn read_step<S: Source>(
 ) -> Result<Step, NgFault>
     requires { width window.old ≡ longest_block }
     ensures gives { BlockGives (rest S.left window.old) (rest S.left window.new)
-        section.now.order section.now.interfaces.items place.now result (passed window.new) }
+        section.now.order section.now.interfaces.items place.now result
+        (own_octets result (passed window.new)) }
     ensures last { IfOk result (IsLast (passed window.new)) }
     ensures open { FailsOpen section.now.order section.now.interfaces.items place.now result
         (held window.new) }

@@ -100,6 +100,12 @@ impl Guard {
         }
     }
 
+    pub(crate) fn told(&self) -> &Told
+        ensures { result.now ≡ self.now }
+    {
+        &self.reading.get().told
+    }
+
     /// How many changes of the plan the table has. Takes no memory.
     pub fn version(&self) -> Version
         ensures version { result.0 ≡ last_version self.now }

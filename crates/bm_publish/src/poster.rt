@@ -1,14 +1,15 @@
 //! The poster's end of a board, and how a board is made.
-ghost use Rattle.std.specs.Prelude.{◌≡◌, ◌*◌, ◌^◌, ◌<◌, ◌≤◌, [], Some, All, IfOk, OnErr, OnOk};
+ghost use Rattle.std.specs.Prelude.{◌≡◌, ◌*◌, ◌^◌, ◌<◌, ◌≤◌, [], Some, All, IfOk};
+ghost use Rattle.std.specs.Prelude.{MatchOption, OnErr, OnOk};
 ghost use Rattle.std.specs.Prelude.{drop, length};
 ghost use Rattle.bm_table.specs.Tables.{next_change};
 ghost use Rattle.left_right.specs.Sides.{view as seat_view};
-ghost use Rattle.bm_publish.specs.Inside.Boards.{IsRight, changed_from};
-ghost use Rattle.bm_publish.specs.Posts.{last_post, last_version, with_post};
+ghost use Rattle.bm_publish.specs.Inside.Boards.{IsRight, ShowsAllBut, changed_from};
+ghost use Rattle.bm_publish.specs.Posts.{Continues, last_post, last_version, with_post};
 
-use crate::look::Look;
+use crate::look::{Guard, Look};
 use crate::shown::{Hearing, Kept, Post, Seeing, Shown, Telling};
-use crate::told::{Head, Told, open};
+use crate::told::{History, Told};
 use bm_base::{List, Memory, Moment};
 use bm_table::{Change, Kind, Plan, Table};
 use core::mem::replace_with;
@@ -22,24 +23,27 @@ type Ends = Writer<Shown, Post, Option<Told>, Kept>;
 /// The end of a board that posts. It isn't Drop: end it by `end`. Contracts see what is posted.
 pub struct Poster {
     writer: Ends,
-    head: Head,
+    history: History,
+    /// A post that was refused memory in the log of operations. It is shown before the next post.
+    waiting: Option<Post>,
 }
 
 impl Model for Poster {
     ghost use Rattle.std.specs.Prelude.{◌≡◌, [], Some, drop};
     ghost use Rattle.left_right.specs.Sides.{view as seat_view};
-    ghost use Rattle.bm_publish.specs.Inside.Boards.{IsRight};
-    ghost use Rattle.bm_publish.specs.Inside.Histories.{head_of};
+    ghost use Rattle.bm_publish.specs.Inside.Boards.{IsRight, ShowsAllBut};
     ghost use Rattle.bm_publish.specs.Posts.{Posted};
 
     ghost Value = { Posted };
 
-    ghost view = { λ p. p.writer.desk.shown.value.told };
+    ghost view = { λ p. p.history };
 
     ghost invariant = { λ p. (drop p.writer.behind p.writer.log.items ≡ [])
         × IsRight p.writer.desk.shown.value.table p.writer.desk.shown.value.told
         × (seat_view p.writer.desk.place ≡ Some p.writer.desk.shown.value.told)
-        × (p.head ≡ head_of p.writer.desk.shown.value.told.board) };
+        × (p.writer.desk.shown.value.told.board ≡ p.history.board)
+        × ShowsAllBut p.writer.desk.shown.value.table p.writer.desk.shown.value.told p.history
+        p.waiting };
 }
 
 /// A board that shows version 0 and clock 0 of the plan, its poster and this many looks. `Memory`
@@ -76,26 +80,126 @@ fn idle_change(alloc: Global) -> Change
     }
 }
 
-/// Shows a post. The ends are given back, and still show what they showed if memory was refused.
-fn publish<R: Wait>(rt: &R, mut writer: Ends, post: Post) -> (Ends, Result<(), Memory>)
+/// Shows a post. If memory was refused the ends show what they showed, and the post comes back.
+fn publish<R: Wait>(rt: &R, mut writer: Ends, post: Post) -> (Ends, Option<Post>)
     requires idle { drop writer.behind writer.log.items ≡ [] }
     requires right { IsRight writer.desk.shown.value.table writer.desk.shown.value.told }
     requires next { IsRight (changed_from post.change 0 writer.desk.shown.value.table) post.told }
     requires board { post.told.board ≡ writer.desk.shown.value.told.board }
     ensures idle { drop result.0.behind result.0.log.items ≡ [] }
-    ensures ok { OnOk result.1 ((result.0.desk.shown.value.told ≡ post.told)
+    ensures shown { MatchOption result.1 ((result.0.desk.shown.value.told ≡ post.told)
         × IsRight result.0.desk.shown.value.table post.told
-        × (seat_view result.0.desk.place ≡ Some post.told)) }
-    ensures err { OnErr result.1 ((result.0.desk.shown.value ≡ writer.desk.shown.value)
+        × (seat_view result.0.desk.place ≡ Some post.told))
+        (λ back. (back ≡ post) × (result.0.desk.shown.value ≡ writer.desk.shown.value)
         × (seat_view result.0.desk.place ≡ seat_view writer.desk.place)) }
 {
-    let Ok(()) = writer.append(post) else {
-        return (writer, Err(Memory));
-    };
-    let (writer, published) = writer.publish_as::<Seeing, R>(rt);
-    match published {
-        Ok(()) => (writer, Ok(())),
-        Err(_) => (writer, Err(Memory)),
+    match writer.append(post) {
+        Err(post) => (writer, Some(post)),
+        Ok(()) => {
+            let (writer, published) = writer.publish_as::<Seeing, R>(rt);
+            let Ok(()) = published else { unreachable!() };
+            (writer, None)
+        }
+    }
+}
+
+/// Shows a post. If memory was refused it comes back, to wait.
+fn show<R: Wait>(rt: &R, writer: Ends, post: Post) -> (Ends, Option<Post>)
+    requires idle { drop writer.behind writer.log.items ≡ [] }
+    requires right { IsRight writer.desk.shown.value.table writer.desk.shown.value.told }
+    requires seat { seat_view writer.desk.place ≡ Some writer.desk.shown.value.told }
+    requires next { IsRight (changed_from post.change 0 writer.desk.shown.value.table) post.told }
+    requires board { post.told.board ≡ writer.desk.shown.value.told.board }
+    ensures idle { drop result.0.behind result.0.log.items ≡ [] }
+    ensures right { IsRight result.0.desk.shown.value.table result.0.desk.shown.value.told }
+    ensures seat { seat_view result.0.desk.place ≡ Some result.0.desk.shown.value.told }
+    ensures board { result.0.desk.shown.value.told.board ≡ post.told.board }
+    ensures waits { ShowsAllBut result.0.desk.shown.value.table result.0.desk.shown.value.told
+        post.told result.1 }
+{
+    let (writer, back) = publish(rt, writer, post);
+    match back {
+        None => (writer, None),
+        Some(back) => (writer, Some(back)),
+    }
+}
+
+/// Shows the post that waits, if there is one.
+fn show_rest<R: Wait>(
+    rt: &R,
+    writer: Ends,
+    waiting: Option<Post>,
+    history: &History,
+) -> (Ends, Option<Post>)
+    requires idle { drop writer.behind writer.log.items ≡ [] }
+    requires right { IsRight writer.desk.shown.value.table writer.desk.shown.value.told }
+    requires seat { seat_view writer.desk.place ≡ Some writer.desk.shown.value.told }
+    requires board { writer.desk.shown.value.told.board ≡ history.now.board }
+    requires waits { ShowsAllBut writer.desk.shown.value.table writer.desk.shown.value.told
+        history.now waiting }
+    ensures idle { drop result.0.behind result.0.log.items ≡ [] }
+    ensures right { IsRight result.0.desk.shown.value.table result.0.desk.shown.value.told }
+    ensures seat { seat_view result.0.desk.place ≡ Some result.0.desk.shown.value.told }
+    ensures board { result.0.desk.shown.value.told.board ≡ history.now.board }
+    ensures waits { ShowsAllBut result.0.desk.shown.value.table result.0.desk.shown.value.told
+        history.now result.1 }
+{
+    match waiting {
+        None => (writer, None),
+        Some(post) => show(rt, writer, post),
+    }
+}
+
+/// The poster with one more post.
+fn add<R: Wait>(rt: &R, writer: Ends, history: History, change: Change, clock: Moment) -> Poster
+    requires idle { drop writer.behind writer.log.items ≡ [] }
+    requires right { IsRight writer.desk.shown.value.table writer.desk.shown.value.told }
+    requires seat { seat_view writer.desk.place ≡ Some writer.desk.shown.value.told }
+    requires same { writer.desk.shown.value.told ≡ history }
+    requires next { next_change history.plan (last_version history) ≡ Some change }
+    requires later { last_post history < clock.0 }
+    requires last { clock.0 ≤ 9 * 10 ^ 18 }
+    ensures { result ≡ with_post history clock.0 }
+{
+    let more = history.with_post(clock);
+    let told = more.tell();
+    let (writer, waiting) = show(rt, writer, Post { change, told });
+    Poster {
+        writer,
+        history: more,
+        waiting,
+    }
+}
+
+/// The poster after a post.
+fn posted<R: Wait>(
+    rt: &R,
+    poster: Poster,
+    change: Change,
+    clock: Moment,
+) -> (Poster, Result<(), Memory>)
+    requires next { next_change poster.plan (last_version poster) ≡ Some change }
+    requires later { last_post poster < clock.0 }
+    requires last { clock.0 ≤ 9 * 10 ^ 18 }
+    ensures ok { OnOk result.1 (result.0 ≡ with_post poster clock.0) }
+    ensures err { OnErr result.1 (result.0 ≡ poster) }
+{
+    let Poster {
+        writer,
+        history,
+        waiting,
+    } = poster;
+    let (writer, waiting) = show_rest(rt, writer, waiting, &history);
+    match waiting {
+        None => (add(rt, writer, history, change, clock), Ok(())),
+        Some(post) => {
+            let poster = Poster {
+                writer,
+                history,
+                waiting: Some(post),
+            };
+            (poster, Err(Memory))
+        }
     }
 }
 
@@ -106,7 +210,10 @@ impl Poster {
         requires { 1 ≤ readers }
         ensures { IfOk result (λ poster. (poster.plan ≡ plan.now) × (poster.clocks ≡ [])) }
     {
-        let (head, told) = open(plan);
+        let Some(history) = History::open(plan) else {
+            return Err(Memory);
+        };
+        let told = history.tell();
         let writer = Writer::new(
             alloc,
             shown(alloc, plan, &told)?,
@@ -117,12 +224,17 @@ impl Poster {
             change: idle_change(alloc),
             told,
         };
-        let (writer, opened) = publish(rt, writer, post);
-        if let Err(why) = opened {
+        let (writer, waiting) = publish(rt, writer, post);
+        if let Some(_post) = waiting {
             writer.take(rt);
-            return Err(why);
+            return Err(Memory);
         }
-        Ok(Poster { writer, head })
+        let poster = Poster {
+            writer,
+            history,
+            waiting: None,
+        };
+        Ok(poster)
     }
 
     /// One more look.
@@ -149,7 +261,8 @@ impl Poster {
     }
 
     /// Posts the plan's next change. It waits for the looks that still read the table before the
-    /// last one. `Memory` where memory was refused; then nothing is posted.
+    /// last one. `Memory` where memory was refused; then nothing is posted. After `Ok` the change is
+    /// posted; it is shown at once, or with the next post if memory was refused for showing it.
     pub fn post<R: Wait>(&mut self, rt: &R, change: Change, clock: Moment) -> Result<(), Memory>
         requires next { next_change self.old.plan (last_version self.old) ≡ Some change }
         requires later { last_post self.old < clock.0 }
@@ -158,38 +271,33 @@ impl Poster {
         ensures err { OnErr result (self.new ≡ self.old) }
     {
         replace_with(self, change, |poster, change| {
-            poster.posted(rt, change, clock)
+            posted(rt, poster, change, clock)
         })
-    }
-
-    /// The poster after a post.
-    fn posted<R: Wait>(self, rt: &R, change: Change, clock: Moment) -> (Poster, Result<(), Memory>)
-        requires next { next_change self.plan (last_version self) ≡ Some change }
-        requires later { last_post self < clock.0 }
-        requires last { clock.0 ≤ 9 * 10 ^ 18 }
-        ensures ok { OnOk result.1 (result.0 ≡ with_post self clock.0) }
-        ensures err { OnErr result.1 (result.0 ≡ self) }
-    {
-        let Poster { writer, head } = self;
-        let Some(told) = writer.published().told.with_post(&head, clock) else {
-            return (Poster { writer, head }, Err(Memory));
-        };
-        let (writer, answer) = publish(rt, writer, Post { change, told });
-        (Poster { writer, head }, answer)
     }
 
     /// All that was posted, for a look to hear. Takes no memory.
     pub fn tell(&self) -> Told
         ensures { result ≡ self.now }
     {
-        self.writer.published().told.again()
+        self.history.tell()
+    }
+
+    /// A law: what a guard of this board shows is a prefix of what was posted, also after a refused
+    /// post. It does nothing.
+    pub fn posted_all(&mut self, guard: &Guard)
+        requires { guard.now.board ≡ self.old.board }
+        ensures kept { self.new ≡ self.old }
+        ensures posted { Continues guard.now self.old }
+    {
+        self.history.was_posted(guard.told());
     }
 
     /// Drops the board. Waits for the looks that read.
     pub fn end<R: Wait>(self, rt: &R) {
         let Poster {
             writer,
-            head: _head,
+            history: _history,
+            waiting: _waiting,
         } = self;
         writer.take(rt);
     }

@@ -1,19 +1,22 @@
 //! What was posted on a board, as far as it is known. The history of a board is ghost state that
 //! all threads share; a thread knows a beginning of it.
 ghost use Rattle.std.specs.Prelude.{◌≡◌, ◌*◌, ◌^◌, ◌<◌, ◌≤◌, ◌⊎◌, [], length, IfSome, IsTrue};
-ghost use Rattle.bm_publish.specs.Inside.Histories.{head_of};
+ghost use mathlib.Core.List.{IsPrefix};
+ghost use Rattle.logbook.specs.Pages.{may_write};
+ghost use Rattle.bm_publish.specs.Inside.Histories.{clocks_in, head_of};
 ghost use Rattle.bm_publish.specs.Posts.{Continues, IsPosted, last_post, last_version, with_post};
 
 use bm_base::{Moment, Version};
 use bm_table::Plan;
-use logbook::{Gain, Offer, Opening, Plain, Play, Rule, Seen, Start, Word};
+use logbook::{Gain, Offer, Opening, Pen, Plain, Play, Rule, Seen, Start, Word};
 use std::marker::Model;
 
 /// An entry of a board's history: the plan with which it opens, or the clock of a post. No value of
 /// it is made.
 pub enum Line {
     Opens(Plan),
-    Posts(Moment),
+    /// The clock, and the cell of the permit for the next post.
+    Posts(Moment, u64),
 }
 
 /// The rule of the history.
@@ -56,6 +59,43 @@ impl Gain<Line, u64> for Nothing {
     ghost after = { λ names about answer. ftrue };
 }
 
+/// The step that makes a permit to post.
+struct Grant;
+
+impl Play<Line, u64> for Grant {
+    ghost use Rattle.bm_publish.specs.Inside.Histories.{Grants};
+
+    ghost then = { Grants };
+}
+
+/// The step that tells the holder of the permit that it has seen all posts.
+struct Check;
+
+impl Play<Line, u64> for Check {
+    ghost use Rattle.bm_publish.specs.Inside.Histories.{Checks};
+
+    ghost then = { Checks };
+}
+
+/// A step that adds no post.
+struct NoPost;
+
+impl Plain<Moment, Line, u64> for NoPost {
+    ghost use Rattle.std.specs.Prelude.{None};
+    ghost use Rattle.bm_publish.specs.declared.told.Line.TheVariants.{Posts};
+
+    ghost ask = { λ clock. Posts clock 0 };
+
+    ghost state = { λ clock. None };
+}
+
+/// A post, with the permit for the next one.
+#[derive(Drop)]
+struct Posting {
+    clock: Moment,
+    next: Pen,
+}
+
 /// The step that adds a post.
 struct Add;
 
@@ -65,17 +105,44 @@ impl Play<Line, u64> for Add {
     ghost then = { Adds };
 }
 
-impl Plain<Moment, Line, u64> for Add {
+impl Plain<Posting, Line, u64> for Add {
     ghost use Rattle.std.specs.Prelude.{None};
     ghost use Rattle.bm_publish.specs.declared.told.Line.TheVariants.{Posts};
 
-    ghost ask = { λ clock. Posts clock };
+    ghost ask = { λ posting. Posts posting.clock posting.next.nib.key };
 
-    ghost state = { λ clock. None };
+    ghost state = { λ posting. None };
 }
 
-/// How many posts the history has. Only the poster has it.
-pub(crate) type Head = Word<Line, u64, Counted>;
+/// The word on which a history's steps are taken.
+type Head = Word<Line, u64, Counted>;
+
+/// The history of a board, with the only permit to post. Contracts see all that was posted.
+#[derive(Drop)]
+pub(crate) struct History {
+    head: Head,
+    pen: Pen,
+    version: Version,
+    clock: Moment,
+    seen: Seen<Line, u64, Counted>,
+}
+
+impl Model for History {
+    ghost use Rattle.std.specs.Prelude.{◌≡◌};
+    ghost use Rattle.logbook.specs.Pages.{may_write};
+    ghost use Rattle.bm_publish.specs.Inside.Histories.{IsOpened, head_of, permit_in, posted_in};
+    ghost use Rattle.bm_publish.specs.Posts.{IsPosted, Posted, last_post, last_version};
+
+    ghost Value = { Posted };
+
+    ghost view = { λ h. posted_in h.seen.book h.seen.log };
+
+    ghost invariant = { λ h. IsOpened h.seen.log × IsPosted (posted_in h.seen.book h.seen.log)
+        × (h.version.0 ≡ last_version (posted_in h.seen.book h.seen.log))
+        × (h.clock.0 ≡ last_post (posted_in h.seen.book h.seen.log))
+        × (h.head ≡ head_of h.seen.book) × (h.pen.book ≡ h.seen.book)
+        × (h.pen.nib.right ≡ may_write) × (h.pen.nib.key ≡ permit_in 1 h.seen.log) };
+}
 
 /// What was posted on a board up to some moment. It has the last version and its clock; contracts
 /// see the board, the plan and the clock of each post.
@@ -100,20 +167,101 @@ impl Model for Told {
         × (t.clock.0 ≡ last_post (posted_in t.seen.book t.seen.log)) };
 }
 
-/// The history of a new board, and what it tells.
-pub(crate) fn open(plan: &Plan) -> (Head, Told)
-    ensures head { result.0 ≡ head_of result.1.board }
-    ensures told { (result.1.plan ≡ plan.now) × (result.1.clocks ≡ []) }
+/// A new permit to post, and what the word was. The permit is the first one if the word was 0.
+fn new_permit(head: &Head, seen: &mut Seen<Line, u64, Counted>) -> (Pen, u64)
+    requires { head.now ≡ head_of seen.old.book }
+    ensures book { seen.new.book ≡ seen.old.book }
+    ensures grows { IsPrefix seen.old.log seen.new.log }
+    ensures pen { (result.0.book ≡ seen.old.book) × (result.0.nib.right ≡ may_write) }
+    ensures first { result.1 ≡ 0 → (result.0.nib.key ≡ 1) × (clocks_in seen.new.log ≡ []) }
 {
-    let _versions = plan.versions();
-    let (seen, mut pens) = Seen::open_row::<Plan, Begin>(plan, Start::alone(), 1);
-    let head = Word::tracked(0, &mut pens.take());
-    let told = Told {
-        version: Version(0),
-        clock: Moment(0),
-        seen,
-    };
-    (head, told)
+    let mut offer: Offer<Line, u64, Counted, Nothing> = seen.plain::<Nothing, Moment, NoPost>(
+        &Moment(0),
+    );
+    let mut pen = seen.no_pen();
+    let found = head.compare_exchange::<Grant, Nothing>(0, 1, seen, &mut offer, &mut pen);
+    let _word: Head = Word::tracked(0, &mut pen);
+    (pen, found)
+}
+
+impl History {
+    /// The history of a new board. None if its permit isn't the first, which can't happen: but the
+    /// logbook doesn't say that a book which nobody else has seen didn't move.
+    pub(crate) fn open(plan: &Plan) -> Option<History>
+        ensures { IfSome result (λ h. (h.plan ≡ plan.now) × (h.clocks ≡ [])) }
+    {
+        let _versions = plan.versions();
+        let (mut seen, mut pens) = Seen::open_row::<Plan, Begin>(plan, Start::alone(), 1);
+        let head = Word::tracked(0, &mut pens.take());
+        let (pen, found) = new_permit(&head, &mut seen);
+        if found != 0 {
+            return None;
+        }
+        Some(History {
+            head,
+            pen,
+            version: Version(0),
+            clock: Moment(0),
+            seen,
+        })
+    }
+
+    /// All that was posted.
+    pub(crate) fn tell(&self) -> Told
+        ensures same { result ≡ self.now }
+        ensures posted { IsPosted self.now }
+    {
+        Told {
+            version: self.version,
+            clock: self.clock,
+            seen: self.seen.again(),
+        }
+    }
+
+    /// The history with one more post.
+    pub(crate) fn with_post(self, clock: Moment) -> History
+        requires next { last_version self < length self.plan.changes }
+        requires later { last_post self < clock.0 }
+        requires last { clock.0 ≤ 9 * 10 ^ 18 }
+        ensures { result ≡ with_post self clock.0 }
+    {
+        let History {
+            head,
+            mut pen,
+            version,
+            clock: _,
+            mut seen,
+        } = self;
+        let (next, _found) = new_permit(&head, &mut seen.again());
+        let posting = Posting { clock, next };
+        let mut offer: Offer<Line, u64, Counted, Nothing> = seen.plain::<Nothing, Posting, Add>(
+            &posting,
+        );
+        head.compare_exchange::<Add, Nothing>(0, 1, &mut seen, &mut offer, &mut pen);
+        let Posting { clock, next } = posting;
+        History {
+            head,
+            pen: next,
+            version: Version(version.0 + 1),
+            clock,
+            seen,
+        }
+    }
+
+    /// All that anyone was told of this board was posted. It does nothing: its contract is a law.
+    pub(crate) fn was_posted(&mut self, told: &Told)
+        requires { told.now.board ≡ self.old.board }
+        ensures kept { self.new ≡ self.old }
+        ensures posted { Continues told.now self.old }
+    {
+        let mut both = self.seen.again();
+        both.learn(&told.seen);
+        let mut offer: Offer<Line, u64, Counted, Nothing> = both.plain::<Nothing, Moment, NoPost>(
+            &Moment(0),
+        );
+        self.head
+            .compare_exchange::<Check, Nothing>(0, 1, &mut both, &mut offer, &mut self.pen);
+    }
 }
 
 impl Told {
@@ -172,37 +320,5 @@ impl Told {
         } else {
             self.again()
         }
-    }
-
-    /// One more post, which the history then has. None if the history has other posts.
-    pub(crate) fn with_post(&self, head: &Head, clock: Moment) -> Option<Told>
-        requires head { head.now ≡ head_of self.now.board }
-        requires next { last_version self.now < length self.now.plan.changes }
-        requires later { last_post self.now < clock.0 }
-        requires last { clock.0 ≤ 9 * 10 ^ 18 }
-        ensures more { IfSome result (λ more. more ≡ with_post self.now clock.0) }
-        ensures posted { IsPosted self.now }
-    {
-        let posts = u64::from(self.version.0);
-        let mut seen = self.seen.again();
-        let mut offer: Offer<Line, u64, Counted, Nothing> = seen.plain::<Nothing, Moment, Add>(
-            &clock,
-        );
-        let mut pen = seen.no_pen();
-        let found = head.compare_exchange::<Add, Nothing>(
-            posts,
-            posts + 1,
-            &mut seen,
-            &mut offer,
-            &mut pen,
-        );
-        if found != posts {
-            return None;
-        }
-        Some(Told {
-            version: Version(self.version.0 + 1),
-            clock,
-            seen,
-        })
     }
 }

@@ -14,8 +14,8 @@ use Rattle.bm_rows.specs.Rows.{glued}
 use Rattle.bm_rows.proofs.Places.{there}
 use Rattle.bm_rows.proofs.Lasts.{IsLast, rows_left, heads, tails, lasts, take_one}
 use Rattle.bm_server.specs.Servings.{Serving, shard_at}
-use Rattle.bm_server.specs.Seats.{Seated, row, row_from, seat_of, telling, told_of}
-use Rattle.bm_server.specs.Books.{IsBookOf, seen_of, seen_at}
+use Rattle.bm_server.specs.Seats.{Seated, row, row_from, seat_of, telling, told_of, seen_at, seen_of}
+use Rattle.bm_server.specs.Books.{IsBookOf}
 
 -- ROWS
 

@@ -8,7 +8,7 @@ use Rattle.bm_shard.specs.declared.book.Shard.{Shard}
 use Rattle.bm_shard.specs.declared.calls.ShardEntry.{ShardEntry}
 use Rattle.bm_turnstile.specs.Sittings.{Who, IsFresh, who, post}
 use Rattle.bm_server.specs.Servings.{serving, shard_at}
-use Rattle.bm_server.specs.Seats.{Seated, IsNewSeat, row_from, telling, told_at, most_turns}
+use Rattle.bm_server.specs.Seats.{Seated, IsNewSeat, row_from, telling, told_at, most_turns, seen_at}
 
 row-snoc : (f : ℕ → Shard) (n i h : ℕ) (ts : List TableId) (t : TableId)
     → row_from f n i h (ts ++ t ∷ []) ≡ row_from f n i h ts ++ post t (Some (f (h + length ts))) n i ∷ []
@@ -30,6 +30,13 @@ fresh_told [] s seen none (suc h) = refl
 fresh_told (x ∷ r) s seen none zero = none 0
 fresh_told (x ∷ r) s seen none (suc h) = fresh_told r s seen (λ k. none (suc k)) h
 
+fresh_seen : (r : List Seated) (s : Seated) → s.seen ≡ [] → ((h : ℕ) → seen_at r h ≡ [])
+    → (h : ℕ) → seen_at (r ++ s ∷ []) h ≡ []
+fresh_seen [] s seen none zero = seen
+fresh_seen [] s seen none (suc h) = refl
+fresh_seen (x ∷ r) s seen none zero = none 0
+fresh_seen (x ∷ r) s seen none (suc h) = fresh_seen r s seen (λ k. none (suc k)) h
+
 fresh_turns : (r : List Seated) (s : Seated) → s.turns ≡ 0 → most_turns r ≡ 0 → most_turns (r ++ s ∷ []) ≡ 0
 fresh_turns [] s e none = omega arith
 fresh_turns (x ∷ r) s e none = let a = fresh_turns r s e (omega arith) in omega arith
@@ -38,7 +45,7 @@ pub no_shard : (id : ServerId) (capacity timeout seats i : ℕ) (seat : List Sea
     → IsNewSeat (serving id capacity timeout seats []) i seat
 no_shard id capacity timeout seats i seat e =
     let P : List Seated → Type 0 = λ s. IsNewSeat (serving id capacity timeout seats []) i s in
-    subst P (sym e) (record { «is» = refl; turns = refl; told = λ h. refl })
+    subst P (sym e) (record { «is» = refl; turns = refl; seen = λ h. refl; told = λ h. refl })
 
 pub fresh_more : (id : ServerId) (capacity timeout seats : ℕ) (ts : List TableId) (t : TableId) (i : ℕ)
     (r : List Seated) (s : Seated) → IsNewSeat (serving id capacity timeout seats ts) i r → IsFresh s
@@ -52,5 +59,6 @@ fresh_more id capacity timeout seats ts t i r s new fresh w =
       «is» = map-append who r (s ∷ [])
           ∙ ((λ j. new.«is» j ++ w j ∷ []) ∙ (last ∙ sym (row-snoc f seats i 0 ts t)));
       turns = fresh_turns r s fresh.turns new.turns;
+      seen = fresh_seen r s fresh.seen new.seen;
       told = fresh_told r s fresh.seen new.told;
     }

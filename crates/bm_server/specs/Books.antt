@@ -1,18 +1,9 @@
 -- The books of a server's shards, once all its seats are given back.
-use Rattle.std.specs.Prelude.{◌≡◌, ℕ, List, [], reverse, slice_get, Option, Some, None}
+use Rattle.std.specs.Prelude.{◌≡◌, ℕ, List, reverse, slice_get, Some}
 use Rattle.bm_shard.specs.Books.{Book, Replays}
-use Rattle.bm_shard.specs.declared.calls.ShardEntry.{ShardEntry}
 use Rattle.bm_turnstile.specs.Seen.{AllBelow, Covers, own}
 use Rattle.bm_server.specs.Servings.{Serving, shard_at}
-use Rattle.bm_server.specs.Seats.{Seated, seat_of, telling, told_at}
-
-abbrev pub seen_of : Option Seated → List ShardEntry
-seen_of None = []
-seen_of (Some s) = s.seen
-
--- the entries of the shard h that the seat has seen
-abbrev pub seen_at : List Seated → ℕ → List ShardEntry
-seen_at seat h = seen_of (slice_get seat h)
+use Rattle.bm_server.specs.Seats.{Seated, seat_of, seen_at, telling, told_at}
 
 -- the book of the shard h, once these are all seats of the server
 pub record IsBookOf (server : Serving) (seats : List (List Seated)) (h : ℕ)

@@ -1,5 +1,5 @@
 -- The seats of a server, and what its shards told them (docs/DEFINITIONS.md).
-use Rattle.std.specs.Prelude.{◌≡◌, ℕ, suc, ◌==◌, cond, max, List, [], ◌∷◌, ◌++◌, map, reverse}
+use Rattle.std.specs.Prelude.{◌≡◌, ◌≢◌, ℕ, suc, ◌+◌, ◌==◌, cond, max, List, [], ◌∷◌, ◌++◌, map, reverse}
 use Rattle.std.specs.Prelude.{slice_get, Option, Some, None, Result, Ok, Err}
 use Rattle.atomic_table.specs.Seated.{TableId}
 use Rattle.bm_shard.specs.Books.{reply_after}
@@ -7,6 +7,7 @@ use Rattle.bm_shard.specs.declared.book.Shard.{Shard}
 use Rattle.bm_shard.specs.declared.calls.ShardCall.{ShardCall}
 use Rattle.bm_shard.specs.declared.calls.ShardEntry.{ShardEntry}
 use Rattle.bm_shard.specs.declared.calls.ShardReply.{ShardReply}
+use Rattle.bm_turnstile.specs.Seen.{SeesMore, Turned}
 use Rattle.bm_turnstile.specs.Sittings.{Sitting, Who, post, who}
 use Rattle.bm_turnstile.specs.Told.{told}
 use Rattle.bm_server.specs.Servings.{Serving, shard_at}
@@ -72,14 +73,40 @@ abbrev pub Tells : {M : Type 0} → ℕ → ShardCall → Result ShardReply M �
     → Type 0
 Tells h call result old new = (k : ℕ) → told_at new k ≡ told_at old k ++ said h call result k
 
+-- WHAT IT HAS SEEN
+
+abbrev pub seen_of : Option Seated → List ShardEntry
+seen_of None = []
+seen_of (Some s) = s.seen
+
+-- the entries of the shard h that the seat has seen
+abbrev pub seen_at : List Seated → ℕ → List ShardEntry
+seen_at seat h = seen_of (slice_get seat h)
+
+-- after Ok the seat has seen what it had seen before, then calls of others, and then its own, with
+-- this reply; after Memory it may have seen more calls of others
+abbrev pub Sees : {M : Type 0} → ShardCall → Result ShardReply M → Seated → Seated → Type 0
+Sees call (Ok reply) old new = Turned seat_of call_of reply_of old new call reply
+Sees call (Err e) old new = SeesMore seat_of old new
+
+-- a seat after one turn at the shard h, and none at the others
+pub record TakesTurn {M : Type 0} (h : ℕ) (call : ShardCall) (result : Result ShardReply M)
+    (old new : List Seated) : Type 0 where
+  pub turns : (s t : Seated) → slice_get old h ≡ Some s → slice_get new h ≡ Some t
+      → t.turns ≡ s.turns + 1
+  pub sees : (s t : Seated) → slice_get old h ≡ Some s → slice_get new h ≡ Some t
+      → Sees call result s t
+  pub others : (k : ℕ) → k ≢ h → slice_get new k ≡ slice_get old k
+
 -- a reply is one that a shard's book gives after some entries
 abbrev pub IsReply : {M : Type 0} → ShardCall → Result ShardReply M → Type 0
 IsReply call (Ok reply) = (shard : Shard) × (past : List ShardEntry)
     × (reply ≡ reply_after shard past call)
 IsReply call (Err e) = Unit {0}
 
--- the seat i of a server, which has made no turn and was told nothing
+-- the seat i of a server, which has made no turn, seen nothing, and was told nothing
 pub record IsNewSeat (server : Serving) (i : ℕ) (seat : List Seated) : Type 0 where
   pub «is» : map who seat ≡ row server i
   pub turns : most_turns seat ≡ 0
+  pub seen : (h : ℕ) → seen_at seat h ≡ []
   pub told : (h : ℕ) → told_at seat h ≡ []

@@ -7,7 +7,8 @@ ghost use Rattle.bm_shard.specs.declared.calls.ShardCall.TheVariants.{Close, Ret
 ghost use Rattle.bm_turnstile.specs.Sittings.{who};
 ghost use Rattle.bm_server.specs.Books.{IsBookOf};
 ghost use Rattle.bm_server.specs.Copies.{TellsCopy};
-ghost use Rattle.bm_server.specs.Seats.{IsNewSeat, IsReply, Tells, most_turns, row};
+ghost use Rattle.bm_server.specs.Seats.{IsNewSeat, IsReply, TakesTurn, Tells};
+ghost use Rattle.bm_server.specs.Seats.{most_turns, row};
 ghost use Rattle.bm_server.specs.Servings.{serving, shard_for};
 
 use crate::ServerSeat;
@@ -142,6 +143,7 @@ impl Server {
         ensures who { map who seat.new ≡ map who seat.old }
         ensures turns { most_turns seat.new ≤ most_turns seat.old + 1 }
         ensures told { Tells (shard_for self.now flow) (Close flow at) result seat.old seat.new }
+        ensures turn { TakesTurn (shard_for self.now flow) (Close flow at) result seat.old seat.new }
         ensures reply { IsReply (Close flow at) result }
     {
         let shard = shard_of(&flow, self.shards());
@@ -165,6 +167,7 @@ impl Server {
         ensures who { map who seat.new ≡ map who seat.old }
         ensures turns { most_turns seat.new ≤ most_turns seat.old + 1 }
         ensures told { Tells shard (Retire at outcome) result seat.old seat.new }
+        ensures turn { TakesTurn shard (Retire at outcome) result seat.old seat.new }
         ensures reply { IsReply (Retire at outcome) result }
     {
         let call = ShardCall::Retire {
@@ -189,6 +192,7 @@ impl Server {
         ensures who { map who seat.new ≡ map who seat.old }
         ensures turns { most_turns seat.new ≤ most_turns seat.old + 1 }
         ensures told { Tells shard call result seat.old seat.new }
+        ensures turn { TakesTurn shard call result seat.old seat.new }
         ensures reply { IsReply call result }
     {
         self.shards[shard].turn(rt, &mut seat.seats[shard], call)

@@ -86,6 +86,66 @@ pub(crate) fn ethernet(alloc: Global) -> Result<Vec<u8>, AllocError> {
     Ok(octets)
 }
 
+/// A segment of a session: microseconds, whether the client sent it, its sequence number, its
+/// acknowledgment, its flags, and how many octets of data it has.
+struct Sent(u32, bool, u32, u32, u8, u8);
+
+/// A usual session from 10.0.0.1 port 1002 to the service, with pauses of some milliseconds.
+const SESSION: [Sent; 12] = [
+    Sent(0, true, 1000, 0, 0x02, 0),
+    Sent(400, false, 500, 1001, 0x12, 0),
+    Sent(800, true, 1001, 501, 0x10, 0),
+    Sent(1000, true, 1001, 501, 0x18, 100),
+    Sent(1500, false, 501, 1101, 0x10, 0),
+    Sent(2500, false, 501, 1101, 0x18, 200),
+    Sent(3500, true, 1101, 501, 0x10, 0),
+    Sent(6000, true, 1101, 501, 0x18, 50),
+    Sent(6500, false, 701, 1151, 0x18, 80),
+    Sent(7000, true, 1151, 501, 0x10, 0),
+    Sent(7500, false, 781, 1151, 0x11, 0),
+    Sent(8000, true, 1151, 501, 0x11, 0),
+];
+
+/// A capture of a session's Ethernet frames, without checksums: 1,294 octets.
+pub(crate) fn session(alloc: Global) -> Result<Vec<u8>, AllocError> {
+    let mut octets = header(alloc, Form::Micro, 1)?;
+    for sent in &SESSION {
+        frame(
+            alloc,
+            &mut octets,
+            sent.0,
+            b"\x08\x00",
+            &packet_of(alloc, sent)?,
+        )?;
+    }
+    Ok(octets)
+}
+
+/// The IPv4 packet of a session's segment.
+fn packet_of(alloc: Global, sent: &Sent) -> Result<Vec<u8>, AllocError> {
+    let Sent(_, by_client, seq, ack, flags, len) = *sent;
+    let client: (&[u8], &[u8]) = (&[10, 0, 0, 1], &[3, 234]);
+    let service: (&[u8], &[u8]) = (&[192, 0, 2, 1], &[0, 80]);
+    let (from, to) = if by_client {
+        (client, service)
+    } else {
+        (service, client)
+    };
+    let length = u16::from(len).saturating_add(40);
+    let mut octets = Vec::from_slice(alloc, &[0x45, 0])?;
+    octets.extend_from_slice(&length.to_be_bytes())?;
+    octets.extend_from_slice(&[0, 0, 0x40, 0, 64, 6, 0, 0])?;
+    octets.extend_from_slice(from.0)?;
+    octets.extend_from_slice(to.0)?;
+    octets.extend_from_slice(from.1)?;
+    octets.extend_from_slice(to.1)?;
+    octets.extend_from_slice(&seq.to_be_bytes())?;
+    octets.extend_from_slice(&ack.to_be_bytes())?;
+    octets.extend_from_slice(&[0x50, flags, 255, 255, 0, 0, 0, 0])?;
+    octets.resize(usize::from(length), 0)?;
+    Ok(octets)
+}
+
 /// A capture of the pcapng form: one interface of raw IP with these options, and these packets,
 /// whose times are their parts of a second.
 pub(crate) fn blocks(

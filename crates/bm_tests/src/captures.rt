@@ -1,16 +1,35 @@
 //! Captures of other links, and captures that are refused.
+ghost use Rattle.std.specs.Prelude.{◌≤◌};
+
 use crate::capture::{Form, OPENED, ethernet, raw};
-use crate::program::check;
+use crate::program::{check, check_files};
+use bm_base::{List, Text};
+use bm_io::SureFile;
 use std::alloc::Global;
 use std::process::Abort;
 use std::sync::Wait;
 use std::test::Fail;
 use std::thread::Threads;
 
-#[test]
-fn ethernet_frames_are_read_or_not_steered(rt: HostRuntime) -> Result<(), Fail> {
-    let alloc = rt.alloc();
-    let text = "4001 steer 5 0 0 4\n\
+/// Checks the report of Ethernet frames that are read by so many octets at most.
+fn check_frames(
+    rt: &(impl Abort + Threads + Wait + Sync),
+    alloc: Global,
+    step: usize,
+) -> Result<(), Fail>
+    requires { 1 ≤ step }
+{
+    let file = SureFile {
+        name: Text::of(String::from_str(alloc, "c")?),
+        octets: List::of(ethernet(alloc)?),
+        step,
+    };
+    let files = vec![in alloc; file]?;
+    check_files(rt, alloc, (&["replay", "c"], files), "frames", (0, FRAMES))
+}
+
+/// The report of Ethernet frames.
+const FRAMES: &str = "4001 steer 5 0 0 4\n\
              4002 arrive 5 direct 1 accept\n\
              5001 steer 6 0 0 4\n\
              5002 arrive 6 direct 1 process advance\n\
@@ -23,8 +42,12 @@ fn ethernet_frames_are_read_or_not_steered(rt: HostRuntime) -> Result<(), Fail> 
              note record 7 cut short\n\
              total packets 6 steered 2 unsteered 4 accepted 1 processed 1 \
              forwarded 0 reset 0 dropped 0 lost 0 stray 0\n";
-    let frames = ethernet(alloc)?;
-    check(&rt, alloc, (&frames, None), "ethernet", (0, text))
+
+#[test]
+fn ethernet_frames_are_read_or_not_steered(rt: HostRuntime) -> Result<(), Fail> {
+    check_frames(&rt, rt.alloc(), 1)?;
+    check_frames(&rt, rt.alloc(), 100)?;
+    check_frames(&rt, rt.alloc(), 262_160)
 }
 
 #[test]

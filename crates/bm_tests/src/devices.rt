@@ -1,7 +1,7 @@
-//! Files and an output that fail at each of their calls in turn, for a replay and for a run.
+//! Files and an output that fail at each of their calls in turn, for replays and for runs.
 ghost use Rattle.std.specs.Prelude.{◌≡◌, IfOk};
 
-use crate::capture::{Form, OPENED, raw};
+use crate::capture::{Form, OPENED, raw, session};
 use crate::program::words;
 use crate::rows::MOVED_REPORT;
 use bm_base::{List, Text};
@@ -18,8 +18,49 @@ const SCRIPT: &str = "[[command]]\nat_ns = 500\ndo = \"move\"\nbucket = 4\nserve
 
 const READ_FAULT: &str = "beamer: read fault\n";
 
-/// In every report of the two packets, whatever the order of a run's threads.
-const ENDS: &str = "total packets 2 steered 2 unsteered 0 accepted 1 processed 1 ";
+/// A server is added between two syncs, in the middle of a session.
+const SESSION_SCRIPT: &str = "muxes = 2\n[[command]]\nat_ns = 5000000\ndo = \"sync\"\n\
+     [[command]]\nat_ns = 5000000\ndo = \"add\"\nserver = 3\n\
+     [[command]]\nat_ns = 5000000\ndo = \"sync\"\n";
+
+/// What is called, and how often.
+#[derive(Clone, Copy)]
+struct Case<'a> {
+    form: &'a str,
+    script: &'a str,
+    capture: &'a [u8],
+    /// In every report, whatever the order of a run's threads.
+    ends: &'a str,
+    /// The calls of the script, of the capture, and at least of the output.
+    calls: (u32, u32, u32),
+}
+
+/// The 64 octets of the script are read in two reads, and a third finds the end. Of the capture, 4
+/// octets are read, which decide the form, then the other 20 of the header, and then 122 in four
+/// reads; a seventh finds the end. A report of 311 octets takes eight writes; that of a run may
+/// take more.
+fn two_packets<'a>(form: &'a str, capture: &'a [u8]) -> Case<'a> {
+    Case {
+        form,
+        script: SCRIPT,
+        capture,
+        ends: "total packets 2 steered 2 unsteered 0 accepted 1 processed 1 ",
+        calls: (3, 7, 8),
+    }
+}
+
+/// The 140 octets of the script are read in four reads, and a fifth finds the end. Of the capture,
+/// 1,270 octets come after the header, in 32 reads. A report has at least 12 lines of packets and
+/// 25 of events.
+fn twelve_packets<'a>(capture: &'a [u8]) -> Case<'a> {
+    Case {
+        form: "run",
+        script: SESSION_SCRIPT,
+        capture,
+        ends: "total packets 12 steered 7 unsteered 5 accepted 1 processed 6 forwarded 3 ",
+        calls: (5, 35, 20),
+    }
+}
 
 /// The device that fails.
 #[derive(Clone, Copy, PartialEq, Eq)]
@@ -73,11 +114,11 @@ fn file(
 }
 
 /// The script and the capture, one of which may fail at a call.
-fn both(alloc: Global, device: Device, call: u32) -> Result<MemFiles, AllocError>
+fn both(alloc: Global, case: &Case, device: Device, call: u32) -> Result<MemFiles, AllocError>
     ensures { IfOk result (λ files. ⟦<MemFiles as Files>⟧.open_now files ≡ 0) }
 {
-    let script = Vec::from_slice(alloc, SCRIPT.as_bytes())?;
-    let capture = raw(alloc, Form::Micro, OPENED)?;
+    let script = Vec::from_slice(alloc, case.script.as_bytes())?;
+    let capture = Vec::from_slice(alloc, case.capture)?;
     let files = vec![in alloc;
         file(
             alloc,
@@ -100,12 +141,12 @@ fn both(alloc: Global, device: Device, call: u32) -> Result<MemFiles, AllocError
 fn fail(
     rt: &(impl Abort + Threads + Wait + Sync),
     alloc: Global,
-    form: &str,
+    case: &Case,
     device: Device,
     call: u32,
 ) -> Result<bool, Fail> {
-    let words = words(alloc, &[form, "c", "s"])?;
-    let mut files = both(alloc, device, call)?;
+    let words = words(alloc, &[case.form, "c", "s"])?;
+    let mut files = both(alloc, case, device, call)?;
     let mut out = ShortSink {
         sink: MemSink::new(alloc, fails(alloc, device == Device::Output, call)?),
     };
@@ -113,11 +154,11 @@ fn fail(
     assert_eq!(rt; files.open_now(), 0);
     let written = out.sink.written();
     if status == 0 {
-        assert!(rt; String::from_utf8_lossy(alloc, written)?.contains(ENDS));
+        assert!(rt; String::from_utf8_lossy(alloc, written)?.contains(case.ends));
         return Ok(false);
     }
     if device == Device::Output {
-        check_part(rt, form, call, status, written);
+        check_part(rt, case.form, call, status, written);
     } else {
         assert_eq!(rt; (status, written), (2, READ_FAULT.as_bytes()));
     }
@@ -143,34 +184,42 @@ fn check_part(rt: &impl Abort, form: &str, call: u32, status: u8, written: &[u8]
 fn calls(
     rt: &(impl Abort + Threads + Wait + Sync),
     alloc: Global,
-    form: &str,
+    case: &Case,
     device: Device,
 ) -> Result<u32, Fail> {
     for call in 1..100 {
-        if !fail(rt, alloc, form, device, call)? {
+        if !fail(rt, alloc, case, device, call)? {
             return Ok(call - 1);
         }
     }
     Ok(100)
 }
 
-/// The 64 octets of the script are read in two reads, and a third finds the end. Of the capture, 4
-/// octets are read, which decide the form, then the other 20 of the header, and then 122 in four
-/// reads; a seventh finds the end. A report of 311 octets takes eight writes; that of a run may
-/// take more.
-fn check(rt: &(impl Abort + Threads + Wait + Sync), alloc: Global, form: &str) -> Result<(), Fail> {
-    assert_eq!(rt; calls(rt, alloc, form, Device::Script)?, 3);
-    assert_eq!(rt; calls(rt, alloc, form, Device::Capture)?, 7);
-    let output = calls(rt, alloc, form, Device::Output)?;
-    assert!(rt; output == 8 || form == "run" && 8 < output && output < 100);
+fn check(
+    rt: &(impl Abort + Threads + Wait + Sync),
+    alloc: Global,
+    case: &Case,
+) -> Result<(), Fail> {
+    assert_eq!(rt; calls(rt, alloc, case, Device::Script)?, case.calls.0);
+    assert_eq!(rt; calls(rt, alloc, case, Device::Capture)?, case.calls.1);
+    let output = calls(rt, alloc, case, Device::Output)?;
+    let least = case.calls.2;
+    assert!(rt; output == least || case.form == "run" && least < output && output < 100);
     Ok(())
 }
 
 #[test]
 fn each_call_of_a_device_may_fail(rt: HostRuntime) -> Result<(), Fail> {
     let alloc = rt.alloc();
-    check(&rt, alloc, "replay")?;
-    check(&rt, alloc, "run")
+    let capture = raw(alloc, Form::Micro, OPENED)?;
+    check(&rt, alloc, &two_packets("replay", &capture))?;
+    check(&rt, alloc, &two_packets("run", &capture))
+}
+
+#[test]
+fn each_call_of_a_device_may_fail_in_a_session(rt: HostRuntime) -> Result<(), Fail> {
+    let capture = session(rt.alloc())?;
+    check(&rt, rt.alloc(), &twelve_packets(&capture))
 }
 
 /// Opening fails if there is no such file.
@@ -180,7 +229,9 @@ fn miss(
     row: &[&str],
 ) -> Result<(), Fail> {
     let words = words(alloc, row)?;
-    let mut files = both(alloc, Device::Output, 1)?;
+    let capture = raw(alloc, Form::Micro, OPENED)?;
+    let case = two_packets("replay", &capture);
+    let mut files = both(alloc, &case, Device::Output, 1)?;
     let mut out = MemSink::new(alloc, Vec::new(alloc));
     let status = beamer(rt, alloc, &words, &mut files, &mut out, &OpenGate);
     assert_eq!(rt; (status, files.open_now()), (2, 0));

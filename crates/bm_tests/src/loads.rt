@@ -11,7 +11,7 @@ use std::thread::Threads;
 /// Words, and the line that the program writes for them.
 type Row = (&'static [&'static str], &'static str);
 
-static LINES: [Row; 2] = [
+static LINES: [Row; 3] = [
     (
         &["load", "1"],
         "load 1 packets 4 accepted 1 processed 3 reset 0 dropped 0 lost 0\n",
@@ -19,6 +19,10 @@ static LINES: [Row; 2] = [
     (
         &["load", "2000"],
         "load 2000 packets 8000 accepted 2000 processed 6000 reset 0 dropped 0 lost 0\n",
+    ),
+    (
+        &["load", "20000"],
+        "load 20000 packets 80000 accepted 20000 processed 60000 reset 0 dropped 0 lost 0\n",
     ),
 ];
 

@@ -61,8 +61,20 @@ pub(crate) fn check(
         Some(_) => &["replay", "c", "s"],
         None => &["replay", "c"],
     };
+    let files = files(alloc, capture, script)?;
+    check_files(rt, alloc, (form, files), name, (status, text))
+}
+
+/// Checks what the program ends with and writes for these words over these files.
+pub(crate) fn check_files(
+    rt: &(impl Abort + Threads + Wait + Sync),
+    alloc: Global,
+    (form, files): (&[&str], Vec<SureFile>),
+    name: &str,
+    (status, text): (u8, &str),
+) -> Result<(), Fail> {
     let words = words(alloc, form)?;
-    let mut files = SureFiles::new(alloc, files(alloc, capture, script)?);
+    let mut files = SureFiles::new(alloc, files);
     let mut out = SureSink::new(alloc);
     let ended = beamer(rt, alloc, &words, &mut files, &mut out, &OpenGate);
     assert_eq!(rt; out.written(), text.as_bytes(), "{}", name);

@@ -27,8 +27,8 @@ use Rattle.bm_shard.specs.declared.calls.ShardReply.TheVariants.{Arrived, Closed
 use Rattle.bm_server.specs.Servings.{Serving}
 use Rattle.bm_server.specs.Seats.{Answered, Seated}
 use Rattle.bm_server.specs.Servings.{shard_at, shard_for}
-use Rattle.bm_worker.specs.Deeds.{Hears, Said, Suits, closing, noted, retiring, said_of, saying}
-use Rattle.bm_worker.specs.Inside.Deeds.{arrival}
+use Rattle.bm_worker.specs.Deeds.{Hears, Said, Suits, noted, said_of, saying}
+use Rattle.bm_worker.specs.Inside.Deeds.{arrival, closing, retiring}
 use Rattle.bm_worker.specs.Told.{Gains, Stays, told_there}
 use Rattle.bm_worker.specs.Arrivals.{HasCome}
 
@@ -146,15 +146,3 @@ pub hears_retire : (stage : Stage) (servers : List Serving) (place shard i w : �
 hears_retire stage servers place shard i w server at clock outcome a b suits is gains =
     hears_call stage servers place shard shard server (Retire at outcome) (Retired clock)
     (retiring clock server.id shard at outcome i w) a b suits is gains refl refl (λ i h. refl)
-
--- the same of the seats as the model has them
-pub close_heard : (stage : Stage) (servers : List Serving) (place i w : ℕ) (server server' : Serving) (flow : Flow)
-    (at clock : Moment) (closed : Bool)
-    (a b : List (List Seated)) → Suits stage servers → slice_get servers place ≡ Some server'
-    → slice_get servers place ≡ Some server
-    → Gains place (shard_for server' flow) (Close flow at) (Closed clock closed) a b
-    → Hears stage servers a b (closing clock server.id flow closed i at.0 w ∷ [])
-close_heard stage servers place i w server server' flow at clock closed a b suits is' is gains =
-    hears_close stage servers place i w server flow at clock closed a b suits is
-    (subst (λ (x : Serving). Gains place (shard_for x flow) (Close flow at) (Closed clock closed) a b)
-    (same_Some server' server (sym is' ∙ is)) gains)

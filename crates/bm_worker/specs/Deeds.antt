@@ -1,17 +1,14 @@
 -- What a worker does, as notes (its deeds), and what its seats hear of it. Deeds have the newest
 -- first.
-use Rattle.std.specs.Prelude.{◌≡◌, ℕ, if◌then◌else◌, Bool, true, List, [], ◌∷◌, ◌++◌, length, map}
+use Rattle.std.specs.Prelude.{◌≡◌, ℕ, if◌then◌else◌, true, List, [], ◌∷◌, ◌++◌, length, map}
 use Rattle.std.specs.Prelude.{slice_get, Some}
 use Rattle.bm_base.specs.declared.fate.Fate.{Fate}
-use Rattle.bm_base.specs.declared.flow.Flow.{Flow}
 use Rattle.bm_base.specs.declared.ids.Moment.{Moment}
 use Rattle.bm_base.specs.declared.ids.ServerId.{ServerId}
-use Rattle.bm_table.specs.declared.plan.Retirement.{Retirement}
 use Rattle.bm_table.specs.Tables.{is_known}
 use Rattle.bm_core.specs.declared.events.Event.{Event}
 use Rattle.bm_core.specs.declared.events.Stage.{Stage}
 use Rattle.bm_core.specs.declared.events.What.{What}
-use Rattle.bm_core.specs.declared.events.What.TheVariants.{Close, Retire}
 use Rattle.bm_core.specs.Runs.{Actor}
 use Rattle.bm_core.specs.Runs.Actor.{ShardOf}
 use Rattle.bm_merge.specs.Notes.{Note}
@@ -98,16 +95,6 @@ deed clock what fate command due seat = record {
 -- the fate noted for an event that sends nothing
 abbrev pub no_fate : Fate
 no_fate = record { copies = 1; delay = 0 }
-
--- a server ends a connection, by the command of this number
-abbrev pub closing : Moment → ServerId → Flow → Bool → ℕ → ℕ → ℕ → Note
-closing clock server flow closed command at seat =
-    deed clock (Close server flow closed) no_fate command at seat
-
--- a shard is asked to retire, by the command of this number
-abbrev pub retiring : Moment → ServerId → ℕ → Moment → Retirement → ℕ → ℕ → Note
-retiring clock server shard at outcome command seat =
-    deed clock (Retire server shard at outcome) no_fate command at.0 seat
 
 abbrev pub clock_of : Note → ℕ
 clock_of n = n.event.clock.0

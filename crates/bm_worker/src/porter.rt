@@ -2,15 +2,15 @@
 ghost use Rattle.std.specs.Prelude.{◌≡◌, ℕ, ◌+◌, ◌*◌, ◌^◌, ◌<◌, ◌≤◌, ◌∷◌, [], max, length};
 ghost use Rattle.std.specs.Prelude.{slice_get};
 ghost use Rattle.std.specs.Prelude.{Some, Ok, Err, IfOk, OnErr, MatchResult};
-ghost use Rattle.bm_core.specs.declared.events.Stage.{Stage};
+ghost use Rattle.bm_shard.specs.declared.calls.ShardCall.TheVariants.{Close, Retire};
 ghost use Rattle.bm_shard.specs.declared.calls.ShardReply.TheVariants.{Arrived, Closed, Retired};
-ghost use Rattle.bm_server.specs.Servings.{Serving};
+ghost use Rattle.bm_server.specs.Servings.{Serving, shard_for};
 ghost use Rattle.bm_server.specs.Copies.{IsMemory};
 ghost use Rattle.bm_server.specs.Seats.{most_turns};
 ghost use Rattle.bm_worker.specs.Inside.Answers.{IsArrived, IsClosed, IsRetired};
 ghost use Rattle.bm_worker.specs.Arrivals.{HasCome, IsCopy};
-ghost use Rattle.bm_worker.specs.Deeds.{Hears, IsSamePorter, Sits, Suits, closing, retiring};
-ghost use Rattle.bm_worker.specs.Told.{Stays};
+ghost use Rattle.bm_worker.specs.Deeds.{IsSamePorter, Sits};
+ghost use Rattle.bm_worker.specs.Told.{Gains, Stays};
 
 use bm_base::{Flow, Memory, Moment};
 use bm_core::Verdict;
@@ -146,11 +146,10 @@ impl Porter {
         requires moment { at.0 ≤ 9 * 10 ^ 18 }
         ensures same { IsSamePorter self.old self.new }
         ensures tries { self.new.tries ≤ self.old.tries + 1 }
-        ensures heard { IfOk result
-            (λ r. (stage : Stage) (server : Serving) (i : ℕ) → Suits stage servers.now
-            → slice_get servers.now place ≡ Some server
-            → Hears stage servers.now self.old.seats self.new.seats
-            (closing r.0 server.id flow r.1 i at.0 self.old.number ∷ [])) }
+        ensures told { IfOk result
+            (λ r. (server : Serving) → slice_get servers.now place ≡ Some server
+            → Gains place (shard_for server flow) (Close flow at) (Closed r.0 r.1) self.old.seats
+            self.new.seats) }
         ensures stays { OnErr result (Stays self.old.seats self.new.seats) }
         ensures later { IfOk result (λ r. at.0 < r.0.0) }
         ensures latest { MatchResult result (λ r. self.new.latest ≡ max self.old.latest r.0.0)
@@ -183,11 +182,9 @@ impl Porter {
         requires moment { at.0 ≤ 9 * 10 ^ 18 }
         ensures same { IsSamePorter self.old self.new }
         ensures tries { self.new.tries ≤ self.old.tries + 1 }
-        ensures heard { IfOk result
-            (λ clock. (stage : Stage) (server : Serving) (i : ℕ) → Suits stage servers.now
-            → slice_get servers.now place ≡ Some server
-            → Hears stage servers.now self.old.seats self.new.seats
-            (retiring clock server.id shard at outcome i self.old.number ∷ [])) }
+        ensures told { IfOk result
+            (λ clock. Gains place shard (Retire at outcome) (Retired clock) self.old.seats
+            self.new.seats) }
         ensures stays { OnErr result (Stays self.old.seats self.new.seats) }
         ensures later { IfOk result (λ clock. at.0 < clock.0) }
         ensures latest { MatchResult result (λ clock. self.new.latest ≡ max self.old.latest clock.0)

@@ -14,7 +14,8 @@ use Rattle.bm_core.specs.Runs.{next_clock}
 use Rattle.bm_merge.specs.Notes.{Note, greatest}
 use Rattle.bm_server.specs.Servings.{Serving}
 use Rattle.bm_publish.specs.Posts.{Posted, last_or}
-use Rattle.bm_worker.specs.Deeds.{Hears, IsSamePorter, closing, retiring}
+use Rattle.bm_worker.specs.Deeds.{Hears, IsSamePorter}
+use Rattle.bm_worker.specs.Inside.Deeds.{closing, retiring}
 use Rattle.bm_worker.specs.Portings.{Porting}
 use Rattle.bm_lead.specs.declared.head.Head.{Head}
 use Rattle.bm_lead.specs.Commands.{control_log, posted_clocks, syncing}

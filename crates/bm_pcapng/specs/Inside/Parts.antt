@@ -1,5 +1,5 @@
 -- The parts of a capture, as they are read.
-use Rattle.std.specs.Prelude.{◌≡◌, ℕ, ◌+◌, ◌≤◌, List, length, take, Option, Some}
+use Rattle.std.specs.Prelude.{◌≡◌, ℕ, ◌+◌, ◌-◌, ◌≤◌, List, [], length, take, drop, Option, Some}
 use Rattle.std.specs.Prelude.{None, Result, Ok, Err, IsTrue, true, not, ◌&&◌, nat_lt}
 use Rattle.std.specs.Prelude.{if◌then◌else◌}
 use Rattle.bm_pcap.specs.declared.form.Order.{Order}
@@ -126,7 +126,18 @@ StepGives (Some octets) order interfaces place (Err ReadFault) = Unit {0}
 StepGives (Some octets) order interfaces place (Err e) =
     next_of order interfaces place octets ≡ Err e
 
--- a block's octets are the last that were consumed
+-- the last octets
+abbrev pub last_of : ℕ → List ℕ → List ℕ
+last_of n octets = drop (length octets - n) octets
+
+-- a block's octets are the last that were taken
+abbrev pub own_octets : Result Step NgFault → List ℕ → List ℕ
+own_octets (Ok (step.Block n said)) passed = last_of n passed
+own_octets (Ok step.Cut) passed = []
+own_octets (Ok step.End) passed = []
+own_octets (Err e) passed = []
+
+-- as many octets as a block has were taken
 abbrev pub IsLast : List ℕ → Step → Type 0
 IsLast passed (step.Block n said) = n ≤ length passed
 IsLast passed other = Unit {0}

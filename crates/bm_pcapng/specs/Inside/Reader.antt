@@ -1,5 +1,5 @@
 -- What the contracts of private calls and the proofs of bodies use in addition to Reader.
-use Rattle.std.specs.Prelude.{ℕ, ◌+◌, ◌≤◌, List, length, Option, Some}
+use Rattle.std.specs.Prelude.{ℕ, ◌+◌, ◌≤◌, List, [], length, Option, Some}
 use Rattle.std.specs.Prelude.{None, Result, Ok, Err}
 use Rattle.bm_pcapng.specs.declared.content.Content.TheVariants.{Holds}
 use Rattle.bm_pcapng.specs.declared.content.Packet.{Packet}
@@ -10,9 +10,10 @@ use Rattle.bm_pcapng.specs.declared.section.Section.{Section}
 use Rattle.bm_pcapng.specs.declared.step.Step.{Step}
 use Rattle.bm_pcapng.specs.declared.step.Step.TheVariants.{Block, Cut, End}
 use Rattle.bm_pcapng.specs.Causes.{IsBlockFault}
+use Rattle.bm_pcapng.specs.Inside.Parts.{last_of}
 use Rattle.bm_pcapng.specs.Reader.{Reader, Refuses, IsOpened, Stops}
 
--- a packet's block is the last that was consumed
+-- as many octets as a packet's block has were taken
 abbrev pub IsStopLast : List ℕ → Stop → Type 0
 IsStopLast passed (stop.Packet number n packet) =
     (n ≤ length passed) × (packet.at + packet.len ≤ n)
@@ -35,9 +36,9 @@ OpensIn old (Err e) = Refuses old e
 abbrev pub GivesStop : {S : Type 0} → (S → Option (List ℕ)) → (S → ℕ) → Reader S → Reader S
     → Result Stop NgFault → Type 0
 GivesStop left faults old new (Ok (stop.Packet number n packet)) =
-    Stops left faults old new number (Ok (Block n (Holds packet)))
-GivesStop left faults old new (Ok (stop.Cut number)) = Stops left faults old new number (Ok Cut)
+    Stops left faults old new number (Ok (Block n (Holds packet))) (last_of n new.passed)
+GivesStop left faults old new (Ok (stop.Cut number)) = Stops left faults old new number (Ok Cut) []
 GivesStop {S} left faults old new (Ok stop.End) =
-    (number : ℕ) × Stops left faults old new number (Ok End)
+    (number : ℕ) × Stops left faults old new number (Ok End) []
 GivesStop {S} left faults old new (Err e) =
-    (number : ℕ) × Stops left faults old new number (Err e)
+    (number : ℕ) × Stops left faults old new number (Err e) []

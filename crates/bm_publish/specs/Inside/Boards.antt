@@ -1,11 +1,12 @@
 -- The rule of a board. Only the proofs of bodies use this.
-use Rattle.std.specs.Prelude.{◌≡◌, ℕ, suc, List, [], ◌∷◌, Option, Some, IfSome}
+use Rattle.std.specs.Prelude.{◌≡◌, ℕ, suc, List, [], ◌∷◌, Option, Some, IfSome, MatchOption}
 use mathlib.Core.Option.{some}
 use lib.ListN.{get_elem?}
 use Rattle.logbook.specs.Pages.{Book}
 use Rattle.bm_base.specs.declared.label.Entry.{Entry}
 use Rattle.bm_table.specs.declared.plan.Change.{Change}
 use Rattle.bm_table.specs.Entries.{IsTable, after_moves}
+use Rattle.bm_publish.specs.declared.shown.Post.{Post}
 use Rattle.bm_publish.specs.Posts.{Posted, last_version}
 
 -- the entries from bucket b on, after the change
@@ -36,3 +37,9 @@ pub record Sees (entries : List Entry) (p : Posted) (before after : Option Poste
 -- a seat was told of this board
 abbrev pub Knows : Book → Option Posted → Type 0
 Knows board view = (told : Posted) × (view ≡ Some told) × (told.board ≡ board)
+
+-- all that was posted is shown, except the post that waits
+abbrev pub ShowsAllBut : List Entry → Posted → Posted → Option Post → Type 0
+ShowsAllBut entries shown past waiting =
+    MatchOption waiting (shown ≡ past)
+    (λ post. IsRight (changed_from post.change 0 entries) post.told × (post.told ≡ past))

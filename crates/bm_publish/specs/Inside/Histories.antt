@@ -1,6 +1,7 @@
 -- The history of a board, entry by entry. Only the proofs of bodies use this.
-use Rattle.std.specs.Prelude.{◌≡◌, ℕ, ◌==◌, true, List, [], ◌∷◌, ◌++◌, length, MatchBool}
-use Rattle.logbook.specs.Pages.{Book, Cell, Named, Step, View}
+use mathlib.Core.List.{IsPrefix}
+use Rattle.std.specs.Prelude.{◌≡◌, ℕ, ◌<◌, true, List, [], ◌∷◌, ◌++◌, length}
+use Rattle.logbook.specs.Pages.{Book, Cell, Named, Step, View, cell, nib, may_make}
 use Rattle.bm_table.specs.Planned.{Planned}
 use Rattle.bm_publish.specs.declared.told.Line.{Line}
 use Rattle.bm_publish.specs.declared.told.Line.TheVariants.{Opens, Posts}
@@ -10,31 +11,61 @@ use Rattle.bm_publish.specs.Posts.{Posted}
 abbrev pub plan_in : List Line → Planned
 plan_in [] = record { buckets = 0; servers = []; changes = [] }
 plan_in (Opens plan ∷ log) = plan
-plan_in (Posts clock ∷ log) = plan_in log
+plan_in (Posts clock next ∷ log) = plan_in log
 
 -- the clock of each post
 abbrev pub clocks_in : List Line → List ℕ
 clocks_in [] = []
 clocks_in (Opens plan ∷ log) = clocks_in log
-clocks_in (Posts clock ∷ log) = clock.0 ∷ clocks_in log
+clocks_in (Posts clock next ∷ log) = clock.0 ∷ clocks_in log
 
 -- the history opens with a plan
 abbrev pub IsOpened : List Line → Type 0
 IsOpened [] = ⊥
 IsOpened (Opens plan ∷ log) = Unit {0}
-IsOpened (Posts clock ∷ log) = ⊥
+IsOpened (Posts clock next ∷ log) = ⊥
 
 abbrev pub posted_in : Book → List Line → Posted
 posted_in board log = record { board = board; plan = plan_in log; clocks = clocks_in log }
 
--- the book has one word, the number of posts
-abbrev pub IsCounted : List Cell → List Line → Type 0
-IsCounted cells log = cells ≡ (length (clocks_in log), true) ∷ []
+-- THE PERMIT TO POST
+-- The permit to post is the pen of a cell. Each post brings its own cell home, and names the cell of the next permit.
+-- The first permit is cell 1.
+
+-- the cell of the permit for the next post
+abbrev pub permit_in : ℕ → List Line → ℕ
+permit_in key [] = key
+permit_in key (Opens plan ∷ log) = permit_in key log
+permit_in key (Posts clock next ∷ log) = permit_in next log
+
+-- the cell of each permit that was used is home
+abbrev pub IsSpent : List Cell → ℕ → List Line → Type 0
+IsSpent cells key [] = Unit {0}
+IsSpent cells key (Opens plan ∷ log) = IsSpent cells key log
+IsSpent cells key (Posts clock next ∷ log) = ((cell cells key).1 ≡ true) × IsSpent cells next log
+
+-- cell 0 is the word of all steps, and holds 0 while it is the only one
+pub record IsCounted (cells : List Cell) (log : List Line) : Type 0 where
+  pub some : 0 < length cells
+  pub word : (cell cells 0).1 ≡ true
+  pub fresh : (cell cells 0).0 ≡ 0 → length cells ≡ 1
+  pub spent : IsSpent cells 1 log
 
 abbrev pub head_of : Book → Named
 head_of board = record { tracked = true; key = 0; book = board }
 
--- the post was added to all that had been seen, or there are more posts
+-- a new cell's pen; the first of all is had before any post
+abbrev pub Grants : Step Line → View Line ℕ → ℕ → View Line ℕ → Type 0
+Grants s v found w =
+    (w.1.0 ≡ nib may_make w.1.0.key 0) × (found ≡ 0 → (w.1.0.key ≡ 1) × (clocks_in w.0 ≡ []))
+
+-- the post was added to all that had been seen
 abbrev pub Adds : Step Line → View Line ℕ → ℕ → View Line ℕ → Type 0
 Adds s v found w =
-    MatchBool (found == s.old) (clocks_in w.0 ≡ clocks_in v.0 ++ clocks_in (s.ask ∷ [])) (Unit {0})
+    (clocks_in w.0 ≡ clocks_in v.0 ++ clocks_in (s.ask ∷ [])) × (permit_in 1 w.0 ≡ permit_in 0 (s.ask ∷ []))
+
+-- the holder of the permit has seen all posts
+abbrev pub Checks : Step Line → View Line ℕ → ℕ → View Line ℕ → Type 0
+Checks s v found w =
+    (w.1.0 ≡ v.1.0)
+    × ((xs : List Line) → IsPrefix xs v.0 → permit_in 1 xs ≡ v.1.0.key → clocks_in w.0 ≡ clocks_in xs)

@@ -1,6 +1,8 @@
 use Rattle.std.proofs.Common.{◌≡◌, ℕ, List, refl, sym, ap, subst, arith, [], ◌∷◌, max, append-nil}
 use Rattle.bm_base.specs.declared.ids.ServerId.{ServerId}
-use Rattle.bm_worker.specs.Deeds.{Hears, closing}
+use Rattle.bm_worker.specs.Deeds.{Hears}
+use Rattle.bm_worker.specs.Inside.Deeds.{closing}
+use Rattle.bm_worker.proofs.Hearing.{hears_close}
 use Rattle.bm_lead.proofs.command.close.Goals as goal
 
 pub returns-clause-ok : goal.returns-clause-ok
@@ -25,7 +27,9 @@ returns-clause-ok g c = λ p.
               c.requires.number
               (subst (λ (d : ℕ). Hears c.args.stage.now c.args.servers.now a.porter.seats c.close.new.self.seats
               (closing done.0 server.id c.args.flow done.1 a.next d a.porter.number ∷ [])) is
-              (c.in_ok-_closed.ensures.heard c.args.stage.now server a.next c.requires.suits at)));
+              (hears_close c.args.stage.now c.args.servers.now c.known_place-place.result a.next a.porter.number server
+              c.args.flow due done.0 done.1 a.porter.seats c.close.new.self.seats c.requires.suits at
+              (c.in_ok-_closed.ensures.told server at))));
           same = c.in_ok-_closed.ensures.same;
           tries = let e = c.in_ok-_closed.ensures.tries in omega arith;
           latest = let e = c.in_ok-_closed.ensures.latest in omega arith;

@@ -1,4 +1,5 @@
 use Rattle.std.proofs.Common.{◌≡◌, ◌∙◌, ℕ, refl, subst, arith, []}
+use Rattle.bm_worker.proofs.Hearing.{hears_retire}
 use Rattle.bm_lead.specs.Inside.Steps.{AreRetirings}
 use Rattle.bm_lead.proofs.Calling.{called_up_to, none_called, retired_more, same_porter, sits_kept}
 use Rattle.bm_lead.proofs.command.retire_shards.Goals as goal
@@ -32,7 +33,9 @@ loop-shard-preserved g c =
           let old = was.2 i server at in
           retired_more c.args.stage.now c.args.servers.now i c.loop-shard.shard server c.args.at c.in_ok-retire.field-0
           c.args.outcome a b d old.0 (was.0.number ∙ c.requires.number) old.1 old.2
-          (c.in_ok-retire.ensures.heard c.args.stage.now server i c.requires.suits at) c.in_ok-retire.ensures.same
+          (hears_retire c.args.stage.now c.args.servers.now c.args.place c.loop-shard.shard i b.number server c.args.at
+          c.in_ok-retire.field-0 c.args.outcome b.seats d.seats c.requires.suits at c.in_ok-retire.ensures.told)
+          c.in_ok-retire.ensures.same
           c.in_ok-retire.ensures.tries c.in_ok-retire.ensures.latest c.in_ok-retire.ensures.later,
     )
 

@@ -54,7 +54,8 @@ loop-packets-preserved g c =
     (item.Record c.in-Record.number c.in-Record.moment c.in-Record.octets) c.next.follows.holds-at-none.0
     (c.in_ok-moment.was ∙ ap (λ (a : Item). Ok a) c.in-Record.is) in
     let f = stepped g.S.Source.left g.S.Source.faults c.loop-packets.r c.next.follows.lender-at-none
-    (step.Record given.0 (length c.in-Record.octets.now)) c.loop-packets.invariant.fresh given.1.0 in
+    (step.Record given.0 (length c.in-Record.octets.now)) c.in-Record.octets.now c.loop-packets.invariant.fresh
+    given.1.0 in
     let place = f.2.2 in
     let moment : c.in-Record.moment ≡ moment_at c.loop-packets.r.place given.0 =
     given.1.2 ∙ ap (λ (p : Place). p.last) place in
@@ -72,8 +73,8 @@ loop-packets-preserved g c =
       so_far = λ octets stands. rw
           (c.in_ok-push-in-Record.ensures.items, c.in_ok-push-in-Record-2.ensures.ok, f.2.1, place)
           (goes_on _ _ c.loop-packets.r.form c.args.vips.now _ c.loop-packets.r.place c.loop-packets.records.items
-          c.loop-packets.packets given.0 c.in-Record.octets.now _ c.in-Record.moment c.classify-body.result.0
-          c.classify-body.result.1.now (c.loop-packets.invariant.so_far octets stands) f.0 f.2.0.0 given.1.3 moment
+          c.loop-packets.packets given.0 c.in-Record.octets.now c.in-Record.moment c.classify-body.result.0
+          c.classify-body.result.1.now (c.loop-packets.invariant.so_far octets stands) f.0 f.2.0.0 moment
           class);
       began = λ octets stands. rw (f.2.1, place)
           (began_more _ _ c.loop-packets.r.form c.loop-packets.r.place given.0 _ _ _
@@ -109,7 +110,7 @@ returns-in-Cut-clause-capture g c octets stands =
     gave g.S.Source.left g.S.Source.faults c.loop-packets.r c.next.follows.lender-at-none c.next.result
     (item.Cut c.in-Cut.number) c.next.follows.holds-at-none.0
     (c.in_ok-moment.was ∙ ap (λ (a : Item). Ok a) c.in-Cut.is) in
-    let f = stepped g.S.Source.left g.S.Source.faults c.loop-packets.r c.next.follows.lender-at-none step.Cut
+    let f = stepped g.S.Source.left g.S.Source.faults c.loop-packets.r c.next.follows.lender-at-none step.Cut []
     c.loop-packets.invariant.fresh given.0 in
     ap (λ (x : Capture). Ok (x, c.loop-packets.packets))
     (c.captured.ensures ∙ ap (λ n. record { records = c.loop-packets.records.items; cut = Some n }) given.1)
@@ -121,7 +122,7 @@ returns-in-End-clause-capture g c octets stands =
     let given =
     gave g.S.Source.left g.S.Source.faults c.loop-packets.r c.next.follows.lender-at-none c.next.result item.End
     c.next.follows.holds-at-none.0 (c.in_ok-moment.was ∙ ap (λ (a : Item). Ok a) c.in-End.is) in
-    let f = stepped g.S.Source.left g.S.Source.faults c.loop-packets.r c.next.follows.lender-at-none step.End
+    let f = stepped g.S.Source.left g.S.Source.faults c.loop-packets.r c.next.follows.lender-at-none step.End []
     c.loop-packets.invariant.fresh given in
     ap (λ (x : Capture). Ok (x, c.loop-packets.packets)) c.captured-in-End.ensures
     ∙ at_end _ _ c.loop-packets.r.form c.args.vips.now _ c.loop-packets.r.place c.loop-packets.records.items
@@ -215,7 +216,7 @@ returns-in-Cut-clause-began g c octets stands =
     gave g.S.Source.left g.S.Source.faults c.loop-packets.r c.next.follows.lender-at-none c.next.result
     (item.Cut c.in-Cut.number) c.next.follows.holds-at-none.0
     (c.in_ok-moment.was ∙ ap (λ (a : Item). Ok a) c.in-Cut.is) in
-    let f = stepped g.S.Source.left g.S.Source.faults c.loop-packets.r c.next.follows.lender-at-none step.Cut
+    let f = stepped g.S.Source.left g.S.Source.faults c.loop-packets.r c.next.follows.lender-at-none step.Cut []
     c.loop-packets.invariant.fresh given.0 in
     ap (λ (p : Place). unwrap_or p.first 0) f.2.1
     ∙ began_ends _ _ c.loop-packets.r.form c.loop-packets.r.place step.Cut _ _ tt
@@ -226,7 +227,7 @@ returns-in-End-clause-began g c octets stands =
     let given =
     gave g.S.Source.left g.S.Source.faults c.loop-packets.r c.next.follows.lender-at-none c.next.result item.End
     c.next.follows.holds-at-none.0 (c.in_ok-moment.was ∙ ap (λ (a : Item). Ok a) c.in-End.is) in
-    let f = stepped g.S.Source.left g.S.Source.faults c.loop-packets.r c.next.follows.lender-at-none step.End
+    let f = stepped g.S.Source.left g.S.Source.faults c.loop-packets.r c.next.follows.lender-at-none step.End []
     c.loop-packets.invariant.fresh given in
     ap (λ (p : Place). unwrap_or p.first 0) f.2.1
     ∙ began_ends _ _ c.loop-packets.r.form c.loop-packets.r.place step.End _ _ tt
@@ -238,7 +239,7 @@ returns-in-Cut-clause-early g c =
     gave g.S.Source.left g.S.Source.faults c.loop-packets.r c.next.follows.lender-at-none c.next.result
     (item.Cut c.in-Cut.number) c.next.follows.holds-at-none.0
     (c.in_ok-moment.was ∙ ap (λ (a : Item). Ok a) c.in-Cut.is) in
-    let f = stepped g.S.Source.left g.S.Source.faults c.loop-packets.r c.next.follows.lender-at-none step.Cut
+    let f = stepped g.S.Source.left g.S.Source.faults c.loop-packets.r c.next.follows.lender-at-none step.Cut []
     c.loop-packets.invariant.fresh given.0 in
     rw f.2.1 c.loop-packets.invariant.soon
 
@@ -247,6 +248,6 @@ returns-in-End-clause-early g c =
     let given =
     gave g.S.Source.left g.S.Source.faults c.loop-packets.r c.next.follows.lender-at-none c.next.result item.End
     c.next.follows.holds-at-none.0 (c.in_ok-moment.was ∙ ap (λ (a : Item). Ok a) c.in-End.is) in
-    let f = stepped g.S.Source.left g.S.Source.faults c.loop-packets.r c.next.follows.lender-at-none step.End
+    let f = stepped g.S.Source.left g.S.Source.faults c.loop-packets.r c.next.follows.lender-at-none step.End []
     c.loop-packets.invariant.fresh given in
     rw f.2.1 c.loop-packets.invariant.soon

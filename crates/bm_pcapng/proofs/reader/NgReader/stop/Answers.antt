@@ -69,7 +69,7 @@ returns-in-Some-clause-gives g c =
 
 pub loop-size-preserved : goal.loop-size-preserved
 loop-size-preserved g c =
-    over c.loop-size.self c.advance.new.self c.in-Block.size c.in-Block.content c.loop-size.invariant
+    over c.loop-size.self c.advance.new.self c.in-Block.size c.in-Block.content _ c.loop-size.invariant
     (without_packet c.in-Block.content (sym c.packet.ensures ∙ c.in_default.is))
     (gave g.S.Source.left g.S.Source.faults c.loop-size.self c.advance.new.self c.advance.result
     (Ok (Block c.in-Block.size c.in-Block.content)) c.advance.ensures.advances

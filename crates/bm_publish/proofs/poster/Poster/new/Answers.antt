@@ -20,8 +20,8 @@ publish-writer-requires-clause-next g c =
     let was = c.in_ok-writer.writer.desk.shown.value in
     let same : was ≡ x = c.in_ok-writer.ensures.0 in
     let told = c.in_ok-shown.ensures.told in
-    let right : IsRight x.table c.open-head.result.1 = subst (IsRight x.table) told c.in_ok-shown.ensures.right in
-    let right' : IsRight was.table c.open-head.result.1 =
-    subst (λ (s : Shown). IsRight s.table c.open-head.result.1) (sym same) right in
-    subst (λ (l : List Entry). IsRight l c.open-head.result.1)
+    let right : IsRight x.table c.tell-told.result = subst (IsRight x.table) told c.in_ok-shown.ensures.right in
+    let right' : IsRight was.table c.tell-told.result =
+    subst (λ (s : Shown). IsRight s.table c.tell-told.result) (sym same) right in
+    subst (λ (l : List Entry). IsRight l c.tell-told.result)
     (sym (changed-idle c.idle_change.result 0 was.table c.idle_change.ensures)) right'

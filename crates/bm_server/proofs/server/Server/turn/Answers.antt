@@ -1,8 +1,8 @@
 use Rattle.std.proofs.Common.{◌≡◌, ◌+◌, ◌≤◌, ◌++◌, map, set, get_or, List, ap, ◌∙◌, subst, arith}
 use Rattle.std.proofs.Math.Seq.{map-set_same}
 use Rattle.bm_turnstile.specs.Sittings.{who}
-use Rattle.bm_server.specs.Seats.{Seated, most_turns, said, told_at}
-use Rattle.bm_server.proofs.Turns.{inside, turned_reply, turns_at, turns_set, told_set}
+use Rattle.bm_server.specs.Seats.{Seated, TakesTurn, most_turns, said, told_at}
+use Rattle.bm_server.proofs.Turns.{inside, takes_turn, turned_reply, turns_at, turns_set, told_set}
 use Rattle.bm_server.proofs.server.Server.turn.Goals as goal
 
 pub turn-requires-clause-few : goal.turn-requires-clause-few
@@ -46,6 +46,17 @@ returns-clause-told g c = λ k.
     let lt = inside c.args.self.now.tables l c.args.seat.now h c.seat.view_is c.requires.mine c.requires.shard in
     told_set l h s c.turn.new.seat call c.turn.result lt c.index_mut.ensures.value c.turn.ensures.told k
     ∙ ap (λ (x : List Seated). told_at x k ++ said h call c.turn.result k) c.seat.view_is
+
+pub returns-clause-turn : goal.returns-clause-turn
+returns-clause-turn g c =
+    let s = c.index_mut.result.now in
+    let l = c.seat.inside.seats.items in
+    let h = c.args.shard in
+    let call = c.args.call in
+    let lt = inside c.args.self.now.tables l c.args.seat.now h c.seat.view_is c.requires.mine c.requires.shard in
+    let came = c.turn.ensures in
+    subst (λ (x : List Seated). TakesTurn h call c.turn.result x (set l h c.turn.new.seat)) c.seat.view_is
+    (takes_turn l h s c.turn.new.seat call c.turn.result lt c.index_mut.ensures.value came.turns came.ok came.memory)
 
 pub returns-clause-reply : goal.returns-clause-reply
 returns-clause-reply g c =

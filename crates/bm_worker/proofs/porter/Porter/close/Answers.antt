@@ -1,11 +1,12 @@
-use Rattle.std.proofs.Common.{map, ap, ◌∙◌}
+use Rattle.std.proofs.Common.{map, ap, set, subst, sym, ◌∙◌}
+use Rattle.std.proofs.lemmas.Option.{same_Some}
 use Rattle.bm_turnstile.specs.Sittings.{who}
 use Rattle.bm_shard.specs.declared.calls.ShardCall.TheVariants.{Close}
 use Rattle.bm_shard.specs.declared.calls.ShardReply.TheVariants.{Closed}
-use Rattle.bm_server.specs.Servings.{shard_for}
+use Rattle.bm_server.specs.Servings.{Serving, shard_for}
 use Rattle.bm_worker.specs.Portings.{Porting}
+use Rattle.bm_worker.specs.Told.{Gains}
 use Rattle.bm_worker.specs.Views.{porting_of}
-use Rattle.bm_worker.proofs.Hearing.{close_heard}
 use Rattle.bm_worker.proofs.Replying.{close_later, closes, on_err}
 use Rattle.bm_worker.proofs.Seating.{few_there, gains, mine_there, seat_there, server_got, stays, turns_kept, whos_kept}
 use Rattle.bm_worker.proofs.porter.Porter.close.Goals as goal
@@ -66,15 +67,15 @@ returns-in_err-clock-clause-stays g c = on_err c.from_residual.result (
     c.self.view_is c.requires.sits c.requires.place c.index_mut.ensures.value c.close_flow-answer.ensures.told
     c.in_err-clock.ensures)
 
-pub returns-clause-heard : goal.returns-clause-heard
-returns-clause-heard g c = λ stage server i suits at.
-    close_heard stage c.args.servers.now c.args.place i c.args.self.now.number server c.index-servers-place.result
-    c.args.flow c.args.at
-    c.in_ok-clock.clock c.in_ok-clock.was_held c.args.self.now.seats _ suits
-    (server_got c.args.servers.now c.args.place c.index-servers-place.result c.requires.place c.index-servers-place.is)
-    at
-    (gains c.args.self.now (porting_of c.self.inside) c.args.servers.now c.args.place
-    (shard_for c.index-servers-place.result c.args.flow)
+pub returns-clause-told : goal.returns-clause-told
+returns-clause-told g c = λ server at.
+    let here = c.index-servers-place.result in
+    let is = server_got c.args.servers.now c.args.place here c.requires.place c.index-servers-place.is in
+    subst (λ (x : Serving). Gains c.args.place (shard_for x c.args.flow) (Close c.args.flow c.args.at)
+    (Closed c.in_ok-clock.clock c.in_ok-clock.was_held) c.args.self.now.seats
+    (set (porting_of c.self.inside).seats c.args.place c.close_flow-answer.new.seat))
+    (same_Some here server (sym is ∙ at))
+    (gains c.args.self.now (porting_of c.self.inside) c.args.servers.now c.args.place (shard_for here c.args.flow)
     c.index_mut.result.now c.close_flow-answer.new.seat (Close c.args.flow c.args.at) c.close_flow-answer.result
     (Closed c.in_ok-clock.clock c.in_ok-clock.was_held) c.self.view_is c.requires.sits c.requires.place
     c.index_mut.ensures.value

@@ -4,7 +4,6 @@ use Rattle.bm_shard.specs.declared.calls.ShardCall.TheVariants.{Retire}
 use Rattle.bm_shard.specs.declared.calls.ShardReply.TheVariants.{Retired}
 use Rattle.bm_worker.specs.Portings.{Porting}
 use Rattle.bm_worker.specs.Views.{porting_of}
-use Rattle.bm_worker.proofs.Hearing.{hears_retire}
 use Rattle.bm_worker.proofs.Replying.{on_err, retirement_later, retires}
 use Rattle.bm_worker.proofs.Seating.{few_there, gains, mine_there, seat_there, stays, turns_kept, whos_kept}
 use Rattle.bm_worker.proofs.porter.Porter.retire.Goals as goal
@@ -64,15 +63,12 @@ returns-in_err-clock-clause-stays g c = on_err c.from_residual.result (
     c.self.view_is c.requires.sits c.requires.place c.index_mut.ensures.value c.retire-answer.ensures.told
     c.in_err-clock.ensures)
 
-pub returns-clause-heard : goal.returns-clause-heard
-returns-clause-heard g c = λ stage server i suits at.
-    hears_retire stage c.args.servers.now c.args.place c.args.shard i c.args.self.now.number server c.args.at
-    c.in_ok-clock.clock c.args.outcome
-    c.args.self.now.seats _ suits at
-    (gains c.args.self.now (porting_of c.self.inside) c.args.servers.now c.args.place c.args.shard
+pub returns-clause-told : goal.returns-clause-told
+returns-clause-told g c =
+    gains c.args.self.now (porting_of c.self.inside) c.args.servers.now c.args.place c.args.shard
     c.index_mut.result.now c.retire-answer.new.seat (Retire c.args.at c.args.outcome) c.retire-answer.result
     (Retired c.in_ok-clock.clock) c.self.view_is c.requires.sits c.requires.place c.index_mut.ensures.value
-    c.retire-answer.ensures.told c.in_ok-clock.ensures)
+    c.retire-answer.ensures.told c.in_ok-clock.ensures
 
 pub returns-clause-later : goal.returns-clause-later
 returns-clause-later g c =
