@@ -1,12 +1,16 @@
--- The parts of a history: what each actor recorded. A past has its newest event first.
+-- The parts of a history: what each actor recorded, and what these logs merge into. A past has its
+-- newest event first.
 use Rattle.std.specs.Prelude.{◌≡◌, ◌≢◌, ◌<◌, ◌⊎◌, Bool, false, ◌||◌, if◌then◌else◌, List, [], ◌∷◌}
 use Rattle.std.specs.Prelude.{map}
 use Rattle.std.specs.Prelude.{reverse, unwrap_or}
 use Rattle.std.specs.List.{AllByRecursion}
 use Rattle.bm_core.specs.declared.events.Event.{Event}
+use Rattle.bm_core.specs.declared.events.History.{History}
 use Rattle.bm_core.specs.declared.events.Stage.{Stage}
 use Rattle.bm_core.specs.Runs.{Actor, actor_of, same_actor}
 use Rattle.bm_core.specs.Runs.Actor.{Controller, MuxOf, ShardOf}
+use Rattle.bm_merge.specs.Merges.{joined}
+use Rattle.bm_merge.specs.Rising.{in_order}
 
 -- Who recorded the newest of these events: its actor; for a loss, which has none, whoever recorded
 -- the event before it, which in a replay is its sending.
@@ -53,3 +57,15 @@ pub record ArePartsOf (stage : Stage) (events : List Event) (logs : List (List E
   pub some : AllByRecursion (λ a. written_by stage a (reverse events) ≢ []) actors
   -- no other actor recorded anything
   pub all : (a : Actor) → is_among actors a ≡ false → written_by stage a (reverse events) ≡ []
+
+-- the history's events split into logs that merge into these events again
+abbrev pub MergesAgain : History → Type 0
+MergesAgain h =
+    (logs : List (List Event)) × ArePartsOf h.stage h.events logs
+    × (in_order (joined logs) ≡ h.events)
+
+-- they split into logs that merge into other events
+abbrev pub MergesOtherwise : History → Type 0
+MergesOtherwise h =
+    (logs : List (List Event)) × ArePartsOf h.stage h.events logs
+    × (in_order (joined logs) ≢ h.events)

@@ -354,20 +354,22 @@ impl Round {
     }
 }
 
-/// Writes the lines of the events, round after round.
+/// Writes the lines of the events, round after round. Returns how many strays there are among the
+/// events of a run.
 fn put_rounds<R: Threads + Sync, K: Sink>(
     rt: &R,
     alloc: Global,
     h: &History,
     round: &mut Round,
     out: &mut K,
-) -> Result<(), IoFault>
+) -> Result<u64, IoFault>
     requires ranges { HasRanges h.now.stage }
     requires first { round.old.from ≡ 0 }
     requires round { IsRound h.now round.old }
     ensures ok { OnOk result
         (PutsLines h.now 0 (length h.now.events) (K.written out.old) (K.written out.new)) }
-    ensures swept { OnOk result (HasSwept h.now (length h.now.events) round.new.sweeper) }
+    ensures strays { IfOk result (λ count. IsRun h.now
+        → count ≡ totals.strays h.now.stage (reverse h.now.events)) }
     ensures err { OnErr result (PutsPart h.now 0 (K.written out.old) (K.written out.new)) }
     ensures cause { HasIoCause (K.faults out.old) (K.faults out.new) result }
 {
@@ -375,7 +377,7 @@ fn put_rounds<R: Threads + Sync, K: Sink>(
     while round.from < end {
         round.put(rt, alloc, h, out)?;
     }
-    Ok(())
+    Ok(round.sweeper.strays())
 }
 
 /// Writes the lines of the events with this many threads. Returns how many strays there are among
@@ -397,8 +399,7 @@ fn put_lines_of_events<R: Threads + Sync, K: Sink>(
     ensures cause { HasIoCause (K.faults out.old) (K.faults out.new) result }
 {
     let mut round = Round::first(alloc, h, threads)?;
-    put_rounds(rt, alloc, h, &mut round, out)?;
-    Ok(round.sweeper.strays())
+    put_rounds(rt, alloc, h, &mut round, out)
 }
 
 /// Writes the lines of the events with this many threads. Meanwhile one more thread puts together

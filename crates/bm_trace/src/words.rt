@@ -101,8 +101,8 @@ impl fmt::Display for VerdictWords {
 
     fn fmt<W: fmt::Write>(&self, f: &mut fmt::Formatter<W>) -> fmt::Result {
         match self.0 {
-            Verdict::Accept => write!(f, " accept"),
-            Verdict::Process(taken) => write!(f, "{}", process_text(taken)),
+            Verdict::Accept => f.write_str(" accept"),
+            Verdict::Process(taken) => f.write_str(process_text(taken)),
             Verdict::Forward(server) => write!(f, " forward {}", server.0),
             Verdict::Reset(why) => write!(f, " reset {}", why_word(why)),
             Verdict::Drop(why) => write!(f, " drop {}", why_word(why)),
@@ -134,8 +134,8 @@ impl fmt::Display for RetirementWords {
 
     fn fmt<W: fmt::Write>(&self, f: &mut fmt::Formatter<W>) -> fmt::Result {
         match self.0 {
-            Retirement::Done => write!(f, " done"),
-            Retirement::NotDrained => write!(f, " not-drained"),
+            Retirement::Done => f.write_str(" done"),
+            Retirement::NotDrained => f.write_str(" not-drained"),
             Retirement::TooEarly(bucket) => write!(f, " too-early {bucket}"),
         }
     }
