@@ -16,13 +16,13 @@ _beamer() {
   local word=${COMP_WORDS[COMP_CWORD]} form=${COMP_WORDS[1]-} ending
   COMPREPLY=()
   case $COMP_CWORD in
-    1) mapfile -t COMPREPLY < <(compgen -W "replay run load" -- "$word"); return ;;
+    1) mapfile -t COMPREPLY < <(compgen -W "replay run load streams" -- "$word"); return ;;
     2) ending='@(pcap|pcapng|cap)' ;;
     3) ending=toml ;;
     *) return ;;
   esac
   case $form in
-    replay | run) _beamer_files "$word" "$ending" ;;
+    replay | run | streams) _beamer_files "$word" "$ending" ;;
   esac
 }
 complete -F _beamer beamer ./beamer

@@ -1,6 +1,6 @@
 -- What is due for each form of words.
 use Rattle.std.proofs.Common.{◌≡◌, ◌≢◌, ℕ, List, [], Option, Some, None, IsSome, Result, Ok, Err, refl, subst}
-use Rattle.bm_words.specs.Form.{Asked, Load, Named, Replay, Run}
+use Rattle.bm_words.specs.Form.{Asked, Load, Named, Replay, Run, Streams}
 use Rattle.bm_table.specs.declared.script.Script.{Script}
 use Rattle.bm_cli.specs.declared.fault.StageFault.{StageFault}
 use Rattle.bm_cli.specs.declared.mode.Mode.TheVariants.{Replay as by_replay, Run as by_run}
@@ -9,6 +9,7 @@ use Rattle.bm_cli.specs.Dues.{due, names_behind, status_of, text_of}
 use Rattle.bm_cli.specs.Headline.{IsReportOf}
 use Rattle.bm_cli.specs.Lines.{usage_line}
 use Rattle.bm_cli.specs.Reading.{Reads, reading, script_by}
+use Rattle.bm_cli.specs.Streams.{AreStreams}
 use Rattle.bm_cli.specs.Top.{AsksNone, scripts_in}
 use Rattle.bm_cli.proofs.Ending.{nothing}
 use Rattle.bm_cli.proofs.Laws.{stage_names, stage_usage}
@@ -20,6 +21,8 @@ usage_form (Some (Replay names)) reads e = absurd (stage_usage (IsReportOf by_re
 usage_form (Some (Run capture script)) reads e =
     absurd (stage_usage (IsReportOf by_run)
     (reading by_run (record { capture = capture; script = Some script }) reads) e)
+usage_form (Some (Streams names)) reads e =
+    absurd (stage_usage (AreStreams names reads) (reading by_replay names reads) e)
 usage_form (Some (Load n)) reads e = absurd (cc)
 
 pub usage_text : (form : Option Asked) (reads : Reads) (text : List ℕ) → Usage ≡ status_of (due form reads).answer →
@@ -41,6 +44,8 @@ script_form (Some (Replay names)) reads e =
 script_form (Some (Run capture script)) reads e =
     stage_names (IsReportOf by_run) (record { capture = capture; script = Some script }) reads
     (script_by by_run reads (Some script)) e
+script_form (Some (Streams names)) reads e =
+    stage_names (AreStreams names reads) names reads (script_by by_replay reads names.script) e
 script_form (Some (Load n)) reads e = absurd (cc)
 
 -- A FILE IS ASKED FOR
@@ -58,6 +63,10 @@ replay_named capture (Some script) reads = script_named capture script (script_b
 
 pub replay_asks : (words : Option Asked) (names : Named) → words ≡ Some (Replay names) → AsksNone (due words) → ⊥
 replay_asks words names is none =
+    replay_named names.capture names.script nothing (subst (λ f. AsksNone (due f)) is none nothing)
+
+pub streams_asks : (words : Option Asked) (names : Named) → words ≡ Some (Streams names) → AsksNone (due words) → ⊥
+streams_asks words names is none =
     replay_named names.capture names.script nothing (subst (λ f. AsksNone (due f)) is none nothing)
 
 pub run_asks : (words : Option Asked) (capture script : List ℕ) → words ≡ Some (Run capture script) →

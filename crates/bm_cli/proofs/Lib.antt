@@ -11,5 +11,6 @@ pub mod Scripts
 pub mod Sound
 pub mod Stages
 pub mod Statuses
+pub mod StreamsOfStages
 pub mod Telling
 pub mod Wider

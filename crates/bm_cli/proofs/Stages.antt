@@ -25,11 +25,12 @@ use Rattle.bm_cli.specs.Inside.Scripts.{ReadsScript}
 use Rattle.bm_cli.specs.Stages.{IsOutside, IsRead}
 use Rattle.bm_cli.specs.Stages.{ReadsStage, status_by}
 use Rattle.bm_cli.specs.Lines.{capture_status, fault_status}
-use Rattle.bm_cli.specs.Names.{AsksAll, AsksPrefix, names_in, script_names}
+use Rattle.bm_cli.specs.Names.{AsksAll, AsksPrefix, script_names}
 use Rattle.bm_cli.specs.Reading.{Holds, Octets, Reading, Reads, if_taken, reading, reads_of, script_by, script_for}
 use Rattle.bm_cli.specs.Reading.{taken}
 use Rattle.bm_cli.specs.Reading.{with_capture, with_script}
 use Rattle.bm_cli.specs.Statuses.{FilesDid}
+use Rattle.bm_cli.specs.Streams.{packets_in, packets_of, packets_with}
 use Rattle.bm_cli.proofs.Ending.{holds_more}
 use Rattle.bm_cli.proofs.Names.{all_then, asks_more, asks_then}
 use Rattle.bm_cli.proofs.Readings.{rose_later}
@@ -50,6 +51,17 @@ just script captured time = record {
 -- of a stage that was read this is when its capture began
 abbrev pub BeganWith : {A : Type 0} → Result A CaptureFault → ℕ → List ℕ → Reads → Type 0
 BeganWith r time name reads = IfOk r (λ read. time ≡ reads.began name)
+
+-- of a capture that was read these are the packets
+abbrev pub PacketsWith : Mode → Named → Captured → Reads → Type 0
+PacketsWith mode names r reads = IfOk r (λ read. read.1 ≡ packets_in mode names reads)
+
+-- a stage that was read, when its capture began, and its packets
+pub record ReadsAll (mode : Mode) (names : Named) (files : FilesDid) (got : Reading) (r : Captured) (time : ℕ)
+    (reads : Reads) : Type 0 where
+  pub stage : ReadsStage mode names reads files got
+  pub began : BeganWith r time names.capture reads
+  pub packets : PacketsWith mode names r reads
 
 -- what was read, without when the capture began
 pub stage_alone : (mode : Mode) (names : Named) (told : Octets) (files : FilesDid) (r : Reading) (more : Reads → Type 0)
@@ -244,6 +256,14 @@ gives_reading mode names script r time reads takes gives =
     (λ (s : Result Script StageFault). IsRead (with_script s (reads.capture names.capture)) (with_capture script r))
     (sym (ap (if_taken mode) gives.first ∙ takes)) (stage_read script wanted r gives.second)
 
+gives_packets : (mode : Mode) (names : Named) (script : Script) (r : Captured) (time : ℕ) (reads : Reads) →
+    taken mode script ≡ Ok script → Gives names script r time reads → PacketsWith mode names r reads
+gives_packets mode names script (Ok read) time reads takes gives =
+    ap packets_of gives.second
+    ∙ sym (ap (λ (s : Result Script StageFault). packets_with s (reads.capture names.capture))
+    (ap (if_taken mode) gives.first ∙ takes))
+gives_packets mode names script (Err fault) time reads takes gives = tt
+
 -- want of memory, as the status of what was read
 memory_by : (script : Script) (r : Captured) → IsErrOf r NoMemory → status_by (with_capture script r) ≡ Memory
 memory_by script (Ok read) h = absurd (cc)
@@ -258,8 +278,7 @@ pub capture_read : (mode : Mode) (names : Named) (told : Octets) (files : FilesD
     IsErrOf r NoMemory ⊎ AsksAll mid files.now (names.capture ∷ []) →
     (status_by (with_capture script r) ≡ ReadFault → Rose files.faults files.later) →
     (status_by (with_capture script r) ≢ ReadFault → files.later ≡ files.faults) →
-    Holds told
-    (λ reads. ReadsStage mode names reads files (with_capture script r) × BeganWith r time names.capture reads)
+    Holds told (ReadsAll mode names files (with_capture script r) r time)
 capture_read mode names told files mid script r time has takes first second third before part all rose kept =
     let found = gives_some names told script r time names.script refl first second third in
     let asks : AsksFor (names_behind names (script_by mode found.reads names.script))
@@ -275,18 +294,19 @@ capture_read mode names told files mid script r time has takes first second thir
     record {
       reads = found.reads;
       known = found.known;
-      holds = (
-        record { read = gives_reading mode names script r time found.reads takes found.holds; asks = asks },
-        found.holds.third,
-      );
+      holds = record {
+        stage = record { read = gives_reading mode names script r time found.reads takes found.holds; asks = asks };
+        began = found.holds.third;
+        packets = gives_packets mode names script r time found.reads takes found.holds;
+      };
     }
   where
     behind : (fact : List (List ℕ) → Type 0) {s : Result Script StageFault} → s ≡ Ok script →
-        fact (names_in names) → fact (names_behind names s)
+        fact (script_names names.script ++ names.capture ∷ []) → fact (names_behind names s)
     behind fact is h = subst (λ s. fact (names_behind names s)) (sym is) h
 
     whole : IsErrOf r NoMemory ⊎ AsksAll mid files.now (names.capture ∷ []) →
-        status_by (with_capture script r) ≢ Memory → AsksAll files.before files.now (names_in names)
+        status_by (with_capture script r) ≢ Memory → AsksAll files.before files.now (script_names names.script ++ names.capture ∷ [])
     whole (inl none) memory = absurd (memory (memory_by script r none))
     whole (inr h) memory =
         all_then files.before mid files.now (script_names names.script) (names.capture ∷ []) before h
@@ -383,8 +403,7 @@ pub captured_stage : (mode : Mode) (names : Named) (told then : Octets) (files :
     files.faults ≤ faults →
     IsErrAnd (read_ok script) (λ fault. fault_status fault ≡ ReadFault) ⊎ (faults ≡ files.faults) →
     HasReadCause faults files.later r →
-    Holds told
-    (λ reads. ReadsStage mode names reads files (with_capture script r) × BeganWith r time names.capture reads)
+    Holds told (ReadsAll mode names files (with_capture script r) r time)
 captured_stage mode names told then files mid script vips r time faults has takes same served first second third before
     part all low kept cause =
     capture_read mode names told files mid script r time has takes first
@@ -396,7 +415,37 @@ captured_stage mode names told then files mid script vips r time faults has take
     (λ read. cause.kept (λ e. read (ap (λ (c : Captured). status_by (with_capture script c)) e))
     ∙ kept_ok script files.faults faults kept)
 
+-- when it began
+pub stage_began : (mode : Mode) (names : Named) (told : Octets) (files : FilesDid) (stage : Reading) (r : Captured)
+    (time : ℕ) → Holds told (ReadsAll mode names files stage r time) →
+    Holds told (λ reads. ReadsStage mode names reads files stage × BeganWith r time names.capture reads)
+stage_began mode names told files stage r time all =
+    holds_more told (ReadsAll mode names files stage r time)
+    (λ reads. ReadsStage mode names reads files stage × BeganWith r time names.capture reads)
+    (λ reads h. (h.stage, h.began)) all
+
+-- its packets
+pub stage_packets : (mode : Mode) (names : Named) (told : Octets) (files : FilesDid) (stage : Reading) (r : Captured)
+    (time : ℕ) → Holds told (ReadsAll mode names files stage r time) →
+    Holds told (λ reads. ReadsStage mode names reads files stage × PacketsWith mode names r reads)
+stage_packets mode names told files stage r time all =
+    holds_more told (ReadsAll mode names files stage r time)
+    (λ reads. ReadsStage mode names reads files stage × PacketsWith mode names r reads)
+    (λ reads h. (h.stage, h.packets)) all
+
 -- a fault that came through `?`
+pub packets_through : (mode : Mode) (names : Named) (told : Octets) (files : FilesDid)
+    (r : Result (Stage × List (List ℕ) × ℕ) StageFault) (fault : StageFault) → IsErrAnd r (λ e. e ≡ fault) →
+    Holds told (λ reads. ReadsStage mode names reads files (Err fault)) →
+    Holds told (λ reads.
+    ReadsStage mode names reads files (result_map_both (λ read. read.0) (λ fault. fault) r)
+    × IfOk r (λ read. read.1 ≡ packets_in mode names reads))
+packets_through mode names told files (Ok x) fault is holds = absurd is
+packets_through mode names told files (Err e) fault is holds =
+    holds_more told (λ reads. ReadsStage mode names reads files (Err fault))
+    (λ reads. ReadsStage mode names reads files (Err e) × Unit {0})
+    (λ reads h. (subst (λ f. ReadsStage mode names reads files (Err f)) (sym is) h, tt)) holds
+
 pub stage_through : {A : Type 0} (mode : Mode) (names : Named) (told : Octets) (files : FilesDid)
     (r : Result (Stage × A × ℕ) StageFault) (fault : StageFault) → IsErrAnd r (λ e. e ≡ fault) →
     Holds told (λ reads. ReadsStage mode names reads files (Err fault)) →

@@ -1,8 +1,8 @@
 -- What the program is to write, by the words and by what is read under the names in them.
-use Rattle.std.specs.Prelude.{◌≡◌, [], ℕ, List, Option, Some, None, Result, Ok, Err}
+use Rattle.std.specs.Prelude.{◌≡◌, [], ◌∷◌, ◌++◌, ℕ, List, Option, Some, None, Result, Ok, Err}
 use Rattle.bm_table.specs.declared.script.Script.{Script}
 use Rattle.bm_core.specs.declared.events.Stage.{Stage}
-use Rattle.bm_words.specs.Form.{Asked, Load, Named, Replay, Run}
+use Rattle.bm_words.specs.Form.{Asked, Load, Named, Replay, Run, Streams}
 use Rattle.bm_cli.specs.declared.fault.StageFault.{StageFault}
 use Rattle.bm_cli.specs.declared.mode.Mode.{Mode}
 use Rattle.bm_cli.specs.declared.mode.Mode.TheVariants.{Replay as by_replay, Run as by_run}
@@ -11,8 +11,9 @@ use Rattle.bm_cli.specs.declared.status.Status.TheVariants.{Done, Usage}
 use Rattle.bm_cli.specs.Headline.{IsReportOf}
 use Rattle.bm_cli.specs.Lines.{fault_line, fault_status, usage_line}
 use Rattle.bm_cli.specs.Loads.{IsSummaryOf}
-use Rattle.bm_cli.specs.Names.{names_in, script_names}
+use Rattle.bm_cli.specs.Names.{script_names}
 use Rattle.bm_cli.specs.Reading.{Reading, Reads, reading, script_by}
+use Rattle.bm_cli.specs.Streams.{AreStreams}
 
 -- the words fit no form, and this usage line is written; there is a fault; or a text is shown that
 -- satisfies this
@@ -40,9 +41,9 @@ text_of (Shown is) text = is text
 
 -- A STAGE AND WHAT IS SHOWN OF IT
 
--- after a script that isn't played the capture isn't asked for
+-- the script's name and then the capture's, which isn't asked for after a script that isn't played
 abbrev pub names_behind : Named → Result Script StageFault → List (List ℕ)
-names_behind names (Ok script) = names_in names
+names_behind names (Ok script) = script_names names.script ++ names.capture ∷ []
 names_behind names (Err fault) = script_names names.script
 
 -- the text of a stage is due, or the line of its fault
@@ -58,16 +59,13 @@ due_of_stage mode is names reads = record {
   answer = answer_for is (reading mode names reads);
 }
 
--- the report of the stage is due, or the line of its fault
-abbrev pub due_report : Mode → Named → Reads → Due
-due_report mode names reads = due_of_stage mode (IsReportOf mode) names reads
-
 -- THE FORMS
 
 -- what is due for the words, by what is read
 abbrev pub due : Option Asked → Reads → Due
 due None reads = record { names = []; answer = Misused usage_line }
-due (Some (Replay names)) reads = due_report by_replay names reads
+due (Some (Replay names)) reads = due_of_stage by_replay (IsReportOf by_replay) names reads
 due (Some (Run capture script)) reads =
-    due_report by_run (record { capture = capture; script = Some script }) reads
+    due_of_stage by_run (IsReportOf by_run) (record { capture = capture; script = Some script }) reads
+due (Some (Streams names)) reads = due_of_stage by_replay (AreStreams names reads) names reads
 due (Some (Load n)) reads = record { names = []; answer = Shown (IsSummaryOf n) }

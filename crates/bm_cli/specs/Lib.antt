@@ -2,6 +2,7 @@ pub mod Top
 pub mod Dues
 pub mod Headline
 pub mod Loads
+pub mod Streams
 pub mod Reading
 pub mod Captures
 pub mod Plain

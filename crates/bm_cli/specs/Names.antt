@@ -1,6 +1,5 @@
 -- The names that the files are asked for.
 use Rattle.std.specs.Prelude.{◌≡◌, ℕ, List, [], ◌∷◌, ◌++◌, take, Option, Some, None}
-use Rattle.bm_words.specs.Form.{Named}
 
 -- the names asked for are those from before, and then a first part of these, maybe none
 abbrev pub AsksPrefix : Option (List (List ℕ)) → Option (List (List ℕ)) → List (List ℕ) → Type 0
@@ -15,7 +14,3 @@ AsksAll (Some before) new names = new ≡ Some (before ++ names)
 abbrev pub script_names : Option (List ℕ) → List (List ℕ)
 script_names None = []
 script_names (Some name) = name ∷ []
-
--- the names in the words, the script's first
-abbrev pub names_in : Named → List (List ℕ)
-names_in names = script_names names.script ++ names.capture ∷ []

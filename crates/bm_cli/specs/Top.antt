@@ -2,7 +2,7 @@
 use Rattle.std.specs.Prelude.{◌≡◌, ◌⊎◌, ◌≢◌, [], ◌∷◌, ℕ, List, Option, Some, None}
 use Rattle.std.specs.Io.KnownBytes.{Appends}
 use Rattle.bm_io.specs.Causes.{Rose}
-use Rattle.bm_words.specs.Form.{Asked, Load, Replay, Run}
+use Rattle.bm_words.specs.Form.{Asked, Load, Replay, Run, Streams}
 use Rattle.bm_cli.specs.declared.fault.StageFault.TheVariants.{Files}
 use Rattle.bm_cli.specs.declared.status.Status.TheVariants.{Done}
 use Rattle.bm_cli.specs.Dues.{Answer, Misused, Refused, Shown, Due, status_of, text_of}
@@ -56,4 +56,5 @@ abbrev pub scripts_in : Option Asked → List (List ℕ)
 scripts_in None = []
 scripts_in (Some (Replay names)) = script_names names.script
 scripts_in (Some (Run capture script)) = script ∷ []
+scripts_in (Some (Streams names)) = script_names names.script
 scripts_in (Some (Load n)) = []

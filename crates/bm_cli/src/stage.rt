@@ -8,6 +8,7 @@ ghost use Rattle.bm_words.specs.Form.{named};
 ghost use Rattle.bm_cli.specs.Stages.{ReadsStage};
 ghost use Rattle.bm_cli.specs.Reading.{Holds};
 ghost use Rattle.bm_cli.specs.Statuses.{did};
+ghost use Rattle.bm_cli.specs.Streams.{packets_in};
 
 use crate::fault::StageFault;
 use crate::mode::Mode;
@@ -36,6 +37,10 @@ pub(crate) fn read_stage<F: Files>(
         ReadsStage mode (named names.entry) reads (did F.asked F.faults files.old files.new)
         (result_map_both (λ read. read.0) (λ fault. fault) result)
         × IfOk result (λ read. read.2 ≡ reads.began (named names.entry).capture)) }
+    ensures capture { Holds (F.octets files.old) (λ reads.
+        ReadsStage mode (named names.entry) reads (did F.asked F.faults files.old files.new)
+        (result_map_both (λ read. read.0) (λ fault. fault) result)
+        × IfOk result (λ read. read.1 ≡ packets_in mode (named names.entry) reads)) }
     ensures early { IfOk result (λ read. read.2 ≤ latest) }
     ensures sound { IfOk result (λ read. IsSound read.0) }
     ensures packets { IfOk result (λ read. ArePackets read.0.capture.records read.1) }

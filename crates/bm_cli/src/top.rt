@@ -4,8 +4,9 @@ ghost use Rattle.std.specs.Io.KnownBytes.{Appends};
 ghost use Rattle.bm_io.specs.Causes.{Rose};
 ghost use Rattle.bm_words.specs.Form.{HasCount, asked, form_in, named};
 ghost use Rattle.bm_cli.specs.declared.fault.StageFault.TheVariants.{Files as files_failed};
-ghost use Rattle.bm_cli.specs.Dues.{Misused, due, due_report};
+ghost use Rattle.bm_cli.specs.Dues.{Misused, due, due_of_stage};
 ghost use Rattle.bm_cli.specs.Ends.{Ends, EndsWith};
+ghost use Rattle.bm_cli.specs.Headline.{IsReportOf};
 ghost use Rattle.bm_cli.specs.Telling.{Tells};
 ghost use Rattle.bm_cli.specs.Lines.{fault_line, usage_line};
 ghost use Rattle.bm_cli.specs.Names.{AsksAll, AsksPrefix};
@@ -20,18 +21,20 @@ use crate::mode::Mode;
 use crate::show::show;
 use crate::stage::read_stage;
 use crate::status::{Status, say};
+use crate::streams::play_streams;
 use bm_io::{Files, Gate, Sink};
 use bm_words::{Form, Names, read_words};
 use std::alloc::{AllocError, Global};
 use std::sync::Wait;
 use std::thread::Threads;
 
-const USAGE: &str = "usage: beamer replay CAPTURE [SCRIPT] | run CAPTURE SCRIPT | load N\n";
+const USAGE: &str =
+    "usage: beamer replay CAPTURE [SCRIPT] | run CAPTURE SCRIPT | load N | streams CAPTURE [SCRIPT]\n";
 
 /// Does all that the program does, and returns the status. The gate may hold the workers of a run;
 /// it doesn't change what is due.
 ///
-/// 0: the report, or the line of a load, was written. 1: the words fit no form. 2: the files
+/// 0: the report, the lines of streams or the line of a load was written. 1: the words fit no form. 2: the files
 /// failed. 3: the capture has a fault. 4: the script has a fault. 5: the sink failed. 6: memory was
 /// refused. 7: a limit is exceeded.
 pub fn beamer<R: Threads + Wait + Sync, F: Files, K: Sink, G: Gate>(
@@ -44,8 +47,8 @@ pub fn beamer<R: Threads + Wait + Sync, F: Files, K: Sink, G: Gate>(
 ) -> u8
     requires room { F.open_now files.old ≤ 1000 }
     // On status 0 what was written is the report of a replay, or of a run in threads, of the named
-    // capture through the servers of the named script, or the line of a run in threads of the load
-    // of this many connections.
+    // capture through the servers of the named script, or the lines of the streams of that replay,
+    // or the line of a run in threads of the load of this many connections.
     ensures shown { result ≡ 0 → Holds (F.octets files.old) (λ reads.
         ShowsAnswer (due (form_in words.now) reads).answer
         (K.written out.old) (K.written out.new)) }
@@ -58,8 +61,8 @@ pub fn beamer<R: Threads + Wait + Sync, F: Files, K: Sink, G: Gate>(
     // refused.
     ensures status { Holds (F.octets files.old) (λ reads.
         IsStatusOf (due (form_in words.now) reads) result) }
-    // An accepted capture's report is written, and so is the line of a load, unless the files or
-    // the sink failed, or memory was refused.
+    // An accepted capture's report or streams are written, and so is the line of a load, unless the
+    // files or the sink failed, or memory was refused.
     ensures complete { IsAccepted (due (form_in words.now)) (F.octets files.old) →
         (result ≡ 0) ⊎ (result ≡ 6) ⊎ Rose (F.faults files.old) (F.faults files.new)
         ⊎ Rose (K.faults out.old) (K.faults out.new) }
@@ -156,6 +159,7 @@ fn answer_form<R: Threads + Wait + Sync, F: Files, K: Sink, G: Gate>(
             };
             play_files(rt, alloc, Mode::Run, names, files, out, gate)
         }
+        Form::Streams(names) => play_streams(rt, alloc, names, files, out),
         Form::Load { connections } => run_load(rt, alloc, connections, out, gate),
     }
 }
@@ -173,7 +177,7 @@ fn play_files<R: Threads + Wait + Sync, F: Files, K: Sink, G: Gate>(
     requires script { mode ≡ Mode.Run → IsSome (named names).script }
     requires room { F.open_now files.old < 4294967295 }
     ensures ends { Holds (F.octets files.old) (λ reads.
-        Ends (due_report mode (named names.entry) reads)
+        Ends (due_of_stage mode (IsReportOf mode) (named names.entry) reads)
         (did F.asked F.faults files.old files.new)
         (did K.written K.faults out.old out.new) result) }
     ensures octets { F.octets files.new ≡ F.octets files.old }

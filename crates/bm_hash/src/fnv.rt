@@ -1,5 +1,5 @@
 //! FNV-1a (Fowler, Noll, Vo), over the addresses, the ports and the protocol of a flow.
-ghost use Rattle.std.specs.Prelude.{◌≡◌, ◌≤◌, ◌%◌};
+ghost use Rattle.std.specs.Prelude.{◌≡◌, ◌≤◌, ◌%◌, fold};
 ghost use Rattle.bm_hash.specs.Buckets as fnv;
 
 use bm_base::Flow;
@@ -21,10 +21,19 @@ pub fn flow_octets(f: &Flow) -> [u8; 13]
 }
 
 /// FNV-1a with 64 bits.
-pub(crate) fn fnv_1a(octets: &[u8]) -> u64
+#[tactic(auto, unfolding(crate::specs::Buckets::fnv_1a))]
+pub fn fnv_1a(octets: &[u8]) -> u64
     ensures { result ≡ fnv.fnv_1a octets.now }
 {
-    let mut hash = OFFSET_BASIS;
+    hash_on(OFFSET_BASIS, octets)
+}
+
+/// FNV-1a with 64 bits, continued: the number of some octets and then these, if `h` is the number
+/// of the octets before. Takes no memory.
+pub fn hash_on(h: u64, octets: &[u8]) -> u64
+    ensures { result ≡ fold fnv.fnv_step h octets.now }
+{
+    let mut hash = h;
     for octet in octets {
         hash = (hash ^ u64::from(*octet)).wrapping_mul(PRIME);
     }

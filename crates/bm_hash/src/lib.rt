@@ -3,7 +3,7 @@
 
 mod fnv;
 
-pub use fnv::{bucket_of, flow_hash, flow_octets, remainder, shard_of};
+pub use fnv::{bucket_of, flow_hash, flow_octets, fnv_1a, hash_on, remainder, shard_of};
 
 #[cfg(test)]
 mod tests;

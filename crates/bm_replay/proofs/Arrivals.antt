@@ -294,7 +294,7 @@ ended R F p q at flight s states c none is =
     told_arrival R F p at flight s states c plain given plain_soon
     in subst (λ (x : Player). HasPlayed R F p x) (sym is)
     (packaged R F p (after_arrival at flight s states p) plain c.copy.ready.fates (arrive_event at flight s p) refl refl
-    played (kept_arrival R F p at flight s states c plain None (others p.wire) p.loss none
+    refl played (kept_arrival R F p at flight s states c plain None (others p.wire) p.loss none
     (others_arrived R F p at flight s states c plain played) (others_held R F p at flight s states c)
     (c.copy.ready.state.loss ∙ c.copy.ready.no_loss_due)))
 
@@ -309,7 +309,7 @@ went_on : (R : Routes) (F : Rules) (p q : Player) (at : Moment) (flight : Flight
 went_on R F p q at flight s states to c forward sending =
     subst (λ (x : Player). HasPlayed R F p x) (sym sending.is)
     (packaged R F p (sent sending.fate at (chained to flight) (after_arrival at flight s states p)) sending.fate
-    c.copy.ready.fates (arrive_event at flight s p) refl refl played
+    c.copy.ready.fates (arrive_event at flight s p) refl refl refl played
     (kept_arrival R F p at flight s states c sending.fate (Some (record { packet = flight.packet; hop = later_hop flight.tag.hop })) _ _
     sends (copies_fly p.stage (arrive_event at flight s p ∷ past_of p) _ _ flying sending.fate.copies (others p.wire)
     (rest (wire c.copy.ready.fates (past_of p))) (others_arrived R F p at flight s states c sending.fate played))

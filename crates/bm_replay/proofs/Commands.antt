@@ -139,7 +139,7 @@ closed_one R F p q at d s f ready call come =
     subst (λ (x : Player). HasPlayed R F p x) (sym come.is)
     (packaged R F p
     (happened at (close_event at s f p).what (record p { close = come.queue; shards = come.states }))
-    plain ready.fates (close_event at s f p) refl refl played state) where
+    plain ready.fates (close_event at s f p) refl refl refl played state) where
       number : s.0 ≤ 1024
       number = close_number R F p at d s f ready call
 
@@ -228,7 +228,7 @@ retired_one R F p q at d s h since ready call come =
     (packaged R F p
     (happened at (Retire s h since come.result)
     (record p { retire = come.queue; shards = come.states })) plain ready.fates
-    (retire_event at s h since come.result) refl refl played state) where
+    (retire_event at s h since come.result) refl refl refl played state) where
       numbers : (s.0 ≤ 1024) × (h < p.stage.script.setting.shards) × (d.moment ≡ since.0)
       numbers = retire_numbers R F p at d s h since.0 ready call
 
@@ -282,7 +282,7 @@ pub synced : (R : Routes) (F : Rules) (p q : Player) (at : Moment) (d : Due) →
 synced R F p q at d ready call come =
     subst (λ (x : Player). HasPlayed R F p x) (sym come.is)
     (packaged R F p (happened at Sync (record p { sync = come.queue })) plain ready.fates
-    (record { clock = at; what = Sync }) refl refl played state) where
+    (record { clock = at; what = Sync }) refl refl refl played state) where
       played : IsPlayed R F p.stage (plain ∷ ready.fates) (record { clock = at; what = Sync } ∷ past_of p)
       played = told R F p at d ready Sync plain (sym call) tt tt tt plain_soon
 

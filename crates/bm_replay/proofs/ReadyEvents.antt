@@ -222,12 +222,13 @@ plain_soon = (omega arith, omega arith)
 
 -- the state after one event more is a replay on its way
 pub packaged : (R : Routes) (F : Rules) (p q : Player) (f : Fate) (fates : List Fate) (e : Event) → q.stage ≡ p.stage
-    → q.events ≡ p.events ++ e ∷ [] → IsPlayed R F p.stage (f ∷ fates) (e ∷ past_of p)
+    → q.packets ≡ p.packets → q.events ≡ p.events ++ e ∷ [] → IsPlayed R F p.stage (f ∷ fates) (e ∷ past_of p)
     → KeepsState (f ∷ fates) (e ∷ past_of p) q → HasPlayed R F p q
-packaged R F p q f fates e about events played state =
+packaged R F p q f fates e about packets events played state =
     let past : past_of q ≡ e ∷ past_of p = ap (λ (l : List Event). reverse l) events ∙ reverse-append p.events (e ∷ [])
     in record {
       about = about;
+      packets = packets;
       playing = record {
         fates = f ∷ fates;
         played = subst (λ (s : Stage). IsPlayed R F s (f ∷ fates) (past_of q)) (sym about)

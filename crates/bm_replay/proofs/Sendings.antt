@@ -57,7 +57,7 @@ pub lost : (R : Routes) (F : Rules) (p q : Player) (loss : Loss) → IsPlaying R
     → q ≡ after_loss loss p → HasPlayed R F p q
 lost R F p q loss playing some is =
     subst (λ (x : Player). HasPlayed R F p x) (sym is)
-    (packaged R F p (after_loss loss p) plain playing.fates (lose_event loss p) refl refl played state) where
+    (packaged R F p (after_loss loss p) plain playing.fates (lose_event loss p) refl refl refl played state) where
       is_loss_due : due_loss playing.fates (past_of p) ≡ Some (Loses loss.packet loss.hop)
       is_loss_due = sym playing.state.loss ∙ ap (λ (o : Option Loss). lost_call o) some
 
@@ -176,7 +176,7 @@ steered R F p q at d k ready call come =
     (packaged R F p
     (sent come.sending.fate at (record { packet = k; tag = come.tag })
     (happened at (Steer k come.mux) (record p { packet = come.queue }))) come.sending.fate ready.fates
-    (steer_event at k come.mux) refl refl played state) where
+    (steer_event at k come.mux) refl refl refl played state) where
       tag : HasStopAt come.label Direct come.tag
       tag = tag_stop come.label Direct come.tag come.is_tag
 

@@ -34,7 +34,7 @@ pub published : (R : Routes) (F : Rules) (p q : Player) (at : Moment) (d : Due) 
 published R F p q at d v ready call is =
     subst (λ (x : Player). HasPlayed R F p x) (sym is)
     (packaged R F p (after_publish at v p) plain ready.fates (record { clock = at; what = Publish (record { 0 = v }) })
-    refl refl played state) where
+    refl refl refl played state) where
       played : IsPlayed R F p.stage (plain ∷ ready.fates)
           (record { clock = at; what = Publish (record { 0 = v }) } ∷ past_of p)
       played = told R F p at d ready (Publish (record { 0 = v })) plain (sym call) tt tt tt plain_soon
@@ -173,7 +173,7 @@ switched R F p q at d m v ready call come =
     (packaged R F p
     (happened at (Switch (record { 0 = m }) (record { 0 = v }))
     (record p { muxes = come.muxes; switch = switch_for p.stage come.muxes })) plain ready.fates event refl refl
-    played state) where
+    refl played state) where
       event : Event
       event = record { clock = at; what = Switch (record { 0 = m }) (record { 0 = v }) }
 

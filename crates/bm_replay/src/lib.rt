@@ -11,4 +11,4 @@ mod replaying;
 mod shards;
 mod slot;
 
-pub use replaying::replay;
+pub use replaying::{replay, replay_keeping};

@@ -125,7 +125,8 @@ impl Player {
     pub(crate) fn new(alloc: Global, stage: Stage, packets: Octets) -> Result<Player, Memory>
         requires sound { IsSound stage }
         requires packets { ArePackets stage.capture.records packets }
-        ensures { IfOk result (IsNew stage) }
+        ensures new { IfOk result (IsNew stage) }
+        ensures packets { IfOk result (λ p. p.packets ≡ packets) }
     {
         let Room {
             events,
@@ -194,14 +195,16 @@ impl Player {
         Ok(())
     }
 
-    /// The history of what happened.
-    pub(crate) fn into_history(self) -> History
-        ensures { result ≡ record { stage = self.stage; events = self.events } }
+    /// The history of what happened, and the packets.
+    pub(crate) fn into_parts(self) -> (History, Octets)
+        ensures history { result.0 ≡ record { stage = self.stage; events = self.events } }
+        ensures packets { result.1 ≡ self.packets }
     {
-        History {
+        let history = History {
             stage: self.stage,
             events: self.events.into_list(),
-        }
+        };
+        (history, self.packets)
     }
 
     /// Carries out what comes next; false if nothing is left. Packets under way are written into

@@ -1,5 +1,5 @@
 -- The header of a TCP segment (RFC 9293, section 3.1), as a function of the packet that carries it.
-use Rattle.std.specs.Prelude.{ℕ, ◌+◌, ◌-◌, ◌*◌, ◌/◌, List, length, ◌||◌, nat_lt, bit_and}
+use Rattle.std.specs.Prelude.{ℕ, ◌+◌, ◌-◌, ◌*◌, ◌/◌, List, length, drop, ◌||◌, nat_lt, bit_and}
 use Rattle.std.specs.Prelude.{if◌then◌else◌, Result, Ok, Err}
 use Rattle.bm_base.specs.declared.flow.Flow.{Flow}
 use Rattle.bm_base.specs.declared.flow.Segment.{Segment}
@@ -38,6 +38,10 @@ segment_of p = record {
   len = segment_length p;
   flags = flags_of p.payload;
 }
+
+-- the octets after the header that are there, which may be fewer than are stated
+abbrev pub data_of : Packet → List ℕ
+data_of p = drop (data_offset p.payload) p.payload
 
 -- the first fault, else the segment
 unfoldable pub tcp_of : Packet → Result Segment TcpFault

@@ -1,13 +1,13 @@
 -- The TCP segment that the octets of an IPv4 packet carry (RFC 791, section 3.1; RFC 9293, section
 -- 3.1).
-use Rattle.std.specs.Prelude.{◌≡◌, ℕ, List, not, ◌==◌, if◌then◌else◌, Result, Ok, Err}
+use Rattle.std.specs.Prelude.{◌≡◌, ℕ, List, [], not, ◌==◌, if◌then◌else◌, Result, Ok, Err}
 use Rattle.bm_base.specs.declared.flow.Segment.{Segment}
 use Rattle.bm_ipv4.specs.declared.fault.Ipv4Fault.{Ipv4Fault}
 use Rattle.bm_ipv4.specs.Header.{Packet, ipv4_of}
 use Rattle.bm_tcp.specs.declared.fault.TcpFault.{TcpFault}
 use Rattle.bm_tcp.specs.declared.packet.InnerFault.{InnerFault}
 use Rattle.bm_tcp.specs.declared.packet.InnerFault.TheVariants as fault
-use Rattle.bm_tcp.specs.Header.{tcp_of}
+use Rattle.bm_tcp.specs.Header.{data_of, tcp_of}
 
 -- the segment, and the packet without what follows it
 abbrev pub with_packet : List ℕ → Result Segment TcpFault → Result (Segment × List ℕ) InnerFault
@@ -28,3 +28,13 @@ segment_in octets = of_header (ipv4_of octets)
 -- the octets are the packet of this segment, and nothing follows it
 abbrev pub ReadsAs : List ℕ → Segment → Type 0
 ReadsAs packet s = segment_in packet ≡ Ok (s, packet)
+
+-- the data octets, where there is a header
+abbrev pub data_behind : Result Packet Ipv4Fault → List ℕ
+data_behind (Err e) = []
+data_behind (Ok p) = data_of p
+
+-- the data octets of the TCP segment in the packet at the front of these octets, as far as they are
+-- there
+abbrev pub data_in : List ℕ → List ℕ
+data_in octets = data_behind (ipv4_of octets)

@@ -7,6 +7,6 @@ mod reset;
 mod segment;
 
 pub use fault::TcpFault;
-pub use packet::{InnerFault, read_packet};
+pub use packet::{InnerFault, read_data, read_packet};
 pub use reset::reset_for;
-pub use segment::read_tcp;
+pub use segment::{read_tcp, tcp_data};

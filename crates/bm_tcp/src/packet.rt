@@ -1,9 +1,10 @@
 //! Reading the segment of a packet.
 ghost use Rattle.std.specs.Prelude.{◌≡◌, ◌≤◌, ◌<◌, ◌^◌, max, length, IfOk};
 ghost use Rattle.std.specs.Result.{result_map_both};
-ghost use Rattle.bm_tcp.specs.Packets.{segment_in, ReadsAs};
+ghost use Rattle.bm_tcp.specs.Packets.{data_in, segment_in, ReadsAs};
+ghost use Rattle.bm_base.specs.declared.flow.Segment.{Segment};
 
-use crate::{TcpFault, read_tcp};
+use crate::{TcpFault, read_tcp, tcp_data};
 use bm_base::Segment;
 use bm_ipv4::{Ipv4Fault, read_ipv4};
 use thiserror::Error;
@@ -46,5 +47,19 @@ pub fn read_packet(octets: &[u8]) -> Result<(Segment, &[u8]), InnerFault>
     match read_tcp(&view) {
         Ok(segment) => Ok((segment, view.packet())),
         Err(fault) => Err(InnerFault::Tcp(fault)),
+    }
+}
+
+/// The data octets of the segment in a packet that `read_packet` accepts, as far as they are there:
+/// a capture may have fewer than the header states. Takes no memory.
+pub fn read_data(packet: &[u8]) -> &[u8]
+    requires short { length packet.now < 2 ^ 32 }
+    requires reads { (s : Segment) × ReadsAs packet.now s }
+    ensures data { result.now ≡ data_in packet.now }
+    ensures few { length result.now ≤ length packet.now }
+{
+    match read_ipv4(packet) {
+        Ok(view) => tcp_data(&view),
+        Err(_) => &[],
     }
 }

@@ -1,6 +1,6 @@
 //! Reading a segment.
-ghost use Rattle.std.specs.Prelude.{◌≡◌, ◌≤◌, max, length, IfOk};
-ghost use Rattle.bm_tcp.specs.Header.{count_of, tcp_of};
+ghost use Rattle.std.specs.Prelude.{◌≡◌, ◌≤◌, max, length, IfOk, IsOk};
+ghost use Rattle.bm_tcp.specs.Header.{count_of, data_of, tcp_of};
 
 use crate::TcpFault;
 use bm_base::flags::{FIN, SYN};
@@ -38,6 +38,22 @@ pub fn read_tcp(v: &Ipv4View<'_>) -> Result<Segment, TcpFault>
         len: stated - offset + count(flags, SYN) + count(flags, FIN),
         flags,
     })
+}
+
+/// The octets after the TCP header of a segment that `read_tcp` accepts, as far as they are there: a
+/// capture may have fewer than the header states. Takes no memory.
+#[tactic(auto, unfolding(crate::specs::Header::tcp_of))]
+pub fn tcp_data<'a>(v: &Ipv4View<'a>) -> &'a [u8]
+    requires { IsOk (tcp_of v.now) }
+    ensures { result.now ≡ data_of v.now }
+{
+    let octets = v.payload();
+    let offset = 4 * usize::from(octets[12] / 16);
+    if offset < octets.len() {
+        &octets[offset..]
+    } else {
+        &[]
+    }
 }
 
 /// 1 where the flag is set.

@@ -12,6 +12,8 @@ pub(crate) enum Kind {
     Fin,
     /// A reset.
     Rst,
+    /// These octets of data.
+    Text(&'static [u8]),
 }
 
 /// A TCP packet from 10.0.0.1 to 192.0.2.1 port 80: seconds and parts of a second from the first
@@ -234,6 +236,7 @@ fn network(alloc: Global, packet: &Packet, to: u8, fragment: u16) -> Result<Vec<
         Kind::Data => (50, 0x18, 501, b"abcdefghij"),
         Kind::Fin => (40, 0x11, 501, b""),
         Kind::Rst => (40, 0x04, 0, b""),
+        Kind::Text(text) => (length_with(text), 0x18, 501, text),
     };
     let mut octets = Vec::from_slice(alloc, &[0x45, 0, 0, length, 0, 0])?;
     octets.extend_from_slice(&fragment.to_be_bytes())?;
@@ -245,6 +248,11 @@ fn network(alloc: Global, packet: &Packet, to: u8, fragment: u16) -> Result<Vec<
     octets.extend_from_slice(&[0x50, flags, 255, 255, 0, 0, 0, 0])?;
     octets.extend_from_slice(data)?;
     Ok(octets)
+}
+
+/// The length of a packet with these octets of data.
+fn length_with(text: &[u8]) -> u8 {
+    u8::try_from(text.len()).unwrap_or(0).saturating_add(40)
 }
 
 fn put(octets: &mut Vec<u8>, form: Form, number: u32) -> Result<(), AllocError> {

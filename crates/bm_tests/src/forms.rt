@@ -13,7 +13,7 @@ use std::thread::Threads;
 #[test]
 fn words_of_no_form_get_the_usage_line(rt: HostRuntime) -> Result<(), Fail> {
     let alloc = rt.alloc();
-    let rows: [&[&str]; 8] = [
+    let rows: [&[&str]; 9] = [
         &[],
         &["replay"],
         &["replay", "-c"],
@@ -21,6 +21,7 @@ fn words_of_no_form_get_the_usage_line(rt: HostRuntime) -> Result<(), Fail> {
         &["load", "0"],
         &["load", "007"],
         &["run", "c"],
+        &["streams", "-c"],
         &["replay", "c", "s", "t"],
     ];
     for row in rows {
@@ -31,7 +32,7 @@ fn words_of_no_form_get_the_usage_line(rt: HostRuntime) -> Result<(), Fail> {
         assert_eq!(rt; status, 1);
         assert_eq!(rt;
             out.written(),
-            b"usage: beamer replay CAPTURE [SCRIPT] | run CAPTURE SCRIPT | load N\n".as_slice()
+            b"usage: beamer replay CAPTURE [SCRIPT] | run CAPTURE SCRIPT | load N | streams CAPTURE [SCRIPT]\n".as_slice()
         );
     }
     Ok(())

@@ -30,3 +30,5 @@ mod refused;
 mod rows;
 #[cfg(test)]
 mod sizes;
+#[cfg(test)]
+mod streams;

@@ -10,7 +10,7 @@ use Rattle.clap.proofs.OnLiterals.{clap_on_literals}
 use Rattle.bm_words.specs.Inside.Command.{beamer}
 use Rattle.bm_words.specs.Form.{Named, asked_by, names_of, play_of, verb_of}
 use Rattle.bm_words.specs.declared.form.Verb.{Verb}
-use Rattle.bm_words.specs.declared.form.Verb.TheVariants.{Replay, Run}
+use Rattle.bm_words.specs.declared.form.Verb.TheVariants.{Replay, Run, Streams}
 
 -- the form that a subcommand's rows give
 abbrev with_capture : List Row → Option Text → Option Named
@@ -35,6 +35,16 @@ run_taken : (x y : ℕ) (xs ys : List ℕ) → (x == 45) ≡ false → (y == 45)
 unfolding clap_on_literals
 run_taken x y xs ys h k = simp (h, k)
 
+streams_one_taken : (x : ℕ) (xs : List ℕ) → (x == 45) ≡ false →
+    takes beamer (codes "streams" ∷ (x ∷ xs) ∷ []) ≡ true
+unfolding clap_on_literals
+streams_one_taken x xs h = simp h
+
+streams_two_taken : (x y : ℕ) (xs ys : List ℕ) → (x == 45) ≡ false → (y == 45) ≡ false →
+    takes beamer (codes "streams" ∷ (x ∷ xs) ∷ (y ∷ ys) ∷ []) ≡ true
+unfolding clap_on_literals
+streams_two_taken x y xs ys h k = simp (h, k)
+
 one_given : (x : ℕ) (xs : List ℕ) → (x == 45) ≡ false →
     given (subcommand_of beamer (codes "replay" ∷ (x ∷ xs) ∷ []))
     ≡ Some (record { capture = x ∷ xs; script = None })
@@ -53,6 +63,18 @@ run_given : (x y : ℕ) (xs ys : List ℕ) → (x == 45) ≡ false → (y == 45)
 unfolding clap_on_literals
 run_given x y xs ys h k = simp (h, k)
 
+streams_one_given : (x : ℕ) (xs : List ℕ) → (x == 45) ≡ false →
+    given (subcommand_of beamer (codes "streams" ∷ (x ∷ xs) ∷ []))
+    ≡ Some (record { capture = x ∷ xs; script = None })
+unfolding clap_on_literals
+streams_one_given x xs h = simp h
+
+streams_two_given : (x y : ℕ) (xs ys : List ℕ) → (x == 45) ≡ false → (y == 45) ≡ false →
+    given (subcommand_of beamer (codes "streams" ∷ (x ∷ xs) ∷ (y ∷ ys) ∷ []))
+    ≡ Some (record { capture = x ∷ xs; script = Some (y ∷ ys) })
+unfolding clap_on_literals
+streams_two_given x y xs ys h k = simp (h, k)
+
 pub simple : is_simple beamer ≡ true
 unfolding clap_on_literals
 simple = refl
@@ -66,14 +88,19 @@ not_true false h = refl
 abbrev word_of : Verb → Text
 word_of Replay = codes "replay"
 word_of Run = codes "run"
+word_of Streams = codes "streams"
 
 word_is : (w : Text) (v : Verb) → verb_of w ≡ Some v → w ≡ word_of v
-word_is w v h = go (bytes_eq w (codes "replay")) (bytes_eq w (codes "run")) refl refl h where
-  go : (a b : Bool) → bytes_eq w (codes "replay") ≡ a → bytes_eq w (codes "run") ≡ b
-      → cond a (Some Replay) (cond b (Some Run) None) ≡ Some v → w ≡ word_of v
-  go true b is o e = let same : Replay ≡ v = cc in (bytes_eq-Decides w (codes "replay")).0 is ∙ ap word_of same
-  go false true o is e = let same : Run ≡ v = cc in (bytes_eq-Decides w (codes "run")).0 is ∙ ap word_of same
-  go false false o p e = absurd (cc)
+word_is w v h =
+    go (bytes_eq w (codes "replay")) (bytes_eq w (codes "run")) (bytes_eq w (codes "streams")) refl refl refl h where
+      go : (a b d : Bool) → bytes_eq w (codes "replay") ≡ a → bytes_eq w (codes "run") ≡ b
+          → bytes_eq w (codes "streams") ≡ d
+          → cond a (Some Replay) (cond b (Some Run) (cond d (Some Streams) None)) ≡ Some v → w ≡ word_of v
+      go true b d is o p e = let same : Replay ≡ v = cc in (bytes_eq-Decides w (codes "replay")).0 is ∙ ap word_of same
+      go false true d o is p e = let same : Run ≡ v = cc in (bytes_eq-Decides w (codes "run")).0 is ∙ ap word_of same
+      go false false true o p is e =
+          let same : Streams ≡ v = cc in (bytes_eq-Decides w (codes "streams")).0 is ∙ ap word_of same
+      go false false false o p q e = absurd (cc)
 
 -- what clap makes of the words: it takes them, and gives their names
 pub record Reads (words : List Text) : Type 0 where
@@ -93,6 +120,8 @@ one_read : (v : Verb) (x : ℕ) (xs : List ℕ) → (x == 45) ≡ false →
     is_some (option_and_then (asked_by v) (names_of ((x ∷ xs) ∷ []))) ≡ true → Reads (word_of v ∷ (x ∷ xs) ∷ [])
 one_read Replay x xs h some =
     record { taken = one_taken x xs h; gives = one_given x xs h ∙ sym (one_named x xs h) }
+one_read Streams x xs h some =
+    record { taken = streams_one_taken x xs h; gives = streams_one_given x xs h ∙ sym (one_named x xs h) }
 one_read Run x xs h some =
     let none : is_some (option_and_then (asked_by Run) (names_of ((x ∷ xs) ∷ []))) ≡ false =
     ap (λ o. is_some (option_and_then (asked_by Run) o)) (one_named x xs h)
@@ -104,6 +133,10 @@ two_read Replay x y xs ys h k =
     record { taken = two_taken x y xs ys h k; gives = two_given x y xs ys h k ∙ sym (two_named x y xs ys h k) }
 two_read Run x y xs ys h k =
     record { taken = run_taken x y xs ys h k; gives = run_given x y xs ys h k ∙ sym (two_named x y xs ys h k) }
+two_read Streams x y xs ys h k = record {
+  taken = streams_two_taken x y xs ys h k;
+  gives = streams_two_given x y xs ys h k ∙ sym (two_named x y xs ys h k);
+}
 
 -- a name has an octet, which isn't that of `-`
 passed : {A : Type 0} (b : Bool) (x : A) → is_some (cond b (Some x) None) ≡ true → b ≡ true

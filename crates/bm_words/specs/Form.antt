@@ -1,5 +1,5 @@
--- What the words ask for: `replay CAPTURE`, `replay CAPTURE SCRIPT`, `run CAPTURE SCRIPT` or `load
--- N`. Words fit no form if a name in them is empty or begins with `-`.
+-- What the words ask for: `replay CAPTURE [SCRIPT]`, `run CAPTURE SCRIPT`, `streams CAPTURE
+-- [SCRIPT]` or `load N`. Words fit no form if a name in them is empty or begins with `-`.
 use Rattle.std.specs.Prelude.{ℕ, List, [], ◌∷◌, Bool, false, not, ◌&&◌, ◌==◌, if◌then◌else◌}
 use Rattle.std.specs.Prelude.{Option, Some, None, codes, map, option_and_then, option_map}
 use Rattle.std.specs.Prelude.{◌≤◌, string_bytes}
@@ -12,9 +12,10 @@ use Rattle.std.specs.Str.Parse.{digits_value}
 use Rattle.std.specs.Prelude.{String}
 use Rattle.bm_words.specs.declared.form.Verb.{Verb}
 use Rattle.bm_words.specs.declared.form.Verb.TheVariants.{Replay as to_replay, Run as to_run}
+use Rattle.bm_words.specs.declared.form.Verb.TheVariants.{Streams as to_streams}
 use Rattle.bm_words.specs.declared.words.Form.{Form}
 use Rattle.bm_words.specs.declared.words.Form.TheVariants.{Replay as in_replay, Run as in_run}
-use Rattle.bm_words.specs.declared.words.Form.TheVariants.{Load as in_load}
+use Rattle.bm_words.specs.declared.words.Form.TheVariants.{Load as in_load, Streams as in_streams}
 use Rattle.bm_words.specs.declared.words.Names.{Names}
 
 -- NAMES AND NUMBERS
@@ -57,6 +58,7 @@ count_of word = if is_numeral word then if_count (digits_value 10 word) else Non
 pub data Asked : Type 0 where
   Replay : Named → Asked
   Run : List ℕ → List ℕ → Asked
+  Streams : Named → Asked
   Load : ℕ → Asked
 
 -- a load has 1 to 20,000 connections
@@ -72,12 +74,14 @@ run_of names = option_map (Run names.capture) names.script
 abbrev pub asked_by : Verb → Named → Option Asked
 asked_by to_replay names = Some (Replay names)
 asked_by to_run names = run_of names
+asked_by to_streams names = Some (Streams names)
 
 -- the command with this name
 abbrev pub verb_of : List ℕ → Option Verb
 verb_of word =
     if bytes_eq word (codes "replay") then Some to_replay
     else if bytes_eq word (codes "run") then Some to_run
+    else if bytes_eq word (codes "streams") then Some to_streams
     else None
 
 -- the word is a command that plays a capture, and the others name what it asks for
@@ -111,4 +115,5 @@ named names = record {
 abbrev pub asked : Form → Asked
 asked (in_replay names) = Replay (named names)
 asked (in_run capture script) = Run capture.now script.now
+asked (in_streams names) = Streams (named names)
 asked (in_load connections) = Load connections

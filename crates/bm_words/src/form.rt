@@ -12,6 +12,8 @@ pub(crate) enum Verb {
     Replay,
     /// `run CAPTURE SCRIPT`
     Run,
+    /// `streams CAPTURE [SCRIPT]`
+    Streams,
 }
 
 /// Whether the words are `load N`.
@@ -32,6 +34,7 @@ pub(crate) fn verb_in(words: &[String]) -> Option<Verb>
     match words {
         [word, capture] if is_name(capture.as_str()) => match command_named(word.as_str()) {
             Some(Verb::Replay) => Some(Verb::Replay),
+            Some(Verb::Streams) => Some(Verb::Streams),
             _ => None,
         },
         [word, capture, script] if is_name(capture.as_str()) && is_name(script.as_str()) => {
@@ -48,6 +51,7 @@ fn command_named(word: &str) -> Option<Verb>
     match word {
         "replay" => Some(Verb::Replay),
         "run" => Some(Verb::Run),
+        "streams" => Some(Verb::Streams),
         _ => None,
     }
 }

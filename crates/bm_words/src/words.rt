@@ -20,6 +20,8 @@ pub enum Form<'a> {
     Replay(Names<'a>),
     /// The run of a capture in threads, with a script.
     Run { capture: &'a str, script: &'a str },
+    /// The streams of a capture's replay, with or without a script.
+    Streams(Names<'a>),
     /// The run of a generated load of this many connections, 1 to 20,000.
     Load { connections: u32 },
 }
@@ -31,8 +33,8 @@ pub struct Names<'a> {
     pub script: Option<&'a str>,
 }
 
-/// What the words ask for: `replay CAPTURE`, `replay CAPTURE SCRIPT`, `run CAPTURE SCRIPT` or `load
-/// N`; None if they fit no form. A name isn't empty and doesn't begin with `-`. N is 1 to 20,000,
+/// What the words ask for: `replay CAPTURE [SCRIPT]`, `run CAPTURE SCRIPT`, `streams CAPTURE
+/// [SCRIPT]` or `load N`; None if they fit no form. A name isn't empty and doesn't begin with `-`. N is 1 to 20,000,
 /// in decimal without a sign or a leading zero. The words are without the program's own name.
 /// `AllocError` where memory was refused.
 pub fn read_words<'a>(alloc: Global, words: &'a [String]) -> Result<Option<Form<'a>>, AllocError>
@@ -61,6 +63,7 @@ fn with_names<'a>(verb: Verb, names: Names<'a>) -> Form<'a>
     let Names { capture, script } = names;
     match (verb, script) {
         (Verb::Replay, script) => Form::Replay(Names { capture, script }),
+        (Verb::Streams, script) => Form::Streams(Names { capture, script }),
         (Verb::Run, Some(script)) => Form::Run { capture, script },
         (Verb::Run, None) => unreachable!(),
     }
@@ -128,7 +131,8 @@ fn command<'a>(alloc: Global) -> Result<Command<'a>, AllocError>
         .disable_help_subcommand(true);
     let replay = with_files(alloc, bare, "replay")?;
     let run = with_files(alloc, replay, "run")?;
-    with_connections(alloc, run)
+    let streams = with_files(alloc, run, "streams")?;
+    with_connections(alloc, streams)
 }
 
 /// The command with another subcommand, of this name, that takes a capture and a script.

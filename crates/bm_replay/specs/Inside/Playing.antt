@@ -1,5 +1,5 @@
 -- The invariant of a replay in progress.
-use Rattle.std.specs.Prelude.{◌≡◌, ℕ, suc, ◌<◌, Bool, true, false, List, length, reverse, Option}
+use Rattle.std.specs.Prelude.{◌≡◌, ℕ, suc, ◌<◌, ◌≤◌, Bool, true, false, List, length, reverse, Option}
 use Rattle.std.specs.Prelude.{Some, None, slice_get}
 use Rattle.bm_base.specs.declared.ids.Moment.{Moment}
 use Rattle.bm_base.specs.declared.fate.Fate.{Fate}
@@ -102,9 +102,10 @@ pub record IsComing (R : Routes) (F : Rules) (clock : Moment) (coming : Coming) 
   pub is_coming : coming_for p ≡ coming
   pub is_clock : clock.0 ≡ next_clock p.clock.0 (coming_moment coming)
 
--- one more event, of the same stage
+-- one more event, of the same stage, and the same packets
 pub record HasPlayed (R : Routes) (F : Rules) (p q : Player) : Type 0 where
   pub about : q.stage ≡ p.stage
+  pub packets : q.packets ≡ p.packets
   pub playing : IsPlaying R F q
   pub one_more : length q.events ≡ suc (length p.events)
 
@@ -112,4 +113,5 @@ pub record HasPlayed (R : Routes) (F : Rules) (p q : Player) : Type 0 where
 abbrev pub HasStepped : Routes → Rules → Player → Player → Bool → Type 0
 HasStepped R F p q true = HasPlayed R F p q
 HasStepped R F p q false =
-    (q.stage ≡ p.stage) × IsReplay R F (record { stage = q.stage; events = q.events })
+    (q.stage ≡ p.stage) × (q.packets ≡ p.packets) × (length q.events ≤ 12259840)
+    × IsReplay R F (record { stage = q.stage; events = q.events })

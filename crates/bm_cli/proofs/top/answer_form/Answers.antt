@@ -2,7 +2,7 @@ use Rattle.std.proofs.Common.{Some, ap, sym}
 use Rattle.bm_words.specs.declared.words.Form.{Form}
 use Rattle.bm_words.specs.Form.{asked}
 use Rattle.bm_cli.proofs.Ending.{load_ends, words_end}
-use Rattle.bm_cli.proofs.Forms.{replay_asks, run_asks}
+use Rattle.bm_cli.proofs.Forms.{replay_asks, run_asks, streams_asks}
 use Rattle.bm_cli.proofs.top.answer_form.Goals as goal
 
 pub returns-in-Load-clause-ends : goal.returns-in-Load-clause-ends
@@ -15,6 +15,10 @@ returns-in-Load-clause-ends g c =
 pub returns-in-Replay-clause-unasked : goal.returns-in-Replay-clause-unasked
 returns-in-Replay-clause-unasked g c = λ none.
     absurd (replay_asks _ _ (ap (λ (f : Form). Some (asked f)) c.in-Replay.is) none)
+
+pub returns-in-Streams-clause-unasked : goal.returns-in-Streams-clause-unasked
+returns-in-Streams-clause-unasked g c = λ none.
+    absurd (streams_asks _ _ (ap (λ (f : Form). Some (asked f)) c.in-Streams.is) none)
 
 pub returns-in-Run-clause-unasked : goal.returns-in-Run-clause-unasked
 returns-in-Run-clause-unasked g c = λ none.

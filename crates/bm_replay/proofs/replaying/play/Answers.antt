@@ -21,3 +21,14 @@ loop-carrier-smaller g c =
 
 pub loop-carrier-preserved : goal.loop-carrier-preserved
 loop-carrier-preserved g c = search rules
+
+pub loop-carrier-smaller-then-keeps_all : goal.loop-carrier-smaller-then-keeps_all
+loop-carrier-smaller-then-keeps_all g c =
+    let more : HasPlayed (Answers g.R.Fn c.args.route.now.rule) (Gives g.F.Fn c.args.faults.now.rule)
+    c.loop-carrier.player c.step.new.self =
+    subst (λ (b : Bool). HasStepped (Answers g.R.Fn c.args.route.now.rule) (Gives g.F.Fn c.args.faults.now.rule)
+    c.loop-carrier.player c.step.new.self b) c.if-branch.true c.in_ok-step.ensures
+    in let one = more.one_more
+    in let few =
+    few_events (Answers g.R.Fn c.args.route.now.rule) (Gives g.F.Fn c.args.faults.now.rule) c.step.new.self more.playing
+    in omega arith

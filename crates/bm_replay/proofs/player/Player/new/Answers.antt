@@ -10,8 +10,8 @@ use Rattle.bm_replay.proofs.player.Player.new.Goals as goal
 pub soonest-switch-requires-clause-moments : goal.soonest-switch-requires-clause-moments
 soonest-switch-requires-clause-moments c = change_early c.args.stage.script c.requires.sound.script
 
-pub returns : goal.returns
-returns c = record {
+pub returns-clause-new : goal.returns-clause-new
+returns-clause-new c = record {
   about = refl;
   plan = c.in_ok-events.ensures.plan;
   events = c.in_ok-events.ensures.room.events;

@@ -4,7 +4,7 @@ use Rattle.bm_route.specs.Routes.{Answers}
 use Rattle.bm_replay.specs.declared.coming.Coming.TheVariants.{Arrive, Call, Over}
 use Rattle.bm_replay.specs.Inside.Players.{coming_for}
 use Rattle.bm_replay.proofs.Arrivals.{arrived, can_arrive}
-use Rattle.bm_replay.proofs.BeginAndEnd.{ends}
+use Rattle.bm_replay.proofs.BeginAndEnd.{ends, few_events}
 use Rattle.bm_replay.proofs.ReadyEvents.{ready_copy}
 use Rattle.bm_replay.proofs.Sendings.{lost, loss_low}
 use Rattle.bm_replay.proofs.StepNeeds.{call_fits, copy_fits}
@@ -83,6 +83,9 @@ returns-in-Over g c =
     let come : Over ≡ coming_for c.args.self.now = c.in-Over.ensures
     in (
       refl,
+      refl,
+      few_events (Answers g.R.Fn c.args.route.now.rule) (Gives g.F.Fn c.args.faults.now.rule) c.args.self.now
+          c.requires.playing,
       ends (Answers g.R.Fn c.args.route.now.rule) (Gives g.F.Fn c.args.faults.now.rule) c.args.self.now
           c.requires.playing c.in_default.is (sym come),
     )

@@ -9,7 +9,7 @@ use Rattle.bm_replay.specs.Replays.{setting_route, setting_rule}
 use Rattle.bm_replay.proofs.WiderRules.{replay_more}
 use Rattle.bm_table.specs.declared.setting.FaultRow.{FaultRow}
 use Rattle.bm_cli.proofs.Wider.{threaded_more}
-use Rattle.bm_cli.proofs.history.history_of.Goals as goal
+use Rattle.bm_cli.proofs.history.played.Goals as goal
 
 pub new-faults-requires : goal.new-faults-requires
 new-faults-requires g c =
@@ -26,16 +26,21 @@ new-faults-requires g c =
       delay = λ packet hop fate h. (soon packet hop fate h.1).1;
     }
 
+pub returns-then-keeps-clause-made : goal.returns-then-keeps-clause-made
+returns-then-keeps-clause-made g c =
+    let setting = c.args.stage.script.setting in
+    rw c.in-Replay.is (IfOk-weaker c.replay_keeping.result _ _
+    (λ r made. replay_more _ (setting_route setting) _ (setting_rule setting) (λ k f m is. search rules)
+    (λ k hop f is. search rules) r.0 made) c.replay_keeping.ensures.replay)
+
 pub returns-in-Replay-clause-made : goal.returns-in-Replay-clause-made
 returns-in-Replay-clause-made g c =
     let setting = c.args.stage.script.setting in
-    rw c.in-Replay.is (IfOk-weaker c.replay.result _ _
-    (λ h made. replay_more _ (setting_route setting) _ (setting_rule setting) (λ k f m is. search rules)
-    (λ k hop f is. search rules) h made) c.replay.ensures.replay)
+    rw c.in-Replay.is (replay_more _ (setting_route setting) _ (setting_rule setting) (λ k f m is. search rules)
+    (λ k hop f is. search rules) c.in_ok-history-in-Replay.history c.in_ok-history-in-Replay.ensures.replay)
 
 pub returns-clause-made : goal.returns-clause-made
 returns-clause-made g c =
     let setting = c.args.stage.script.setting in
-    rw c.in-Run.is (IfOk-weaker c.run_threads.result _ _
-    (λ h made. threaded_more _ (setting_route setting) _ (setting_rule setting) (λ k f m is. search rules)
-    (λ k hop f is. search rules) h made) c.run_threads.ensures.run)
+    rw c.in-Run.is (threaded_more _ (setting_route setting) _ (setting_rule setting) (λ k f m is. search rules)
+    (λ k hop f is. search rules) c.in_ok-history-in-Run.history c.in_ok-history-in-Run.ensures.run)

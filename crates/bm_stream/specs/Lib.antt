@@ -1,0 +1,7 @@
+pub mod Pieces
+pub mod Laws
+pub mod Rings
+pub mod Views
+pub mod Accepts
+pub mod Text
+pub mod Inside
