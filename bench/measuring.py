@@ -25,7 +25,7 @@ def ended(words, out=os.devnull, processors=None):
     """A call whose output goes to `out`, on the first processors if their number is given."""
     pin = processors and (lambda: os.sched_setaffinity(0, range(processors)))
     starter = [sys.executable, "-S", "-c", STARTER, out, *words]
-    done = subprocess.run(starter, stdout=subprocess.PIPE, stderr=subprocess.DEVNULL, preexec_fn=pin, check=True)
+    done = subprocess.run(starter, stdout=subprocess.PIPE, preexec_fn=pin, check=True)
     return Call(*json.loads(done.stdout))
 
 

@@ -34,9 +34,9 @@ const USAGE: &str =
 /// Does all that the program does, and returns the status. The gate may hold the workers of a run;
 /// it doesn't change what is due.
 ///
-/// 0: the report, the lines of streams or the line of a load was written. 1: the words fit no form. 2: the files
-/// failed. 3: the capture has a fault. 4: the script has a fault. 5: the sink failed. 6: memory was
-/// refused. 7: a limit is exceeded.
+/// 0: the report, the lines of streams or the line of a load was written. 1: the words fit no form.
+/// 2: the files failed. 3: the capture has a fault. 4: the script has a fault. 5: the sink failed.
+/// 6: memory was refused. 7: a limit is exceeded.
 pub fn beamer<R: Threads + Wait + Sync, F: Files, K: Sink, G: Gate>(
     rt: &R,
     alloc: Global,

@@ -92,7 +92,7 @@ unfolding replayed play has_flag is_opening flow_octets fnv_step fnv_1a flow_has
     comes_in_turn taken after_taken opened receiver_after
 old_table_causes = refl
 
--- two moves, the second a drain: the copy that goes on to the drained server is delayed until that server has retired
+-- two changes by hand, the second a drain: the copy that goes on to the drained server comes once that server has retired
 abbrev retired_between : Stage
 retired_between =
     stage_of (record

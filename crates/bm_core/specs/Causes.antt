@@ -36,8 +36,8 @@ accepts_elsewhere stage all (Arrive k hop server verdict) f s =
     && is_some (held stage all server f)
 accepts_elsewhere stage all _ f s = false
 
--- another server accepted the flow in the past, and holds it after all these events. With the same
--- events twice: another server holds the flow (`laws::elsewhere`)
+-- another server accepted the flow in the past, and holds it after all these events. Where both
+-- lists are the same, this says that another server holds the flow (`laws::elsewhere`)
 abbrev pub is_elsewhere : Stage → List Event → List Event → Flow → ServerId → Bool
 is_elsewhere stage all [] f s = false
 is_elsewhere stage all (e ∷ past) f s =

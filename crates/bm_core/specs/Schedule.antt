@@ -38,7 +38,7 @@ call_of (Arrive k hop server verdict) = Arrives k hop
 call_of (Steer k m) = Steers k
 call_of (Lose k hop) = Loses k hop
 
--- calls that are due at one moment come in this order
+-- calls that are due at one moment come in this order; no loss is due
 abbrev pub rank_of : Call → ℕ
 rank_of (Publishes v) = 0
 rank_of (Switches m v) = 1
@@ -46,7 +46,8 @@ rank_of (Closes server flow) = 2
 rank_of (Retires server h at) = 3
 rank_of Syncs = 4
 rank_of (Arrives k hop) = 5
-rank_of _ = 6
+rank_of (Steers k) = 6
+rank_of (Loses k hop) = 6
 
 -- by moment, then rank, then number
 abbrev pub comes_first : Due → Due → Bool

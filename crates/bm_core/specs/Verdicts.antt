@@ -33,8 +33,8 @@ abbrev pub in_time : ℕ → ℕ → Option Past → Option ServerId
 in_time timeout clock None = None
 in_time timeout clock (Some p) = if nat_le clock (p.stamp.0 + timeout) then Some p.server else None
 
--- the verdict on a segment: the first row that applies. A row for each value of an option, such as
--- that of a held connection, has the rows after it in parentheses
+-- the verdict on a segment: the first row that applies. `option_map_or f x rest` is the row where x
+-- is `Some`; `rest` are the rows where it is `None`
 abbrev pub verdict_of : Local → ℕ → ℕ → Hop → Option Past → Segment → Verdict
 verdict_of local timeout clock hop onto s =
     if local.retired then Drop Retired

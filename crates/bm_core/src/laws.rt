@@ -59,7 +59,8 @@ pub fn only_faults(stage: &Stage)
         → is_some (cause stage.now past clock what) ≡ true → IsFault stage.now past what }
 {}
 
-/// What the premise `SynElsewhere` asks is that a server other than the owner's holds the flow.
+/// The premise `SynElsewhere` is broken by exactly this: a server other than the owner's holds the
+/// flow.
 pub fn elsewhere(stage: &Stage)
     ensures { (past : List Event) (flow : Flow) (server : ServerId)
         → (is_elsewhere stage.now past past flow server ≡ true)

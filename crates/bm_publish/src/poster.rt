@@ -262,7 +262,8 @@ impl Poster {
 
     /// Posts the plan's next change. It waits for the looks that still read the table before the
     /// last one. `Memory` where memory was refused; then nothing is posted. After `Ok` the change is
-    /// posted; it is shown at once, or with the next post if memory was refused for showing it.
+    /// posted, and it is shown at once; if memory was refused for that it waits, and a later post
+    /// shows it first.
     pub fn post<R: Wait>(&mut self, rt: &R, change: Change, clock: Moment) -> Result<(), Memory>
         requires next { next_change self.old.plan (last_version self.old) ≡ Some change }
         requires later { last_post self.old < clock.0 }

@@ -7,13 +7,13 @@ use Rattle.bm_base.specs.declared.ids.ServerId.{ServerId}
 use Rattle.bm_table.specs.declared.plan.Move.{Move}
 use Rattle.bm_table.specs.Tables.{same_server, target}
 
--- THE QUOTAS
+-- THE QUOTAS, by the largest remainder method (Hamilton's)
 
 -- how many whole buckets are due to a server by its weight
 abbrev pub share : ℕ → (ServerId → ℕ) → List ServerId → ServerId → ℕ
 share buckets weight active s = buckets * weight s / sum_by weight active
 
--- what is due to it beyond these, in parts of a bucket of which the weights together make one
+-- what is due to it beyond these; a bucket has as many parts as the active weights sum to
 abbrev pub remainder : ℕ → (ServerId → ℕ) → List ServerId → ServerId → ℕ
 remainder buckets weight active s = buckets * weight s % sum_by weight active
 

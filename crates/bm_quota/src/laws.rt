@@ -1,8 +1,9 @@
 //! The laws of quotas.
-ghost use Rattle.std.specs.Prelude.{◌≡◌, ◌<◌, length, sum, All};
+ghost use Rattle.std.specs.Prelude.{◌≡◌, ◌<◌, ℕ, true, length, sum, All};
 ghost use Rattle.bm_base.specs.declared.ids.ServerId.{ServerId};
 ghost use Rattle.bm_quota.specs.Rebalancing.{equal_quotas, quota_of, quotas_of, IsNearShare};
 ghost use Rattle.bm_table.specs.Settings.{IsWithin, RiseFrom};
+ghost use Rattle.bm_table.specs.Tables.{is_among};
 
 use bm_base::ServerId;
 
@@ -24,11 +25,13 @@ pub fn near_share(buckets: u32, active: &[ServerId], weights: &[u32])
     ensures { (s : ServerId) → IsNearShare buckets (quota_of active.now weights.now) active.now s }
 {}
 
-/// With equal weights each quota is the quotient of buckets and servers, and the first servers, as
-/// many as the remainder, get one more.
+/// If the active servers weigh the same, each quota is the quotient of buckets and servers, and the
+/// first servers, as many as the remainder, get one more.
 pub fn equal_weights(buckets: u32, weight: u32, active: &[ServerId])
     requires some { 0 < length active.now }
     requires rising { RiseFrom 0 active.now }
     requires weight { 0 < weight }
-    ensures { quotas_of buckets (λ s. weight) active.now ≡ equal_quotas buckets (length active.now) }
+    ensures { (weights : ServerId → ℕ)
+        → ((s : ServerId) → is_among active.now s ≡ true → weights s ≡ weight)
+        → quotas_of buckets weights active.now ≡ equal_quotas buckets (length active.now) }
 {}

@@ -10,8 +10,8 @@ ghost use Rattle.bm_table.specs.Settings.{IsWithin, RiseFrom};
 use bm_base::{Memory, ServerId};
 use std::alloc::Global;
 
-/// How much a server lacks to one more bucket, where the weights together make a bucket, and the
-/// server. The least claim is met first.
+/// What a server's remainder lacks to a whole bucket, in parts of which a bucket has as many as the
+/// weights sum to; and the server. The least claim is met first.
 #[derive(Clone, Copy, PartialEq, Eq, PartialOrd, Ord)]
 struct Claim {
     lacks: u64,

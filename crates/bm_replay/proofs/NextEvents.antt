@@ -14,9 +14,8 @@ use Rattle.bm_table.specs.declared.script.Command.TheVariants.{Retire as RetireC
 use Rattle.bm_table.specs.Tables.{next_change}
 use Rattle.bm_core.specs.declared.events.Event.{Event}
 use Rattle.bm_core.specs.declared.events.Stage.{Stage}
-use Rattle.bm_core.specs.declared.schedule.Call.{Call as Calls}
-use Rattle.bm_core.specs.declared.schedule.Call.TheVariants.{Publishes, Switches, Closes, Retires, Syncs, Arrives}
-use Rattle.bm_core.specs.declared.schedule.Call.TheVariants.{Steers, Loses}
+use Rattle.bm_core.specs.declared.schedule.Call.TheVariants.{Arrives}
+use Rattle.bm_core.specs.declared.schedule.Call.TheVariants.{Steers}
 use Rattle.bm_core.specs.declared.schedule.Due.{Due}
 use Rattle.bm_core.specs.Schedule.{Underway}
 use Rattle.bm_core.specs.Past.{is_switch_of, newest, steerable}
@@ -201,7 +200,7 @@ with_copy : (command packet : Option Due) (u : Underway) (others : List Underway
     → t ≡ coming_of (sooner_of command packet) → IsComingOf command [] packet t
     → sooner_of (sooner_of command (Some (copy_due u))) packet ≡ sooner_of command packet
     → (is_before u.moment command && is_no_later u.moment packet) ≡ false → IsComingOf command (u ∷ others) packet t
-with_copy command packet u others (Call d) is come same other = (same ∙ come.0, come.1, come.2)
+with_copy command packet u others (Call d) is come same other = (same ∙ come.0, come.1)
 with_copy command packet u others (Arrive m) is come same other =
     absurd (no_arrival (sooner_of command packet) is) where
       no_arrival : (o : Option Due) → ◌≡◌ {A = Coming} (Arrive m) (coming_of o) → ⊥

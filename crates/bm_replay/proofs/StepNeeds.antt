@@ -1,5 +1,5 @@
 -- What a step needs, and that no other call comes.
-use Rattle.std.proofs.Common.{◌≡◌, ℕ, ◌*◌, ◌^◌, ◌≤◌, refl, sym, ap, ◌∙◌, None, subst}
+use Rattle.std.proofs.Common.{◌≡◌, ℕ, ◌*◌, ◌^◌, ◌≤◌, refl, ap, None, subst}
 use Rattle.bm_base.specs.declared.ids.Moment.{Moment}
 use Rattle.bm_base.specs.declared.label.Hop.{Hop}
 use Rattle.bm_core.specs.declared.schedule.Call.{Call as Calls}

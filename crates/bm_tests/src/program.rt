@@ -61,16 +61,15 @@ pub(crate) fn check(
         Some(_) => &["replay", "c", "s"],
         None => &["replay", "c"],
     };
-    check_words(rt, alloc, form, (capture, script), name, (status, text))
+    let files = files(alloc, capture, script)?;
+    check_files(rt, alloc, (form, files), name, (status, text))
 }
 
-/// Checks what the program ends with and writes for these words, where `c` names the capture and
-/// `s` the script.
-pub(crate) fn check_words(
+/// Checks what the program ends with and writes for these words over these files.
+pub(crate) fn check_files(
     rt: &(impl Abort + Threads + Wait + Sync),
     alloc: Global,
-    form: &[&str],
-    (capture, script): (&[u8], Option<&[u8]>),
+    (form, files): (&[&str], Vec<SureFile>),
     name: &str,
     (status, text): (u8, &str),
 ) -> Result<(), Fail> {

@@ -1,7 +1,7 @@
 //! Worked rows: captures, and the lines of their streams.
 use crate::capture::Kind::{Fin, Syn, Text};
 use crate::capture::{Form, Packet, raw};
-use crate::program::check_words;
+use crate::program::{check_files, files};
 use std::alloc::Global;
 use std::process::Abort;
 use std::sync::Wait;
@@ -48,12 +48,6 @@ fn streams_are_put_in_order(rt: HostRuntime) -> Result<(), Fail> {
 fn check(rt: &(impl Abort + Threads + Wait + Sync), alloc: Global, row: &Row) -> Result<(), Fail> {
     let (name, packets, lines) = *row;
     let capture = raw(alloc, Form::Micro, packets)?;
-    check_words(
-        rt,
-        alloc,
-        &["streams", "c"],
-        (&capture, None),
-        name,
-        (0, lines),
-    )
+    let files = files(alloc, &capture, None)?;
+    check_files(rt, alloc, (&["streams", "c"], files), name, (0, lines))
 }

@@ -34,9 +34,9 @@ pub struct Names<'a> {
 }
 
 /// What the words ask for: `replay CAPTURE [SCRIPT]`, `run CAPTURE SCRIPT`, `streams CAPTURE
-/// [SCRIPT]` or `load N`; None if they fit no form. A name isn't empty and doesn't begin with `-`. N is 1 to 20,000,
-/// in decimal without a sign or a leading zero. The words are without the program's own name.
-/// `AllocError` where memory was refused.
+/// [SCRIPT]` or `load N`; None if they fit no form. A name isn't empty and doesn't begin with `-`. N
+/// is 1 to 20,000, in decimal without a sign or a leading zero. The words are without the program's
+/// own name. `AllocError` where memory was refused.
 pub fn read_words<'a>(alloc: Global, words: &'a [String]) -> Result<Option<Form<'a>>, AllocError>
     ensures form { IfOk result (λ form. option_map asked form ≡ form_in words.entry.now) }
     ensures range { IfOk result (λ form. IfSome form (λ f. HasCount (asked f))) }

@@ -36,6 +36,20 @@ use Rattle.bm_worker.specs.Deeds.{HasServer, Hears, IsSamePorter, Sits, Suits, c
 use Rattle.bm_worker.specs.Told.{told_there}
 use Rattle.bm_worker.specs.Assigned.{RoutedBy, is_assigned, assigned_mux}
 
+-- HOW MUCH A PACKET MAY LEAD TO
+
+-- arrivals: 3 of direct copies, 9 of chained ones, and 27 of twice-chained ones
+abbrev pub tries_per_packet : ℕ
+tries_per_packet = 39
+
+-- entries of the mux's log: a Switch, the Steer, and 9 losses
+abbrev pub entries_per_packet : ℕ
+entries_per_packet = 11
+
+-- deeds: a Switch, the Steer, and its arrivals, some of which a loss may replace
+abbrev pub deeds_per_packet : ℕ
+deeds_per_packet = 41
+
 -- one worker's part of a phase
 pub record Stint : Type 0 where
   -- the mux of each packet
@@ -168,10 +182,9 @@ pub record Kept (F : Rules) (stage : Stage) (servers : List Serving) (stint : St
   pub mux : IsSameMux stint.start.mux now.mux
   pub porter : IsSamePorter stint.start.porter now.porter
 
--- besides the first Switch, at most 41 deeds for each packet: a Switch, its Steer, 3 copies, 9
--- forwards of these and 27 of those
+-- besides the first Switch, no more deeds than the packets may lead to
 abbrev pub AreFew : List Note → Type 0
-AreFew deeds = length deeds ≤ 41 * many (λ n. is_steer n.event.what) deeds + 1
+AreFew deeds = length deeds ≤ deeds_per_packet * many (λ n. is_steer n.event.what) deeds + 1
 
 -- what a worker did in a phase, to its end
 pub record Phase (F : Rules) (stage : Stage) (servers : List Serving) (stint : Stint)
@@ -224,15 +237,15 @@ pub record IsReady (stage : Stage) (servers : List Serving) (stint : Stint) : Ty
   pub told : stint.told.board ≡ stint.start.mux.seen.board
   pub plan : stint.start.mux.seen.plan ≡ stage.script.plan
   pub older : AllByRecursion (IsOlder (mux_for stint) stint.from stint.after) stint.start.mux.log
-  pub tries : stint.start.porter.tries + 39 * (stint.until - stint.from) ≤ 4294967295
+  pub tries : stint.start.porter.tries + tries_per_packet * (stint.until - stint.from) ≤ 4294967295
   pub steps : stint.start.steps + (stint.until - stint.from) ≤ 4294967295
-  pub room : length stint.start.mux.log + 11 * (stint.until - stint.from) + 1 < 2 ^ 48
+  pub room : length stint.start.mux.log + entries_per_packet * (stint.until - stint.from) + 1 < 2 ^ 48
 
 -- how much the worker's counts may rise in the phase
 pub record HasGrown (stint : Stint) (now : MuxWorker) : Type 0 where
-  pub tries : now.porter.tries ≤ stint.start.porter.tries + 39 * (stint.until - stint.from)
+  pub tries : now.porter.tries ≤ stint.start.porter.tries + tries_per_packet * (stint.until - stint.from)
   pub steps : now.steps ≤ stint.start.steps + (stint.until - stint.from)
-  pub log : length now.mux.log ≤ length stint.start.mux.log + 11 * (stint.until - stint.from) + 1
+  pub log : length now.mux.log ≤ length stint.start.mux.log + entries_per_packet * (stint.until - stint.from) + 1
 
 -- the phase is done, or the worker gave up in it
 abbrev pub HasEnded : Rules → Stage → List Serving → Stint → MuxWorker → Option Stop → Type 0

@@ -8,7 +8,7 @@ ghost use Rattle.bm_core.specs.Threads.{record_moment};
 ghost use Rattle.bm_worker.specs.Inside.Batches.{AreCollected, Delivers, IsItemOf, IsSent};
 ghost use Rattle.bm_worker.specs.Inside.Debts.{GrowsByLosses, IsSameWorker};
 ghost use Rattle.bm_worker.specs.Deeds.{Sits, Suits};
-ghost use Rattle.bm_worker.specs.Phases.{IsRunnable};
+ghost use Rattle.bm_worker.specs.Phases.{IsRunnable, tries_per_packet};
 ghost use Rattle.bm_worker.specs.Assigned.{is_mux, assigned_mux};
 
 use crate::place::place_of;
@@ -141,11 +141,11 @@ impl MuxWorker {
             × All (λ fate. (fate.copies ≤ 3) × (fate.delay ≤ 60 * 10 ^ 9)) fates.now }
         requires sits { Sits shared.now.servers.now self.old.porter }
         requires number { self.old.porter.number ≡ self.old.mux.id.0 + 1 }
-        requires few { self.old.porter.tries + 39 * length sents.now ≤ 4294967295 }
+        requires few { self.old.porter.tries + tries_per_packet * length sents.now ≤ 4294967295 }
         requires steps { self.old.steps + length sents.now ≤ 4294967295 }
         ensures same { IsSameWorker self.old (record self.new { steps = self.old.steps }) }
         ensures grows { GrowsByLosses (9 * length sents.now) self.old.mux.log self.new.mux.log }
-        ensures tries { self.new.porter.tries ≤ self.old.porter.tries + 39 * length sents.now }
+        ensures tries { self.new.porter.tries ≤ self.old.porter.tries + tries_per_packet * length sents.now }
         ensures steps { self.new.steps ≤ self.old.steps + length sents.now }
         ensures delivers { Delivers (Gives F.Fn shared.now.faults.now.rule) shared.now.stage.now
             shared.now.servers.now sents.now fates.now self.old self.new result }

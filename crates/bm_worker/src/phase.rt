@@ -6,7 +6,7 @@ ghost use Rattle.bm_fault.specs.Faults.{Gives, IsRule};
 ghost use Rattle.bm_mux.specs.Muxes.{IsSameMux};
 ghost use Rattle.bm_worker.specs.Inside.Batches.{CarriesTo, EndsAs, GrowsBy};
 ghost use Rattle.bm_worker.specs.Deeds.{IsSamePorter, Sits};
-ghost use Rattle.bm_worker.specs.Phases.{HasGrown, IsReady, IsRunnable, stint_of};
+ghost use Rattle.bm_worker.specs.Phases.{HasGrown, IsReady, IsRunnable, stint_of, tries_per_packet};
 
 use crate::batch::collect;
 use crate::{MuxWorker, Shared, Span, Stop};
@@ -43,7 +43,7 @@ impl MuxWorker {
         requires mux { self.old.mux.id.0 < 64 }
         requires sits { Sits shared.now.servers.now self.old.porter }
         requires number { self.old.porter.number ≡ self.old.mux.id.0 + 1 }
-        requires tries { self.old.porter.tries + 39 * (until - from) ≤ 4294967295 }
+        requires tries { self.old.porter.tries + tries_per_packet * (until - from) ≤ 4294967295 }
         requires steps { self.old.steps + (until - from) ≤ 4294967295 }
         requires room { length self.old.mux.log < 2 ^ 48 }
         ensures more { IfOk result (λ end. (from < end) × (end ≤ until)) }

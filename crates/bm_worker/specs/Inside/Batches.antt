@@ -32,6 +32,7 @@ use Rattle.bm_worker.specs.Inside.Debts.{Debt, IsAmong, IsCopyOf, IsUpTo, comes,
 use Rattle.bm_worker.specs.Inside.Debts.{copyless_at}
 use Rattle.bm_worker.specs.Inside.Debts.{debt, gives, gives_by, lost_at}
 use Rattle.bm_worker.specs.Phases.{AreFew, HasEnded, IsStopOf, Kept, Stint, mux_for}
+use Rattle.bm_worker.specs.Phases.{entries_per_packet, tries_per_packet}
 use Rattle.bm_worker.specs.Assigned.{is_assigned, assigned_mux}
 
 -- WHAT THE MUX TAKES
@@ -154,7 +155,7 @@ abbrev pub Delivers : Rules → Stage → List Serving → List Steered → List
 Delivers F stage servers sents fates old new result =
     (stint : Stint) (deeds : List Note) (low : ℕ) → Kept F stage servers stint old deeds
     → AreOwed stint deeds low sents fates → AllByRecursion (λ y. IsUpTo low y.event.what) deeds
-    → (x : List Note) × Kept F stage servers stint new (x ++ deeds) × (length x ≤ 39 * length sents)
+    → (x : List Note) × Kept F stage servers stint new (x ++ deeds) × (length x ≤ tries_per_packet * length sents)
     × AllByRecursion (λ y. IsDelivery y.event.what) x
     × MatchResult result
     (λ _. PaysFor (sent_notes (mux_for stint) sents fates) x
@@ -224,9 +225,9 @@ CarriesTo F stage servers routes from until old new result =
 
 -- how much this many places may add to the worker's counts
 pub record GrowsBy (places : ℕ) (old new : MuxWorker) : Type 0 where
-  pub tries : new.porter.tries ≤ old.porter.tries + 39 * places
+  pub tries : new.porter.tries ≤ old.porter.tries + tries_per_packet * places
   pub steps : new.steps ≤ old.steps + places
-  pub log : length new.mux.log ≤ length old.mux.log + 11 * places
+  pub log : length new.mux.log ≤ length old.mux.log + entries_per_packet * places
 
 -- the phase is done, or the worker gave up in it and returns why
 abbrev pub EndsAs : Rules → Stage → List Serving → Stint → MuxWorker → Result (Unit {0}) Stop

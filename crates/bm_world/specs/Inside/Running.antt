@@ -19,6 +19,7 @@ use Rattle.bm_server.specs.Seats.{Seated}
 use Rattle.bm_server.specs.Servings.{Serving, shard_at}
 use Rattle.bm_worker.specs.Deeds.{clock_of, noted, saying, Sits}
 use Rattle.bm_worker.specs.Phases.{mux_log, AreCopies, IsPlaced, is_steer}
+use Rattle.bm_worker.specs.Phases.{deeds_per_packet, entries_per_packet, tries_per_packet}
 use Rattle.bm_worker.specs.Told.{told_there}
 use Rattle.bm_worker.specs.Assigned.{is_assigned}
 use Rattle.bm_worker.specs.declared.worker.MuxWorker.{MuxWorker}
@@ -49,11 +50,11 @@ pub record IsAtWork (R : Routes) (F : Rules) (stage : Stage) (servers : List Ser
   pub sits : Sits servers w.porter
   pub board_is : w.mux.seen.board ≡ board
   pub plan : w.mux.seen.plan ≡ stage.script.plan
-  pub tries : w.porter.tries ≤ 39 * until
+  pub tries : w.porter.tries ≤ tries_per_packet * until
   pub steps : w.steps ≤ until
-  pub room : length w.mux.log ≤ 11 * until + phases
-  -- besides the first Switch of each phase, at most 41 deeds for each packet
-  pub few : length deeds ≤ 41 * many (λ n. is_steer n.event.what) deeds + phases
+  pub room : length w.mux.log ≤ entries_per_packet * until + phases
+  -- besides the first Switch of each phase, no more deeds than the packets may lead to
+  pub few : length deeds ≤ deeds_per_packet * many (λ n. is_steer n.event.what) deeds + phases
   pub stop : w.stop ≡ None
 
 -- the deeds of a phase before those of earlier phases
