@@ -22,8 +22,8 @@ use Rattle.bm_pcap.specs.Records.{behind_record}
 use Rattle.bm_pcap.specs.Taken.{FormLeaves}
 
 -- A reader: the source after what was read ahead, what the capture's header says, the place after
--- what was taken, the octets that were read ahead, those that were taken last, of which only
--- contracts of private calls speak, and what it returns from now on, if it has ended.
+-- what was taken, the octets that were read ahead, those that were taken last (only contracts of
+-- private calls use these), and what it returns from now on, if it has ended.
 pub record Reader (S : Type 0) : Type 0 where
   pub source : S
   pub form : Form

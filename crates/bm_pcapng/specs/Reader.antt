@@ -25,7 +25,7 @@ use Rattle.bm_pcapng.specs.Places.{first_place, interfaces_behind, order_behind,
 
 -- A reader: the source after what was read ahead, the order of its section's numbers and its
 -- interfaces, the place after what was taken, the octets that were read ahead, those that were
--- taken last, of which only contracts of private calls speak, and what it returns from now on, if
+-- taken last (only contracts of private calls use these), and what it returns from now on, if
 -- it has ended.
 pub record Reader (S : Type 0) : Type 0 where
   pub source : S

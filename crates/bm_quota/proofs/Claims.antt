@@ -1,4 +1,4 @@
--- The claim behind which as many others stand as the shares fall short.
+-- The first claim that isn't met: the claims before it are as many as the buckets that are left.
 use Rattle.std.proofs.Common.{◌≡◌, ◌≢◌, ℕ, zero, suc, get_or, ◌+◌, ◌-◌, ◌<◌, ◌≤◌, Bool, true, false, ◌&&◌, ◌||◌, not, cond, eqb, ltb}
 use Rattle.std.proofs.Common.{List, [], ◌∷◌, ◌++◌, length, map, sum, inl, inr, refl, ap, sym, subst, ◌∙◌, ◌*◌, ◌/◌, ◌%◌, arith, is_lt}
 use Rattle.std.proofs.lemmas.Bool.{and_from, and_parts, cases_Bool, cases_lt, cases_eq, lt-ltb, le-ltb, eq-eqb, eqb-true}

@@ -10,8 +10,8 @@ ghost use Rattle.bm_table.specs.Settings.{IsWithin, RiseFrom};
 use bm_base::{Memory, ServerId};
 use std::alloc::Global;
 
-/// What a server's remainder lacks to a whole bucket, in parts of which a bucket has as many as the
-/// weights sum to; and the server. The least claim is met first.
+/// How much a server's remainder is short of a whole bucket, and the server. A bucket has as many
+/// parts as the weights sum to. The least claim is met first.
 #[derive(Clone, Copy, PartialEq, Eq, PartialOrd, Ord)]
 struct Claim {
     lacks: u64,

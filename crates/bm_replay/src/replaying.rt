@@ -39,7 +39,7 @@ pub fn replay<R: Fn(u32, &Flow) -> u16, F: Fn(u32, Hop) -> Fate>(
     Ok(history)
 }
 
-/// The same history, and `octets`, none of which is freed. It has at most 12,259,840 events.
+/// The same history, and all of `octets`: no packet is freed. It has at most 12,259,840 events.
 pub fn replay_keeping<R: Fn(u32, &Flow) -> u16, F: Fn(u32, Hop) -> Fate>(
     alloc: Global,
     stage: Stage,

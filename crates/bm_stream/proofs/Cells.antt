@@ -13,7 +13,7 @@ none_of end p None below behind = refl
 none_of end p (Some cell) below behind =
     let lower : cell.position < end = below cell refl in grind (arith, common_steps)
 
--- behind all positions nothing is held
+-- after all positions nothing is held
 pub held_none : (cells : List Cell) (end p : ℕ) → AreBelow end cells → end ≤ p → held_at cells p ≡ None
 held_none cells end p below behind = none_of end p (slice_get cells (p % 65535)) (below (p % 65535)) behind
 
