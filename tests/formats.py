@@ -314,10 +314,11 @@ def table(value):
 
 SERVER, ENDPOINT = number(1, 1024), place(0)
 TOP = {
-    "version": number(1, 2),
+    "version": number(1, 3),
     "buckets": number(1, 65536),
     "servers": rising,
     "weights": None,
+    "racks": None,
     "muxes": number(1, 64),
     "shards": number(1, 64),
     "capacity": number(1, 65536),
@@ -341,9 +342,23 @@ COMMANDS = {
 }
 
 
+# The version of scripts from which on a key, or a word after `do`, may stand; all others may in each.
+SINCE = {"weight": 2, "weights": 2, "racks": 3}
+
+
 def of_version(version, keys):
     """The keys that a script of this version may have."""
-    return {key: read for key, read in keys.items() if version == 2 or key not in ("weight", "weights")}
+    return {key: read for key, read in keys.items() if SINCE.get(key, 1) <= version}
+
+
+def racks_of(buckets, servers):
+    """Reads a number of racks: at most as many as buckets, and each has one of the servers, which are numbered from 1."""
+
+    def read(value):
+        racks = number(1, min(64, buckets))(value)
+        return racks if racks and {(server - 1) % racks for server in servers} == set(range(racks)) else None
+
+    return read
 
 
 def only(place, keys, says):
@@ -367,7 +382,7 @@ def required(place, key, read, says):
 
 def read_top(says):
     """The values of the top keys, and the defaults of those that are missing."""
-    version = 2 if number(2, 2)(says.get("version")) else 1
+    version = number(2, 3)(says.get("version")) or 1
     only("", of_version(version, TOP), says)
     top = DEFAULTS | {"fault": [], "command": []}
     for key, read in TOP.items():
@@ -375,6 +390,8 @@ def read_top(says):
             read = each(top["muxes"], top["muxes"], number(0, 86400 * 10**9))
         if key == "weights":
             read = each(len(top["servers"]), len(top["servers"]), WEIGHT)
+        if key == "racks":
+            read = racks_of(top["buckets"], top["servers"])
         if key in says:
             top[key] = value_of("", key, read, says[key])
     return top

@@ -86,6 +86,7 @@ DEFAULTS = {
     "version": 1,
     "buckets": 8,
     "servers": [1, 2],
+    "racks": 1,
     "muxes": 1,
     "shards": 4,
     "capacity": 4096,
@@ -101,7 +102,7 @@ class Fleet:
 
     def __init__(self, setting):
         says = DEFAULTS | setting
-        self.buckets, self.servers, self.muxes = says["buckets"], says["servers"], says["muxes"]
+        self.buckets, self.servers, self.racks, self.muxes = says["buckets"], says["servers"], says["racks"], says["muxes"]
         self.shards, self.capacity, self.timeout_s = says["shards"], says["capacity"], says["timeout_s"]
         self.vips, self.route = says["vips"], says["route"]
         self.lags = says.get("lags_ns", [0] * self.muxes)
@@ -160,22 +161,34 @@ class Fleet:
 
     # THE CONTROLLER
 
-    def quotas(self, active):
-        """How many buckets each server is to own by its weight: whole shares, and one more for the largest remainders, of equal ones
-        for the lowest numbers."""
+    def rack(self, server):
+        return (server - 1) % self.racks
+
+    def quotas(self, count, active):
+        """How many of this many buckets each server is to own by its weight: whole shares, and one more for the largest remainders, of
+        equal ones for the lowest numbers."""
         whole = sum(active.values())
-        quotas = {server: self.buckets * weight // whole for server, weight in active.items()}
-        order = sorted(active, key=lambda server: (-(self.buckets * active[server] % whole), server))
-        for server in order[: self.buckets - sum(quotas.values())]:
+        quotas = {server: count * weight // whole for server, weight in active.items()}
+        order = sorted(active, key=lambda server: (-(count * active[server] % whole), server))
+        for server in order[: count - sum(quotas.values())]:
             quotas[server] += 1
         return quotas
 
     def rebalance(self, active):
-        """The moves that bring each active server to its quota: servers give their highest buckets, and the first servers are filled
-        first."""
-        owners, quotas = [self.server(len(self.changes), b) for b in range(self.buckets)], self.quotas(active)
+        """The moves that bring each active server to its quota of the buckets of its rack, in rising order. A bucket's rack is its number
+        modulo the racks."""
+        moves = {}
+        for rack in range(self.racks):
+            within = {server: weight for server, weight in active.items() if self.rack(server) == rack}
+            moves |= self.rebalance_rack(range(rack, self.buckets, self.racks), within)
+        return dict(sorted(moves.items()))
+
+    def rebalance_rack(self, buckets, active):
+        """The moves within a rack: servers give their highest buckets, and the first servers are filled first. A server of another rack
+        gives all that it has of these buckets."""
+        owners, quotas = {b: self.server(len(self.changes), b) for b in buckets}, self.quotas(len(buckets), active)
         owned = {}
-        for bucket, server in enumerate(owners):
+        for bucket, server in owners.items():
             owned.setdefault(server, []).append(bucket)
         given = [bucket for server, own in owned.items() for bucket in own[quotas.get(server, 0) :]]
         takers = [s for s in sorted(active) for _ in range(quotas[s] - min(quotas[s], len(owned.get(s, []))))]
@@ -204,6 +217,8 @@ class Fleet:
                 return "not active"
             if do == "drain" and len(self.active) == 1:
                 return "last server"
+            if do == "drain" and not any(self.rack(other) == self.rack(server) for other in self.active if other != server):
+                return "last in rack"
             active = {s: weight for s, weight in self.active.items() if s != server}
             if do != "drain":
                 active[server] = words[2] if words[2:] else 1
@@ -219,6 +234,8 @@ class Fleet:
                 return "unknown server"
             if server not in self.active:
                 return "not active"
+            if self.rack(server) != bucket % self.racks:
+                return "wrong rack"
             if self.server(len(self.changes), bucket) == server:
                 return "same server"
             return self.change(at, words, {bucket: server})

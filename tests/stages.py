@@ -14,6 +14,8 @@ SLOW = "slow"
 BOUNCING = "bouncing"
 # Servers retire while muxes lag.
 LEAVING = "leaving"
+# Servers stand in two racks or more where they can.
+RACKED = "racked"
 
 
 def packet_to_service(moment, flow, *shape):
@@ -32,7 +34,7 @@ def some_step(rng, stage, *steps):
 
 
 def some_packets(rng, stage=ANY):
-    moment, packets, kinds = 0, [], {ANY: (0, 1), QUICK: (0.15, 1.1), SLOW: (0.15, 1), BOUNCING: (0, 0.6), LEAVING: (0, 0.5)}
+    moment, packets, kinds = 0, [], {ANY: (0, 1), QUICK: (0.15, 1.1), SLOW: (0.15, 1), BOUNCING: (0, 0.6), LEAVING: (0, 0.5), RACKED: (0, 1)}
     for number in range(rng.randint(8 if stage == BOUNCING else 0, 14)):
         kind = 0 if number == 0 else rng.uniform(*kinds[stage])
         seq = rng.choice([100, 101, 101, 111, 121, 95, 105, 70000, M32 - 3])
@@ -68,15 +70,22 @@ def some_setting(rng, stage):
         SLOW: moving | {"timeout_s": rng.randint(1, 2)},
         BOUNCING: moving | {"servers": [1, 2], "muxes": 1, "timeout_s": 1, "lags_ns": [0]},
         LEAVING: {"buckets": 1, "servers": [1, 2], "muxes": 2, "timeout_s": 1, "route": "turn", "lags_ns": [9 * 10**9, rng.choice([0, 9 * 10**9])]},
+        RACKED: {"buckets": rng.choice([2, 3, 4, 9, 9]), "servers": sorted(rng.sample(range(1, 7), rng.randint(2, 5)))},
     }
-    return setting | {"lags_ns": lags} | special[stage] | some_weights(rng, special[stage].get("servers", setting["servers"]))
+    setting |= {"lags_ns": lags} | special[stage]
+    return setting | some_later_keys(rng, stage, setting["buckets"], setting["servers"])
 
 
-def some_weights(rng, servers):
-    """The keys of version 2 for half of the scripts."""
-    version = rng.choice([{}, {}, {}, {"version": 1}, {"version": 2}, {"version": 2}, {"version": 2}, {"version": 2}])
-    weights = [some_weight(rng) for _ in servers]
-    return version | {"weights": weights} if version.get("version") == 2 and rng.random() < 0.7 else version
+def some_later_keys(rng, stage, buckets, servers):
+    """The version for most scripts, and what only versions 2 and 3 have."""
+    version = 3 if stage == RACKED else rng.choice([None, None, None, 1, 2, 2, 2, 2, 3, 3])
+    keys = {} if version is None else {"version": version}
+    if version in (2, 3) and rng.random() < 0.7:
+        keys["weights"] = [some_weight(rng) for _ in servers]
+    if stage == RACKED or version == 3 and rng.random() < 0.7:
+        racks = [count for count in range(1, buckets + 1) if {(server - 1) % count for server in servers} == set(range(count))]
+        keys["racks"] = rng.choice(racks[-2:])
+    return keys
 
 
 def some_weight(rng):
@@ -109,20 +118,21 @@ def some_fleet(rng, stage=ANY):
         row = (rng.randint(1, 14), rng.choice(["direct", "chained"]), rng.choice([0, 0, 1, 2, 3]), rng.choice([0, 0, 1, 500, rng.randint(0, 4 * 10**9)]))
         fleet.faults.append(row)
         rows += fault_rows(row)
-    at, wrong = 0, rng.random() < 0.05
+    at, wrong = 0, rng.random() < (0.2 if stage == RACKED else 0.05)
     for _ in range(rng.randint(2, 5) if stage == BOUNCING else rng.randint(0, 10)):
         at += some_step(rng, stage, 0, 1, 500, 1000)
         active = sorted(fleet.active)
         elsewhere = [server for server in active if server != fleet.server(len(fleet.changes), 0)]
-        server = rng.randint(1, 6) if stage == ANY else rng.choice(elsewhere if stage != LEAVING and elsewhere else active)
+        server = rng.randint(1, 6) if stage in (ANY, RACKED) else rng.choice(elsewhere if stage != LEAVING and elsewhere else active)
         drained = sorted(fleet.known - set(fleet.active))
         leaving = rng.choice(drained) if drained and rng.random() < 0.8 else server
-        weight = (some_weight(rng),) if fleet.version == 2 else ()
+        weight = (some_weight(rng),) if fleet.version >= 2 else ()
         changes = [("add", server, *weight), ("drain", server), ("drain", server), ("move", rng.randint(0, 2), server), ("move", 0, server), ("move", 0, server)]
         others = [("close", server, some_flow(rng)), ("retire", leaving), ("retire", leaving), ("sync",)]
         weighs = [("weight", server, *weight)] * 3 if weight else []
+        several = [("move", rng.randrange(fleet.buckets), server), ("add", server, *weight), ("drain", rng.choice(active))] * 3
         moves, ends = [("move", 0, server)] * 12 + [("sync",)] * 4, [("drain", server), ("retire", leaving)] * 12
-        words = rng.choice(changes + weighs + others + {ANY: [], QUICK: moves, SLOW: moves, BOUNCING: moves * 3, LEAVING: ends}[stage])
+        words = rng.choice(changes + weighs + others + {ANY: [], QUICK: moves, SLOW: moves, BOUNCING: moves * 3, LEAVING: ends, RACKED: several}[stage])
         if words[0] == "retire" and leaving in drained and rng.random() < (0.8 if stage == LEAVING else 0.4):
             at += fleet.timeout()
         before = len(fleet.commands)
@@ -138,7 +148,7 @@ def some_fleet(rng, stage=ANY):
 
 def some_stage(rng):
     """Packets, and a fleet as `some_fleet` gives it."""
-    stage = rng.choice([ANY] * 5 + [QUICK] * 5 + [SLOW] * 3 + [BOUNCING] * 3 + [LEAVING] * 2)
+    stage = rng.choice([ANY] * 5 + [QUICK] * 5 + [SLOW] * 3 + [BOUNCING] * 3 + [LEAVING] * 2 + [RACKED] * 5)
     return some_packets(rng, stage), *some_fleet(rng, stage)
 
 

@@ -7,11 +7,11 @@ use Rattle.bm_cli.specs.declared.fault.CaptureFault.TheVariants.{Memory as NoMem
 use Rattle.bm_cli.specs.declared.fault.StageFault.{StageFault}
 use Rattle.bm_cli.specs.declared.fault.StageFault.TheVariants.{Memory as WantsMemory}
 use Rattle.bm_cli.specs.declared.status.Status.{Status}
-use Rattle.bm_cli.specs.declared.status.Status.TheVariants.{ReadFault, Memory}
+use Rattle.bm_cli.specs.declared.status.Status.TheVariants.{Done, Usage, ReadFault, Memory}
 use Rattle.bm_cli.specs.Dues.{Answer, Due, Misused, Refused, Shown, answer_for, due, due_of_stage, names_behind}
 use Rattle.bm_cli.specs.declared.mode.Mode.{Mode}
 use Rattle.bm_cli.specs.Headline.{IsReportOf}
-use Rattle.bm_cli.specs.Dues.{status_of}
+use Rattle.bm_cli.specs.Dues.{IsDue}
 use Rattle.bm_cli.specs.Ends.{AsksFor, Ends, IsOf, IsSaid}
 use Rattle.bm_cli.specs.Stages.{IsOutside, IsRead}
 use Rattle.bm_cli.specs.Stages.{ReadsStage, status_by}
@@ -123,9 +123,13 @@ ends_nothing due asked fails before faults = record {
   };
 }
 
+-- no status that is due says that a read failed
+abbrev IsUnread : Answer → Type 0
+IsUnread answer = (says : Status) (text : List ℕ) → IsDue answer says text → says ≢ ReadFault
+
 -- an answer that asks for no file was written
 pub ends_unread : (answer : Answer) (asked : Option (List (List ℕ))) (fails : ℕ) (sink : SinkDid)
-    (result : Status) → status_of answer ≢ ReadFault → Tells answer sink result →
+    (result : Status) → IsUnread answer → Tells answer sink result →
     Ends (record { names = []; answer = answer }) (untouched asked fails) sink result
 ends_unread answer asked fails sink result not tells = record {
   says = tells.says;
@@ -142,12 +146,12 @@ ends_unread answer asked fails sink result not tells = record {
 }
   where
     unread : IsOf answer tells.says tells.text → tells.says ≢ ReadFault
-    unread (inl said) = λ e. not (sym said.0 ∙ e)
+    unread (inl said) = not tells.says tells.text said
     unread (inr none) = λ e. let no : Memory ≡ ReadFault = sym none.0 ∙ e in cc
 
 -- the same, by some reads
 pub unread_ends : (answer : Answer) (told : Octets) (asked : Option (List (List ℕ))) (fails : ℕ) (sink : SinkDid)
-    (result : Status) → status_of answer ≢ ReadFault → Tells answer sink result →
+    (result : Status) → IsUnread answer → Tells answer sink result →
     Holds told (λ reads. Ends (record { names = []; answer = answer }) (untouched asked fails) sink result)
 unread_ends answer told asked fails sink result not tells =
     holds_any told (λ reads. Ends (record { names = []; answer = answer }) (untouched asked fails) sink result)
@@ -168,14 +172,16 @@ pub usage_ends : (words : Option Asked) (told : Octets) (asked : Option (List (L
     Holds told (λ reads. Ends (due words reads) (untouched asked fails) sink result)
 usage_ends words told asked fails sink result none tells =
     words_end None words told (untouched asked fails) sink result none
-    (unread_ends (Misused usage_line) told asked fails sink result (λ e. cc) tells)
+    (unread_ends (Misused usage_line) told asked fails sink result
+    (λ says text is e. let no : ReadFault ≡ Usage = sym e ∙ is.0 in cc) tells)
 
 -- the line of a load was answered
 pub load_ends : (n : ℕ) (told : Octets) (asked : Option (List (List ℕ))) (fails : ℕ) (sink : SinkDid)
     (result : Status) → Tells (Shown (IsSummaryOf n)) sink result →
     Holds told (λ reads. Ends (due (Some (Load n)) reads) (untouched asked fails) sink result)
 load_ends n told asked fails sink result tells =
-    unread_ends (Shown (IsSummaryOf n)) told asked fails sink result (λ e. cc) tells
+    unread_ends (Shown (IsSummaryOf n)) told asked fails sink result
+    (λ says text is e. let no : ReadFault ≡ Done = sym e ∙ is.0 in cc) tells
 
 pub memory_ends : (words : Option Asked) (told : Octets) (asked : Option (List (List ℕ))) (fails : ℕ)
     (before : Option (List ℕ)) (faults : ℕ) →

@@ -10,7 +10,7 @@ use Rattle.bm_quota.specs.declared.refusal.Refusal.TheVariants.{KnownServer, Unk
 use Rattle.bm_quota.specs.declared.refusal.Refusal.TheVariants.{BadBucket, SameServer, StampFell, TooMany}
 use Rattle.bm_quota.specs.declared.refusal.Refusal.TheVariants.{Memory as RefusalMemory}
 use Rattle.bm_script.specs.declared.fault.ScriptFault.{ScriptFault}
-use Rattle.bm_script.specs.declared.fault.ScriptFault.TheVariants.{NotToml, Missing, BadValue, Unknown, Refused}
+use Rattle.bm_script.specs.declared.fault.ScriptFault.TheVariants.{NotToml, Missing, BadValue, Unknown, Refused, Rack}
 use Rattle.bm_script.specs.declared.fault.ScriptFault.TheVariants.{Memory as ScriptMemory}
 use Rattle.bm_cli.specs.declared.fault.StageFault.{StageFault}
 use Rattle.bm_cli.specs.declared.fault.StageFault.TheVariants.{Files, LongScript, Seats, Script as OfScript}
@@ -87,6 +87,7 @@ script_of_fault (Refused n refusal) = record {
   done = refusal_is_not refusal Done bad_script.done limit.done;
   write = refusal_is_not refusal WriteFault bad_script.write limit.write;
 }
+script_of_fault (Rack n refusal) = bad_script
 script_of_fault ScriptMemory = memory
 
 capture_of_fault : (fault : CaptureFault) → IsOfFault (capture_status fault)
@@ -116,6 +117,7 @@ script_reads (BadValue place key) = apart BadScript ReadFault refl
 script_reads (Unknown place name) = apart BadScript ReadFault refl
 script_reads (Refused n refusal) =
     refusal_is_not refusal ReadFault (apart BadScript ReadFault refl) (apart Limit ReadFault refl)
+script_reads (Rack n refusal) = apart BadScript ReadFault refl
 script_reads ScriptMemory = apart Memory ReadFault refl
 
 capture_read_line : (fault : CaptureFault) → capture_status fault ≡ ReadFault → capture_line fault ≡ fault_line Files
@@ -145,6 +147,7 @@ script_no_line (BadValue place key) e = absurd (apart BadScript Memory refl e)
 script_no_line (Unknown place name) e = absurd (apart BadScript Memory refl e)
 script_no_line (Refused n refusal) e =
     absurd (refusal_is_not refusal Memory (apart BadScript Memory refl) (apart Limit Memory refl) e)
+script_no_line (Rack n refusal) e = absurd (apart BadScript Memory refl e)
 script_no_line ScriptMemory e = refl
 
 capture_no_line : (fault : CaptureFault) → capture_status fault ≡ Memory → capture_line fault ≡ []

@@ -5,48 +5,52 @@ use Rattle.bm_table.specs.declared.script.Script.{Script}
 use Rattle.bm_cli.specs.declared.fault.StageFault.{StageFault}
 use Rattle.bm_cli.specs.declared.mode.Mode.TheVariants.{Replay as by_replay, Run as by_run}
 use Rattle.bm_cli.specs.declared.status.Status.TheVariants.{Usage, BadScript}
-use Rattle.bm_cli.specs.Dues.{due, names_behind, status_of, text_of}
+use Rattle.bm_cli.specs.Beamer.{beamer}
+use Rattle.bm_cli.specs.Dues.{IsDue, due, names_behind}
 use Rattle.bm_cli.specs.Headline.{IsReportOf}
 use Rattle.bm_cli.specs.Lines.{usage_line}
 use Rattle.bm_cli.specs.Reading.{Reads, reading, script_by}
 use Rattle.bm_cli.specs.Streams.{AreStreams}
 use Rattle.bm_cli.specs.Top.{AsksNone, scripts_in}
 use Rattle.bm_cli.proofs.Ending.{nothing}
-use Rattle.bm_cli.proofs.Laws.{stage_names, stage_usage}
+use Rattle.bm_cli.proofs.Laws.{ByForm, stage_names, stage_usage}
 
 -- the usage line is due for the words of no form alone
-pub usage_form : (form : Option Asked) (reads : Reads) → Usage ≡ status_of (due form reads).answer → form ≡ None
-usage_form None reads e = refl
-usage_form (Some (Replay names)) reads e = absurd (stage_usage (IsReportOf by_replay) (reading by_replay names reads) e)
-usage_form (Some (Run capture script)) reads e =
+usage_form : (form : Option Asked) (reads : Reads) (text : List ℕ) → IsDue (due form reads).answer Usage text →
+    form ≡ None
+usage_form None reads text is = refl
+usage_form (Some (Replay names)) reads text is =
+    absurd (stage_usage (IsReportOf by_replay) (reading by_replay names reads) text is)
+usage_form (Some (Run capture script)) reads text is =
     absurd (stage_usage (IsReportOf by_run)
-    (reading by_run (record { capture = capture; script = Some script }) reads) e)
-usage_form (Some (Streams names)) reads e =
-    absurd (stage_usage (AreStreams names reads) (reading by_replay names reads) e)
-usage_form (Some (Load n)) reads e = absurd (cc)
+    (reading by_run (record { capture = capture; script = Some script }) reads) text is)
+usage_form (Some (Streams names)) reads text is =
+    absurd (stage_usage (AreStreams names reads) (reading by_replay names reads) text is)
+usage_form (Some (Load n)) reads text is = absurd (let no = is.0 in cc)
 
-pub usage_text : (form : Option Asked) (reads : Reads) (text : List ℕ) → Usage ≡ status_of (due form reads).answer →
-    text_of (due form reads).answer text → text ≡ usage_line
-usage_text None reads text e is = is
-usage_text (Some asked) reads text e is = let no : Some asked ≡ None = usage_form (Some asked) reads e in absurd (cc)
+usage_text : (form : Option Asked) (reads : Reads) (text : List ℕ) → IsDue (due form reads).answer Usage text →
+    text ≡ usage_line
+usage_text None reads text is = is.1
+usage_text (Some asked) reads text is =
+    let no : Some asked ≡ None = usage_form (Some asked) reads text is in absurd (cc)
 
 -- no file is named by the words of no form
-pub named_form : (form : Option Asked) (reads : Reads) → (due form reads).names ≢ [] → IsSome form
+named_form : (form : Option Asked) (reads : Reads) → (due form reads).names ≢ [] → IsSome form
 named_form None reads opens = absurd (opens refl)
 named_form (Some asked) reads opens = refl
 
 -- the script's name alone is due where a bad script is
-pub script_form : (form : Option Asked) (reads : Reads) → status_of (due form reads).answer ≡ BadScript →
+script_form : (form : Option Asked) (reads : Reads) (text : List ℕ) → IsDue (due form reads).answer BadScript text →
     (due form reads).names ≡ scripts_in form
-script_form None reads e = absurd (cc)
-script_form (Some (Replay names)) reads e =
-    stage_names (IsReportOf by_replay) names reads (script_by by_replay reads names.script) e
-script_form (Some (Run capture script)) reads e =
+script_form None reads text is = absurd (let no = is.0 in cc)
+script_form (Some (Replay names)) reads text is =
+    stage_names (IsReportOf by_replay) names reads (script_by by_replay reads names.script) text is
+script_form (Some (Run capture script)) reads text is =
     stage_names (IsReportOf by_run) (record { capture = capture; script = Some script }) reads
-    (script_by by_run reads (Some script)) e
-script_form (Some (Streams names)) reads e =
-    stage_names (AreStreams names reads) names reads (script_by by_replay reads names.script) e
-script_form (Some (Load n)) reads e = absurd (cc)
+    (script_by by_run reads (Some script)) text is
+script_form (Some (Streams names)) reads text is =
+    stage_names (AreStreams names reads) names reads (script_by by_replay reads names.script) text is
+script_form (Some (Load n)) reads text is = absurd (let no = is.0 in cc)
 
 -- A FILE IS ASKED FOR
 
@@ -74,3 +78,11 @@ pub run_asks : (words : Option Asked) (capture script : List ℕ) → words ≡ 
 run_asks words capture script is none =
     script_named capture script (script_by by_run nothing (Some script))
     (subst (λ f. AsksNone (due f)) is none nothing)
+
+pub by_form : (form : Option Asked) → ByForm beamer form
+by_form form = record {
+  misused = usage_form form;
+  usage = usage_text form;
+  named = named_form form;
+  script = script_form form;
+}

@@ -1,5 +1,5 @@
 -- The clauses of a top call, by what is due and by how the call ended.
-use Rattle.std.proofs.Common.{◌≡◌, ◌≢◌, ◌⊎◌, inl, inr, ℕ, List, [], Option, Result, Ok, Err}
+use Rattle.std.proofs.Common.{◌≡◌, ◌≢◌, ◌⊎◌, inl, inr, ℕ, List, [], Option, None, IsSome, Result, Ok, Err}
 use Rattle.std.proofs.Common.{sym, ap, subst, ◌∙◌, refl, ◌≤◌}
 use Rattle.std.specs.Io.KnownBytes.{Appends}
 use Rattle.bm_io.specs.Causes.{Rose}
@@ -12,10 +12,11 @@ use Rattle.bm_cli.specs.declared.fault.StageFault.TheVariants.{Files}
 use Rattle.bm_cli.specs.declared.status.Status.{Status}
 use Rattle.bm_cli.specs.declared.status.Status.TheVariants.{Done, Usage, ReadFault, BadCapture}
 use Rattle.bm_cli.specs.declared.status.Status.TheVariants.{BadScript, WriteFault, Memory, Limit}
-use Rattle.bm_cli.specs.Dues.{Answer, Due, Misused, Refused, Shown, answer_for, names_behind, status_of, text_of}
+use Rattle.bm_cli.specs.Dues.{Answer, Due, IsDue, Misused, Refused, Shown, answer_for, names_behind}
 use Rattle.bm_cli.specs.Ends.{Ends, EndsWith, IsSaid}
 use Rattle.bm_cli.specs.Lines.{fault_line}
 use Rattle.bm_cli.specs.Names.{AsksAll, AsksPrefix, script_names}
+use Rattle.bm_cli.specs.Program.{IsProgram, Program}
 use Rattle.bm_cli.specs.Reading.{Holds, Octets, Reading, Reads, with_capture}
 use Rattle.bm_cli.specs.Reading.{with_script}
 use Rattle.bm_cli.specs.Statuses.{code_of, FilesDid, SinkDid}
@@ -28,7 +29,7 @@ use Rattle.bm_cli.proofs.Statuses.{code_below, same_code, says_is}
 
 -- what is due, where that is said
 due_said : (answer : Answer) (says t : Status) (text : List ℕ) → t ≢ ReadFault → t ≢ Memory → says ≡ t →
-    IsSaid answer says text → (says ≡ status_of answer) × text_of answer text
+    IsSaid answer says text → IsDue answer says text
 due_said answer says t text read memory is (inl (inl due)) = due
 due_said answer says t text read memory is (inl (inr none)) = absurd (memory (sym is ∙ none.0))
 due_said answer says t text read memory is (inr line) = absurd (read (sym is ∙ line.0))
@@ -40,11 +41,12 @@ module _ (wanted : Due) (files : FilesDid) (sink : SinkDid) (s : Status) (ends :
 
   -- the status and the text are those that are due, where no read failed either
   pub dues : (t : Status) → t ≢ ReadFault → t ≢ WriteFault → t ≢ Memory → s ≡ t →
-      (s ≡ status_of wanted.answer) × text_of wanted.answer ends.text × Appends sink.before sink.now ends.text
+      IsDue wanted.answer t ends.text × Appends sink.before sink.now ends.text
   dues t read write memory is =
       let said = own t write memory is in
-      let is_due = due_said wanted.answer ends.says t ends.text read memory (sym said ∙ is) ends.said in
-      (said ∙ is_due.0, is_due.1, ends.writes.whole said)
+      let same = sym said ∙ is in
+      let is_due = due_said wanted.answer ends.says t ends.text read memory same ends.said in
+      (subst (λ says. IsDue wanted.answer says ends.text) same is_due, ends.writes.whole said)
 
   pub all_asked : (t : Status) → t ≢ ReadFault → t ≢ WriteFault → t ≢ Memory → s ≡ t →
       AsksAll files.before files.now wanted.names
@@ -57,21 +59,19 @@ module _ (wanted : Due) (files : FilesDid) (sink : SinkDid) (s : Status) (ends :
 
 -- SHOWN
 
-pub shown_answer : (answer : Answer) (before now : Option (List ℕ)) (text : List ℕ) → Done ≡ status_of answer →
-    text_of answer text → Appends before now text → ShowsAnswer answer before now
-shown_answer (Misused line) before now text e is written = absurd (cc)
-shown_answer (Refused fault) before now text e is written = absurd ((of_fault fault).done (sym e))
-shown_answer (Shown is) before now text e shown written =
-    record { octets = text; report = shown; written = written }
+pub shown_answer : (answer : Answer) (before now : Option (List ℕ)) (text : List ℕ) → IsDue answer Done text →
+    Appends before now text → ShowsAnswer answer before now
+shown_answer (Misused line) before now text is written = absurd (let no = is.0 in cc)
+shown_answer (Refused fault) before now text is written = absurd ((of_fault fault).done (sym is.0))
+shown_answer (Shown of) before now text is written =
+    record { octets = text; report = is.1; written = written }
 
 pub refused_answer : (answer : Answer) (s : Status) (before now : Option (List ℕ)) (text : List ℕ) → s ≢ Usage →
-    s ≢ Done →
-    s ≡ status_of answer → text_of answer text → Appends before now text →
-    RefusesAnswer answer (code_of s) before now
-refused_answer (Misused line) s before now text usage done e is written = absurd (usage e)
-refused_answer (Refused fault) s before now text usage done e is written =
-    (ap code_of e, subst (λ l. Appends before now l) is written)
-refused_answer (Shown of) s before now text usage done e is written = absurd (done e)
+    s ≢ Done → IsDue answer s text → Appends before now text → RefusesAnswer answer (code_of s) before now
+refused_answer (Misused line) s before now text usage done is written = absurd (usage is.0)
+refused_answer (Refused fault) s before now text usage done is written =
+    (ap code_of is.0, subst (λ l. Appends before now l) is.1 written)
+refused_answer (Shown of) s before now text usage done is written = absurd (done is.0)
 
 -- the line of a read that failed
 pub line_said : (answer : Answer) (says : Status) (text : List ℕ) → says ≡ ReadFault → IsSaid answer says text →
@@ -86,8 +86,8 @@ line_said answer says text e (inr line) = line.1
 pub some_said : (wanted : Due) (files : FilesDid) (sink : SinkDid) (s : Status)
     (ends : Ends wanted files sink s) → IsSaid wanted.answer ends.says ends.text →
     (ends.text ≡ []) ⊎ ((ends.text ≡ fault_line Files) × Rose files.faults files.later × (wanted.names ≢ []))
-    ⊎ text_of wanted.answer ends.text
-some_said wanted files sink s ends (inl (inl is)) = inr (inr is.1)
+    ⊎ ((says : Status) × IsDue wanted.answer says ends.text)
+some_said wanted files sink s ends (inl (inl is)) = inr (inr (ends.says, is))
 some_said wanted files sink s ends (inl (inr none)) = inl none.1
 some_said wanted files sink s ends (inr line) =
     inr (inl (line.1, ends.asks.rose line.0, ends.asks.opens line.0))
@@ -97,29 +97,29 @@ some_said wanted files sink s ends (inr line) =
 pub status_said : (wanted : Due) (s says : Status) (text : List ℕ) →
     (s ≡ says) ⊎ (s ≡ WriteFault) ⊎ (s ≡ Memory) → (says ≡ ReadFault → wanted.names ≢ []) →
     IsSaid wanted.answer says text → IsStatusOf wanted (code_of s)
-status_said wanted s says text (inl e) opens (inl (inl due)) = inl (ap code_of (e ∙ due.0))
+status_said wanted s says text (inl e) opens (inl (inl due)) = inl (says, text, due, ap code_of e)
 status_said wanted s says text (inl e) opens (inl (inr none)) = inr (inr (inr (ap code_of (e ∙ none.0))))
 status_said wanted s says text (inl e) opens (inr line) = inr (inl (ap code_of (e ∙ line.0), opens line.0))
 status_said wanted s says text (inr (inl e)) opens is = inr (inr (inl (ap code_of e)))
 status_said wanted s says text (inr (inr e)) opens is = inr (inr (inr (ap code_of e)))
 
 -- no usage line is due of a stage
-pub stage_usage : (is : Stage → List ℕ → Type 0) (r : Reading) → Usage ≢ status_of (answer_for is r)
-stage_usage is (Ok stage) = λ e. cc
-stage_usage is (Err fault) = λ e. (of_fault fault).usage (sym e)
+pub stage_usage : (is : Stage → List ℕ → Type 0) (r : Reading) (text : List ℕ) → IsDue (answer_for is r) Usage text → ⊥
+stage_usage is (Ok stage) text due = let no = due.0 in cc
+stage_usage is (Err fault) text due = (of_fault fault).usage (sym due.0)
 
 -- a bad script is due where the script's name alone is
 capture_names : (is : Stage → List ℕ → Type 0) (names : Named) (script : Script) (r : Captured) →
-    status_of (answer_for is (with_capture script r)) ≢ BadScript
-capture_names is names script (Ok read) = λ e. cc
-capture_names is names script (Err fault) = capture_no_script fault
+    (text : List ℕ) → IsDue (answer_for is (with_capture script r)) BadScript text → ⊥
+capture_names is names script (Ok read) text due = let no = due.0 in cc
+capture_names is names script (Err fault) text due = capture_no_script fault (sym due.0)
 
 pub stage_names : (is : Stage → List ℕ → Type 0) (names : Named) (reads : Reads) (r : Result Script StageFault) →
-    status_of (answer_for is (with_script r (reads.capture names.capture))) ≡ BadScript →
+    (text : List ℕ) → IsDue (answer_for is (with_script r (reads.capture names.capture))) BadScript text →
     names_behind names r ≡ script_names names.script
-stage_names is names reads (Ok script) e =
-    absurd (capture_names is names script (reads.capture names.capture script.setting.vips) e)
-stage_names is names reads (Err fault) e = refl
+stage_names is names reads (Ok script) text due =
+    absurd (capture_names is names script (reads.capture names.capture script.setting.vips) text due)
+stage_names is names reads (Err fault) text due = refl
 
 -- BY THE EXIT STATUS
 
@@ -152,7 +152,7 @@ module _ (due : Reads → Due) (told : Octets) (files : FilesDid) (sink : SinkDi
       (λ reads s is ends.
       let done = the s Done is e in
       let d = dues (due reads) files sink s ends Done (λ x. cc) (λ x. cc) (λ x. cc) done in
-      shown_answer (due reads).answer sink.before sink.now ends.text (sym done ∙ d.0) d.1 d.2)
+      shown_answer (due reads).answer sink.before sink.now ends.text d.0 d.1)
       all
 
   pub status : Ended → Holds told (λ reads. IsStatusOf (due reads) code)
@@ -166,13 +166,13 @@ module _ (due : Reads → Due) (told : Octets) (files : FilesDid) (sink : SinkDi
   known all = subst (λ n. n ≤ 7) (sym all.holds.is) (code_below all.holds.status)
 
   -- what follows where a usage line is due
-  pub usage : (Fact : Type 0) → ((reads : Reads) → Usage ≡ status_of (due reads).answer → Fact) → Ended →
-      code ≡ 1 → Fact
+  pub usage : (Fact : Type 0) → ((reads : Reads) (text : List ℕ) → IsDue (due reads).answer Usage text → Fact) →
+      Ended → code ≡ 1 → Fact
   usage Fact by all e =
       let usage = the all.holds.status Usage all.holds.is e in
       let d = dues (due all.reads) files sink all.holds.status all.holds.ends
       Usage (λ x. cc) (λ x. cc) (λ x. cc) usage in
-      by all.reads (sym usage ∙ d.0)
+      by all.reads all.holds.ends.text d.0
 
   read_by : (all : Ended) → code ≡ 2 → all.holds.ends.says ≡ ReadFault
   read_by all e =
@@ -200,13 +200,13 @@ module _ (due : Reads → Due) (told : Octets) (files : FilesDid) (sink : SinkDi
   pub kept : Ended → code ≢ 5 → sink.later ≡ sink.faults
   kept all not = all.holds.ends.writes.kept (λ e. not (all.holds.is ∙ ap code_of e))
 
-  pub usage_written : (line : List ℕ) → ((reads : Reads) (text : List ℕ) → Usage ≡ status_of (due reads).answer →
-      text_of (due reads).answer text → text ≡ line) → Ended → code ≡ 1 → Appends sink.before sink.now line
+  pub usage_written : (line : List ℕ) → ((reads : Reads) (text : List ℕ) → IsDue (due reads).answer Usage text →
+      text ≡ line) → Ended → code ≡ 1 → Appends sink.before sink.now line
   usage_written line by all e =
       let usage = the all.holds.status Usage all.holds.is e in
       let d = dues (due all.reads) files sink all.holds.status all.holds.ends
       Usage (λ x. cc) (λ x. cc) (λ x. cc) usage in
-      subst (λ l. Appends sink.before sink.now l) (by all.reads all.holds.ends.text (sym usage ∙ d.0) d.1) d.2
+      subst (λ l. Appends sink.before sink.now l) (by all.reads all.holds.ends.text d.0) d.1
 
   pub read_written : Ended → code ≡ 2 → Appends sink.before sink.now (fault_line Files)
   read_written all e =
@@ -224,8 +224,8 @@ module _ (due : Reads → Due) (told : Octets) (files : FilesDid) (sink : SinkDi
       (λ reads s is ends.
       let same = the s t is e in
       let d = dues (due reads) files sink s ends t read write memory same in
-      refused_answer (due reads).answer s sink.before sink.now ends.text
-      (λ x. usage (sym same ∙ x)) (λ x. done (sym same ∙ x)) d.0 d.1 d.2)
+      subst (λ says. RefusesAnswer (due reads).answer (code_of says) sink.before sink.now) (sym same)
+      (refused_answer (due reads).answer t sink.before sink.now ends.text usage done d.0 d.1))
       all
 
   pub line : Ended → (code ≡ 3) ⊎ (code ≡ 4) ⊎ (code ≡ 7) →
@@ -264,14 +264,14 @@ module _ (due : Reads → Due) (told : Octets) (files : FilesDid) (sink : SinkDi
 
   -- these names are due where a bad script is
   pub script : (names : List (List ℕ)) →
-      ((reads : Reads) → status_of (due reads).answer ≡ BadScript → (due reads).names ≡ names) → Ended →
-      code ≡ 4 → AsksAll files.before files.now names
+      ((reads : Reads) (text : List ℕ) → IsDue (due reads).answer BadScript text → (due reads).names ≡ names) →
+      Ended → code ≡ 4 → AsksAll files.before files.now names
   script names by all e =
       let bad = the all.holds.status BadScript all.holds.is e in
       let ends = all.holds.ends in
       let d = dues (due all.reads) files sink all.holds.status ends
       BadScript (λ x. cc) (λ x. cc) (λ x. cc) bad in
-      subst (λ l. AsksAll files.before files.now l) (by all.reads (sym d.0 ∙ bad))
+      subst (λ l. AsksAll files.before files.now l) (by all.reads ends.text d.0)
       (all_asked (due all.reads) files sink all.holds.status ends BadScript (λ x. cc) (λ x. cc) (λ x. cc) bad)
 
   pub complete : Ended → IsAccepted due told →
@@ -282,7 +282,47 @@ module _ (due : Reads → Due) (told : Octets) (files : FilesDid) (sink : SinkDi
     by is = case is.holds where
       case : IsStatusOf (due is.reads) code →
           (code ≡ 0) ⊎ (code ≡ 6) ⊎ Rose files.faults files.later ⊎ Rose sink.faults sink.later
-      case (inl done) = inl (done ∙ ap code_of (accepted is.reads is.known))
+      case (inl due) = inl (due.3 ∙ ap code_of (accepted is.reads is.known due.0 due.1 due.2))
       case (inr (inl e)) = inr (inr (inl (read all e.0)))
       case (inr (inr (inl e))) = inr (inr (inr (write all e)))
       case (inr (inr (inr e))) = inr (inl e)
+
+-- ALL CLAUSES
+
+-- what is due by the form of the words
+pub record ByForm {A : Type 0} (program : Program A) (form : Option A) : Type 0 where
+  -- the usage line is due for the words of no form alone
+  pub misused : (reads : Reads) (text : List ℕ) → IsDue (program.due form reads).answer Usage text → form ≡ None
+  pub usage : (reads : Reads) (text : List ℕ) → IsDue (program.due form reads).answer Usage text →
+      text ≡ program.usage
+  -- no file is named by the words of no form
+  pub named : (reads : Reads) → (program.due form reads).names ≢ [] → IsSome form
+  -- the script's name alone is due where a bad script is
+  pub script : (reads : Reads) (text : List ℕ) → IsDue (program.due form reads).answer BadScript text →
+      (program.due form reads).names ≡ program.scripts form
+
+pub is_program : {A : Type 0} (program : Program A) (form : Option A) (told : Octets) (files : FilesDid)
+    (sink : SinkDid) (s : Status) (code : ℕ) → ByForm program form → code ≡ code_of s →
+    Holds told (λ reads. Ends (program.due form reads) files sink s) → IsProgram program form told files sink code
+is_program program form told files sink s code by is holds =
+    let due = program.due form in
+    let all = ended due told files sink code s is holds in
+    record {
+      ends = all;
+      status = status due told files sink code all;
+      complete = complete due told files sink code all;
+      known = known due told files sink code all;
+      misused = usage due told files sink code (form ≡ None) by.misused all;
+      named = named due told files sink code (IsSome form) by.named all;
+      read = read due told files sink code all;
+      unfailed = files_kept due told files sink code all;
+      write = write due told files sink code all;
+      kept = kept due told files sink code all;
+      usage_line = usage_written due told files sink code program.usage by.usage all;
+      read_line = read_written due told files sink code all;
+      line = line due told files sink code all;
+      part = part due told files sink code all;
+      asked = asked due told files sink code all;
+      all = asked_all due told files sink code all;
+      script = script due told files sink code (program.scripts form) by.script all;
+    }

@@ -6,7 +6,7 @@ use Rattle.std.proofs.lemmas.Bool.Decides.{nat_tests}
 use Rattle.std.proofs.lemmas.List.{length-take, take_min}
 use Rattle.std.proofs.Math.Seq.{take-length}
 use Rattle.bm_script.specs.declared.fault.ScriptFault.{ScriptFault}
-use Rattle.bm_script.specs.declared.fault.ScriptFault.TheVariants.{NotToml, Missing, BadValue, Unknown, Refused}
+use Rattle.bm_script.specs.declared.fault.ScriptFault.TheVariants.{NotToml, Missing, BadValue, Unknown, Refused, Rack}
 use Rattle.bm_script.specs.declared.fault.ScriptFault.TheVariants.{Memory as ScriptMemory}
 use Rattle.bm_script.specs.Faults.{Gives}
 use Rattle.bm_script.specs.Scripts.{script_of}
@@ -70,6 +70,8 @@ script_fault octets text (Unknown place name) front few gives =
     fault_is octets text (Unknown place name) front few (gives (λ e. cc))
 script_fault octets text (Refused n refusal) front few gives =
     fault_is octets text (Refused n refusal) front few (gives (λ e. cc))
+script_fault octets text (Rack n refusal) front few gives =
+    fault_is octets text (Rack n refusal) front few (gives (λ e. cc))
 script_fault octets text ScriptMemory front few gives = inl (inr refl)
 
 -- THE FILE

@@ -10,7 +10,7 @@ use Rattle.bm_trace.proofs.Parted.{behind_events, some_behind}
 use Rattle.bm_cli.specs.declared.mode.Mode.{Mode}
 use Rattle.bm_cli.specs.declared.status.Status.{Status}
 use Rattle.bm_cli.specs.declared.status.Status.TheVariants.{Done, Memory}
-use Rattle.bm_cli.specs.Dues.{Answer, Shown, status_of, text_of}
+use Rattle.bm_cli.specs.Dues.{Answer, IsDue, Shown}
 use Rattle.bm_cli.specs.Headline.{IsMadeBy, IsReportOf}
 use Rattle.bm_cli.specs.Telling.{Tells}
 use Rattle.bm_cli.specs.Statuses.{Did, Writes, SinkDid}
@@ -21,14 +21,10 @@ use Rattle.bm_cli.proofs.Wider.{is_run}
 abbrev pub untouched : {A : Type 0} → Option A → ℕ → Did A
 untouched before faults = record { before = before; now = before; faults = faults; later = faults }
 
-pub tells_due : (answer : Answer) (text : List ℕ) (sink : SinkDid) (result : Status) →
-    text_of answer text → Writes (status_of answer) text sink result → Tells answer sink result
-tells_due answer text sink result is writes = record {
-  says = status_of answer;
-  text = text;
-  is = inl (refl, is);
-  writes = writes;
-}
+pub tells_due : (answer : Answer) (says : Status) (text : List ℕ) (sink : SinkDid) (result : Status) →
+    IsDue answer says text → Writes says text sink result → Tells answer sink result
+tells_due answer says text sink result is writes =
+    record { says = says; text = text; is = inl is; writes = writes }
 
 some_text : (h : History) → 0 < length (text h)
 some_text h =
@@ -61,7 +57,7 @@ pub tells_report : (mode : Mode) (stage : Stage) (h : History) (sink : SinkDid) 
     h.stage ≡ stage → IsMadeBy mode stage h → Writes Done (text h) sink result →
     Tells (Shown (IsReportOf mode stage)) sink result
 tells_report mode stage h sink result about made writes =
-    tells_due (Shown (IsReportOf mode stage)) (text h) sink result (report_of mode stage h about made) writes
+    tells_due (Shown (IsReportOf mode stage)) Done (text h) sink result (refl, report_of mode stage h about made) writes
 
 pub writes_nothing : (before : Option (List ℕ)) (faults : ℕ) → Writes Memory [] (untouched before faults) Memory
 writes_nothing before faults = record {

@@ -27,17 +27,11 @@ pub record Due : Type 1 where
   pub names : List (List ℕ)
   pub answer : Answer
 
--- the status that is due
-abbrev pub status_of : Answer → Status
-status_of (Misused line) = Usage
-status_of (Refused fault) = fault_status fault
-status_of (Shown is) = Done
-
--- what the text that is due must be
-abbrev pub text_of : Answer → List ℕ → Type 0
-text_of (Misused line) text = text ≡ line
-text_of (Refused fault) text = text ≡ fault_line fault
-text_of (Shown is) text = is text
+-- the status and the text that are due
+abbrev pub IsDue : Answer → Status → List ℕ → Type 0
+IsDue (Misused line) says text = (says ≡ Usage) × (text ≡ line)
+IsDue (Refused fault) says text = (says ≡ fault_status fault) × (text ≡ fault_line fault)
+IsDue (Shown is) says text = (says ≡ Done) × is text
 
 -- A STAGE AND WHAT IS SHOWN OF IT
 

@@ -4,15 +4,14 @@ use Rattle.bm_io.specs.Causes.{Rose}
 use Rattle.bm_cli.specs.declared.fault.StageFault.TheVariants.{Files}
 use Rattle.bm_cli.specs.declared.status.Status.{Status}
 use Rattle.bm_cli.specs.declared.status.Status.TheVariants.{ReadFault, Memory}
-use Rattle.bm_cli.specs.Dues.{Answer, Due, status_of, text_of}
+use Rattle.bm_cli.specs.Dues.{Answer, Due, IsDue}
 use Rattle.bm_cli.specs.Lines.{fault_line}
 use Rattle.bm_cli.specs.Names.{AsksAll, AsksPrefix}
 use Rattle.bm_cli.specs.Statuses.{Writes, code_of, FilesDid, SinkDid}
 
--- the answer's status and a text of it; or nothing, because memory was refused
+-- the status and the text that are due; or nothing, because memory was refused
 abbrev pub IsOf : Answer → Status → List ℕ → Type 0
-IsOf answer says text =
-    ((says ≡ status_of answer) × text_of answer text) ⊎ ((says ≡ Memory) × (text ≡ []))
+IsOf answer says text = IsDue answer says text ⊎ ((says ≡ Memory) × (text ≡ []))
 
 -- the same, or the line of a read that failed
 abbrev pub IsSaid : Answer → Status → List ℕ → Type 0

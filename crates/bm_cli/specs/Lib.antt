@@ -1,4 +1,6 @@
 pub mod Top
+pub mod Program
+pub mod Beamer
 pub mod Dues
 pub mod Headline
 pub mod Loads

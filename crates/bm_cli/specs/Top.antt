@@ -4,8 +4,9 @@ use Rattle.std.specs.Io.KnownBytes.{Appends}
 use Rattle.bm_io.specs.Causes.{Rose}
 use Rattle.bm_words.specs.Form.{Asked, Load, Replay, Run, Streams}
 use Rattle.bm_cli.specs.declared.fault.StageFault.TheVariants.{Files}
+use Rattle.bm_cli.specs.declared.status.Status.{Status}
 use Rattle.bm_cli.specs.declared.status.Status.TheVariants.{Done}
-use Rattle.bm_cli.specs.Dues.{Answer, Misused, Refused, Shown, Due, status_of, text_of}
+use Rattle.bm_cli.specs.Dues.{Answer, Misused, Refused, Shown, Due, IsDue}
 use Rattle.bm_cli.specs.Headline.{Shows}
 use Rattle.bm_cli.specs.Lines.{fault_line, fault_status}
 use Rattle.bm_cli.specs.Names.{script_names}
@@ -25,12 +26,15 @@ RefusesAnswer (Refused fault) code before now =
     (code ≡ code_of (fault_status fault)) × Appends before now (fault_line fault)
 RefusesAnswer (Shown is) code before now = ⊥
 
--- the exit status is the one that is due, unless the files (if one is asked for) or the sink
--- failed, or memory was refused
+-- the exit status is one that is due
+abbrev pub IsCodeOf : Answer → ℕ → Type 0
+IsCodeOf answer code =
+    (says : Status) × (text : List ℕ) × IsDue answer says text × (code ≡ code_of says)
+
+-- the same, unless the files (if one is asked for) or the sink failed, or memory was refused
 abbrev pub IsStatusOf : Due → ℕ → Type 0
 IsStatusOf due code =
-    (code ≡ code_of (status_of due.answer)) ⊎ ((code ≡ 2) × (due.names ≢ [])) ⊎ (code ≡ 5)
-    ⊎ (code ≡ 6)
+    IsCodeOf due.answer code ⊎ ((code ≡ 2) × (due.names ≢ [])) ⊎ (code ≡ 5) ⊎ (code ≡ 6)
 
 -- whatever is read, no file is asked for
 abbrev pub AsksNone : (Reads → Due) → Type 0
@@ -39,7 +43,9 @@ AsksNone due = (reads : Reads) → (due reads).names ≡ []
 -- for whatever may be read, or what the files' octets give if these are known, the text that is due
 -- isn't the line of a fault or of misuse
 abbrev pub IsAccepted : (Reads → Due) → Octets → Type 0
-IsAccepted due told = (reads : Reads) → Known told reads → status_of (due reads).answer ≡ Done
+IsAccepted due told =
+    (reads : Reads) → Known told reads → (says : Status) (text : List ℕ)
+    → IsDue (due reads).answer says text → says ≡ Done
 
 -- nothing was written, or only a first part of the text that is due, or of the line of a read that
 -- failed
@@ -48,7 +54,7 @@ pub record WritesSome (due : Due) (files : FilesDid) (sink : SinkDid) : Type 0 w
   pub is :
       (text ≡ []) ⊎
       ((text ≡ fault_line Files) × Rose files.faults files.later × (due.names ≢ [])) ⊎
-      text_of due.answer text
+      ((says : Status) × IsDue due.answer says text)
   pub less : WritesLess sink text
 
 -- just the script's name, if the words have one

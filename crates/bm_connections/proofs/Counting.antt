@@ -17,7 +17,7 @@ use Rattle.bm_core.specs.Past.{is_accept}
 use Rattle.bm_table.specs.Tables.{same_server}
 use Rattle.bm_table.proofs.Tables.{same_server-true}
 use Rattle.bm_trace.specs.CauseOf.{cause_of}
-use Rattle.bm_trace.proofs.Newest.{reverse_take}
+use Rattle.bm_state.proofs.Newest.{reverse_take}
 use Rattle.bm_connections.specs.declared.connection.Break.{Break}
 use Rattle.bm_connections.specs.declared.servers.Served.{Served}
 use Rattle.bm_connections.specs.Connections.{as_break, one_more}

@@ -22,7 +22,7 @@ use Rattle.bm_core.specs.Books.{AreDistinct, is_listed}
 use Rattle.bm_core.specs.Past.{flows_after, flows_arrived, flows_held, is_done, segment_of, shard, without}
 use Rattle.bm_core.proofs.Listed.{flows_are_distinct}
 use Rattle.bm_table.specs.Tables.{same_server}
-use Rattle.bm_trace.proofs.Newest.{reverse_take}
+use Rattle.bm_state.proofs.Newest.{reverse_take}
 use Rattle.bm_connections.specs.declared.held.HeldFlows.{HeldFlows}
 use Rattle.bm_connections.specs.declared.held.ShardKey.{ShardKey}
 use Rattle.bm_connections.specs.declared.held.FlowChange.{FlowChange}

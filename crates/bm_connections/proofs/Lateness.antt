@@ -24,7 +24,7 @@ use Rattle.bm_core.specs.declared.events.What.TheVariants.{Publish, Switch, Stee
 use Rattle.bm_core.specs.Causes.{cause, cause_at, first_broken, is_late}
 use Rattle.bm_core.specs.Past.{Accepted, label_of, owner, segment_of}
 use Rattle.bm_trace.specs.CauseOf.{cause_of}
-use Rattle.bm_trace.proofs.Newest.{reverse_take}
+use Rattle.bm_state.proofs.Newest.{reverse_take}
 use Rattle.bm_connections.specs.Connections.{one_more}
 use Rattle.bm_connections.specs.Counts.{is_cause, packets_by}
 use Rattle.bm_connections.specs.Late.{came_late, comes_late, has_late_label, is_one_late, longer, longest_wait}

@@ -11,7 +11,7 @@ use Rattle.bm_core.specs.Causes.{cause}
 use Rattle.bm_core.specs.Runs.{IsRun, past_at}
 use Rattle.bm_trace.specs.CauseOf.{cause_after, cause_of, is_fault, is_fault_after}
 use Rattle.bm_trace.proofs.Caused.{cause_there}
-use Rattle.bm_trace.proofs.Newest.{reverse_take}
+use Rattle.bm_state.proofs.Newest.{reverse_take}
 use Rattle.bm_connections.specs.declared.rows.Rows.{Rows}
 use Rattle.bm_connections.specs.declared.seen.Seen.{Seen}
 use Rattle.bm_connections.specs.Inside.Rows.{AreRows, IsSeen}

@@ -8,7 +8,7 @@ use Rattle.bm_core.specs.declared.events.Event.{Event}
 use Rattle.bm_core.specs.declared.events.History.{History}
 use Rattle.bm_core.specs.declared.events.Stage.{Stage}
 use Rattle.bm_core.specs.Runs.{past_at}
-use Rattle.bm_trace.proofs.Newest.{reverse_take}
+use Rattle.bm_state.proofs.Newest.{reverse_take}
 use Rattle.bm_connections.specs.declared.stamps.Stamps.{Stamps}
 use Rattle.bm_connections.specs.Inside.Stamps.{AreFirstWaits, AreWaits, KnowsStamps, wait_in}
 use Rattle.bm_connections.specs.Waits.{wait_of}
@@ -67,13 +67,3 @@ pub wait_here : (h : History) (shown : List Event) (place : ℕ) (d : Event) (wa
 wait_here h shown place d waits found same below all is =
     let below' : place < length h.events = rw same at below
     in rw same (is ∙ all.each place below' ∙ here h place d below')
-
--- STAMPS
-
--- the default stands where nothing is kept
-pub zero_push : {X : Type 0} (xs : List X) (none : X) (q : ℕ)
-    → slice_index_or (xs ++ none ∷ []) q none ≡ slice_index_or xs q none
-zero_push [] none zero = refl
-zero_push [] none (suc q) = refl
-zero_push (x ∷ xs) none zero = refl
-zero_push (x ∷ xs) none (suc q) = zero_push xs none q

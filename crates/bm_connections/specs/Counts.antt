@@ -21,6 +21,7 @@ use Rattle.bm_connections.specs.declared.connection.Break.{Break}
 use Rattle.bm_connections.specs.declared.counts.CauseCount.{CauseCount}
 use Rattle.bm_connections.specs.declared.servers.ServerCount.{ServerCount}
 use Rattle.bm_connections.specs.Connections.{connections, one_more}
+use Rattle.bm_connections.specs.Text.{shown_rack}
 
 -- SERVERS
 
@@ -46,11 +47,12 @@ abbrev pub most_among : Stage → List Event → ServerId → ℕ → ℕ
 most_among stage past s zero = 0
 most_among stage past s (suc h) = max (most_in_shard stage past s h) (most_among stage past s h)
 
--- how many arrivals a server accepted, how many it processed, the most connections that one of its
--- shards held at once, and how many a shard can hold
+-- the rack of a server, if there is more than one, how many arrivals it accepted, how many it
+-- processed, the most connections that one of its shards held at once, and how many a shard can hold
 abbrev pub server_count : Stage → List Event → ServerId → ServerCount
 server_count stage past s = record {
   server = s;
+  rack = shown_rack stage.script.setting.racks (Some s);
   accepted = arrivals_at s is_accept past;
   processed = arrivals_at s is_process past;
   most_held = most_among stage past s stage.script.setting.shards;

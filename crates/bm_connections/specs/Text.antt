@@ -1,6 +1,7 @@
 -- The text of a table of connections: a line for each, in words like those of the report
 -- (docs/FORMATS.md). A clock is when record 1 was captured, if moments are written in UTC.
-use Rattle.std.specs.Prelude.{ℕ, List, [], ◌∷◌, ◌++◌, Option, Some, None, codes, decimal, flat_map}
+use Rattle.std.specs.Prelude.{ℕ, nat_lt, if◌then◌else◌, List, [], ◌∷◌, ◌++◌, Option, Some, None}
+use Rattle.std.specs.Prelude.{codes, decimal, flat_map}
 use Rattle.bm_base.specs.declared.ids.ServerId.{ServerId}
 use Rattle.bm_trace.specs.Words.{because_words, cause_word, endpoint, line, spaced}
 use Rattle.bm_trace.specs.Words.{verdict_words}
@@ -13,11 +14,21 @@ use Rattle.bm_connections.specs.declared.counts.CauseCount.{CauseCount}
 use Rattle.bm_connections.specs.declared.late.LongestLate.{LongestLate}
 use Rattle.bm_connections.specs.declared.servers.ServerCount.{ServerCount}
 use Rattle.bm_connections.specs.Times.{seconds_text, time_text}
+use Rattle.bm_table.specs.Settings.{rack_of}
 
 -- a server's number, or `none`
 abbrev pub server_word : Option ServerId → List ℕ
 server_word None = codes "none"
 server_word (Some server) = decimal server.0
+
+-- the rack of a server, if there is more than one rack
+abbrev pub shown_rack : ℕ → Option ServerId → Option ℕ
+shown_rack racks None = None
+shown_rack racks (Some server) = if nat_lt 1 racks then Some (rack_of racks server) else None
+
+abbrev pub rack_text : Option ℕ → List ℕ
+rack_text None = []
+rack_text (Some rack) = spaced (codes "rack" ∷ decimal rack ∷ [])
 
 -- the number of a record and its moment
 abbrev pub sight_words : Option ℕ → Sight → List (List ℕ)
@@ -66,30 +77,37 @@ seen_text clock c =
     ++ spaced (codes "opened" ∷ sight_words clock c.first)
     ++ spaced (codes "last" ∷ sight_words clock c.last)
 
--- the server that accepted it last and how often it was accepted, what became of its packets, which
--- was forwarded last, and what broke or refused it first
+-- the server that accepted it last, with its rack
+abbrev pub accepted_text : ℕ → Connection → List ℕ
+accepted_text racks c =
+    spaced (codes "accepted" ∷ server_word c.server ∷ []) ++ rack_text (shown_rack racks c.server)
+
+-- how often it was accepted, what became of its packets, which was forwarded last, and what broke or
+-- refused it first
 abbrev pub outcome_text : Option ℕ → Connection → List ℕ
 outcome_text clock c =
-    spaced (codes "accepted" ∷ server_word c.server ∷ [])
-    ++ spaced (codes "times" ∷ decimal c.tally.accepted ∷ [])
+    spaced (codes "times" ∷ decimal c.tally.accepted ∷ [])
     ++ spaced (tally_words c.tally)
     ++ forwarded_text clock c.forwarded
     ++ end_text clock c.broken c.refused c.server
     ++ 10 ∷ []
 
 -- the line of a connection
-abbrev pub connection_line : Option ℕ → Connection → List ℕ
-connection_line clock c = seen_text clock c ++ outcome_text clock c
+abbrev pub connection_line : Option ℕ → ℕ → Connection → List ℕ
+connection_line clock racks c =
+    seen_text clock c ++ accepted_text racks c ++ outcome_text clock c
 
 -- a line for each
-abbrev pub table_text : Option ℕ → List Connection → List ℕ
-table_text clock cs = flat_map (connection_line clock) cs
+abbrev pub table_text : Option ℕ → ℕ → List Connection → List ℕ
+table_text clock racks cs = flat_map (connection_line clock racks) cs
 
--- how many arrivals a server accepted, and how many it processed
+-- a server with its rack, how many arrivals it accepted, and how many it processed
 abbrev pub served_text : ServerCount → List ℕ
 served_text c =
     codes "server"
-    ++ spaced (decimal c.server.0 ∷ codes "accepted" ∷ decimal c.accepted ∷ [])
+    ++ spaced (decimal c.server.0 ∷ [])
+    ++ rack_text c.rack
+    ++ spaced (codes "accepted" ∷ decimal c.accepted ∷ [])
     ++ spaced (codes "processed" ∷ decimal c.processed ∷ [])
 
 -- the most that one of a server's shards held at once, and how many it can hold

@@ -23,5 +23,5 @@ pub use late::{LongestLate, longest_late};
 pub use servers::{ServerCount, server_counts};
 pub use summary::{causes_text, late_text, servers_text};
 pub use table::connections;
-pub use text::table_text;
+pub use text::{RackWords, shown_rack, table_text};
 pub use times::{Clock, SecondsText, TimeText};

@@ -11,16 +11,19 @@ ghost use Rattle.bm_connections.specs.Inside.Loads as kept;
 
 use crate::held::{HeldByShards, held_by_shards};
 use crate::noted::{as_break, is_accept, is_process, one_more};
+use crate::text::shown_rack;
 use bm_base::{List, Memory, ServerId};
 use bm_core::{Event, History, Stage, Verdict};
 use std::alloc::{AllocError, Global};
 use std::collections::BTreeMap;
 
-/// How many arrivals a server accepted, how many it processed, the most connections that one of its
-/// shards held at once, and how many connections a shard can hold.
+/// The rack of a server, if there is more than one, how many arrivals it accepted, how many it
+/// processed, the most connections that one of its shards held at once, and how many connections a
+/// shard can hold.
 #[derive(Clone, Copy, PartialEq, Eq)]
 pub struct ServerCount {
     pub server: ServerId,
+    pub rack: Option<u16>,
     pub accepted: u64,
     pub processed: u64,
     pub most_held: u64,
@@ -131,6 +134,7 @@ fn server_count(
     let served = loads.get(server);
     ServerCount {
         server,
+        rack: shown_rack(setting.racks, Some(server)),
         accepted: served.accepted,
         processed: served.processed,
         most_held: held.most_among(stage, events, server, setting.shards),

@@ -5,22 +5,24 @@ ghost use Rattle.bm_connections.specs.Text as spec;
 use crate::counts::CauseCount;
 use crate::late::LongestLate;
 use crate::servers::ServerCount;
+use crate::text::RackWords;
 use crate::times::SecondsText;
 use bm_base::{Memory, Text};
 use bm_trace::cause_word;
 use std::alloc::{AllocError, Global};
 
-/// How many arrivals a server accepted, and how many it processed.
+/// A server with its rack, how many arrivals it accepted, and how many it processed.
 fn write_served(text: &mut String, c: &ServerCount) -> Result<(), AllocError>
     ensures { OnOk result
         (string_bytes text.new ≡ string_bytes text.old ++ spec.served_text c.now) }
 {
     let server = c.server.0;
+    let rack = RackWords(c.rack);
     let accepted = c.accepted;
     let processed = c.processed;
     write!(
         text,
-        "server {server} accepted {accepted} processed {processed}"
+        "server {server}{rack} accepted {accepted} processed {processed}"
     )
 }
 

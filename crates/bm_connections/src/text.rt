@@ -6,6 +6,7 @@ ghost use Rattle.bm_connections.specs.Text as spec;
 use crate::connection::{Break, Connection, Forwarding, Sight, Tally};
 use crate::times::{Clock, SecondsText, TimeText};
 use bm_base::{Memory, ServerId, Text};
+use bm_table::rack_of;
 use bm_trace::{BecauseWords, Endpoint, VerdictWords};
 use std::alloc::{AllocError, Global};
 use std::fmt;
@@ -21,6 +22,31 @@ impl fmt::Display for ServerWord {
         match self.0 {
             None => write!(f, "none"),
             Some(server) => write!(f, "{}", server.0),
+        }
+    }
+}
+
+/// The rack of a server, if there is more than one of them.
+pub fn shown_rack(racks: u16, server: Option<ServerId>) -> Option<u16>
+    ensures { result ≡ spec.shown_rack racks server }
+{
+    match server {
+        Some(server) if racks > 1 => Some(rack_of(racks, server)),
+        _ => None,
+    }
+}
+
+/// A rack, each word after a space, or nothing.
+#[derive(Clone, Copy)]
+pub struct RackWords(pub Option<u16>);
+
+impl fmt::Display for RackWords {
+    ghost output = { λ r. Some (spec.rack_text r.0) };
+
+    fn fmt<W: fmt::Write>(&self, f: &mut fmt::Formatter<W>) -> fmt::Result {
+        match self.0 {
+            None => Ok(()),
+            Some(rack) => write!(f, " rack {rack}"),
         }
     }
 }
@@ -152,12 +178,21 @@ fn write_seen(text: &mut String, clock: Clock, c: &Connection) -> Result<(), All
     )
 }
 
+/// The server that accepted a connection last, with its rack.
+fn write_accepted(text: &mut String, racks: u16, c: &Connection) -> Result<(), AllocError>
+    ensures { OnOk result
+        (string_bytes text.new ≡ string_bytes text.old ++ spec.accepted_text racks c.now) }
+{
+    let server = ServerWord(c.server);
+    let rack = RackWords(shown_rack(racks, c.server));
+    write!(text, " accepted {server}{rack}")
+}
+
 /// What became of a connection's packets.
 fn write_outcome(text: &mut String, clock: Clock, c: &Connection) -> Result<(), AllocError>
     ensures { OnOk result
         (string_bytes text.new ≡ string_bytes text.old ++ spec.outcome_text clock.0 c.now) }
 {
-    let server = ServerWord(c.server);
     let times = c.tally.accepted;
     let tally = TallyWords(c.tally);
     let forwarded = ForwardedWords(clock, c.forwarded);
@@ -167,17 +202,20 @@ fn write_outcome(text: &mut String, clock: Clock, c: &Connection) -> Result<(), 
         refused: c.refused,
         server: c.server,
     };
-    writeln!(
-        text,
-        " accepted {server} times {times}{tally}{forwarded}{end}"
-    )
+    writeln!(text, " times {times}{tally}{forwarded}{end}")
 }
 
-fn write_connection(text: &mut String, clock: Clock, c: &Connection) -> Result<(), AllocError>
+fn write_connection(
+    text: &mut String,
+    clock: Clock,
+    racks: u16,
+    c: &Connection,
+) -> Result<(), AllocError>
     ensures { OnOk result
-        (string_bytes text.new ≡ string_bytes text.old ++ spec.connection_line clock.0 c.now) }
+        (string_bytes text.new ≡ string_bytes text.old ++ spec.connection_line clock.0 racks c.now) }
 {
     write_seen(text, clock, c)?;
+    write_accepted(text, racks, c)?;
     write_outcome(text, clock, c)?;
     Ok(())
 }
@@ -185,23 +223,29 @@ fn write_connection(text: &mut String, clock: Clock, c: &Connection) -> Result<(
 fn write_connections(
     text: &mut String,
     clock: Clock,
+    racks: u16,
     connections: &[Connection],
 ) -> Result<(), AllocError>
     ensures { OnOk result (string_bytes text.new
-        ≡ string_bytes text.old ++ spec.table_text clock.0 connections.now) }
+        ≡ string_bytes text.old ++ spec.table_text clock.0 racks connections.now) }
 {
     for connection in connections {
-        write_connection(text, clock, connection)?;
+        write_connection(text, clock, racks, connection)?;
     }
     Ok(())
 }
 
 /// The table as text: a line for each connection. Moments are written by the clock, and waits in
-/// seconds.
-pub fn table_text(alloc: Global, clock: Clock, connections: &[Connection]) -> Result<Text, Memory>
-    ensures { IfOk result (λ text. text ≡ spec.table_text clock.0 connections.now) }
+/// seconds; of several `racks` that of the server that accepted it last is named.
+pub fn table_text(
+    alloc: Global,
+    clock: Clock,
+    racks: u16,
+    connections: &[Connection],
+) -> Result<Text, Memory>
+    ensures { IfOk result (λ text. text ≡ spec.table_text clock.0 racks connections.now) }
 {
     let mut text = String::new(alloc);
-    write_connections(&mut text, clock, connections)?;
+    write_connections(&mut text, clock, racks, connections)?;
     Ok(Text::of(text))
 }

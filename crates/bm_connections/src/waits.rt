@@ -23,12 +23,12 @@ pub(crate) fn waits_of(alloc: Global, h: &History) -> Result<Vec<u64>, Memory>
     ensures { IfOk result (λ waits. AreWaits h.now waits.items) }
 {
     let events = h.events.items();
-    let mut stamps = Stamps::new(alloc);
+    let mut stamps = Stamps::new(alloc, &h.stage)?;
     let mut waits = Vec::new(alloc);
     for (place, event) in events.iter().enumerate() {
         let before = &events[..place];
         waits.push(stamps.wait(&h.stage, before, event))?;
-        stamps.note(alloc, &h.stage, before, event)?;
+        stamps.note(&h.stage, before, event)?;
     }
     Ok(waits)
 }

@@ -9,7 +9,7 @@ use Rattle.bm_core.proofs.Determined.{replay_law}
 use Rattle.bm_cli.specs.declared.fault.StageFault.{StageFault}
 use Rattle.bm_cli.specs.declared.mode.Mode.TheVariants.{Replay}
 use Rattle.bm_cli.specs.declared.status.Status.{Status}
-use Rattle.bm_cli.specs.declared.status.Status.TheVariants.{Done}
+use Rattle.bm_cli.specs.declared.status.Status.TheVariants.{Done, ReadFault, Usage}
 use Rattle.bm_cli.specs.Dues.{Misused, Shown, answer_for}
 use Rattle.bm_cli.specs.Ends.{Ends}
 use Rattle.bm_cli.specs.Headline.{IsMadeBy}
@@ -51,8 +51,8 @@ pub tells_table : (format : Format) (clock due : Option ℕ) (h : History) (sink
     clock ≡ due → IsMadeBy Replay h.stage h → Writes Done (text format clock h) sink result →
     Tells (answer_for (IsTableOf format due) (Ok h.stage)) sink result
 tells_table format clock due h sink result same made writes =
-    tells_due (Shown (IsTableOf format due h.stage)) (text format due h) sink result
-    (table_of format due h.stage h (refl, made))
+    tells_due (Shown (IsTableOf format due h.stage)) Done (text format due h) sink result
+    (refl, table_of format due h.stage h (refl, made))
     (subst (λ c. Writes Done (text format c h) sink result) same writes)
 
 -- THE FORM
@@ -105,4 +105,5 @@ pub usage_ends : (words : Option Asked) (told : Octets) (asked : Option (List (L
     Holds told (λ reads. Ends (due words reads) (untouched asked fails) sink result)
 usage_ends words told asked fails sink result none tells =
     words_end None words told (untouched asked fails) sink result none
-    (unread_ends (Misused usage_line) told asked fails sink result (λ e. cc) tells)
+    (unread_ends (Misused usage_line) told asked fails sink result
+    (λ says text is e. let no : ReadFault ≡ Usage = sym e ∙ is.0 in cc) tells)

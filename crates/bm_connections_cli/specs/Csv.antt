@@ -12,12 +12,18 @@ use Rattle.bm_connections.specs.declared.connection.Connection.{Connection}
 use Rattle.bm_connections.specs.declared.connection.Forwarding.{Forwarding}
 use Rattle.bm_connections.specs.declared.connection.Sight.{Sight}
 use Rattle.bm_connections.specs.declared.connection.Tally.{Tally}
+use Rattle.bm_connections.specs.Text.{shown_rack}
 use Rattle.bm_connections.specs.Times.{seconds_text, time_text}
 
 -- a server's number, or nothing
 abbrev pub server_field : Option ServerId → List ℕ
 server_field None = []
 server_field (Some server) = decimal server.0
+
+-- a rack, or nothing
+abbrev pub rack_field : Option ℕ → List ℕ
+rack_field None = []
+rack_field (Some rack) = decimal rack
 
 -- the kind of a verdict
 abbrev pub verdict_field : Verdict → List ℕ
@@ -66,7 +72,7 @@ header =
     ∷ codes "broken" ∷ codes "broken_at" ∷ codes "broken_by" ∷ codes "verdict" ∷ codes "cause"
     ∷ codes "forward" ∷ codes "forward_at" ∷ codes "forward_by" ∷ codes "forward_wait"
     ∷ codes "refused" ∷ codes "refused_at" ∷ codes "refused_by" ∷ codes "refused_verdict"
-    ∷ codes "refused_cause" ∷ []
+    ∷ codes "refused_cause" ∷ codes "rack" ∷ []
 
 -- the flow, where it was first and last seen, and the server that accepted it last
 abbrev pub seen_fields : Option ℕ → Connection → List (List ℕ)
@@ -76,23 +82,24 @@ seen_fields clock c =
     ++ sight_fields clock c.last
     ++ server_field c.server ∷ []
 
--- the fields of a connection
-abbrev pub connection_fields : Option ℕ → Connection → List (List ℕ)
-connection_fields clock c =
+-- the fields of a connection; the last is the rack of the server that accepted it last
+abbrev pub connection_fields : Option ℕ → ℕ → Connection → List (List ℕ)
+connection_fields clock racks c =
     seen_fields clock c
     ++ tally_fields c.tally
     ++ fault_fields clock c.broken
     ++ forwarded_fields clock c.forwarded
     ++ fault_fields clock c.refused
+    ++ rack_field (shown_rack racks c.server) ∷ []
 
 -- the record of these fields, as the kit's CSV writer writes it
 abbrev pub csv_line : List (List ℕ) → List ℕ
 csv_line fields = row_text default_writer fields
 
 -- the record of a connection
-abbrev pub connection_record : Option ℕ → Connection → List ℕ
-connection_record clock c = csv_line (connection_fields clock c)
+abbrev pub connection_record : Option ℕ → ℕ → Connection → List ℕ
+connection_record clock racks c = csv_line (connection_fields clock racks c)
 
 -- the names of the fields, and a record for each connection
-abbrev pub table_csv : Option ℕ → List Connection → List ℕ
-table_csv clock cs = csv_line header ++ flat_map (connection_record clock) cs
+abbrev pub table_csv : Option ℕ → ℕ → List Connection → List ℕ
+table_csv clock racks cs = csv_line header ++ flat_map (connection_record clock racks) cs

@@ -11,6 +11,7 @@ use Rattle.bm_connections.specs.declared.connection.Connection.{Connection}
 use Rattle.bm_connections.specs.declared.connection.Forwarding.{Forwarding}
 use Rattle.bm_connections.specs.declared.connection.Sight.{Sight}
 use Rattle.bm_connections.specs.declared.connection.Tally.{Tally}
+use Rattle.bm_connections.specs.Text.{shown_rack}
 use Rattle.bm_connections.specs.Times.{told}
 use Rattle.bm_connections_cli.specs.Csv.{verdict_field}
 
@@ -29,6 +30,11 @@ sight_value clock s =
 abbrev pub server_value : Option ServerId → Data
 server_value None = null
 server_value (Some server) = count server.0
+
+-- a rack, or null
+abbrev pub rack_value : Option ℕ → Data
+rack_value None = null
+rack_value (Some rack) = count rack
 
 -- a cause's word, or null
 abbrev pub cause_value : Option Cause → Data
@@ -69,8 +75,8 @@ tally_value t =
     (member (codes "stray") (count t.stray)
     no_members))))))
 
-abbrev pub connection_value : Option ℕ → Connection → Data
-connection_value clock c =
+abbrev pub connection_value : Option ℕ → ℕ → Connection → Data
+connection_value clock racks c =
     object
     (member (codes "arrivals") (tally_value c.tally)
     (member (codes "broken") (fault_value clock c.broken)
@@ -78,15 +84,16 @@ connection_value clock c =
     (member (codes "forward") (forward_value clock c.forwarded)
     (member (codes "last") (sight_value clock c.last)
     (member (codes "opened") (sight_value clock c.first)
+    (member (codes "rack") (rack_value (shown_rack racks c.server))
     (member (codes "refused") (fault_value clock c.refused)
     (member (codes "server") (server_value c.server)
     (member (codes "service") (string (endpoint c.flow.dst c.flow.dport))
-    no_members)))))))))
+    no_members))))))))))
 
 -- the value on a line of its own
-abbrev pub json_line : Option ℕ → Connection → List ℕ
-json_line clock c = compact_text (connection_value clock c) ++ codes "\n"
+abbrev pub json_line : Option ℕ → ℕ → Connection → List ℕ
+json_line clock racks c = compact_text (connection_value clock racks c) ++ codes "\n"
 
 -- a line for each connection
-abbrev pub json_lines : Option ℕ → List Connection → List ℕ
-json_lines clock cs = flat_map (json_line clock) cs
+abbrev pub json_lines : Option ℕ → ℕ → List Connection → List ℕ
+json_lines clock racks cs = flat_map (json_line clock racks) cs

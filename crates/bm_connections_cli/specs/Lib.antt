@@ -1,4 +1,5 @@
 pub mod Top
+pub mod Program
 pub mod Dues
 pub mod Headline
 pub mod Text

@@ -53,13 +53,14 @@ advice_lines h = flat_map (λ c. advice_line c.cause) (causes_in h)
 -- what is reported in lines, part by part
 abbrev pub parts : Option ℕ → History → List (List ℕ)
 parts clock h =
-    table_text clock (connections h) ∷ server_lines h ∷ changes_text clock h.stage.script.plan
+    table_text clock h.stage.script.setting.racks (connections h) ∷ server_lines h
+    ∷ changes_text clock h.stage.script.plan
     ∷ replies_text clock h.events ∷ cause_lines h ∷ late_lines h ∷ note_line h.stage.capture.cut
     ∷ advice_lines h ∷ unsteered_line (connections h) ∷ end_line h.stage ∷ []
 
 -- what is reported in each format
 abbrev pub text : Format → Option ℕ → History → List ℕ
 text Lines clock h = flat_map (λ part. part) (parts clock h)
-text Csv clock h = table_csv clock (connections h)
-text Json clock h = json_lines clock (connections h)
+text Csv clock h = table_csv clock h.stage.script.setting.racks (connections h)
+text Json clock h = json_lines clock h.stage.script.setting.racks (connections h)
 text Svg clock h = drawing h (connections h)

@@ -7,7 +7,9 @@ ghost use Rattle.bm_connections_cli.specs.Csv as spec;
 ghost use Rattle.bm_connections_cli.specs.Inside.Rows.{HasWritten};
 
 use bm_base::{Memory, ServerId};
-use bm_connections::{Break, Clock, Connection, Forwarding, SecondsText, Sight, Tally, TimeText};
+use bm_connections::{
+    Break, Clock, Connection, Forwarding, SecondsText, Sight, Tally, TimeText, shown_rack,
+};
 use bm_core::{Cause, Verdict};
 use bm_trace::{Endpoint, cause_word};
 use csv::{ByteRecord, Writer};
@@ -121,6 +123,16 @@ impl Fields {
         }
     }
 
+    /// Appends a rack, or nothing.
+    fn rack(self, rack: Option<u16>) -> Result<Fields, AllocError>
+        ensures { IfOk result (λ fields. fields ≡ self ++ spec.rack_field rack ∷ []) }
+    {
+        match rack {
+            None => self.text(""),
+            Some(rack) => self.number(u64::from(rack)),
+        }
+    }
+
     /// Appends the number of a record and its moment.
     fn sight(self, clock: Clock, sight: Sight) -> Result<Fields, AllocError>
         ensures { IfOk result (λ fields. fields ≡ self ++ spec.sight_fields clock.0 sight) }
@@ -194,18 +206,24 @@ fn seen_fields(alloc: Global, clock: Clock, c: &Connection) -> Result<Fields, Al
         .server(c.server)
 }
 
-fn connection_fields(alloc: Global, clock: Clock, c: &Connection) -> Result<Fields, AllocError>
-    ensures { IfOk result (λ fields. fields ≡ spec.connection_fields clock.0 c.now) }
+fn connection_fields(
+    alloc: Global,
+    clock: Clock,
+    racks: u16,
+    c: &Connection,
+) -> Result<Fields, AllocError>
+    ensures { IfOk result (λ fields. fields ≡ spec.connection_fields clock.0 racks c.now) }
 {
     seen_fields(alloc, clock, c)?
         .tally(c.tally)?
         .fault(clock, c.broken)?
         .forwarded(clock, c.forwarded)?
-        .fault(clock, c.refused)
+        .fault(clock, c.refused)?
+        .rack(shown_rack(racks, c.server))
 }
 
 /// The names of the fields.
-const NAMES: [&[u8]; 27] = [
+const NAMES: [&[u8]; 28] = [
     b"client",
     b"service",
     b"opened",
@@ -233,6 +251,7 @@ const NAMES: [&[u8]; 27] = [
     b"refused_by",
     b"refused_verdict",
     b"refused_cause",
+    b"rack",
 ];
 
 /// Writes the names of the fields.
@@ -262,13 +281,14 @@ fn write_connection<W: Write + Drop>(
     alloc: Global,
     csv: &mut Writer<W>,
     clock: Clock,
+    racks: u16,
     c: &Connection,
 ) -> Result<(), Memory>
     ensures { (octets : List ℕ) → HasWritten W.contents csv.old octets
         → OnOk result (HasWritten W.contents csv.new
-        (octets ++ spec.connection_record clock.0 c.now)) }
+        (octets ++ spec.connection_record clock.0 racks c.now)) }
 {
-    let fields = connection_fields(alloc, clock, c)?;
+    let fields = connection_fields(alloc, clock, racks, c)?;
     write_fields(csv, &fields)
 }
 
@@ -276,14 +296,15 @@ fn write_connections<W: Write + Drop>(
     alloc: Global,
     csv: &mut Writer<W>,
     clock: Clock,
+    racks: u16,
     connections: &[Connection],
 ) -> Result<(), Memory>
     ensures { (octets : List ℕ) → HasWritten W.contents csv.old octets
         → OnOk result (HasWritten W.contents csv.new
-        (octets ++ flat_map (spec.connection_record clock.0) connections.now)) }
+        (octets ++ flat_map (spec.connection_record clock.0 racks) connections.now)) }
 {
     for connection in connections {
-        write_connection(alloc, csv, clock, connection)?;
+        write_connection(alloc, csv, clock, racks, connection)?;
     }
     Ok(())
 }
@@ -293,13 +314,14 @@ fn write_connections<W: Write + Drop>(
 pub(crate) fn table_csv(
     alloc: Global,
     clock: Clock,
+    racks: u16,
     connections: &[Connection],
 ) -> Result<Vec<u8>, Memory>
-    ensures { IfOk result (λ octets. octets.items ≡ spec.table_csv clock.0 connections.now) }
+    ensures { IfOk result (λ octets. octets.items ≡ spec.table_csv clock.0 racks connections.now) }
 {
     let mut csv = Writer::from_writer(Vec::new(alloc));
     write_header(&mut csv)?;
-    write_connections(alloc, &mut csv, clock, connections)?;
+    write_connections(alloc, &mut csv, clock, racks, connections)?;
     match csv.into_inner() {
         Ok(octets) => Ok(octets),
         Err(_) => Err(Memory),

@@ -6,7 +6,7 @@ ghost use Rattle.bm_connections_cli.specs.Json as spec;
 
 use crate::fields::verdict_field;
 use bm_base::{Memory, ServerId, Text};
-use bm_connections::{Break, Clock, Connection, Forwarding, Sight, Tally};
+use bm_connections::{Break, Clock, Connection, Forwarding, Sight, Tally, shown_rack};
 use bm_core::Cause;
 use bm_trace::{Endpoint, cause_word};
 use serde_json::{Value, json};
@@ -25,6 +25,16 @@ fn server_value(server: Option<ServerId>) -> Value
     match server {
         None => Value::Null,
         Some(server) => Value::from(u64::from(server.0)),
+    }
+}
+
+/// A rack, or null.
+fn rack_value(rack: Option<u16>) -> Value
+    ensures { view result ≡ spec.rack_value rack }
+{
+    match rack {
+        None => Value::Null,
+        Some(rack) => Value::from(u64::from(rack)),
     }
 }
 
@@ -106,8 +116,13 @@ fn endpoint_text(alloc: Global, addr: u32, port: u16) -> Result<String, AllocErr
     format!(in alloc; "{}", Endpoint { addr, port })
 }
 
-fn connection_value(alloc: Global, clock: Clock, c: &Connection) -> Result<Value, AllocError>
-    ensures { IfOk result (λ value. view value ≡ spec.connection_value clock.0 c.now) }
+fn connection_value(
+    alloc: Global,
+    clock: Clock,
+    racks: u16,
+    c: &Connection,
+) -> Result<Value, AllocError>
+    ensures { IfOk result (λ value. view value ≡ spec.connection_value clock.0 racks c.now) }
 {
     json!(in alloc; {
         "client": endpoint_text(alloc, c.flow.src, c.flow.sport)?,
@@ -115,6 +130,7 @@ fn connection_value(alloc: Global, clock: Clock, c: &Connection) -> Result<Value
         "opened": sight_value(alloc, clock, c.first)?,
         "last": sight_value(alloc, clock, c.last)?,
         "server": server_value(c.server),
+        "rack": rack_value(shown_rack(racks, c.server)),
         "arrivals": tally_value(alloc, c.tally)?,
         "broken": fault_value(alloc, clock, c.broken)?,
         "forward": forward_value(alloc, clock, c.forwarded)?,
@@ -127,12 +143,13 @@ fn write_value(
     alloc: Global,
     text: &mut String,
     clock: Clock,
+    racks: u16,
     c: &Connection,
 ) -> Result<(), AllocError>
     ensures { OnOk result
-        (string_bytes text.new ≡ string_bytes text.old ++ spec.json_line clock.0 c.now) }
+        (string_bytes text.new ≡ string_bytes text.old ++ spec.json_line clock.0 racks c.now) }
 {
-    let line = connection_value(alloc, clock, c)?.to_string(alloc)?;
+    let line = connection_value(alloc, clock, racks, c)?.to_string(alloc)?;
     writeln!(text, "{line}")
 }
 
@@ -140,13 +157,14 @@ fn write_values(
     alloc: Global,
     text: &mut String,
     clock: Clock,
+    racks: u16,
     connections: &[Connection],
 ) -> Result<(), AllocError>
     ensures { OnOk result (string_bytes text.new
-        ≡ string_bytes text.old ++ spec.json_lines clock.0 connections.now) }
+        ≡ string_bytes text.old ++ spec.json_lines clock.0 racks connections.now) }
 {
     for connection in connections {
-        write_value(alloc, text, clock, connection)?;
+        write_value(alloc, text, clock, racks, connection)?;
     }
     Ok(())
 }
@@ -155,11 +173,12 @@ fn write_values(
 pub(crate) fn json_text(
     alloc: Global,
     clock: Clock,
+    racks: u16,
     connections: &[Connection],
 ) -> Result<Text, Memory>
-    ensures { IfOk result (λ text. text ≡ spec.json_lines clock.0 connections.now) }
+    ensures { IfOk result (λ text. text ≡ spec.json_lines clock.0 racks connections.now) }
 {
     let mut text = String::new(alloc);
-    write_values(alloc, &mut text, clock, connections)?;
+    write_values(alloc, &mut text, clock, racks, connections)?;
     Ok(Text::of(text))
 }

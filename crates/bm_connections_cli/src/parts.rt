@@ -51,7 +51,7 @@ fn parts_of(
 {
     let counts = causes_in(alloc, h, causes, table)?;
     let mut parts = Vec::with_capacity(alloc, 10)?;
-    parts.push(table_text(alloc, clock, table)?)?;
+    parts.push(table_text(alloc, clock, h.stage.script.setting.racks, table)?)?;
     parts.push(server_lines(alloc, h)?)?;
     parts.push(changes_text(alloc, clock, &h.stage.script.plan)?)?;
     parts.push(replies_text(alloc, clock, h.events.items())?)?;
@@ -100,7 +100,7 @@ pub(crate) fn fields_of(alloc: Global, clock: Clock, h: &History) -> Result<Vec<
     ensures { IfOk result (λ octets. octets.items ≡ spec.text Csv clock.0 h.now) }
 {
     let table = table_of(alloc, h)?;
-    table_csv(alloc, clock, table.items())
+    table_csv(alloc, clock, h.stage.script.setting.racks, table.items())
 }
 
 /// Connections as JSON.
@@ -109,7 +109,7 @@ pub(crate) fn values_of(alloc: Global, clock: Clock, h: &History) -> Result<Text
     ensures { IfOk result (λ text. text ≡ spec.text Json clock.0 h.now) }
 {
     let table = table_of(alloc, h)?;
-    json_text(alloc, clock, table.items())
+    json_text(alloc, clock, h.stage.script.setting.racks, table.items())
 }
 
 pub(crate) fn drawing_of(alloc: Global, h: &History) -> Result<Text, Memory>

@@ -1,19 +1,14 @@
 //! The top call.
-ghost use Rattle.std.specs.Prelude.{◌≡◌, ◌≢◌, ◌⊎◌, ◌<◌, ◌≤◌, if◌then◌else◌, None, Some, IsSome};
-ghost use Rattle.std.specs.Io.KnownBytes.{Appends};
-ghost use Rattle.bm_io.specs.Causes.{Rose};
-ghost use Rattle.bm_cli.specs.declared.fault.StageFault.TheVariants.{Files as files_failed};
+ghost use Rattle.std.specs.Prelude.{◌≡◌, ◌<◌, ◌≤◌, if◌then◌else◌, None, Some};
 ghost use Rattle.bm_cli.specs.Dues.{Misused};
-ghost use Rattle.bm_cli.specs.Ends.{Ends, EndsWith};
-ghost use Rattle.bm_cli.specs.Lines.{fault_line};
-ghost use Rattle.bm_cli.specs.Names.{AsksAll, AsksPrefix};
+ghost use Rattle.bm_cli.specs.Ends.{Ends};
+ghost use Rattle.bm_cli.specs.Program.{IsProgram};
 ghost use Rattle.bm_cli.specs.Reading.{Holds};
 ghost use Rattle.bm_cli.specs.Statuses.{did};
 ghost use Rattle.bm_cli.specs.Telling.{Tells};
-ghost use Rattle.bm_cli.specs.Top.{AsksNone, IsAccepted, IsStatusOf, RefusesAnswer, ShowsAnswer};
-ghost use Rattle.bm_cli.specs.Top.{WritesSome};
+ghost use Rattle.bm_cli.specs.Top.{AsksNone, ShowsAnswer};
 ghost use Rattle.bm_connections_cli.specs.Dues.{due, due_of, usage_line};
-ghost use Rattle.bm_connections_cli.specs.Top.{scripts_in};
+ghost use Rattle.bm_connections_cli.specs.Program.{beamer_connections};
 ghost use Rattle.bm_connections_cli.specs.Words.{form_in};
 ghost use Rattle.bm_connections_cli.specs.Inside.Words.{asked};
 
@@ -46,52 +41,10 @@ pub fn beamer_connections<R: Threads + Wait + Sync, F: Files, K: Sink>(
     ensures shown { result ≡ 0 → Holds (F.octets files.old) (λ reads.
         ShowsAnswer (due (form_in words.now) reads).answer
         (K.written out.old) (K.written out.new)) }
-    // How the call ended, by what was due. All other clauses but the last three follow from it.
-    ensures ends { Holds (F.octets files.old) (λ reads.
-        EndsWith (due (form_in words.now) reads) (did F.asked F.faults files.old files.new)
-        (did K.written K.faults out.old out.new) result) }
-
-    // The status is the one that is due, unless the files or the sink failed, or memory was
-    // refused.
-    ensures status { Holds (F.octets files.old) (λ reads.
-        IsStatusOf (due (form_in words.now) reads) result) }
-    // The connections of an accepted capture are written, unless the files or the sink failed, or
-    // memory was refused.
-    ensures complete { IsAccepted (due (form_in words.now)) (F.octets files.old) →
-        (result ≡ 0) ⊎ (result ≡ 6) ⊎ Rose (F.faults files.old) (F.faults files.new)
-        ⊎ Rose (K.faults out.old) (K.faults out.new) }
-    ensures known { result ≤ 7 }
-    ensures usage { result ≡ 1 → form_in words.now ≡ None }
-    ensures named { result ≡ 2 → IsSome (form_in words.now) }
-    ensures read { result ≡ 2 → Rose (F.faults files.old) (F.faults files.new) }
-    // If the files failed the status is 2, unless the sink failed too, or memory was refused.
-    ensures files { result ≢ 2 → result ≢ 5 → result ≢ 6 →
-        F.faults files.new ≡ F.faults files.old }
-    // The status is 5 exactly if the sink failed.
-    ensures write { result ≡ 5 → Rose (K.faults out.old) (K.faults out.new) }
-    ensures kept { result ≢ 5 → K.faults out.new ≡ K.faults out.old }
-
-    // With any other status, what was written is the line of that status, whatever the files hold,
-    // or a first part of the text that was due.
-    ensures usage_line { result ≡ 1 → Appends (K.written out.old) (K.written out.new) usage_line }
-    ensures read_line { result ≡ 2 →
-        Appends (K.written out.old) (K.written out.new) (fault_line files_failed) }
-    ensures line { (result ≡ 3) ⊎ (result ≡ 4) ⊎ (result ≡ 7) → Holds (F.octets files.old) (λ reads.
-        RefusesAnswer (due (form_in words.now) reads).answer result
-        (K.written out.old) (K.written out.new)) }
-    ensures part { (result ≡ 5) ⊎ (result ≡ 6) → Holds (F.octets files.old) (λ reads.
-        WritesSome (due (form_in words.now) reads) (did F.asked F.faults files.old files.new)
-        (did K.written K.faults out.old out.new)) }
-
-    // The files are asked for the names that are due, in order, each at most once.
-    ensures asked { Holds (F.octets files.old) (λ reads.
-        AsksPrefix (F.asked files.old) (F.asked files.new) (due (form_in words.now) reads).names) }
-    // They were asked for all of them, unless the files or the sink failed, or memory was refused.
-    ensures all { result ≢ 2 → result ≢ 5 → result ≢ 6 → Holds (F.octets files.old) (λ reads.
-        AsksAll (F.asked files.old) (F.asked files.new) (due (form_in words.now) reads).names) }
-    // After a fault of the script they were asked for its name alone, whatever they hold.
-    ensures script { result ≡ 4 →
-        AsksAll (F.asked files.old) (F.asked files.new) (scripts_in (form_in words.now)) }
+    // What each status means: which text was written, and which files were asked for.
+    ensures program { IsProgram beamer_connections (form_in words.now) (F.octets files.old)
+        (did F.asked F.faults files.old files.new)
+        (did K.written K.faults out.old out.new) result }
     // If no file is asked for, the files are left as they are.
     ensures unasked { AsksNone (due (form_in words.now)) → files.new ≡ files.old }
     // The files' octets are the same as before. No source stays open, and none is closed that was

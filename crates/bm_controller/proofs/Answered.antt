@@ -1,33 +1,36 @@
 -- What the commands answer, and which servers are known after them.
-use Rattle.std.proofs.Common.{◌≡◌, ◌≢◌, ℕ, ◌+◌, ◌<◌, ◌≤◌, Bool, true, false, ◌&&◌, ◌||◌, ltb, leb, List, [], ◌∷◌}
+use Rattle.std.proofs.Common.{◌≡◌, ◌≢◌, ℕ, ◌+◌, ◌%◌, ◌<◌, ◌≤◌, Bool, true, false, ◌&&◌, ◌||◌, not, ltb, leb, List, [], ◌∷◌}
 use Rattle.std.proofs.Common.{◌++◌, subst}
 use Rattle.std.proofs.Common.{Option, Some, None, length, inl, inr, refl, ap, sym, ◌∙◌, arith}
 use Rattle.std.proofs.Common.{replicate, get_or, drop}
 use Rattle.std.proofs.Math.ListN.{set}
-use Rattle.std.proofs.lemmas.Bool.{cases_Bool, cases_lt, and_from, eqb-true, le-leb, lt-ltb}
+use Rattle.std.proofs.lemmas.Bool.{both_ways, cases_Bool, cases_lt, and_from, eqb-true, le-leb, leb-false, lt-ltb}
 use Rattle.std.proofs.lemmas.List.{at_drop_more, at_drop_all, get_or-set_same, get_or-set_other, get_or-replicate}
-use Rattle.std.proofs.lemmas.List.{get_or_past, length-replicate, length-set}
+use Rattle.std.proofs.lemmas.List.{get_or_past, length-map, length-replicate, length-set}
 use Rattle.std.specs.List.{All}
 use Rattle.std.specs.Option.{option_map}
 use Rattle.bm_base.specs.declared.ids.Moment.{Moment}
 use Rattle.bm_base.specs.declared.ids.ServerId.{ServerId}
-use Rattle.bm_controller.proofs.MemberPlans.{knows-push, limits-refusal, rebalance-buckets, rebalance-servers, shift_of}
-use Rattle.bm_controller.proofs.MemberPlans.{KeepsMembership-after, Weigh}
-use Rattle.bm_controller.proofs.MemberFacts.{members_weigh}
-use Rattle.bm_controller.specs.Commands.{after, change_of, change_to, first_refusal, limits, members_after, rebalance}
-use Rattle.bm_controller.specs.Commands.{refusal as refusal_by, unfit, unless_active, when, Command}
-use Rattle.bm_controller.specs.Controlled.{is_member, servers_of, weight_of, Controlled}
+use Rattle.bm_controller.proofs.MemberFacts.{member-is}
+use Rattle.bm_controller.proofs.MemberPlans.{bad_bucket-none, base_of, knows-push, limits-refusal, server_now-push}
+use Rattle.bm_controller.proofs.MemberPlans.{shift_of, BringsTo, KeepsMembership-after, RiseFrom-after}
+use Rattle.bm_controller.proofs.RackParts.{home-among, own-home, racks-changes, racks-least, racks-made, racks-own}
+use Rattle.bm_controller.proofs.RackParts.{racks-targets, AreRacks}
+use Rattle.bm_controller.specs.Commands.{after, change_of, change_to, first_refusal, if_last, limits, members_after}
+use Rattle.bm_controller.specs.Commands.{refusal as refusal_by, unfit, unless_active, when, Command, Rebalances}
+use Rattle.bm_controller.specs.Controlled.{in_rack, is_member, rack_of, servers_of, Controlled}
 use Rattle.bm_controller.specs.declared.members.Member.{Member}
-use Rattle.bm_controller.specs.Inside.Kinds.{HasWeight, known_after, MayCome}
-use Rattle.bm_controller.specs.Membership.{active_after, active_now, knows, KeepsMembership}
+use Rattle.bm_controller.specs.declared.refusal.RackRefusal.{RackRefusal}
+use Rattle.bm_controller.specs.declared.refusal.RackRefusal.TheVariants.{Base, LastInRack}
+use Rattle.bm_controller.specs.Inside.Kinds.{known_after, HasWeight, MayCome}
+use Rattle.bm_controller.specs.Membership.{active_after, active_now, has_drained, knows, KeepsMembership}
+use Rattle.bm_controller.specs.Racks.{server_after, EachRackHasMember, IsRebalanced, OwnQuotas}
 use Rattle.bm_quota.proofs.RoomLemmas.{cases_server}
-use Rattle.bm_quota.specs.declared.refusal.Refusal.{Refusal}
-use Rattle.bm_quota.specs.declared.refusal.Refusal.TheVariants.{NotActive, UnknownServer, Memory}
-use Rattle.bm_quota.specs.Refusals.{refusal_of}
+use Rattle.bm_quota.specs.declared.refusal.Refusal.TheVariants.{LastServer, Memory, NotActive, UnknownServer}
 use Rattle.bm_table.specs.declared.plan.Change.{Change}
 use Rattle.bm_table.specs.declared.plan.Kind.{Kind}
 use Rattle.bm_table.specs.declared.plan.Kind.TheVariants.{Add, Drain, Shift}
-use Rattle.bm_table.specs.Settings.{RiseFrom}
+use Rattle.bm_table.specs.Settings.{IsWithin, RiseFrom}
 use Rattle.bm_table.specs.declared.plan.PlanFault.{PlanFault}
 use Rattle.bm_table.specs.declared.plan.PlanFault.TheVariants.{StampFell as stamp_fell, BadBucket as bad_bucket'}
 use Rattle.bm_table.specs.declared.plan.PlanFault.TheVariants.{SameServer as same_server', TooMany as too_many}
@@ -39,31 +42,31 @@ use Rattle.bm_table.specs.Tables.{is_add, is_among, same_server}
 
 -- a plan's fault is the refusal, where it isn't want of memory
 pub refused_by_plan : (plan : Planned) (c : Change) (fault : PlanFault) → IsRefusal plan c fault
-    → refusal_of fault ≢ Memory → option_map refusal_of (refusal plan c) ≡ Some (refusal_of fault)
+    → base_of fault ≢ Base Memory → option_map base_of (refusal plan c) ≡ Some (base_of fault)
 refused_by_plan plan c memory h other = absurd (other refl)
-refused_by_plan plan c stamp_fell h other = ap (option_map refusal_of) h
-refused_by_plan plan c (bad_bucket' b) h other = ap (option_map refusal_of) h
-refused_by_plan plan c (same_server' b) h other = ap (option_map refusal_of) h
-refused_by_plan plan c (too_many limit) h other = ap (option_map refusal_of) h
+refused_by_plan plan c stamp_fell h other = ap (option_map base_of) h
+refused_by_plan plan c (bad_bucket' b) h other = ap (option_map base_of) h
+refused_by_plan plan c (same_server' b) h other = ap (option_map base_of) h
+refused_by_plan plan c (too_many limit) h other = ap (option_map base_of) h
 
 -- FIRST REFUSALS
 
-pub first-none : (xs ys : List (Option Refusal)) → first_refusal xs ≡ None → first_refusal (xs ++ ys) ≡ first_refusal ys
+pub first-none : (xs ys : List (Option RackRefusal)) → first_refusal xs ≡ None → first_refusal (xs ++ ys) ≡ first_refusal ys
 first-none [] ys h = refl
 first-none (None ∷ xs) ys h = first-none xs ys h
 first-none (Some r ∷ xs) ys h = absurd (cc)
 
-pub first-some : (xs ys : List (Option Refusal)) (r : Refusal) → first_refusal xs ≡ Some r
+pub first-some : (xs ys : List (Option RackRefusal)) (r : RackRefusal) → first_refusal xs ≡ Some r
     → first_refusal (xs ++ ys) ≡ Some r
 first-some [] ys r h = absurd (cc)
 first-some (None ∷ xs) ys r h = first-some xs ys r h
 first-some (Some x ∷ xs) ys r h = h
 
-pub when-false : (test : Bool) (r : Refusal) (ys : List (Option Refusal)) → test ≡ false
+pub when-false : (test : Bool) (r : RackRefusal) (ys : List (Option RackRefusal)) → test ≡ false
     → first_refusal (when test r ∷ ys) ≡ first_refusal ys
 when-false test r ys e = rw e refl
 
-pub when-true : (test : Bool) (r : Refusal) (ys : List (Option Refusal)) → test ≡ true
+pub when-true : (test : Bool) (r : RackRefusal) (ys : List (Option RackRefusal)) → test ≡ true
     → first_refusal (when test r ∷ ys) ≡ Some r
 when-true test r ys e = rw e refl
 
@@ -71,49 +74,112 @@ when-true test r ys e = rw e refl
 
 -- what a controller is after a rebalancing
 abbrev pub rebalanced_to : Controlled → Moment → Kind → List Member → Controlled
-rebalanced_to c at kind members =
-    record { plan = with_change c.plan (change_to c.plan at kind members); members = members }
+rebalanced_to c at kind members = record {
+  plan = with_change c.plan (change_to c.plan c.racks at kind members);
+  racks = c.racks;
+  members = members;
+}
+
+-- the members that a rebalancing is asked for
+pub are-racks : (plan : Planned) (racks : ℕ) (kind : Kind) (members : List Member) → KeepsMembership plan
+    → IsWithin 1 plan.buckets racks → servers_of members ≡ active_after kind (active_now plan)
+    → All HasWeight members → EachRackHasMember racks members → AreRacks racks members
+are-racks plan racks kind members membership few servers weights each = record {
+  some = omega (arith, few);
+  rising = subst (RiseFrom 0) (sym servers) (RiseFrom-after plan membership kind);
+  weights = weights;
+  each = each;
+}
 
 -- only the limits refuse a rebalancing
-pub limits-change : (plan : Planned) (at : Moment) (kind : Kind) (members : List Member)
-    → RiseFrom 0 (servers_of members)
-    → first_refusal (limits plan at (length (change_to plan at kind members).moves))
-    ≡ option_map refusal_of (refusal plan (change_to plan at kind members))
-limits-change plan at kind members rise =
-    limits-refusal plan (change_to plan at kind members)
-    (rebalance-buckets plan (weight_of members) at kind (servers_of members))
-    (rebalance-servers plan (weight_of members) at kind (servers_of members) rise)
+pub limits-change : (plan : Planned) (racks : ℕ) (at : Moment) (kind : Kind) (members : List Member)
+    → AreRacks racks members
+    → first_refusal (limits plan at (length (change_to plan racks at kind members).moves))
+    ≡ option_map base_of (refusal plan (change_to plan racks at kind members))
+limits-change plan racks at kind members are =
+    limits-refusal plan (change_to plan racks at kind members)
+    (bad_bucket-none plan.buckets 0 (change_to plan racks at kind members).moves
+    (racks-made (server_now plan) plan.buckets racks members are.some).rise)
+    (racks-changes (server_now plan) plan.buckets racks members are)
 
-pub KeepsMembership-change : (plan : Planned) → KeepsMembership plan → (at : Moment) (kind : Kind)
+-- a rebalancing brings all buckets to its members
+brings-change : (plan : Planned) (racks : ℕ) (at : Moment) (kind : Kind) (members : List Member)
+    → AreRacks racks members → BringsTo plan (change_to plan racks at kind members).moves (servers_of members)
+brings-change plan racks at kind members are = record {
+  targets = racks-targets (server_now plan) plan.buckets racks members are;
+  leaves = λ s apart b below is.
+      let home : is_among (servers_of members) s ≡ true =
+      subst (λ x. is_among (servers_of members) x ≡ true) is
+      (home-among members (b % racks)
+      (server_after plan (change_to plan racks at kind members).moves b)
+      (own-home (server_after plan (change_to plan racks at kind members).moves) plan.buckets racks members are.some
+      (racks-own (server_now plan) plan.buckets racks members are) b below))
+      in both_ways (is_among (servers_of members) s) apart home;
+}
+
+pub KeepsMembership-change : (plan : Planned) (racks : ℕ) → KeepsMembership plan → (at : Moment) (kind : Kind)
     (members : List Member) → MayCome plan kind → servers_of members ≡ active_after kind (active_now plan)
-    → All HasWeight members → refusal plan (change_to plan at kind members) ≡ None
-    → KeepsMembership (with_change plan (change_to plan at kind members))
-KeepsMembership-change plan membership at kind members may servers weights none =
-    subst (λ (xs : List ServerId). KeepsMembership (with_change plan (rebalance plan (weight_of members) at kind xs)))
-    (sym servers)
-    (KeepsMembership-after plan (weight_of members) membership at kind may
-    (subst (Weigh (weight_of members)) servers (members_weigh members weights))
-    (subst (λ (xs : List ServerId). refusal plan (rebalance plan (weight_of members) at kind xs) ≡ None) servers none))
+    → AreRacks racks members → refusal plan (change_to plan racks at kind members) ≡ None
+    → KeepsMembership (with_change plan (change_to plan racks at kind members))
+KeepsMembership-change plan racks membership at kind members may servers are none =
+    KeepsMembership-after plan membership at kind (change_to plan racks at kind members).moves may
+    (subst (BringsTo plan (change_to plan racks at kind members).moves) servers
+    (brings-change plan racks at kind members are)) none
+
+-- what a rebalancing reaches
+pub rebalanced-change : (plan : Planned) (racks : ℕ) (at : Moment) (kind : Kind) (members : List Member)
+    → AreRacks racks members → KeepsMembership (with_change plan (change_to plan racks at kind members))
+    → IsRebalanced plan (change_to plan racks at kind members) (record {
+      plan = with_change plan (change_to plan racks at kind members);
+      racks = racks;
+      members = members;
+    })
+rebalanced-change plan racks at kind members are membership = record {
+  orderly = membership.orderly;
+  home = λ b below.
+      member-is (server_now (with_change plan (change_to plan racks at kind members)) b) (in_rack (b % racks) members)
+      ∙ own-home (server_now (with_change plan (change_to plan racks at kind members))) plan.buckets racks members
+      are.some own b below;
+  quotas = own;
+  least = racks-least (server_now plan) plan.buckets racks members are;
+}
+  where
+    own : OwnQuotas (server_now (with_change plan (change_to plan racks at kind members))) plan.buckets racks members
+    own =
+        subst (λ (f : ℕ → ServerId). OwnQuotas f plan.buckets racks members)
+        (λ i b. sym (server_now-push plan (change_to plan racks at kind members) b) i)
+        (racks-own (server_now plan) plan.buckets racks members are)
 
 -- A command that rebalances, where nothing speaks against it, is answered by the limits, and makes its change.
 pub answered : (c : Controlled) (at : Moment) (command : Command) (kind : Kind) (members : List Member)
-    (answer : Option Refusal) → first_refusal (unfit c command) ≡ None → members ≡ members_after command c.members
-    → change_of c at command ≡ change_to c.plan at kind (members_after command c.members)
-    → first_refusal (limits c.plan at (length (change_to c.plan at kind members).moves)) ≡ answer
+    (answer : Option RackRefusal) → first_refusal (unfit c command) ≡ None → members ≡ members_after command c.members
+    → change_of c at command ≡ change_to c.plan c.racks at kind (members_after command c.members)
+    → first_refusal (limits c.plan at (length (change_to c.plan c.racks at kind members).moves)) ≡ answer
     → refusal_by c at command ≡ answer
 answered c at command kind members answer fit are makes limited =
     first-none (unfit c command) (limits c.plan at (length (change_of c at command).moves)) fit
     ∙ ap (λ (d : Change). first_refusal (limits c.plan at (length d.moves)))
-    (makes ∙ ap (change_to c.plan at kind) (sym are))
+    (makes ∙ ap (change_to c.plan c.racks at kind) (sym are))
     ∙ limited
 
 pub made : (c : Controlled) (at : Moment) (command : Command) (kind : Kind) (members : List Member)
     → members ≡ members_after command c.members
-    → change_of c at command ≡ change_to c.plan at kind (members_after command c.members)
+    → change_of c at command ≡ change_to c.plan c.racks at kind (members_after command c.members)
     → rebalanced_to c at kind members ≡ after c at command
 made c at command kind members are makes =
-    let change = ap (change_to c.plan at kind) are ∙ sym makes
-    in λ i. record { plan = with_change c.plan (change i); members = are i }
+    let change = ap (change_to c.plan c.racks at kind) are ∙ sym makes
+    in λ i. record { plan = with_change c.plan (change i); racks = c.racks; members = are i }
+
+pub reached : (c new : Controlled) (at : Moment) (command : Command) (kind : Kind) (members : List Member)
+    → new ≡ rebalanced_to c at kind members → members ≡ members_after command c.members
+    → change_of c at command ≡ change_to c.plan c.racks at kind (members_after command c.members)
+    → IsRebalanced c.plan (change_to c.plan c.racks at kind members) new → Rebalances c at command
+reached c new at command kind members is are makes rebalanced =
+    subst (λ (d : Change). IsRebalanced c.plan d
+    (record { plan = with_change c.plan d; racks = c.racks; members = members_after command c.members })) (sym makes)
+    (subst (λ (ms : List Member). IsRebalanced c.plan (change_to c.plan c.racks at kind ms)
+    (rebalanced_to c at kind ms)) are
+    (subst (IsRebalanced c.plan (change_to c.plan c.racks at kind members)) is rebalanced))
 
 -- a server against which nothing speaks is active
 pub active-from : (c : Controlled) (s : ServerId) → first_refusal (unless_active c s) ≡ None
@@ -122,15 +188,43 @@ active-from c s h =
     elim (cases_Bool (knows c.plan s)) [
       | inl known ↦ elim (cases_Bool (is_member c.members s)) [
         | inl member ↦ member
-        | inr idle ↦ let e : Some NotActive ≡ None = rw (known, idle) at h in absurd (cc e)
+        | inr idle ↦ let e : Some (Base NotActive) ≡ None = rw (known, idle) at h in absurd (cc e)
       ]
-      | inr unknown ↦ let e : Some UnknownServer ≡ None = rw unknown at h in absurd (cc e)
+      | inr unknown ↦ let e : Some (Base UnknownServer) ≡ None = rw unknown at h in absurd (cc e)
     ]
+
+-- a server that isn't known is no member
+pub unknown_apart : (plan : Planned) → KeepsMembership plan → (s : ServerId) (servers : List ServerId)
+    → servers ≡ active_now plan → knows plan s ≡ false → is_among servers s ≡ false
+unknown_apart plan membership s servers active unknown =
+    ap (λ (xs : List ServerId). is_among xs s) active ∙ membership.members s
+    ∙ ap (λ t. t && not (has_drained plan s)) unknown
+
+-- there are other active servers, of all and of its rack
+pub others-from : (c : Controlled) (s : ServerId) → first_refusal (if_last c s) ≡ None
+    → (leb (length c.members) 1 ≡ false) × (leb (length (in_rack (rack_of c.members s) c.members)) 1 ≡ false)
+others-from c s h =
+    elim (cases_Bool (leb (length c.members) 1)) [
+      | inl last ↦ let e : Some (Base LastServer) ≡ None = rw last at h in absurd (cc e)
+      | inr many ↦ elim (cases_Bool (leb (length (in_rack (rack_of c.members s) c.members)) 1)) [
+        | inl alone ↦ let e : Some LastInRack ≡ None = rw (many, alone) at h in absurd (cc e)
+        | inr others ↦ (many, others)
+      ]
+    ]
+
+pub many-active : (active : List ServerId) (members : List Member) → servers_of members ≡ active
+    → leb (length members) 1 ≡ false → 1 < length active
+many-active active members are many =
+    omega (arith, ap length are, length-map members (λ (m : Member). m.server), leb-false _ _ many)
+
+pub rising-members : (active : List ServerId) (members : List Member) → servers_of members ≡ active
+    → RiseFrom 0 active → RiseFrom 0 (servers_of members)
+rising-members active members are rise = subst (RiseFrom 0) (sym are) rise
 
 -- only the limits refuse the move of a bucket to another active server
 pub limits-shift : (plan : Planned) (at : Moment) (bucket : ℕ) (s : ServerId) → bucket < plan.buckets
     → same_server (server_now plan bucket) s ≡ false
-    → first_refusal (limits plan at 1) ≡ option_map refusal_of (refusal plan (shift_of at bucket s))
+    → first_refusal (limits plan at 1) ≡ option_map base_of (refusal plan (shift_of at bucket s))
 limits-shift plan at bucket s below apart =
     let good : (leb 0 bucket && ltb bucket plan.buckets) ≡ true =
     and_from _ _ (le-leb _ _ (omega arith)) (lt-ltb _ _ below)

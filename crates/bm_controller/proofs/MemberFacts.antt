@@ -1,15 +1,14 @@
 -- The members of a controller: their servers and their weights.
-use Rattle.std.proofs.Common.{◌≡◌, ℕ, ◌+◌, ◌≤◌, Bool, true, ◌||◌, not, ltb, List, [], ◌∷◌, ◌++◌, filter, length}
+use Rattle.std.proofs.Common.{◌≡◌, ℕ, ◌+◌, ◌<◌, ◌≤◌, Bool, true, ◌||◌, not, ltb, List, [], ◌∷◌, ◌++◌, filter, length}
 use Rattle.std.proofs.Common.{inl, inr, refl, ap, sym, ◌∙◌, subst, arith}
-use Rattle.std.proofs.lemmas.Bool.{cases_Bool, le-ltb, lt-ltb}
+use Rattle.std.proofs.lemmas.Bool.{cases_Bool, le-ltb, lt-ltb, or_cases, or_left, or_right}
 use Rattle.std.proofs.lemmas.List.{length-map, map-append}
 use Rattle.std.proofs.lemmas.List.Elements.{All-append, All-cons, All-filter, All-head, All-map, All-nil, All-tail}
 use Rattle.std.specs.List.{All}
 use Rattle.bm_base.specs.declared.ids.ServerId.{ServerId}
 use Rattle.bm_controller.proofs.MemberLists.{filter-no, filter-yes, none_below, RiseFrom-lower}
-use Rattle.bm_controller.proofs.MemberPlans.{Weigh}
 use Rattle.bm_controller.specs.Controlled.{is_member, members_of, servers_of, weight_of, weights_of, with_member, without_member}
-use Rattle.bm_controller.specs.Inside.Kinds.{HasWeight}
+use Rattle.bm_controller.specs.Inside.Kinds.{HasRack, HasWeight}
 use Rattle.bm_controller.specs.declared.members.Member.{Member}
 use Rattle.bm_controller.specs.Membership.{with_server, without_server}
 use Rattle.bm_quota.proofs.RoomLemmas.{cases_server}
@@ -42,13 +41,13 @@ pub servers-without : (s : ServerId) (members : List Member)
     → servers_of (without_member s members) ≡ without_server s (servers_of members)
 servers-without s members = servers-filter (λ t. not (same_server t s)) members
 
-pub servers-opening : (servers : List ServerId) (weights : List ℕ) → length weights ≡ length servers
-    → servers_of (members_of servers weights) ≡ servers
-servers-opening [] [] e = refl
-servers-opening [] (w ∷ weights) e = absurd (omega arith)
-servers-opening (s ∷ servers) [] e = absurd (omega arith)
-servers-opening (s ∷ servers) (w ∷ weights) e =
-    ap (λ (xs : List ServerId). s ∷ xs) (servers-opening servers weights (omega arith))
+pub servers-opening : (servers : List ServerId) (weights racks : List ℕ) → length weights ≡ length servers
+    → length racks ≡ length servers → servers_of (members_of servers weights racks) ≡ servers
+servers-opening [] weights racks e f = refl
+servers-opening (s ∷ servers) [] racks e f = absurd (omega arith)
+servers-opening (s ∷ servers) (w ∷ weights) [] e f = absurd (omega arith)
+servers-opening (s ∷ servers) (w ∷ weights) (r ∷ racks) e f =
+    ap (λ (xs : List ServerId). s ∷ xs) (servers-opening servers weights racks (omega arith) (omega arith))
 
 among-from : (s : ServerId) (low : ℕ) (servers : List ServerId) → RiseFrom low servers → is_among servers s ≡ true
     → low ≤ s.0
@@ -117,19 +116,65 @@ pub weights-without : (s : ServerId) (members : List Member) → All HasWeight m
     → All HasWeight (without_member s members)
 weights-without s members all = All-filter (λ t. not (same_server t.server s)) HasWeight members all
 
-pub weights-opening : (servers : List ServerId) (weights : List ℕ) → All (IsWithin 1 1000) weights
-    → All HasWeight (members_of servers weights)
-weights-opening [] [] all = All-nil HasWeight
-weights-opening [] (w ∷ weights) all = All-nil HasWeight
-weights-opening (s ∷ servers) [] all = All-nil HasWeight
-weights-opening (s ∷ servers) (w ∷ weights) all =
-    All-cons HasWeight (record { server = s; weight = w }) (members_of servers weights)
+pub weights-opening : (servers : List ServerId) (weights racks : List ℕ) → All (IsWithin 1 1000) weights
+    → All HasWeight (members_of servers weights racks)
+weights-opening [] weights racks all = All-nil HasWeight
+weights-opening (s ∷ servers) [] racks all = All-nil HasWeight
+weights-opening (s ∷ servers) (w ∷ weights) [] all = All-nil HasWeight
+weights-opening (s ∷ servers) (w ∷ weights) (r ∷ racks) all =
+    All-cons HasWeight (record { server = s; weight = w; rack = r }) (members_of servers weights racks)
     (All-head (IsWithin 1 1000) w weights all)
-    (weights-opening servers weights (All-tail (IsWithin 1 1000) w weights all))
+    (weights-opening servers weights racks (All-tail (IsWithin 1 1000) w weights all))
+
+-- THEIR RACKS
+
+pub racks-opening : (n : ℕ) (servers : List ServerId) (weights racks : List ℕ) → All (λ rack. rack < n) racks
+    → All (HasRack n) (members_of servers weights racks)
+racks-opening n [] weights racks all = All-nil (HasRack n)
+racks-opening n (s ∷ servers) [] racks all = All-nil (HasRack n)
+racks-opening n (s ∷ servers) (w ∷ weights) [] all = All-nil (HasRack n)
+racks-opening n (s ∷ servers) (w ∷ weights) (r ∷ racks) all =
+    All-cons (HasRack n) (record { server = s; weight = w; rack = r }) (members_of servers weights racks)
+    (All-head (λ rack. rack < n) r racks all)
+    (racks-opening n servers weights racks (All-tail (λ rack. rack < n) r racks all))
+
+-- members that are chosen by a test
+pub RiseFrom-members : (p : Member → Bool) (low : ℕ) (members : List Member) → RiseFrom low (servers_of members)
+    → RiseFrom low (servers_of (filter p members))
+RiseFrom-members p low [] rise = tt
+RiseFrom-members p low (m ∷ members) rise =
+    let old : RiseFrom (m.server.0 + 1) (servers_of (filter p members)) =
+    RiseFrom-members p (m.server.0 + 1) members rise.1
+    in elim (cases_Bool (p m)) [
+      | inl passes ↦ rw passes (rise.0, old)
+      | inr fails ↦ rw fails
+          (RiseFrom-lower low (m.server.0 + 1) (servers_of (filter p members)) (omega (arith, rise.0)) old)
+    ]
+
+pub among-members : (p : Member → Bool) (members : List Member) (s : ServerId)
+    → is_among (servers_of (filter p members)) s ≡ true → is_among (servers_of members) s ≡ true
+among-members p [] s a = a
+among-members p (m ∷ members) s a =
+    elim (cases_Bool (p m)) [
+      | inl passes ↦
+          let here : (same_server m.server s || is_among (servers_of (filter p members)) s) ≡ true = rw passes at a
+          in elim (or_cases (same_server m.server s) (is_among (servers_of (filter p members)) s) here) [
+            | inl same ↦ or_left (same_server m.server s) (is_among (servers_of members) s) same
+            | inr later ↦ or_right (same_server m.server s) (is_among (servers_of members) s)
+                (among-members p members s later)
+          ]
+      | inr fails ↦
+          let later : is_among (servers_of (filter p members)) s ≡ true = rw fails at a
+          in or_right (same_server m.server s) (is_among (servers_of members) s) (among-members p members s later)
+    ]
 
 pub length-weights_of : (members : List Member) → length (weights_of members) ≡ length (servers_of members)
 length-weights_of members =
     length-map members (λ (m : Member). m.weight) ∙ sym (length-map members (λ (m : Member). m.server))
+
+-- each of these servers weighs something
+abbrev pub Weigh : (ServerId → ℕ) → List ServerId → Type 0
+Weigh weights servers = (s : ServerId) → is_among servers s ≡ true → IsWithin 1 1000 (weights s)
 
 quota_of-within : (active : List ServerId) (weights : List ℕ) → length weights ≡ length active
     → All (IsWithin 1 1000) weights → (t : ServerId) → is_among active t ≡ true

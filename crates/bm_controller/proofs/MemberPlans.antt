@@ -4,7 +4,7 @@ use Rattle.std.proofs.Common.{List, [], ◌∷◌, ◌++◌, map, Option, Some, 
 use Rattle.std.proofs.Common.{◌∙◌, subst, arith, add-one}
 use Rattle.std.proofs.lemmas.Bool.{cases_Bool, cases_eq, cases_lt, and_from, and_left, and_parts, and_right, not-true}
 use Rattle.std.proofs.lemmas.Bool.{or_cases, or_from, or_left, or_right, le-leb, le-ltb, lt-leb, lt-ltb, both_ways}
-use Rattle.std.proofs.lemmas.List.{length-map, length_push}
+use Rattle.std.proofs.lemmas.List.{length_push}
 use Rattle.std.proofs.lemmas.List.FromFn.{length-map-range_with_len}
 use Rattle.std.proofs.lemmas.Option.{slice_get_past}
 use Rattle.std.specs.List.{range_with_len, AllByRecursion}
@@ -14,20 +14,17 @@ use Rattle.bm_base.specs.declared.ids.ServerId.{ServerId}
 use Rattle.bm_base.specs.declared.label.Entry.{Entry}
 use Rattle.bm_controller.proofs.MemberLists.{among-with, among-without, length-with, length-without, RiseFrom-with}
 use Rattle.bm_controller.proofs.MemberLists.{RiseFrom-without}
-use Rattle.bm_controller.specs.Commands.{first_refusal, limits, rebalance, when}
+use Rattle.bm_controller.specs.Commands.{first_refusal, limits, when}
+use Rattle.bm_controller.specs.declared.refusal.RackRefusal.{RackRefusal}
+use Rattle.bm_controller.specs.declared.refusal.RackRefusal.TheVariants.{Base}
 use Rattle.bm_controller.specs.Inside.Kinds.{MayCome}
 use Rattle.bm_controller.specs.Membership.{active, active_after, active_next, active_now, has_drained, is_active, knows}
 use Rattle.bm_controller.specs.Membership.{with_server, without_server, KeepsMembership}
-use Rattle.bm_quota.specs.Rebalancing.{owned, owners_after, quota, quotas_of, rebalancing}
-use Rattle.bm_quota.specs.declared.refusal.Refusal.{Refusal}
+use Rattle.bm_quota.specs.Rebalancing.{owned, owners_after}
 use Rattle.bm_quota.specs.declared.refusal.Refusal.TheVariants.{StampFell, TooMany}
 use Rattle.bm_quota.specs.Refusals.{refusal_of}
 use Rattle.bm_table.specs.declared.plan.Limit.TheVariants.{Changes, Moves}
-use Rattle.bm_quota.proofs.Claims.{some_weighs}
-use Rattle.bm_quota.proofs.QuotaLemmas.{quota_of-outside}
-use Rattle.bm_quota.proofs.WeightLemmas.{sum-quotas_of}
-use Rattle.bm_quota.proofs.Rebalanced.{rebalancing-changes, rebalancing-reaches, rebalancing-targets, AreQuotas}
-use Rattle.bm_quota.proofs.Rebalanced.{MovesRise-rebalancing, Serves}
+use Rattle.bm_quota.proofs.Rebalanced.{Serves}
 use Rattle.bm_quota.proofs.RoomLemmas.{cases_server, owned-cons, same_server-refl}
 use Rattle.bm_table.proofs.PlanLemmas.{next_change-before, next_change-last, table-before, IsAdmitted-from_none}
 use Rattle.bm_table.proofs.PlanLemmas.{IsPlan-with_change}
@@ -36,6 +33,7 @@ use Rattle.bm_table.specs.declared.plan.Change.{Change}
 use Rattle.bm_table.specs.declared.plan.Kind.{Kind}
 use Rattle.bm_table.specs.declared.plan.Kind.TheVariants.{Add, Drain, Shift}
 use Rattle.bm_table.specs.declared.plan.Move.{Move}
+use Rattle.bm_table.specs.declared.plan.PlanFault.{PlanFault}
 use Rattle.bm_table.specs.Planned.{Planned}
 use Rattle.bm_table.specs.Plans.{bad_bucket, bucket_already_there, last_moment, limit_refusal, owners_now, refusal}
 use Rattle.bm_table.specs.Plans.{server_now, total_moves, with_change, MovesRise, IsPlan}
@@ -189,18 +187,18 @@ IsOrderly-push plan c o kept change = record {
 pub length-owners_now : (plan : Planned) → length (owners_now plan) ≡ plan.buckets
 length-owners_now plan = length-map-range_with_len (server_now plan) 0 plan.buckets
 
-Serves-range : (server : ℕ → ServerId) (b n : ℕ) → Serves server b (map server (range_with_len b n))
+pub Serves-range : (server : ℕ → ServerId) (b n : ℕ) → Serves server b (map server (range_with_len b n))
 Serves-range server b zero = tt
 Serves-range server b (suc n) = (refl, Serves-range server (b + 1) n)
 
-owners_after-range : (moves : List Move) (server : ℕ → ServerId) (b n : ℕ)
+pub owners_after-range : (moves : List Move) (server : ℕ → ServerId) (b n : ℕ)
     → owners_after moves b (map server (range_with_len b n)) ≡ map (λ x. unwrap_or (target moves x) (server x))
     (range_with_len b n)
 owners_after-range moves server b zero = refl
 owners_after-range moves server b (suc n) =
     ap (λ (xs : List ServerId). unwrap_or (target moves b) (server b) ∷ xs) (owners_after-range moves server (b + 1) n)
 
-owned-none : (server : ℕ → ServerId) (b n : ℕ) (s : ServerId) → owned (map server (range_with_len b n)) s ≡ 0 → (x : ℕ)
+pub owned-none : (server : ℕ → ServerId) (b n : ℕ) (s : ServerId) → owned (map server (range_with_len b n)) s ≡ 0 → (x : ℕ)
     → b ≤ x → x < b + n → server x ≢ s
 owned-none server b zero s none x low high = absurd (omega arith)
 owned-none server b (suc n) s none x low high =
@@ -220,84 +218,46 @@ owned-none server b (suc n) s none x low high =
     same : {p : ServerId} → p ≡ s → same_server p s ≡ true
     same e = subst (λ q. same_server q s ≡ true) (sym e) (same_server-refl s)
 
-pub length-quotas_of : (buckets : ℕ) (weights : ServerId → ℕ) (servers : List ServerId)
-    → length (quotas_of buckets weights servers) ≡ length servers
-length-quotas_of buckets weights servers = length-map servers (quota buckets weights servers)
-
--- each of these servers weighs something
-abbrev pub Weigh : (ServerId → ℕ) → List ServerId → Type 0
-Weigh weights servers = (s : ServerId) → is_among servers s ≡ true → IsWithin 1 1000 (weights s)
-
-pub AreQuotas-rebalance : (plan : Planned) (weights : ServerId → ℕ) (servers : List ServerId) → RiseFrom 0 servers
-    → 0 < length servers → Weigh weights servers
-    → AreQuotas (owners_now plan) servers (quotas_of plan.buckets weights servers)
-AreQuotas-rebalance plan weights servers rise some weigh = record {
-  rising = rise;
-  count = length-quotas_of plan.buckets weights servers;
-  total = sum-quotas_of plan.buckets weights servers rise some (some_weighs weights servers some weigh)
-      ∙ sym (length-owners_now plan);
-}
-
-bad_bucket-none : (buckets low : ℕ) (moves : List Move) → MovesRise buckets low moves
+pub bad_bucket-none : (buckets low : ℕ) (moves : List Move) → MovesRise buckets low moves
     → bad_bucket buckets low moves ≡ None
 bad_bucket-none buckets low [] rise = refl
 bad_bucket-none buckets low (m ∷ moves) rise =
     let t : (leb low m.bucket && ltb m.bucket buckets) ≡ true = and_from _ _ (le-leb _ _ rise.0) (lt-ltb _ _ rise.1)
     in rw t (bad_bucket-none buckets (m.bucket + 1) moves rise.2)
 
-pub rebalance-buckets : (plan : Planned) (weights : ServerId → ℕ) (at : Moment) (kind : Kind) (servers : List ServerId)
-    → bad_bucket plan.buckets 0 (rebalance plan weights at kind servers).moves ≡ None
-rebalance-buckets plan weights at kind servers =
-    bad_bucket-none plan.buckets 0 (rebalancing (owners_now plan) servers (quotas_of plan.buckets weights servers))
-    (subst (λ n. MovesRise n 0 (rebalancing (owners_now plan) servers (quotas_of plan.buckets weights servers)))
-    (length-owners_now plan)
-    (MovesRise-rebalancing (owners_now plan) servers (quotas_of plan.buckets weights servers)))
+-- the server of a bucket after one more change
+pub server_now-push : (plan : Planned) (c : Change) (b : ℕ)
+    → server_now (with_change plan c) b ≡ unwrap_or (target c.moves b) (server_now plan b)
+server_now-push plan c b = ap (λ n. (table (with_change plan c) n b).cur) (longer plan c) ∙ cur-next plan c b
 
-pub rebalance-servers : (plan : Planned) (weights : ServerId → ℕ) (at : Moment) (kind : Kind) (servers : List ServerId) → RiseFrom 0 servers
-    → bucket_already_there (server_now plan) (rebalance plan weights at kind servers).moves ≡ None
-rebalance-servers plan weights at kind servers rise =
-    rebalancing-changes (server_now plan) (owners_now plan) servers (quotas_of plan.buckets weights servers) rise
-    (Serves-range (server_now plan) 0 plan.buckets)
+-- each move is to one of these servers, and after the moves each bucket is at one of them
+pub record BringsTo (plan : Planned) (moves : List Move) (servers : List ServerId) : Type 0 where
+  pub targets : (b : ℕ) → IfSome (target moves b) (λ to. is_among servers to ≡ true)
+  pub leaves : (s : ServerId) → is_among servers s ≡ false → (b : ℕ) → b < plan.buckets
+      → unwrap_or (target moves b) (server_now plan b) ≢ s
 
--- after a rebalancing no bucket is at a server that isn't active
-rebalance-leaves : (plan : Planned) (weights : ServerId → ℕ) (servers : List ServerId) → RiseFrom 0 servers
-    → 0 < length servers → Weigh weights servers → (s : ServerId)
-    → is_among servers s ≡ false → (b : ℕ) → b < plan.buckets
-    → unwrap_or (target (rebalancing (owners_now plan) servers (quotas_of plan.buckets weights servers)) b)
-    (server_now plan b) ≢ s
-rebalance-leaves plan weights servers rise some weigh s apart b h =
-    let reach =
-    rebalancing-reaches (owners_now plan) servers (quotas_of plan.buckets weights servers)
-    (AreQuotas-rebalance plan weights servers rise some weigh) s
-    in let none = reach ∙ quota_of-outside servers (quotas_of plan.buckets weights servers) s apart
-    in owned-none
-    (λ x. unwrap_or (target (rebalancing (owners_now plan) servers (quotas_of plan.buckets weights servers)) x)
-    (server_now plan x)) 0 plan.buckets s
-    (sym (ap (λ (xs : List ServerId). owned xs s)
-    (owners_after-range (rebalancing (owners_now plan) servers (quotas_of plan.buckets weights servers))
-    (server_now plan) 0 plan.buckets)) ∙ none)
-    b (omega arith) (omega arith)
-
-some_to : (f g : ServerId → Bool) → ((s : ServerId) → f s ≡ true → g s ≡ true) → (o : Option ServerId)
+pub some_to : (f g : ServerId → Bool) → ((s : ServerId) → f s ≡ true → g s ≡ true) → (o : Option ServerId)
     → IfSome o (λ to. f to ≡ true) → IfSome o (λ to. g to ≡ true)
 some_to f g e None h = tt
 some_to f g e (Some s) h = e s h
 
-IsOrderlyChange-rebalance : (plan : Planned) (weights : ServerId → ℕ) (at : Moment) (kind : Kind) (servers : List ServerId) → RiseFrom 0 servers
-    → 0 < length servers → Weigh weights servers
-    → ((s : ServerId) → is_among servers s ≡ true → (is_add kind s || knows plan s) ≡ true)
-    → ((s : ServerId) → (is_drain kind s || has_drained plan s) ≡ true → is_among servers s ≡ false)
-    → IsOrderlyChange plan (rebalance plan weights at kind servers)
-IsOrderlyChange-rebalance plan weights at kind servers rise some weigh known drained = record {
-  known = λ b. some_to (is_among servers) (λ s. is_add kind s || knows plan s) known
-      (target (rebalancing (owners_now plan) servers (quotas_of plan.buckets weights servers)) b)
-      (rebalancing-targets (owners_now plan) servers (quotas_of plan.buckets weights servers) rise b);
-  drained = λ s d b h. rebalance-leaves plan weights servers rise some weigh s (drained s d) b h;
+IsOrderlyChange-brings : (plan : Planned) (c : Change) (servers : List ServerId) → BringsTo plan c.moves servers
+    → ((s : ServerId) → is_among servers s ≡ true → (is_add c.kind s || knows plan s) ≡ true)
+    → ((s : ServerId) → (is_drain c.kind s || has_drained plan s) ≡ true → is_among servers s ≡ false)
+    → IsOrderlyChange plan c
+IsOrderlyChange-brings plan c servers brings' known drained = record {
+  known = λ b. some_to (is_among servers) (λ s. is_add c.kind s || knows plan s) known (target c.moves b)
+      (brings'.targets b);
+  drained = λ s d b h. brings'.leaves s (drained s d) b h;
 }
+
+-- a plan's fault as a refusal
+abbrev pub base_of : PlanFault → RackRefusal
+base_of fault = Base (refusal_of fault)
 
 -- the limits of a command are those of the plan
 pub limits-fault : (plan : Planned) (at : Moment) (count : ℕ)
-    → first_refusal (limits plan at count) ≡ option_map refusal_of (limit_refusal plan at count)
+    → first_refusal (limits plan at count) ≡ option_map base_of (limit_refusal plan at count)
 limits-fault plan at count =
     elim (cases_Bool (ltb at.0 (last_moment plan))) [
       | inl fell ↦ rw fell refl
@@ -325,16 +285,16 @@ limits-fault plan at count =
 -- what a plan refuses of a change whose moves are right
 pub limits-refusal : (plan : Planned) (c : Change) → bad_bucket plan.buckets 0 c.moves ≡ None
     → bucket_already_there (server_now plan) c.moves ≡ None
-    → first_refusal (limits plan c.moment (length c.moves)) ≡ option_map refusal_of (refusal plan c)
+    → first_refusal (limits plan c.moment (length c.moves)) ≡ option_map base_of (refusal plan c)
 limits-refusal plan c bad home =
     limits-fault plan c.moment (length c.moves)
-    ∙ ap (option_map refusal_of) (elim (cases_Bool (ltb c.moment.0 (last_moment plan))) [
+    ∙ ap (option_map base_of) (elim (cases_Bool (ltb c.moment.0 (last_moment plan))) [
       | inl fell ↦ rw fell refl
       | inr on ↦ rw (on, bad, home) refl
     ])
 
 -- what is refused of a command without moves is refused of one with moves
-pub limits-more : (plan : Planned) → IsPlan plan → (at : Moment) (count : ℕ) (r : Refusal)
+pub limits-more : (plan : Planned) → IsPlan plan → (at : Moment) (count : ℕ) (r : RackRefusal)
     → first_refusal (limits plan at 0) ≡ Some r → first_refusal (limits plan at count) ≡ Some r
 limits-more plan kept at count r h =
     more (ltb at.0 (last_moment plan)) (leb 4096 (length plan.changes)) (ltb 1000000 (total_moves plan.changes + 0))
@@ -342,8 +302,8 @@ limits-more plan kept at count r h =
     (le-ltb _ _ (omega (arith, kept.moves))) h
   where
     more : (fell full some many : Bool) → some ≡ false
-        → first_refusal (when fell StampFell ∷ when full (TooMany Changes) ∷ when some (TooMany Moves) ∷ []) ≡ Some r
-        → first_refusal (when fell StampFell ∷ when full (TooMany Changes) ∷ when many (TooMany Moves) ∷ []) ≡ Some r
+        → first_refusal (when fell (Base StampFell) ∷ when full (Base (TooMany Changes)) ∷ when some (Base (TooMany Moves)) ∷ []) ≡ Some r
+        → first_refusal (when fell (Base StampFell) ∷ when full (Base (TooMany Changes)) ∷ when many (Base (TooMany Moves)) ∷ []) ≡ Some r
     more true full some many none e = e
     more false true some many none e = e
     more false false true many none e = absurd (cc)
@@ -412,14 +372,17 @@ regrouped true false true = refl
 regrouped true false false = refl
 regrouped false p d = refl
 
-pub KeepsMembership-add : (plan : Planned) (weights : ServerId → ℕ) → KeepsMembership plan → (at : Moment)
-    (s : ServerId) → IsWithin 1 1024 s.0 → Weigh weights (with_server s (active_now plan))
-    → knows plan s ≡ false → refusal plan (rebalance plan weights at (Add s) (with_server s (active_now plan))) ≡ None
-    → KeepsMembership (with_change plan (rebalance plan weights at (Add s) (with_server s (active_now plan))))
-KeepsMembership-add plan weights membership at s number weigh unknown none =
-    KeepsMembership-push plan membership (rebalance plan weights at (Add s) (with_server s (active_now plan))) none
-    (IsOrderlyChange-rebalance plan weights at (Add s) (with_server s (active_now plan)) rise
-    (length-with s (active_now plan)) weigh known drained)
+-- the change of this kind that makes these moves
+abbrev pub change_by : Moment → Kind → List Move → Change
+change_by at kind moves = record { moment = at; kind = kind; moves = moves }
+
+pub KeepsMembership-add : (plan : Planned) → KeepsMembership plan → (at : Moment) (moves : List Move)
+    (s : ServerId) → IsWithin 1 1024 s.0 → knows plan s ≡ false → BringsTo plan moves (with_server s (active_now plan))
+    → refusal plan (change_by at (Add s) moves) ≡ None
+    → KeepsMembership (with_change plan (change_by at (Add s) moves))
+KeepsMembership-add plan membership at moves s number unknown brings' none =
+    KeepsMembership-push plan membership (change_by at (Add s) moves) none
+    (IsOrderlyChange-brings plan (change_by at (Add s) moves) (with_server s (active_now plan)) brings' known drained)
     number rise (length-with s (active_now plan)) members left
   where
     rise : RiseFrom 0 (with_server s (active_now plan))
@@ -461,15 +424,15 @@ KeepsMembership-add plan weights membership at s number weigh unknown none =
     left : (x : ServerId) → has_drained plan x ≡ true → (same_server s x || knows plan x) ≡ true
     left x d = or_right (same_server s x) (knows plan x) (membership.left x d)
 
-pub KeepsMembership-drain : (plan : Planned) (weights : ServerId → ℕ) → KeepsMembership plan → (at : Moment)
-    (s : ServerId) → Weigh weights (without_server s (active_now plan))
-    → is_active plan s ≡ true → 1 < length (active_now plan)
-    → refusal plan (rebalance plan weights at (Drain s) (without_server s (active_now plan))) ≡ None
-    → KeepsMembership (with_change plan (rebalance plan weights at (Drain s) (without_server s (active_now plan))))
-KeepsMembership-drain plan weights membership at s weigh is many none =
-    KeepsMembership-push plan membership (rebalance plan weights at (Drain s) (without_server s (active_now plan))) none
-    (IsOrderlyChange-rebalance plan weights at (Drain s) (without_server s (active_now plan)) rise some
-    weigh known drained)
+pub KeepsMembership-drain : (plan : Planned) → KeepsMembership plan → (at : Moment) (moves : List Move)
+    (s : ServerId) → is_active plan s ≡ true → 1 < length (active_now plan)
+    → BringsTo plan moves (without_server s (active_now plan))
+    → refusal plan (change_by at (Drain s) moves) ≡ None
+    → KeepsMembership (with_change plan (change_by at (Drain s) moves))
+KeepsMembership-drain plan membership at moves s is many brings' none =
+    KeepsMembership-push plan membership (change_by at (Drain s) moves) none
+    (IsOrderlyChange-brings plan (change_by at (Drain s) moves) (without_server s (active_now plan)) brings' known
+    drained)
     tt rise some members left
   where
     rise : RiseFrom 0 (without_server s (active_now plan))
@@ -507,12 +470,12 @@ KeepsMembership-drain plan weights membership at s weigh is many none =
           | inr was ↦ membership.left x was
         ]
 
-pub KeepsMembership-weigh : (plan : Planned) (weights : ServerId → ℕ) → KeepsMembership plan → (at : Moment)
-    → Weigh weights (active_now plan) → refusal plan (rebalance plan weights at Shift (active_now plan)) ≡ None
-    → KeepsMembership (with_change plan (rebalance plan weights at Shift (active_now plan)))
-KeepsMembership-weigh plan weights membership at weigh none =
-    KeepsMembership-push plan membership (rebalance plan weights at Shift (active_now plan)) none
-    (IsOrderlyChange-rebalance plan weights at Shift (active_now plan) membership.rising membership.some weigh
+pub KeepsMembership-weigh : (plan : Planned) → KeepsMembership plan → (at : Moment) (moves : List Move)
+    → BringsTo plan moves (active_now plan) → refusal plan (change_by at Shift moves) ≡ None
+    → KeepsMembership (with_change plan (change_by at Shift moves))
+KeepsMembership-weigh plan membership at moves brings' none =
+    KeepsMembership-push plan membership (change_by at Shift moves) none
+    (IsOrderlyChange-brings plan (change_by at Shift moves) (active_now plan) brings'
     (λ x a. (active_is_known plan membership x a).0) (λ x d. drained_not_active plan membership x d))
     tt membership.rising membership.some (λ x. membership.members x) (λ x d. membership.left x d)
 
@@ -560,13 +523,13 @@ some-after plan membership (Drain s) may =
     omega (arith, length-without s 0 (active_now plan) membership.rising may.0, may.1)
 some-after plan membership Shift may = membership.some
 
-pub KeepsMembership-after : (plan : Planned) (weights : ServerId → ℕ) → KeepsMembership plan → (at : Moment)
-    (kind : Kind) → MayCome plan kind → Weigh weights (active_after kind (active_now plan))
-    → refusal plan (rebalance plan weights at kind (active_after kind (active_now plan))) ≡ None
-    → KeepsMembership (with_change plan (rebalance plan weights at kind (active_after kind (active_now plan))))
-KeepsMembership-after plan weights membership at (Add s) may weigh none =
-    KeepsMembership-add plan weights membership at s may.0 weigh may.1 none
-KeepsMembership-after plan weights membership at (Drain s) may weigh none =
-    KeepsMembership-drain plan weights membership at s weigh may.0 may.1 none
-KeepsMembership-after plan weights membership at Shift may weigh none =
-    KeepsMembership-weigh plan weights membership at weigh none
+pub KeepsMembership-after : (plan : Planned) → KeepsMembership plan → (at : Moment) (kind : Kind) (moves : List Move)
+    → MayCome plan kind → BringsTo plan moves (active_after kind (active_now plan))
+    → refusal plan (change_by at kind moves) ≡ None
+    → KeepsMembership (with_change plan (change_by at kind moves))
+KeepsMembership-after plan membership at (Add s) moves may brings' none =
+    KeepsMembership-add plan membership at moves s may.0 may.1 brings' none
+KeepsMembership-after plan membership at (Drain s) moves may brings' none =
+    KeepsMembership-drain plan membership at moves s may.0 may.1 brings' none
+KeepsMembership-after plan membership at Shift moves may brings' none =
+    KeepsMembership-weigh plan membership at moves brings' none

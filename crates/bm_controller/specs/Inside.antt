@@ -1,2 +1,3 @@
 -- Only the contracts of private calls and the proofs of bodies use these.
 pub mod Kinds
+pub mod Targets

@@ -16,7 +16,7 @@ use Rattle.bm_trace.specs.Words.{because_words, endpoint, spaced, verdict_words}
 use Rattle.bm_connections.specs.declared.connection.Break.{Break}
 use Rattle.bm_connections.specs.declared.connection.Connection.{Connection}
 use Rattle.bm_connections.specs.Connections.{first_of_two}
-use Rattle.bm_connections.specs.Text.{server_word}
+use Rattle.bm_connections.specs.Text.{rack_text, server_word, shown_rack}
 use Rattle.bm_drawing.specs.declared.changes.Published.{Published}
 use Rattle.bm_drawing.specs.declared.plot.Plot.{Plot}
 use Rattle.bm_drawing.specs.Scales.{x, tick_step, seconds}
@@ -226,12 +226,13 @@ end_words None (Some b) server = codes " refused" ++ fault_words b
 end_words None None None = codes " unaccepted"
 end_words None None (Some server) = codes " whole"
 
--- the client, the service, the server that accepted it last, and its end (section 5.4)
-unfoldable pub title : Connection → List ℕ
-title c =
+-- the client, the service, the server that accepted it last with its rack, and its end (section 5.4)
+unfoldable pub title : ℕ → Connection → List ℕ
+title racks c =
     codes "<title>client " ++ endpoint c.flow.src c.flow.sport
     ++ codes " service " ++ endpoint c.flow.dst c.flow.dport
-    ++ codes " server " ++ server_word c.server ++ end_words c.broken c.refused c.server
+    ++ codes " server " ++ server_word c.server
+    ++ rack_text (shown_rack racks c.server) ++ end_words c.broken c.refused c.server
     ++ codes "</title>"
 
 -- the mark of what broke the connection, or of what refused it, at its clock
@@ -243,7 +244,7 @@ fault_mark p y None None = []
 -- a line from the first to the last packet
 abbrev pub connection_at : Plot → ℕ → Connection → List ℕ
 connection_at p y c =
-    group (colour_of c.server) ++ title c
+    group (colour_of c.server) ++ title p.racks c
     ++ line (x p.span c.first.moment.0) y (x p.span c.last.moment.0) y
     ++ fault_mark p y c.broken c.refused ++ group_end ++ newline
 
@@ -258,9 +259,11 @@ connections p place (c ∷ cs) = connection p place c ++ connections p (place + 
 
 -- THE DRAWING
 
--- the last moment of all that is drawn, and how many servers and connections there are
-abbrev pub plot_of : List Published → List ℕ → List Connection → Plot
-plot_of cs servers table = record {
+-- how many racks there are, the last moment of all that is drawn, and how many servers and
+-- connections there are
+abbrev pub plot_of : ℕ → List Published → List ℕ → List Connection → Plot
+plot_of racks cs servers table = record {
+  racks = racks;
   span = span_of cs table;
   servers = length servers;
   connections = length table;
@@ -287,8 +290,9 @@ parts p cs servers table =
     frame (height p) ++ legend servers ++ times p cs ++ rows p table ++ svg_end
 
 -- the parts of these changes, servers and connections
-unfoldable pub drawing_of : List Published → List ℕ → List Connection → List ℕ
-drawing_of cs servers table = parts (plot_of cs servers table) cs servers table
+unfoldable pub drawing_of : ℕ → List Published → List ℕ → List Connection → List ℕ
+drawing_of racks cs servers table = parts (plot_of racks cs servers table) cs servers table
 
 abbrev pub drawing : History → List Connection → List ℕ
-drawing h table = drawing_of (changes_in h.events) (servers_in table) table
+drawing h table =
+    drawing_of h.stage.script.setting.racks (changes_in h.events) (servers_in table) table

@@ -8,9 +8,11 @@ use bm_connections::{Break, Connection};
 use std::alloc::{AllocError, Global};
 use std::collections::BTreeSet;
 
-/// The last moment of all that is drawn, and how many servers and connections there are.
+/// How many racks there are, the last moment of all that is drawn, and how many servers and
+/// connections there are.
 #[derive(Clone, Copy)]
 pub(crate) struct Plot {
+    pub(crate) racks: u16,
     pub(crate) span: u64,
     pub(crate) servers: u64,
     pub(crate) connections: u64,
@@ -116,10 +118,16 @@ fn span_of(changes: &[Published], table: &[Connection]) -> u64
 }
 
 /// The plot of these changes, with as many servers, and of these connections.
-pub(crate) fn plot_of(changes: &[Published], servers: &[u16], table: &[Connection]) -> Plot
-    ensures { result ≡ spec.plot_of changes.now servers.now table.now }
+pub(crate) fn plot_of(
+    racks: u16,
+    changes: &[Published],
+    servers: &[u16],
+    table: &[Connection],
+) -> Plot
+    ensures { result ≡ spec.plot_of racks changes.now servers.now table.now }
 {
     Plot {
+        racks,
         span: span_of(changes, table),
         servers: servers.len() as u64,
         connections: table.len() as u64,

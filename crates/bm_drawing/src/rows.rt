@@ -8,7 +8,7 @@ use crate::plot::Plot;
 use crate::scale::x_of;
 use crate::shapes::{Group, Line, Mark};
 use bm_base::ServerId;
-use bm_connections::{Break, Connection};
+use bm_connections::{Break, Connection, RackWords, shown_rack};
 use bm_trace::{BecauseWords, Endpoint, VerdictWords};
 use std::alloc::AllocError;
 use std::fmt;
@@ -89,10 +89,12 @@ impl fmt::Display for FaultMark {
     }
 }
 
-/// The client, the service, the server that accepted the connection last, and its end.
+/// The client, the service, the server that accepted the connection last with its rack, and its
+/// end.
 #[tactic(auto, unfolding(crate::specs::Drawing::title))]
-fn write_title(text: &mut String, c: &Connection) -> Result<(), AllocError>
-    ensures { OnOk result (string_bytes text.new ≡ string_bytes text.old ++ spec.title c.now) }
+fn write_title(text: &mut String, racks: u16, c: &Connection) -> Result<(), AllocError>
+    ensures { OnOk result
+        (string_bytes text.new ≡ string_bytes text.old ++ spec.title racks c.now) }
 {
     let client = Endpoint {
         addr: c.flow.src,
@@ -103,13 +105,14 @@ fn write_title(text: &mut String, c: &Connection) -> Result<(), AllocError>
         port: c.flow.dport,
     };
     let server = ServerWord(c.server);
+    let rack = RackWords(shown_rack(racks, c.server));
     let end = EndWords {
         broken: c.broken,
         refused: c.refused,
         server: c.server,
     };
     write!(text, "<title>client {client} service {service}")?;
-    write!(text, " server {server}{end}</title>")
+    write!(text, " server {server}{rack}{end}</title>")
 }
 
 /// A line from the first to the last packet of a connection, with its title and its mark.
@@ -137,7 +140,7 @@ fn write_connection(
         refused: c.refused,
     };
     write!(text, "{group}")?;
-    write_title(text, c)?;
+    write_title(text, plot.racks, c)?;
     writeln!(text, "{line}{mark}</g>")
 }
 

@@ -121,14 +121,15 @@ fn write_rows(text: &mut String, plot: Plot, table: &[Connection]) -> Result<(),
 #[tactic(auto, unfolding(crate::specs::Drawing::drawing_of))]
 fn write_parts(
     text: &mut String,
+    racks: u16,
     changes: &[Published],
     servers: &[u16],
     table: &[Connection],
 ) -> Result<(), AllocError>
     ensures { OnOk result (string_bytes text.new
-        ≡ string_bytes text.old ++ spec.drawing_of changes.now servers.now table.now) }
+        ≡ string_bytes text.old ++ spec.drawing_of racks changes.now servers.now table.now) }
 {
-    let plot = plot_of(changes, servers, table);
+    let plot = plot_of(racks, changes, servers, table);
     write_frame(text, plot.height())?;
     write_legend(text, servers)?;
     write_times(text, plot, changes)?;
@@ -147,6 +148,13 @@ pub fn drawing(alloc: Global, history: &History, table: &[Connection]) -> Result
     let changes = changes_in(alloc, history.events.items())?;
     let servers = servers_in(alloc, table)?;
     let mut text = String::new(alloc);
-    write_parts(&mut text, changes.as_slice(), servers.as_slice(), table)?;
+    let racks = history.stage.script.setting.racks;
+    write_parts(
+        &mut text,
+        racks,
+        changes.as_slice(),
+        servers.as_slice(),
+        table,
+    )?;
     Ok(Text::of(text))
 }

@@ -7,13 +7,25 @@ ghost use Rattle.bm_link.specs.Links.{raw_part, cooked_part};
 use crate::LinkFault;
 use bm_ipv4::fields::read_u16;
 
+/// The EtherType of IPv4.
 const IPV4: u16 = 0x0800;
+
+// The link types, by their names in the list of pcap's link types (tcpdump.org/linktypes.html).
+const ETHERNET: u16 = 1;
+
+const RAW: u16 = 101;
+
+const LINUX_SLL: u16 = 113;
+
+const RAW_IPV4: u16 = 228;
+
+const LINUX_SLL2: u16 = 276;
 
 /// Whether frames of this link type are read.
 pub fn is_link(link: u16) -> bool
     ensures { result ≡ is_link link }
 {
-    matches!(link, 1 | 101 | 113 | 228 | 276)
+    matches!(link, ETHERNET | RAW | LINUX_SLL | RAW_IPV4 | LINUX_SLL2)
 }
 
 /// The network layer's part of a frame of this link type: 1 Ethernet with at most two tags, 101 raw
@@ -25,10 +37,10 @@ pub fn network_part(link: u16, octets: &[u8]) -> Result<&[u8], LinkFault>
     ensures within { IfOk result (λ part. length part.now ≤ length octets.now) }
 {
     match link {
-        1 => ethernet(octets),
-        101 => raw(octets),
-        113 => cooked(16, 14, octets),
-        228 => Ok(octets),
+        ETHERNET => ethernet(octets),
+        RAW => raw(octets),
+        LINUX_SLL => cooked(16, 14, octets),
+        RAW_IPV4 => Ok(octets),
         _ => cooked(20, 0, octets),
     }
 }

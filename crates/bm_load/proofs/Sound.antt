@@ -21,6 +21,7 @@ IsSetting-load_setting = record {
   rising = (omega arith, (omega arith, (omega arith, (omega arith, tt))));
   numbers = All-from_recursion (λ (s : ServerId). s.0 ≤ 1024) load_setting.servers
       (omega arith, (omega arith, (omega arith, (omega arith, tt))));
+  racks = (omega arith, omega arith);
   muxes = (omega arith, omega arith);
   shards = (omega arith, omega arith);
   capacity = (omega arith, omega arith);

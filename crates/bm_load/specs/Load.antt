@@ -31,6 +31,7 @@ abbrev pub load_setting : Setting
 load_setting = record {
   buckets = 64;
   servers = load_servers;
+  racks = 1;
   muxes = 4;
   shards = 4;
   capacity = 65536;
@@ -41,15 +42,16 @@ load_setting = record {
   faults = [];
 }
 
--- the controller before its command; each server weighs 1
+-- the controller before its command; each server weighs 1, and all are in one rack
 abbrev pub opened : Controlled
 opened = record {
   plan = record { buckets = 64; servers = load_servers; changes = [] };
-  members = members_of load_servers (replicate 4 1);
+  racks = 1;
+  members = members_of load_servers (replicate 4 1) (replicate 4 0);
 }
 
 abbrev pub addition : Command
-addition = AddServer (record { 0 = 5 }) 1
+addition = AddServer (record { 0 = 5 }) 1 0
 
 -- server 5 is added at the moment of the third round's first packet
 unfoldable pub load_plan : ℕ → Planned

@@ -26,6 +26,7 @@ fn load_setting(alloc: Global) -> Result<Setting, Memory>
     Ok(Setting {
         buckets: 64,
         servers: List::of(Vec::from_slice(alloc, &SERVERS)?),
+        racks: 1,
         muxes: 4,
         shards: 4,
         capacity: 65_536,

@@ -218,21 +218,21 @@ closed_refused : IsRefused closed closed_events
 unfolding flow_octets fnv_step fnv_1a flow_hash
 closed_refused fates follows = let clock : ◌≡◌ {A = ℕ} 12 11 = follows.0.0.timed in absurd (omega arith)
 
--- a shard is asked to retire at another moment than the command's
-abbrev retired_at : Stage
-retired_at = quiet (RetireCommand (moment 10) (server 1) ∷ []) []
+-- a retire of four shards, the last of which retires at this clock, for this moment
+abbrev retiring : Stage
+retiring = quiet (RetireCommand (moment 10) (server 1) ∷ []) []
 
-abbrev retired_at_events : List Event
-retired_at_events =
-    retire 12 1 0 11 NotDrained
+abbrev retiring_events : ℕ → ℕ → List Event
+retiring_events clock at =
+    retire clock 1 0 at NotDrained
     ∷ retire 11 1 3 10 NotDrained
     ∷ retire 11 1 2 10 NotDrained
     ∷ retire 11 1 1 10 NotDrained
     ∷ switch 1 0 0
     ∷ []
 
-retired_at_account : IsAccounted retired_at retired_at_events
-retired_at_account = record {
+retiring_account : (clock at : ℕ) → IsAccounted retiring (retiring_events clock at)
+retiring_account clock at = record {
   steered = steered;
   answered = ((tt, tt), ((tt, tt), ((tt, tt), ((tt, tt), ((tt, tt), tt)))));
   lost = λ k hop clock. omega arith;
@@ -250,13 +250,13 @@ retired_at_account = record {
   };
 } where
   steered : (k : ℕ)
-      → counts retired_at_events (λ what. steers_packet what k) ≡ cond (is_some (segment_of retired_at k)) 1 0
+      → counts (retiring_events clock at) (λ what. steers_packet what k) ≡ cond (is_some (segment_of retiring k)) 1 0
   steered zero = refl
   steered (suc k) = omega arith
 
   retires : (s : ServerId) (h : ℕ) → h < 4
-      → counts retired_at_events (λ what. retires_shard what s h)
-      ≡ count_of (λ c. wants_retire c s) retired_at.script.commands
+      → counts (retiring_events clock at) (λ what. retires_shard what s h)
+      ≡ count_of (λ c. wants_retire c s) retiring.script.commands
   retires s zero low =
       let a =
       with_true (same_server (server 1) s) true refl in let b =
@@ -275,7 +275,7 @@ retired_at_account = record {
       both_false (same_server (server 1) s) false refl in omega arith
   retires s (suc (suc (suc (suc h)))) low = absurd (omega arith)
 
-  no_other : (s : ServerId) (h : ℕ) → 4 ≤ h → counts retired_at_events (λ what. retires_shard what s h) ≡ 0
+  no_other : (s : ServerId) (h : ℕ) → 4 ≤ h → counts (retiring_events clock at) (λ what. retires_shard what s h) ≡ 0
   no_other s h over =
       let x0 = both_false (same_server (server 1) s) (eqb 0 h) (ne_eqb _ _ (λ e. omega arith))
       in let x1 = both_false (same_server (server 1) s) (eqb 1 h) (ne_eqb _ _ (λ e. omega arith))
@@ -283,12 +283,13 @@ retired_at_account = record {
       in let x3 = both_false (same_server (server 1) s) (eqb 3 h) (ne_eqb _ _ (λ e. omega arith))
       in omega arith
 
-retired_at_lacks : LacksTime retired_at 4 retired_at_events
+-- it keeps all but what is asked of that time
+retiring_lacks : (clock at : ℕ) → 11 ≤ clock → at < clock → LacksTime retiring 4 (retiring_events clock at)
 unfolding has_flag is_opening flow_octets fnv_step fnv_1a flow_hash acceptable distance
     taken_reset comes_in_turn taken after_taken opened receiver_after
-retired_at_lacks = record {
+retiring_lacks clock at late before = record {
   sound = quiet_sound _ _ (omega arith) (omega arith, omega arith, tt) refl (refl, tt) (omega arith) tt tt;
-  account = retired_at_account;
+  account = retiring_account clock at;
   run = (
     record { clock = omega arith; own = tt; may = (omega arith, refl) },
     (
@@ -323,13 +324,25 @@ retired_at_lacks = record {
   );
   looked = looked;
 } where
-  looked : HaveLooked retired_at retired_at_events
+  looked : HaveLooked retiring (retiring_events clock at)
   looked zero low = refl
   looked (suc m) low = absurd (omega arith)
 
-retired_at_refused : IsRefused retired_at retired_at_events
+-- a shard is asked to retire at another moment than the command's
+retired_at_lacks : LacksTime retiring 4 (retiring_events 12 11)
+retired_at_lacks = retiring_lacks 12 11 (omega arith) (omega arith)
+
+retired_at_refused : IsRefused retiring (retiring_events 12 11)
 unfolding flow_octets fnv_step fnv_1a flow_hash
 retired_at_refused fates follows = let moment : ◌≡◌ {A = ℕ} 11 10 = follows.0.0.timed.0 in absurd (omega arith)
+
+-- a Retire has a clock that is not the one after its shard's clock and its moment
+retired_late_lacks : LacksTime retiring 4 (retiring_events 12 10)
+retired_late_lacks = retiring_lacks 12 10 (omega arith) (omega arith)
+
+retired_late_refused : IsRefused retiring (retiring_events 12 10)
+unfolding flow_octets fnv_step fnv_1a flow_hash
+retired_late_refused fates follows = let clock : ◌≡◌ {A = ℕ} 12 11 = follows.0.0.timed.1 in absurd (omega arith)
 
 -- a Switch has a clock that is not the one after its mux's clock, the version's Publish and the last Sync
 abbrev switched : Stage

@@ -10,13 +10,13 @@ use Rattle.std.specs.Map.{keys_of, lookup, values_of}
 use Rattle.std.proofs.lemmas.Map.Entries.{btree_map_get_place}
 use Rattle.bm_core.specs.declared.events.Event.{Event}
 use Rattle.bm_core.specs.Runs.{same_actor}
-use Rattle.bm_parts.specs.contracts.parting.AuthorOrd.TheImpl as author_order
-use Rattle.bm_parts.specs.contracts.parting.AuthorOrd.TheImpl.Laws as author_laws
-use Rattle.bm_parts.specs.declared.parting.Author.{Author}
-use Rattle.bm_parts.specs.declared.parting.Author.TheVariants.{Controller as by_controller}
-use Rattle.bm_parts.specs.declared.parting.Author.TheVariants.{Mux as by_mux, Shard as by_shard}
+use Rattle.bm_state.specs.contracts.author.AuthorOrd.TheImpl as author_order
+use Rattle.bm_state.specs.contracts.author.AuthorOrd.TheImpl.Laws as author_laws
+use Rattle.bm_state.specs.declared.author.Author.{Author}
+use Rattle.bm_state.specs.declared.author.Author.TheVariants.{Controller as by_controller}
+use Rattle.bm_state.specs.declared.author.Author.TheVariants.{Mux as by_mux, Shard as by_shard}
 use Rattle.bm_parts.specs.declared.parting.Logs.{Logs}
-use Rattle.bm_parts.specs.Inside.Actors.{actor}
+use Rattle.bm_state.specs.Authors.{actor}
 use Rattle.bm_parts.specs.Inside.Logs.{AreListed}
 use Rattle.bm_parts.specs.Parts.{AreInOrder, Precedes, is_among}
 

@@ -7,11 +7,11 @@ use Rattle.bm_core.specs.declared.events.Event.{Event}
 use Rattle.bm_core.specs.declared.events.Stage.{Stage}
 use Rattle.bm_core.specs.Runs.{Actor, actor_of, same_actor}
 use Rattle.bm_core.specs.Runs.Actor.{Controller, MuxOf, ShardOf}
-use Rattle.bm_parts.specs.declared.parting.Author.{Author}
-use Rattle.bm_parts.specs.declared.parting.Author.TheVariants.{Controller as by_controller}
-use Rattle.bm_parts.specs.declared.parting.Author.TheVariants.{Mux as by_mux, Shard as by_shard}
+use Rattle.bm_state.specs.declared.author.Author.{Author}
+use Rattle.bm_state.specs.declared.author.Author.TheVariants.{Controller as by_controller}
+use Rattle.bm_state.specs.declared.author.Author.TheVariants.{Mux as by_mux, Shard as by_shard}
 use Rattle.bm_parts.specs.declared.parting.Logs.{Logs}
-use Rattle.bm_parts.specs.Inside.Actors.{actor}
+use Rattle.bm_state.specs.Authors.{actor}
 use Rattle.bm_parts.specs.Inside.Logs.{AreListed, AreLogsOf, if_any, log, noted}
 use Rattle.bm_parts.specs.Parts.{ArePartsOf, is_among, writer, written_by}
 

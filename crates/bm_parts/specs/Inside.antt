@@ -1,3 +1,2 @@
 -- Only the contracts of private calls and the proofs of bodies use these.
-pub mod Actors
 pub mod Logs

@@ -1,44 +1,13 @@
 //! The logs of a history.
-ghost use Rattle.std.specs.Prelude.{◌≡◌, IfOk, OnOk, None, option_map};
-ghost use Rattle.bm_core.specs.Runs.{actor_of};
+ghost use Rattle.std.specs.Prelude.{◌≡◌, IfOk, OnOk, None};
 ghost use Rattle.bm_core.specs.Stages.{IsSound};
-ghost use Rattle.bm_parts.specs.Inside.Actors.{actor};
 ghost use Rattle.bm_parts.specs.Parts.{ArePartsOf};
-ghost use Rattle.bm_parts.specs.declared.parting.Author.{Author};
-ghost use Rattle.bm_table.specs.Settings.{IsWithin};
 
 use bm_base::{List, Memory};
-use bm_core::{Event, Log, Stage, What};
-use bm_hash::shard_of;
+use bm_core::{Event, Log, Stage};
+use bm_state::{Author, author_of};
 use std::alloc::Global;
 use std::collections::BTreeMap;
-
-/// Who records an event. The logs are merged in this order.
-#[derive(Clone, Copy, PartialEq, Eq, PartialOrd, Ord, Drop)]
-pub(crate) enum Author {
-    Controller,
-    Mux(u16),
-    Shard(u16, u16),
-}
-
-/// Who records the event; a loss has no actor.
-fn author_of(stage: &Stage, what: What) -> Option<Author>
-    requires { IsWithin 1 64 stage.now.script.setting.shards }
-    ensures { option_map actor result ≡ actor_of stage.now what }
-{
-    let shards = stage.script.setting.shards;
-    match what {
-        What::Publish(_) | What::Sync => Some(Author::Controller),
-        What::Switch { mux, .. } | What::Steer { mux, .. } => Some(Author::Mux(mux.0)),
-        What::Arrive { packet, server, .. } => {
-            let segment = stage.segment(packet)?;
-            Some(Author::Shard(server.0, shard_of(&segment.flow, shards)))
-        }
-        What::Close { server, flow, .. } => Some(Author::Shard(server.0, shard_of(&flow, shards))),
-        What::Retire { server, shard, .. } => Some(Author::Shard(server.0, shard)),
-        What::Lose { .. } => None,
-    }
-}
 
 /// The log of each author that recorded something.
 #[derive(Drop)]

@@ -114,7 +114,7 @@ rebalancing-reaches owners active quotas are = λ s.
     ∙ omega (arith, sums, takers_left owners active quotas are.rising s)
 
 -- the buckets of moves to given takers rise
-MovesRise-lower : (buckets low : ℕ) (moves : List Move) → MovesRise buckets (low + 1) moves
+pub MovesRise-lower : (buckets low : ℕ) (moves : List Move) → MovesRise buckets (low + 1) moves
     → MovesRise buckets low moves
 MovesRise-lower buckets low [] h = tt
 MovesRise-lower buckets low (m ∷ moves) h = (omega (arith, h.0), h.1, h.2)

@@ -1,19 +1,19 @@
 -- One turn of each loop.
-use Rattle.std.proofs.Common.{◌≡◌, ℕ, ◌+◌, ◌-◌, ◌<◌, ◌≤◌, true, false, ltb, List, [], ◌∷◌, ◌++◌, length}
+use Rattle.std.proofs.Common.{◌≡◌, ℕ, ◌+◌, ◌-◌, ◌<◌, ◌≤◌, Bool, true, false, ◌||◌, cond, ltb, List, [], ◌∷◌, ◌++◌, length}
 use Rattle.std.proofs.Common.{map, inl, inr, refl, ap, sym, ◌∙◌, subst, arith, replicate, get_or, drop, append_assoc}
 use Rattle.std.proofs.Math.ListN.{set}
-use Rattle.std.proofs.lemmas.Bool.{cases_lt, eqb-true, ltb-false}
+use Rattle.std.proofs.lemmas.Bool.{cases_Bool, cases_lt, eqb-true, ltb-false}
 use Rattle.std.proofs.lemmas.List.{at_drop_more, at_drop_all, get_or-set_same, get_or-set_other, get_or-replicate}
 use Rattle.std.proofs.lemmas.List.{get_or_past, length-replicate}
 use Rattle.std.specs.List.{zip}
 use Rattle.bm_base.specs.declared.ids.ServerId.{ServerId}
 use Rattle.bm_quota.proofs.QuotaLemmas.{first_not_among, quota_of-outside}
 use Rattle.bm_quota.proofs.Rebalanced.{rebalancing-rooms}
-use Rattle.bm_quota.proofs.RoomLemmas.{cases_server}
+use Rattle.bm_quota.proofs.RoomLemmas.{cases_server, left-le}
 use Rattle.bm_quota.specs.Rebalancing.{moves_to, quota_of, rebalancing, takers}
-use Rattle.bm_quota.specs.Inside.Rooms.{given, kept, left, room_in}
+use Rattle.bm_quota.specs.Inside.Rooms.{cleared, given, kept, left, room_in}
 use Rattle.bm_table.specs.Settings.{RiseFrom}
-use Rattle.bm_table.specs.Tables.{same_server}
+use Rattle.bm_table.specs.Tables.{is_among, same_server}
 use Rattle.bm_table.specs.declared.plan.Move.{Move}
 
 pub zeros-at : (n i : ℕ) → get_or {A = ℕ} (replicate n 0) i 0 ≡ 0
@@ -205,6 +205,60 @@ AreRooms-end active quotas rooms i h are s =
     at_drop_all (λ (xs : List ServerId). quota_of xs (drop i quotas) s) active i h
     in let e : room_in rooms s + quota_of (drop i active) (drop i quotas) s ≡ quota_of active quotas s = are.each s
     in omega arith
+
+-- one more server was cleared
+pub cleared-more : (servers : List ServerId) (i : ℕ) (d : ServerId) (rooms : List ℕ) → i < length servers
+    → (get_or servers i d).0 < length rooms → (s : ServerId)
+    → cleared (drop (i + 1) servers) (room_in (set rooms (get_or servers i d).0 0)) s
+    ≡ cleared (drop i servers) (room_in rooms) s
+cleared-more servers i d rooms h l s =
+    elim (cases_server (get_or servers i d) s) [
+      | inl same ↦
+          let zero : room_in (set rooms (get_or servers i d).0 0) s ≡ 0 =
+          ap (room_in (set rooms (get_or servers i d).0 0)) (sym same.1)
+          ∙ get_or-set_same rooms (get_or servers i d).0 0 0 l
+          in let now : cleared (drop (i + 1) servers) (room_in (set rooms (get_or servers i d).0 0)) s ≡ 0 =
+          rw zero (none (is_among (drop (i + 1) servers) s))
+          in let before : cond (same_server (get_or servers i d) s || is_among (drop (i + 1) servers) s) 0
+          (room_in rooms s) ≡ 0
+          = rw same.0 refl
+          in now ∙ sym (first ∙ before)
+      | inr other ↦
+          let before : cond (same_server (get_or servers i d) s || is_among (drop (i + 1) servers) s) 0
+          (room_in rooms s) ≡ cond (is_among (drop (i + 1) servers) s) 0 (room_in rooms s)
+          = rw other.0 refl
+          in ap (λ n. cond (is_among (drop (i + 1) servers) s) 0 n)
+          (room_in-set_other rooms (get_or servers i d) s 0 other.1)
+          ∙ sym (first ∙ before)
+    ]
+  where
+    first : cleared (drop i servers) (room_in rooms) s
+        ≡ cond (same_server (get_or servers i d) s || is_among (drop (i + 1) servers) s) 0 (room_in rooms s)
+    first = ap (λ t. cond t 0 (room_in rooms s)) (at_drop_more (λ (xs : List ServerId). is_among xs s) servers i d h)
+
+    none : (t : Bool) → cond {A = ℕ} t 0 0 ≡ 0
+    none true = refl
+    none false = refl
+
+pub cleared-end : (servers : List ServerId) (i : ℕ) (room : ServerId → ℕ) → length servers ≤ i → (s : ServerId)
+    → cleared (drop i servers) room s ≡ room s
+cleared-end servers i room h s =
+    ap (λ t. cond t 0 (room s)) (at_drop_all (λ (xs : List ServerId). is_among xs s) servers i h)
+
+-- what was left to the active servers is cleared
+pub all-cleared : (active : List ServerId) (quotas : List ℕ) (owner : List ServerId) (rooms lefts : List ℕ)
+    → ((s : ServerId) → room_in rooms s ≡ quota_of active quotas s)
+    → ((s : ServerId) → room_in lefts s ≡ left (room_in rooms) owner s) → (s : ServerId)
+    → cleared active (room_in lefts) s ≡ 0
+all-cleared active quotas owner rooms lefts r l s =
+    elim (cases_Bool (is_among active s)) [
+      | inl t ↦ rw t refl
+      | inr f ↦
+          let none : quota_of active quotas s ≡ 0 = quota_of-outside active quotas s f
+          in let fewer : left (room_in rooms) owner s ≤ room_in rooms s = left-le (room_in rooms) owner s
+          in let zero : room_in lefts s ≡ 0 = omega (arith, r s, l s)
+          in rw f zero
+    ]
 
 -- the buckets that were given and the servers that take them are those of the rule
 pub chosen : (owner active : List ServerId) (quotas rooms lefts buckets : List ℕ) (servers : List ServerId)

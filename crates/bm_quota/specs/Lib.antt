@@ -1,3 +1,4 @@
+pub mod Parts
 pub mod Rebalancing
 pub mod Refusals
 pub mod Inside

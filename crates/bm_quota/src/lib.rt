@@ -6,6 +6,6 @@ mod rebalance;
 mod refusal;
 mod share;
 
-pub use rebalance::moves;
+pub use rebalance::{moves, moves_in};
 pub use refusal::Refusal;
 pub use share::quotas;

@@ -4,7 +4,7 @@ ghost use Rattle.std.specs.Prelude.{slice_index, slice_set, vec_len, All, IfOk, 
 ghost use Rattle.std.specs.List.{zip};
 ghost use Rattle.bm_base.specs.declared.ids.ServerId.{ServerId};
 ghost use Rattle.bm_quota.specs.Rebalancing as rule;
-ghost use Rattle.bm_quota.specs.Inside.Rooms.{room_in, given, left};
+ghost use Rattle.bm_quota.specs.Inside.Rooms.{room_in, cleared, given, left};
 ghost use Rattle.bm_table.specs.Settings.{RiseFrom};
 ghost use Rattle.bm_table.specs.declared.plan.Move.{Move};
 
@@ -45,25 +45,60 @@ pub fn moves(
         → rule.ReachQuotas owner.now active.now quotas.now others
         → length moves.items ≤ length others) }
 {
-    let mut rooms = rooms_of(alloc, active, quotas)?;
-    let buckets = give(alloc, owner, rooms.as_mut_slice())?;
-    let takers = takers(alloc, active, rooms.as_slice())?;
-    moves_to(alloc, buckets.as_slice(), takers.as_slice())
+    let mut rooms = zeros(alloc, NUMBERS)?;
+    moves_in(alloc, rooms.as_mut_slice(), owner, active, quotas)
 }
 
-/// The quota of each server by its number, and 0 for a server that isn't active.
-fn rooms_of(alloc: Global, active: &[ServerId], quotas: &[u32]) -> Result<Vec<u32>, Memory>
+/// The moves of `moves`, found in a table that the caller keeps: it has a place for each server
+/// number, is zero at each, and is so again afterwards. So many rebalancings of disjoint sets of
+/// servers share one table. `Memory` where memory was refused.
+pub fn moves_in(
+    alloc: Global,
+    rooms: &mut [u32],
+    owner: &[ServerId],
+    active: &[ServerId],
+    quotas: &[u32],
+) -> Result<Vec<Move>, Memory>
+    requires numbers { length rooms.old ≡ NUMBERS }
+    requires zero { (s : ServerId) → slice_index rooms.old s.0 ≡ 0 }
     requires rising { RiseFrom 0 active.now }
     requires count { length quotas.now ≡ length active.now }
-    ensures count { IfOk result (λ rooms. vec_len rooms ≡ NUMBERS) }
-    ensures each { IfOk result (λ rooms. (s : ServerId)
-        → room_in rooms.items s ≡ rule.quota_of active.now quotas.now s) }
+    requires total { sum quotas.now ≡ length owner.now }
+    requires buckets { length owner.now ≤ 65536 }
+    ensures chosen { IfOk result (λ moves. moves.items
+        ≡ rule.rebalancing owner.now active.now quotas.now) }
+    ensures zero { OnOk result ((s : ServerId) → slice_index rooms.new s.0 ≡ 0) }
 {
-    let mut rooms = zeros(alloc, NUMBERS)?;
+    make_room(rooms, active, quotas);
+    let buckets = give(alloc, owner, rooms)?;
+    let takers = takers(alloc, active, rooms)?;
+    let moves = moves_to(alloc, buckets.as_slice(), takers.as_slice())?;
+    clear(rooms, active);
+    Ok(moves)
+}
+
+/// Writes the quota of each active server at its number.
+fn make_room(rooms: &mut [u32], active: &[ServerId], quotas: &[u32])
+    requires numbers { length rooms.old ≡ NUMBERS }
+    requires zero { (s : ServerId) → room_in rooms.old s ≡ 0 }
+    requires rising { RiseFrom 0 active.now }
+    requires count { length quotas.now ≡ length active.now }
+    ensures { (s : ServerId) → room_in rooms.new s ≡ rule.quota_of active.now quotas.now s }
+{
     for (i, s) in active.iter().enumerate() {
         rooms[s.0 as usize] = quotas[i];
     }
-    Ok(rooms)
+}
+
+/// Writes zero at the number of each of these servers.
+fn clear(rooms: &mut [u32], servers: &[ServerId])
+    requires numbers { length rooms.old ≡ NUMBERS }
+    ensures { (s : ServerId)
+        → room_in rooms.new s ≡ cleared servers.now (room_in rooms.old) s }
+{
+    for s in servers {
+        rooms[s.0 as usize] = 0;
+    }
 }
 
 fn zeros(alloc: Global, count: usize) -> Result<Vec<u32>, Memory>

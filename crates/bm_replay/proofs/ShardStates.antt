@@ -14,11 +14,11 @@ use Rattle.bm_core.specs.declared.events.Stage.{Stage}
 use Rattle.bm_core.specs.Books.{Turn, add_turn, book_of, turn_of}
 use Rattle.bm_core.specs.Runs.{last_clock}
 use Rattle.bm_shard.specs.Replies.{is_held_by, verdict_by, what_of}
-use Rattle.bm_shard.specs.States.{IsAfter, State, clock_at, known_in, turn_at}
+use Rattle.bm_shard.specs.States.{IsAfter, State, clock_at, known_in}
 use Rattle.bm_shard.specs.Inside.States.{IsLeft}
 use Rattle.bm_shard.specs.Turns.{call_moment}
 use Rattle.bm_shard.specs.declared.calls.ShardCall.{ShardCall}
-use Rattle.bm_shard.proofs.Keeping.{knows_same, left_after}
+use Rattle.bm_shard.proofs.Keeping.{knows_same, left_after, turn_at}
 use Rattle.bm_base.specs.declared.flow.Flow.{Flow}
 use Rattle.bm_base.specs.declared.flow.Segment.{Segment}
 use Rattle.bm_base.specs.declared.ids.Moment.{Moment}

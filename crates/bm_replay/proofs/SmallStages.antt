@@ -52,6 +52,7 @@ row_setting capacity within =
       servers = plain.servers;
       rising = plain.rising;
       numbers = plain.numbers;
+      racks = plain.racks;
       muxes = plain.muxes;
       shards = (omega arith, omega arith);
       capacity = within;
@@ -76,6 +77,7 @@ three_setting =
       rising = (omega arith, (omega arith, (omega arith, tt)));
       numbers = All-from_recursion (λ (s : ServerId). s.0 ≤ 1024) three_servers
           (omega arith, (omega arith, (omega arith, tt)));
+      racks = row.racks;
       muxes = row.muxes;
       shards = row.shards;
       capacity = row.capacity;

@@ -26,10 +26,11 @@ use Rattle.bm_replay.specs.Inside.Muxes.{HasTable, switches_of, version_in}
 use Rattle.bm_replay.specs.Inside.Playing.{KeepsMuxes, KeepsQueues}
 use Rattle.bm_replay.specs.Inside.Queues.{IsHead}
 use Rattle.bm_replay.specs.Inside.Shards.{IsCalled, IsShardOf, KeepsShards, no_state, place_of, state_at}
-use Rattle.bm_shard.specs.States.{State, turn_at}
+use Rattle.bm_shard.specs.States.{State}
 use Rattle.bm_shard.specs.Inside.States.{IsLeft}
 use Rattle.bm_shard.specs.Turns.{call_moment}
 use Rattle.bm_shard.specs.declared.calls.ShardCall.{ShardCall}
+use Rattle.bm_shard.proofs.Keeping.{turn_at}
 use Rattle.bm_core.specs.Runs.{last_clock}
 use Rattle.bm_replay.proofs.ShardStates.{after_call, place_inside}
 use Rattle.bm_replay.proofs.NextEvents.{head_first}

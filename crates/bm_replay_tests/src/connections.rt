@@ -26,7 +26,7 @@ fn check(rt: &impl Abort, alloc: Global, h: &History, text: &str) -> Result<(), 
 {
     let causes = sweep(alloc, h)?;
     let table = connections(alloc, h, &causes)?;
-    let lines = table_text(alloc, Clock(None), table.items())?;
+    let lines = table_text(alloc, Clock(None), 1, table.items())?;
     assert_eq!(rt; lines.as_str(), text);
     Ok(())
 }

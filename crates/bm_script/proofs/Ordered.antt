@@ -1,5 +1,5 @@
 -- The commands that the definition gives are in order, and are refused as a script's are.
-use Rattle.std.proofs.Common.{◌≡◌, ℕ, ◌+◌, ◌-◌, ◌*◌, ◌^◌, ◌<◌, ◌≤◌, Bool, true, false, not, nat_le, nat_lt, cond, List}
+use Rattle.std.proofs.Common.{◌≡◌, ℕ, ◌+◌, ◌-◌, ◌*◌, ◌%◌, ◌==◌, ◌^◌, ◌<◌, ◌≤◌, Bool, true, false, not, nat_le, nat_lt, cond, List}
 use Rattle.std.proofs.Common.{[], ◌∷◌, ◌++◌, length, map, Option, Some, None, Ok, Err, refl, sym, ap, subst, ◌∙◌, arith}
 use Rattle.std.proofs.Common.{le-ltb}
 use Rattle.std.proofs.lemmas.Bool.{or_right}
@@ -12,10 +12,11 @@ use Rattle.bm_controller.proofs.MemberPlans.{knows-push}
 use Rattle.bm_controller.specs.Commands as controller
 use Rattle.bm_controller.specs.Commands.{first_refusal, limits, when}
 use Rattle.bm_controller.specs.Commands.Command.{AddServer, DrainServer, WeighServer, MoveBucket}
-use Rattle.bm_controller.specs.Controlled.{is_member, Controlled}
+use Rattle.bm_controller.specs.Controlled.{in_rack, is_member, rack_of, Controlled}
 use Rattle.bm_controller.specs.declared.members.Member.{Member}
 use Rattle.bm_controller.specs.Membership.{knows}
-use Rattle.bm_quota.specs.declared.refusal.Refusal.{Refusal}
+use Rattle.bm_controller.specs.declared.refusal.RackRefusal.{RackRefusal}
+use Rattle.bm_controller.specs.declared.refusal.RackRefusal.TheVariants.{Base, LastInRack, WrongRack}
 use Rattle.bm_quota.specs.declared.refusal.Refusal.TheVariants.{KnownServer, UnknownServer, NotActive, LastServer}
 use Rattle.bm_quota.specs.declared.refusal.Refusal.TheVariants.{BadBucket, SameServer, StampFell, TooMany}
 use Rattle.bm_script.specs.declared.commands.Verb.{Verb}
@@ -28,7 +29,7 @@ use Rattle.bm_script.proofs.Sound.{Any, Meets, meets-only_keys, meets-required, 
 use Rattle.bm_script.proofs.Sound.{reads_any}
 use Rattle.bm_script.specs.Commands.{after_command, after_commands, asked_of_controller, carried, changed, next}
 use Rattle.bm_script.specs.Commands.{with_command, Progress}
-use Rattle.bm_script.specs.Faults.{required, IsOfScript}
+use Rattle.bm_script.specs.Faults.{refused_as, required, IsOfScript}
 use Rattle.bm_script.specs.Keys.{verb_keys}
 use Rattle.bm_script.specs.Values as values
 use Rattle.bm_table.proofs.PlanLemmas.{next_change-before, next_change-last}
@@ -41,6 +42,7 @@ use Rattle.bm_table.specs.declared.script.Command.TheVariants.{Retire as RetireC
 use Rattle.bm_table.specs.Planned.{Planned}
 use Rattle.bm_table.specs.Plans.{last_moment, server_now, total_moves, with_change}
 use Rattle.bm_table.specs.Scripts.{moment_of_command, IsOfKnown, NamesVersions}
+use Rattle.bm_table.specs.Settings as settings
 use Rattle.bm_table.specs.Settings.{IsWithin}
 use Rattle.bm_table.specs.Tables.{is_add, change_moment, next_change, same_server}
 
@@ -173,7 +175,7 @@ with_change-ordered : (first : Planned) (n : ℕ) (p : Progress) (members : List
     → AreOrdered first (n + 1)
     (record {
       version = p.version;
-      controller = record { plan = with_change p.controller.plan c; members = members };
+      controller = record { plan = with_change p.controller.plan c; racks = p.controller.racks; members = members };
       last = c.moment.0;
       commands =
           p.commands ++ ChangeCommand (record { 0 = length p.controller.plan.changes + 1 }) ∷ [];
@@ -228,59 +230,71 @@ with_command-ordered first n p at command h range other moment known =
 -- REFUSALS
 
 -- each refusal that may be the first is one of a script
-abbrev Refuses : List (Option Refusal) → Type 0
-Refuses refusals = (n : ℕ) (r : Refusal) → first_refusal refusals ≡ Some r → IsOfScript (Refused n r)
+abbrev Refuses : List (Option RackRefusal) → Type 0
+Refuses refusals = (n : ℕ) (r : RackRefusal) → first_refusal refusals ≡ Some r → IsOfScript (refused_as n r)
 
 refuses-none : Refuses []
 refuses-none n r e = absurd cc
 
-refuses-when : (test : Bool) (first : Refusal) (refusals : List (Option Refusal))
-    → ((n : ℕ) → IsOfScript (Refused n first)) → Refuses refusals → Refuses (when test first ∷ refusals)
+refuses-when : (test : Bool) (first : RackRefusal) (refusals : List (Option RackRefusal))
+    → ((n : ℕ) → IsOfScript (refused_as n first)) → Refuses refusals → Refuses (when test first ∷ refusals)
 refuses-when true first refusals h more n r e =
-    let same : first ≡ r = cc in subst (λ (x : Refusal). IsOfScript (Refused n x)) same (h n)
+    let same : first ≡ r = cc in subst (λ (x : RackRefusal). IsOfScript (refused_as n x)) same (h n)
 refuses-when false first refusals h more n r e = more n r e
 
 refuses-limits : (plan : Planned) (at : Moment) (count : ℕ) → last_moment plan ≤ at.0 → Refuses (limits plan at count)
 refuses-limits plan when_ count le =
     let later : nat_lt when_.0 (last_moment plan) ≡ false = le-ltb _ _ le in
     subst (λ (b : Bool). Refuses
-    (when b StampFell ∷ when (nat_le 4096 (length plan.changes)) (TooMany Changes) ∷ when
-    (nat_lt 1000000 (total_moves plan.changes + count)) (TooMany Moves) ∷ [])) (sym later)
-    (λ n r e. refuses-when (nat_le 4096 (length plan.changes)) (TooMany Changes) _ (λ m. tt)
-    (refuses-when (nat_lt 1000000 (total_moves plan.changes + count)) (TooMany Moves) [] (λ m. tt) refuses-none) n r e)
+    (when b (Base StampFell) ∷ when (nat_le 4096 (length plan.changes)) (Base (TooMany Changes)) ∷ when
+    (nat_lt 1000000 (total_moves plan.changes + count)) (Base (TooMany Moves)) ∷ [])) (sym later)
+    (λ n r e. refuses-when (nat_le 4096 (length plan.changes)) (Base (TooMany Changes)) _ (λ m. tt)
+    (refuses-when (nat_lt 1000000 (total_moves plan.changes + count)) (Base (TooMany Moves)) [] (λ m. tt) refuses-none)
+    n r e)
 
 -- the change of a command is at its moment
 moment-change : (c : Controlled) (at : Moment) (command : controller.Command)
     → (controller.change_of c at command).moment ≡ at
-moment-change c at (AddServer s weight) = refl
+moment-change c at (AddServer s weight rack) = refl
 moment-change c at (DrainServer s) = refl
 moment-change c at (WeighServer s weight) = refl
 moment-change c at (MoveBucket bucket s) = refl
 
-refuses-active : (c : Controlled) (s : ServerId) (refusals : List (Option Refusal)) → Refuses refusals
+refuses-active : (c : Controlled) (s : ServerId) (refusals : List (Option RackRefusal)) → Refuses refusals
     → Refuses (controller.unless_active c s ++ refusals)
 refuses-active c s refusals more =
-    refuses-when (not (knows c.plan s)) UnknownServer _ (λ n. tt)
-    (refuses-when (not (is_member c.members s)) NotActive refusals (λ n. tt) more)
+    refuses-when (not (knows c.plan s)) (Base UnknownServer) _ (λ n. tt)
+    (refuses-when (not (is_member c.members s)) (Base NotActive) refusals (λ n. tt) more)
+
+refuses-last : (c : Controlled) (s : ServerId) (refusals : List (Option RackRefusal)) → Refuses refusals
+    → Refuses (controller.if_last c s ++ refusals)
+refuses-last c s refusals more =
+    refuses-when (nat_le (length c.members) 1) (Base LastServer) _ (λ n. tt)
+    (refuses-when (nat_le (length (in_rack (rack_of c.members s) c.members)) 1) LastInRack refusals (λ n. tt) more)
+
+refuses-fits : (c : Controlled) (bucket : ℕ) (s : ServerId) (refusals : List (Option RackRefusal)) → Refuses refusals
+    → Refuses (controller.unless_fits c bucket s ++ refusals)
+refuses-fits c bucket s refusals more =
+    refuses-when (not (rack_of c.members s == bucket % c.racks)) WrongRack _ (λ n. tt)
+    (refuses-when (same_server (server_now c.plan bucket) s) (Base SameServer) refusals (λ n. tt) more)
 
 refuses-command : (c : Controlled) (at : Moment) (command : controller.Command) (count : ℕ) → last_moment c.plan ≤ at.0
     → Refuses (controller.unfit c command ++ limits c.plan at count)
-refuses-command c at_ (AddServer s weight) count le =
-    refuses-when (knows c.plan s) KnownServer _ (λ n. tt) (refuses-limits c.plan at_ count le)
+refuses-command c at_ (AddServer s weight rack) count le =
+    refuses-when (knows c.plan s) (Base KnownServer) _ (λ n. tt) (refuses-limits c.plan at_ count le)
 refuses-command c at_ (DrainServer s) count le =
-    refuses-active c s (when (nat_le (length c.members) 1) LastServer ∷ limits c.plan at_ count)
-    (refuses-when (nat_le (length c.members) 1) LastServer _ (λ n. tt) (refuses-limits c.plan at_ count le))
+    refuses-active c s (controller.if_last c s ++ limits c.plan at_ count)
+    (refuses-last c s (limits c.plan at_ count) (refuses-limits c.plan at_ count le))
 refuses-command c at_ (WeighServer s weight) count le =
     refuses-active c s (limits c.plan at_ count) (refuses-limits c.plan at_ count le)
 refuses-command c at_ (MoveBucket bucket s) count le =
-    refuses-when (nat_le c.plan.buckets bucket) BadBucket _ (λ n. tt)
-    (refuses-active c s (when (same_server (server_now c.plan bucket) s) SameServer ∷ limits c.plan at_ count)
-    (refuses-when (same_server (server_now c.plan bucket) s) SameServer _ (λ n. tt)
-    (refuses-limits c.plan at_ count le)))
+    refuses-when (nat_le c.plan.buckets bucket) (Base BadBucket) _ (λ n. tt)
+    (refuses-active c s (controller.unless_fits c bucket s ++ limits c.plan at_ count)
+    (refuses-fits c bucket s (limits c.plan at_ count) (refuses-limits c.plan at_ count le)))
 
 changed-ordered : (first : Planned) (n : ℕ) (p : Progress) (at : ℕ) (command : controller.Command)
-    (answer : Option Refusal) → AreOrdered first n p → IsWithin p.last (4 * 10 ^ 18) at
-    → ((k : ℕ) (r : Refusal) → answer ≡ Some r → IsOfScript (Refused k r))
+    (answer : Option RackRefusal) → AreOrdered first n p → IsWithin p.last (4 * 10 ^ 18) at
+    → ((k : ℕ) (r : RackRefusal) → answer ≡ Some r → IsOfScript (refused_as k r))
     → Meets (AreOrdered first (n + 1)) (changed p at command answer)
 changed-ordered first n p at command (Some refusal) h range refuses = refuses (next p) refusal refl
 changed-ordered first n p at command None h range refuses =
@@ -331,7 +345,7 @@ carried-ordered first n p at Add inside h range =
     (meets-required (at_.Command (next p)) key.Server values.server Any inside (reads_any values.server)) λ s _.
     meets-then Any (AreOrdered first (n + 1)) _ _
     (meets-added (at_.Command (next p)) inside (nat_le 2 p.version)) λ weight _.
-    asked_of_controller-ordered first n p at (AddServer s weight) h range
+    asked_of_controller-ordered first n p at (AddServer s weight (settings.rack_of p.controller.racks s)) h range
 carried-ordered first n p at Drain inside h range =
     meets-then Any (AreOrdered first (n + 1)) _ _
     (meets-required (at_.Command (next p)) key.Server values.server Any inside (reads_any values.server)) λ s _.

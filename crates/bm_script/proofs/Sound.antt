@@ -1,7 +1,8 @@
 -- What the definition gives is sound: a setting in its ranges, commands in their order, refusals of a script.
 use Rattle.std.proofs.Common.{◌≡◌, ℕ, ℤ, pos, negsuc, zero, suc, ◌+◌, ◌≤◌, Bool, true, false, ◌&&◌, nat_le, cond, List}
 use Rattle.std.proofs.Common.{[], ◌∷◌, length, replicate, Option, Some, None, ok_or, Result, Ok, Err, refl, sym, ap}
-use Rattle.std.proofs.Common.{subst, arith, All}
+use Rattle.std.proofs.Common.{subst, arith, All, min}
+use Rattle.std.proofs.Math.Nat.{min-le_left, min-le_right}
 use Rattle.std.proofs.lemmas.Bool.{and_parts, leb-true}
 use Rattle.std.proofs.lemmas.List.Elements.{All-nil, All-cons}
 use Rattle.toml.specs.Data.{Data, as_array, as_integer, as_table, Items, no_items, item, Members}
@@ -19,6 +20,7 @@ use Rattle.bm_script.specs.Keys.{first_unknown, row_keys, value_at}
 use Rattle.bm_script.specs.Inside.Openings.{IsOpening}
 use Rattle.bm_script.specs.Scripts.{opening_of}
 use Rattle.bm_script.specs.Values as values
+use Rattle.bm_script.proofs.Racked.{one_filled}
 use Rattle.bm_table.proofs.SettingLemmas.{IsSetting-plain_setting}
 use Rattle.bm_table.specs.declared.setting.FaultRow.{FaultRow}
 use Rattle.bm_table.specs.Settings.{plain_setting, seconds, IsFaultRow, IsWithin, RiseFrom}
@@ -236,13 +238,43 @@ plain_weights (suc n) =
     let more = plain_weights n in
     (ap suc more.0, All-cons (IsWithin 1 1000) 1 (replicate n 1) (omega arith, omega arith) more.1)
 
+-- no more racks than buckets, each with one of the servers
+record AreRacks (buckets : ℕ) (servers : List ServerId) (racks : ℕ) : Type 0 where
+  within : IsWithin 1 64 racks
+  few : racks ≤ buckets
+  filled : values.are_filled racks servers ≡ true
+
+filled-cond : (buckets : ℕ) (servers : List ServerId) (k racks : ℕ) (filled : Bool)
+    → filled ≡ values.are_filled k servers → IsWithin 1 (min 64 buckets) k → cond filled (Some k) None ≡ Some racks
+    → AreRacks buckets servers racks
+filled-cond buckets servers k racks false is range e = absurd cc
+filled-cond buckets servers k racks true is range e =
+    let same : k ≡ racks = cc in
+    subst (AreRacks buckets servers) same (record {
+      within = (range.0, omega (arith, range.1, min-le_left 64 buckets));
+      few = omega (arith, range.1, min-le_right 64 buckets);
+      filled = sym is;
+    })
+
+reads-racks : (buckets : ℕ) (servers : List ServerId) → Reads (values.racks buckets servers) (AreRacks buckets servers)
+reads-racks buckets servers d racks e =
+    let (k, is, after) = some-then (values.number 1 (min 64 buckets) d) (values.if_filled servers) racks e in
+    filled-cond buckets servers k racks (values.are_filled k servers) refl (reads-number 1 (min 64 buckets) d k is) after
+
+one_rack : (buckets : ℕ) (servers : List ServerId) → 1 ≤ buckets → 1 ≤ length servers → AreRacks buckets servers 1
+one_rack buckets servers some_bucket some_server = record {
+  within = (omega arith, omega arith);
+  few = some_bucket;
+  filled = one_filled servers some_server;
+}
+
 -- THE OPENING
 
 pub opening-sound : (inside : Members) → Meets IsOpening (opening_of inside)
 opening-sound inside =
-    meets-then (IsWithin 1 2) IsOpening _ _
-    (meets-optional key.Version 1 (values.number 1 2) (IsWithin 1 2) inside (omega arith, omega arith)
-    (reads-number 1 2)) λ version _.
+    meets-then (IsWithin 1 3) IsOpening _ _
+    (meets-optional key.Version 1 (values.number 1 3) (IsWithin 1 3) inside (omega arith, omega arith)
+    (reads-number 1 3)) λ version _.
     meets-then (IsWithin 1 65536) IsOpening _ _
     (meets-optional key.Buckets plain_setting.buckets (values.number 1 65536) (IsWithin 1 65536) inside
     IsSetting-plain_setting.buckets (reads-number 1 65536)) λ buckets is_buckets.
@@ -254,6 +286,9 @@ opening-sound inside =
     (meets-optional key.Weights (replicate (length servers) 1) (values.weights (length servers))
     (AreWeights (length servers)) inside (plain_weights (length servers)) (reads-weights (length servers))) λ weights
     are_weights.
+    meets-then (AreRacks buckets servers) IsOpening _ _
+    (meets-optional key.Racks plain_setting.racks (values.racks buckets servers) (AreRacks buckets servers) inside
+    (one_rack buckets servers is_buckets.0 are_servers.0.0) (reads-racks buckets servers)) λ racks are_racks.
     meets-then (IsWithin 1 64) IsOpening _ _
     (meets-optional key.Muxes plain_setting.muxes (values.number 1 64) (IsWithin 1 64) inside
     IsSetting-plain_setting.muxes (reads-number 1 64)) λ muxes is_muxes.
@@ -277,11 +312,14 @@ opening-sound inside =
     record {
       count = are_weights.0;
       weights = are_weights.1;
+      few = are_racks.few;
+      filled = are_racks.filled;
       setting = record {
         buckets = is_buckets;
         servers = are_servers.0;
         rising = are_servers.1;
         numbers = are_servers.2;
+        racks = are_racks.within;
         muxes = is_muxes;
         shards = is_shards;
         capacity = is_capacity;

@@ -10,15 +10,18 @@ use Rattle.bm_script.proofs.Sound.{Any, AreRows, Meets, meets-only_keys, meets-t
 use Rattle.bm_script.proofs.Sound.{opening-sound}
 use Rattle.bm_script.specs.declared.fault.Place.TheVariants.{Top}
 use Rattle.bm_script.specs.declared.fault.ScriptFault.{ScriptFault}
-use Rattle.bm_script.specs.declared.fault.ScriptFault.TheVariants.{NotToml, Missing, BadValue, Unknown, Refused, Memory}
+use Rattle.bm_script.specs.declared.fault.ScriptFault.TheVariants.{NotToml, Missing, BadValue, Unknown, Refused, Rack}
+use Rattle.bm_script.specs.declared.fault.ScriptFault.TheVariants.{Memory}
 use Rattle.bm_script.specs.declared.key.Key.TheVariants as key
 use Rattle.bm_script.specs.Faults.{Gives, IsOfScript}
 use Rattle.bm_script.specs.Keys.{top_keys}
 use Rattle.bm_script.specs.declared.top.Opening.{Opening}
 use Rattle.bm_script.specs.Inside.Openings.{IsOpening}
-use Rattle.bm_script.specs.Scripts.{of_tree, opened, script_in, script_of, script_with, tree_of, version_of}
+use Rattle.bm_script.specs.Scripts.{commands_of, of_tree, opened, script_in, script_of, script_with, tree_of, version_of}
 use Rattle.bm_script.specs.Values as values
+use Rattle.bm_table.specs.declared.script.Command.{Command}
 use Rattle.bm_table.specs.declared.script.Script.{Script}
+use Rattle.bm_table.specs.Planned.{Planned}
 use Rattle.bm_table.specs.declared.setting.FaultRow.{FaultRow}
 use Rattle.bm_table.specs.declared.setting.Setting.{Setting}
 use Rattle.bm_table.specs.Scripts.{moment_of_command, IsOfKnown, IsSoundScript, NamesVersions}
@@ -47,6 +50,32 @@ opened-ordered version opening = record {
   of_known = tt;
 }
 
+-- the plan and the commands that were read, beside the plan that was there at first
+record AreCarried (first : Planned) (n : ℕ) (read : Planned × List Command) : Type 0 where
+  few : length read.1 ≡ n
+  buckets : read.0.buckets ≡ first.buckets
+  servers : read.0.servers ≡ first.servers
+  rise : AreRising 0 (4 * 10 ^ 18) (map (λ c. moment_of_command read.0 c) read.1)
+  versions : NamesVersions 1 (length read.0.changes) read.1
+  of_known : AllByRecursion (λ c. IsOfKnown read.0 c) read.1
+
+commands-carried : (version : ℕ) (opening : Opening) (items : Items)
+    → Meets (AreCarried (opened version opening).controller.plan (values.count items)) (commands_of version opening items)
+commands-carried version opening items =
+    meets-then (AreOrdered (opened version opening).controller.plan (values.count items))
+    (AreCarried (opened version opening).controller.plan (values.count items)) _ _
+    (commands-ordered (opened version opening).controller.plan 0 (values.count items) (opened version opening) items
+    (omega arith) (opened-ordered version opening)) λ p are.
+    record {
+      few = are.few;
+      buckets = are.buckets;
+      servers = are.servers;
+      rise = AreRising-higher 0 p.last (4 * 10 ^ 18) (map (λ c. moment_of_command p.controller.plan c) p.commands)
+          are.rise are.last;
+      versions = are.versions;
+      of_known = are.of_known;
+    }
+
 with_rows : (setting : Setting) (items : Items) (rows : List FaultRow) → IsSetting setting → values.count items ≤ 4096
     → AreRows items rows → IsSetting (record setting { faults = rows })
 with_rows setting items rows h few are = record {
@@ -54,6 +83,7 @@ with_rows setting items rows h few are = record {
   servers = h.servers;
   rising = h.rising;
   numbers = h.numbers;
+  racks = h.racks;
   muxes = h.muxes;
   shards = h.shards;
   capacity = h.capacity;
@@ -75,16 +105,14 @@ read-with version inside =
     meets-then (λ items. values.count items ≤ 65536) IsRead _ _ (meets-tables key.Command 65536 inside) λ command_tables
     few.
     meets-then (AreRows fault_tables) IsRead _ _ (rows-sound 1 fault_tables) λ rows are_rows.
-    meets-then (AreOrdered (opened version opening).controller.plan (values.count command_tables)) IsRead _ _
-    (commands-ordered (opened version opening).controller.plan 0 (values.count command_tables) (opened version opening)
-    command_tables (omega arith) (opened-ordered version opening)) λ p are.
+    meets-then (AreCarried (opened version opening).controller.plan (values.count command_tables)) IsRead _ _
+    (commands-carried version opening command_tables) λ read are.
     record {
       setting = with_rows opening.setting fault_tables rows is_opening.setting few_rows are_rows;
       buckets = are.buckets;
       servers = are.servers;
       few = omega (arith, are.few);
-      rise = AreRising-higher 0 p.last (4 * 10 ^ 18) (map (λ c. moment_of_command p.controller.plan c) p.commands)
-          are.rise are.last;
+      rise = are.rise;
       versions = are.versions;
       of_known = are.of_known;
     }
@@ -124,6 +152,7 @@ fault-sound text (Missing place key) is = tt
 fault-sound text (BadValue place key) is = tt
 fault-sound text (Unknown place name) is = tt
 fault-sound text (Refused n r) is = script-fault text (Refused n r) (is (λ e. cc))
+fault-sound text (Rack n r) is = script-fault text (Rack n r) (is (λ e. cc))
 fault-sound text Memory is = tt
 
 -- of an answer that is what the definition gives

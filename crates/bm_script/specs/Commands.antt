@@ -7,8 +7,8 @@ use Rattle.bm_base.specs.declared.ids.ServerId.{ServerId}
 use Rattle.bm_controller.specs.Commands as controller
 use Rattle.bm_controller.specs.Commands.Command.{AddServer, DrainServer, WeighServer, MoveBucket}
 use Rattle.bm_controller.specs.Controlled.{Controlled}
+use Rattle.bm_controller.specs.declared.refusal.RackRefusal.{RackRefusal}
 use Rattle.bm_controller.specs.Membership.{knows}
-use Rattle.bm_quota.specs.declared.refusal.Refusal.{Refusal}
 use Rattle.bm_quota.specs.declared.refusal.Refusal.TheVariants.{UnknownServer}
 use Rattle.bm_script.specs.declared.commands.Verb.{Verb}
 use Rattle.bm_script.specs.declared.commands.Verb.TheVariants.{Add, Drain, Move, Close, Retire}
@@ -18,7 +18,7 @@ use Rattle.bm_script.specs.declared.fault.Place.TheVariants as at_
 use Rattle.bm_script.specs.declared.fault.ScriptFault.{ScriptFault}
 use Rattle.bm_script.specs.declared.fault.ScriptFault.TheVariants.{Refused}
 use Rattle.bm_script.specs.declared.key.Key.TheVariants as key
-use Rattle.bm_script.specs.Faults.{◌>>=◌, only_keys, required, valued}
+use Rattle.bm_script.specs.Faults.{◌>>=◌, only_keys, refused_as, required, valued}
 use Rattle.bm_script.specs.Keys.{row_keys, verb_keys}
 use Rattle.bm_script.specs.Values.{endpoint_value, hop, number, server, verb, weight}
 use Rattle.bm_table.specs.declared.script.Command.{Command}
@@ -27,6 +27,7 @@ use Rattle.bm_table.specs.declared.script.Command.TheVariants.{Close as CloseCom
 use Rattle.bm_table.specs.declared.script.Command.TheVariants.{Retire as RetireCommand}
 use Rattle.bm_table.specs.declared.script.Command.TheVariants.{Sync as SyncCommand}
 use Rattle.bm_table.specs.declared.setting.FaultRow.{FaultRow}
+use Rattle.bm_table.specs.Settings.{rack_of}
 
 -- FAULT ROWS
 
@@ -74,9 +75,9 @@ with_command p at command = record {
 }
 
 -- one more command, which leads to the change that the controller makes, unless it refuses
-abbrev pub changed : Progress → ℕ → controller.Command → Option Refusal
+abbrev pub changed : Progress → ℕ → controller.Command → Option RackRefusal
     → Result Progress ScriptFault
-changed p at command (Some refusal) = Err (Refused (next p) refusal)
+changed p at command (Some refusal) = Err (refused_as (next p) refusal)
 changed p at command None = Ok (record {
   version = p.version;
   controller = controller.after p.controller (record { 0 = at }) command;
@@ -105,7 +106,7 @@ abbrev pub carried : Progress → ℕ → Verb → Members → Result Progress S
 carried p at Add entries = do
   s ← required (at_.Command (next p)) key.Server server entries
   weight ← added_weight p.version (at_.Command (next p)) entries
-  asked_of_controller p at (AddServer s weight)
+  asked_of_controller p at (AddServer s weight (rack_of p.controller.racks s))
 carried p at Drain entries = do
   s ← required (at_.Command (next p)) key.Server server entries
   asked_of_controller p at (DrainServer s)

@@ -1,6 +1,8 @@
 -- The faults of a script: their texts, and reading that stops at the first one.
 use Rattle.std.specs.Prelude.{◌≡◌, ◌≢◌, ℕ, List, ◌++◌, Option, Some, None, Result, Ok, Err, ok_or}
 use Rattle.std.specs.Prelude.{codes, decimal}
+use Rattle.bm_controller.specs.declared.refusal.RackRefusal.{RackRefusal}
+use Rattle.bm_controller.specs.declared.refusal.RackRefusal.TheVariants.{Base, LastInRack, WrongRack}
 use Rattle.bm_quota.specs.declared.refusal.Refusal.{Refusal}
 use Rattle.bm_quota.specs.declared.refusal.Refusal.TheVariants.{KnownServer, UnknownServer}
 use Rattle.bm_quota.specs.declared.refusal.Refusal.TheVariants.{NotActive, LastServer, BadBucket}
@@ -10,7 +12,7 @@ use Rattle.bm_script.specs.declared.fault.Place.{Place}
 use Rattle.bm_script.specs.declared.fault.Place.TheVariants.{Top, Fault, Command}
 use Rattle.bm_script.specs.declared.fault.ScriptFault.{ScriptFault}
 use Rattle.bm_script.specs.declared.fault.ScriptFault.TheVariants.{NotToml, Missing, BadValue}
-use Rattle.bm_script.specs.declared.fault.ScriptFault.TheVariants.{Unknown, Refused, Memory}
+use Rattle.bm_script.specs.declared.fault.ScriptFault.TheVariants.{Unknown, Refused, Rack, Memory}
 use Rattle.bm_script.specs.declared.key.Key.{Key}
 use Rattle.bm_script.specs.Keys.{first_unknown, key_word, value_at}
 use Rattle.bm_table.specs.declared.plan.Limit.TheVariants.{Changes, Moves}
@@ -33,6 +35,11 @@ refusal_word (TooMany Changes) = codes "too many changes"
 refusal_word (TooMany Moves) = codes "too many moves"
 refusal_word no_memory = codes "want of memory"
 
+abbrev pub rack_word : RackRefusal → List ℕ
+rack_word (Base refusal) = refusal_word refusal
+rack_word LastInRack = codes "last in rack"
+rack_word WrongRack = codes "wrong rack"
+
 -- the text of a fault: its place, and what it is
 abbrev pub fault_text : ScriptFault → List ℕ
 fault_text NotToml = codes "script: not toml"
@@ -40,12 +47,20 @@ fault_text (Missing place key) = place_text place ++ codes "missing " ++ key_wor
 fault_text (BadValue place key) = place_text place ++ codes "bad value of " ++ key_word key
 fault_text (Unknown place name) = place_text place ++ codes "unknown key " ++ name
 fault_text (Refused n refusal) = place_text (Command n) ++ refusal_word refusal
+fault_text (Rack n refusal) = place_text (Command n) ++ rack_word refusal
 fault_text Memory = codes "script: want of memory"
+
+-- what a controller's refusal of the command of this number is
+abbrev pub refused_as : ℕ → RackRefusal → ScriptFault
+refused_as n (Base refusal) = Refused n refusal
+refused_as n LastInRack = Rack n LastInRack
+refused_as n WrongRack = Rack n WrongRack
 
 -- a fault that reading a script may give
 abbrev pub IsOfScript : ScriptFault → Type 0
 IsOfScript (Refused n StampFell) = ⊥
 IsOfScript (Refused n no_memory) = ⊥
+IsOfScript (Rack n (Base refusal)) = ⊥
 IsOfScript _ = Unit {0}
 
 -- the result is what the definition gives, unless memory was refused

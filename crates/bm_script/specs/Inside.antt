@@ -1,3 +1,4 @@
 -- Only the contracts of private calls and the proofs of bodies use these.
 pub mod Openings
 pub mod Readings
+pub mod Rules

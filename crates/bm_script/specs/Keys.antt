@@ -34,17 +34,19 @@ key_word key.From = codes "from"
 key_word key.To = codes "to"
 key_word key.Weight = codes "weight"
 key_word key.Weights = codes "weights"
+key_word key.Racks = codes "racks"
 
 -- the first version of scripts that has the key
 abbrev pub since : Key → ℕ
 since key.Weight = 2
 since key.Weights = 2
+since key.Racks = 3
 since _ = 1
 
 abbrev pub top_keys : List Key
 top_keys =
-    key.Version ∷ key.Buckets ∷ key.Servers ∷ key.Weights ∷ key.Muxes ∷ key.Shards ∷ key.Capacity
-    ∷ key.Timeout ∷ key.Vips ∷ key.Route ∷ key.Lags ∷ key.Fault ∷ key.Command ∷ []
+    key.Version ∷ key.Buckets ∷ key.Servers ∷ key.Weights ∷ key.Racks ∷ key.Muxes ∷ key.Shards
+    ∷ key.Capacity ∷ key.Timeout ∷ key.Vips ∷ key.Route ∷ key.Lags ∷ key.Fault ∷ key.Command ∷ []
 
 abbrev pub row_keys : List Key
 row_keys = key.Packet ∷ key.Hop ∷ key.Copies ∷ key.Delay ∷ []

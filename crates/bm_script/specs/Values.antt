@@ -1,7 +1,8 @@
 -- What the values of a script read as; None for one of the wrong kind or out of its range.
 use Rattle.std.specs.Prelude.{ℕ, ◌+◌, ◌-◌, ◌*◌, ℤ, pos, negsuc, List, [], ◌∷◌, Bool, true, false}
 use Rattle.std.specs.Prelude.{not, ◌&&◌, ◌==◌, nat_le, if◌then◌else◌, Option, Some, None}
-use Rattle.std.specs.Prelude.{option_map, codes, bytes_eq, is_some}
+use Rattle.std.specs.Prelude.{option_map, codes, bytes_eq, is_some, min}
+use Rattle.std.specs.List.{list_all, list_any, range_with_len}
 use Rattle.toml.specs.Data.{Data, as_array, as_integer, as_str, as_table, Items, no_items, item}
 use Rattle.bm_base.specs.declared.capture.Vip.{Vip}
 use Rattle.bm_base.specs.declared.ids.ServerId.{ServerId}
@@ -13,6 +14,7 @@ use Rattle.bm_script.specs.declared.commands.Verb.TheVariants.{Add, Drain, Move,
 use Rattle.bm_script.specs.declared.commands.Verb.TheVariants.{Sync, Weigh}
 use Rattle.bm_table.specs.declared.setting.RouteKind.{RouteKind}
 use Rattle.bm_table.specs.declared.setting.RouteKind.TheVariants.{Port, Turn}
+use Rattle.bm_table.specs.Settings.{rack_of}
 
 -- goes on with a value, if there is one
 infixl 10 ◌>>=◌
@@ -163,6 +165,23 @@ lags muxes d = items_from muxes muxes d >>= each (number 0 86400000000000)
 -- a weight for each server
 abbrev pub weights : ℕ → Data → Option (List ℕ)
 weights servers d = items_from servers servers d >>= each weight
+
+-- RACKS
+
+-- one of the servers stands in this rack
+abbrev pub has_server : ℕ → List ServerId → ℕ → Bool
+has_server racks servers rack = list_any (λ s. rack_of racks s == rack) servers
+
+-- each rack has one of the servers
+abbrev pub are_filled : ℕ → List ServerId → Bool
+are_filled racks servers = list_all (has_server racks servers) (range_with_len 0 racks)
+
+abbrev pub if_filled : List ServerId → ℕ → Option ℕ
+if_filled servers racks = if are_filled racks servers then Some racks else None
+
+-- how many racks there are: no more than buckets, and each has one of the servers
+abbrev pub racks : ℕ → List ServerId → Data → Option ℕ
+racks buckets servers d = number 1 (min 64 buckets) d >>= if_filled servers
 
 -- TABLES
 

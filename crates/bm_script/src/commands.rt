@@ -1,16 +1,24 @@
 //! The commands of a script, read in their order.
-ghost use Rattle.std.specs.Prelude.{◌≡◌, ◌≢◌, ◌≤◌, ◌<◌, Ok, Err, OnOk, IfOk, IfErr, length};
+ghost use Rattle.std.specs.Prelude.{◌≡◌, ◌≢◌, ◌≤◌, ◌<◌, Ok, Err, OnOk, IfOk, IfErr, length, None};
+ghost use Rattle.std.specs.Prelude.{Some};
+ghost use Rattle.bm_controller.specs.Commands as orders;
+ghost use Rattle.bm_controller.specs.Commands.Command.{AddServer};
+ghost use Rattle.bm_controller.specs.declared.refusal.RackRefusal.TheVariants.{Base as base};
 ghost use Rattle.bm_controller.specs.Membership.{KeepsMembership};
+ghost use Rattle.bm_policy.specs.Policies.{IsNumber};
+ghost use Rattle.bm_quota.specs.declared.refusal.Refusal.TheVariants.{Memory as no_memory};
 ghost use Rattle.bm_script.specs.Commands as commands;
 ghost use Rattle.bm_script.specs.Faults as faults;
 ghost use Rattle.bm_script.specs.Keys.{verb_keys};
 ghost use Rattle.bm_script.specs.Inside.Readings.{IsCounted, IsPublished, Reads, command_fault};
 ghost use Rattle.bm_script.specs.Inside.Readings.{progress};
-ghost use Rattle.bm_script.specs.Scripts.{opened};
+ghost use Rattle.bm_script.specs.Inside.Rules.{AsksRule, IsRackRule};
+ghost use Rattle.bm_script.specs.Scripts.{commands_of, opened};
 ghost use Rattle.bm_script.specs.Values as values;
 ghost use Rattle.bm_script.specs.declared.fault.ScriptFault.TheVariants.{Memory as memory};
 ghost use Rattle.bm_script.specs.declared.key.Key.TheVariants as key_;
 ghost use Rattle.bm_script.specs.Inside.Openings.{IsOpening};
+ghost use Rattle.bm_table.specs.Settings as settings;
 ghost use Rattle.bm_table.specs.Settings.{IsWithin};
 ghost use Rattle.toml.specs.View.{items_view, table_view, view};
 
@@ -21,9 +29,10 @@ use crate::value::{
 };
 use crate::{Key, Place, ScriptFault};
 use bm_base::{Flow, List, Moment, ServerId, Version};
-use bm_controller::Controller;
+use bm_controller::{RackController, RackRefusal};
+use bm_policy::Policy;
 use bm_quota::Refusal;
-use bm_table::{Command, Plan};
+use bm_table::{Command, Plan, rack_of};
 use std::alloc::Global;
 use toml::{Table, Value};
 
@@ -97,27 +106,43 @@ fn added_weight(table: &Table, place: Place, version: u8) -> Result<u32, ScriptF
     required_weight(table, place)
 }
 
-/// The commands read so far, and the controller that carries them out.
-#[derive(Drop)]
-pub(crate) struct Reading {
-    /// The script's version.
-    version: u8,
-    controller: Controller,
-    /// The moment of the last command, or 0.
-    last: u64,
-    /// How many changes the controller's plan has.
-    versions: u32,
-    commands: Vec<Command>,
-}
-
-/// The commands of these tables in a script of this version, carried out on the opening's servers.
+/// The plan that the commands of these tables make, and the commands, in a script of this version
+/// that opens so.
 pub(crate) fn read_commands(
     alloc: Global,
     version: u8,
     opening: &Opening,
     tables: &[Value],
-) -> Result<Reading, ScriptFault>
+) -> Result<(Plan, List<Command>), ScriptFault>
     requires setting { IsOpening opening.now }
+    requires few { length tables.now ≤ 65536 }
+    ensures gives { faults.Gives result (commands_of version opening.now (items_view tables.now)) }
+    ensures membership { IfOk result (λ read. KeepsMembership read.0) }
+{
+    let racks = opening.setting.racks;
+    let policy = Policy::new(
+        |server: ServerId| -> u16
+            requires { 1 ≤ racks }
+            ensures { result ≡ settings.rack_of racks server }
+        { rack_of(racks, server) },
+        racks,
+    );
+    let reading = read_tables(alloc, version, opening, policy, tables)?;
+    Ok(reading.into_parts())
+}
+
+/// The commands of these tables, carried out on the opening's servers in the racks that the policy
+/// gives them.
+fn read_tables<P: Fn(ServerId) -> u16 + Drop>(
+    alloc: Global,
+    version: u8,
+    opening: &Opening,
+    policy: Policy<P>,
+    tables: &[Value],
+) -> Result<Reading<P>, ScriptFault>
+    requires setting { IsOpening opening.now }
+    requires rule { IsRackRule P.Fn policy.rule policy.racks }
+    requires racks { policy.racks ≡ opening.now.setting.racks }
     requires few { length tables.now ≤ 65536 }
     ensures ok { IfOk result (λ reading.
         commands.after_commands (opened version opening.now) (items_view tables.now)
@@ -129,11 +154,12 @@ pub(crate) fn read_commands(
     let setting = &opening.setting;
     let mut reading = Reading {
         version,
-        controller: Controller::new(
+        controller: RackController::new(
             alloc,
             setting.buckets,
             setting.servers.items(),
             opening.weights.items(),
+            policy,
         )?,
         last: 0,
         versions: 0,
@@ -148,11 +174,25 @@ pub(crate) fn read_commands(
     Ok(reading)
 }
 
-impl Reading {
+/// The commands read so far, and the controller that carries them out.
+#[derive(Drop)]
+struct Reading<P> {
+    /// The script's version.
+    version: u8,
+    controller: RackController<P>,
+    /// The moment of the last command, or 0.
+    last: u64,
+    /// How many changes the controller's plan has.
+    versions: u32,
+    commands: Vec<Command>,
+}
+
+impl<P: Fn(ServerId) -> u16 + Drop> Reading<P> {
     /// Reads the command of a table, and carries it out.
     fn read(&mut self, alloc: Global, table: &Table) -> Result<(), ScriptFault>
         requires few { length self.old.commands.items < 65536 }
         requires counted { IsCounted self.old }
+        requires asks { AsksRule P.Fn self.old.controller }
         ensures { Reads self.old self.new
             (commands.after_command (progress self.old) (table_view table.now)) result }
     {
@@ -164,8 +204,8 @@ impl Reading {
     }
 
     /// The plan that the commands made, and the commands.
-    pub(crate) fn into_parts(self) -> (Plan, List<Command>)
-        ensures plan { result.0 ≡ self.controller.plan }
+    fn into_parts(self) -> (Plan, List<Command>)
+        ensures plan { result.0 ≡ self.controller.engine.plan }
         ensures membership { KeepsMembership result.0 }
         ensures commands { result.1 ≡ self.commands.items }
     {
@@ -190,6 +230,7 @@ impl Reading {
     fn carry_out(&mut self, at: u64, verb: Verb, table: &Table) -> Result<(), ScriptFault>
         requires few { length self.old.commands.items < 65536 }
         requires counted { IsCounted self.old }
+        requires asks { AsksRule P.Fn self.old.controller }
         ensures { Reads self.old self.new
             (commands.carried (progress self.old) at verb (table_view table.now)) result }
     {
@@ -207,6 +248,7 @@ impl Reading {
     fn add(&mut self, at: u64, table: &Table) -> Result<(), ScriptFault>
         requires few { length self.old.commands.items < 65536 }
         requires counted { IsCounted self.old }
+        requires asks { AsksRule P.Fn self.old.controller }
         ensures { Reads self.old self.new
             (commands.carried (progress self.old) at Verb.Add (table_view table.now)) result }
     {
@@ -214,7 +256,7 @@ impl Reading {
         let place = Place::Command(number);
         let server = required_server(table, place)?;
         let weight = added_weight(table, place, self.version)?;
-        match self.controller.add(Moment(at), server, weight) {
+        match add_server(&mut self.controller, Moment(at), server, weight) {
             Ok(()) => self.publish(at),
             Err(refusal) => Err(fault_of(number, refusal)),
         }
@@ -342,12 +384,36 @@ impl Reading {
     }
 }
 
+/// Adds a server with its weight, in the rack that scripts give it.
+fn add_server<P: Fn(ServerId) -> u16 + Drop>(
+    controller: &mut RackController<P>,
+    at: Moment,
+    server: ServerId,
+    weight: u32,
+) -> Result<(), RackRefusal>
+    requires number { IsNumber server }
+    requires weight { IsWithin 1 1000 weight }
+    requires asks { AsksRule P.Fn controller.old }
+    ensures ok { OnOk result (controller.new.engine ≡ orders.after controller.old.engine at
+        (AddServer server weight (settings.rack_of controller.old.engine.racks server))) }
+    ensures accepted { OnOk result (orders.refusal controller.old.engine at
+        (AddServer server weight (settings.rack_of controller.old.engine.racks server)) ≡ None) }
+    ensures refused { IfErr result (λ refusal. refusal ≢ base no_memory
+        → orders.refusal controller.old.engine at
+        (AddServer server weight (settings.rack_of controller.old.engine.racks server))
+        ≡ Some refusal) }
+    ensures policy { controller.new.policy ≡ controller.old.policy }
+{
+    controller.add(at, server, weight)
+}
+
 /// A refusal as a fault of the command of this number.
-fn fault_of(number: u32, refusal: Refusal) -> ScriptFault
+fn fault_of(number: u32, refusal: RackRefusal) -> ScriptFault
     ensures { result ≡ command_fault number refusal }
 {
     match refusal {
-        Refusal::Memory => ScriptFault::Memory,
-        _ => ScriptFault::Refused(number, refusal),
+        RackRefusal::Base(Refusal::Memory) => ScriptFault::Memory,
+        RackRefusal::Base(refusal) => ScriptFault::Refused(number, refusal),
+        RackRefusal::LastInRack | RackRefusal::WrongRack => ScriptFault::Rack(number, refusal),
     }
 }

@@ -5,6 +5,7 @@ ghost use Rattle.bm_script.specs.declared.fault.ScriptFault.TheVariants.{Memory 
 
 use crate::Key;
 use bm_base::{Memory, Text};
+use bm_controller::RackRefusal;
 use bm_quota::Refusal;
 use bm_table::Limit;
 use std::alloc::{AllocError, AllocFailed};
@@ -46,6 +47,8 @@ pub enum ScriptFault {
     Unknown(Place, Text),
     /// The command of this number is refused. The refusal is neither Memory nor StampFell.
     Refused(u32, Refusal),
+    /// The command of this number is refused for its rack: the refusal is LastInRack or WrongRack.
+    Rack(u32, RackRefusal),
     /// Memory was refused.
     Memory,
 }
@@ -64,6 +67,9 @@ impl fmt::Display for ScriptFault {
             }
             ScriptFault::Refused(number, refusal) => {
                 write!(f, "script command {number}: {}", refusal_word(*refusal))
+            }
+            ScriptFault::Rack(number, refusal) => {
+                write!(f, "script command {number}: {}", rack_word(*refusal))
             }
             ScriptFault::Memory => write!(f, "script: want of memory"),
         }
@@ -84,6 +90,16 @@ fn refusal_word(refusal: Refusal) -> &'static str
         Refusal::TooMany(Limit::Changes) => "too many changes",
         Refusal::TooMany(Limit::Moves) => "too many moves",
         Refusal::Memory => "want of memory",
+    }
+}
+
+fn rack_word(refusal: RackRefusal) -> &'static str
+    ensures { result.now ≡ faults.rack_word refusal }
+{
+    match refusal {
+        RackRefusal::Base(refusal) => refusal_word(refusal),
+        RackRefusal::LastInRack => "last in rack",
+        RackRefusal::WrongRack => "wrong rack",
     }
 }
 

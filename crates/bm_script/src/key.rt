@@ -27,6 +27,7 @@ pub enum Key {
     Lags,
     Muxes,
     Packet,
+    Racks,
     Route,
     Server,
     Servers,
@@ -69,6 +70,7 @@ impl Key {
             Key::To => "to",
             Key::Weight => "weight",
             Key::Weights => "weights",
+            Key::Racks => "racks",
         }
     }
 
@@ -78,6 +80,7 @@ impl Key {
     {
         match self {
             Key::Weight | Key::Weights => 2,
+            Key::Racks => 3,
             _ => 1,
         }
     }

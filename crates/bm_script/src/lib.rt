@@ -6,6 +6,7 @@ mod endpoint;
 mod fault;
 mod key;
 mod lists;
+mod racks;
 mod rows;
 mod script;
 mod top;

@@ -17,11 +17,12 @@ use std::alloc::Global;
 use toml::Table;
 
 /// The keys at the top of a script.
-const TOP_KEYS: [Key; 13] = [
+const TOP_KEYS: [Key; 14] = [
     Key::Version,
     Key::Buckets,
     Key::Servers,
     Key::Weights,
+    Key::Racks,
     Key::Muxes,
     Key::Shards,
     Key::Capacity,
@@ -79,13 +80,12 @@ fn read_with(alloc: Global, version: u8, table: &Table) -> Result<Script, Script
     let fault_tables = fault_tables(table)?;
     let command_tables = command_tables(table)?;
     let rows = read_rows(alloc, fault_tables)?;
-    let reading = read_commands(alloc, version, &opening, command_tables)?;
+    let (plan, commands) = read_commands(alloc, version, &opening, command_tables)?;
     let Opening {
         mut setting,
         weights: _,
     } = opening;
     setting.faults = rows;
-    let (plan, commands) = reading.into_parts();
     Ok(Script {
         setting,
         plan,

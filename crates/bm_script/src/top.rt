@@ -10,6 +10,7 @@ ghost use Rattle.toml.specs.Data.{no_items};
 ghost use Rattle.toml.specs.View.{items_view, table_view, view};
 
 use crate::lists::{items, lag_list, server_list, tables_alone, vip_list, weight_list};
+use crate::racks::racks;
 use crate::value::{find, number};
 use crate::{Key, Place, ScriptFault};
 use bm_base::{List, ServerId, Vip};
@@ -37,17 +38,18 @@ pub(crate) fn version_of(table: &Table) -> u8
     let Some(value) = find(table, Key::Version) else {
         return 1;
     };
-    number(value, 2, 2).unwrap_or(1) as u8
+    number(value, 2, 3).unwrap_or(1) as u8
 }
 
 /// The setting and the weights that the top keys give.
 pub(crate) fn read_opening(alloc: Global, table: &Table) -> Result<Opening, ScriptFault>
     ensures { faults.Gives result (scripts.opening_of (table_view table.now)) }
 {
-    top_number(table, Key::Version, 1, 1, 2)?;
+    top_number(table, Key::Version, 1, 1, 3)?;
     let buckets = top_number(table, Key::Buckets, 8, 1, 65_536)?;
     let servers = top_servers(alloc, table)?;
     let weights = top_weights(alloc, table, servers.items().len())?;
+    let racks = top_racks(table, buckets, servers.items())?;
     let muxes = top_number(table, Key::Muxes, 1, 1, 64)?;
     let shards = top_number(table, Key::Shards, 4, 1, 64)?;
     let capacity = top_number(table, Key::Capacity, 4_096, 1, 65_536)?;
@@ -58,6 +60,7 @@ pub(crate) fn read_opening(alloc: Global, table: &Table) -> Result<Opening, Scri
     let setting = Setting {
         buckets: buckets as u32,
         servers,
+        racks,
         muxes: muxes as u16,
         shards: shards as u16,
         capacity: capacity as u32,
@@ -102,6 +105,19 @@ fn top_weights(alloc: Global, table: &Table, servers: usize) -> Result<List<u32>
     match find(table, Key::Weights) {
         None => Ok(List::of(vec![in alloc; 1; servers]?)),
         Some(value) => weight_list(alloc, items(value, Key::Weights, servers, servers)?),
+    }
+}
+
+/// How many racks there are, 1 if the key isn't there.
+fn top_racks(table: &Table, buckets: u64, servers: &[ServerId]) -> Result<u16, ScriptFault>
+    ensures { result ≡ faults.optional key_.Racks plain_setting.racks
+        (values.racks buckets servers.now) (table_view table.now) }
+{
+    match find(table, Key::Racks) {
+        None => Ok(1),
+        Some(value) => {
+            racks(value, buckets, servers).ok_or(ScriptFault::BadValue(Place::Top, Key::Racks))
+        }
     }
 }
 

@@ -57,6 +57,8 @@ fn the_first_fault_is_named(rt: HostRuntime) -> Result<(), Fail> {
     assert_verdicts(&rt, alloc, &commands::REFUSALS)?;
     assert_verdicts(&rt, alloc, &top::WEIGHTS)?;
     assert_verdicts(&rt, alloc, &commands::WEIGHTS)?;
+    assert_verdicts(&rt, alloc, &top::RACKS)?;
+    assert_verdicts(&rt, alloc, &commands::RACKS)?;
     Ok(())
 }
 
@@ -144,6 +146,26 @@ fn all_servers_may_stand_in_a_script(rt: HostRuntime) -> Result<(), Fail> {
             verdict(alloc, text.as_bytes())?.as_str(),
             want,
             "{most} servers"
+        );
+    }
+    Ok(())
+}
+
+#[test]
+fn sixty_four_racks_may_be_filled(rt: HostRuntime) -> Result<(), Fail> {
+    let alloc = rt.alloc();
+    for (racks, want) in [(64, ""), (65, "script: bad value of racks")] {
+        let mut text = format!(in alloc;
+            "version = 3\nbuckets = 65\nracks = {racks}\nservers = ["
+        )?;
+        for number in 1..66 {
+            text.push_str(format!(in alloc; "{number},")?.as_str())?;
+        }
+        text.push_str("]")?;
+        assert_eq!(rt;
+            verdict(alloc, text.as_bytes())?.as_str(),
+            want,
+            "{racks} racks"
         );
     }
     Ok(())
@@ -335,5 +357,38 @@ fn weights_make_the_plan(rt: HostRuntime) -> Result<(), Fail> {
     let script = read_script(rt.alloc(), commands::PLAINLY_WEIGHED.as_bytes())?;
     let added = [to(4, 3), to(5, 3), to(6, 3), to(7, 3)];
     assert_change(&rt, &script.plan, 0, 500, Kind::Add(ServerId(3)), &added);
+    Ok(())
+}
+
+// 8 buckets on servers 1 and 2, each in a rack of its own. Server 3 is added in the rack of server 1.
+fn assert_racked_plan(rt: &impl Abort, plan: &Plan) {
+    assert!(rt; plan.versions() == 1);
+    let added = [to(4, 3), to(6, 3)];
+    assert_change(rt, plan, 0, 500, Kind::Add(ServerId(3)), &added);
+}
+
+// 8 buckets on servers 2 and 3: the even ones open at server 2, and their rack is that of server 3.
+fn assert_brought_home(rt: &impl Abort, plan: &Plan) {
+    assert!(rt; plan.versions() == 1);
+    let moves = [
+        to(0, 3),
+        to(1, 2),
+        to(2, 3),
+        to(3, 2),
+        to(4, 3),
+        to(5, 2),
+        to(6, 3),
+        to(7, 2),
+    ];
+    assert_change(rt, plan, 0, 500, Kind::Shift, &moves);
+}
+
+#[test]
+fn racks_make_the_plan(rt: HostRuntime) -> Result<(), Fail> {
+    let script = read_script(rt.alloc(), commands::RACKED.as_bytes())?;
+    assert!(rt; script.setting.racks == 2);
+    assert_racked_plan(&rt, &script.plan);
+    let script = read_script(rt.alloc(), commands::ASTRAY.as_bytes())?;
+    assert_brought_home(&rt, &script.plan);
     Ok(())
 }

@@ -16,10 +16,14 @@ use Rattle.bm_shard.specs.Books.{clock_of, clock_after, event_after, reply_after
 use Rattle.bm_shard.specs.Holdings.{TakesTurn}
 use Rattle.bm_shard.specs.Inside.Holdings.{IsLeftBy}
 use Rattle.bm_shard.specs.Replies.{what_of, reply_of, turn_of}
-use Rattle.bm_shard.specs.States.{IsAfter, State, clock_at, event_at, holding_in, known_in, reply_at, turn_at}
+use Rattle.bm_shard.specs.States.{IsAfter, IsServed, State, clock_at, event_at, holding_in, known_in, reply_at}
 use Rattle.bm_shard.specs.Inside.States.{IsLeft}
 use Rattle.bm_shard.specs.Turns.{call_moment, turn_kept, turns}
 use Rattle.bm_shard.proofs.Counting.{held_count}
+
+-- the turn of a call
+abbrev pub turn_at : State → ShardCall → Turn
+turn_at state call = turn_of state.shard (known_in state) (clock_at state call) call
 
 -- a shard that turns left knows of each flow what they say
 pub knows_same : (turns : List Turn) (state : State) → IsLeft turns state
@@ -37,12 +41,18 @@ left_by_turn turn book old new left takes = record {
 }
 
 -- after a call these turns and the call's left the state
-pub left_after : (turns : List Turn) (call : ShardCall) (old new : State) → IsLeft turns old → IsAfter call old new
-    → IsLeft (turn_at old call ∷ turns) new
-left_after turns call old new is after = record {
-  left = left_by_turn (turn_at old call) turns (holding_in old) (holding_in new) is.left after.takes;
+pub left_served : (turns : List Turn) (at : Moment) (call : ShardCall) (old new : State) → IsLeft turns old
+    → IsServed at call old new → IsLeft (turn_of old.shard (known_in old) at call ∷ turns) new
+left_served turns at call old new is after = record {
+  left =
+      left_by_turn (turn_of old.shard (known_in old) at call) turns (holding_in old) (holding_in new) is.left
+      after.takes;
   once = after.once;
 }
+
+pub left_after : (turns : List Turn) (call : ShardCall) (old new : State) → IsLeft turns old → IsAfter call old new
+    → IsLeft (turn_at old call ∷ turns) new
+left_after turns call old new is after = left_served turns (clock_at old call) call old new is after
 
 -- what happened says the turn
 pub turn_is_kept : (shard : Shard) (knows : Flow → Local) (clock : Moment) (call : ShardCall)

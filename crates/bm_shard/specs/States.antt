@@ -6,7 +6,6 @@ use Rattle.bm_conn.specs.declared.table.Connection.{Connection}
 use Rattle.bm_conn.specs.Connections.{AreOnce}
 use Rattle.bm_core.specs.declared.events.Event.{Event}
 use Rattle.bm_core.specs.declared.events.Local.{Local}
-use Rattle.bm_core.specs.Books.{Turn}
 use Rattle.bm_core.specs.Runs.{next_clock}
 use Rattle.bm_shard.specs.declared.book.Shard.{Shard}
 use Rattle.bm_shard.specs.declared.calls.ShardCall.{ShardCall}
@@ -62,13 +61,13 @@ event_at state call = record {
 abbrev pub reply_at : State → ShardCall → ShardReply
 reply_at state call = reply_of state.shard (known_in state) (clock_at state call) call
 
--- the turn of a call
-abbrev pub turn_at : State → ShardCall → Turn
-turn_at state call = turn_of state.shard (known_in state) (clock_at state call) call
-
--- the call was made
-pub record IsAfter (call : ShardCall) (old new : State) : Type 0 where
+-- the call was made at this clock
+pub record IsServed (at : Moment) (call : ShardCall) (old new : State) : Type 0 where
   pub shard : new.shard ≡ old.shard
-  pub takes : TakesTurn (turn_at old call) (holding_in old) (holding_in new)
+  pub takes : TakesTurn (turn_of old.shard (known_in old) at call) (holding_in old) (holding_in new)
   pub once : AreOnce new.connections
-  pub clock : new.clock ≡ clock_at old call
+  pub clock : new.clock ≡ at
+
+-- the call was made at its own clock
+abbrev pub IsAfter : ShardCall → State → State → Type 0
+IsAfter call old new = IsServed (clock_at old call) call old new

@@ -1,13 +1,15 @@
 //! A shard without the book of its calls.
 ghost use Rattle.std.specs.Prelude.{◌≡◌, ◌<◌, ◌≤◌, ◌^◌, IfOk, OnErr, OnOk};
-ghost use Rattle.bm_shard.specs.Books.{IsTaken};
-ghost use Rattle.bm_shard.specs.States.{IsAfter, event_at, first_state, reply_at};
+ghost use Rattle.bm_shard.specs.Books.{IsShort, IsTaken};
+ghost use Rattle.bm_shard.specs.Replies.{reply_of, what_of};
+ghost use Rattle.bm_shard.specs.States.{IsAfter, IsServed, event_at, first_state, known_in};
+ghost use Rattle.bm_shard.specs.States.{reply_at};
 
 use crate::holding::Holding;
 use crate::{Shard, ShardCall, ShardReply};
 use bm_base::{Memory, Moment};
 use bm_conn::ConnTable;
-use bm_core::{Event, next_clock};
+use bm_core::{Event, What, next_clock};
 use std::alloc::Global;
 use std::marker::Model;
 
@@ -48,7 +50,27 @@ impl ShardState {
         })
     }
 
-    /// Makes a call: its event, and the reply. Where memory is refused, nothing changes.
+    /// Makes a call at this clock: what happens, and the reply. Where memory is refused, nothing
+    /// changes.
+    pub fn serve(&mut self, clock: Moment, call: &ShardCall) -> Result<(What, ShardReply), Memory>
+        requires { IsShort call.now }
+        ensures what { IfOk result
+            (λ made. made.0 ≡ what_of self.old.shard (known_in self.old) clock call.now) }
+        ensures reply { IfOk result
+            (λ made. made.1 ≡ reply_of self.old.shard (known_in self.old) clock call.now) }
+        ensures effect { OnOk result (IsServed clock call.now self.old self.new) }
+        ensures memory { OnErr result (self.new ≡ self.old) }
+    {
+        self.holding.table.ready()?;
+        let (what, reply) = self.holding.serve(&self.shard, clock, call);
+        // The connections are a map, of at most as many flows as the capacity.
+        prove!(self.holding.table.len() <= self.shard.capacity);
+        self.clock = clock;
+        Ok((what, reply))
+    }
+
+    /// Makes a call at the first clock that is above the last one and the call's moment: its event,
+    /// and the reply. Where memory is refused, nothing changes.
     pub fn apply(&mut self, call: &ShardCall) -> Result<(Event, ShardReply), Memory>
         requires taken { IsTaken call.now }
         requires clock { self.old.clock.0 < 2 ^ 63 }
@@ -57,12 +79,8 @@ impl ShardState {
         ensures effect { OnOk result (IsAfter call.now self.old self.new) }
         ensures memory { OnErr result (self.new ≡ self.old) }
     {
-        self.holding.table.ready()?;
         let clock = next_clock(self.clock, call.moment());
-        let (what, reply) = self.holding.serve(&self.shard, clock, call);
-        // The connections are a map, of at most as many flows as the capacity.
-        prove!(self.holding.table.len() <= self.shard.capacity);
-        self.clock = clock;
+        let (what, reply) = self.serve(clock, call)?;
         Ok((Event { clock, what }, reply))
     }
 

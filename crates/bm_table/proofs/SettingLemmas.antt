@@ -11,6 +11,7 @@ IsSetting-plain_setting = record {
   servers = (omega arith, omega arith);
   rising = (omega arith, (omega arith, tt));
   numbers = All-from_recursion (λ (s : ServerId). s.0 ≤ 1024) plain_setting.servers (omega arith, (omega arith, tt));
+  racks = (omega arith, omega arith);
   muxes = (omega arith, omega arith);
   shards = (omega arith, omega arith);
   capacity = (omega arith, omega arith);

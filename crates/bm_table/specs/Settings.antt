@@ -1,5 +1,5 @@
 -- The ranges of a setting, and the setting of a script that sets nothing.
-use Rattle.std.specs.Prelude.{ℕ, ◌+◌, ◌*◌, ◌^◌, ◌≤◌, ◌≡◌, List, [], ◌∷◌, length, All}
+use Rattle.std.specs.Prelude.{ℕ, ◌+◌, ◌-◌, ◌*◌, ◌%◌, ◌^◌, ◌≤◌, ◌≡◌, List, [], ◌∷◌, length, All}
 use Rattle.bm_base.specs.declared.ids.ServerId.{ServerId}
 use Rattle.bm_table.specs.declared.setting.FaultRow.{FaultRow}
 use Rattle.bm_table.specs.declared.setting.RouteKind.TheVariants.{Port}
@@ -17,6 +17,10 @@ RiseFrom low (s ∷ servers) = (low ≤ s.0) × RiseFrom (s.0 + 1) servers
 abbrev pub seconds : ℕ → ℕ
 seconds n = n * 10 ^ 9
 
+-- the rack of a server, counted from 0: servers stand in the racks in turn, by their numbers
+abbrev pub rack_of : ℕ → ServerId → ℕ
+rack_of racks s = (s.0 - 1) % racks
+
 -- a packet's number, copies and a delay of at most a minute
 pub record IsFaultRow (row : FaultRow) : Type 0 where
   pub packet : IsWithin 1 200000 row.packet
@@ -29,6 +33,7 @@ pub record IsSetting (setting : Setting) : Type 0 where
   pub servers : IsWithin 1 1024 (length setting.servers)
   pub rising : RiseFrom 1 setting.servers
   pub numbers : All (λ s. s.0 ≤ 1024) setting.servers
+  pub racks : IsWithin 1 64 setting.racks
   pub muxes : IsWithin 1 64 setting.muxes
   pub shards : IsWithin 1 64 setting.shards
   pub capacity : IsWithin 1 65536 setting.capacity
@@ -41,12 +46,13 @@ pub record IsSetting (setting : Setting) : Type 0 where
   pub rows : length setting.faults ≤ 4096
   pub faults : All IsFaultRow setting.faults
 
--- 8 buckets on servers 1 and 2, one mux without a lag, 4 shards of 4,096 connections, 240 seconds,
+-- 8 buckets on servers 1 and 2 in one rack, one mux without a lag, 4 shards of 4,096 connections, 240 seconds,
 -- the service 192.0.2.1:80, packets assigned to muxes by their port, no faults
 abbrev pub plain_setting : Setting
 plain_setting = record {
   buckets = 8;
   servers = record { 0 = 1 } ∷ record { 0 = 2 } ∷ [];
+  racks = 1;
   muxes = 1;
   shards = 4;
   capacity = 4096;

@@ -8,5 +8,5 @@ mod table;
 
 pub use plan::{Change, Kind, Limit, Move, Plan, PlanFault, Retirement};
 pub use script::{Command, Script};
-pub use setting::{FaultRow, RouteKind, Setting};
+pub use setting::{FaultRow, RouteKind, Setting, rack_of};
 pub use table::Table;

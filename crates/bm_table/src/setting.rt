@@ -1,5 +1,6 @@
-//! The numbers of a setting: of buckets, servers, muxes and shards.
-ghost use Rattle.std.specs.Prelude.{◌≡◌, IfOk};
+//! The numbers of a setting: of buckets, servers, racks, muxes and shards.
+ghost use Rattle.std.specs.Prelude.{◌≡◌, ◌≤◌, ◌<◌, IfOk};
+ghost use Rattle.bm_table.specs.Settings as spec;
 
 use bm_base::{Fate, Hop, List, Memory, ServerId, Vip};
 use std::alloc::Global;
@@ -19,12 +20,13 @@ pub struct FaultRow {
     pub fate: Fate,
 }
 
-/// The numbers of a setting: of buckets, servers, muxes and shards. `timeout` and `lags` are in
-/// nanoseconds, `capacity` is that of a shard.
+/// The numbers of a setting: of buckets, servers, racks, muxes and shards. `timeout` and `lags` are
+/// in nanoseconds, `capacity` is that of a shard.
 #[derive(Drop)]
 pub struct Setting {
     pub buckets: u32,
     pub servers: List<ServerId>,
+    pub racks: u16,
     pub muxes: u16,
     pub shards: u16,
     pub capacity: u32,
@@ -36,17 +38,16 @@ pub struct Setting {
 }
 
 impl Setting {
-    ghost use Rattle.bm_table.specs.Settings.{plain_setting};
-
-    /// The setting of a script that sets nothing: 8 buckets on servers 1 and 2, one mux without a
-    /// lag, 4 shards of 4,096 connections, a timeout of 240 seconds, the service 192.0.2.1:80.
-    /// `Memory` where memory was refused.
+    /// The setting of a script that sets nothing: 8 buckets on servers 1 and 2 in one rack, one mux
+    /// without a lag, 4 shards of 4,096 connections, a timeout of 240 seconds, the service
+    /// 192.0.2.1:80. `Memory` where memory was refused.
     pub fn plain(alloc: Global) -> Result<Setting, Memory>
-        ensures { IfOk result (λ setting. setting ≡ plain_setting) }
+        ensures { IfOk result (λ setting. setting ≡ spec.plain_setting) }
     {
         Ok(Setting {
             buckets: 8,
             servers: List::of(vec![in alloc; ServerId(1), ServerId(2)]?),
+            racks: 1,
             muxes: 1,
             shards: 4,
             capacity: 4_096,
@@ -62,4 +63,13 @@ impl Setting {
             faults: List::of(Vec::new(alloc)),
         })
     }
+}
+
+/// The rack of a server, counted from 0: servers stand in the racks in turn, by their numbers.
+pub fn rack_of(racks: u16, server: ServerId) -> u16
+    requires { 1 ≤ racks }
+    ensures rack { result ≡ spec.rack_of racks server }
+    ensures within { result < racks }
+{
+    server.0.saturating_sub(1) % racks
 }

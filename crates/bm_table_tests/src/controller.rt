@@ -6,7 +6,14 @@ use bm_table::{Kind, Plan};
 use std::process::Abort;
 use std::test::Fail;
 
-fn assert_change(rt: &impl Abort, plan: &Plan, version: u32, kind: Kind, moves: &[(u32, u16)]) {
+/// The change after a version is of this kind and makes these moves, of bucket and server.
+pub(crate) fn assert_change(
+    rt: &impl Abort,
+    plan: &Plan,
+    version: u32,
+    kind: Kind,
+    moves: &[(u32, u16)],
+) {
     if let Some(change) = plan.next_change(Version(version)) {
         assert!(rt; change.kind == kind);
         assert_eq!(rt; change.moves.items().len(), moves.len());

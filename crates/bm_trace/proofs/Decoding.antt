@@ -4,6 +4,7 @@ use Rattle.std.proofs.Common.{◌∙◌, sym, arith, append_assoc}
 use Rattle.std.specs.Prelude.{decimal, codes, if◌then◌else◌, Option, Some, None, slice_index}
 use Rattle.std.specs.Int.{to_be_bytes, from_be_bytes, w32}
 use Rattle.std.proofs.lemmas.Fmt.{decimal_injective}
+use Rattle.std.proofs.lemmas.Option.{same_Some}
 use Rattle.std.proofs.lemmas.Nat.{from_be_bytes-to_be_bytes_4}
 use Rattle.bm_base.specs.declared.flow.Flow.{Flow}
 use Rattle.bm_base.specs.declared.label.Hop.{Hop}
@@ -16,10 +17,6 @@ use Rattle.bm_base.specs.declared.ids.ServerId.{ServerId}
 use Rattle.bm_core.specs.declared.events.Cause.{Cause}
 use Rattle.bm_core.specs.declared.events.Cause.TheVariants.{NeverAccepted, NotHeld, StaleMux, MovedThrice, ChainLate}
 use Rattle.bm_core.specs.declared.events.Cause.TheVariants.{SynElsewhere, Full as FullShard, OldTable}
-use Rattle.bm_core.specs.Causes.{cause}
-use Rattle.bm_core.specs.Past.{segment_of, version_at}
-use Rattle.bm_core.specs.declared.events.Event.{Event}
-use Rattle.bm_core.specs.declared.events.Stage.{Stage}
 use Rattle.bm_core.specs.declared.events.Verdict.{Verdict}
 use Rattle.bm_core.specs.declared.events.Verdict.TheVariants.{Accept, Process, Forward, Reset, Drop}
 use Rattle.bm_core.specs.declared.events.What.{What}
@@ -27,49 +24,38 @@ use Rattle.bm_core.specs.declared.events.What.TheVariants.{Publish, Switch, Stee
 use Rattle.bm_core.specs.declared.events.Why.{Why}
 use Rattle.bm_core.specs.declared.events.Why.TheVariants.{NoPrevious, ChainExpired, ChainedUnknown, Silent, Full}
 use Rattle.bm_core.specs.declared.events.Why.TheVariants.{Retired}
-use Rattle.bm_trace.specs.Report.{bucket_of_packet, event_words}
+use Rattle.bm_trace.specs.Inside.Reading.{cause_in, ends_word, hop_in, is_word, runs_on, same_text, taken_in, why_in}
+use Rattle.bm_trace.specs.Report.{words_of}
+use Rattle.bm_trace.specs.declared.lines.Aside.{Aside}
 use Rattle.bm_trace.specs.Words.{because_words, cause_word, endpoint, hop_word, retirement_words, taken_word}
 use Rattle.bm_trace.specs.Words.{verdict_words, why_word}
 use Rattle.std.proofs.lemmas.Bool.Decides.{nat_tests}
-use Rattle.bm_trace.proofs.Reading.{AreWords, both_true, decimal_runs, ends_word, is_word, is_word_decimal, runs_on}
-use Rattle.bm_trace.proofs.Reading.{split, word_append}
-use Rattle.bm_trace.specs.Inside.Types.{IsFlow, IsVerdict, IsAnswer, IsWhat}
-
-abbrev same_text : List ℕ → List ℕ → Bool
-same_text [] [] = true
-same_text (a ∷ w) (b ∷ v) = (a == b) && same_text w v
-same_text _ _ = false
+use Rattle.bm_trace.proofs.Reading.{AreWords, both_true, decimal_runs, is_word_decimal, split, word_append}
+use Rattle.bm_trace.specs.Types.{IsFlow, IsVerdict, IsAnswer, IsWhat}
 
 abbrev first_word : List (List ℕ) → List ℕ
 first_word [] = []
 first_word (w ∷ words) = w
 
+-- NUMBERS
+
+same_16 : (a b : ℕ) → a < 2 ^ 16 → b < 2 ^ 16 → decimal a ≡ decimal b → a ≡ b
+same_16 a b ha hb e = decimal_injective a b (omega (arith, ha)) (omega (arith, hb)) e
+
+same_32 : (a b : ℕ) → a < 2 ^ 32 → b < 2 ^ 32 → decimal a ≡ decimal b → a ≡ b
+same_32 a b ha hb e = decimal_injective a b (omega (arith, ha)) (omega (arith, hb)) e
+
 -- THE SMALL ENUMS
 
-abbrev hop_of : List ℕ → Hop
-hop_of w =
-    if same_text w (codes "direct") then Direct
-    else if same_text w (codes "chained") then Chained
-    else Twice
-
-hop_back : (hop : Hop) → hop_of (hop_word hop) ≡ hop
+pub hop_back : (hop : Hop) → hop_in (hop_word hop) ≡ Some hop
 hop_back Direct = refl
 hop_back Chained = refl
 hop_back Twice = refl
 
 same_hop_word : (a b : Hop) → hop_word a ≡ hop_word b → a ≡ b
-same_hop_word a b e = sym (hop_back a) ∙ ap hop_of e ∙ hop_back b
+same_hop_word a b e = same_Some a b (sym (hop_back a) ∙ ap hop_in e ∙ hop_back b)
 
-abbrev taken_of : List ℕ → Taken
-taken_of w =
-    if same_text w (codes "advance") then Advance
-    else if same_text w (codes "duplicate") then Duplicate
-    else if same_text w (codes "ahead") then Ahead
-    else if same_text w (codes "outside") then Outside
-    else if same_text w (codes "challenge") then Challenge
-    else Ended
-
-taken_back : (taken : Taken) → taken_of (taken_word taken) ≡ taken
+pub taken_back : (taken : Taken) → taken_in (taken_word taken) ≡ Some taken
 taken_back Advance = refl
 taken_back Duplicate = refl
 taken_back Ahead = refl
@@ -78,18 +64,9 @@ taken_back Challenge = refl
 taken_back Ended = refl
 
 same_taken_word : (a b : Taken) → taken_word a ≡ taken_word b → a ≡ b
-same_taken_word a b e = sym (taken_back a) ∙ ap taken_of e ∙ taken_back b
+same_taken_word a b e = same_Some a b (sym (taken_back a) ∙ ap taken_in e ∙ taken_back b)
 
-abbrev why_of : List ℕ → Why
-why_of w =
-    if same_text w (codes "no-previous") then NoPrevious
-    else if same_text w (codes "chain-expired") then ChainExpired
-    else if same_text w (codes "chained-unknown") then ChainedUnknown
-    else if same_text w (codes "silent") then Silent
-    else if same_text w (codes "full") then Full
-    else Retired
-
-why_back : (why : Why) → why_of (why_word why) ≡ why
+pub why_back : (why : Why) → why_in (why_word why) ≡ Some why
 why_back NoPrevious = refl
 why_back ChainExpired = refl
 why_back ChainedUnknown = refl
@@ -98,7 +75,17 @@ why_back Full = refl
 why_back Retired = refl
 
 same_why_word : (a b : Why) → why_word a ≡ why_word b → a ≡ b
-same_why_word a b e = sym (why_back a) ∙ ap why_of e ∙ why_back b
+same_why_word a b e = same_Some a b (sym (why_back a) ∙ ap why_in e ∙ why_back b)
+
+pub cause_back : (cause : Cause) → cause_in (cause_word cause) ≡ Some cause
+cause_back NeverAccepted = refl
+cause_back NotHeld = refl
+cause_back StaleMux = refl
+cause_back MovedThrice = refl
+cause_back ChainLate = refl
+cause_back SynElsewhere = refl
+cause_back FullShard = refl
+cause_back OldTable = refl
 
 abbrev is_closed_word : List ℕ → Bool
 is_closed_word w = same_text w (codes "closed")
@@ -127,7 +114,7 @@ same_verdict Accept Accept c d hv hu e = refl
 same_verdict (Process t) (Process s) c d hv hu e =
     let w : taken_word t ≡ taken_word s = cc in ap Process (same_taken_word t s w)
 same_verdict (Forward t) (Forward s) c d hv hu e =
-    let w : decimal t.0 ≡ decimal s.0 = cc in ap (λ n. Forward (record { 0 = n })) (decimal_injective t.0 s.0 hv hu w)
+    let w : decimal t.0 ≡ decimal s.0 = cc in ap (λ n. Forward (record { 0 = n })) (same_16 t.0 s.0 hv hu w)
 same_verdict (Reset t) (Reset s) c d hv hu e = let w : why_word t ≡ why_word s = cc in ap Reset (same_why_word t s w)
 same_verdict (Drop t) (Drop s) c d hv hu e = let w : why_word t ≡ why_word s = cc in ap Drop (same_why_word t s w)
 same_verdict v u c d hv hu e =
@@ -142,7 +129,7 @@ same_answer : (a b : Retirement) → IsAnswer a → IsAnswer b → retirement_wo
 same_answer Done Done ha hb e = refl
 same_answer NotDrained NotDrained ha hb e = refl
 same_answer (TooEarly n) (TooEarly m) ha hb e =
-    let w : decimal n ≡ decimal m = cc in ap TooEarly (decimal_injective n m ha hb w)
+    let w : decimal n ≡ decimal m = cc in ap TooEarly (same_32 n m ha hb w)
 same_answer a b ha hb e =
     let k : answer_kind (first_word (retirement_words a)) ≡ answer_kind (first_word (retirement_words b)) =
     ap (λ ws. answer_kind (first_word ws)) e
@@ -198,7 +185,7 @@ small_2 addr = omega arith
 small_3 : (addr : ℕ) → byte addr 3 < 2 ^ 64
 small_3 addr = omega arith
 
-same_nested : (a b p q : ℕ) → a < 2 ^ 32 → b < 2 ^ 32 → p < 2 ^ 64 → q < 2 ^ 64 → nested a p ≡ nested b q → (a ≡ b)
+same_nested : (a b p q : ℕ) → a < 2 ^ 32 → b < 2 ^ 32 → p < 2 ^ 16 → q < 2 ^ 16 → nested a p ≡ nested b q → (a ≡ b)
     × (p ≡ q)
 unfolding nested
 same_nested a b p q ha hb hp hq e =
@@ -228,10 +215,10 @@ same_nested a b p q ha hb hp hq e =
     in (
       sym (from_be_bytes-to_be_bytes_4 a ha) ∙ ap (λ x. from_be_bytes w32 x) bytes
           ∙ from_be_bytes-to_be_bytes_4 b hb,
-      decimal_injective p q hp hq e4,
+      same_16 p q hp hq e4,
     )
 
-same_endpoint : (a b p q : ℕ) → a < 2 ^ 32 → b < 2 ^ 32 → p < 2 ^ 64 → q < 2 ^ 64 → endpoint a p ≡ endpoint b q
+same_endpoint : (a b p q : ℕ) → a < 2 ^ 32 → b < 2 ^ 32 → p < 2 ^ 16 → q < 2 ^ 16 → endpoint a p ≡ endpoint b q
     → (a ≡ b) × (p ≡ q)
 same_endpoint a b p q ha hb hp hq e = same_nested a b p q ha hb hp hq (sym (nested_is a p) ∙ e ∙ nested_is b q)
 
@@ -255,46 +242,42 @@ event_kind w =
     else if same_text w (codes "retire") then 6
     else 7
 
-same_server_word : (a b : ServerId) → a.0 < 2 ^ 64 → b.0 < 2 ^ 64 → decimal a.0 ≡ decimal b.0 → a ≡ b
-same_server_word a b ha hb e = ap (λ n. record { 0 = n }) (decimal_injective a.0 b.0 ha hb e)
+same_server_word : (a b : ServerId) → a.0 < 2 ^ 16 → b.0 < 2 ^ 16 → decimal a.0 ≡ decimal b.0 → a ≡ b
+same_server_word a b ha hb e = ap (λ n. record { 0 = n }) (same_16 a.0 b.0 ha hb e)
 
--- after the same events, the same words name the same event
-pub same_what : (stage : Stage) (past : List Event) (clock : ℕ) (a b : What) → IsWhat a → IsWhat b
-    → event_words stage past clock a ≡ event_words stage past clock b → a ≡ b
-same_what stage past clock (Publish v) (Publish u) ha hb e =
-    let w : decimal v.0 ≡ decimal u.0 = cc in ap (λ n. Publish (record { 0 = n })) (decimal_injective v.0 u.0 ha hb w)
-same_what stage past clock (Switch m v) (Switch n u) ha hb e =
+-- the same words name one event, whatever they say of the events before it
+pub same_words : (a b : What) (here there : Aside) → IsWhat a → IsWhat b → words_of a here ≡ words_of b there → a ≡ b
+same_words (Publish v) (Publish u) here there ha hb e =
+    let w : decimal v.0 ≡ decimal u.0 = cc in ap (λ n. Publish (record { 0 = n })) (same_32 v.0 u.0 ha hb w)
+same_words (Switch m v) (Switch n u) here there ha hb e =
     let w : decimal m.0 ≡ decimal n.0 = cc
     in let x : decimal v.0 ≡ decimal u.0 = cc
-    in let p = decimal_injective m.0 n.0 ha.0 hb.0 w
-    in let q = decimal_injective v.0 u.0 ha.1 hb.1 x
+    in let p = same_16 m.0 n.0 ha.0 hb.0 w
+    in let q = same_32 v.0 u.0 ha.1 hb.1 x
     in λ i. Switch (record { 0 = p i }) (record { 0 = q i })
-same_what stage past clock (Steer k m) (Steer l n) ha hb e =
+same_words (Steer k m) (Steer l n) here there ha hb e =
     let w : decimal k ≡ decimal l = cc
     in let x : decimal m.0 ≡ decimal n.0 = cc
-    in let p = decimal_injective k l ha.0 hb.0 w
-    in let q = decimal_injective m.0 n.0 ha.1 hb.1 x
+    in let p = same_32 k l ha.0 hb.0 w
+    in let q = same_16 m.0 n.0 ha.1 hb.1 x
     in λ i. Steer (p i) (record { 0 = q i })
-same_what stage past clock (Lose k hop) (Lose l leap) ha hb e =
+same_words (Lose k hop) (Lose l leap) here there ha hb e =
     let w : decimal k ≡ decimal l = cc
     in let x : hop_word hop ≡ hop_word leap = cc
-    in let p = decimal_injective k l ha hb w
+    in let p = same_32 k l ha hb w
     in let q = same_hop_word hop leap x
     in λ i. Lose (p i) (q i)
-same_what stage past clock (Arrive k hop s v) (Arrive l leap t u) ha hb e =
+same_words (Arrive k hop s v) (Arrive l leap t u) here there ha hb e =
     let w : decimal k ≡ decimal l = cc
     in let x : hop_word hop ≡ hop_word leap = cc
     in let y : decimal s.0 ≡ decimal t.0 = cc
-    in let z : verdict_words v ++ because_words (cause stage past clock (Arrive k hop s v)) ≡ verdict_words u
-    ++ because_words (cause stage past clock (Arrive l leap t u)) = cc
-    in let p = decimal_injective k l ha.0 hb.0 w
+    in let z : verdict_words v ++ because_words here.cause ≡ verdict_words u ++ because_words there.cause = cc
+    in let p = same_32 k l ha.0 hb.0 w
     in let q = same_hop_word hop leap x
     in let r = same_server_word s t ha.1 hb.1 y
-    in let o =
-    same_verdict v u (cause stage past clock (Arrive k hop s v)) (cause stage past clock (Arrive l leap t u)) ha.2 hb.2
-    z
+    in let o = same_verdict v u here.cause there.cause ha.2 hb.2 z
     in λ i. Arrive (p i) (q i) (r i) (o i)
-same_what stage past clock (Close s f c) (Close t g d) ha hb e =
+same_words (Close s f c) (Close t g d) here there ha hb e =
     let w : decimal s.0 ≡ decimal t.0 = cc
     in let x : endpoint f.src f.sport ≡ endpoint g.src g.sport = cc
     in let y : endpoint f.dst f.dport ≡ endpoint g.dst g.dport = cc
@@ -303,32 +286,31 @@ same_what stage past clock (Close s f c) (Close t g d) ha hb e =
     in let q = same_flow f g ha.1 hb.1 x y
     in let r = same_closed_word c d z
     in λ i. Close (p i) (q i) (r i)
-same_what stage past clock (Retire s h at a) (Retire t g be b) ha hb e =
+same_words (Retire s h at a) (Retire t g be b) here there ha hb e =
     let w : decimal s.0 ≡ decimal t.0 = cc
     in let x : decimal h ≡ decimal g = cc
     in let y : decimal at.0 ≡ decimal be.0 = cc
     in let z : retirement_words a ≡ retirement_words b = cc
     in let p = same_server_word s t ha.0 hb.0 w
-    in let q = decimal_injective h g ha.1 hb.1 x
+    in let q = same_16 h g ha.1 hb.1 x
     in let r = decimal_injective at.0 be.0 ha.2 hb.2 y
     in let o = same_answer a b ha.3 hb.3 z
     in λ i. Retire (p i) (q i) (record { 0 = r i }) (o i)
-same_what stage past clock Sync Sync ha hb e = refl
-same_what stage past clock a b ha hb e =
-    let k : event_kind (first_word (event_words stage past clock a))
-    ≡ event_kind (first_word (event_words stage past clock b)) = ap (λ ws. event_kind (first_word ws)) e
+same_words Sync Sync here there ha hb e = refl
+same_words a b here there ha hb e =
+    let k : event_kind (first_word (words_of a here)) ≡ event_kind (first_word (words_of b there)) = ap (λ ws. event_kind (first_word ws)) e
     in absurd (omega (arith, k))
 
-words_append : (a b : List (List ℕ)) → AreWords a → AreWords b → AreWords (a ++ b)
+pub words_append : (a b : List (List ℕ)) → AreWords a → AreWords b → AreWords (a ++ b)
 words_append [] b ha hb = hb
 words_append (w ∷ a) b ha hb = (ha.0, words_append a b ha.1 hb)
 
-hop_are : (hop : Hop) → is_word (hop_word hop) ≡ true
+pub hop_are : (hop : Hop) → is_word (hop_word hop) ≡ true
 hop_are Direct = refl
 hop_are Chained = refl
 hop_are Twice = refl
 
-taken_are : (taken : Taken) → is_word (taken_word taken) ≡ true
+pub taken_are : (taken : Taken) → is_word (taken_word taken) ≡ true
 taken_are Advance = refl
 taken_are Duplicate = refl
 taken_are Ahead = refl
@@ -336,7 +318,7 @@ taken_are Outside = refl
 taken_are Challenge = refl
 taken_are Ended = refl
 
-why_are : (why : Why) → is_word (why_word why) ≡ true
+pub why_are : (why : Why) → is_word (why_word why) ≡ true
 why_are NoPrevious = refl
 why_are ChainExpired = refl
 why_are ChainedUnknown = refl
@@ -344,7 +326,7 @@ why_are Silent = refl
 why_are Full = refl
 why_are Retired = refl
 
-cause_are : (c : Cause) → is_word (cause_word c) ≡ true
+pub cause_are : (c : Cause) → is_word (cause_word c) ≡ true
 cause_are NeverAccepted = refl
 cause_are NotHeld = refl
 cause_are StaleMux = refl
@@ -374,22 +356,21 @@ closed_are : (c : Bool) → is_word (if c then codes "closed" else codes "none")
 closed_are true = refl
 closed_are false = refl
 
-pub event_are : (stage : Stage) (past : List Event) (clock : ℕ) (what : What)
-    → AreWords (event_words stage past clock what)
-event_are stage past clock (Publish v) = (refl, (is_word_decimal v.0, tt))
-event_are stage past clock (Switch m v) = (refl, (is_word_decimal m.0, (is_word_decimal v.0, tt)))
-event_are stage past clock (Steer k m) = (
+pub event_are : (what : What) (a : Aside) → AreWords (words_of what a)
+event_are (Publish v) a = (refl, (is_word_decimal v.0, tt))
+event_are (Switch m v) a = (refl, (is_word_decimal m.0, (is_word_decimal v.0, tt)))
+event_are (Steer k m) a = (
   refl,
   (
     is_word_decimal k,
     (
       is_word_decimal m.0,
-      (is_word_decimal (version_at past m).0, (is_word_decimal (bucket_of_packet stage (segment_of stage k)), tt)),
+      (is_word_decimal a.version, (is_word_decimal a.bucket, tt)),
     ),
   ),
 )
-event_are stage past clock (Lose k hop) = (refl, (is_word_decimal k, (hop_are hop, tt)))
-event_are stage past clock (Arrive k hop s v) = (
+event_are (Lose k hop) a = (refl, (is_word_decimal k, (hop_are hop, tt)))
+event_are (Arrive k hop s v) a = (
   refl,
   (
     is_word_decimal k,
@@ -397,19 +378,18 @@ event_are stage past clock (Arrive k hop s v) = (
       hop_are hop,
       (
         is_word_decimal s.0,
-        words_append (verdict_words v) (because_words (cause stage past clock (Arrive k hop s v)))
-            (verdict_are v) (because_are (cause stage past clock (Arrive k hop s v))),
+        words_append (verdict_words v) (because_words a.cause) (verdict_are v) (because_are a.cause),
       ),
     ),
   ),
 )
-event_are stage past clock (Close s f c) = (
+event_are (Close s f c) a = (
   refl,
   (
     is_word_decimal s.0,
     (is_word_endpoint f.src f.sport, (is_word_endpoint f.dst f.dport, (closed_are c, tt))),
   ),
 )
-event_are stage past clock (Retire s h at a) =
-    (refl, (is_word_decimal s.0, (is_word_decimal h, (refl, (is_word_decimal at.0, answer_are a)))))
-event_are stage past clock Sync = (refl, tt)
+event_are (Retire s h at answer) a =
+    (refl, (is_word_decimal s.0, (is_word_decimal h, (refl, (is_word_decimal at.0, answer_are answer)))))
+event_are Sync a = (refl, tt)

@@ -7,15 +7,15 @@ use Rattle.bm_base.specs.declared.capture.Record.{Record}
 use Rattle.bm_core.specs.declared.events.Event.{Event}
 use Rattle.bm_core.specs.declared.events.History.{History}
 use Rattle.bm_core.specs.declared.events.Stage.{Stage}
-use Rattle.bm_trace.specs.Report.{event_line, event_lines, event_words, note_line, record_lines, text, totals_line}
+use Rattle.bm_trace.specs.Report.{aside, event_line, event_lines, event_words, note_line, record_lines, text, totals_line}
 use Rattle.bm_trace.specs.Totals.{totals_of}
 use Rattle.bm_trace.specs.declared.sums.Totals.{Totals}
-use Rattle.bm_trace.specs.Inside.Types.{AreEvents}
-use Rattle.bm_trace.proofs.Decoding.{event_are, same_what}
+use Rattle.bm_trace.specs.Types.{AreEvents}
+use Rattle.bm_trace.proofs.Decoding.{event_are, same_words}
 use Rattle.bm_trace.proofs.Reading.{decimal_starts_low, is_word_decimal, read_line, starts_low}
 
 -- the lines of the events that come, the oldest first
-lines_from : Stage → List Event → List Event → List ℕ
+unfoldable pub lines_from : Stage → List Event → List Event → List ℕ
 lines_from stage past [] = []
 lines_from stage past (e ∷ coming) = event_line stage past e ++ lines_from stage (e ∷ past) coming
 
@@ -63,11 +63,10 @@ same_coming stage past (f ∷ a) (g ∷ b) x y ha hb hx hy e =
     in let p =
     read_line (decimal f.clock.0) (decimal g.clock.0) (event_words stage past f.clock.0 f.what)
     (event_words stage past g.clock.0 g.what) _ _ (is_word_decimal f.clock.0) (is_word_decimal g.clock.0)
-    (event_are stage past f.clock.0 f.what) (event_are stage past g.clock.0 g.what) l
+    (event_are f.what (aside stage past f.clock.0 f.what)) (event_are g.what (aside stage past g.clock.0 g.what)) l
     in let c : f.clock.0 ≡ g.clock.0 = decimal_injective f.clock.0 g.clock.0 ha.0.0 hb.0.0 p.0
-    in let w : event_words stage past f.clock.0 f.what ≡ event_words stage past f.clock.0 g.what =
-    p.1 ∙ ap (λ n. event_words stage past n g.what) (sym c)
-    in let o : f.what ≡ g.what = same_what stage past f.clock.0 f.what g.what ha.0.1 hb.0.1 w
+    in let o : f.what ≡ g.what =
+    same_words f.what g.what (aside stage past f.clock.0 f.what) (aside stage past g.clock.0 g.what) ha.0.1 hb.0.1 p.1
     in let s : f ≡ g = λ i. record { clock = record { 0 = c i }; what = o i }
     in let r : lines_from stage (f ∷ past) a ++ x ≡ lines_from stage (f ∷ past) b ++ y =
     p.2 ∙ ap (λ h. lines_from stage (h ∷ past) b ++ y) (sym s)
@@ -81,7 +80,7 @@ rest_starts past [] None t = refl
 rest_starts past [] (Some k) t = refl
 rest_starts past (r ∷ records) cut t = refl
 
-whole : (h : History) → text h ≡ lines_from h.stage [] h.events
+pub whole : (h : History) → text h ≡ lines_from h.stage [] h.events
     ++ (record_lines (reverse h.events) 1 h.stage.capture.records
     ++ (note_line h.stage.capture.cut ++ totals_line (totals_of h)))
 unfolding text

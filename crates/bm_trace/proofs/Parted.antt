@@ -23,7 +23,7 @@ use Rattle.bm_trace.specs.Totals.{totals_of}
 use Rattle.bm_trace.specs.Words.{line}
 use Rattle.bm_trace.proofs.Handing.{all_written, both_on, less_after, line_more, line_refused, lines_lost}
 use Rattle.bm_trace.proofs.Handing.{part_written, rest_less}
-use Rattle.bm_trace.proofs.Newest.{reverse_take}
+use Rattle.bm_state.proofs.Newest.{reverse_take}
 
 pub on_err : {T E : Type 0} (r : Result T E) (P : Type 0) → P → OnErr r P
 on_err (Ok x) P p = tt

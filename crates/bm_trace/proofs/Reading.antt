@@ -6,19 +6,8 @@ use Rattle.std.specs.Fmt.{digits, digits_onto, digit_glyph}
 use Rattle.std.proofs.lemmas.Bool.{cases_Bool, and_parts, le-leb, lt-ltb}
 use Rattle.std.proofs.lemmas.Bool.Decides.{nat_tests}
 use Rattle.std.proofs.lemmas.Fmt.{decimal_by_steps}
+use Rattle.bm_trace.specs.Inside.Reading.{ends_word, is_word, runs_on}
 use Rattle.bm_trace.specs.Words.{spaced, line}
-
--- no octet of these stops a word
-abbrev pub runs_on : (ℕ → Bool) → List ℕ → Bool
-runs_on stops [] = true
-runs_on stops (c ∷ w) = not (stops c) && runs_on stops w
-
-abbrev pub ends_word : ℕ → Bool
-ends_word c = (c == 32) || (c == 10)
-
--- neither a space nor a line feed
-abbrev pub is_word : List ℕ → Bool
-is_word w = runs_on ends_word w
 
 -- where a run is stopped, it is the same run
 pub split : (stops : ℕ → Bool) (w v : List ℕ) (c d : ℕ) (x y : List ℕ) → runs_on stops w ≡ true → runs_on stops v ≡ true
@@ -93,7 +82,7 @@ read_line f g ws vs x y hf hg hw hv e =
     in let i = read_words ws vs x y hw hv r
     in (p.0, i.0, i.1)
 
-runs_on_append : (stops : ℕ → Bool) (w v : List ℕ) → runs_on stops w ≡ true → runs_on stops v ≡ true
+pub runs_on_append : (stops : ℕ → Bool) (w v : List ℕ) → runs_on stops w ≡ true → runs_on stops v ≡ true
     → runs_on stops (w ++ v) ≡ true
 runs_on_append stops [] v hw hv = hv
 runs_on_append stops (c ∷ w) v hw hv =

@@ -5,6 +5,7 @@ use Rattle.std.proofs.Common.{Option, Some, None, is_some, refl, sym, ap, ◌∙
 use Rattle.std.specs.Prelude.{reverse, slice_get, if◌then◌else◌}
 use Rattle.std.proofs.lemmas.Bool.{cases_lt}
 use Rattle.std.proofs.lemmas.Grind.{common_steps}
+use Rattle.std.proofs.lemmas.Option.{slice_get_past}
 use Rattle.bm_core.specs.declared.events.Cause.{Cause}
 use Rattle.bm_core.specs.declared.events.Event.{Event}
 use Rattle.bm_core.specs.declared.events.History.{History}
@@ -20,12 +21,10 @@ use Rattle.bm_trace.specs.Swept.{AreCauses, cause_in}
 use Rattle.bm_trace.specs.Inside.Swept.{AreCausesOf, HasSwept}
 use Rattle.bm_trace.specs.declared.swept.Sweeper.{Sweeper}
 use Rattle.bm_trace.specs.Totals.{arrives, is_stray, strays}
-use Rattle.bm_base.specs.declared.ids.Version.{Version}
-use Rattle.bm_trace.specs.Inside.Running.{AreVersions, versions_after}
+use Rattle.bm_state.specs.declared.versions.Versions.{Versions}
+use Rattle.bm_state.specs.Versions.{KeepsVersions}
 use Rattle.bm_trace.proofs.Caused.{cause_there}
-use Rattle.bm_trace.proofs.Keeping.{versions_more}
-use Rattle.bm_trace.proofs.Moved.{get_past}
-use Rattle.bm_trace.proofs.Newest.{reverse_take}
+use Rattle.bm_state.proofs.Newest.{reverse_take}
 
 get_within : {X : Type 0} (xs : List X) (i : ℕ) (d : X) → i < length xs → slice_get xs i ≡ Some (get_or xs i d)
 get_within [] i d h = absurd (omega arith)
@@ -48,13 +47,12 @@ cause_here h shown place d causes found same below all is =
     let below' : place < length h.events = rw same at below
     in rw same (is ∙ all place ∙ here h place d below')
 
--- one event more of the versions of the muxes
-pub versions_next : (shown : List Event) (n : ℕ) (d : Event) (versions new : List Version) → n < length shown
-    → new ≡ versions_after (get_or shown n d).what versions → AreVersions (reverse (take n shown)) versions
-    → AreVersions (reverse (take (n + 1) shown)) new
-versions_next shown n d versions new below is k =
-    rw (reverse_take shown n d below, is)
-    (versions_more (reverse (take n shown)) versions (get_or shown n d) k)
+-- one event more of the versions
+pub versions_next : (shown : List Event) (n : ℕ) (d : Event) (versions : Versions) → n < length shown
+    → KeepsVersions (get_or shown n d ∷ reverse (take n shown)) versions
+    → KeepsVersions (reverse (take (n + 1) shown)) versions
+versions_next shown n d versions below keeps =
+    subst (λ past. KeepsVersions past versions) (sym (reverse_take shown n d below)) keeps
 
 -- the cause that was found is the event's
 pub cause_found : (h : History) (shown : List Event) (n : ℕ) (d : Event) (found : Option Cause)
@@ -103,7 +101,7 @@ all_causes h causes all place =
           in all.each place (omega (arith, c, within)) ∙ ap (λ j. cause_of h j) at
       | inr beyond ↦
           get_beyond causes place None (omega (arith, c, beyond))
-          ∙ sym (ap (λ o. cause_after h.stage (past_at h place) o) (get_past h.events place beyond))
+          ∙ sym (ap (λ o. cause_after h.stage (past_at h place) o) (slice_get_past h.events place beyond))
     ]
 
 -- the cause of an event among those of a part

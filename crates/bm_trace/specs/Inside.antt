@@ -1,22 +1,15 @@
 -- Only the contracts of private calls and the proofs of bodies use these.
-pub mod Accepts
 pub mod ByFlow
 pub mod Counts
 pub mod EndTables
 pub mod Ends
-pub mod FlowKeys
 pub mod HolderLists
 pub mod Holders
 pub mod Holding
 pub mod Known
-pub mod Movers
 pub mod Parts
 pub mod Pieces
-pub mod PlanMovers
+pub mod Reading
 pub mod Rests
-pub mod Running
 pub mod Seen
-pub mod Sent
-pub mod Steering
 pub mod Swept
-pub mod Types

@@ -17,6 +17,7 @@ use Rattle.bm_core.specs.declared.events.What.TheVariants.{Publish, Switch, Stee
 use Rattle.bm_core.specs.declared.events.What.TheVariants.{Close, Retire, Sync}
 use Rattle.bm_core.specs.Causes.{cause}
 use Rattle.bm_core.specs.Past.{bucket, segment_of, version_at}
+use Rattle.bm_trace.specs.declared.lines.Aside.{Aside}
 use Rattle.bm_trace.specs.declared.sums.Totals.{Totals}
 use Rattle.bm_trace.specs.Totals.{totals_of}
 use Rattle.bm_trace.specs.Words.{line, counted, endpoint, hop_word, verdict_words, because_words}
@@ -29,25 +30,40 @@ abbrev pub bucket_of_packet : Stage → Option Segment → ℕ
 bucket_of_packet stage None = 0
 bucket_of_packet stage (Some s) = bucket stage s.flow
 
--- what the line of an event says after its clock
-abbrev pub event_words : Stage → List Event → ℕ → What → List (List ℕ)
-event_words stage past clock (Publish v) = codes "publish" ∷ decimal v.0 ∷ []
-event_words stage past clock (Switch m v) = codes "switch" ∷ decimal m.0 ∷ decimal v.0 ∷ []
-event_words stage past clock (Steer k m) =
-    codes "steer" ∷ decimal k ∷ decimal m.0 ∷ decimal (version_at past m).0 ∷ decimal
-    (bucket_of_packet stage (segment_of stage k)) ∷ []
-event_words stage past clock (Lose k hop) = codes "lost" ∷ decimal k ∷ hop_word hop ∷ []
-event_words stage past clock (Arrive k hop server verdict) =
+-- what the line of an event says of the events before it: a Steer's line the version of its mux and
+-- the bucket of its packet, an arrival's its cause
+abbrev pub aside : Stage → List Event → ℕ → What → Aside
+aside stage past clock (Steer k m) = record {
+  version = (version_at past m).0;
+  bucket = bucket_of_packet stage (segment_of stage k);
+  cause = None;
+}
+aside stage past clock (Arrive k hop server verdict) =
+    record { version = 0; bucket = 0; cause = cause stage past clock (Arrive k hop server verdict) }
+aside stage past clock _ = record { version = 0; bucket = 0; cause = None }
+
+-- the words of an event's line after its clock
+abbrev pub words_of : What → Aside → List (List ℕ)
+words_of (Publish v) a = codes "publish" ∷ decimal v.0 ∷ []
+words_of (Switch m v) a = codes "switch" ∷ decimal m.0 ∷ decimal v.0 ∷ []
+words_of (Steer k m) a =
+    codes "steer" ∷ decimal k ∷ decimal m.0 ∷ decimal a.version ∷ decimal a.bucket ∷ []
+words_of (Lose k hop) a = codes "lost" ∷ decimal k ∷ hop_word hop ∷ []
+words_of (Arrive k hop server verdict) a =
     (codes "arrive" ∷ decimal k ∷ hop_word hop ∷ decimal server.0 ∷ [])
     ++ verdict_words verdict
-    ++ because_words (cause stage past clock (Arrive k hop server verdict))
-event_words stage past clock (Close server flow closed) =
+    ++ because_words a.cause
+words_of (Close server flow closed) a =
     codes "close" ∷ decimal server.0 ∷ endpoint flow.src flow.sport ∷ endpoint flow.dst flow.dport
     ∷ (if closed then codes "closed" else codes "none") ∷ []
-event_words stage past clock (Retire server shard at result) =
+words_of (Retire server shard at result) a =
     (codes "retire" ∷ decimal server.0 ∷ decimal shard ∷ codes "at" ∷ decimal at.0 ∷ [])
     ++ retirement_words result
-event_words stage past clock Sync = codes "sync" ∷ []
+words_of Sync a = codes "sync" ∷ []
+
+-- what the line of an event says after its clock, where it comes after these events
+abbrev pub event_words : Stage → List Event → ℕ → What → List (List ℕ)
+event_words stage past clock what = words_of what (aside stage past clock what)
 
 abbrev pub event_line : Stage → List Event → Event → List ℕ
 event_line stage past e = line (decimal e.clock.0) (event_words stage past e.clock.0 e.what)

@@ -15,7 +15,7 @@ ghost use Rattle.bm_trace.specs.Inside.Pieces.{place_of};
 ghost use Rattle.bm_trace.specs.Ranges.{HasRanges};
 ghost use Rattle.bm_trace.specs.Report as report;
 ghost use Rattle.bm_trace.specs.Inside.Rests.{IsRest};
-ghost use Rattle.bm_trace.specs.Inside.Running.{AreVersions};
+ghost use Rattle.bm_state.specs.Versions.{KeepsVersions};
 ghost use Rattle.bm_trace.specs.Inside.Swept.{AreCausesOf, HasSwept};
 ghost use Rattle.bm_trace.specs.Totals as totals;
 ghost use Rattle.std.specs.Thread.{IsSync};
@@ -25,10 +25,9 @@ use crate::lines::write_event;
 use crate::rest::{Rest, rest_but_strays};
 use crate::sums::Totals;
 use crate::swept::{Sweeper, cause_in};
-use crate::versions::note_version;
-use bm_base::Version;
 use bm_core::{Cause, History};
 use bm_io::{IoFault, Sink, put_all};
+use bm_state::Versions;
 use std::alloc::{AllocError, Global};
 use std::mem::swap;
 use std::thread;
@@ -40,7 +39,7 @@ const PIECE: usize = 16_384;
 /// Writes the line of the event at a place, with this cause. `versions` are the versions before it.
 fn write_line(
     lines: &mut String,
-    versions: &mut Vec<Version>,
+    versions: &mut Versions,
     h: &History,
     place: usize,
     cause: Option<Cause>,
@@ -48,17 +47,17 @@ fn write_line(
     requires ranges { HasRanges h.now.stage }
     requires place { place < length h.now.events }
     requires cause { cause ≡ cause_of h.now place }
-    requires known { AreVersions (reverse (take place h.now.events)) versions.old.items }
+    requires known { KeepsVersions (reverse (take place h.now.events)) versions.old }
     ensures line { OnOk result ((from : ℕ)
         → AreLines h.now from place (string_bytes lines.old)
         → AreLines h.now from (place + 1) (string_bytes lines.new)) }
     ensures known { OnOk result
-        (AreVersions (reverse (take (place + 1) h.now.events)) versions.new.items) }
+        (KeepsVersions (reverse (take (place + 1) h.now.events)) versions.new) }
 {
     let events = h.events.items();
     let event = &events[place];
     write_event(lines, versions, &h.stage, &events[..place], event, cause)?;
-    note_version(versions, &event.what);
+    versions.note(event.what)?;
     Ok(())
 }
 
@@ -67,8 +66,8 @@ fn write_line(
 pub(crate) struct Piece {
     from: usize,
     to: usize,
-    /// The versions of the muxes before the piece's next line.
-    versions: Vec<Version>,
+    /// The versions before the piece's next line.
+    versions: Versions,
     /// The causes of the piece's events.
     causes: Vec<Option<Cause>>,
     lines: String,
@@ -80,7 +79,7 @@ pub(crate) struct Piece {
 /// versions before them.
 fn write_lines(
     lines: &mut String,
-    versions: &mut Vec<Version>,
+    versions: &mut Versions,
     causes: &[Option<Cause>],
     h: &History,
     from: usize,
@@ -88,7 +87,7 @@ fn write_lines(
 ) -> Result<(), AllocError>
     requires ranges { HasRanges h.now.stage }
     requires order { (from ≤ to) × (to ≤ length h.now.events) }
-    requires known { AreVersions (reverse (take from h.now.events)) versions.old.items }
+    requires known { KeepsVersions (reverse (take from h.now.events)) versions.old }
     requires causes { AreCausesOf h.now from to causes.now }
     requires empty { string_bytes lines.old ≡ [] }
     ensures { OnOk result (AreLines h.now from to (string_bytes lines.new)) }
@@ -105,7 +104,7 @@ impl Piece {
         Piece {
             from: 0,
             to: 0,
-            versions: Vec::new(alloc),
+            versions: Versions::new(alloc),
             causes: Vec::new(alloc),
             lines: String::new(alloc),
             refused: false,
@@ -132,8 +131,7 @@ impl Piece {
         self.from = from;
         self.to = to;
         self.lines.clear();
-        self.versions.clear();
-        self.versions.extend_from_slice(sweeper.versions())?;
+        self.versions.copy_from(sweeper.versions())?;
         self.causes.clear();
         sweeper.advance(alloc, h, from, to, &mut self.causes)
     }

@@ -6,15 +6,22 @@ ghost use Rattle.bm_core.specs.Causes as causes;
 ghost use Rattle.bm_trace.specs.Ranges.{HasRanges};
 ghost use Rattle.bm_core.specs.Runs.{IsRun};
 ghost use Rattle.bm_trace.specs.CauseOf.{cause_of, is_fault_at};
-ghost use Rattle.bm_trace.specs.Inside.Seen.{as_accepted};
-ghost use Rattle.bm_trace.specs.Inside.Sent.{label_from, label_sent, owner_from};
+ghost use Rattle.bm_state.specs.Labels.{label_by, label_from};
+ghost use Rattle.bm_state.specs.Owners.{as_accepted};
 
 use crate::entries::{entry_at, moves};
 use crate::held::{held_place, is_elsewhere};
-use crate::past::{Sent, newest, owner_server, sent_of};
+use crate::past::{newest, owner_of, steering_of};
 use bm_base::{Flow, Hop, Moment, Segment, ServerId, is_opening};
 use bm_core::{Cause, Event, History, Stage, Verdict, What, Why};
 use bm_hash::bucket_of;
+use bm_state::{Owner, Steering};
+
+fn server_of(owner: Option<Owner>) -> Option<ServerId>
+    ensures { result ≡ option_map (λ a. a.server) (option_map as_accepted owner) }
+{
+    Some(owner?.server)
+}
 
 /// An arrival of a packet, with what is known of the packet.
 #[derive(Clone, Copy)]
@@ -23,18 +30,20 @@ pub(crate) struct Arrival {
     pub(crate) server: ServerId,
     pub(crate) verdict: Verdict,
     pub(crate) segment: Option<Segment>,
-    pub(crate) sent: Option<Sent>,
+    pub(crate) steering: Option<Steering>,
+    pub(crate) owner: Option<Owner>,
 }
 
 impl Arrival {
-    /// The packet's arrival; `sent` is what is known of the packet from its Steer.
+    /// The packet's arrival; `steering` and `owner` are what is known of the packet from its Steer.
     pub(crate) fn new(
         stage: &Stage,
         packet: u32,
         hop: Hop,
         server: ServerId,
         verdict: Verdict,
-        sent: Option<Sent>,
+        steering: Option<Steering>,
+        owner: Option<Owner>,
     ) -> Arrival
         ensures { result ≡ record {
           hop = hop;
@@ -42,7 +51,8 @@ impl Arrival {
               server;
           verdict = verdict;
           segment = past.segment_of stage.now packet;
-          sent = sent;
+          steering = steering;
+          owner = owner;
         } }
     {
         Arrival {
@@ -50,13 +60,14 @@ impl Arrival {
             server,
             verdict,
             segment: stage.segment(packet),
-            sent,
+            steering,
+            owner,
         }
     }
 
     /// Whether the packet is dropped, reset or processed elsewhere.
     pub(crate) fn wants_cause(&self) -> bool
-        ensures { result ≡ causes.wants_cause self.now.verdict (owner_from self.now.sent)
+        ensures { result ≡ causes.wants_cause self.now.verdict (option_map as_accepted self.now.owner)
             self.now.server self.now.segment }
     {
         let Some(segment) = self.segment else {
@@ -65,7 +76,7 @@ impl Arrival {
         match self.verdict {
             Verdict::Accept | Verdict::Forward(_) => false,
             Verdict::Process(_) => {
-                !is_opening(&segment) && owner_server(self.sent) != Some(self.server)
+                !is_opening(&segment) && server_of(self.owner) != Some(self.server)
             }
             Verdict::Reset(_) | Verdict::Drop(_) => true,
         }
@@ -75,7 +86,7 @@ impl Arrival {
     /// than its owner's.
     pub(crate) fn is_stray(&self) -> bool
         ensures { result ≡ (causes.is_process self.now.verdict
-            && causes.wants_cause self.now.verdict (owner_from self.now.sent) self.now.server
+            && causes.wants_cause self.now.verdict (option_map as_accepted self.now.owner) self.now.server
             self.now.segment) }
     {
         matches!(self.verdict, Verdict::Process(_)) && self.wants_cause()
@@ -92,18 +103,18 @@ impl Arrival {
         requires ranges { HasRanges stage.now }
         requires newest { newest ≡ past.newest (reverse events.now) }
         ensures { result ≡ causes.cause_at stage.now (reverse events.now) clock.0 self.now.hop
-            self.now.server self.now.verdict (owner_from self.now.sent) self.now.segment
-            (label_from stage.now self.now.segment self.now.sent) }
+            self.now.server self.now.verdict (option_map as_accepted self.now.owner) self.now.segment
+            (label_from stage.now self.now.segment self.now.steering) }
     {
         if !self.wants_cause() {
             return None;
         }
         let segment = self.segment?;
-        let sent = self.sent?;
+        let steering = self.steering?;
         if is_opening(&segment) {
-            opening_cause(&self.verdict, sent.version.0, newest)
+            opening_cause(&self.verdict, steering.version.0, newest)
         } else {
-            first_broken(stage, events, clock, &segment.flow, self, &sent)
+            first_broken(stage, events, clock, &segment.flow, self, &steering)
         }
     }
 }
@@ -126,13 +137,13 @@ pub(crate) fn is_past(stamp: Moment, stage: &Stage, clock: Moment) -> bool
     u128::from(stamp.0) + u128::from(stage.script.setting.timeout) < u128::from(clock.0)
 }
 
-fn is_late(stage: &Stage, flow: &Flow, sent: &Sent, hop: Hop, clock: Moment) -> bool
+fn is_late(stage: &Stage, flow: &Flow, steering: &Steering, hop: Hop, clock: Moment) -> bool
     requires { HasRanges stage.now }
     ensures { result
-        ≡ causes.is_late stage.now (label_sent stage.now flow.now sent.now) hop clock.0 }
+        ≡ causes.is_late stage.now (label_by stage.now flow.now steering.now) hop clock.0 }
 {
     let bucket = bucket_of(flow, stage.script.setting.buckets);
-    let entry = entry_at(&stage.script.plan, sent.version, bucket);
+    let entry = entry_at(&stage.script.plan, steering.version, bucket);
     match entry.onward(hop) {
         Some(past) => is_past(past.stamp, stage, clock),
         None => false,
@@ -146,24 +157,30 @@ fn first_broken(
     clock: Moment,
     flow: &Flow,
     arrival: &Arrival,
-    sent: &Sent,
+    steering: &Steering,
 ) -> Option<Cause>
     requires { HasRanges stage.now }
     ensures { result ≡ causes.first_broken stage.now (reverse events.now) clock.0
-        (label_sent stage.now flow.now sent.now) arrival.now.hop flow.now arrival.now.server
-        (option_map as_accepted sent.now.owner) }
+        (label_by stage.now flow.now steering.now) arrival.now.hop flow.now arrival.now.server
+        (option_map as_accepted arrival.now.owner) }
 {
-    let Some(owner) = sent.owner else {
+    let Some(owner) = arrival.owner else {
         return Some(Cause::NeverAccepted);
     };
     let bucket = bucket_of(flow, stage.script.setting.buckets);
     if held_place(stage, events, owner.server, flow) != Some(owner.place) {
         Some(Cause::NotHeld)
-    } else if sent.version.0 < owner.version {
+    } else if steering.version.0 < owner.version {
         Some(Cause::StaleMux)
-    } else if moves(&stage.script.plan, bucket, owner.version, sent.version.0) >= 3 {
+    } else if moves(
+        &stage.script.plan,
+        bucket,
+        owner.version,
+        steering.version.0,
+    ) >= 3
+    {
         Some(Cause::MovedThrice)
-    } else if arrival.server != owner.server && is_late(stage, flow, sent, arrival.hop, clock) {
+    } else if arrival.server != owner.server && is_late(stage, flow, steering, arrival.hop, clock) {
         Some(Cause::ChainLate)
     } else if is_elsewhere(stage, events, flow, owner.server) {
         Some(Cause::SynElsewhere)
@@ -188,8 +205,9 @@ pub(crate) fn cause_at(h: &History, event: usize) -> Option<Cause>
             server,
             verdict,
         } => {
-            let sent = sent_of(&h.stage, before, packet);
-            let arrival = Arrival::new(&h.stage, packet, hop, server, verdict, sent);
+            let steering = steering_of(before, packet);
+            let owner = owner_of(&h.stage, before, packet);
+            let arrival = Arrival::new(&h.stage, packet, hop, server, verdict, steering, owner);
             arrival.cause(&h.stage, before, newest(before), at.clock)
         }
         _ => None,

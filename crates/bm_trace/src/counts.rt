@@ -1,12 +1,12 @@
 //! The ten numbers of a history's last line.
-#![tactic(auto, using(crate::proofs::Newest::reverse_last))]
+#![tactic(auto, using(bm_state::proofs::Newest::reverse_last))]
 
 ghost use Rattle.std.specs.Prelude.{◌≡◌, reverse, count_by};
 ghost use Rattle.bm_trace.specs.Inside.Counts.{HasRoom, counts_of, with_event, without_strays};
 ghost use Rattle.bm_trace.specs.Totals as totals;
 
 use crate::causes::Arrival;
-use crate::past::sent_of;
+use crate::past::{owner_of, steering_of};
 use crate::sums::Totals;
 use bm_base::{Body, Record};
 use bm_core::{Event, History, Stage, Verdict, What};
@@ -28,8 +28,9 @@ fn is_stray_after(stage: &Stage, events: &[Event], what: &What) -> bool
             server,
             verdict,
         } => {
-            let sent = sent_of(stage, events, *packet);
-            Arrival::new(stage, *packet, *hop, *server, *verdict, sent).is_stray()
+            let steering = steering_of(events, *packet);
+            let owner = owner_of(stage, events, *packet);
+            Arrival::new(stage, *packet, *hop, *server, *verdict, steering, owner).is_stray()
         }
         _ => false,
     }

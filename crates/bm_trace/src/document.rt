@@ -18,10 +18,10 @@ use crate::lines::{write_cut, write_event, write_totals};
 use crate::records::write_record;
 use crate::sums::Totals;
 use crate::swept::{CauseList, sweep, totals_of};
-use crate::versions::{no_versions, note_version};
 use bm_base::Memory;
 use bm_core::History;
 use bm_io::{IoFault, Sink, SureSink, put_all};
+use bm_state::Versions;
 
 /// The buffer is written out when it has this many octets.
 const FULL: usize = 65_536;
@@ -59,12 +59,11 @@ fn put_events<K: Sink>(
     ensures cause { HasIoCause (K.faults out.old) (K.faults out.new) result }
 {
     let events = h.events.items();
-    let muxes = usize::from(h.stage.script.setting.muxes);
-    let mut versions = no_versions(*lines.allocator(), muxes)?;
+    let mut versions = Versions::new(*lines.allocator());
     for (place, event) in events.iter().enumerate() {
         let cause = causes.at(place);
         write_event(lines, &versions, &h.stage, &events[..place], event, cause)?;
-        note_version(&mut versions, &event.what);
+        versions.note(event.what)?;
         put_full(lines, out)?;
     }
     Ok(())

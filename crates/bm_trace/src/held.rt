@@ -1,5 +1,5 @@
 //! Which connections servers hold.
-#![tactic(auto, using(crate::proofs::Newest::reverse_last))]
+#![tactic(auto, using(bm_state::proofs::Newest::reverse_last))]
 
 ghost use Rattle.std.specs.Prelude.{◌≡◌, reverse, Some, None};
 ghost use Rattle.std.specs.Prelude.{option_map, true, false};

@@ -12,16 +12,16 @@ ghost use Rattle.bm_core.specs.declared.events.Event.{Event};
 ghost use Rattle.bm_core.specs.declared.events.Stage.{Stage};
 ghost use Rattle.bm_core.specs.Past as past;
 ghost use Rattle.bm_core.specs.Causes as causes;
-ghost use Rattle.bm_trace.specs.Inside.FlowKeys.{key_of};
+ghost use Rattle.bm_state.specs.FlowKeys.{key_of};
 ghost use Rattle.bm_trace.specs.Inside.HolderLists.{put_holder, without_server, listed, place_in};
 ghost use Rattle.bm_trace.specs.Inside.HolderLists.{is_alive, other_alive, alive_place};
 ghost use Rattle.bm_trace.specs.Inside.Holders.{ruling, ruled};
 ghost use Rattle.bm_trace.specs.Ranges.{HasRanges};
 
-use crate::flow_key::FlowKey;
 use bm_base::{Flow, Hop, Moment, ServerId, Taken};
 use bm_core::{Event, Stage, Verdict, What};
 use bm_hash::shard_of;
+use bm_state::FlowKey;
 use bm_table::Retirement;
 use smallvec::SmallVec;
 use std::alloc::{AllocError, Global};

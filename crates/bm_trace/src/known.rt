@@ -6,36 +6,36 @@ ghost use Rattle.bm_core.specs.declared.events.Event.{Event};
 ghost use Rattle.bm_core.specs.declared.events.Stage.{Stage};
 ghost use Rattle.bm_core.specs.Past as past;
 ghost use Rattle.bm_core.specs.Causes as causes;
-ghost use Rattle.bm_trace.specs.Inside.PlanMovers.{AreMovers};
+ghost use Rattle.bm_state.specs.Labels.{label_by, label_from};
+ghost use Rattle.bm_state.specs.Moves.{AreMoves};
+ghost use Rattle.bm_state.specs.Owners.{as_accepted};
+ghost use Rattle.bm_state.specs.Versions.{KeepsVersions};
 ghost use Rattle.bm_trace.specs.Ranges.{HasRanges};
-ghost use Rattle.bm_trace.specs.Inside.Running.{AreVersions};
-ghost use Rattle.bm_trace.specs.Inside.Seen.{as_accepted};
-ghost use Rattle.bm_trace.specs.Inside.Sent.{label_from, label_sent, owner_from};
 
 use crate::causes::{Arrival, is_past, opening_cause};
 use crate::holders::Holders;
-use crate::movers::Movers;
-use crate::past::Sent;
-use crate::running::Running;
 use bm_base::{Flow, Hop, Moment, Version, is_opening};
 use bm_core::{Cause, Event, Stage, What};
 use bm_hash::bucket_of;
+use bm_state::{Labels, Moves, Owners, Steering, Versions};
 use std::alloc::{AllocError, Global};
 
-/// The newest version, what is known of muxes, flows and packets, the holders of each flow, and the
-/// changes that move each bucket.
+/// The versions, the labels and owners of packets, the holders of each flow, and the moves of each
+/// bucket.
 #[derive(Drop)]
 pub(crate) struct Known {
-    running: Running,
+    versions: Versions,
+    labels: Labels,
+    owners: Owners,
     holders: Holders,
-    movers: Movers,
+    moves: Moves,
 }
 
 /// Whether three or more of the changes from `since + 1` to `version` move the flow's bucket.
 #[tactic(auto, using(crate::proofs::Moved::not_thrice))]
-fn moves_thrice(movers: &Movers, stage: &Stage, flow: &Flow, since: u32, version: u32) -> bool
+fn moves_thrice(moves: &Moves, stage: &Stage, flow: &Flow, since: u32, version: u32) -> bool
     requires ranges { HasRanges stage.now }
-    requires kept { AreMovers stage.now.script.plan movers.now }
+    requires kept { AreMoves stage.now.script.plan moves.now }
     requires order { since ≤ version }
     ensures { result ≡ nat_le 3
         (tables.moves stage.now.script.plan (past.bucket stage.now flow.now) since version) }
@@ -45,25 +45,27 @@ fn moves_thrice(movers: &Movers, stage: &Stage, flow: &Flow, since: u32, version
         return false;
     }
     let bucket = bucket_of(flow, stage.script.setting.buckets);
-    movers.moves_thrice(&stage.script.plan, bucket, since, version)
+    let plan = &stage.script.plan;
+    3 <= moves.count(plan, bucket, Version(since), Version(version))
 }
 
 fn is_late(
-    movers: &Movers,
+    moves: &Moves,
     stage: &Stage,
     flow: &Flow,
-    sent: &Sent,
+    steering: &Steering,
     hop: Hop,
     clock: Moment,
 ) -> bool
     requires ranges { HasRanges stage.now }
-    requires kept { AreMovers stage.now.script.plan movers.now }
+    requires kept { AreMoves stage.now.script.plan moves.now }
     ensures { result
-        ≡ causes.is_late stage.now (label_sent stage.now flow.now sent.now) hop clock.0 }
+        ≡ causes.is_late stage.now (label_by stage.now flow.now steering.now) hop clock.0 }
 {
     let bucket = bucket_of(flow, stage.script.setting.buckets);
-    match movers.stamp(&stage.script.plan, bucket, sent.version.0, hop) {
-        Some(stamp) => is_past(stamp, stage, clock),
+    let entry = moves.entry(&stage.script.plan, bucket, steering.version);
+    match entry.onward(hop) {
+        Some(past) => is_past(past.stamp, stage, clock),
         None => false,
     }
 }
@@ -75,20 +77,21 @@ impl Known {
     pub(crate) fn new(alloc: Global, stage: &Stage) -> Result<Known, AllocError>
         ensures { IfOk result (λ k. Knows stage.now [] k) }
     {
-        let packets = stage.capture.records.items().len();
         Ok(Known {
-            running: Running::new(alloc, usize::from(stage.script.setting.muxes), packets)?,
+            versions: Versions::new(alloc),
+            labels: Labels::new(alloc, stage)?,
+            owners: Owners::new(alloc, stage)?,
             holders: Holders::new(alloc),
-            movers: Movers::new(alloc, &stage.script.plan)?,
+            moves: Moves::new(alloc, &stage.script.plan)?,
         })
     }
 
-    /// The versions of the muxes after the events that are known.
-    pub(crate) fn versions(&self) -> &[Version]
+    /// The versions after the events that are known.
+    pub(crate) fn versions(&self) -> &Versions
         ensures { (stage : Stage) (past : List Event) → Knows stage past self.now
-            → AreVersions past result.now }
+            → KeepsVersions past result.now }
     {
-        self.running.versions()
+        &self.versions
     }
 
     /// Records the event that comes after these.
@@ -102,8 +105,12 @@ impl Known {
         requires { Knows stage.now (reverse events.now) self.old }
         ensures { OnOk result (Knows stage.now (event.now ∷ reverse events.now) self.new) }
     {
-        self.running.note(stage, events, event)?;
-        self.holders.note(alloc, stage, events.len(), event)
+        let place = events.len();
+        self.holders.note(alloc, stage, place, event)?;
+        self.owners.note(stage, &self.labels, place, event.what)?;
+        self.labels.note(&self.versions, event.what);
+        self.versions.note(event.what)?;
+        Ok(())
     }
 
     /// The first premise that is broken where a packet arrives that isn't opening.
@@ -114,26 +121,26 @@ impl Known {
         clock: Moment,
         flow: &Flow,
         arrival: &Arrival,
-        sent: &Sent,
+        steering: &Steering,
     ) -> Option<Cause>
         requires ranges { HasRanges stage.now }
         requires knows { Knows stage.now (reverse events.now) self.now }
         ensures { result ≡ causes.first_broken stage.now (reverse events.now) clock.0
-            (label_sent stage.now flow.now sent.now) arrival.now.hop flow.now arrival.now.server
-            (option_map as_accepted sent.now.owner) }
+            (label_by stage.now flow.now steering.now) arrival.now.hop flow.now arrival.now.server
+            (option_map as_accepted arrival.now.owner) }
     {
-        let Some(owner) = sent.owner else {
+        let Some(owner) = arrival.owner else {
             return Some(Cause::NeverAccepted);
         };
         let held = self.holders.of(stage, flow);
         if held.place(owner.server) != Some(owner.place) {
             Some(Cause::NotHeld)
-        } else if sent.version.0 < owner.version {
+        } else if steering.version.0 < owner.version {
             Some(Cause::StaleMux)
-        } else if moves_thrice(&self.movers, stage, flow, owner.version, sent.version.0) {
+        } else if moves_thrice(&self.moves, stage, flow, owner.version, steering.version.0) {
             Some(Cause::MovedThrice)
         } else if arrival.server != owner.server
-            && is_late(&self.movers, stage, flow, sent, arrival.hop, clock)
+            && is_late(&self.moves, stage, flow, steering, arrival.hop, clock)
         {
             Some(Cause::ChainLate)
         } else if held.is_elsewhere(owner.server) {
@@ -153,22 +160,19 @@ impl Known {
         requires ranges { HasRanges stage.now }
         requires knows { Knows stage.now (reverse events.now) self.now }
         ensures { result ≡ causes.cause_at stage.now (reverse events.now) clock.0 arrival.now.hop
-            arrival.now.server arrival.now.verdict (owner_from arrival.now.sent) arrival.now.segment
-            (label_from stage.now arrival.now.segment arrival.now.sent) }
+            arrival.now.server arrival.now.verdict (option_map as_accepted arrival.now.owner) arrival.now.segment
+            (label_from stage.now arrival.now.segment arrival.now.steering) }
     {
         if !arrival.wants_cause() {
             return None;
         }
         let segment = arrival.segment?;
-        let sent = arrival.sent?;
+        let steering = arrival.steering?;
         if is_opening(&segment) {
-            opening_cause(
-                &arrival.verdict,
-                sent.version.0,
-                self.running.newest(stage, events).0,
-            )
+            let newest = self.versions.newest();
+            opening_cause(&arrival.verdict, steering.version.0, newest.0)
         } else {
-            self.first_broken(stage, events, clock, &segment.flow, arrival, &sent)
+            self.first_broken(stage, events, clock, &segment.flow, arrival, &steering)
         }
     }
 
@@ -186,8 +190,9 @@ impl Known {
                 server,
                 verdict,
             } => {
-                let sent = self.running.sent(stage, events, packet);
-                let arrival = Arrival::new(stage, packet, hop, server, verdict, sent);
+                let steering = self.labels.steering(packet);
+                let owner = self.owners.owner(packet);
+                let arrival = Arrival::new(stage, packet, hop, server, verdict, steering, owner);
                 self.cause_of(stage, events, &arrival, event.clock)
             }
             _ => None,

@@ -1,8 +1,8 @@
 //! What a report says about its history.
 ghost use Rattle.std.specs.Prelude.{◌≡◌, ◌<◌, ◌^◌};
 ghost use Rattle.bm_trace.specs.Report.{text};
-ghost use Rattle.bm_trace.specs.Inside.Types.{AreEvents, IsAnswer, IsEvent, IsFlow, IsVerdict};
-ghost use Rattle.bm_trace.specs.Inside.Types.{IsWhat};
+ghost use Rattle.bm_trace.specs.Types.{AreEvents, IsAnswer, IsEvent, IsFlow, IsVerdict};
+ghost use Rattle.bm_trace.specs.Types.{IsWhat};
 
 use bm_base::Flow;
 use bm_core::{Event, History, Verdict, What};
@@ -33,40 +33,50 @@ fn read_answer(answer: Retirement)
     }
 }
 
-fn read_number(number: u64)
+fn read_16(number: u16)
+    ensures { number < 2 ^ 16 }
+{
+    let _number = number;
+}
+
+fn read_32(number: u32)
+    ensures { number < 2 ^ 32 }
+{
+    let _number = number;
+}
+
+fn read_64(number: u64)
     ensures { number < 2 ^ 64 }
 {
     let _number = number;
 }
 
-fn read_numbers(first: u64, second: u64)
-    ensures first { first < 2 ^ 64 }
-    ensures second { second < 2 ^ 64 }
-{
-    read_number(first);
-    read_number(second);
-}
-
-/// Each number in `what` is below its bound.
 fn read_what(what: &What)
     ensures { IsWhat what.now }
 {
     match *what {
-        What::Publish(version) => read_number(u64::from(version.0)),
-        What::Switch { mux, version } => read_numbers(u64::from(mux.0), u64::from(version.0)),
-        What::Steer { packet, mux } => read_numbers(u64::from(packet), u64::from(mux.0)),
-        What::Lose { packet, .. } => read_number(u64::from(packet)),
+        What::Publish(version) => read_32(version.0),
+        What::Switch { mux, version } => {
+            read_16(mux.0);
+            read_32(version.0);
+        }
+        What::Steer { packet, mux } => {
+            read_32(packet);
+            read_16(mux.0);
+        }
+        What::Lose { packet, .. } => read_32(packet),
         What::Arrive {
             packet,
             server,
             verdict,
             ..
         } => {
-            read_numbers(u64::from(packet), u64::from(server.0));
+            read_32(packet);
+            read_16(server.0);
             read_verdict(verdict);
         }
         What::Close { server, flow, .. } => {
-            read_number(u64::from(server.0));
+            read_16(server.0);
             read_flow(&flow);
         }
         What::Retire {
@@ -75,19 +85,20 @@ fn read_what(what: &What)
             at,
             result,
         } => {
-            read_numbers(u64::from(server.0), u64::from(shard));
-            read_number(at.0);
+            read_16(server.0);
+            read_16(shard);
+            read_64(at.0);
             read_answer(result);
         }
         What::Sync => {}
     }
 }
 
-/// Each number of the event is below its bound.
-fn read_event(event: &Event)
+/// Each number of an event fits its type.
+pub fn numbers_fit(event: &Event)
     ensures { IsEvent event.now }
 {
-    read_number(event.clock.0);
+    read_64(event.clock.0);
     read_what(&event.what);
 }
 
@@ -96,7 +107,7 @@ fn read_events(events: &[Event])
 {
     let mut rest = events;
     while let Some((event, later)) = rest.split_first() {
-        read_event(event);
+        numbers_fit(event);
         rest = later;
     }
 }

@@ -6,15 +6,15 @@ ghost use Rattle.bm_core.specs.Past as past;
 ghost use Rattle.bm_trace.specs.Ranges.{HasRanges};
 ghost use Rattle.bm_trace.specs.Words as words;
 ghost use Rattle.bm_trace.specs.Report as report;
-ghost use Rattle.bm_trace.specs.Inside.Running.{AreVersions};
+ghost use Rattle.bm_state.specs.Versions.{KeepsVersions};
 
 use crate::append::{end_line, push_digits, push_named, push_number, push_verdict};
 use crate::sums::Totals;
-use crate::versions::version_in;
 use crate::words::{Counted, Endpoint, RetirementWords, hop_text, hop_word};
-use bm_base::{Flow, Hop, MuxId, ServerId, Version};
+use bm_base::{Flow, Hop, MuxId, ServerId};
 use bm_core::{Cause, Event, Stage, Verdict, What};
 use bm_hash::bucket_of;
+use bm_state::Versions;
 use bm_table::Retirement;
 use std::alloc::AllocError;
 
@@ -96,23 +96,16 @@ fn bucket_of_packet(stage: &Stage, packet: u32) -> u32
 
 fn write_steer(
     line: &mut String,
-    versions: &[Version],
-    stage: &Stage,
-    events: &[Event],
     clock: u64,
     packet: u32,
     mux: MuxId,
+    version: u32,
+    bucket: u32,
 ) -> Result<(), AllocError>
-    requires ranges { HasRanges stage.now }
-    requires kept { AreVersions (reverse events.now) versions.now }
     ensures { OnOk result
         (string_bytes line.new ≡ string_bytes line.old ++ words.line (decimal clock)
-        (codes "steer" ∷ decimal packet ∷ decimal mux.0
-        ∷ decimal (past.version_at (reverse events.now) mux).0
-        ∷ decimal (report.bucket_of_packet stage.now (past.segment_of stage.now packet)) ∷ [])) }
+        (codes "steer" ∷ decimal packet ∷ decimal mux.0 ∷ decimal version ∷ decimal bucket ∷ [])) }
 {
-    let version = version_in(versions, events, mux).0;
-    let bucket = bucket_of_packet(stage, packet);
     push_digits(line, clock)?;
     push_named(line, " steer ", u64::from(packet))?;
     push_number(line, u64::from(mux.0))?;
@@ -122,37 +115,74 @@ fn write_steer(
     Ok(())
 }
 
-/// The line of an event with this cause, which comes after these events.
-pub(crate) fn write_event(
-    line: &mut String,
-    versions: &[Version],
+/// What the line of an event says of the events before it: a Steer's line the version of its mux
+/// and the bucket of its packet, an arrival's its cause. Every other line says nothing of them.
+#[derive(Clone, Copy)]
+pub struct Aside {
+    pub version: u32,
+    pub bucket: u32,
+    pub cause: Option<Cause>,
+}
+
+/// What the line of an event with this cause says of the events before it.
+fn aside_of(
+    versions: &Versions,
     stage: &Stage,
     events: &[Event],
     event: &Event,
     cause: Option<Cause>,
-) -> Result<(), AllocError>
+) -> Aside
     requires ranges { HasRanges stage.now }
-    requires kept { AreVersions (reverse events.now) versions.now }
+    requires kept { KeepsVersions (reverse events.now) versions.now }
     requires cause { cause ≡ causes.cause stage.now (reverse events.now) event.now.clock.0
         event.now.what }
+    ensures { result ≡ report.aside stage.now (reverse events.now) event.now.clock.0
+        event.now.what }
+{
+    match event.what {
+        What::Steer { packet, mux } => Aside {
+            version: versions.of(mux).0,
+            bucket: bucket_of_packet(stage, packet),
+            cause: None,
+        },
+        What::Arrive { .. } => Aside {
+            version: 0,
+            bucket: 0,
+            cause,
+        },
+        What::Publish(_)
+        | What::Switch { .. }
+        | What::Lose { .. }
+        | What::Close { .. }
+        | What::Retire { .. }
+        | What::Sync => Aside {
+            version: 0,
+            bucket: 0,
+            cause: None,
+        },
+    }
+}
+
+/// Appends the line of an event that says this of the events before it.
+pub fn write_line(line: &mut String, event: &Event, aside: &Aside) -> Result<(), AllocError>
     ensures { OnOk result
         (string_bytes line.new ≡ string_bytes line.old
-        ++ report.event_line stage.now (reverse events.now) event.now) }
+        ++ words.line (decimal event.now.clock.0) (report.words_of event.now.what aside.now)) }
 {
     let clock = event.clock.0;
     match event.what {
         What::Publish(version) => writeln!(line, "{clock} publish {}", version.0),
         What::Switch { mux, version } => writeln!(line, "{clock} switch {} {}", mux.0, version.0),
-        What::Steer { packet, mux } => write_steer(
-            line, versions, stage, events, clock, packet, mux,
-        ),
+        What::Steer { packet, mux } => {
+            write_steer(line, clock, packet, mux, aside.version, aside.bucket)
+        }
         What::Lose { packet, hop } => writeln!(line, "{clock} lost {packet} {}", hop_word(hop)),
         What::Arrive {
             packet,
             hop,
             server,
             verdict,
-        } => write_arrival(line, clock, packet, hop, server, verdict, cause),
+        } => write_arrival(line, clock, packet, hop, server, verdict, aside.cause),
         What::Close {
             server,
             flow,
@@ -166,6 +196,28 @@ pub(crate) fn write_event(
         } => write_retirement(line, clock, server, shard, at.0, result),
         What::Sync => writeln!(line, "{clock} sync"),
     }
+}
+
+/// The line of an event with this cause, which comes after these events.
+pub(crate) fn write_event(
+    line: &mut String,
+    versions: &Versions,
+    stage: &Stage,
+    events: &[Event],
+    event: &Event,
+    cause: Option<Cause>,
+) -> Result<(), AllocError>
+    requires ranges { HasRanges stage.now }
+    requires kept { KeepsVersions (reverse events.now) versions.now }
+    requires cause { cause ≡ causes.cause stage.now (reverse events.now) event.now.clock.0
+        event.now.what }
+    ensures { OnOk result
+        (string_bytes line.new ≡ string_bytes line.old
+        ++ report.event_line stage.now (reverse events.now) event.now) }
+{
+    let aside = aside_of(versions, stage, events, event, cause);
+    write_line(line, event, &aside)?;
+    Ok(())
 }
 
 /// The note on the record of this number, which is cut short.

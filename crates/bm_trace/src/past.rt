@@ -1,17 +1,18 @@
 //! What follows from the events before a place of a history. A past is a slice with its newest
 //! event last.
-#![tactic(auto, using(crate::proofs::Newest::reverse_last))]
+#![tactic(auto, using(bm_state::proofs::Newest::reverse_last))]
 
 ghost use Rattle.std.specs.Prelude.{◌≡◌, length, reverse, MatchOption, Some};
 ghost use Rattle.std.specs.Prelude.{None, option_map};
 ghost use Rattle.bm_core.specs.declared.events.Stage.{Stage};
 ghost use Rattle.bm_core.specs.Past as past;
 ghost use Rattle.bm_base.specs.Segments.{same_flow};
-ghost use Rattle.bm_trace.specs.Inside.Seen.{as_accepted};
-ghost use Rattle.bm_trace.specs.Inside.Sent.{IsSent, owner_from};
+ghost use Rattle.bm_state.specs.Labels.{label_from};
+ghost use Rattle.bm_state.specs.Owners.{as_accepted};
 
 use bm_base::{Flow, MuxId, ServerId, Version};
 use bm_core::{Event, Stage, Verdict, What};
+use bm_state::{Owner, Steering};
 
 pub(crate) fn same_flow(a: &Flow, b: &Flow) -> bool
     ensures { result ≡ same_flow a.now b.now }
@@ -146,24 +147,6 @@ pub(crate) fn version_of(stage: &Stage, events: &[Event], packet: u32) -> u32
     }
 }
 
-/// The last Accept of a packet's flow before its Steer.
-#[derive(Clone, Copy)]
-pub(crate) struct Owner {
-    pub(crate) server: ServerId,
-    /// The version that steered the packet that was accepted.
-    pub(crate) version: u32,
-    /// How many events came before the Accept.
-    pub(crate) place: usize,
-}
-
-/// What is known of a packet from its Steer.
-#[derive(Clone, Copy)]
-pub(crate) struct Sent {
-    pub(crate) mux: MuxId,
-    pub(crate) version: Version,
-    pub(crate) owner: Option<Owner>,
-}
-
 /// The last Accept of the packet's flow.
 fn owner_before(stage: &Stage, events: &[Event], packet: u32) -> Option<Owner>
     ensures { option_map as_accepted result ≡ past.accept_before stage.now (reverse events.now)
@@ -178,21 +161,22 @@ fn owner_before(stage: &Stage, events: &[Event], packet: u32) -> Option<Owner>
     })
 }
 
-/// What is known of the packet from its last Steer.
-pub(crate) fn sent_of(stage: &Stage, events: &[Event], packet: u32) -> Option<Sent>
-    ensures { IsSent stage.now (reverse events.now) packet result }
+/// The mux and the version that steered the packet, if it was steered.
+pub(crate) fn steering_of(events: &[Event], packet: u32) -> Option<Steering>
+    ensures { (stage : Stage) → label_from stage (past.segment_of stage packet) result
+        ≡ past.label_of stage (reverse events.now) packet }
 {
     let steered = steer_of(events, packet)?;
-    Some(Sent {
+    Some(Steering {
         mux: steered.mux,
         version: version_at(steered.before, steered.mux),
-        owner: owner_before(stage, steered.before, packet),
     })
 }
 
-pub(crate) fn owner_server(sent: Option<Sent>) -> Option<ServerId>
-    ensures { result ≡ option_map (λ a. a.server) (owner_from sent) }
+/// The packet's owner, if it was steered when its flow had one.
+pub(crate) fn owner_of(stage: &Stage, events: &[Event], packet: u32) -> Option<Owner>
+    ensures { option_map as_accepted result ≡ past.owner stage.now (reverse events.now) packet }
 {
-    let owner = sent?.owner?;
-    Some(owner.server)
+    let steered = steer_of(events, packet)?;
+    owner_before(stage, steered.before, packet)
 }

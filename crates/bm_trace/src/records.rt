@@ -1,5 +1,5 @@
 //! The lines of records.
-#![tactic(auto, using(crate::proofs::Newest::reverse_take))]
+#![tactic(auto, using(bm_state::proofs::Newest::reverse_take))]
 
 ghost use Rattle.std.specs.Prelude.{◌≡◌, ℕ, ◌==◌, ◌∷◌, ◌++◌, []};
 ghost use Rattle.std.specs.Prelude.{OnOk, MatchOption, codes, decimal, string_bytes};

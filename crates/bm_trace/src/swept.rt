@@ -7,7 +7,7 @@ ghost use Rattle.bm_core.specs.Runs.{IsRun};
 ghost use Rattle.bm_core.specs.declared.events.History.{History};
 ghost use Rattle.bm_trace.specs.CauseOf.{cause_of};
 ghost use Rattle.bm_trace.specs.Ranges.{HasRanges};
-ghost use Rattle.bm_trace.specs.Inside.Running.{AreVersions};
+ghost use Rattle.bm_state.specs.Versions.{KeepsVersions};
 ghost use Rattle.bm_trace.specs.Swept.{AreCauses, cause_in};
 ghost use Rattle.bm_trace.specs.Inside.Swept.{AreCausesOf};
 ghost use Rattle.bm_trace.specs.Totals as totals;
@@ -15,8 +15,9 @@ ghost use Rattle.bm_trace.specs.Totals as totals;
 use crate::counts::totals_but_strays;
 use crate::known::Known;
 use crate::sums::Totals;
-use bm_base::{Memory, Version};
+use bm_base::Memory;
 use bm_core::{Cause, History, Verdict, What};
+use bm_state::Versions;
 use std::alloc::{AllocError, Global};
 use std::marker::Model;
 
@@ -106,10 +107,10 @@ impl Sweeper {
         })
     }
 
-    /// The versions of the muxes before the next event.
-    pub(crate) fn versions(&self) -> &[Version]
+    /// The versions before the next event.
+    pub(crate) fn versions(&self) -> &Versions
         ensures { (h : History) (place : ℕ) → HasSwept h place self.now
-            → AreVersions (reverse (take place h.events)) result.now }
+            → KeepsVersions (reverse (take place h.events)) result.now }
     {
         self.known.versions()
     }

@@ -7,6 +7,7 @@ use std::alloc::Global;
 
 /// What all workers of a run share. Place i of `octets` and of `routes` is for the record of packet
 /// i + 1: its packet, and its mux if it is steerable.
+#[derive(Drop)]
 pub struct Shared<'a, F, G> {
     pub alloc: Global,
     pub stage: &'a Stage,

@@ -149,24 +149,14 @@ fn is_wanting(stop: Option<Stop>) -> bool
 fn is_one_wanting(workers: &[MuxWorker]) -> bool
     ensures { result ≡ one_stopped wants_memory workers.now }
 {
-    for worker in workers {
-        if is_wanting(worker.stop) {
-            return true;
-        }
-    }
-    false
+    workers.iter().any(|worker| is_wanting(worker.stop))
 }
 
 /// Whether a worker gave up.
 fn is_one_stopped(workers: &[MuxWorker]) -> bool
     ensures { result ≡ one_stopped (λ stop. is_some stop) workers.now }
 {
-    for worker in workers {
-        if worker.stop.is_some() {
-            return true;
-        }
-    }
-    false
+    workers.iter().any(|worker| worker.stop.is_some())
 }
 
 /// Whether a worker gave up for a moment that was too large. `Memory` where one gave up because

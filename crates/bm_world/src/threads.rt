@@ -156,15 +156,7 @@ fn run_stage<W: Threads + Wait + Sync, F: Fn(u32, Hop) -> Fate + Sync, G: Gate>(
         gate,
     };
     let back = run_workers(rt, &shared, rows);
-    let Shared {
-        alloc,
-        stage: _stage,
-        octets: _octets,
-        routes: _routes,
-        servers: _servers,
-        faults: _faults,
-        gate: _gate,
-    } = shared;
+    drop(shared);
     // Only the workers read these, and the merge needs their memory.
     drop(octets);
     drop(routes);

@@ -6,10 +6,10 @@ use Rattle.std.specs.BTreeMap as tree
 use Rattle.bm_core.specs.declared.events.Event.{Event}
 use Rattle.bm_core.specs.declared.events.Stage.{Stage}
 use Rattle.bm_core.specs.Runs.{same_actor}
-use Rattle.bm_parts.specs.contracts.parting.AuthorOrd.TheImpl as author_order
-use Rattle.bm_parts.specs.declared.parting.Author.{Author}
+use Rattle.bm_state.specs.contracts.author.AuthorOrd.TheImpl as author_order
+use Rattle.bm_state.specs.declared.author.Author.{Author}
 use Rattle.bm_parts.specs.declared.parting.Logs.{Logs}
-use Rattle.bm_parts.specs.Inside.Actors.{actor}
+use Rattle.bm_state.specs.Authors.{actor}
 use Rattle.bm_parts.specs.Parts.{AreInOrder, is_among, written_by}
 
 -- the author's log, if there is one

@@ -1,7 +1,7 @@
 -- Going through the buckets in rising order: each server keeps buckets while it has room for one.
 use Rattle.std.specs.Prelude.{ℕ, ◌+◌, ◌-◌, nat_lt, if◌then◌else◌, List, [], ◌∷◌, slice_index}
 use Rattle.bm_base.specs.declared.ids.ServerId.{ServerId}
-use Rattle.bm_table.specs.Tables.{same_server}
+use Rattle.bm_table.specs.Tables.{is_among, same_server}
 
 -- the room of each server, by its number
 abbrev pub room_in : List ℕ → ServerId → ℕ
@@ -23,3 +23,7 @@ abbrev pub left : (ServerId → ℕ) → List ServerId → ServerId → ℕ
 left room [] s = room s
 left room (owner ∷ owners) s =
     if nat_lt 0 (room owner) then left (kept room owner) owners s else left room owners s
+
+-- the rooms, where these servers have none
+abbrev pub cleared : List ServerId → (ServerId → ℕ) → ServerId → ℕ
+cleared servers room s = if is_among servers s then 0 else room s

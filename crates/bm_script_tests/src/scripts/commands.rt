@@ -414,3 +414,83 @@ pub(super) const WEIGHTS: [(&'static str, &'static str); 31] = [
         "script command 2: bad value of at_ns",
     ),
 ];
+
+/// A script of version 3: servers 1 and 3 stand in rack 0, server 2 in rack 1.
+pub(super) const RACKED: &str = "version = 3
+racks = 2
+command = [
+  { at_ns = 500, do = 'add', server = 3, weight = 1 },
+]
+";
+
+/// Each bucket opens at a server of the other rack.
+pub(super) const ASTRAY: &str = "version = 3
+racks = 2
+servers = [2, 3]
+command = [
+  { at_ns = 500, do = 'weight', server = 2, weight = 1 },
+]
+";
+
+pub(super) const RACKS: [(&'static str, &'static str); 15] = [
+    (
+        "version = 3\nracks = 2\ncommand = [{at_ns=500,do='add',server=3,weight=1}]",
+        "",
+    ),
+    (
+        "version = 3\nracks = 2\ncommand = [{at_ns=500,do='drain',server=2}]",
+        "script command 1: last in rack",
+    ),
+    (
+        "version = 3\nracks = 2\ncommand = [{at_ns=500,do='add',server=4,weight=1},{at_ns=500,do='drain',server=2}]",
+        "",
+    ),
+    (
+        "version = 3\nracks = 2\ncommand = [{at_ns=0,do='add',server=3,weight=1},{at_ns=0,do='drain',server=2}]",
+        "script command 2: last in rack",
+    ),
+    (
+        "version = 3\nracks = 2\ncommand = [{at_ns=0,do='add',server=3,weight=1},{at_ns=0,do='drain',server=1},{at_ns=0,do='drain',server=3}]",
+        "script command 3: last in rack",
+    ),
+    (
+        "version = 3\nracks = 2\ncommand = [{at_ns=0,do='drain',server=4}]",
+        "script command 1: unknown server",
+    ),
+    (
+        "version = 3\nservers = [1]\nracks = 1\ncommand = [{at_ns=0,do='drain',server=1}]",
+        "script command 1: last server",
+    ),
+    (
+        "version = 3\nracks = 2\ncommand = [{at_ns=500,do='move',bucket=4,server=2}]",
+        "script command 1: wrong rack",
+    ),
+    (
+        "version = 3\nracks = 2\ncommand = [{at_ns=0,do='move',bucket=8,server=2}]",
+        "script command 1: bad bucket",
+    ),
+    (
+        "version = 3\nracks = 2\ncommand = [{at_ns=0,do='move',bucket=4,server=4}]",
+        "script command 1: unknown server",
+    ),
+    (
+        "version = 3\nracks = 2\ncommand = [{at_ns=0,do='move',bucket=4,server=1}]",
+        "script command 1: same server",
+    ),
+    (
+        "version = 3\nracks = 2\nservers = [2, 3]\ncommand = [{at_ns=0,do='move',bucket=4,server=2}]",
+        "script command 1: wrong rack",
+    ),
+    (
+        "version = 3\nracks = 2\nservers = [2, 3]\ncommand = [{at_ns=0,do='move',bucket=4,server=3}]",
+        "",
+    ),
+    (
+        "version = 3\nracks = 2\ncommand = [{at_ns=0,do='add',server=3}]",
+        "script command 1: missing weight",
+    ),
+    (
+        "version = 3\ncommand = [{at_ns=0,do='drain',server=1},{at_ns=0,do='move',bucket=0,server=1}]",
+        "script command 2: not active",
+    ),
+];

@@ -40,11 +40,12 @@ pub(super) const TEXTS: [(&'static str, &'static str); 16] = [
     ("[command]\n[[command]]", "script: not toml"),
 ];
 
-pub(super) const NUMBERS: [(&'static str, &'static str); 45] = [
+pub(super) const NUMBERS: [(&'static str, &'static str); 46] = [
     ("version = 1", ""),
     ("version = 0", "script: bad value of version"),
     ("version = 2", ""),
-    ("version = 3", "script: bad value of version"),
+    ("version = 3", ""),
+    ("version = 4", "script: bad value of version"),
     ("version = '1'", "script: bad value of version"),
     ("version = 1.0", "script: bad value of version"),
     ("version = true", "script: bad value of version"),
@@ -214,7 +215,7 @@ pub(super) const KEYS: [(&'static str, &'static str); 32] = [
     ("command = 1\n[[fault]]", "script: bad value of command"),
 ];
 
-pub(super) const WEIGHTS: [(&'static str, &'static str); 24] = [
+pub(super) const WEIGHTS: [(&'static str, &'static str); 25] = [
     ("version = 2\nweights = [1, 1000]", ""),
     ("version = 2\nservers = [3]\nweights = [7]", ""),
     ("version = 2\nweights = []", "script: bad value of weights"),
@@ -254,8 +255,9 @@ pub(super) const WEIGHTS: [(&'static str, &'static str); 24] = [
         "version = 1\nweights = [1, 1]",
         "script: unknown key weights",
     ),
+    ("version = 3\nweights = [1, 1]", ""),
     (
-        "version = 3\nweights = [1, 1]",
+        "version = 4\nweights = [1, 1]",
         "script: unknown key weights",
     ),
     (
@@ -282,6 +284,49 @@ pub(super) const WEIGHTS: [(&'static str, &'static str); 24] = [
     ),
     (
         "version = 2\nmuxes = 0\nweights = 0",
+        "script: bad value of weights",
+    ),
+];
+
+pub(super) const RACKS: [(&'static str, &'static str); 22] = [
+    ("version = 3\nracks = 1", ""),
+    ("version = 3\nracks = 2", ""),
+    ("version = 3\nracks = 2\nweights = [1, 1000]", ""),
+    ("version = 3\nservers = [2, 3]\nracks = 2", ""),
+    ("version = 3\nservers = [4, 8, 12]\nracks = 3", ""),
+    (
+        "version = 3\nbuckets = 3\nservers = [1, 2, 3]\nracks = 3",
+        "",
+    ),
+    ("version = 3\nracks = 0", "script: bad value of racks"),
+    ("version = 3\nracks = -1", "script: bad value of racks"),
+    ("version = 3\nracks = 2.0", "script: bad value of racks"),
+    ("version = 3\nracks = '2'", "script: bad value of racks"),
+    ("version = 3\nracks = [2]", "script: bad value of racks"),
+    (
+        "version = 3\nbuckets = 2\nservers = [1, 2, 3]\nracks = 3",
+        "script: bad value of racks",
+    ),
+    ("version = 3\nracks = 3", "script: bad value of racks"),
+    (
+        "version = 3\nservers = [1, 3]\nracks = 2",
+        "script: bad value of racks",
+    ),
+    (
+        "version = 3\nservers = [2, 4, 6]\nracks = 2",
+        "script: bad value of racks",
+    ),
+    ("racks = 1", "script: unknown key racks"),
+    ("version = 1\nracks = 1", "script: unknown key racks"),
+    ("version = 4\nracks = 1", "script: unknown key racks"),
+    ("version = '3'\nracks = 1", "script: unknown key racks"),
+    ("version = 3\nrack = 1", "script: unknown key rack"),
+    (
+        "version = 3\nmuxes = 0\nracks = 0",
+        "script: bad value of racks",
+    ),
+    (
+        "version = 3\nracks = 0\nweights = 0",
         "script: bad value of weights",
     ),
 ];

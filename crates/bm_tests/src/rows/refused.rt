@@ -3,7 +3,7 @@ use crate::capture::Form::Micro;
 use crate::capture::OPENED;
 use crate::program::Row;
 
-pub(crate) static REFUSED: [Row; 8] = [
+pub(crate) static REFUSED: [Row; 10] = [
     Row {
         name: "an unknown key",
         form: Micro,
@@ -97,5 +97,36 @@ pub(crate) static REFUSED: [Row; 8] = [
         ),
         status: 4,
         text: "beamer: script command 1: same server\n",
+    },
+    Row {
+        name: "the last server of a rack is drained",
+        form: Micro,
+        packets: OPENED,
+        script: Some(
+            "version = 3\n\
+            racks = 2\n\
+            [[command]]\n\
+            at_ns = 500\n\
+            do = \"drain\"\n\
+            server = 2\n",
+        ),
+        status: 4,
+        text: "beamer: script command 1: last in rack\n",
+    },
+    Row {
+        name: "a bucket is moved to another rack",
+        form: Micro,
+        packets: OPENED,
+        script: Some(
+            "version = 3\n\
+            racks = 2\n\
+            [[command]]\n\
+            at_ns = 500\n\
+            do = \"move\"\n\
+            bucket = 4\n\
+            server = 2\n",
+        ),
+        status: 4,
+        text: "beamer: script command 1: wrong rack\n",
     },
 ];

@@ -7,7 +7,7 @@ use Rattle.bm_core.specs.declared.events.History.{History}
 use Rattle.bm_core.specs.Runs.{IsRun}
 use Rattle.bm_io.specs.declared.fault.IoFault.{IoFault}
 use Rattle.bm_trace.specs.Report.{event_lines}
-use Rattle.bm_trace.specs.Inside.Running.{AreVersions}
+use Rattle.bm_state.specs.Versions.{KeepsVersions}
 use Rattle.bm_trace.specs.Inside.Swept.{AreCausesOf, HasSwept}
 use Rattle.bm_trace.specs.Totals.{strays}
 use Rattle.bm_trace.specs.declared.beside.Piece.{Piece}
@@ -37,7 +37,7 @@ AreInRow h from pieces =
 pub record CanWrite (h : History) (p : Piece) : Type 0 where
   pub order : p.from ≤ p.to
   pub there : p.to ≤ length h.events
-  pub known : AreVersions (reverse (take p.from h.events)) p.versions.items
+  pub known : KeepsVersions (reverse (take p.from h.events)) p.versions
   pub causes : AreCausesOf h p.from p.to p.causes.items
   pub empty : string_bytes p.lines ≡ []
 

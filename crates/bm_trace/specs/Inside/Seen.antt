@@ -1,4 +1,4 @@
--- What the code keeps of an Accept, and what an event does to a held flow.
+-- What an event does to a held flow.
 use Rattle.std.specs.Prelude.{◌≡◌, ℕ, Option, Some, None, option_map}
 use Rattle.bm_base.specs.declared.flow.Flow.{Flow}
 use Rattle.bm_base.specs.declared.ids.ServerId.{ServerId}
@@ -7,13 +7,9 @@ use Rattle.bm_core.specs.declared.events.Stage.{Stage}
 use Rattle.bm_core.specs.declared.events.Verdict.{Verdict}
 use Rattle.bm_core.specs.declared.events.Verdict.TheVariants.{Accept, Process}
 use Rattle.bm_core.specs.declared.events.What.{What}
-use Rattle.bm_core.specs.Past.{Accepted, Holding, held_after}
+use Rattle.bm_core.specs.Past.{Holding, held_after}
 use Rattle.bm_trace.specs.declared.held.Effect.{Effect}
 use Rattle.bm_trace.specs.declared.held.Effect.TheVariants.{Opens, Ends, Keeps}
-use Rattle.bm_trace.specs.declared.past.Owner.{Owner}
-
-abbrev pub as_accepted : Owner → Accepted
-as_accepted o = record { server = o.server; version = o.version; place = o.place }
 
 abbrev pub verdict_effect : Verdict → Effect
 verdict_effect Accept = Opens

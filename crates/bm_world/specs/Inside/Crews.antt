@@ -2,8 +2,8 @@
 -- it. Only the proofs of bodies use this.
 use Rattle.std.specs.Prelude.{◌≡◌, ◌⊎◌, ℕ, suc, ◌+◌, ◌-◌, ◌*◌, ◌^◌, ◌≤◌, max, List, [], ◌∷◌}
 use Rattle.std.specs.Prelude.{length, map, slice_get, Option, Some, None}
-use Rattle.std.specs.Prelude.{Result, Ok, Err, Bool, true, false, ◌||◌, MatchBool}
-use Rattle.std.specs.List.{AllByRecursion}
+use Rattle.std.specs.Prelude.{Result, Ok, Err, Bool, true, false, MatchBool}
+use Rattle.std.specs.List.{AllByRecursion, list_any}
 use mathlib.Core.List.{IsPrefix}
 use Rattle.bm_base.specs.declared.ids.Moment.{Moment}
 use Rattle.bm_base.specs.declared.ids.MuxId.{MuxId}
@@ -125,8 +125,7 @@ stop_in (Err stop) = Some stop
 
 -- one of the workers stopped in this way
 abbrev pub one_stopped : (Option Stop → Bool) → List MuxWorker → Bool
-one_stopped test [] = false
-one_stopped test (w ∷ workers) = test w.stop || one_stopped test workers
+one_stopped test workers = list_any (λ w. test w.stop) workers
 
 -- none gave up
 abbrev pub HaveNotStopped : List MuxWorker → Type 0

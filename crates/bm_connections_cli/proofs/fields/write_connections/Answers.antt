@@ -7,7 +7,7 @@ use Rattle.bm_connections_cli.proofs.fields.write_connections.Goals as goal
 
 pub loop-connection-preserved : goal.loop-connection-preserved
 loop-connection-preserved g c =
-    let line = connection_record c.args.clock.0 in
+    let line = connection_record c.args.clock.0 c.args.racks in
     let table = c.args.connections.now in
     let i = c.loop-connection.connection-index in
     record {
@@ -20,7 +20,7 @@ loop-connection-preserved g c =
 
 pub returns : goal.returns
 returns g c =
-    let line = connection_record c.args.clock.0 in
+    let line = connection_record c.args.clock.0 c.args.racks in
     λ octets is.
     subst (λ l. HasWritten g.W.Write.contents c.loop-connection.csv (octets ++ flat_map line l))
     (take_all c.loop-connection.connection-index c.args.connections.now c.loop-connection-test.false)

@@ -7,5 +7,5 @@ abbrev pub invariant-loop-connection : goal.invariant-loop-connection
 invariant-loop-connection g l = record {
   written : (octets : List ℕ) → HasWritten g.W.Write.contents l.initial.csv octets →
       HasWritten g.W.Write.contents l.csv
-      (octets ++ flat_map (connection_record l.clock.0) (take l.connection-index l.connections));
+      (octets ++ flat_map (connection_record l.clock.0 l.racks) (take l.connection-index l.connections));
 }

@@ -5,5 +5,5 @@ use Rattle.bm_connections_cli.proofs.json.write_values.Given as goal
 abbrev pub invariant-loop-connection : goal.invariant-loop-connection
 invariant-loop-connection l = record {
   written : string_bytes l.text ≡ string_bytes l.initial.text
-      ++ flat_map (json_line l.clock.0) (take l.connection-index l.connections);
+      ++ flat_map (json_line l.clock.0 l.racks) (take l.connection-index l.connections);
 }

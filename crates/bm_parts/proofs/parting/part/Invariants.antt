@@ -1,5 +1,5 @@
 use Rattle.std.proofs.Common.{◌≡◌, reverse, take}
-use Rattle.bm_parts.specs.Inside.Actors.{actor}
+use Rattle.bm_state.specs.Authors.{actor}
 use Rattle.bm_parts.specs.Inside.Logs.{AreLogsOf}
 use Rattle.bm_parts.specs.Parts.{writer}
 use Rattle.bm_parts.proofs.parting.part.Given as goal

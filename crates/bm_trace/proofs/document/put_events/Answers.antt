@@ -1,14 +1,16 @@
-use Rattle.std.proofs.Common.{◌∙◌}
-use Rattle.bm_trace.proofs.Handing.{none_sent}
+use Rattle.std.proofs.Common.{refl, ◌∙◌}
 use Rattle.bm_trace.proofs.Parted.{events_done, events_left, events_more, events_refused, on_err}
 use Rattle.bm_trace.proofs.Sweeping.{cause_here, versions_next}
 use Rattle.bm_trace.proofs.document.put_events.Goals as goal
 
-pub returns-in_err-versions-clause-err : goal.returns-in_err-versions-clause-err
-returns-in_err-versions-clause-err g c = on_err _ _ (none_sent _ _ _)
-
 pub returns-in_err-write_event-clause-err : goal.returns-in_err-write_event-clause-err
 returns-in_err-write_event-clause-err g c =
+    on_err _ _
+    (events_left c.args.h.now.stage c.items-events.result.now c.args.h.now.events c.loop-place.place
+    _ _ _ _ c.items-events.ensures c.loop-place.invariant.written)
+
+pub returns-in_err-note-clause-err : goal.returns-in_err-note-clause-err
+returns-in_err-note-clause-err g c =
     on_err _ _
     (events_left c.args.h.now.stage c.items-events.result.now c.args.h.now.events c.loop-place.place
     _ _ _ _ c.items-events.ensures c.loop-place.invariant.written)
@@ -24,8 +26,8 @@ pub loop-place-preserved : goal.loop-place-preserved
 loop-place-preserved g c = record {
   written = events_more c.args.h.now.stage c.items-events.result.now c.loop-place.place _ _ _ _ _ _ _ _
       c.loop-place-test.true c.loop-place.invariant.written c.in_ok-write_event.ensures c.in_ok-put_full.ensures.ok;
-  known = versions_next c.items-events.result.now c.loop-place.place _ _ _ c.loop-place-test.true
-      c.note_version.ensures c.loop-place.invariant.known;
+  known = versions_next c.items-events.result.now c.loop-place.place _ _ c.loop-place-test.true
+      (c.in_ok-note.ensures _ _ refl c.loop-place.invariant.known);
   later = c.in_ok-put_full.ensures.cause.kept ∙ c.loop-place.invariant.later;
 }
 

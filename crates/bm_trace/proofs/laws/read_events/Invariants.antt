@@ -1,5 +1,5 @@
 use Rattle.std.proofs.Common.{length}
-use Rattle.bm_trace.specs.Inside.Types.{AreEvents}
+use Rattle.bm_trace.specs.Types.{AreEvents}
 use Rattle.bm_trace.proofs.laws.read_events.Given as goal
 
 abbrev pub invariant-loop-event : goal.invariant-loop-event

@@ -1,0 +1,11 @@
+pub mod Texts
+pub mod Spelling
+pub mod Lining
+pub mod Reports
+pub mod Itself
+pub mod Differing
+pub mod Ordering
+pub mod Copying
+pub mod Routing
+pub mod Accounting
+pub mod Answering

@@ -1,0 +1,11 @@
+use Rattle.std.proofs.Common.{◌≡◌, ◌-◌, ◌≤◌, length, true}
+use Rattle.std.specs.Prelude.{take}
+use Rattle.bm_trace.specs.Inside.Reading.{runs_on}
+use Rattle.bm_check.specs.Inside.Taking.{is_feed}
+use Rattle.bm_check.proofs.lines.line_length.Given as goal
+
+abbrev pub invariant-loop-place : goal.invariant-loop-place
+invariant-loop-place l = (l.place ≤ length l.text) × (runs_on is_feed (take l.place l.text) ≡ true)
+
+abbrev pub decreases-loop-place : goal.decreases-loop-place
+decreases-loop-place l = length l.text - l.place

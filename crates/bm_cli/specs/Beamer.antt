@@ -1,0 +1,9 @@
+-- The program `beamer`.
+use Rattle.bm_words.specs.Form.{Asked}
+use Rattle.bm_cli.specs.Dues.{due}
+use Rattle.bm_cli.specs.Lines.{usage_line}
+use Rattle.bm_cli.specs.Program.{Program}
+use Rattle.bm_cli.specs.Top.{scripts_in}
+
+abbrev pub beamer : Program Asked
+beamer = record { due = due; usage = usage_line; scripts = scripts_in }

@@ -1,0 +1,5 @@
+pub mod Fitting
+pub mod Arriving
+pub mod Serving
+pub mod Prefixes
+pub mod Leaving

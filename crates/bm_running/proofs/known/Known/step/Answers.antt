@@ -1,0 +1,50 @@
+use Rattle.std.proofs.Common.{◌<◌, ◌^◌, ◌∷◌, arith, length, refl, subst, sym}
+use Rattle.std.specs.Prelude.{reverse}
+use Rattle.std.proofs.lemmas.List.{length-reverse}
+use Rattle.bm_state.specs.Clocks.{KeepsClocks}
+use Rattle.bm_state.specs.Labels.{KeepsLabels}
+use Rattle.bm_state.specs.Moves.{AreMoves}
+use Rattle.bm_state.specs.Sendings.{KeepsSendings}
+use Rattle.bm_state.specs.Versions.{KeepsVersions}
+use Rattle.bm_running.specs.declared.known.Known.{Known}
+use Rattle.bm_running.specs.Inside.Shards.{KeepsShards}
+use Rattle.bm_running.proofs.known.Known.step.Goals as goal
+
+pub returns : goal.returns
+returns c =
+    let stage = c.args.stage.now
+    in let past = reverse c.args.events.now
+    in let e = c.args.event.now
+    in let knows = c.requires.knows
+    in let author = c.author_of-author.ensures
+    in let on_time = (c.allow.ensures stage past e knows.clocks author refl).0 c.if-not-allow.false
+    in let came = c.if-not-branch.false
+    in let same = sym c.in_ok-may_come.ensures.others
+    in let clocks = subst (λ (k : Known). KeepsClocks stage past k.clocks) same knows.clocks
+    in let versions = subst (λ (k : Known). KeepsVersions past k.versions) same knows.versions
+    in let labels = subst (λ (k : Known). KeepsLabels stage past k.labels) same knows.labels
+    in let sendings = subst (λ (k : Known). KeepsSendings past k.sendings) same knows.sendings
+    in let moves = subst (λ (k : Known). AreMoves stage.script.plan k.moves) same knows.moves
+    in let noted = sym c.in_ok-note_leaves.ensures.others
+    in let few : length past < 2 ^ 63 =
+    (let all = length-reverse c.args.events.now in let limit = c.requires.few in omega (arith, all, limit))
+    in record {
+      run = (
+        record { clock = on_time.0; own = on_time.1; may = c.in_ok-may_come.ensures.decides.0 came },
+        knows.run,
+      );
+      clocks =
+          c.in_ok-note.ensures stage past e (subst (λ (k : Known). KeepsClocks stage past k.clocks) noted clocks) author
+          refl;
+      labels =
+          c.note-2.ensures stage past e refl (subst (λ (k : Known). KeepsVersions past k.versions) noted versions)
+          (subst (λ (k : Known). KeepsLabels stage past k.labels) noted labels);
+      versions =
+          c.in_ok-note-2.ensures past e refl (subst (λ (k : Known). KeepsVersions past k.versions) noted versions);
+      moves = subst (λ (k : Known). AreMoves stage.script.plan k.moves) noted moves;
+      sendings =
+          c.in_ok-note-3.ensures past few (subst (λ (k : Known). KeepsSendings past k.sendings) noted sendings);
+      shards =
+          subst (λ (k : Known). KeepsShards stage (e ∷ past) k.shards) noted (c.in_ok-may_come.ensures.shards came);
+      leaves = c.in_ok-note_leaves.ensures.keeps;
+    }

@@ -1,0 +1,2 @@
+pub mod FirstStop
+pub mod Inside

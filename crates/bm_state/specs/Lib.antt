@@ -1,0 +1,9 @@
+pub mod Authors
+pub mod Clocks
+pub mod Moves
+pub mod Labels
+pub mod FlowKeys
+pub mod Owners
+pub mod Sendings
+pub mod Versions
+pub mod Inside
