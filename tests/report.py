@@ -16,11 +16,14 @@ TEXTS = ("hop",)
 # the possible words of each field that isn't a number
 WORDS = {
     "hop": "direct|chained|twice",
-    "verdict": r"accept|process (advance|duplicate|ahead|outside|challenge|ended)|forward \d+"
+    "verdict": r"accept|process (advance|duplicate|ahead|outside|challenge|ended)|forward (0|[1-9]\d*)"
     "|reset (no-previous|chain-expired|chained-unknown)|drop (silent|full|retired)",
     "because": "never-accepted|not-held|stale-mux|moved-thrice|chain-late|syn-elsewhere|full|old-table",
-    "result": r"done|not-drained|too-early \d+",
+    "result": r"done|not-drained|too-early (0|[1-9]\d*)",
 }
+# how many bits the number in a field has
+BITS = {"clock": 64, "at": 64, "version": 32, "packet": 32, "bucket": 32, "mux": 16, "server": 16, "shard": 16, "verdict": 16, "result": 32}
+PORT_BITS = 16
 # The kinds that many random stages have to have, as `kinds_of` names them.
 KINDS = {"publish", "switch", "steer", "lost direct", "lost chained", "close closed", "close none", "sync"}
 KINDS |= {"retire done", "retire not-drained", "retire too-early", *WORDS["because"].split("|")}
@@ -50,6 +53,19 @@ def number(word):
     return int(word)
 
 
+def number_in(value):
+    """The number that a field is, or that its last word is; 0 if there is none."""
+    last = str(value).split(" ")[-1]
+    return int(last) if last.isdecimal() else 0
+
+
+def fits(e):
+    """Whether no number of an event has more bits than its field."""
+    ports = e["flow"][2:] if "flow" in e else ()
+    fields = all(number_in(e[field]) < 2**bits for field, bits in BITS.items() if field in e)
+    return fields and all(0 <= port < 2**PORT_BITS for port in ports)
+
+
 def event(text):
     """The event of a line; ValueError if it isn't one."""
     clock, what, *words = text.split(" ")
@@ -67,7 +83,7 @@ def event(text):
         server, shard, _, at, *result = words
         e |= {"server": number(server), "shard": number(shard), "at": number(at), "result": " ".join(result)}
     known = all(re.fullmatch(words, e[key], re.A) for key, words in WORDS.items() if e.get(key) is not None)
-    if what not in (*FIELDS, "arrive", "close", "retire") or not known or line(e) != text:
+    if what not in (*FIELDS, "arrive", "close", "retire") or not known or not fits(e) or line(e) != text:
         raise ValueError(f"no line of an event: {text}")
     return e
 

@@ -1,5 +1,5 @@
 """Small random stages, kept captures as tshark read them, and how a stage is written to files."""
-import csv, struct
+import csv, re, struct
 from rules import ACK, FIN, M32, RST, SYN, Fleet, Packet, endpoints, flow_of_frame, reason_of_frame
 
 CLIENT, SERVICE, OTHER = 0x0A000001, (0xC0000201, 80), (0xC0000209, 80)
@@ -150,6 +150,16 @@ def some_stage(rng):
     """Packets, and a fleet as `some_fleet` gives it."""
     stage = rng.choice([ANY] * 5 + [QUICK] * 5 + [SLOW] * 3 + [BOUNCING] * 3 + [LEAVING] * 2 + [RACKED] * 5)
     return some_packets(rng, stage), *some_fleet(rng, stage)
+
+
+def fleet_of(servers, shards, muxes):
+    """The text of a script with this many of each. A run has a seat for each mux and one more at each shard of each server."""
+    return f"servers = {list(range(1, servers + 1))}\nshards = {shards}\nmuxes = {muxes}\n"
+
+
+def with_muxes(script, muxes):
+    """The text of a script with this many muxes, without lags."""
+    return f"muxes = {muxes}\n" + re.sub(r"(?m)^(muxes|lags_ns) *=.*\n", "", script)
 
 
 def packet_of_frame(frame, moment, vips):

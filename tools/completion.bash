@@ -1,4 +1,4 @@
-# Bash completion for beamer (the form, the capture, the script) and beamer-connections (the capture, the script, the options).
+# Bash completion for beamer (the form, the trace, the capture, the script) and beamer-connections (the capture, the script, the options).
 #
 # usage: source tools/completion.bash
 
@@ -13,16 +13,13 @@ _beamer_files() {
 }
 
 _beamer() {
-  local word=${COMP_WORDS[COMP_CWORD]} form=${COMP_WORDS[1]-} ending
+  local word=${COMP_WORDS[COMP_CWORD]} form=${COMP_WORDS[1]-}
   COMPREPLY=()
-  case $COMP_CWORD in
-    1) mapfile -t COMPREPLY < <(compgen -W "replay run load streams" -- "$word"); return ;;
-    2) ending='@(pcap|pcapng|cap)' ;;
-    3) ending=toml ;;
-    *) return ;;
-  esac
-  case $form in
-    replay | run | streams) _beamer_files "$word" "$ending" ;;
+  case $COMP_CWORD-$form in
+    1-*) mapfile -t COMPREPLY < <(compgen -W "replay run load check streams" -- "$word") ;;
+    2-check) compopt -o filenames 2>/dev/null; mapfile -t COMPREPLY < <(compgen -f -- "$word") ;;
+    2-replay | 2-run | 2-streams | 3-check) _beamer_files "$word" '@(pcap|pcapng|cap)' ;;
+    3-replay | 3-run | 3-streams | 4-check) _beamer_files "$word" toml ;;
   esac
 }
 complete -F _beamer beamer ./beamer

@@ -1,5 +1,4 @@
 -- A report has one answer, and the report of a run that is accounted for has Yes.
-use mathlib.Core.List.{reverse_aux}
 use Rattle.std.proofs.Common.{◌≡◌, ℕ, zero, suc, ◌+◌, ◌<◌, ◌≤◌, ◌==◌, inl, inr, List, [], ◌∷◌, length, refl, ap, sym, ◌∙◌}
 use Rattle.std.proofs.Common.{arith, subst}
 use Rattle.std.specs.Prelude.{drop, reverse, take}
@@ -12,7 +11,7 @@ use Rattle.bm_core.specs.declared.events.Stage.{Stage}
 use Rattle.bm_trace.specs.Report.{text}
 use Rattle.bm_trace.specs.Types.{AreEvents}
 use Rattle.bm_check.proofs.Copying.{reverse_split}
-use Rattle.bm_check.proofs.Itself.{reads_itself}
+use Rattle.bm_check.proofs.Itself.{reads_itself, run_older}
 use Rattle.bm_check.proofs.Ordering.{take_all}
 use Rattle.bm_check.proofs.Reports.{few_events, good_begin, one_reading}
 use Rattle.bm_check.specs.Answers.{DifferAt, IsAccounted, IsAnswered, IsLeast, IsNoRunTo, IsRead}
@@ -49,10 +48,6 @@ stop_few stage events n least = elim (cases_lt (length events) n) [
 
 -- ONE ANSWER
 
-run_older : (stage : Stage) (newer past : List Event) → Run stage (reverse_aux newer past) → Run stage past
-run_older stage [] past run = run
-run_older stage (x ∷ newer) past run = (run_older stage newer (x ∷ past) run).1
-
 run_begins : (stage : Stage) (events : List Event) (n : ℕ) → Run stage (reverse events)
     → Run stage (reverse (take n events))
 run_begins stage events n run =
@@ -68,7 +63,7 @@ pub only_answer : (R : Routes) (F : Rules) (stage : Stage) (trace : List ℕ) (h
     → IsAnswered R F stage trace a → a ≡ Yes (length h.events)
 only_answer R F stage trace h here fits run account is = by where
   own : IsRead trace h
-  own = subst (λ (t : List ℕ). AreLinesOf h.events (lines t)) is (reads_itself h run.sound fits)
+  own = subst (λ (t : List ℕ). AreLinesOf h.events (lines t)) is (reads_itself h run fits)
 
   other : (k : History) → k.stage ≡ stage → IsRead trace k → k ≡ h
   other k there read = same_history k h (there ∙ sym here) (one_reading k.events h.events (lines trace) read own)

@@ -1,4 +1,5 @@
 -- The lines of a history's report are those of its events, and then closing lines.
+use mathlib.Core.List.{reverse_aux}
 use Rattle.std.proofs.Common.{◌≡◌, ℕ, zero, suc, ◌<◌, ◌≤◌, ◌^◌, ◌==◌, Bool, true, false, ◌&&◌, ◌||◌, not, inl, inr, List}
 use Rattle.std.proofs.Common.{[], ◌∷◌, ◌++◌, Option, None, Some, length, refl, ap, sym, ◌∙◌, arith, append_assoc, subst, codes}
 use Rattle.std.specs.Prelude.{decimal, reverse}
@@ -14,10 +15,15 @@ use Rattle.bm_base.specs.declared.capture.Reason.TheVariants.{BadTotalLength, Fr
 use Rattle.bm_base.specs.declared.capture.Reason.TheVariants.{OtherDestination, TooLong, Later}
 use Rattle.bm_base.specs.declared.capture.Record.{Record}
 use Rattle.bm_base.specs.declared.flow.Segment.{Segment}
+use Rattle.bm_base.specs.declared.label.Hop.{Hop}
+use Rattle.bm_base.specs.declared.label.Past.{Past}
 use Rattle.bm_base.specs.declared.ids.MuxId.{MuxId}
 use Rattle.bm_base.specs.declared.ids.ServerId.{ServerId}
 use Rattle.bm_base.specs.declared.ids.Version.{Version}
-use Rattle.bm_core.specs.Past.{bucket, segment_of, switched, version_at}
+use Rattle.bm_core.specs.Past.{bucket, segment_of, switched, timeout, version_at}
+use Rattle.bm_core.specs.Runs.{IsRun, IsStep, MayCome, Run}
+use Rattle.bm_core.specs.Verdicts.{local_at, onward, verdict_of}
+use Rattle.bm_core.specs.declared.events.Local.{Local}
 use Rattle.bm_core.specs.Stages.{IsSound}
 use Rattle.bm_core.specs.declared.events.Event.{Event}
 use Rattle.bm_core.specs.declared.events.History.{History}
@@ -38,7 +44,7 @@ use Rattle.bm_trace.specs.Words.{counted, line, reason_word, spaced}
 use Rattle.bm_trace.specs.declared.sums.Totals.{Totals}
 use Rattle.bm_check.proofs.Lining.{line_first}
 use Rattle.bm_check.specs.Inside.Taking.{is_feed}
-use Rattle.bm_check.specs.Lines.{AreLinesOf, IsClosing, IsLineOf, lines}
+use Rattle.bm_check.specs.Lines.{AreLinesOf, IsClosing, IsLineOf, has_line, has_own_reason, lines}
 
 -- A LINE OF WORDS IS ONE LINE
 
@@ -248,17 +254,44 @@ aside_bucket_fits stage past clock (Close server flow closed) sound = omega arit
 aside_bucket_fits stage past clock (Retire server h at result) sound = omega arith
 aside_bucket_fits stage past clock Sync sound = omega arith
 
+-- A RUN HAS LINES
+
+verdict_lined : (local : Local) (timeout clock : ℕ) (hop : Hop) (onto : Option Past) (s : Segment)
+    → has_own_reason (verdict_of local timeout clock hop onto s) ≡ true
+verdict_lined local timeout clock hop onto s = grind arith
+
+step_lined : (stage : Stage) (past : List Event) (clock : ℕ) (what : What) → MayCome stage past clock what
+    → has_line what ≡ true
+step_lined stage past clock (Arrive k hop server verdict) may =
+    ap has_own_reason may.verdict_is
+    ∙ verdict_lined (local_at stage past server may.segment.flow) (timeout stage) clock hop
+    (onward may.label.entry hop) may.segment
+step_lined stage past clock (Steer k m) may = refl
+step_lined stage past clock (Publish v) may = refl
+step_lined stage past clock (Switch m v) may = refl
+step_lined stage past clock (Lose k hop) may = refl
+step_lined stage past clock (Close server flow closed) may = refl
+step_lined stage past clock (Retire server h at result) may = refl
+step_lined stage past clock Sync may = refl
+
+pub run_older : (stage : Stage) (newer past : List Event) → Run stage (reverse_aux newer past) → Run stage past
+run_older stage [] past run = run
+run_older stage (x ∷ newer) past run = (run_older stage newer (x ∷ past) run).1
+
 coming_read : (stage : Stage) (past coming : List Event) (rest : List ℕ) → IsSound stage → VersionsFit past
+    → Run stage (reverse_aux coming past)
     → AreEvents coming → AreLinesOf [] (lines rest) → AreLinesOf coming (lines (lines_from stage past coming ++ rest))
 unfolding lines_from
-coming_read stage past [] rest sound fits are good = good
-coming_read stage past (e ∷ coming) rest sound fits are good =
+coming_read stage past [] rest sound fits run are good = good
+coming_read stage past (e ∷ coming) rest sound fits run are good =
     let words = event_words stage past e.clock.0 e.what
     in let more = lines_from stage (e ∷ past) coming ++ rest
     in let later =
     coming_read stage (e ∷ past) coming rest sound
-    (λ m. switched_fits e.what m (version_at past m) are.0.1 (fits m)) are.1 good
+    (λ m. switched_fits e.what m (version_at past m) are.0.1 (fits m)) run are.1 good
+    in let step : IsStep stage past e = (run_older stage coming (e ∷ past) run).0
     in let is : IsLineOf e (event_line stage past e) = record {
+      has = step_lined stage past e.clock.0 e.what step.may;
       numbers = are.0;
       aside = aside stage past e.clock.0 e.what;
       version = version_fits stage past e.clock.0 e.what fits;
@@ -272,9 +305,9 @@ coming_read stage past (e ∷ coming) rest sound fits are good =
     (event_are e.what (aside stage past e.clock.0 e.what))))
     (is, later))
 
-pub reads_itself : (h : History) → IsSound h.stage → AreEvents h.events → AreLinesOf h.events (lines (text h))
-reads_itself h sound are =
+pub reads_itself : (h : History) → IsRun h → AreEvents h.events → AreLinesOf h.events (lines (text h))
+reads_itself h run are =
     subst (λ (x : List ℕ). AreLinesOf h.events (lines x)) (sym (whole h))
-    (coming_read h.stage [] h.events _ sound (λ m. omega arith) are
+    (coming_read h.stage [] h.events _ run.sound (λ m. omega arith) run.run are
     (records_close (reverse h.events) 1 h.stage.capture.records _
     (note_closes h.stage.capture.cut _ (totals_close (totals_of h)))))

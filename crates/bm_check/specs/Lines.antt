@@ -1,6 +1,13 @@
 -- The lines of a printed report: what each is a line of, and the events that they name.
-use Rattle.std.specs.Prelude.{◌≡◌, ℕ, ◌<◌, ◌^◌, ◌⊎◌, ◌==◌, if◌then◌else◌, List, [], ◌∷◌, ◌++◌, codes, decimal}
+use Rattle.std.specs.Prelude.{◌≡◌, ℕ, ◌<◌, ◌^◌, ◌⊎◌, ◌==◌, Bool, true, false, not, if◌then◌else◌}
+use Rattle.std.specs.Prelude.{List, [], ◌∷◌, ◌++◌, codes, decimal}
 use Rattle.bm_core.specs.declared.events.Event.{Event}
+use Rattle.bm_core.specs.declared.events.Verdict.{Verdict}
+use Rattle.bm_core.specs.declared.events.Verdict.TheVariants.{Reset, Drop}
+use Rattle.bm_core.specs.declared.events.What.{What}
+use Rattle.bm_core.specs.declared.events.What.TheVariants.{Arrive}
+use Rattle.bm_core.specs.declared.events.Why.{Why}
+use Rattle.bm_core.specs.declared.events.Why.TheVariants.{NoPrevious, ChainExpired, ChainedUnknown}
 use Rattle.bm_trace.specs.Report.{words_of}
 use Rattle.bm_trace.specs.Types.{IsEvent}
 use Rattle.bm_trace.specs.Words.{line}
@@ -20,9 +27,27 @@ lines (c ∷ octets) = if c == 10 then (10 ∷ []) ∷ lines octets else put_fir
 
 -- EVENT LINES
 
+-- a packet is reset for one of these reasons, and dropped for one of the others
+abbrev pub is_reset_reason : Why → Bool
+is_reset_reason NoPrevious = true
+is_reset_reason ChainExpired = true
+is_reset_reason ChainedUnknown = true
+is_reset_reason why = false
+
+abbrev pub has_own_reason : Verdict → Bool
+has_own_reason (Reset why) = is_reset_reason why
+has_own_reason (Drop why) = not (is_reset_reason why)
+has_own_reason verdict = true
+
+-- reports have lines of such an event
+abbrev pub has_line : What → Bool
+has_line (Arrive k hop server verdict) = has_own_reason verdict
+has_line what = true
+
 -- the line is one of the event: any version and bucket may stand on it where a packet is steered,
 -- and any cause where a copy arrives
 pub record IsLineOf (e : Event) (l : List ℕ) : Type 0 where
+  pub has : has_line e.what ≡ true
   pub numbers : IsEvent e
   pub aside : Aside
   pub version : aside.version < 2 ^ 32

@@ -5,7 +5,8 @@
 #[derive(Clone, Copy, PartialEq, Eq)]
 pub enum Answer {
     Yes(u32),
-    /// The first line that is none of an event, or of the end, or stands in the wrong place.
+    /// The first line that is neither an event's nor a closing line, or is an event's after a
+    /// closing line.
     NotLine(u32),
     /// The first event that may not come after those before it.
     NotRun(u32),

@@ -18,12 +18,13 @@ use crate::lines::{Reading, read_lines};
 use bm_base::{Fate, Flow, Hop, List, Memory};
 use bm_core::{Event, History, Stage};
 use bm_fault::Faults;
+use bm_io::SureSink;
 use bm_route::Route;
 use bm_running::first_stop;
-use bm_trace::report;
+use bm_trace::{report_to, sweep, totals_of};
 use std::alloc::Global;
 
-/// The number of a line or an event. No report has more.
+/// The number of a line or an event. A report has at most 268,435,456 octets.
 fn short(number: usize) -> u32
     requires { number ≤ 268435457 }
     ensures { result ≡ number }
@@ -70,6 +71,7 @@ fn follow<R: Fn(u32, &Flow) -> u16, F: Fn(u32, Hop) -> Fate>(
 
 /// The number of the first line at which these octets differ from the report of the history, if
 /// they do.
+#[tactic(auto, using(bm_trace::proofs::Ranged::ranges_of))]
 fn first_other_line(alloc: Global, h: &History, trace: &[u8]) -> Result<Option<usize>, Memory>
     requires run { IsRun h.now }
     requires short { length trace.now ≤ 268435456 }
@@ -77,9 +79,12 @@ fn first_other_line(alloc: Global, h: &History, trace: &[u8]) -> Result<Option<u
         (IsLeast (DifferAt trace.now (text h.now)))) }
     ensures few { IfOk result (λ found. IfSome found (λ n. n ≤ length trace.now + 1)) }
 {
-    let mut lines = Vec::new(alloc);
-    report(h, &mut lines)?;
-    Ok(first_difference(trace, &lines))
+    let causes = sweep(alloc, h)?;
+    let mut report = SureSink::new(alloc);
+    let Ok(()) = report_to(h, &causes, &totals_of(h, &causes), &mut report) else {
+        return Err(Memory);
+    };
+    Ok(first_difference(trace, report.written()))
 }
 
 /// Compares the octets with the report of the history.
@@ -123,8 +128,10 @@ fn judge<R: Fn(u32, &Flow) -> u16, F: Fn(u32, Hop) -> Fate>(
 
 /// Whether the octets are the report of a run of the stage that is accounted for, or the first
 /// thing that is wrong with them. The route and the fault rule have one answer to each question.
-/// The time is in proportion to n log n, where n is the number of octets, and the memory to n: the
-/// events, what is kept of them, and the report of these events. `Memory` where memory was refused.
+/// For n octets and a stage of n records, moves and retirements of shards, the time is in proportion
+/// to n log n, unless flows are chosen for one home (docs/SECURITY.md). The memory is in proportion
+/// to n: the events, what is kept of them, and the report of these events. `Memory` where memory was
+/// refused.
 pub fn check<R: Fn(u32, &Flow) -> u16, F: Fn(u32, Hop) -> Fate>(
     alloc: Global,
     stage: Stage,
@@ -137,7 +144,7 @@ pub fn check<R: Fn(u32, &Flow) -> u16, F: Fn(u32, Hop) -> Fate>(
     requires faults { IsRule F.Fn faults.now.rule }
     requires sure { IsSure (Answers R.Fn route.now.rule) (Gives F.Fn faults.now.rule) }
     requires short { length trace.now ≤ 268435456 }
-    // The first row that stands.
+    // The first thing that is wrong, or yes.
     ensures answer { IfOk result (IsAnswered (Answers R.Fn route.now.rule)
         (Gives F.Fn faults.now.rule) stage trace.now) }
     // Yes wherever the octets are such a report.

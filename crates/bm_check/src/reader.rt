@@ -13,12 +13,13 @@ ghost use Rattle.bm_trace.specs.Types.{IsAnswer, IsEvent, IsFlow, IsVerdict, IsW
 ghost use Rattle.bm_trace.specs.Words as words;
 ghost use Rattle.bm_trace.specs.declared.lines.Aside.{Aside};
 ghost use Rattle.bm_check.specs.Inside.Reading.{closed_word, nothing, shown, text_of};
+ghost use Rattle.bm_check.specs.Lines as lines;
 ghost use Rattle.bm_check.specs.Lines.{IsLineOf};
 
 use crate::verdicts::{because, verdict};
 use crate::words::{cut, endpoint_in, hop_in, is, number_16, number_32, value_of};
 use bm_base::{Flow, Memory, Moment, MuxId, ServerId, Version};
-use bm_core::{Event, What};
+use bm_core::{Event, Verdict, What, Why};
 use bm_table::Retirement;
 use bm_trace::laws::numbers_fit;
 use bm_trace::{Aside, write_line};
@@ -311,6 +312,33 @@ fn read_32(number: u32)
     let _number = number;
 }
 
+/// Whether a packet is reset for this reason. It is dropped for the others.
+fn is_reset_reason(why: Why) -> bool
+    ensures { result ≡ lines.is_reset_reason why }
+{
+    match why {
+        Why::NoPrevious | Why::ChainExpired | Why::ChainedUnknown => true,
+        Why::Silent | Why::Full | Why::Retired => false,
+    }
+}
+
+/// Whether reports have lines of such an event: a reset and a drop have reasons of their own.
+fn has_line(what: What) -> bool
+    ensures { result ≡ lines.has_line what }
+{
+    match what {
+        What::Arrive {
+            verdict: Verdict::Reset(why),
+            ..
+        } => is_reset_reason(why),
+        What::Arrive {
+            verdict: Verdict::Drop(why),
+            ..
+        } => !is_reset_reason(why),
+        _ => true,
+    }
+}
+
 /// The event that the line is of, if it is of one: it is as it would be written. The text is room
 /// for that.
 pub(crate) fn read_event(text: &mut String, line: &[u8]) -> Result<Option<Event>, Memory>
@@ -320,6 +348,9 @@ pub(crate) fn read_event(text: &mut String, line: &[u8]) -> Result<Option<Event>
     let Some((event, aside)) = guess(line) else {
         return Ok(None);
     };
+    if !has_line(event.what) {
+        return Ok(None);
+    }
     text.clear();
     write_line(text, &event, &aside)?;
     if text.as_bytes() != line {

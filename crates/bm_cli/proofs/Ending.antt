@@ -8,7 +8,7 @@ use Rattle.bm_cli.specs.declared.fault.StageFault.{StageFault}
 use Rattle.bm_cli.specs.declared.fault.StageFault.TheVariants.{Memory as WantsMemory}
 use Rattle.bm_cli.specs.declared.status.Status.{Status}
 use Rattle.bm_cli.specs.declared.status.Status.TheVariants.{Done, Usage, ReadFault, Memory}
-use Rattle.bm_cli.specs.Dues.{Answer, Due, Misused, Refused, Shown, answer_for, due, due_of_stage, names_behind}
+use Rattle.bm_cli.specs.Dues.{Answer, Due, Misused, Refused, Shown, answer_for, due, due_of_stage, names_after}
 use Rattle.bm_cli.specs.declared.mode.Mode.{Mode}
 use Rattle.bm_cli.specs.Headline.{IsReportOf}
 use Rattle.bm_cli.specs.Dues.{IsDue}
@@ -35,6 +35,7 @@ nothing = record {
   script = λ name. Err WantsMemory;
   capture = λ name vips. Err NoMemory;
   began = λ name. 0;
+  trace = λ name. None;
 }
 
 pub holds_any : (told : Octets) (fact : Reads → Type 0) → ((reads : Reads) → fact reads) → Holds told fact
@@ -44,7 +45,7 @@ holds_any (Some octets) fact any = record { reads = reads_of octets; known = ref
 -- A STAGE
 
 -- a fault from outside may be answered in place of anything
-said_outside : (answer : Answer) (fault : StageFault) (says : Status) (text : List ℕ) → IsOutside fault →
+pub said_outside : (answer : Answer) (fault : StageFault) (says : Status) (text : List ℕ) → IsOutside fault →
     IsOf (Refused fault) says text → IsSaid answer says text
 said_outside answer fault says text outside (inr none) = inl (inr none)
 said_outside answer fault says text (inl is) (inl said) = inr (said.0 ∙ is, said.1 ∙ read_line fault is)
@@ -90,7 +91,7 @@ ends_stage mode is names reads files sink r result read tells = record {
   said = said_stage is (reading mode names reads) r tells.says tells.text read.read tells.is;
   writes = tells.writes;
   asks =
-      asks_as (names_behind names (script_by mode reads names.script)) files (status_by r) tells.says read.asks
+      asks_as (names_after names (script_by mode reads names.script)) files (status_by r) tells.says read.asks
       (says_read is r tells.says tells.text tells.is);
 }
 

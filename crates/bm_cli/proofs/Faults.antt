@@ -13,11 +13,12 @@ use Rattle.bm_script.specs.declared.fault.ScriptFault.{ScriptFault}
 use Rattle.bm_script.specs.declared.fault.ScriptFault.TheVariants.{NotToml, Missing, BadValue, Unknown, Refused, Rack}
 use Rattle.bm_script.specs.declared.fault.ScriptFault.TheVariants.{Memory as ScriptMemory}
 use Rattle.bm_cli.specs.declared.fault.StageFault.{StageFault}
-use Rattle.bm_cli.specs.declared.fault.StageFault.TheVariants.{Files, LongScript, Seats, Script as OfScript}
+use Rattle.bm_cli.specs.declared.fault.StageFault.TheVariants.{Files, LongScript, LongTrace, Seats}
+use Rattle.bm_cli.specs.declared.fault.StageFault.TheVariants.{Script as OfScript}
 use Rattle.bm_cli.specs.declared.fault.StageFault.TheVariants.{Capture as OfCapture, Memory as WantsMemory}
 use Rattle.bm_cli.specs.declared.status.Status.{Status}
 use Rattle.bm_cli.specs.declared.status.Status.TheVariants.{BadCapture, BadScript, Done, Memory, ReadFault, Usage}
-use Rattle.bm_cli.specs.declared.status.Status.TheVariants.{Limit, WriteFault}
+use Rattle.bm_cli.specs.declared.status.Status.TheVariants.{Denied, Limit, WriteFault}
 use Rattle.bm_cli.specs.Lines.{capture_line, capture_status, fault_line, fault_status, refusal_status, script_line}
 use Rattle.bm_cli.specs.Lines.{script_status}
 use Rattle.bm_cli.specs.Statuses.{code_of}
@@ -28,34 +29,36 @@ use Rattle.bm_cli.specs.Statuses.{code_of}
 apart : (s t : Status) → (code_of s == code_of t) ≡ false → s ≢ t
 apart s t codes = λ is. eqb-false (code_of s) (code_of t) codes (ap code_of is)
 
--- a status of a fault: neither of the words, nor of a report, nor of the sink
+-- a status of a fault: neither of the words, nor of a report, nor of the sink, nor of a check
 pub record IsOfFault (s : Status) : Type 0 where
   pub usage : s ≢ Usage
   pub done : s ≢ Done
   pub write : s ≢ WriteFault
+  pub denied : s ≢ Denied
 
 of_code : (s : Status) → (code_of s == code_of Usage) ≡ false → (code_of s == code_of Done) ≡ false
-    → (code_of s == code_of WriteFault) ≡ false → IsOfFault s
-of_code s usage done write = record {
+    → (code_of s == code_of WriteFault) ≡ false → (code_of s == code_of Denied) ≡ false → IsOfFault s
+of_code s usage done write denied = record {
   usage = apart s Usage usage;
   done = apart s Done done;
   write = apart s WriteFault write;
+  denied = apart s Denied denied;
 }
 
 bad_script : IsOfFault BadScript
-bad_script = of_code BadScript refl refl refl
+bad_script = of_code BadScript refl refl refl refl
 
 bad_capture : IsOfFault BadCapture
-bad_capture = of_code BadCapture refl refl refl
+bad_capture = of_code BadCapture refl refl refl refl
 
 read_fault : IsOfFault ReadFault
-read_fault = of_code ReadFault refl refl refl
+read_fault = of_code ReadFault refl refl refl refl
 
 limit : IsOfFault Limit
-limit = of_code Limit refl refl refl
+limit = of_code Limit refl refl refl refl
 
 memory : IsOfFault Memory
-memory = of_code Memory refl refl refl
+memory = of_code Memory refl refl refl refl
 
 -- a refused command is a fault of the script, or passes a limit
 refused_by : (refusal : Refusal) → (refusal_status refusal ≡ BadScript) ⊎ (refusal_status refusal ≡ Limit)
@@ -86,6 +89,7 @@ script_of_fault (Refused n refusal) = record {
   usage = refusal_is_not refusal Usage bad_script.usage limit.usage;
   done = refusal_is_not refusal Done bad_script.done limit.done;
   write = refusal_is_not refusal WriteFault bad_script.write limit.write;
+  denied = refusal_is_not refusal Denied bad_script.denied limit.denied;
 }
 script_of_fault (Rack n refusal) = bad_script
 script_of_fault ScriptMemory = memory
@@ -104,6 +108,7 @@ capture_of_fault NoMemory = memory
 pub of_fault : (fault : StageFault) → IsOfFault (fault_status fault)
 of_fault Files = read_fault
 of_fault LongScript = limit
+of_fault LongTrace = limit
 of_fault Seats = limit
 of_fault (OfScript fault) = script_of_fault fault
 of_fault (OfCapture fault) = capture_of_fault fault
@@ -135,6 +140,7 @@ capture_read_line NoMemory e = absurd (apart Memory ReadFault refl e)
 pub read_line : (fault : StageFault) → fault_status fault ≡ ReadFault → fault_line fault ≡ fault_line Files
 read_line Files e = refl
 read_line LongScript e = absurd (apart Limit ReadFault refl e)
+read_line LongTrace e = absurd (apart Limit ReadFault refl e)
 read_line Seats e = absurd (apart Limit ReadFault refl e)
 read_line (OfScript fault) e = absurd (script_reads fault e)
 read_line (OfCapture fault) e = capture_read_line fault e
@@ -165,6 +171,7 @@ capture_no_line NoMemory e = refl
 pub memory_line : (fault : StageFault) → fault_status fault ≡ Memory → fault_line fault ≡ []
 memory_line Files e = absurd (apart ReadFault Memory refl e)
 memory_line LongScript e = absurd (apart Limit Memory refl e)
+memory_line LongTrace e = absurd (apart Limit Memory refl e)
 memory_line Seats e = absurd (apart Limit Memory refl e)
 memory_line (OfScript fault) e = script_no_line fault e
 memory_line (OfCapture fault) e = capture_no_line fault e

@@ -1,18 +1,20 @@
 -- What is due for each form of words.
 use Rattle.std.proofs.Common.{◌≡◌, ◌≢◌, ℕ, List, [], Option, Some, None, IsSome, Result, Ok, Err, refl, subst}
-use Rattle.bm_words.specs.Form.{Asked, Load, Named, Replay, Run, Streams}
+use Rattle.bm_words.specs.Form.{Asked, Check, Load, Named, Replay, Run, Streams}
 use Rattle.bm_table.specs.declared.script.Script.{Script}
 use Rattle.bm_cli.specs.declared.fault.StageFault.{StageFault}
 use Rattle.bm_cli.specs.declared.mode.Mode.TheVariants.{Replay as by_replay, Run as by_run}
 use Rattle.bm_cli.specs.declared.status.Status.TheVariants.{Usage, BadScript}
 use Rattle.bm_cli.specs.Beamer.{beamer}
-use Rattle.bm_cli.specs.Dues.{IsDue, due, names_behind}
+use Rattle.bm_cli.specs.Dues.{IsDue, due, names_after}
 use Rattle.bm_cli.specs.Headline.{IsReportOf}
 use Rattle.bm_cli.specs.Lines.{usage_line}
 use Rattle.bm_cli.specs.Reading.{Reads, reading, script_by}
 use Rattle.bm_cli.specs.Streams.{AreStreams}
 use Rattle.bm_cli.specs.Top.{AsksNone, scripts_in}
 use Rattle.bm_cli.proofs.Ending.{nothing}
+use Rattle.bm_cli.proofs.Stages.{script_named}
+use Rattle.bm_cli.proofs.Traces.{check_names, check_open, check_usage}
 use Rattle.bm_cli.proofs.Laws.{ByForm, stage_names, stage_usage}
 
 -- the usage line is due for the words of no form alone
@@ -26,6 +28,7 @@ usage_form (Some (Run capture script)) reads text is =
     (reading by_run (record { capture = capture; script = Some script }) reads) text is)
 usage_form (Some (Streams names)) reads text is =
     absurd (stage_usage (AreStreams names reads) (reading by_replay names reads) text is)
+usage_form (Some (Check trace capture script)) reads text is = absurd (check_usage trace capture script reads text is)
 usage_form (Some (Load n)) reads text is = absurd (let no = is.0 in cc)
 
 usage_text : (form : Option Asked) (reads : Reads) (text : List ℕ) → IsDue (due form reads).answer Usage text →
@@ -50,18 +53,14 @@ script_form (Some (Run capture script)) reads text is =
     (script_by by_run reads (Some script)) text is
 script_form (Some (Streams names)) reads text is =
     stage_names (AreStreams names reads) names reads (script_by by_replay reads names.script) text is
+script_form (Some (Check trace capture script)) reads text is = check_names trace capture script reads text is
 script_form (Some (Load n)) reads text is = absurd (let no = is.0 in cc)
 
 -- A FILE IS ASKED FOR
 
-script_named : (capture script : List ℕ) (r : Result Script StageFault) →
-    names_behind (record { capture = capture; script = Some script }) r ≢ []
-script_named capture script (Ok found) = λ e. cc
-script_named capture script (Err fault) = λ e. cc
-
 -- by a replay, with or without a script
 pub replay_named : (capture : List ℕ) (script : Option (List ℕ)) (reads : Reads) →
-    names_behind (record { capture = capture; script = script }) (script_by by_replay reads script) ≢ []
+    names_after (record { capture = capture; script = script }) (script_by by_replay reads script) ≢ []
 replay_named capture None reads = λ e. cc
 replay_named capture (Some script) reads = script_named capture script (script_by by_replay reads (Some script))
 
@@ -78,6 +77,11 @@ pub run_asks : (words : Option Asked) (capture script : List ℕ) → words ≡ 
 run_asks words capture script is none =
     script_named capture script (script_by by_run nothing (Some script))
     (subst (λ f. AsksNone (due f)) is none nothing)
+
+pub check_asks : (words : Option Asked) (trace capture script : List ℕ) → words ≡ Some (Check trace capture script) →
+    AsksNone (due words) → ⊥
+check_asks words trace capture script is none =
+    check_open trace capture script nothing (subst (λ f. AsksNone (due f)) is none nothing)
 
 pub by_form : (form : Option Asked) → ByForm beamer form
 by_form form = record {

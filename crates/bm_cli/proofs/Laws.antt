@@ -3,16 +3,19 @@ use Rattle.std.proofs.Common.{◌≡◌, ◌≢◌, ◌⊎◌, inl, inr, ℕ, Li
 use Rattle.std.proofs.Common.{sym, ap, subst, ◌∙◌, refl, ◌≤◌}
 use Rattle.std.specs.Io.KnownBytes.{Appends}
 use Rattle.bm_io.specs.Causes.{Rose}
+use Rattle.bm_check.specs.declared.answer.Answer.{Answer as Checked}
+use Rattle.bm_check.specs.declared.answer.Answer.TheVariants.{Yes, NotLine, NotRun, NotAccount, NotSame}
 use Rattle.bm_words.specs.Form.{Named}
 use Rattle.bm_table.specs.declared.script.Script.{Script}
 use Rattle.bm_core.specs.declared.events.Stage.{Stage}
 use Rattle.bm_cli.specs.Captures.{Captured}
+use Rattle.bm_cli.specs.Checks.{checked_line, checked_status}
 use Rattle.bm_cli.specs.declared.fault.StageFault.{StageFault}
 use Rattle.bm_cli.specs.declared.fault.StageFault.TheVariants.{Files}
 use Rattle.bm_cli.specs.declared.status.Status.{Status}
 use Rattle.bm_cli.specs.declared.status.Status.TheVariants.{Done, Usage, ReadFault, BadCapture}
-use Rattle.bm_cli.specs.declared.status.Status.TheVariants.{BadScript, WriteFault, Memory, Limit}
-use Rattle.bm_cli.specs.Dues.{Answer, Due, IsDue, Misused, Refused, Shown, answer_for, names_behind}
+use Rattle.bm_cli.specs.declared.status.Status.TheVariants.{BadScript, WriteFault, Memory, Limit, Denied}
+use Rattle.bm_cli.specs.Dues.{Answer, Due, IsDue, Judged, Misused, Refused, Shown, answer_for, names_after}
 use Rattle.bm_cli.specs.Ends.{Ends, EndsWith, IsSaid}
 use Rattle.bm_cli.specs.Lines.{fault_line}
 use Rattle.bm_cli.specs.Names.{AsksAll, AsksPrefix, script_names}
@@ -20,7 +23,7 @@ use Rattle.bm_cli.specs.Program.{IsProgram, Program}
 use Rattle.bm_cli.specs.Reading.{Holds, Octets, Reading, Reads, with_capture}
 use Rattle.bm_cli.specs.Reading.{with_script}
 use Rattle.bm_cli.specs.Statuses.{code_of, FilesDid, SinkDid}
-use Rattle.bm_cli.specs.Top.{IsAccepted, IsStatusOf, RefusesAnswer, ShowsAnswer, WritesSome}
+use Rattle.bm_cli.specs.Top.{DeniesAnswer, IsAccepted, IsStatusOf, RefusesAnswer, ShowsAnswer, WritesSome}
 use Rattle.bm_cli.proofs.Ending.{holds_more}
 use Rattle.bm_cli.proofs.Faults.{capture_no_script, of_fault, read_line}
 use Rattle.bm_cli.proofs.Statuses.{code_below, same_code, says_is}
@@ -59,19 +62,55 @@ module _ (wanted : Due) (files : FilesDid) (sink : SinkDid) (s : Status) (ends :
 
 -- SHOWN
 
+-- a check that ends with status 0 answers yes
+shown_yes : (of : Checked → Type 0) (a : Checked) (before now : Option (List ℕ)) (text : List ℕ) → of a →
+    Done ≡ checked_status a → text ≡ checked_line a → Appends before now text → ShowsAnswer (Judged of) before now
+shown_yes of (Yes e) before now text is status line written =
+    (e, is, subst (λ l. Appends before now l) line written)
+shown_yes of (NotLine n) before now text is status line written = absurd (cc)
+shown_yes of (NotRun n) before now text is status line written = absurd (cc)
+shown_yes of NotAccount before now text is status line written = absurd (cc)
+shown_yes of (NotSame n) before now text is status line written = absurd (cc)
+
+-- no check ends with another status
+check_status : (a : Checked) → (checked_status a ≡ Done) ⊎ (checked_status a ≡ Denied)
+check_status (Yes e) = inl refl
+check_status (NotLine n) = inr refl
+check_status (NotRun i) = inr refl
+check_status NotAccount = inr refl
+check_status (NotSame n) = inr refl
+
+pub check_is_not : (a : Checked) (s t : Status) → s ≡ checked_status a → s ≡ t → Done ≢ t → Denied ≢ t → ⊥
+check_is_not a s t is same done denied = by (check_status a) where
+  by : (checked_status a ≡ Done) ⊎ (checked_status a ≡ Denied) → ⊥
+  by (inl e) = done (sym e ∙ sym is ∙ same)
+  by (inr e) = denied (sym e ∙ sym is ∙ same)
+
 pub shown_answer : (answer : Answer) (before now : Option (List ℕ)) (text : List ℕ) → IsDue answer Done text →
     Appends before now text → ShowsAnswer answer before now
 shown_answer (Misused line) before now text is written = absurd (let no = is.0 in cc)
 shown_answer (Refused fault) before now text is written = absurd ((of_fault fault).done (sym is.0))
 shown_answer (Shown of) before now text is written =
     record { octets = text; report = is.1; written = written }
+shown_answer (Judged of) before now text is written =
+    shown_yes of is.0 before now text is.1 is.2 is.3 written
 
 pub refused_answer : (answer : Answer) (s : Status) (before now : Option (List ℕ)) (text : List ℕ) → s ≢ Usage →
-    s ≢ Done → IsDue answer s text → Appends before now text → RefusesAnswer answer (code_of s) before now
-refused_answer (Misused line) s before now text usage done is written = absurd (usage is.0)
-refused_answer (Refused fault) s before now text usage done is written =
+    s ≢ Done → s ≢ Denied → IsDue answer s text → Appends before now text → RefusesAnswer answer (code_of s) before now
+refused_answer (Misused line) s before now text usage done denied is written = absurd (usage is.0)
+refused_answer (Refused fault) s before now text usage done denied is written =
     (ap code_of is.0, subst (λ l. Appends before now l) is.1 written)
-refused_answer (Shown of) s before now text usage done is written = absurd (done is.0)
+refused_answer (Shown of) s before now text usage done denied is written = absurd (done is.0)
+refused_answer (Judged of) s before now text usage done denied is written =
+    absurd (check_is_not is.0 s s is.2 refl (λ e. done (sym e)) (λ e. denied (sym e)))
+
+pub denied_answer : (answer : Answer) (before now : Option (List ℕ)) (text : List ℕ) → IsDue answer Denied text →
+    Appends before now text → DeniesAnswer answer before now
+denied_answer (Misused line) before now text is written = let no = is.0 in absurd (cc)
+denied_answer (Refused fault) before now text is written = absurd ((of_fault fault).denied (sym is.0))
+denied_answer (Shown of) before now text is written = let no = is.0 in absurd (cc)
+denied_answer (Judged of) before now text is written =
+    (is.0, is.1, sym is.2, subst (λ l. Appends before now l) is.3 written)
 
 -- the line of a read that failed
 pub line_said : (answer : Answer) (says : Status) (text : List ℕ) → says ≡ ReadFault → IsSaid answer says text →
@@ -79,6 +118,8 @@ pub line_said : (answer : Answer) (says : Status) (text : List ℕ) → says ≡
 line_said (Misused line) says text e (inl (inl due)) = let no : ReadFault ≡ Usage = sym e ∙ due.0 in absurd (cc)
 line_said (Refused fault) says text e (inl (inl due)) = due.1 ∙ read_line fault (sym due.0 ∙ e)
 line_said (Shown of) says text e (inl (inl due)) = let no : ReadFault ≡ Done = sym e ∙ due.0 in absurd (cc)
+line_said (Judged of) says text e (inl (inl due)) =
+    absurd (check_is_not due.0 says ReadFault due.2 e (λ x. cc) (λ x. cc))
 line_said answer says text e (inl (inr none)) = let no : ReadFault ≡ Memory = sym e ∙ none.0 in absurd (cc)
 line_said answer says text e (inr line) = line.1
 
@@ -116,7 +157,7 @@ capture_names is names script (Err fault) text due = capture_no_script fault (sy
 
 pub stage_names : (is : Stage → List ℕ → Type 0) (names : Named) (reads : Reads) (r : Result Script StageFault) →
     (text : List ℕ) → IsDue (answer_for is (with_script r (reads.capture names.capture))) BadScript text →
-    names_behind names r ≡ script_names names.script
+    names_after names r ≡ script_names names.script
 stage_names is names reads (Ok script) text due =
     absurd (capture_names is names script (reads.capture names.capture script.setting.vips) text due)
 stage_names is names reads (Err fault) text due = refl
@@ -162,8 +203,8 @@ module _ (due : Reads → Due) (told : Octets) (files : FilesDid) (sink : SinkDi
       status_said (due reads) s ends.says ends.text ends.writes.ends ends.asks.opens ends.said)
       all
 
-  pub known : Ended → code ≤ 7
-  known all = subst (λ n. n ≤ 7) (sym all.holds.is) (code_below all.holds.status)
+  pub known : Ended → code ≤ 8
+  known all = subst (λ n. n ≤ 8) (sym all.holds.is) (code_below all.holds.status)
 
   -- what follows where a usage line is due
   pub usage : (Fact : Type 0) → ((reads : Reads) (text : List ℕ) → IsDue (due reads).answer Usage text → Fact) →
@@ -217,22 +258,30 @@ module _ (due : Reads → Due) (told : Octets) (files : FilesDid) (sink : SinkDi
       (line_said (due all.reads).answer ends.says ends.text (read_by all e) ends.said)
       (ends.writes.whole said)
 
-  line_at : Ended → (t : Status) → code ≡ code_of t → t ≢ Usage → t ≢ Done → t ≢ ReadFault → t ≢ WriteFault →
-      t ≢ Memory → Holds told (λ reads. RefusesAnswer (due reads).answer code sink.before sink.now)
-  line_at all t e usage done read write memory =
+  line_at : Ended → (t : Status) → code ≡ code_of t → t ≢ Usage → t ≢ Done → t ≢ Denied → t ≢ ReadFault →
+      t ≢ WriteFault → t ≢ Memory → Holds told (λ reads. RefusesAnswer (due reads).answer code sink.before sink.now)
+  line_at all t e usage done denied read write memory =
       by_status (λ reads n. RefusesAnswer (due reads).answer n sink.before sink.now)
       (λ reads s is ends.
       let same = the s t is e in
       let d = dues (due reads) files sink s ends t read write memory same in
       subst (λ says. RefusesAnswer (due reads).answer (code_of says) sink.before sink.now) (sym same)
-      (refused_answer (due reads).answer t sink.before sink.now ends.text usage done d.0 d.1))
+      (refused_answer (due reads).answer t sink.before sink.now ends.text usage done denied d.0 d.1))
       all
 
   pub line : Ended → (code ≡ 3) ⊎ (code ≡ 4) ⊎ (code ≡ 7) →
       Holds told (λ reads. RefusesAnswer (due reads).answer code sink.before sink.now)
-  line all (inl e) = line_at all BadCapture e (λ x. cc) (λ x. cc) (λ x. cc) (λ x. cc) (λ x. cc)
-  line all (inr (inl e)) = line_at all BadScript e (λ x. cc) (λ x. cc) (λ x. cc) (λ x. cc) (λ x. cc)
-  line all (inr (inr e)) = line_at all Limit e (λ x. cc) (λ x. cc) (λ x. cc) (λ x. cc) (λ x. cc)
+  line all (inl e) = line_at all BadCapture e (λ x. cc) (λ x. cc) (λ x. cc) (λ x. cc) (λ x. cc) (λ x. cc)
+  line all (inr (inl e)) = line_at all BadScript e (λ x. cc) (λ x. cc) (λ x. cc) (λ x. cc) (λ x. cc) (λ x. cc)
+  line all (inr (inr e)) = line_at all Limit e (λ x. cc) (λ x. cc) (λ x. cc) (λ x. cc) (λ x. cc) (λ x. cc)
+
+  pub denied : Ended → code ≡ 8 → Holds told (λ reads. DeniesAnswer (due reads).answer sink.before sink.now)
+  denied all e =
+      by_status (λ reads n. DeniesAnswer (due reads).answer sink.before sink.now)
+      (λ reads s is ends.
+      let d = dues (due reads) files sink s ends Denied (λ x. cc) (λ x. cc) (λ x. cc) (the s Denied is e) in
+      denied_answer (due reads).answer sink.before sink.now ends.text d.0 d.1)
+      all
 
   pub part : Ended → (code ≡ 5) ⊎ (code ≡ 6) → Holds told (λ reads. WritesSome (due reads) files sink)
   part all e =
@@ -321,6 +370,7 @@ is_program program form told files sink s code by is holds =
       usage_line = usage_written due told files sink code program.usage by.usage all;
       read_line = read_written due told files sink code all;
       line = line due told files sink code all;
+      denied = denied due told files sink code all;
       part = part due told files sink code all;
       asked = asked due told files sink code all;
       all = asked_all due told files sink code all;

@@ -2,6 +2,7 @@ pub mod Began
 pub mod Ending
 pub mod Faults
 pub mod Forms
+pub mod Fronts
 pub mod Laws
 pub mod Loads
 pub mod Names
@@ -13,4 +14,5 @@ pub mod Stages
 pub mod Statuses
 pub mod StreamsOfStages
 pub mod Telling
+pub mod Traces
 pub mod Wider

@@ -1,10 +1,7 @@
 -- What is read of a script, from its source and from the files.
 use Rattle.std.proofs.Common.{◌≡◌, inl, inr, ℕ, ◌≤◌, ◌<◌, List, Option, Some, None, Result, Ok, Err, IsErrAnd, take}
-use Rattle.std.proofs.Common.{length, min, true, false, sym, ap, subst, ◌∙◌, refl, arith, nat_lt}
+use Rattle.std.proofs.Common.{length, sym, ap, subst, ◌∙◌, refl, arith}
 use Rattle.bm_io.specs.Causes.{Rose}
-use Rattle.std.proofs.lemmas.Bool.Decides.{nat_tests}
-use Rattle.std.proofs.lemmas.List.{length-take, take_min}
-use Rattle.std.proofs.Math.Seq.{take-length}
 use Rattle.bm_script.specs.declared.fault.ScriptFault.{ScriptFault}
 use Rattle.bm_script.specs.declared.fault.ScriptFault.TheVariants.{NotToml, Missing, BadValue, Unknown, Refused, Rack}
 use Rattle.bm_script.specs.declared.fault.ScriptFault.TheVariants.{Memory as ScriptMemory}
@@ -14,9 +11,11 @@ use Rattle.bm_table.specs.declared.script.Script.{Script}
 use Rattle.bm_cli.specs.declared.fault.StageFault.{StageFault}
 use Rattle.bm_cli.specs.declared.fault.StageFault.TheVariants.{LongScript, Script as OfScript}
 use Rattle.bm_cli.specs.Plain.{plain_script}
-use Rattle.bm_cli.specs.Inside.Scripts.{HasFront, ReadsScript}
+use Rattle.bm_cli.specs.Inside.Fronts.{HasFront}
+use Rattle.bm_cli.specs.Inside.Scripts.{ReadsScript}
 use Rattle.bm_cli.specs.Stages.{IsOutside, IsRead}
 use Rattle.bm_cli.specs.Reading.{Octets, script_in, with_script_fault}
+use Rattle.bm_cli.proofs.Fronts.{few, too_many, whole}
 
 -- a source that was opened and closed leaves the files' count no lower
 pub closed_later : (before opened after : ℕ) → before ≤ opened → opened ≤ after → before ≤ after
@@ -36,20 +35,14 @@ closed_rose before opened after start faults low new rose counted =
 pub too_long : (octets text : List ℕ) → text ≡ take 1048577 octets → 1048576 < length text →
     script_in octets ≡ Err LongScript
 too_long octets text front more =
-    let len : length text ≡ min 1048577 (length octets) = ap length front ∙ length-take 1048577 octets in
-    let long : nat_lt 1048576 (length octets) ≡ true = grind (arith, nat_tests, len, more) in
-    rw long refl
+    rw (too_many 1048576 octets text front more) refl
 
 -- at most as many octets were read as there may be, so these are all
 pub all_read : (octets text : List ℕ) → text ≡ take 1048577 octets → length text ≤ 1048576 →
     script_in octets ≡ with_script_fault (script_of text)
-all_read octets text front few =
-    let len : length text ≡ min 1048577 (length octets) = ap length front ∙ length-take 1048577 octets in
-    let short : nat_lt 1048576 (length octets) ≡ false = grind (arith, nat_tests, len, few) in
-    let least : min 1048577 (length octets) ≡ length octets = omega (arith, len, few) in
-    let whole : take 1048577 octets ≡ octets =
-    sym (take_min 1048577 octets) ∙ ap (λ n. take n octets) least ∙ take-length octets in
-    rw short (ap (λ (t : List ℕ). with_script_fault (script_of t)) (sym (front ∙ whole)))
+all_read octets text front short =
+    rw (few 1048576 octets text front short)
+    (ap (λ (t : List ℕ). with_script_fault (script_of t)) (sym (whole 1048576 octets text front short)))
 
 pub script_is : (octets text : List ℕ) (script : Script) → text ≡ take 1048577 octets → length text ≤ 1048576 →
     Gives (Ok script) (script_of text) → script_in octets ≡ Ok script

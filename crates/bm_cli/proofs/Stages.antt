@@ -18,7 +18,7 @@ use Rattle.bm_cli.specs.declared.fault.StageFault.TheVariants.{Capture as OfCapt
 use Rattle.bm_cli.specs.declared.mode.Mode.{Mode}
 use Rattle.bm_cli.specs.declared.mode.Mode.TheVariants.{Replay, Run}
 use Rattle.bm_cli.specs.declared.status.Status.TheVariants.{ReadFault, Memory}
-use Rattle.bm_cli.specs.Dues.{names_behind}
+use Rattle.bm_cli.specs.Dues.{names_after}
 use Rattle.bm_cli.specs.Ends.{AsksFor}
 use Rattle.bm_cli.specs.Inside.Captures.{Captures, FileBegan, HasReadCause, ReadsFile}
 use Rattle.bm_cli.specs.Inside.Scripts.{ReadsScript}
@@ -46,6 +46,7 @@ just script captured time = record {
   script = λ name. script;
   capture = λ name vips. captured;
   began = λ name. time;
+  trace = λ name. None;
 }
 
 -- of a stage that was read this is when its capture began
@@ -99,7 +100,7 @@ refused_by mode reads name fault (inr due) = inr (ap (if_taken mode) due)
 
 behind_some : (names : Named) (files : FilesDid) (r : Result Script StageFault) →
     AsksPrefix files.before files.now (script_names names.script) →
-    AsksPrefix files.before files.now (names_behind names r)
+    AsksPrefix files.before files.now (names_after names r)
 behind_some names files (Ok script) h =
     asks_more files.before files.now (script_names names.script) (names.capture ∷ []) h
 behind_some names files (Err fault) h = h
@@ -107,33 +108,38 @@ behind_some names files (Err fault) h = h
 behind_all : (names : Named) (files : FilesDid) (r : Result Script StageFault) (fault : StageFault) →
     IsRead r (Err fault) → IsOutside fault ⊎ AsksAll files.before files.now (script_names names.script) →
     fault_status fault ≢ ReadFault → fault_status fault ≢ Memory →
-    AsksAll files.before files.now (names_behind names r)
+    AsksAll files.before files.now (names_after names r)
 behind_all names files r fault (inl (inl e)) all read memory = absurd (read e)
 behind_all names files r fault (inl (inr e)) all read memory = absurd (memory e)
 behind_all names files r fault (inr due) (inl (inl e)) read memory = absurd (read e)
 behind_all names files r fault (inr due) (inl (inr e)) read memory = absurd (memory e)
 behind_all names files r fault (inr due) (inr all) read memory =
-    subst (λ (s : Result Script StageFault). AsksAll files.before files.now (names_behind names s)) (sym due) all
+    subst (λ (s : Result Script StageFault). AsksAll files.before files.now (names_after names s)) (sym due) all
 
 -- a run has a script
 abbrev pub HasScript : Mode → Named → Type 0
 HasScript mode names = mode ≡ Run → IsSome names.script
 
 names_open : (mode : Mode) (names : Named) (reads : Reads) → HasScript mode names →
-    names_behind names (script_by mode reads names.script) ≢ []
+    names_after names (script_by mode reads names.script) ≢ []
 names_open mode names reads has = by names.script refl where
-  named : (name : List ℕ) (r : Result Script StageFault) → names.script ≡ Some name → names_behind names r ≢ []
+  named : (name : List ℕ) (r : Result Script StageFault) → names.script ≡ Some name → names_after names r ≢ []
   named name (Ok script) is = behind_opens names.capture (script_names names.script)
   named name (Err fault) is = rw is (λ e. cc)
 
-  unnamed : (m : Mode) → mode ≡ m → names.script ≡ None → names_behind names (script_by m reads None) ≢ []
+  unnamed : (m : Mode) → mode ≡ m → names.script ≡ None → names_after names (script_by m reads None) ≢ []
   unnamed Replay same is = behind_opens names.capture (script_names names.script)
   unnamed Run same is = let some : IsSome names.script = has same in absurd (cc)
 
-  by : (name : Option (List ℕ)) → names.script ≡ name → names_behind names (script_by mode reads names.script) ≢ []
+  by : (name : Option (List ℕ)) → names.script ≡ name → names_after names (script_by mode reads names.script) ≢ []
   by None is =
-      subst (λ n. names_behind names (script_by mode reads n) ≢ []) (sym is) (unnamed mode refl is)
+      subst (λ n. names_after names (script_by mode reads n) ≢ []) (sym is) (unnamed mode refl is)
   by (Some name) is = named name (script_by mode reads names.script) is
+
+pub script_named : (capture script : List ℕ) (r : Result Script StageFault) →
+    names_after (record { capture = capture; script = Some script }) r ≢ []
+script_named capture script (Ok found) = λ e. cc
+script_named capture script (Err fault) = λ e. cc
 
 -- no read failed, where that is not what was answered
 kept_by : (files : FilesDid) (fault : StageFault) → fault_status fault ≢ ReadFault →
@@ -281,7 +287,7 @@ pub capture_read : (mode : Mode) (names : Named) (told : Octets) (files : FilesD
     Holds told (ReadsAll mode names files (with_capture script r) r time)
 capture_read mode names told files mid script r time has takes first second third before part all rose kept =
     let found = gives_some names told script r time names.script refl first second third in
-    let asks : AsksFor (names_behind names (script_by mode found.reads names.script))
+    let asks : AsksFor (names_after names (script_by mode found.reads names.script))
     (status_by (with_capture script r)) files = record {
       some = behind (AsksPrefix files.before files.now) (ap (if_taken mode) found.holds.first ∙ takes)
           (asks_then files.before mid files.now (script_names names.script) (names.capture ∷ []) before part);
@@ -302,8 +308,8 @@ capture_read mode names told files mid script r time has takes first second thir
     }
   where
     behind : (fact : List (List ℕ) → Type 0) {s : Result Script StageFault} → s ≡ Ok script →
-        fact (script_names names.script ++ names.capture ∷ []) → fact (names_behind names s)
-    behind fact is h = subst (λ s. fact (names_behind names s)) (sym is) h
+        fact (script_names names.script ++ names.capture ∷ []) → fact (names_after names s)
+    behind fact is h = subst (λ s. fact (names_after names s)) (sym is) h
 
     whole : IsErrOf r NoMemory ⊎ AsksAll mid files.now (names.capture ∷ []) →
         status_by (with_capture script r) ≢ Memory → AsksAll files.before files.now (script_names names.script ++ names.capture ∷ [])
@@ -329,8 +335,8 @@ kept_ok script before now (inl h) = absurd h
 kept_ok script before now (inr same) = same
 
 not_played : (names : Named) (r : Result Script StageFault) (fault : StageFault) → r ≡ Err fault →
-    (fact : List (List ℕ) → Type 0) → fact (script_names names.script) → fact (names_behind names r)
-not_played names r fault is fact h = subst (λ s. fact (names_behind names s)) (sym is) h
+    (fact : List (List ℕ) → Type 0) → fact (script_names names.script) → fact (names_after names r)
+not_played names r fault is fact h = subst (λ s. fact (names_after names s)) (sym is) h
 
 -- by some reads, which are those of the files where they tell them
 read_some : (names : Named) (told : Octets) (script : Script) → ReadsScript told names.script (Ok script) →

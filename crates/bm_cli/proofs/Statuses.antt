@@ -5,7 +5,7 @@ use Rattle.std.specs.Prelude.{◌==◌, ◌≤◌, if◌then◌else◌}
 use Rattle.std.specs.Io.KnownBytes.{Appends}
 use Rattle.bm_cli.specs.declared.status.Status.{Status}
 use Rattle.bm_cli.specs.declared.status.Status.TheVariants.{Done, Usage, ReadFault, BadCapture}
-use Rattle.bm_cli.specs.declared.status.Status.TheVariants.{BadScript, WriteFault, Memory, Limit}
+use Rattle.bm_cli.specs.declared.status.Status.TheVariants.{BadScript, WriteFault, Memory, Limit, Denied}
 use Rattle.bm_cli.specs.Statuses.{Writes, code_of, SinkDid}
 
 -- nothing written leaves a sink as it was
@@ -23,7 +23,8 @@ status_with n =
     else if n == 4 then BadScript
     else if n == 5 then WriteFault
     else if n == 6 then Memory
-    else Limit
+    else if n == 7 then Limit
+    else Denied
 
 code_back : (s : Status) → status_with (code_of s) ≡ s
 unfolding status_with
@@ -35,12 +36,13 @@ code_back BadScript = refl
 code_back WriteFault = refl
 code_back Memory = refl
 code_back Limit = refl
+code_back Denied = refl
 
 -- no two statuses have one code
 pub same_code : (s t : Status) → code_of s ≡ code_of t → s ≡ t
 same_code s t e = sym (code_back s) ∙ ap status_with e ∙ code_back t
 
-pub code_below : (s : Status) → code_of s ≤ 7
+pub code_below : (s : Status) → code_of s ≤ 8
 code_below Done = omega arith
 code_below Usage = omega arith
 code_below ReadFault = omega arith
@@ -49,6 +51,7 @@ code_below BadScript = omega arith
 code_below WriteFault = omega arith
 code_below Memory = omega arith
 code_below Limit = omega arith
+code_below Denied = omega arith
 
 -- what was answered, where neither the sink failed nor memory was refused
 pub says_is : (says : Status) (text : List ℕ) (sink : SinkDid) (s t : Status) →

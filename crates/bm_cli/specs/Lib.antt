@@ -5,6 +5,7 @@ pub mod Dues
 pub mod Headline
 pub mod Loads
 pub mod Streams
+pub mod Checks
 pub mod Reading
 pub mod Captures
 pub mod Plain

@@ -9,7 +9,7 @@ use Rattle.bm_cli.specs.Lines.{fault_line}
 use Rattle.bm_cli.specs.Names.{AsksAll, AsksPrefix}
 use Rattle.bm_cli.specs.Reading.{Holds, Octets, Reads}
 use Rattle.bm_cli.specs.Statuses.{FilesDid, SinkDid}
-use Rattle.bm_cli.specs.Top.{IsAccepted, IsStatusOf, RefusesAnswer, WritesSome}
+use Rattle.bm_cli.specs.Top.{DeniesAnswer, IsAccepted, IsStatusOf, RefusesAnswer, WritesSome}
 
 -- a program, whose words are of the forms A
 pub record Program (A : Type 0) : Type 1 where
@@ -31,7 +31,7 @@ pub record IsProgram {A : Type 0} (program : Program A) (form : Option A) (told 
   -- an accepted call is answered, unless the files or the sink failed, or memory was refused
   pub complete : IsAccepted (program.due form) told →
       (code ≡ 0) ⊎ (code ≡ 6) ⊎ Rose files.faults files.later ⊎ Rose sink.faults sink.later
-  pub known : code ≤ 7
+  pub known : code ≤ 8
   pub misused : code ≡ 1 → form ≡ None
   pub named : code ≡ 2 → IsSome form
   pub read : code ≡ 2 → Rose files.faults files.later
@@ -46,6 +46,8 @@ pub record IsProgram {A : Type 0} (program : Program A) (form : Option A) (told 
   pub read_line : code ≡ 2 → Appends sink.before sink.now (fault_line Files)
   pub line : (code ≡ 3) ⊎ (code ≡ 4) ⊎ (code ≡ 7) →
       Holds told (λ reads. RefusesAnswer (program.due form reads).answer code sink.before sink.now)
+  pub denied : code ≡ 8 →
+      Holds told (λ reads. DeniesAnswer (program.due form reads).answer sink.before sink.now)
   pub part : (code ≡ 5) ⊎ (code ≡ 6) →
       Holds told (λ reads. WritesSome (program.due form reads) files sink)
   -- the files are asked for the names that are due, in order, each at most once

@@ -23,11 +23,13 @@ use Rattle.bm_cli.specs.Plain.{plain_script}
 abbrev pub Octets : Type 0
 Octets = Option (List ℕ → List ℕ)
 
--- what is read under each name: a script, the capture for these services, and when it began
+-- what is read under each name: a script, the capture for these services, when it began, and a
+-- trace, unless it is too long
 pub record Reads : Type 0 where
   pub script : List ℕ → Result Script StageFault
   pub capture : List ℕ → List Vip → Captured
   pub began : List ℕ → ℕ
+  pub trace : List ℕ → Option (List ℕ)
 
 abbrev pub with_script_fault : Result Script ScriptFault → Result Script StageFault
 with_script_fault (Ok script) = Ok script
@@ -38,12 +40,17 @@ abbrev pub script_in : List ℕ → Result Script StageFault
 script_in octets =
     if nat_lt 1048576 (length octets) then Err LongScript else with_script_fault (script_of octets)
 
+-- these octets, if there are at most 268,435,456 of them
+abbrev pub trace_in : List ℕ → Option (List ℕ)
+trace_in octets = if nat_lt 268435456 (length octets) then None else Some octets
+
 -- what is read, by the octets of each name
 abbrev pub reads_of : (List ℕ → List ℕ) → Reads
 reads_of octets = record {
   script = λ name. script_in (octets name);
   capture = λ name vips. capture vips (octets name);
   began = λ name. began (octets name);
+  trace = λ name. trace_in (octets name);
 }
 
 -- these are what is read, if the files' octets are known; otherwise they may be any

@@ -5,7 +5,7 @@ use Rattle.bm_cli.specs.declared.fault.StageFault.{StageFault}
 use Rattle.bm_cli.specs.declared.mode.Mode.{Mode}
 use Rattle.bm_cli.specs.declared.status.Status.{Status}
 use Rattle.bm_cli.specs.declared.status.Status.TheVariants.{Done, ReadFault, Memory}
-use Rattle.bm_cli.specs.Dues.{names_behind}
+use Rattle.bm_cli.specs.Dues.{names_after}
 use Rattle.bm_cli.specs.Ends.{AsksFor}
 use Rattle.bm_cli.specs.Lines.{fault_status}
 use Rattle.bm_cli.specs.Reading.{Reading, Reads, reading, script_by}
@@ -21,13 +21,13 @@ IsRead due (Ok x) = due ≡ Ok x
 IsRead due (Err fault) = IsOutside fault ⊎ (due ≡ Err fault)
 
 -- the status of what was read
-abbrev pub status_by : Reading → Status
-status_by (Ok stage) = Done
+abbrev pub status_by : {A : Type 0} → Result A StageFault → Status
+status_by (Ok x) = Done
 status_by (Err fault) = fault_status fault
 
 -- the stage that is due was read, or its fault, and the files were asked for its names
 pub record ReadsStage (mode : Mode) (names : Named) (reads : Reads) (files : FilesDid)
     (result : Reading) : Type 0 where
   pub read : IsRead (reading mode names reads) result
-  pub asks : AsksFor (names_behind names (script_by mode reads names.script)) (status_by result)
+  pub asks : AsksFor (names_after names (script_by mode reads names.script)) (status_by result)
       files

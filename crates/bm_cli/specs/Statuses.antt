@@ -5,7 +5,7 @@ use Rattle.bm_io.specs.Causes.{Rose}
 use Rattle.bm_io.specs.Written.{WritesPart}
 use Rattle.bm_cli.specs.declared.status.Status.{Status}
 use Rattle.bm_cli.specs.declared.status.Status.TheVariants.{Done, Usage, ReadFault, BadCapture}
-use Rattle.bm_cli.specs.declared.status.Status.TheVariants.{BadScript, WriteFault, Memory, Limit}
+use Rattle.bm_cli.specs.declared.status.Status.TheVariants.{BadScript, WriteFault, Memory, Limit, Denied}
 
 -- the exit status
 abbrev pub code_of : Status → ℕ
@@ -17,6 +17,7 @@ code_of BadScript = 4
 code_of WriteFault = 5
 code_of Memory = 6
 code_of Limit = 7
+code_of Denied = 8
 
 -- What a call did to a sink, or to files: what is known of their content before and after it, and
 -- how often they had failed.

@@ -2,22 +2,27 @@
 use Rattle.std.specs.Prelude.{◌≡◌, ◌⊎◌, ◌≢◌, [], ◌∷◌, ℕ, List, Option, Some, None}
 use Rattle.std.specs.Io.KnownBytes.{Appends}
 use Rattle.bm_io.specs.Causes.{Rose}
-use Rattle.bm_words.specs.Form.{Asked, Load, Replay, Run, Streams}
+use Rattle.bm_check.specs.declared.answer.Answer.{Answer as Checked}
+use Rattle.bm_check.specs.declared.answer.Answer.TheVariants.{Yes}
+use Rattle.bm_words.specs.Form.{Asked, Check, Load, Replay, Run, Streams}
+use Rattle.bm_cli.specs.Checks.{checked_line, checked_status}
 use Rattle.bm_cli.specs.declared.fault.StageFault.TheVariants.{Files}
 use Rattle.bm_cli.specs.declared.status.Status.{Status}
-use Rattle.bm_cli.specs.declared.status.Status.TheVariants.{Done}
-use Rattle.bm_cli.specs.Dues.{Answer, Misused, Refused, Shown, Due, IsDue}
+use Rattle.bm_cli.specs.declared.status.Status.TheVariants.{Denied, Done}
+use Rattle.bm_cli.specs.Dues.{Answer, Misused, Refused, Shown, Judged, Due, IsDue}
 use Rattle.bm_cli.specs.Headline.{Shows}
 use Rattle.bm_cli.specs.Lines.{fault_line, fault_status}
 use Rattle.bm_cli.specs.Names.{script_names}
 use Rattle.bm_cli.specs.Reading.{Known, Octets, Reads}
 use Rattle.bm_cli.specs.Statuses.{WritesLess, code_of, FilesDid, SinkDid}
 
--- a text is due that isn't the line of a fault, and it was written
+-- a text is due that isn't the line of a fault, or the answer yes of a check; and it was written
 abbrev pub ShowsAnswer : Answer → Option (List ℕ) → Option (List ℕ) → Type 0
 ShowsAnswer (Misused line) before now = ⊥
 ShowsAnswer (Refused fault) before now = ⊥
 ShowsAnswer (Shown is) before now = Shows is before now
+ShowsAnswer (Judged is) before now =
+    (e : ℕ) × is (Yes e) × Appends before now (checked_line (Yes e))
 
 -- a fault with this exit status is due, and its line was written
 abbrev pub RefusesAnswer : Answer → ℕ → Option (List ℕ) → Option (List ℕ) → Type 0
@@ -25,6 +30,13 @@ RefusesAnswer (Misused line) code before now = ⊥
 RefusesAnswer (Refused fault) code before now =
     (code ≡ code_of (fault_status fault)) × Appends before now (fault_line fault)
 RefusesAnswer (Shown is) code before now = ⊥
+RefusesAnswer (Judged is) code before now = ⊥
+
+-- an answer of a check that isn't yes is due, and its line was written
+abbrev pub DeniesAnswer : Answer → Option (List ℕ) → Option (List ℕ) → Type 0
+DeniesAnswer (Judged is) before now =
+    (a : Checked) × is a × (checked_status a ≡ Denied) × Appends before now (checked_line a)
+DeniesAnswer _ before now = ⊥
 
 -- the exit status is one that is due
 abbrev pub IsCodeOf : Answer → ℕ → Type 0
@@ -41,7 +53,7 @@ abbrev pub AsksNone : (Reads → Due) → Type 0
 AsksNone due = (reads : Reads) → (due reads).names ≡ []
 
 -- for whatever may be read, or what the files' octets give if these are known, the text that is due
--- isn't the line of a fault or of misuse
+-- isn't the line of a fault or of misuse, nor of a check that doesn't answer yes
 abbrev pub IsAccepted : (Reads → Due) → Octets → Type 0
 IsAccepted due told =
     (reads : Reads) → Known told reads → (says : Status) (text : List ℕ)
@@ -63,4 +75,5 @@ scripts_in None = []
 scripts_in (Some (Replay names)) = script_names names.script
 scripts_in (Some (Run capture script)) = script ∷ []
 scripts_in (Some (Streams names)) = script_names names.script
+scripts_in (Some (Check trace capture script)) = script ∷ []
 scripts_in (Some (Load n)) = []

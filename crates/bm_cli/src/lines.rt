@@ -33,7 +33,7 @@ fn status_of(fault: &StageFault) -> Status
 {
     match fault {
         StageFault::Files => Status::ReadFault,
-        StageFault::LongScript | StageFault::Seats => Status::Limit,
+        StageFault::LongScript | StageFault::LongTrace | StageFault::Seats => Status::Limit,
         StageFault::Script(fault) => script_status(fault),
         StageFault::Capture(fault) => capture_status(*fault),
         StageFault::Memory => Status::Memory,
@@ -83,6 +83,7 @@ fn line_of(alloc: Global, fault: &StageFault) -> Result<String, AllocError>
     match fault {
         StageFault::Files => String::from_str(alloc, "beamer: read fault\n"),
         StageFault::LongScript => String::from_str(alloc, "beamer: limit script-octets\n"),
+        StageFault::LongTrace => String::from_str(alloc, "beamer: limit trace-octets\n"),
         StageFault::Seats => String::from_str(alloc, "beamer: limit seats\n"),
         StageFault::Script(fault) => script_line(alloc, fault),
         StageFault::Capture(fault) => capture_line(alloc, *fault),

@@ -7,7 +7,7 @@ use bm_io::{IoFault, Sink, put_all};
 /// How the program ends.
 #[derive(Clone, Copy, PartialEq, Eq)]
 pub enum Status {
-    /// The report, or the line of a load, was written.
+    /// What the words ask for was written; a check answers yes.
     Done,
     /// The words fit no form.
     Usage,
@@ -23,6 +23,8 @@ pub enum Status {
     Memory,
     /// A limit is exceeded.
     Limit,
+    /// A check doesn't answer yes.
+    Denied,
 }
 
 impl Status {
@@ -39,6 +41,7 @@ impl Status {
             Status::WriteFault => 5,
             Status::Memory => 6,
             Status::Limit => 7,
+            Status::Denied => 8,
         }
     }
 }

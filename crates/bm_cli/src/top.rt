@@ -12,6 +12,7 @@ ghost use Rattle.bm_cli.specs.Statuses.{did};
 ghost use Rattle.bm_cli.specs.Telling.{Tells};
 ghost use Rattle.bm_cli.specs.Top.{AsksNone, ShowsAnswer};
 
+use crate::check::check_files;
 use crate::lines::refuse;
 use crate::load::run_load;
 use crate::mode::Mode;
@@ -26,14 +27,15 @@ use std::sync::Wait;
 use std::thread::Threads;
 
 const USAGE: &str =
-    "usage: beamer replay CAPTURE [SCRIPT] | run CAPTURE SCRIPT | load N | streams CAPTURE [SCRIPT]\n";
+    "usage: beamer replay CAPTURE [SCRIPT] | run CAPTURE SCRIPT | load N | check TRACE CAPTURE SCRIPT | streams CAPTURE [SCRIPT]\n";
 
 /// Does all that the program does, and returns the status. The gate may hold the workers of a run;
 /// it doesn't change what is due.
 ///
-/// 0: the report, the lines of streams or the line of a load was written. 1: the words fit no form.
-/// 2: the files failed. 3: the capture has a fault. 4: the script has a fault. 5: the sink failed.
-/// 6: memory was refused. 7: a limit is exceeded.
+/// 0: the report, the lines of streams or the line of a load was written, or a check answers yes.
+/// 1: the words fit no form. 2: the files failed. 3: the capture has a fault. 4: the script has a
+/// fault. 5: the sink failed. 6: memory was refused. 7: a limit is exceeded. 8: a check doesn't
+/// answer yes.
 pub fn beamer<R: Threads + Wait + Sync, F: Files, K: Sink, G: Gate>(
     rt: &R,
     alloc: Global,
@@ -45,7 +47,8 @@ pub fn beamer<R: Threads + Wait + Sync, F: Files, K: Sink, G: Gate>(
     requires room { F.open_now files.old ≤ 1000 }
     // On status 0 what was written is the report of a replay, or of a run in threads, of the named
     // capture through the servers of the named script, or the lines of the streams of that replay,
-    // or the line of a run in threads of the load of this many connections.
+    // or the line of a run in threads of the load of this many connections; or a check of the named
+    // trace answers yes.
     ensures shown { result ≡ 0 → Holds (F.octets files.old) (λ reads.
         ShowsAnswer (due (form_in words.now) reads).answer
         (K.written out.old) (K.written out.new)) }
@@ -114,6 +117,11 @@ fn answer_form<R: Threads + Wait + Sync, F: Files, K: Sink, G: Gate>(
             };
             play_files(rt, alloc, Mode::Run, names, files, out, gate)
         }
+        Form::Check {
+            trace,
+            capture,
+            script,
+        } => check_files(alloc, trace, capture, script, files, out),
         Form::Streams(names) => play_streams(rt, alloc, names, files, out),
         Form::Load { connections } => run_load(rt, alloc, connections, out, gate),
     }

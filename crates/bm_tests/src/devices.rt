@@ -3,7 +3,7 @@ ghost use Rattle.std.specs.Prelude.{◌≡◌, IfOk};
 
 use crate::capture::{Form, OPENED, raw, session};
 use crate::program::words;
-use crate::rows::MOVED_REPORT;
+use crate::rows::{MOVED_REPORT, MOVED_SCRIPT};
 use bm_base::{List, Text};
 use bm_cli::beamer;
 use bm_io::{Files, IoFault, MemFile, MemFiles, MemSink, OpenGate, Sink};
@@ -12,9 +12,6 @@ use std::process::Abort;
 use std::sync::Wait;
 use std::test::Fail;
 use std::thread::Threads;
-
-/// Bucket 4 moves from server 1 to server 2 between the packets.
-const SCRIPT: &str = "[[command]]\nat_ns = 500\ndo = \"move\"\nbucket = 4\nserver = 2\n";
 
 const READ_FAULT: &str = "beamer: read fault\n";
 
@@ -42,7 +39,7 @@ struct Case<'a> {
 fn two_packets<'a>(form: &'a str, capture: &'a [u8]) -> Case<'a> {
     Case {
         form,
-        script: SCRIPT,
+        script: MOVED_SCRIPT,
         capture,
         ends: "total packets 2 steered 2 unsteered 0 accepted 1 processed 1 ",
         calls: (3, 7, 8),

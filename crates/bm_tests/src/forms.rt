@@ -1,6 +1,6 @@
 //! Words that fit no form, and files and sinks that fail.
 use crate::capture::{Form, OPENED, raw};
-use crate::program::words;
+use crate::program::{USAGE, words};
 use bm_base::{List, Text};
 use bm_cli::beamer;
 use bm_io::{MemFile, MemFiles, MemSink, OpenGate};
@@ -13,7 +13,7 @@ use std::thread::Threads;
 #[test]
 fn words_of_no_form_get_the_usage_line(rt: HostRuntime) -> Result<(), Fail> {
     let alloc = rt.alloc();
-    let rows: [&[&str]; 9] = [
+    let rows: [&[&str]; 11] = [
         &[],
         &["replay"],
         &["replay", "-c"],
@@ -21,6 +21,8 @@ fn words_of_no_form_get_the_usage_line(rt: HostRuntime) -> Result<(), Fail> {
         &["load", "0"],
         &["load", "007"],
         &["run", "c"],
+        &["check", "c", "s"],
+        &["check", "t", "c", "-s"],
         &["streams", "-c"],
         &["replay", "c", "s", "t"],
     ];
@@ -30,10 +32,7 @@ fn words_of_no_form_get_the_usage_line(rt: HostRuntime) -> Result<(), Fail> {
         let words = words(alloc, row)?;
         let status = beamer(&rt, alloc, &words, &mut files, &mut out, &OpenGate);
         assert_eq!(rt; status, 1);
-        assert_eq!(rt;
-            out.written(),
-            b"usage: beamer replay CAPTURE [SCRIPT] | run CAPTURE SCRIPT | load N | streams CAPTURE [SCRIPT]\n".as_slice()
-        );
+        assert_eq!(rt; out.written(), USAGE.as_bytes());
     }
     Ok(())
 }

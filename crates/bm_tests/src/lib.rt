@@ -9,6 +9,8 @@ mod capture;
 #[cfg(test)]
 mod captures;
 #[cfg(test)]
+mod checks;
+#[cfg(test)]
 mod devices;
 #[cfg(test)]
 mod forged;

@@ -1,5 +1,5 @@
 //! Generated loads.
-use crate::program::words;
+use crate::program::{USAGE, words};
 use bm_cli::beamer;
 use bm_io::{OpenGate, SureFiles, SureSink};
 use std::alloc::Global;
@@ -61,10 +61,8 @@ fn a_load_gets_its_line(rt: HostRuntime) -> Result<(), Fail> {
 
 #[test]
 fn a_load_is_of_a_number_without_sign_or_leading_zero(rt: HostRuntime) -> Result<(), Fail> {
-    let usage =
-        "usage: beamer replay CAPTURE [SCRIPT] | run CAPTURE SCRIPT | load N | streams CAPTURE [SCRIPT]\n";
     for row in &NO_FORMS {
-        check(&rt, rt.alloc(), row, (1, usage))?;
+        check(&rt, rt.alloc(), row, (1, USAGE))?;
     }
     Ok(())
 }

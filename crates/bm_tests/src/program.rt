@@ -9,6 +9,10 @@ use std::sync::Wait;
 use std::test::Fail;
 use std::thread::Threads;
 
+/// What is written for words of no form.
+pub(crate) const USAGE: &str =
+    "usage: beamer replay CAPTURE [SCRIPT] | run CAPTURE SCRIPT | load N | check TRACE CAPTURE SCRIPT | streams CAPTURE [SCRIPT]\n";
+
 /// A capture and maybe a script, and what the program ends with and writes.
 pub(crate) struct Row {
     pub name: &'static str,

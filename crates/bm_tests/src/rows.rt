@@ -8,7 +8,7 @@ mod moves;
 mod refused;
 
 pub(crate) use captures::OPENED_REPORT;
-pub(crate) use moves::MOVED_REPORT;
+pub(crate) use moves::{MOVED_REPORT, MOVED_SCRIPT};
 
 #[test]
 fn captures_are_replayed(rt: HostRuntime) -> Result<(), Fail> {

@@ -1,25 +1,21 @@
 -- What clap makes of the words of a load.
-use Rattle.std.proofs.Common.{◌≡◌, ◌==◌, ℕ, List, [], ◌∷◌, Bool, true, false, cond, Option, Some, None}
-use Rattle.std.proofs.Common.{is_some, codes, refl, option_map, sym, ap, subst, ◌∙◌, arith}
+use Rattle.std.proofs.Common.{◌≡◌, ◌==◌, ℕ, List, [], ◌∷◌, Bool, true, false, cond, Some, None}
+use Rattle.std.proofs.Common.{is_some, codes, refl, sym, ap, subst, ◌∙◌, arith}
 use Rattle.std.proofs.lemmas.Bool.Decides.{nat_tests}
 use Rattle.std.proofs.lemmas.Slice.Eq.{bytes_eq-Decides}
 use Rattle.std.specs.Str.{bytes_eq}
-use Rattle.clap.specs.Words.{Row, Text, first_of, subcommand_of, takes}
+use Rattle.clap.specs.Words.{Text, subcommand_of, takes}
 use Rattle.clap.proofs.OnLiterals.{clap_on_literals}
 use Rattle.bm_words.specs.Inside.Command.{beamer}
 use Rattle.bm_words.specs.Form.{connections_of, count_of}
-
--- the number that a subcommand's rows give
-abbrev pub number_given : Option (Text × List Row) → Option Text
-number_given None = None
-number_given (Some p) = first_of (codes "connections") p.1
+use Rattle.bm_words.proofs.Given.{value_given}
 
 load_taken : (x : ℕ) (xs : List ℕ) → (x == 45) ≡ false → takes beamer (codes "load" ∷ (x ∷ xs) ∷ []) ≡ true
 unfolding clap_on_literals
 load_taken x xs h = simp h
 
 load_given : (x : ℕ) (xs : List ℕ) → (x == 45) ≡ false →
-    number_given (subcommand_of beamer (codes "load" ∷ (x ∷ xs) ∷ [])) ≡ Some (x ∷ xs)
+    value_given (codes "connections") (subcommand_of beamer (codes "load" ∷ (x ∷ xs) ∷ [])) ≡ Some (x ∷ xs)
 unfolding clap_on_literals
 load_given x xs h = simp h
 
@@ -46,7 +42,7 @@ no_minus x xs some = by (x == 45) refl where
 pub record ReadsLoad (words : List Text) : Type 0 where
   pub number : Text
   pub taken : takes beamer words ≡ true
-  pub gives : number_given (subcommand_of beamer words) ≡ Some number
+  pub gives : value_given (codes "connections") (subcommand_of beamer words) ≡ Some number
   pub count : connections_of words ≡ count_of number
 
 behind : (x : ℕ) (xs : List ℕ) → is_some (count_of (x ∷ xs)) ≡ true → ReadsLoad (codes "load" ∷ (x ∷ xs) ∷ [])
@@ -69,21 +65,6 @@ load_reads [] some = absurd (cc)
 load_reads (w ∷ []) some = absurd (cc)
 load_reads (w ∷ number ∷ []) some = at w number (bytes_eq w (codes "load")) refl some
 load_reads (w ∷ number ∷ more ∷ rest) some = absurd (cc)
-
--- THE MATCHES
-
--- a subcommand was found
-pub none_found : (o : Option (Text × List Row)) (number : Text) → number_given o ≡ Some number
-    → None ≡ option_map (λ (p : Text × List Row). p.1) o → ⊥
-none_found None number given none = cc
-none_found (Some p) number given none = cc
-
--- these are its rows
-pub rows_give : (o : Option (Text × List Row)) (number : Text) (rows : List Row) → number_given o ≡ Some number
-    → Some rows ≡ option_map (λ (p : Text × List Row). p.1) o → first_of (codes "connections") rows ≡ Some number
-rows_give None number rows given some = absurd (cc)
-rows_give (Some p) number rows given some =
-    let same : rows ≡ p.1 = cc in ap (first_of (codes "connections")) same ∙ given
 
 pub no_count : (words : List Text) (number : Text) → is_some (connections_of words) ≡ true
     → connections_of words ≡ count_of number → None ≡ count_of number → ⊥

@@ -79,7 +79,7 @@ pub simple : is_simple beamer ≡ true
 unfolding clap_on_literals
 simple = refl
 
-not_true : (b : Bool) → not b ≡ true → b ≡ false
+pub not_true : (b : Bool) → not b ≡ true → b ≡ false
 not_true true h = cc
 not_true false h = refl
 
@@ -139,7 +139,7 @@ two_read Streams x y xs ys h k = record {
 }
 
 -- a name has an octet, which isn't that of `-`
-passed : {A : Type 0} (b : Bool) (x : A) → is_some (cond b (Some x) None) ≡ true → b ≡ true
+pub passed : {A : Type 0} (b : Bool) (x : A) → is_some (cond b (Some x) None) ≡ true → b ≡ true
 passed true x h = refl
 passed false x h = cc
 

@@ -1,5 +1,6 @@
--- What the words ask for: `replay CAPTURE [SCRIPT]`, `run CAPTURE SCRIPT`, `streams CAPTURE
--- [SCRIPT]` or `load N`. Words fit no form if a name in them is empty or begins with `-`.
+-- What the words ask for: `replay CAPTURE [SCRIPT]`, `run CAPTURE SCRIPT`, `load N`, `check TRACE
+-- CAPTURE SCRIPT` or `streams CAPTURE [SCRIPT]`. Words fit no form if a name in them is empty or
+-- begins with `-`.
 use Rattle.std.specs.Prelude.{ℕ, List, [], ◌∷◌, Bool, false, not, ◌&&◌, ◌==◌, if◌then◌else◌}
 use Rattle.std.specs.Prelude.{Option, Some, None, codes, map, option_and_then, option_map}
 use Rattle.std.specs.Prelude.{◌≤◌, string_bytes}
@@ -15,7 +16,8 @@ use Rattle.bm_words.specs.declared.form.Verb.TheVariants.{Replay as to_replay, R
 use Rattle.bm_words.specs.declared.form.Verb.TheVariants.{Streams as to_streams}
 use Rattle.bm_words.specs.declared.words.Form.{Form}
 use Rattle.bm_words.specs.declared.words.Form.TheVariants.{Replay as in_replay, Run as in_run}
-use Rattle.bm_words.specs.declared.words.Form.TheVariants.{Load as in_load, Streams as in_streams}
+use Rattle.bm_words.specs.declared.words.Form.TheVariants.{Load as in_load, Check as in_check}
+use Rattle.bm_words.specs.declared.words.Form.TheVariants.{Streams as in_streams}
 use Rattle.bm_words.specs.declared.words.Names.{Names}
 
 -- NAMES AND NUMBERS
@@ -58,8 +60,9 @@ count_of word = if is_numeral word then if_count (digits_value 10 word) else Non
 pub data Asked : Type 0 where
   Replay : Named → Asked
   Run : List ℕ → List ℕ → Asked
-  Streams : Named → Asked
   Load : ℕ → Asked
+  Check : List ℕ → List ℕ → List ℕ → Asked
+  Streams : Named → Asked
 
 -- a load has 1 to 20,000 connections
 abbrev pub HasCount : Asked → Type 0
@@ -95,9 +98,18 @@ abbrev pub connections_of : List (List ℕ) → Option ℕ
 connections_of (word ∷ number ∷ []) = if bytes_eq word (codes "load") then count_of number else None
 connections_of _ = None
 
+-- the check of a report, if the words ask for one
+abbrev pub check_of : List (List ℕ) → Option Asked
+check_of (word ∷ trace ∷ capture ∷ script ∷ []) =
+    if bytes_eq word (codes "check") && is_name trace && is_name capture && is_name script
+    then Some (Check trace capture script)
+    else None
+check_of _ = None
+
 -- what the words ask for; None if they fit no form
 abbrev pub form_of : List (List ℕ) → Option Asked
-form_of words = option_or (option_map Load (connections_of words)) (play_of words)
+form_of words =
+    option_or (option_map Load (connections_of words)) (option_or (check_of words) (play_of words))
 
 -- the same, of the words as they are given
 abbrev pub form_in : {A : Type 0} → List (String A) → Option Asked
@@ -115,5 +127,6 @@ named names = record {
 abbrev pub asked : Form → Asked
 asked (in_replay names) = Replay (named names)
 asked (in_run capture script) = Run capture.now script.now
-asked (in_streams names) = Streams (named names)
 asked (in_load connections) = Load connections
+asked (in_check trace capture script) = Check trace.now capture.now script.now
+asked (in_streams names) = Streams (named names)

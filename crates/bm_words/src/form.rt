@@ -1,6 +1,6 @@
 //! The command with which the words begin, if they fit a form.
 ghost use Rattle.std.specs.Prelude.{◌≡◌, IfSome, None, is_some, map, string_bytes};
-ghost use Rattle.bm_words.specs.Form.{connections_of, is_name, play_of, verb_of};
+ghost use Rattle.bm_words.specs.Form.{check_of, connections_of, is_name, play_of, verb_of};
 ghost use Rattle.bm_words.specs.Inside.Form.{IsVerbIn};
 
 use crate::count::count_in;
@@ -22,6 +22,21 @@ pub(crate) fn is_load(words: &[String]) -> bool
 {
     match words {
         [word, number] => word.as_str() == "load" && count_in(number.as_str()).is_some(),
+        _ => false,
+    }
+}
+
+/// Whether the words are `check TRACE CAPTURE SCRIPT`.
+pub(crate) fn is_check(words: &[String]) -> bool
+    ensures { result ≡ is_some (check_of (map string_bytes words.now)) }
+{
+    match words {
+        [word, trace, capture, script] => {
+            word.as_str() == "check"
+                && is_name(trace.as_str())
+                && is_name(capture.as_str())
+                && is_name(script.as_str())
+        }
         _ => false,
     }
 }

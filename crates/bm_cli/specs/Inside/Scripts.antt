@@ -1,5 +1,5 @@
 -- What was read of a script.
-use Rattle.std.specs.Prelude.{◌≡◌, ℕ, List, take, Option, Some, None, Result, Ok}
+use Rattle.std.specs.Prelude.{ℕ, List, Option, Some, None, Result, Ok}
 use Rattle.bm_table.specs.declared.script.Script.{Script}
 use Rattle.bm_cli.specs.declared.fault.StageFault.{StageFault}
 use Rattle.bm_cli.specs.Plain.{plain_script}
@@ -11,13 +11,3 @@ abbrev pub ReadsScript : Octets → Option (List ℕ) → Result Script StageFau
 ReadsScript told None result = IsRead (Ok plain_script) result
 ReadsScript None (Some name) result = Unit {0}
 ReadsScript (Some octets) (Some name) result = IsRead (script_in (octets name)) result
-
--- the first octets of the file, at most this many
-abbrev pub HasFront : Octets → List ℕ → ℕ → List ℕ → Type 0
-HasFront None name most text = Unit {0}
-HasFront (Some octets) name most text = text ≡ take most (octets name)
-
--- the first octets that the source had, at most this many
-abbrev pub IsFront : Option (List ℕ) → ℕ → List ℕ → Type 0
-IsFront None most text = Unit {0}
-IsFront (Some left) most text = text ≡ take most left

@@ -5,7 +5,11 @@ use crate::capture::{OPENED, Packet};
 use crate::program::Row;
 use crate::rows::OPENED_REPORT;
 
-/// What is written for `OPENED` if bucket 4 moves to server 2 between the packets.
+/// Bucket 4 moves to server 2 between the packets of `OPENED`.
+pub(crate) const MOVED_SCRIPT: &str =
+    "[[command]]\nat_ns = 500\ndo = \"move\"\nbucket = 4\nserver = 2\n";
+
+/// What is written for `OPENED` with that script.
 pub(crate) const MOVED_REPORT: &str = "1 steer 1 0 0 4\n\
      2 arrive 1 direct 1 accept\n\
      501 publish 1\n\
@@ -31,13 +35,7 @@ pub(crate) static MOVES: [Row; 10] = [
         name: "a bucket moves, and the previous server takes the packet",
         form: Micro,
         packets: OPENED,
-        script: Some(
-            "[[command]]\n\
-            at_ns = 500\n\
-            do = \"move\"\n\
-            bucket = 4\n\
-            server = 2\n",
-        ),
+        script: Some(MOVED_SCRIPT),
         status: 0,
         text: MOVED_REPORT,
     },

@@ -1,4 +1,4 @@
-use Rattle.std.proofs.Common.{◌≡◌, List, ℕ, Some, ap, rules, sym, ◌∙◌}
+use Rattle.std.proofs.Common.{◌≡◌, List, ℕ, Some, true, ap, rules, sym, ◌∙◌}
 use Rattle.std.specs.Prelude.{decimal}
 use Rattle.std.proofs.lemmas.Option.{same_Some}
 use Rattle.bm_core.specs.declared.events.Event.{Event}
@@ -8,6 +8,7 @@ use Rattle.bm_trace.specs.declared.lines.Aside.{Aside}
 use Rattle.bm_check.proofs.Spelling.{shown_same}
 use Rattle.bm_check.proofs.Texts.{line_is}
 use Rattle.bm_check.specs.Inside.Reading.{shown}
+use Rattle.bm_check.specs.Lines.{has_line}
 use Rattle.bm_check.proofs.reader.read_event.Goals as goal
 
 pub returns-in_default-clause-found : goal.returns-in_default-clause-found
@@ -39,3 +40,14 @@ returns-clause-found c e l =
     in let pair : ◌≡◌ {A = Event × Aside} (c.in-Some.event, c.in-Some.aside) (e, shown e.what l.aside) =
     same_Some _ _ (sym c.in-Some.is ∙ guessed)
     in ap (λ (p : Event × Aside). Some p.0) pair
+
+pub returns-then-not-has_line-clause-found : goal.returns-then-not-has_line-clause-found
+returns-then-not-has_line-clause-found c e l =
+    let guessed =
+    c.guess.ensures e l.aside l.numbers l.version l.bucket
+    (l.is ∙ line_is (decimal e.clock.0) (words_of e.what l.aside))
+    in let pair : ◌≡◌ {A = Event × Aside} (c.in-Some.event, c.in-Some.aside) (e, shown e.what l.aside) =
+    same_Some _ _ (sym c.in-Some.is ∙ guessed)
+    in let same : has_line c.in-Some.event.what ≡ true =
+    ap (λ (p : Event × Aside). has_line p.0.what) pair ∙ l.has
+    in absurd (search rules)

@@ -2,7 +2,7 @@ use Rattle.std.proofs.Common.{Some, ap, sym}
 use Rattle.bm_words.specs.declared.words.Form.{Form}
 use Rattle.bm_words.specs.Form.{asked}
 use Rattle.bm_cli.proofs.Ending.{load_ends, words_end}
-use Rattle.bm_cli.proofs.Forms.{replay_asks, run_asks, streams_asks}
+use Rattle.bm_cli.proofs.Forms.{check_asks, replay_asks, run_asks, streams_asks}
 use Rattle.bm_cli.proofs.top.answer_form.Goals as goal
 
 pub returns-in-Load-clause-ends : goal.returns-in-Load-clause-ends
@@ -23,3 +23,7 @@ returns-in-Streams-clause-unasked g c = λ none.
 pub returns-in-Run-clause-unasked : goal.returns-in-Run-clause-unasked
 returns-in-Run-clause-unasked g c = λ none.
     absurd (run_asks _ _ _ (ap (λ (f : Form). Some (asked f)) c.in-Run.is) none)
+
+pub returns-in-Check-clause-unasked : goal.returns-in-Check-clause-unasked
+returns-in-Check-clause-unasked g c = λ none.
+    absurd (check_asks _ _ _ _ (ap (λ (f : Form). Some (asked f)) c.in-Check.is) none)
