@@ -125,7 +125,7 @@ impl Orders {
         Ok(true)
     }
 
-    /// One more of each request to retire one of the server's first shards, so many.
+    /// One more request to retire each of the server's first `shards` shards.
     fn ask_shards(&mut self, server: ServerId, shards: u16) -> Result<(), Memory>
         ensures { (f : Order → ℕ) → ((q : Order) → f q < 2 ^ 62) → Opens f self.old → OnOk result
             (Opens (λ q. (if asks_below server.0 shards q then 1 else 0) + f q) self.new) }

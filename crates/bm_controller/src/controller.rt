@@ -189,7 +189,7 @@ impl Controller {
     }
 }
 
-/// The racks of so many servers, all in rack 0.
+/// The rack of each of `count` servers, which is rack 0.
 fn one_rack(alloc: Global, count: usize) -> Result<Vec<u16>, Memory>
     ensures { IfOk result (λ racks. racks.items ≡ replicate count 0) }
 {

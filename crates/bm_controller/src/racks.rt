@@ -20,7 +20,7 @@ use bm_table::Plan;
 use std::alloc::Global;
 
 /// The servers in their racks, and the plan that commands made so far. A stored rule names the rack
-/// of each server; it is asked once, when the server becomes known. The rack of bucket b is b modulo
+/// of each server; it is asked at the opening and at each `add`. The rack of bucket b is b modulo
 /// the racks. A server is known from the opening, or from when it is added, for good; it is active
 /// until it is drained. An active server has a weight.
 #[derive(Drop)]

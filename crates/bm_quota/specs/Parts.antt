@@ -19,7 +19,7 @@ pub record Part : Type 0 where
 abbrev pub part_size : ℕ → ℕ → ℕ → ℕ
 part_size buckets n part = (buckets + (n - 1) - part) / n
 
--- the owners of a part's buckets, of which there are `count`
+-- the owners of the `count` buckets of a part
 abbrev pub owners_of_part : (ℕ → ServerId) → ℕ → ℕ → ℕ → List ServerId
 owners_of_part owner n part count = map (λ j. owner (j * n + part)) (range_with_len 0 count)
 

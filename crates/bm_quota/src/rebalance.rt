@@ -50,8 +50,8 @@ pub fn moves(
 }
 
 /// The moves of `moves`, found in a table that the caller keeps: it has a place for each server
-/// number, is zero at each, and is so again afterwards. So many rebalancings of disjoint sets of
-/// servers share one table. `Memory` where memory was refused.
+/// number, is zero at each, and is zero again after `Ok`. So one table serves several rebalancings.
+/// `Memory` where memory was refused; the table may then hold anything.
 pub fn moves_in(
     alloc: Global,
     rooms: &mut [u32],
