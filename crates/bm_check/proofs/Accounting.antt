@@ -1,7 +1,7 @@
 -- The account of a run, from what is decided of its events.
 use mathlib.Core.List.{reverse_aux}
-use Rattle.std.proofs.Common.{◌≡◌, ℕ, zero, suc, ◌+◌, ◌<◌, ◌≤◌, ◌==◌, Bool, true, false, ◌&&◌, ◌||◌, ◌⊎◌, inl, inr, List, []}
-use Rattle.std.proofs.Common.{◌∷◌, Option, Some, None, is_some, length, refl, ap, sym, ◌∙◌, arith, subst}
+use Rattle.std.proofs.Common.{◌≡◌, ℕ, zero, suc, ◌+◌, ◌==◌, Bool, true, false, ◌&&◌, ◌||◌, ◌⊎◌, inl, inr, List, []}
+use Rattle.std.proofs.Common.{◌∷◌, Option, Some, None, is_some, refl, ap, sym, ◌∙◌, arith, subst}
 use Rattle.std.specs.List.{AllByRecursion}
 use Rattle.std.specs.Prelude.{if◌then◌else◌, reverse, All, IfSome}
 use Rattle.std.proofs.lemmas.Bool.{and_parts, cases_Bool, eqb-true}
@@ -10,7 +10,7 @@ use Rattle.bm_base.specs.declared.label.Hop.{Hop}
 use Rattle.bm_base.specs.declared.label.Hop.TheVariants.{Direct, Chained, Twice}
 use Rattle.bm_base.specs.Labels.{same_hop}
 use Rattle.bm_core.specs.Accounts.{AreAnswered, AreCarriedOut, AreSent, IsAccountOf, IsRouted, Routes, Rules, before}
-use Rattle.bm_core.specs.Accounts.{arrives, copyless_at, count_of, counts, fate_now, loses, lost_at, sent_copies}
+use Rattle.bm_core.specs.Accounts.{copyless_at, count_of, counts, fate_now, loses, lost_at, sent_copies}
 use Rattle.bm_core.specs.Accounts.{steers_packet}
 use Rattle.bm_core.specs.Past.{Sending, is_sending, is_sent, segment_of, sending_of, sends}
 use Rattle.bm_core.specs.Runs.{MayCome, Run}

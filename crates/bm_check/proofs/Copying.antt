@@ -1,27 +1,26 @@
 -- Copies that were sent, where each sending of a packet with a hop has the same fate.
 use mathlib.Core.List.{reverse_aux}
-use Rattle.std.proofs.Common.{◌≡◌, ℕ, zero, suc, ◌+◌, ◌-◌, ◌*◌, ◌<◌, ◌≤◌, ◌^◌, ◌==◌, Bool, true, false, ◌&&◌, ◌⊎◌, inl, inr}
-use Rattle.std.proofs.Common.{get_or, List, [], ◌∷◌, Option, Some, None, is_some, length, refl, ap, sym, ◌∙◌, arith, subst}
+use Rattle.std.proofs.Common.{◌≡◌, ℕ, zero, suc, ◌+◌, ◌*◌, ◌<◌, ◌≤◌, ◌^◌, ◌==◌, Bool, true, false, ◌&&◌}
+use Rattle.std.proofs.Common.{get_or, List, [], ◌∷◌, Option, Some, None, length, refl, ap, sym, ◌∙◌, arith, subst}
 use Rattle.std.proofs.lemmas.List.{length-reverse}
 use Rattle.std.specs.Bool.{Decides}
 use Rattle.std.specs.Prelude.{if◌then◌else◌, nat_lt, reverse, drop, take, All, IfSome}
 use Rattle.std.proofs.Math.Nat.{mul-suc, mul-zero}
-use Rattle.std.proofs.lemmas.Bool.{and_parts, cases_Bool, eq-eqb, eqb-true, lt-ltb, ltb-true}
-use Rattle.std.proofs.lemmas.Bool.Decides.{nat_tests}
+use Rattle.std.proofs.lemmas.Bool.{and_parts, eq-eqb, eqb-true, lt-ltb, ltb-true}
 use Rattle.bm_base.specs.declared.fate.Fate.{Fate}
 use Rattle.bm_base.proofs.Hops.{same_hop_refl}
 use Rattle.bm_base.specs.declared.ids.ServerId.{ServerId}
 use Rattle.bm_base.specs.declared.label.Hop.{Hop}
 use Rattle.bm_base.specs.declared.label.Hop.TheVariants.{Direct, Chained, Twice}
 use Rattle.bm_base.specs.Labels.{same_hop}
-use Rattle.bm_core.specs.Accounts.{AreSent, Rules, arrives, before, copyless_at, count_of, counts, fate_now, loses, lost_at}
+use Rattle.bm_core.specs.Accounts.{AreSent, Rules, arrives, before, copyless_at, counts, fate_now}
 use Rattle.bm_core.specs.Accounts.{sent_copies}
 use Rattle.bm_core.specs.Past.{Sending, is_sending, sending_of, sends}
 use Rattle.bm_core.specs.declared.events.Event.{Event}
 use Rattle.bm_core.specs.declared.events.Verdict.{Verdict}
 use Rattle.bm_core.specs.declared.events.What.{What}
 use Rattle.bm_core.specs.declared.events.What.TheVariants.{Arrive, Close, Lose, Publish, Retire, Steer, Switch, Sync}
-use Rattle.bm_state.specs.Sendings.{sendings_at}
+use Rattle.bm_state.specs.Losses.{sendings_at}
 use Rattle.bm_trace.proofs.Reading.{both_true}
 use Rattle.bm_state.proofs.Tallying.{count_few}
 use Rattle.bm_check.proofs.Ordering.{no_event}

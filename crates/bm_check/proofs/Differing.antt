@@ -1,12 +1,12 @@
 -- Where two texts part, their lines differ first.
 use Rattle.std.proofs.Common.{◌≡◌, ℕ, zero, suc, ◌+◌, ◌<◌, ◌≤◌, ◌==◌, false, inl, inr, List, [], ◌∷◌, ◌++◌, length, refl, ap, sym}
-use Rattle.std.proofs.Common.{◌∙◌, arith, get_or, take, drop, subst}
+use Rattle.std.proofs.Common.{◌-◌, ◌∙◌, arith, get_or, take, drop, subst}
 use Rattle.std.specs.Prelude.{◌≢◌, slice_index}
-use Rattle.std.proofs.Math.Seq.{take-suc}
+use Rattle.std.proofs.Math.Seq.{take-append-add, take-length, take-suc}
 use Rattle.std.specs.Prelude.{if◌then◌else◌}
 use Rattle.std.proofs.lemmas.Bool.{cases_Bool, eqb-true}
 use Rattle.std.proofs.lemmas.Bool.Decides.{eqb_tells}
-use Rattle.std.proofs.lemmas.List.{take-append-drop}
+use Rattle.std.proofs.lemmas.List.{append-nil, append_assoc, length-append, take-append-drop, take-append-le, take_rest}
 use Rattle.bm_check.specs.Answers.{DifferAt, IsLeast}
 use Rattle.bm_check.specs.Inside.Comparing.{feeds}
 use Rattle.bm_check.specs.Lines.{lines, put_first}
@@ -111,6 +111,84 @@ first_differ a b i more la lb same ends =
     (ap (λ (p : List ℕ). p ++ drop i b) same ∙ take-append-drop i b)
     (subst (λ (x : List ℕ). IsLeast (DifferAt x (take i a ++ drop i b)) (suc (feeds (take i a)))) (take-append-drop i a)
     (least (take i a) (drop i a) (drop i b) (part_here a b i more la lb ends)))
+
+-- where a text and another are the same up to a place after their common beginning, and no further
+pub differ_after : (first rest other : List ℕ) (m : ℕ)
+    → (m ≡ length rest → m ≡ length other → ⊥) → m ≤ length rest → m ≤ length other
+    → take m rest ≡ take m other
+    → (m < length rest → m < length other → slice_index rest m ≢ slice_index other m)
+    → IsLeast (DifferAt (first ++ rest) (first ++ other)) (suc (feeds (take (length first + m) (first ++ rest))))
+differ_after first rest other m more lr lo same ends =
+    let p : List ℕ = first ++ take m rest
+    in let whole : p ++ drop m rest ≡ first ++ rest =
+    append_assoc first (take m rest) (drop m rest) ∙ ap (λ (l : List ℕ). first ++ l) (take-append-drop m rest)
+    in let written : p ++ drop m other ≡ first ++ other =
+    append_assoc first (take m rest) (drop m other) ∙ ap (λ (l : List ℕ). first ++ (l ++ drop m other)) same
+    ∙ ap (λ (l : List ℕ). first ++ l) (take-append-drop m other)
+    in let here : IsLeast (DifferAt (p ++ drop m rest) (p ++ drop m other)) (suc (feeds p)) =
+    least p (drop m rest) (drop m other) (part_here rest other m more lr lo ends)
+    in subst (λ (q : List ℕ). IsLeast (DifferAt (first ++ rest) (first ++ other)) (suc (feeds q)))
+    (sym (take-append-add first rest m))
+    (subst (λ (x : List ℕ). IsLeast (DifferAt (first ++ rest) x) (suc (feeds p))) written
+    (subst (λ (x : List ℕ). IsLeast (DifferAt x (p ++ drop m other)) (suc (feeds p))) whole here))
+
+pub same_whole : (a b : List ℕ) (m : ℕ) → m ≡ length a → m ≡ length b → take m a ≡ take m b → a ≡ b
+same_whole a b m la lb same =
+    sym (ap (λ (k : ℕ). take k a) la ∙ take-length a) ∙ same ∙ (ap (λ (k : ℕ). take k b) lb ∙ take-length b)
+
+index_left : (a b : List ℕ) (m : ℕ) → m < length a → slice_index (a ++ b) m ≡ slice_index a m
+index_left [] b m below = absurd (omega (arith, below))
+index_left (c ∷ a) b zero below = refl
+index_left (c ∷ a) b (suc m) below = index_left a b m (omega (arith, below))
+
+-- where a text doesn't begin with the first part of another
+pub differ_within : (text first second : List ℕ) (m : ℕ) → ((rest : List ℕ) → text ≢ first ++ rest)
+    → m ≤ length text → m ≤ length first → take m text ≡ take m first
+    → (m < length text → m < length first → slice_index text m ≢ slice_index first m)
+    → IsLeast (DifferAt text (first ++ second)) (suc (feeds (take m text)))
+differ_within text first second m none lt lf same ends =
+    let whole : m ≡ length first → ⊥ =
+    λ e. none (drop m text)
+    (sym (take-append-drop m text)
+    ∙ ap (λ (l : List ℕ). l ++ drop m text) (same ∙ (ap (λ (k : ℕ). take k first) e ∙ take-length first)))
+    in let below : m < length first = shorter m (length first) lf whole
+    in let total = length-append first second
+    in first_differ text (first ++ second) m (λ p q. absurd (omega (arith, q, total, below))) lt
+    (omega (arith, total, below)) (same ∙ sym (take-append-le m first second lf))
+    (λ p q e. ends p below (e ∙ index_left first second m below)) where
+      shorter : (n k : ℕ) → n ≤ k → (n ≡ k → ⊥) → n < k
+      shorter n k few differ = omega (arith, few, differ)
+
+take_none : (n : ℕ) → take {A = ℕ} n [] ≡ []
+take_none zero = refl
+take_none (suc n) = refl
+
+-- a first part and a part of what comes after it
+take_more : (xs : List ℕ) (n m : ℕ) → take (n + m) xs ≡ take n xs ++ take m (drop n xs)
+take_more xs zero m = let same : zero + m ≡ m = omega arith in ap (λ (k : ℕ). take k xs) same
+take_more [] (suc n) m = take_none (suc n + m) ∙ sym (take_none m)
+take_more (x ∷ xs) (suc n) m =
+    let same : suc n + m ≡ suc (n + m) = omega arith
+    in ap (λ (k : ℕ). take k (x ∷ xs)) same ∙ ap (λ (l : List ℕ). x ∷ l) (take_more xs n m)
+
+pub no_item : (xs : List ℕ) → length xs ≡ 0 → xs ≡ []
+no_item [] none = refl
+no_item (x ∷ xs) none = absurd (omega (arith, none))
+
+-- a piece whose first part is as expected
+pub as_expected : (expected other piece written : List ℕ) (n m : ℕ) → other ≡ []
+    → take n expected ++ other ≡ written → take m (take (length expected - n) (drop n expected)) ≡ take m piece
+    → take (n + m) expected ++ (other ++ drop m piece) ≡ written ++ piece
+as_expected expected other piece written n m none is same =
+    let begins : take m (drop n expected) ≡ take m piece =
+    ap (λ (l : List ℕ). take m l) (sym (take_rest expected n)) ∙ same
+    in let before : take n expected ≡ written =
+    sym (append-nil (take n expected)) ∙ ap (λ (l : List ℕ). take n expected ++ l) (sym none) ∙ is
+    in ap (λ (l : List ℕ). l ++ (other ++ drop m piece))
+    (take_more expected n m ∙ ap (λ (l : List ℕ). take n expected ++ l) begins)
+    ∙ ap (λ (l : List ℕ). take n expected ++ take m piece ++ (l ++ drop m piece)) none
+    ∙ append_assoc (take n expected) (take m piece) (drop m piece)
+    ∙ ap (λ (l : List ℕ). take n expected ++ l) (take-append-drop m piece) ∙ ap (λ (l : List ℕ). l ++ piece) before
 
 feeds_append : (a : List ℕ) (c : ℕ) → feeds (a ++ c ∷ []) ≡ (if c == 10 then suc (feeds a) else feeds a)
 feeds_append [] c = refl

@@ -8,14 +8,17 @@ ghost use Rattle.bm_core.specs.Runs.{Run};
 ghost use Rattle.bm_core.specs.Stages.{IsSound};
 ghost use Rattle.bm_fault.specs.Faults.{Gives, IsRule};
 ghost use Rattle.bm_route.specs.Routes.{Answers, IsRoute};
+ghost use Rattle.bm_state.specs.Losses.{KeepsLosses};
+ghost use Rattle.bm_state.specs.Tallies.{KeepsTallies};
 ghost use Rattle.bm_check.specs.Inside.Copies.{IsOne};
 
-use crate::copies::{are_settled, are_steered, keep_sendings};
+use crate::copies::{are_sent, are_settled, are_steered};
 use crate::orders::is_carried_out;
 use bm_base::{Fate, Flow, Hop, Memory};
 use bm_core::{Event, Stage, What};
 use bm_fault::Faults;
 use bm_route::Route;
+use bm_state::{Losses, Tallies};
 use std::alloc::Global;
 
 /// Whether the event, if it is a Steer, is at the mux that the route gives.
@@ -62,6 +65,8 @@ pub(crate) fn is_accounted<R: Fn(u32, &Flow) -> u16, F: Fn(u32, Hop) -> Fate>(
     stage: &Stage,
     route: &Route<R>,
     faults: &Faults<F>,
+    tallies: &Tallies,
+    losses: &Losses,
     events: &[Event],
 ) -> Result<bool, Memory>
     requires sound { IsSound stage.now }
@@ -72,20 +77,22 @@ pub(crate) fn is_accounted<R: Fn(u32, &Flow) -> u16, F: Fn(u32, Hop) -> Fate>(
     requires fate { IsOne (Gives F.Fn faults.now.rule) }
     requires few { length events.now < 2 ^ 62 }
     requires run { Run stage.now (reverse events.now) }
+    requires tallies { KeepsTallies (reverse events.now) tallies.now }
+    requires losses { KeepsLosses (reverse events.now) losses.now }
     ensures { IfOk result (λ is. Decides is ((fates : List Fate)
         × IsAccountOf (Answers R.Fn route.now.rule) (Gives F.Fn faults.now.rule) stage.now fates
         (reverse events.now))) }
 {
-    let Some(sendings) = keep_sendings(alloc, faults, events)? else {
+    if !are_sent(alloc, faults, events)? {
         return Ok(false);
-    };
-    if !are_steered(stage, &sendings) {
+    }
+    if !are_steered(stage, tallies) {
         return Ok(false);
     }
     if !are_routed(stage, route, events) {
         return Ok(false);
     }
-    if !are_settled(faults, &sendings, events) {
+    if !are_settled(faults, tallies, losses, events) {
         return Ok(false);
     }
     let carried = is_carried_out(alloc, stage, events)?;

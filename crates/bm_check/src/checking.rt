@@ -13,14 +13,13 @@ ghost use Rattle.bm_check.specs.Inside.Checking.{IsCompared, IsFound};
 
 use crate::Answer;
 use crate::account::is_accounted;
-use crate::compare::first_difference;
+use crate::compare::{ExpectingSink, first_difference};
 use crate::lines::{Reading, read_lines};
 use bm_base::{Fate, Flow, Hop, List, Memory};
 use bm_core::{Event, History, Stage};
 use bm_fault::Faults;
-use bm_io::SureSink;
 use bm_route::Route;
-use bm_running::first_stop;
+use bm_running::{Followed, follow};
 use bm_trace::{report_to, sweep, totals_of};
 use std::alloc::Global;
 
@@ -41,7 +40,7 @@ enum Found {
 }
 
 /// Reads the report and follows its events.
-fn follow<R: Fn(u32, &Flow) -> u16, F: Fn(u32, Hop) -> Fate>(
+fn read_run<R: Fn(u32, &Flow) -> u16, F: Fn(u32, Hop) -> Fate>(
     alloc: Global,
     stage: &Stage,
     route: &Route<R>,
@@ -60,10 +59,19 @@ fn follow<R: Fn(u32, &Flow) -> u16, F: Fn(u32, Hop) -> Fate>(
         Reading::Events(events) => events,
         Reading::Bad(number) => return Ok(Found::Wrong(Answer::NotLine(short(number)))),
     };
-    if let Some(number) = first_stop(alloc, stage, events.items())? {
-        return Ok(Found::Wrong(Answer::NotRun(short(number))));
-    }
-    if !is_accounted(alloc, stage, route, faults, events.items())? {
+    let (tallies, losses) = match follow(alloc, stage, events.items())? {
+        Followed::Runs(tallies, losses) => (tallies, losses),
+        Followed::Stops(number) => return Ok(Found::Wrong(Answer::NotRun(short(number)))),
+    };
+    if !is_accounted(
+        alloc,
+        stage,
+        route,
+        faults,
+        &tallies,
+        &losses,
+        events.items(),
+    )? {
         return Ok(Found::Wrong(Answer::NotAccount));
     }
     Ok(Found::Events(events))
@@ -80,11 +88,13 @@ fn first_other_line(alloc: Global, h: &History, trace: &[u8]) -> Result<Option<u
     ensures few { IfOk result (λ found. IfSome found (λ n. n ≤ length trace.now + 1)) }
 {
     let causes = sweep(alloc, h)?;
-    let mut report = SureSink::new(alloc);
+    let mut report = ExpectingSink::new(alloc, trace);
     let Ok(()) = report_to(h, &causes, &totals_of(h, &causes), &mut report) else {
         return Err(Memory);
     };
-    Ok(first_difference(trace, report.written()))
+    // A sink promises only what was written to it, and not that it still expects this text.
+    let (first, second) = report.written();
+    Ok(first_difference(trace, first, second))
 }
 
 /// Compares the octets with the report of the history.
@@ -116,7 +126,7 @@ fn judge<R: Fn(u32, &Flow) -> u16, F: Fn(u32, Hop) -> Fate>(
     ensures { IfOk result (IsAnswered (Answers R.Fn route.now.rule) (Gives F.Fn faults.now.rule)
         stage trace.now) }
 {
-    match follow(alloc, &stage, route, faults, trace)? {
+    match read_run(alloc, &stage, route, faults, trace)? {
         Found::Wrong(answer) => Ok(answer),
         Found::Events(events) => {
             let h = History { stage, events };
@@ -130,8 +140,8 @@ fn judge<R: Fn(u32, &Flow) -> u16, F: Fn(u32, Hop) -> Fate>(
 /// thing that is wrong with them. The route and the fault rule have one answer to each question.
 /// For n octets and a stage of n records, moves and retirements of shards, the time is in proportion
 /// to n log n, unless flows are chosen for one home (docs/SECURITY.md). The memory is in proportion
-/// to n: the events, what is kept of them, and the report of these events. `Memory` where memory was
-/// refused.
+/// to n: the events, what is kept of them, and the report of these events from the first octet on
+/// that differs. `Memory` where memory was refused.
 pub fn check<R: Fn(u32, &Flow) -> u16, F: Fn(u32, Hop) -> Fate>(
     alloc: Global,
     stage: Stage,

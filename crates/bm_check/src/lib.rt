@@ -10,7 +10,6 @@ mod copies;
 mod lines;
 mod orders;
 mod reader;
-mod sending;
 mod verdicts;
 mod words;
 

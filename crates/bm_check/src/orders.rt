@@ -12,6 +12,7 @@ ghost use Rattle.bm_check.specs.Inside.Orders.{open_in, order_in, same_order};
 
 use bm_base::{Flow, Memory, ServerId};
 use bm_core::{Event, Stage, What};
+use bm_state::one_more;
 use bm_table::Command;
 use std::alloc::Global;
 use std::collections::BTreeMap;
@@ -48,13 +49,6 @@ fn order_of(what: What) -> Option<Order>
         | What::Lose { .. }
         | What::Arrive { .. } => None,
     }
-}
-
-/// One more. No script comes near the end of the type.
-fn one_more(count: u64) -> u64
-    ensures { count < 2 ^ 63 → result ≡ suc count }
-{
-    count.saturating_add(1)
 }
 
 /// How often each order is still to be carried out. One that isn't has no entry.

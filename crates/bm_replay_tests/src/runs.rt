@@ -5,7 +5,7 @@ ghost use Rattle.bm_core.specs.Stages.{IsSound};
 use crate::stages::{OPENING, OTHER, bare_stage, capture};
 use bm_base::{Hop, Moment, MuxId, ServerId};
 use bm_core::{Event, Stage, Verdict, What, Why};
-use bm_running::first_stop;
+use bm_running::{Followed, follow};
 use std::alloc::Global;
 use std::process::Abort;
 use std::test::Fail;
@@ -49,7 +49,10 @@ fn check(
     requires sound { IsSound stage.now }
     requires few { length events.now < 2 ^ 63 }
 {
-    let found = first_stop(alloc, stage, events)?;
+    let found = match follow(alloc, stage, events)? {
+        Followed::Stops(number) => Some(number),
+        Followed::Runs(..) => None,
+    };
     assert!(rt; found == stop);
     Ok(())
 }

@@ -15,7 +15,7 @@ use crate::leaves::Leaves;
 use crate::shards::Shards;
 use bm_base::{Flow, Hop, Memory, Moment, MuxId, ServerId, Version, tag_of};
 use bm_core::{Event, Stage, Verdict, What};
-use bm_state::{Clocks, Labels, Moves, Sendings, Versions, author_of};
+use bm_state::{Clocks, Labels, Losses, Moves, Tallies, Versions, author_of};
 use bm_table::Retirement;
 use std::alloc::Global;
 
@@ -26,7 +26,8 @@ pub(crate) struct Known {
     versions: Versions,
     labels: Labels,
     moves: Moves,
-    sendings: Sendings,
+    tallies: Tallies,
+    losses: Losses,
     shards: Shards,
     leaves: Leaves,
 }
@@ -43,7 +44,8 @@ impl Known {
             versions: Versions::new(alloc),
             labels: Labels::new(alloc, stage)?,
             moves: Moves::new(alloc, &stage.script.plan)?,
-            sendings: Sendings::new(alloc),
+            tallies: Tallies::new(alloc),
+            losses: Losses::new(alloc),
             shards: Shards::new(alloc),
             leaves: Leaves::new(alloc, &stage.script.plan),
         })
@@ -73,7 +75,7 @@ impl Known {
             (MayCome stage.now (reverse events.now) clock (What.Steer packet mux)) }
     {
         mux.0 < stage.script.setting.muxes
-            && !self.sendings.is_sent(packet, Hop::Direct)
+            && !self.tallies.is_sent(packet, Hop::Direct)
             && stage.segment(packet).is_some()
     }
 
@@ -89,7 +91,7 @@ impl Known {
         ensures { Decides result
             (MayCome stage.now (reverse events.now) clock.0 (What.Lose packet hop)) }
     {
-        0 < clock.0 && self.sendings.is_sent_at(packet, hop, Moment(clock.0 - 1))
+        0 < clock.0 && self.losses.is_sent_at(packet, hop, Moment(clock.0 - 1))
     }
 
     /// Whether a copy may arrive with this verdict. If so, it has arrived at its shard.
@@ -123,7 +125,7 @@ impl Known {
         let Some(place) = label.entry.arrives_at(hop) else {
             return Ok(false);
         };
-        if place != server || !self.sendings.is_sent(packet, hop) {
+        if place != server || !self.tallies.is_sent(packet, hop) {
             return Ok(false);
         }
         let tag = tag_of(&label, hop);
@@ -294,7 +296,16 @@ impl Known {
         self.clocks.note(author, event.clock)?;
         self.labels.note(&self.versions, event.what);
         self.versions.note(event.what)?;
-        self.sendings.note(event)?;
+        self.tallies.note(event.what)?;
+        self.losses.note(event)?;
         Ok(true)
+    }
+
+    /// What is known of the copies.
+    pub(crate) fn into_copies(self) -> (Tallies, Losses)
+        ensures tallies { result.0 ≡ self.tallies }
+        ensures losses { result.1 ≡ self.losses }
+    {
+        (self.tallies, self.losses)
     }
 }

@@ -7,4 +7,4 @@ mod leaves;
 mod running;
 mod shards;
 
-pub use running::first_stop;
+pub use running::{Followed, follow};

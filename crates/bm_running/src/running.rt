@@ -1,27 +1,34 @@
 //! Whether events are a run.
-ghost use Rattle.std.specs.Prelude.{◌<◌, ◌^◌, IfOk, MatchOption, length, reverse};
-ghost use Rattle.bm_core.specs.Runs.{Run};
+ghost use Rattle.std.specs.Prelude.{◌<◌, ◌^◌, IfOk, length};
 ghost use Rattle.bm_core.specs.Stages.{IsSound};
-ghost use Rattle.bm_running.specs.FirstStop.{IsLeast, IsNoRunTo};
+ghost use Rattle.bm_running.specs.FirstStop.{IsFollowed};
 
 use crate::known::Known;
 use bm_base::Memory;
 use bm_core::{Event, Stage};
+use bm_state::{Losses, Tallies};
 use std::alloc::Global;
 
-/// The number of the first event that may not come, counted from 1; `None` exactly if the events,
-/// which stand in their order, are a run. `Memory` where memory was refused.
-pub fn first_stop(alloc: Global, stage: &Stage, events: &[Event]) -> Result<Option<usize>, Memory>
+/// What following a stage's events finds: the number of the first that may not come, counted from
+/// 1, or, if they are a run, what is known of the copies in it.
+#[derive(Drop)]
+pub enum Followed {
+    Stops(usize),
+    Runs(Tallies, Losses),
+}
+
+/// Follows the events, which stand in their order. `Memory` where memory was refused.
+pub fn follow(alloc: Global, stage: &Stage, events: &[Event]) -> Result<Followed, Memory>
     requires sound { IsSound stage.now }
     requires few { length events.now < 2 ^ 63 }
-    ensures { IfOk result (λ stop. MatchOption stop (Run stage.now (reverse events.now))
-        (IsLeast (IsNoRunTo stage.now events.now))) }
+    ensures { IfOk result (IsFollowed stage.now events.now) }
 {
     let mut known = Known::new(alloc, stage)?;
     for place in 0..events.len() {
         if !known.step(alloc, stage, &events[..place], &events[place])? {
-            return Ok(Some(place + 1));
+            return Ok(Followed::Stops(place + 1));
         }
     }
-    Ok(None)
+    let (tallies, losses) = known.into_copies();
+    Ok(Followed::Runs(tallies, losses))
 }

@@ -10,22 +10,34 @@ ghost use Rattle.bm_core.specs.declared.events.Event.{Event};
 ghost use Rattle.bm_core.specs.declared.events.Stage.{Stage};
 ghost use Rattle.bm_shard.specs.Books.{IsShort};
 ghost use Rattle.bm_shard.specs.Replies.{what_of};
+ghost use Rattle.bm_shard.specs.States as states;
 ghost use Rattle.bm_shard.specs.States.{known_in};
+ghost use Rattle.bm_running.specs.Inside.Shards.{server_of, shard_by};
 ghost use Rattle.bm_table.specs.Settings.{IsWithin};
 
 use bm_base::{Flow, Memory, Moment, Segment, ServerId, Tag};
 use bm_core::{Stage, Verdict, What};
 use bm_hash::shard_of;
 use bm_shard::{Shard, ShardCall, ShardState};
+use bm_state::ShardKey;
 use bm_table::{Retirement, Setting};
 use std::alloc::Global;
 use std::collections::BTreeMap;
 
-/// A shard of a server.
-#[derive(Clone, Copy, PartialEq, Eq, PartialOrd, Ord, Drop)]
-pub(crate) struct ShardKey {
-    pub(crate) server: u16,
-    pub(crate) shard: u16,
+/// The state of the shard before it was asked anything.
+fn first_state(alloc: Global, setting: &Setting, key: ShardKey) -> Result<ShardState, Memory>
+    requires { IsWithin 1 65536 setting.now.capacity }
+    ensures { IfOk result
+        (λ state. state ≡ states.first_state (shard_by setting.now (server_of key) key.shard)) }
+{
+    let shard = Shard {
+        server: ServerId(key.server),
+        number: key.shard,
+        capacity: setting.capacity,
+        timeout: setting.timeout,
+    };
+    let state = ShardState::new(alloc, shard)?;
+    Ok(state)
 }
 
 /// The shards that were asked something, after some events.
@@ -46,32 +58,6 @@ impl Shards {
         }
     }
 
-    /// Takes the shard away.
-    fn take(
-        &mut self,
-        alloc: Global,
-        setting: &Setting,
-        key: ShardKey,
-    ) -> Result<ShardState, Memory>
-        requires { IsWithin 1 65536 setting.now.capacity }
-        ensures state { IfOk result (λ state. state ≡ state_in setting.now self.old key) }
-        ensures others { OnOk result ((q : ShardKey) → same_key key q ≡ false
-            → state_in setting.now self.new q ≡ state_in setting.now self.old q) }
-    {
-        match self.states.remove(&key) {
-            Some(state) => Ok(state),
-            None => ShardState::new(
-                alloc,
-                Shard {
-                    server: ServerId(key.server),
-                    number: key.shard,
-                    capacity: setting.capacity,
-                    timeout: setting.timeout,
-                },
-            ),
-        }
-    }
-
     /// Makes a call to the shard at this clock: what happens.
     fn serve(
         &mut self,
@@ -88,7 +74,11 @@ impl Shards {
         ensures served { OnOk result
             (IsServedAt setting.now key clock call.now self.old self.new) }
     {
-        let mut state = self.take(alloc, setting, key)?;
+        if let Some(state) = self.states.get_mut(&key) {
+            let (what, _) = state.serve(clock, call)?;
+            return Ok(what);
+        }
+        let mut state = first_state(alloc, setting, key)?;
         let (what, _) = state.serve(clock, call)?;
         self.states.insert(key, state)?;
         Ok(what)

@@ -7,7 +7,7 @@ use Rattle.bm_base.specs.declared.label.Hop.{Hop}
 use Rattle.bm_core.specs.declared.events.Event.{Event}
 use Rattle.bm_core.specs.Past.{is_sent, is_sent_at, sends}
 use Rattle.bm_core.specs.Accounts.{counts}
-use Rattle.bm_state.specs.Sendings.{sendings_at}
+use Rattle.bm_state.specs.Losses.{sendings_at}
 
 some_more : (b : Bool) (n : ℕ) → nat_lt 0 ((if b then 1 else 0) + n) ≡ (b || nat_lt 0 n)
 some_more true n = grind (arith, nat_tests)

@@ -1,8 +1,13 @@
 pub mod Counting
+pub mod Holding
 pub mod Labelling
+pub mod Listing
+pub mod Losing
 pub mod Moving
 pub mod Newest
 pub mod Owning
 pub mod Reaching
+pub mod Retained
+pub mod Retiring
 pub mod Same
 pub mod Tallying

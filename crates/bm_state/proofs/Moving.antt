@@ -11,7 +11,6 @@ use Rattle.std.proofs.lemmas.Option.{slice_get_past}
 use Rattle.std.specs.List.Sorted.{IsPartitionedBy}
 use Rattle.bm_base.specs.declared.ids.ServerId.{ServerId}
 use Rattle.bm_base.specs.declared.label.Entry.{Entry}
-use Rattle.bm_base.specs.declared.label.Past.{Past}
 use Rattle.bm_table.specs.declared.plan.Change.{Change}
 use Rattle.bm_table.specs.declared.plan.Move.{Move}
 use Rattle.bm_table.specs.Planned.{Planned}

@@ -3,7 +3,11 @@ pub mod Clocks
 pub mod Moves
 pub mod Labels
 pub mod FlowKeys
+pub mod Holders
 pub mod Owners
 pub mod Sendings
+pub mod Tallies
+pub mod Losses
+pub mod ShardKeys
 pub mod Versions
 pub mod Inside

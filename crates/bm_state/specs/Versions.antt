@@ -1,5 +1,5 @@
 -- What is kept of versions.
-use Rattle.std.specs.Prelude.{◌≡◌, ℕ, List, slice_index_or}
+use Rattle.std.specs.Prelude.{◌≡◌, List, slice_index_or}
 use Rattle.bm_base.specs.declared.ids.MuxId.{MuxId}
 use Rattle.bm_base.specs.declared.ids.Version.{Version}
 use Rattle.bm_core.specs.declared.events.Event.{Event}

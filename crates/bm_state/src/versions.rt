@@ -5,6 +5,7 @@ ghost use Rattle.bm_core.specs.Past.{newest, version_at};
 ghost use Rattle.bm_core.specs.declared.events.Event.{Event};
 ghost use Rattle.bm_state.specs.Versions.{KeepsVersions, unset};
 
+use crate::slots::{set_value, value_at};
 use bm_base::{MuxId, Version};
 use bm_core::What;
 use std::alloc::{AllocError, Global};
@@ -39,25 +40,7 @@ impl Versions {
         ensures { (past : List Event) → KeepsVersions past self.now
             → result ≡ version_at past mux }
     {
-        let place = usize::from(mux.0);
-        if place < self.muxes.len() {
-            self.muxes[place]
-        } else {
-            Version(0)
-        }
-    }
-
-    /// Makes room for the mux.
-    fn reach(&mut self, mux: MuxId) -> Result<(), AllocError>
-        ensures newest { self.new.newest ≡ self.old.newest }
-        ensures muxes { OnOk result ((q : ℕ) → slice_index_or self.new.muxes.items q unset
-            ≡ slice_index_or self.old.muxes.items q unset) }
-        ensures within { OnOk result (mux.0 < length self.new.muxes.items) }
-    {
-        for _place in self.muxes.len()..usize::from(mux.0) + 1 {
-            self.muxes.push(Version(0))?;
-        }
-        Ok(())
+        value_at(self.muxes.as_slice(), u32::from(mux.0), Version(0))
     }
 
     fn switch(&mut self, mux: MuxId, version: Version) -> Result<(), AllocError>
@@ -65,9 +48,7 @@ impl Versions {
         ensures muxes { OnOk result ((q : ℕ) → slice_index_or self.new.muxes.items q unset
             ≡ (if mux.0 == q then version else slice_index_or self.old.muxes.items q unset)) }
     {
-        self.reach(mux)?;
-        self.muxes[usize::from(mux.0)] = version;
-        Ok(())
+        set_value(&mut self.muxes, u32::from(mux.0), version, Version(0))
     }
 
     /// Becomes a copy of the other, in the memory that it has.

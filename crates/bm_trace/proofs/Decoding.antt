@@ -1,5 +1,5 @@
 -- The words of an event name one event.
-use Rattle.std.proofs.Common.{◌≡◌, ℕ, ◌<◌, ◌^◌, ◌==◌, Bool, true, false, ◌&&◌, ◌||◌, not, List, [], ◌∷◌, ◌++◌, refl, ap}
+use Rattle.std.proofs.Common.{◌≡◌, ℕ, ◌<◌, ◌^◌, ◌==◌, Bool, true, false, ◌||◌, not, List, [], ◌∷◌, ◌++◌, refl, ap}
 use Rattle.std.proofs.Common.{◌∙◌, sym, arith, append_assoc}
 use Rattle.std.specs.Prelude.{decimal, codes, if◌then◌else◌, Option, Some, None, slice_index}
 use Rattle.std.specs.Int.{to_be_bytes, from_be_bytes, w32}

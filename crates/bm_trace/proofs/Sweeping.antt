@@ -5,6 +5,7 @@ use Rattle.std.proofs.Common.{Option, Some, None, is_some, refl, sym, ap, ◌∙
 use Rattle.std.specs.Prelude.{reverse, slice_get, if◌then◌else◌}
 use Rattle.std.proofs.lemmas.Bool.{cases_lt}
 use Rattle.std.proofs.lemmas.Grind.{common_steps}
+use Rattle.std.proofs.lemmas.List.{length-reverse, length-take-le}
 use Rattle.std.proofs.lemmas.Option.{slice_get_past}
 use Rattle.bm_core.specs.declared.events.Cause.{Cause}
 use Rattle.bm_core.specs.declared.events.Event.{Event}
@@ -46,6 +47,12 @@ pub cause_here : (h : History) (shown : List Event) (place : ℕ) (d : Event) (c
 cause_here h shown place d causes found same below all is =
     let below' : place < length h.events = rw same at below
     in rw same (is ∙ all place ∙ here h place d below')
+
+pub length_before : (h : History) (shown : List Event) (n : ℕ) → shown ≡ h.events → n < length h.events
+    → n ≡ length (reverse (take n shown))
+length_before h shown n same below =
+    let below' : n < length shown = subst (λ es. n < length es) (sym same) below
+    in sym (length-reverse (take n shown) ∙ length-take-le n shown (omega (arith, below')))
 
 -- one event more of the versions
 pub versions_next : (shown : List Event) (n : ℕ) (d : Event) (versions : Versions) → n < length shown

@@ -1,11 +1,7 @@
 -- Only the contracts of private calls and the proofs of bodies use these.
-pub mod ByFlow
 pub mod Counts
 pub mod EndTables
 pub mod Ends
-pub mod HolderLists
-pub mod Holders
-pub mod Holding
 pub mod Known
 pub mod Parts
 pub mod Pieces

@@ -1,10 +1,10 @@
 //! What is known after some events, to find the causes of those that follow.
-ghost use Rattle.std.specs.Prelude.{◌≡◌, List, reverse, OnOk, IfOk, Some, None, option_map};
+ghost use Rattle.std.specs.Prelude.{◌≡◌, List, length, OnOk, IfOk, Some, None, option_map};
 ghost use Rattle.std.specs.Prelude.{[], ◌∷◌, ◌≤◌, nat_le};
 ghost use Rattle.bm_table.specs.Tables as tables;
 ghost use Rattle.bm_core.specs.declared.events.Event.{Event};
 ghost use Rattle.bm_core.specs.declared.events.Stage.{Stage};
-ghost use Rattle.bm_core.specs.Past as past;
+ghost use Rattle.bm_core.specs.Past.{bucket};
 ghost use Rattle.bm_core.specs.Causes as causes;
 ghost use Rattle.bm_state.specs.Labels.{label_by, label_from};
 ghost use Rattle.bm_state.specs.Moves.{AreMoves};
@@ -13,11 +13,10 @@ ghost use Rattle.bm_state.specs.Versions.{KeepsVersions};
 ghost use Rattle.bm_trace.specs.Ranges.{HasRanges};
 
 use crate::causes::{Arrival, is_past, opening_cause};
-use crate::holders::Holders;
 use bm_base::{Flow, Hop, Moment, Version, is_opening};
 use bm_core::{Cause, Event, Stage, What};
 use bm_hash::bucket_of;
-use bm_state::{Labels, Moves, Owners, Steering, Versions};
+use bm_state::{Holders, Labels, Moves, Owners, Steering, Versions};
 use std::alloc::{AllocError, Global};
 
 /// The versions, the labels and owners of packets, the holders of each flow, and the moves of each
@@ -38,7 +37,7 @@ fn moves_thrice(moves: &Moves, stage: &Stage, flow: &Flow, since: u32, version: 
     requires kept { AreMoves stage.now.script.plan moves.now }
     requires order { since ≤ version }
     ensures { result ≡ nat_le 3
-        (tables.moves stage.now.script.plan (past.bucket stage.now flow.now) since version) }
+        (tables.moves stage.now.script.plan (bucket stage.now flow.now) since version) }
 {
     // A change moves a bucket at most once, so mostly no bucket needs a look.
     if version - since < 3 {
@@ -94,22 +93,21 @@ impl Known {
         &self.versions
     }
 
-    /// Records the event that comes after these.
+    /// Records what happens next, after this many events.
     pub(crate) fn note(
         &mut self,
         alloc: Global,
         stage: &Stage,
-        events: &[Event],
-        event: &Event,
+        place: usize,
+        what: What,
     ) -> Result<(), AllocError>
-        requires { Knows stage.now (reverse events.now) self.old }
-        ensures { OnOk result (Knows stage.now (event.now ∷ reverse events.now) self.new) }
+        ensures { (past : List Event) (e : Event) → e.what ≡ what → place ≡ length past
+            → Knows stage.now past self.old → OnOk result (Knows stage.now (e ∷ past) self.new) }
     {
-        let place = events.len();
-        self.holders.note(alloc, stage, place, event)?;
-        self.owners.note(stage, &self.labels, place, event.what)?;
-        self.labels.note(&self.versions, event.what);
-        self.versions.note(event.what)?;
+        self.holders.note(alloc, stage, place, what)?;
+        self.owners.note(stage, &self.labels, place, what)?;
+        self.labels.note(&self.versions, what);
+        self.versions.note(what)?;
         Ok(())
     }
 
@@ -117,15 +115,15 @@ impl Known {
     fn first_broken(
         &self,
         stage: &Stage,
-        events: &[Event],
         clock: Moment,
         flow: &Flow,
         arrival: &Arrival,
         steering: &Steering,
     ) -> Option<Cause>
         requires ranges { HasRanges stage.now }
-        requires knows { Knows stage.now (reverse events.now) self.now }
-        ensures { result ≡ causes.first_broken stage.now (reverse events.now) clock.0
+        requires moves { AreMoves stage.now.script.plan self.now.moves }
+        ensures { (past : List Event) → Knows stage.now past self.now
+            → result ≡ causes.first_broken stage.now past clock.0
             (label_by stage.now flow.now steering.now) arrival.now.hop flow.now arrival.now.server
             (option_map as_accepted arrival.now.owner) }
     {
@@ -150,17 +148,12 @@ impl Known {
         }
     }
 
-    fn cause_of(
-        &self,
-        stage: &Stage,
-        events: &[Event],
-        arrival: &Arrival,
-        clock: Moment,
-    ) -> Option<Cause>
+    fn cause_of(&self, stage: &Stage, arrival: &Arrival, clock: Moment) -> Option<Cause>
         requires ranges { HasRanges stage.now }
-        requires knows { Knows stage.now (reverse events.now) self.now }
-        ensures { result ≡ causes.cause_at stage.now (reverse events.now) clock.0 arrival.now.hop
-            arrival.now.server arrival.now.verdict (option_map as_accepted arrival.now.owner) arrival.now.segment
+        requires moves { AreMoves stage.now.script.plan self.now.moves }
+        ensures { (past : List Event) → Knows stage.now past self.now
+            → result ≡ causes.cause_at stage.now past clock.0 arrival.now.hop arrival.now.server
+            arrival.now.verdict (option_map as_accepted arrival.now.owner) arrival.now.segment
             (label_from stage.now arrival.now.segment arrival.now.steering) }
     {
         if !arrival.wants_cause() {
@@ -172,16 +165,16 @@ impl Known {
             let newest = self.versions.newest();
             opening_cause(&arrival.verdict, steering.version.0, newest.0)
         } else {
-            self.first_broken(stage, events, clock, &segment.flow, arrival, &steering)
+            self.first_broken(stage, clock, &segment.flow, arrival, &steering)
         }
     }
 
-    /// The cause of the event after these, if it has one.
-    pub(crate) fn cause(&self, stage: &Stage, events: &[Event], event: &Event) -> Option<Cause>
+    /// The cause of the event that comes next, if it has one.
+    pub(crate) fn cause(&self, stage: &Stage, event: &Event) -> Option<Cause>
         requires ranges { HasRanges stage.now }
-        requires knows { Knows stage.now (reverse events.now) self.now }
-        ensures { result ≡ causes.cause stage.now (reverse events.now) event.now.clock.0
-            event.now.what }
+        requires moves { AreMoves stage.now.script.plan self.now.moves }
+        ensures { (past : List Event) → Knows stage.now past self.now
+            → result ≡ causes.cause stage.now past event.now.clock.0 event.now.what }
     {
         match event.what {
             What::Arrive {
@@ -193,7 +186,7 @@ impl Known {
                 let steering = self.labels.steering(packet);
                 let owner = self.owners.owner(packet);
                 let arrival = Arrival::new(stage, packet, hop, server, verdict, steering, owner);
-                self.cause_of(stage, events, &arrival, event.clock)
+                self.cause_of(stage, &arrival, event.clock)
             }
             _ => None,
         }

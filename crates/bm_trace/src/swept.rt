@@ -137,10 +137,9 @@ impl Sweeper {
         ensures swept { OnOk result (HasSwept h.now (place + 1) self.new) }
     {
         let events = h.events.items();
-        let before = &events[..place];
         let event = &events[place];
-        let cause = self.known.cause(&h.stage, before, event);
-        self.known.note(alloc, &h.stage, before, event)?;
+        let cause = self.known.cause(&h.stage, event);
+        self.known.note(alloc, &h.stage, place, event.what)?;
         self.strays = counted(self.strays, is_stray(&event.what, cause));
         Ok(cause)
     }

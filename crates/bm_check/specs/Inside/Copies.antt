@@ -4,15 +4,10 @@ use Rattle.bm_base.specs.declared.fate.Fate.{Fate}
 use Rattle.bm_base.specs.declared.label.Hop.{Hop}
 use Rattle.bm_core.specs.Accounts.{Rules, arrives, before, copyless_at, counts, fate_now, lost_at}
 use Rattle.bm_core.specs.Accounts.{sent_copies}
-use Rattle.bm_core.specs.Past as past
 use Rattle.bm_core.specs.Past.{sending_of}
 use Rattle.bm_core.specs.declared.events.Event.{Event}
 use Rattle.bm_core.specs.declared.events.What.{What}
 use Rattle.bm_core.specs.declared.events.What.TheVariants.{Arrive, Lose}
-use Rattle.bm_check.specs.declared.sending.Sending.{Sending}
-
-abbrev pub as_sending : Sending → past.Sending
-as_sending s = record { packet = s.packet; hop = s.hop }
 
 -- the rule has just one answer for each packet and hop
 abbrev pub IsOne : Rules → Type 0

@@ -7,7 +7,8 @@ use Rattle.bm_core.specs.Runs.{Run}
 use Rattle.bm_state.specs.Clocks.{KeepsClocks}
 use Rattle.bm_state.specs.Labels.{KeepsLabels}
 use Rattle.bm_state.specs.Moves.{AreMoves}
-use Rattle.bm_state.specs.Sendings.{KeepsSendings}
+use Rattle.bm_state.specs.Losses.{KeepsLosses}
+use Rattle.bm_state.specs.Tallies.{KeepsTallies}
 use Rattle.bm_state.specs.Versions.{KeepsVersions}
 use Rattle.bm_running.specs.declared.known.Known.{Known}
 use Rattle.bm_running.specs.Inside.Leaves.{KeepsLeaves}
@@ -20,6 +21,7 @@ pub record Knows (stage : Stage) (past : List Event) (k : Known) : Type 0 where
   pub versions : KeepsVersions past k.versions
   pub labels : KeepsLabels stage past k.labels
   pub moves : AreMoves stage.script.plan k.moves
-  pub sendings : KeepsSendings past k.sendings
+  pub tallies : KeepsTallies past k.tallies
+  pub losses : KeepsLosses past k.losses
   pub shards : KeepsShards stage past k.shards
   pub leaves : KeepsLeaves stage.script.plan (newest past) k.leaves

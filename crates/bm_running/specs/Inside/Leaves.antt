@@ -8,7 +8,6 @@ use Rattle.bm_base.specs.declared.ids.ServerId.{ServerId}
 use Rattle.bm_table.specs.declared.plan.Move.{Move}
 use Rattle.bm_table.specs.Inside.Leaves.{IsLeast}
 use Rattle.bm_table.specs.Planned.{Planned}
-use Rattle.bm_table.specs.Plans.{IsPlan}
 use Rattle.bm_table.specs.Tables.{change_moment, is_drained, moves_next, next_change, same_server, table}
 use Rattle.bm_table.specs.Tables.{target}
 use Rattle.bm_running.specs.declared.leaves.Leave.{Leave}

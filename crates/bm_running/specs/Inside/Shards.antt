@@ -11,8 +11,8 @@ use Rattle.bm_shard.specs.States.{IsServed, State, first_state}
 use Rattle.bm_shard.specs.declared.book.Shard.{Shard}
 use Rattle.bm_shard.specs.declared.calls.ShardCall.{ShardCall}
 use Rattle.bm_table.specs.declared.setting.Setting.{Setting}
-use Rattle.bm_running.specs.contracts.shards.ShardKeyOrd.TheImpl as key_order
-use Rattle.bm_running.specs.declared.shards.ShardKey.{ShardKey}
+use Rattle.bm_state.specs.contracts.shard_key.ShardKeyOrd.TheImpl as key_order
+use Rattle.bm_state.specs.declared.shard_key.ShardKey.{ShardKey}
 use Rattle.bm_running.specs.declared.shards.Shards.{Shards}
 
 abbrev pub same_key : ShardKey → ShardKey → Bool

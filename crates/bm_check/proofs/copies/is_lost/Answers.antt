@@ -1,5 +1,4 @@
 use Rattle.std.proofs.Common.{◌≡◌, ◌==◌, true, false, ap, sym, ◌∙◌}
-use Rattle.std.specs.Prelude.{if◌then◌else◌}
 use Rattle.std.proofs.lemmas.Bool.{eq-eqb}
 use Rattle.bm_fault.specs.Faults.{Gives}
 use Rattle.bm_check.proofs.Copying.{copyless_total, eq_decides}
@@ -9,22 +8,21 @@ use Rattle.bm_check.proofs.copies.is_lost.Goals as goal
 pub returns-then-fate-eq0 : goal.returns-then-fate-eq0
 returns-then-fate-eq0 g c all fates kept one fated =
     let F = Gives g.F.Fn c.args.faults.now.rule
-    in let losses = c.losses-losses.ensures all kept
-    in let lost = ap (λ t. t.losses) losses
-    in let sent = ap (λ t. t.sendings) losses
+    in let decides = c.are_all.ensures all kept
     in let none : (c.fate-fate.result.copies == 0) ≡ true = eq-eqb c.fate-fate.result.copies 0 c.if-fate-eq0.true
     in let total =
     copyless_total F one fates all c.args.packet c.args.hop c.args.clock.0 c.fate-fate.result c.fate-fate.ensures.gives
     fated
-    in eq_decides _ _ _ _ lost (sent ∙ sym (rw none at total))
+    in let sent = rw none at total
+    in (λ t. decides.0 t ∙ sym sent, λ same. decides.1 (same ∙ sent))
 
 pub returns-else-fate-eq0 : goal.returns-else-fate-eq0
 returns-else-fate-eq0 g c all fates kept one fated =
     let F = Gives g.F.Fn c.args.faults.now.rule
-    in let losses = c.losses-losses.ensures all kept
-    in let lost = ap (λ t. t.losses) losses
+    in let decides = c.is_kept.ensures all kept
     in let some : (c.fate-fate.result.copies == 0) ≡ false = no_eqb c.fate-fate.result.copies 0 c.if-fate-eq0.false
     in let total =
     copyless_total F one fates all c.args.packet c.args.hop c.args.clock.0 c.fate-fate.result c.fate-fate.ensures.gives
     fated
-    in eq_decides _ _ _ _ lost (sym (rw some at total))
+    in let none = rw some at total
+    in (λ t. decides.0 t ∙ sym none, λ same. decides.1 (same ∙ none))

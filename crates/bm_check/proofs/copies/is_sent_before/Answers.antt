@@ -11,12 +11,12 @@ returns-in-Arrive g c past fates few kept one fated =
     let F = Gives g.F.Fn c.args.faults.now.rule
     in let k = c.in-Arrive.packet
     in let hop = c.in-Arrive.hop
-    in let tally = c.tally-tally.ensures past kept
+    in let tally = c.of-tally.ensures.tally past kept
     in let came = ap (λ t. t.arrivals) tally
     in let sent = ap (λ t. t.sendings) tally
     in let low = few_sendings past k hop few
     in let product = c.all_copies.ensures c.fate-fate.ensures.copies (omega (arith, sent, low))
     ∙ ap (λ n. c.fate-fate.result.copies * n) sent
     in let total = copies_total F one fates past k hop c.fate-fate.result c.fate-fate.ensures.gives fated
-    in subst (λ w. Decides (nat_lt c.tally-tally.result.arrivals c.all_copies.result) (IsSentBefore fates past w))
+    in subst (λ w. Decides (nat_lt c.of-tally.result.arrivals c.all_copies.result) (IsSentBefore fates past w))
     (sym c.in-Arrive.is) (lt_decides _ _ _ _ came (product ∙ sym total))

@@ -1,4 +1,4 @@
-use Rattle.std.proofs.Common.{◌≡◌, ◌+◌, ◌∷◌, [], arith, false, true, not, rules, ap, refl, ◌∙◌, suc}
+use Rattle.std.proofs.Common.{◌≡◌, ◌+◌, ◌∷◌, [], arith, false, true, rules, ap, refl, ◌∙◌, suc}
 use Rattle.std.proofs.Math.Seq.{take-suc}
 use Rattle.std.specs.Prelude.{slice_index, take}
 use Rattle.bm_trace.proofs.Reading.{runs_on_append}

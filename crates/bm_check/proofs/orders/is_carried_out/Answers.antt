@@ -1,4 +1,4 @@
-use Rattle.std.proofs.Common.{◌≡◌, ◌<◌, ◌≤◌, ◌-◌, length, rules, reverse, ◌∙◌}
+use Rattle.std.proofs.Common.{◌≡◌, ◌<◌, ◌≤◌, ◌-◌, length, rules, reverse}
 use Rattle.bm_core.specs.Past.{newest}
 use Rattle.bm_check.proofs.Ordering.{all_done, not_done}
 use Rattle.bm_check.specs.Inside.Orders.{Opens, asked, carried}

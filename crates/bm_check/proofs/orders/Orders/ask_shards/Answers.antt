@@ -1,4 +1,4 @@
-use Rattle.std.proofs.Common.{◌+◌, rules}
+use Rattle.std.proofs.Common.{◌+◌}
 use Rattle.std.specs.Prelude.{if◌then◌else◌}
 use Rattle.bm_check.proofs.Ordering.{below_more, none_below, opens_same, small_sum}
 use Rattle.bm_check.specs.Inside.Orders.{asks_below}

@@ -1,4 +1,4 @@
-use Rattle.std.proofs.Common.{◌≡◌, ◌+◌, ◌-◌, ◌≤◌, ◌∷◌, ℕ, get_or, subst, sym, true, false, rules}
+use Rattle.std.proofs.Common.{◌≡◌, ◌-◌, ◌≤◌, get_or, subst, sym, true, false, rules}
 use Rattle.std.specs.Prelude.{reverse, take}
 use Rattle.bm_state.proofs.Newest.{reverse_take}
 use Rattle.bm_check.proofs.Ordering.{carried_next, carried_over, no_event}

@@ -7,7 +7,8 @@ returns c = record {
   versions = c.new-2.ensures;
   labels = c.in_ok-new.ensures;
   moves = c.in_ok-new-2.ensures;
-  sendings = c.new-5.ensures;
-  shards = c.new-6.ensures c.args.stage.now;
-  leaves = c.new-7.ensures;
+  tallies = c.new-5.ensures;
+  losses = c.new-6.ensures;
+  shards = c.new-7.ensures c.args.stage.now;
+  leaves = c.new-8.ensures;
 }

@@ -4,7 +4,8 @@ use Rattle.std.proofs.lemmas.List.{length-reverse}
 use Rattle.bm_state.specs.Clocks.{KeepsClocks}
 use Rattle.bm_state.specs.Labels.{KeepsLabels}
 use Rattle.bm_state.specs.Moves.{AreMoves}
-use Rattle.bm_state.specs.Sendings.{KeepsSendings}
+use Rattle.bm_state.specs.Losses.{KeepsLosses}
+use Rattle.bm_state.specs.Tallies.{KeepsTallies}
 use Rattle.bm_state.specs.Versions.{KeepsVersions}
 use Rattle.bm_running.specs.declared.known.Known.{Known}
 use Rattle.bm_running.specs.Inside.Shards.{KeepsShards}
@@ -23,7 +24,8 @@ returns c =
     in let clocks = subst (λ (k : Known). KeepsClocks stage past k.clocks) same knows.clocks
     in let versions = subst (λ (k : Known). KeepsVersions past k.versions) same knows.versions
     in let labels = subst (λ (k : Known). KeepsLabels stage past k.labels) same knows.labels
-    in let sendings = subst (λ (k : Known). KeepsSendings past k.sendings) same knows.sendings
+    in let tallies = subst (λ (k : Known). KeepsTallies past k.tallies) same knows.tallies
+    in let losses = subst (λ (k : Known). KeepsLosses past k.losses) same knows.losses
     in let moves = subst (λ (k : Known). AreMoves stage.script.plan k.moves) same knows.moves
     in let noted = sym c.in_ok-note_leaves.ensures.others
     in let few : length past < 2 ^ 63 =
@@ -42,8 +44,9 @@ returns c =
       versions =
           c.in_ok-note-2.ensures past e refl (subst (λ (k : Known). KeepsVersions past k.versions) noted versions);
       moves = subst (λ (k : Known). AreMoves stage.script.plan k.moves) noted moves;
-      sendings =
-          c.in_ok-note-3.ensures past few (subst (λ (k : Known). KeepsSendings past k.sendings) noted sendings);
+      tallies =
+          c.in_ok-note-3.ensures past e refl few (subst (λ (k : Known). KeepsTallies past k.tallies) noted tallies);
+      losses = c.in_ok-note-4.ensures past few (subst (λ (k : Known). KeepsLosses past k.losses) noted losses);
       shards =
           subst (λ (k : Known). KeepsShards stage (e ∷ past) k.shards) noted (c.in_ok-may_come.ensures.shards came);
       leaves = c.in_ok-note_leaves.ensures.keeps;

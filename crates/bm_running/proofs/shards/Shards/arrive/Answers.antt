@@ -1,7 +1,7 @@
 use Rattle.std.proofs.Common.{ap, sym, ◌∙◌}
 use Rattle.bm_running.proofs.Serving.{verdict_in, verdict_says}
 use Rattle.bm_running.specs.Inside.Shards.{state_in}
-use Rattle.bm_running.specs.declared.shards.ShardKey.{ShardKey}
+use Rattle.bm_state.specs.declared.shard_key.ShardKey.{ShardKey}
 use Rattle.bm_running.proofs.shards.Shards.arrive.Goals as goal
 
 pub returns-clause-verdict : goal.returns-clause-verdict

@@ -1,7 +1,7 @@
 use Rattle.std.proofs.Common.{ap, sym, ◌∙◌}
 use Rattle.bm_running.proofs.Serving.{closed_in, held_says}
 use Rattle.bm_running.specs.Inside.Shards.{state_in}
-use Rattle.bm_running.specs.declared.shards.ShardKey.{ShardKey}
+use Rattle.bm_state.specs.declared.shard_key.ShardKey.{ShardKey}
 use Rattle.bm_running.proofs.shards.Shards.close.Goals as goal
 
 pub returns-clause-held : goal.returns-clause-held

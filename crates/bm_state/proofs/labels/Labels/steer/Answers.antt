@@ -1,4 +1,4 @@
-use Rattle.std.proofs.Common.{refl, sym}
+use Rattle.std.proofs.Common.{refl}
 use Rattle.bm_state.proofs.Labelling.{labels_steer}
 use Rattle.bm_state.proofs.labels.Labels.steer.Goals as goal
 
