@@ -1,14 +1,16 @@
 -- What one event more changes in the counts of servers and of causes.
-use Rattle.std.proofs.Common.{◌≡◌, ℕ, zero, suc, ◌+◌, ◌<◌, ◌≤◌, ◌^◌, Bool, true, false, inl, inr, List, [], ◌∷◌, length}
-use Rattle.std.proofs.Common.{take, get_or, reverse, Option, Some, None, refl, sym, ap, ◌∙◌, arith, subst}
+use Rattle.std.proofs.Common.{◌≡◌, ℕ, suc, ◌+◌, ◌-◌, ◌<◌, ◌≤◌, ◌^◌, Bool, true, false, inl, inr, List, [], ◌∷◌, ◌++◌}
+use Rattle.std.proofs.Common.{length, take, get_or, reverse, filter, map, Option, Some, None, refl, sym, ap, ◌∙◌, arith, subst}
 use Rattle.std.specs.Prelude.{if◌then◌else◌}
 use Rattle.std.proofs.lemmas.Bool.{cases_Bool}
-use Rattle.std.proofs.lemmas.List.{length-reverse}
+use Rattle.std.proofs.lemmas.Grind.{common_steps}
+use Rattle.std.proofs.lemmas.List.{length-reverse, length-take-le}
 use Rattle.bm_base.specs.declared.ids.Moment.{Moment}
 use Rattle.bm_base.specs.declared.ids.ServerId.{ServerId}
 use Rattle.bm_core.specs.declared.events.Cause.{Cause}
 use Rattle.bm_core.specs.declared.events.Event.{Event}
 use Rattle.bm_core.specs.declared.events.History.{History}
+use Rattle.bm_core.specs.declared.events.Stage.{Stage}
 use Rattle.bm_core.specs.declared.events.Verdict.{Verdict}
 use Rattle.bm_core.specs.declared.events.What.{What}
 use Rattle.bm_core.specs.declared.events.What.TheVariants.{Publish, Switch, Steer, Lose, Arrive, Close, Retire, Sync}
@@ -16,14 +18,21 @@ use Rattle.bm_core.specs.Causes.{cause, is_process}
 use Rattle.bm_core.specs.Past.{is_accept}
 use Rattle.bm_table.specs.Tables.{same_server}
 use Rattle.bm_table.proofs.Tables.{same_server-true}
-use Rattle.bm_trace.specs.CauseOf.{cause_of}
-use Rattle.bm_state.proofs.Newest.{reverse_take}
 use Rattle.bm_connections.specs.declared.connection.Break.{Break}
+use Rattle.bm_connections.specs.declared.connection.Connection.{Connection}
+use Rattle.bm_connections.specs.declared.counters.Counters.{Counters}
+use Rattle.bm_connections.specs.declared.counts.CauseCount.{CauseCount}
+use Rattle.bm_connections.specs.declared.counts.CausePackets.{CausePackets}
 use Rattle.bm_connections.specs.declared.servers.Served.{Served}
-use Rattle.bm_connections.specs.Connections.{as_break, one_more}
-use Rattle.bm_connections.specs.Counts.{arrivals_at, is_arrival_at, is_cause, packets_by}
-use Rattle.bm_connections.specs.Inside.Loads.{AreLoads, CanCount, count_or_none, counted, served}
-use Rattle.bm_connections.proofs.Passes.{cause_here}
+use Rattle.bm_connections.specs.Connections.{as_break, connections, one_more}
+use Rattle.bm_connections.specs.Counts.{all_causes, arrivals_at, causes_in, is_arrival_at, is_cause, occurs, packets_by}
+use Rattle.bm_connections.specs.Inside.Counters.{CanCountMore, HasCounted}
+use Rattle.bm_connections.specs.Inside.Packets as kept
+use Rattle.bm_connections.specs.Inside.Packets.{ArePackets, packets_in}
+use Rattle.bm_connections.specs.Inside.Held.{count}
+use Rattle.bm_connections.proofs.Holding.{have_room}
+use Rattle.bm_connections.proofs.Lists.{filtered_more}
+use Rattle.bm_connections.specs.Inside.Loads.{AreLoads, CanCount, count_or_none, counted, load, served}
 
 -- SERVERS
 
@@ -110,36 +119,66 @@ arrivals_few : (s : ServerId) (kind : Verdict → Bool) (past : List Event) → 
 arrivals_few s kind [] = omega arith
 arrivals_few s kind (e ∷ past) = more_few _ _ (length past) (arrivals_few s kind past)
 
-pub can_count : (events : List Event) (loads : ServerId → Option Served) (s : ServerId)
-    → suc (length events) < 2 ^ 64 → AreLoads (reverse events) loads → CanCount (count_or_none (loads s) s)
-can_count events loads s few k =
-    let few' : suc (length (reverse events)) < 2 ^ 64 = omega (arith, length-reverse events)
-    in subst (λ (c : Served). CanCount c) (sym (k.each s)) (record {
-      accepted = let n = arrivals_few s is_accept (reverse events) in omega arith;
-      processed = let n = arrivals_few s is_process (reverse events) in omega arith;
+pub can_count : (past : List Event) (loads : ServerId → Option Served) (s : ServerId)
+    → suc (length past) < 2 ^ 64 → AreLoads past loads → CanCount (count_or_none (loads s) s)
+can_count past loads s few k =
+    subst (λ (c : Served). CanCount c) (sym (k.each s)) (record {
+      accepted = let n = arrivals_few s is_accept past in omega arith;
+      processed = let n = arrivals_few s is_process past in omega arith;
     })
 
 -- CAUSES
 
-pub some_at : {X : Type 0} (xs : List X) (i : ℕ) → i < length xs → X
-some_at [] i h = absurd (omega arith)
-some_at (x ∷ xs) zero h = x
-some_at (x ∷ xs) (suc i) h = some_at xs i (omega arith)
+pub packets_noted : (stage : Stage) (past : List Event) (e : Event) (found : Option Cause) (old new : CausePackets)
+    → ((c : Cause) → packets_in new c ≡ one_more (is_cause c found) (packets_in old c))
+    → found ≡ cause stage past e.clock.0 e.what
+    → ArePackets stage past old → ArePackets stage (e ∷ past) new
+packets_noted stage past e found old new n by k = record {
+  each = λ c. n c ∙ (λ i. one_more (is_cause c (by i)) (k.each c i));
+}
 
-packets_here : (h : History) (shown : List Event) (n : ℕ) (d : Event) (c : Cause) (found : Option Cause) (count new : ℕ)
-    → shown ≡ h.events → n < length shown → found ≡ cause_of h n
-    → count ≡ packets_by h.stage c (reverse (take n shown)) → new ≡ one_more (is_cause c found) count
-    → new ≡ packets_by h.stage c (reverse (take (n + 1) shown))
-packets_here h shown n d c found count new same below by was is =
-    is ∙ ap (λ o. one_more (is_cause c o) count) (cause_here h shown n d found same below by)
-    ∙ ap (one_more (is_cause c
-    (cause h.stage (reverse (take n shown)) (get_or shown n d).clock.0 (get_or shown n d).what))) was
-    ∙ sym (ap (packets_by h.stage c) (reverse_take shown n d below))
+packets_few : (stage : Stage) (c : Cause) (past : List Event) → packets_by stage c past ≤ length past
+packets_few stage c [] = omega arith
+packets_few stage c (e ∷ past) = more_few _ _ (length past) (packets_few stage c past)
 
--- one event more
-pub packets_more : (h : History) (shown : List Event) (n : ℕ) (c : Cause) (found : Option Cause) (count new : ℕ)
-    → shown ≡ h.events → n < length shown → found ≡ cause_of h n
-    → count ≡ packets_by h.stage c (reverse (take n shown)) → new ≡ one_more (is_cause c found) count
-    → new ≡ packets_by h.stage c (reverse (take (n + 1) shown))
-packets_more h shown n c found count new same below by was is =
-    packets_here h shown n (some_at shown n below) c found count new same below by was is
+-- one event more can be counted
+pub can_count_more : (stage : Stage) (past : List Event) (c : Counters) → suc (length past) < 2 ^ 64
+    → HasCounted stage past c → CanCountMore stage c
+can_count_more stage past c few k = record {
+  packets = λ x.
+      let n = packets_few stage x past
+      in subst (λ (m : ℕ). suc m < 2 ^ 64) (sym (k.packets.each x)) (omega (arith, n, few));
+  moves = k.late.stamps.moves;
+  loads = λ s. can_count past (load c.loads) s few k.loads;
+  held = have_room stage past (count c.held.counts) few k.held.counts;
+}
+
+-- a past of events that stand in a slice
+pub past_few : (shown : List Event) (n : ℕ) → n < 2 ^ 64 - 1 → suc (length (reverse (take n shown))) < 2 ^ 64
+past_few shown n few =
+    let r : length (reverse (take n shown)) ≡ length (take n shown) = length-reverse (take n shown)
+    in let t : length (take n shown) ≤ n = grind (arith, common_steps)
+    in omega (arith, r, t, few)
+
+pub past_long : (shown : List Event) (n : ℕ) → n < length shown → n ≡ length (reverse (take n shown))
+past_long shown n below =
+    let few : n ≤ length shown = omega (arith, below)
+    in sym (length-reverse (take n shown) ∙ length-take-le n shown few)
+
+-- one cause more
+pub causes_more : (p : CausePackets) (table : List Connection) (i : ℕ) (d : Cause) (packets : ℕ)
+    (old new : List CauseCount) → i < length all_causes → packets ≡ packets_in p (get_or all_causes i d)
+    → new ≡ old ++ filter occurs (kept.count packets table (get_or all_causes i d) ∷ [])
+    → old ≡ filter occurs (map (λ c. kept.count (packets_in p c) table c) (take i all_causes))
+    → new ≡ filter occurs (map (λ c. kept.count (packets_in p c) table c) (take (i + 1) all_causes))
+causes_more p table i d packets old new below by n was =
+    filtered_more occurs (λ c. kept.count (packets_in p c) table c) all_causes i d
+    (kept.count packets table (get_or all_causes i d)) old new below
+    (ap (λ m. kept.count m table (get_or all_causes i d)) by) n was
+
+-- the counts of the causes that occur
+pub occurring : (h : History) (p : CausePackets) (table : List Connection)
+    → ArePackets h.stage (reverse h.events) p → table ≡ connections h → kept.causes_in p table ≡ causes_in h
+occurring h p table k same =
+    ap (λ (f : Cause → CauseCount). filter occurs (map f all_causes))
+    (λ i c. kept.count (k.each c i) (same i) c)

@@ -1,9 +1,8 @@
 -- The longest wait of the packets that came too late, and the timeouts under which none does.
-use Rattle.std.proofs.Common.{◌≡◌, ℕ, suc, ◌+◌, ◌-◌, ◌*◌, ◌^◌, ◌<◌, max, Bool, true, false, inl, inr}
-use Rattle.std.proofs.Common.{◌&&◌, ◌||◌, List, [], ◌∷◌, length, take, reverse, Option, Some, None}
+use Rattle.std.proofs.Common.{◌≡◌, ℕ, ◌+◌, ◌-◌, ◌*◌, ◌^◌, ◌<◌, max, Bool, true, false}
+use Rattle.std.proofs.Common.{◌&&◌, ◌||◌, List, [], ◌∷◌, Option, Some, None}
 use Rattle.std.proofs.Common.{refl, sym, ap, ◌∙◌, arith, nat_lt}
 use Rattle.std.specs.Prelude.{IfSome, if◌then◌else◌}
-use Rattle.std.proofs.lemmas.Bool.{cases_Bool}
 use Rattle.std.proofs.lemmas.Bool.Decides.{nat_tests}
 use Rattle.bm_base.specs.declared.ids.ServerId.{ServerId}
 use Rattle.bm_base.specs.declared.flow.Flow.{Flow}
@@ -16,62 +15,29 @@ use Rattle.bm_base.specs.declared.label.Label.{Label}
 use Rattle.bm_core.specs.declared.events.Cause.{Cause}
 use Rattle.bm_core.specs.declared.events.Cause.TheVariants.{ChainLate}
 use Rattle.bm_core.specs.declared.events.Event.{Event}
-use Rattle.bm_core.specs.declared.events.History.{History}
 use Rattle.bm_core.specs.declared.events.Stage.{Stage}
 use Rattle.bm_core.specs.declared.events.Verdict.{Verdict}
 use Rattle.bm_core.specs.declared.events.What.{What}
 use Rattle.bm_core.specs.declared.events.What.TheVariants.{Publish, Switch, Steer, Lose, Arrive, Close, Retire, Sync}
 use Rattle.bm_core.specs.Causes.{cause, cause_at, first_broken, is_late}
 use Rattle.bm_core.specs.Past.{Accepted, label_of, owner, segment_of}
-use Rattle.bm_trace.specs.CauseOf.{cause_of}
-use Rattle.bm_state.proofs.Newest.{reverse_take}
-use Rattle.bm_connections.specs.Connections.{one_more}
-use Rattle.bm_connections.specs.Counts.{is_cause, packets_by}
+use Rattle.bm_connections.specs.Counts.{is_cause}
 use Rattle.bm_connections.specs.Late.{came_late, comes_late, has_late_label, is_one_late, longer, longest_wait}
 use Rattle.bm_connections.specs.Late.{as_late, whole_seconds}
-use Rattle.bm_connections.specs.Inside.Stamps.{AreWaits, wait_in}
 use Rattle.bm_connections.specs.Waits.{stamp_of, wait_of}
-use Rattle.bm_connections.proofs.Counting.{some_at}
-use Rattle.bm_connections.proofs.Passes.{cause_here}
-use Rattle.bm_connections.proofs.Stamped.{wait_here}
 
 -- THE PASS
 
-longest_here : (h : History) (shown : List Event) (n : ℕ) (d : Event) (found : Option Cause) (waited : ℕ)
-    (waits : List ℕ) (longest new : Option ℕ)
-    → shown ≡ h.events → n < length shown → found ≡ cause_of h n → AreWaits h waits → waited ≡ wait_in waits n
-    → longest ≡ longest_wait h.stage (reverse (take n shown))
-    → new ≡ (if is_cause ChainLate found then Some (longer longest waited) else longest)
-    → new ≡ longest_wait h.stage (reverse (take (n + 1) shown))
-longest_here h shown n d found waited waits longest new same below by all waits_are was is =
-    is
-    ∙ (λ i. if is_cause ChainLate (cause_here h shown n d found same below by i)
-    then Some (longer (was i) (wait_here h shown n d waits waited same below all waits_are i))
-    else was i)
-    ∙ sym (ap (longest_wait h.stage) (reverse_take shown n d below))
-
 -- one event more
-pub longest_more : (h : History) (shown : List Event) (n : ℕ) (found : Option Cause) (waited : ℕ) (waits : List ℕ)
-    (longest new : Option ℕ)
-    → shown ≡ h.events → n < length shown → found ≡ cause_of h n → AreWaits h waits → waited ≡ wait_in waits n
-    → longest ≡ longest_wait h.stage (reverse (take n shown))
-    → new ≡ (if is_cause ChainLate found then Some (longer longest waited) else longest)
-    → new ≡ longest_wait h.stage (reverse (take (n + 1) shown))
-longest_more h shown n found waited waits longest new same below by all waits_are was is =
-    longest_here h shown n (some_at shown n below) found waited waits longest new same below by all waits_are was is
-
--- where no packet has that cause, none came too late
-pub none_late : (stage : Stage) (past : List Event) → packets_by stage ChainLate past ≡ 0
-    → longest_wait stage past ≡ None
-none_late stage [] none = refl
-none_late stage (e ∷ past) none = elim (cases_Bool (came_late stage past e)) [
-  | inl late ↦ absurd (let n : one_more (came_late stage past e) (packets_by stage ChainLate past) ≡ 0 = none
-      in let m : suc (packets_by stage ChainLate past) ≡ 0 = rw late at n in omega arith)
-  | inr other ↦
-      let n : one_more (came_late stage past e) (packets_by stage ChainLate past) ≡ 0 = none
-      in let m : packets_by stage ChainLate past ≡ 0 = rw other at n
-      in rw other (none_late stage past m)
-]
+pub longest_noted : (stage : Stage) (past : List Event) (e : Event) (found : Option Cause) (longest new : Option ℕ)
+    → new ≡ (if is_cause ChainLate found
+    then Some (longer longest (wait_of stage past e.clock.0 e.what)) else longest)
+    → found ≡ cause stage past e.clock.0 e.what → longest ≡ longest_wait stage past
+    → new ≡ longest_wait stage (e ∷ past)
+longest_noted stage past e found longest new is by was =
+    is
+    ∙ (λ i. if is_cause ChainLate (by i)
+    then Some (longer (was i) (wait_of stage past e.clock.0 e.what)) else was i)
 
 -- THE TIMEOUT
 

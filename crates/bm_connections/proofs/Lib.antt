@@ -1,12 +1,13 @@
 pub mod Steps
 pub mod Placed
 pub mod Tabled
-pub mod Stamped
 pub mod Lateness
 pub mod Holding
 pub mod Passes
 pub mod Sums
+pub mod Causes
 pub mod Counting
 pub mod Lines
+pub mod Lists
 pub mod Digits
 pub mod Dates

@@ -6,15 +6,13 @@ use Rattle.bm_base.specs.declared.capture.Record.{Record}
 use Rattle.bm_core.specs.declared.events.Cause.{Cause}
 use Rattle.bm_core.specs.declared.events.Event.{Event}
 use Rattle.bm_core.specs.declared.events.History.{History}
-use Rattle.bm_core.specs.declared.events.Stage.{Stage}
 use Rattle.bm_core.specs.Causes.{cause}
 use Rattle.bm_core.specs.Runs.{IsRun, past_at}
 use Rattle.bm_trace.specs.CauseOf.{cause_after, cause_of, is_fault, is_fault_after}
 use Rattle.bm_trace.proofs.Caused.{cause_there}
 use Rattle.bm_state.proofs.Newest.{reverse_take}
-use Rattle.bm_connections.specs.declared.rows.Rows.{Rows}
 use Rattle.bm_connections.specs.declared.seen.Seen.{Seen}
-use Rattle.bm_connections.specs.Inside.Rows.{AreRows, IsSeen}
+use Rattle.bm_connections.specs.Inside.Rows.{IsSeen}
 
 get_within : {X : Type 0} (xs : List X) (i : ℕ) (d : X) → i < length xs → slice_get xs i ≡ Some (get_or xs i d)
 get_within [] i d h = absurd (omega arith)
@@ -39,12 +37,10 @@ fault_here h shown place d found run same below by =
     in let e : slice_get h.events place ≡ Some (get_or h.events place d) = get_within h.events place d below'
     in rw same (ap is_some by ∙ cause_there h place run ∙ ap (λ o. is_fault_after h.stage (past_at h place) o) e)
 
--- one event more
-pub rows_more : (stage : Stage) (records : List Record) (shown : List Event) (n : ℕ) (d : Event) (rows : Rows)
-    → n < length shown → AreRows stage records (get_or shown n d ∷ reverse (take n shown)) rows
-    → AreRows stage records (reverse (take (n + 1) shown)) rows
-rows_more stage records shown n d rows below k =
-    subst (λ past. AreRows stage records past rows) (sym (reverse_take shown n d below)) k
+-- what holds after one event more
+pub past_more : (P : List Event → Type 0) (shown : List Event) (n : ℕ) (d : Event) → n < length shown
+    → P (get_or shown n d ∷ reverse (take n shown)) → P (reverse (take (n + 1) shown))
+past_more P shown n d below k = subst P (sym (reverse_take shown n d below)) k
 
 -- one record more
 pub seen_more : (shown : List Record) (n : ℕ) (d : Record) (seen : Seen) → n < length shown

@@ -10,8 +10,6 @@ use Rattle.bm_base.specs.declared.capture.Record.{Record}
 use Rattle.bm_base.specs.declared.flow.Flow.{Flow}
 use Rattle.bm_base.specs.declared.flow.Segment.{Segment}
 use Rattle.bm_base.specs.Segments.{same_flow}
-use Rattle.bm_base.specs.declared.ids.Moment.{Moment}
-use Rattle.bm_core.specs.declared.events.Cause.{Cause}
 use Rattle.bm_core.specs.declared.events.Event.{Event}
 use Rattle.bm_core.specs.declared.events.History.{History}
 use Rattle.bm_core.specs.declared.events.Stage.{Stage}
@@ -21,14 +19,12 @@ use Rattle.bm_core.specs.declared.events.What.TheVariants.{Publish, Switch, Stee
 use Rattle.bm_core.specs.Causes.{cause}
 use Rattle.bm_core.specs.Past.{is_of, segment_of, steerable}
 use Rattle.bm_core.specs.Runs.{IsRun, IsStep, Run}
-use Rattle.bm_trace.specs.CauseOf.{is_fault}
 use Rattle.bm_trace.specs.Totals.{arrives, is_stray, strays}
 use Rattle.bm_connections.specs.declared.connection.Break.{Break}
 use Rattle.bm_connections.specs.declared.connection.Connection.{Connection}
-use Rattle.bm_connections.specs.Connections.{acceptor, arrivals, as_break, breaks, connection_in, connections}
-use Rattle.bm_connections.specs.Connections.{first_break, first_fault, first_of_two, is_arrival_for, one_more}
+use Rattle.bm_connections.specs.Connections.{arrivals, as_break, breaks, connection_in, connections}
+use Rattle.bm_connections.specs.Connections.{first_break, first_of_two, is_arrival_for, one_more}
 use Rattle.bm_connections.specs.Connections.{strays_for}
-use Rattle.bm_connections.specs.Counts.{is_break_by, is_cause, packets_by}
 use Rattle.bm_connections.specs.Laws.{is_broken}
 use Rattle.bm_connections.specs.Seen.{flows_of, is_packet_of, is_seen, records_of, with_flow}
 use Rattle.bm_connections.proofs.Steps.{same_flow-true, same_flow_refl}
@@ -333,83 +329,3 @@ broken_is stage f (e ∷ past) =
     some_first (first_break stage f past) _
     ∙ ap (λ b. b || is_some (first_break stage f past)) (break_is stage f past e e.what refl)
     ∙ ap (λ b. breaks stage f past e.what || b) (broken_is stage f past)
-
--- A CAUSE THAT NO PACKET HAS
-
-first_unbroken : (c : Cause) (a b : Option Break) → is_break_by c a ≡ false → is_break_by c b ≡ false
-    → is_break_by c (first_of_two a b) ≡ false
-first_unbroken c None b ea eb = eb
-first_unbroken c (Some x) b ea eb = ea
-
-later_unbroken : (c : Cause) (breaks : Bool) (clock : Moment) (what : What) (why : Option Cause)
-    → is_cause c why ≡ false → is_break_by c (if breaks then as_break clock what why else None) ≡ false
-later_unbroken c false clock what why other = refl
-later_unbroken c true clock (Arrive k hop server verdict) why other = other
-later_unbroken c true clock (Publish v) why other = refl
-later_unbroken c true clock (Switch m v) why other = refl
-later_unbroken c true clock (Steer k m) why other = refl
-later_unbroken c true clock (Lose k hop) why other = refl
-later_unbroken c true clock (Close server flow closed) why other = refl
-later_unbroken c true clock (Retire server shard at result) why other = refl
-later_unbroken c true clock Sync why other = refl
-
--- where no packet of these events has the cause, the newest hasn't, and none before it
-record NoneHas (stage : Stage) (c : Cause) (past : List Event) (e : Event) : Type 0 where
-  newest : is_cause c (cause stage past e.clock.0 e.what) ≡ false
-  before : packets_by stage c past ≡ 0
-
-none_has : (stage : Stage) (c : Cause) (past : List Event) (e : Event)
-    → packets_by stage c (e ∷ past) ≡ 0 → NoneHas stage c past e
-none_has stage c past e none = elim (cases_Bool (is_cause c (cause stage past e.clock.0 e.what))) [
-  | inl bad ↦ absurd (let n : one_more (is_cause c (cause stage past e.clock.0 e.what)) (packets_by stage c past) ≡ 0 =
-      none in let m : suc (packets_by stage c past) ≡ 0 = rw bad at n in omega arith)
-  | inr other ↦
-      let n : one_more (is_cause c (cause stage past e.clock.0 e.what)) (packets_by stage c past) ≡ 0 = none
-      in let m : packets_by stage c past ≡ 0 = rw other at n
-      in record { newest = other; before = m }
-]
-
-unbroken : (stage : Stage) (c : Cause) (f : Flow) (past : List Event) → packets_by stage c past ≡ 0
-    → is_break_by c (first_break stage f past) ≡ false
-unbroken stage c f [] none = refl
-unbroken stage c f (e ∷ past) none =
-    let has = none_has stage c past e none
-    in first_unbroken c (first_break stage f past) _ (unbroken stage c f past has.before)
-    (later_unbroken c (breaks stage f past e.what) e.clock e.what _ has.newest)
-
-faultless : (stage : Stage) (c : Cause) (f : Flow) (past : List Event) → packets_by stage c past ≡ 0
-    → is_break_by c (first_fault stage f past) ≡ false
-faultless stage c f [] none = refl
-faultless stage c f (e ∷ past) none =
-    let has = none_has stage c past e none
-    in first_unbroken c (first_fault stage f past) _ (faultless stage c f past has.before)
-    (later_unbroken c (is_arrival_for stage f e.what && is_fault stage past e.what) e.clock e.what _ has.newest)
-
-where_unaccepted : (c : Cause) (accepted : Bool) (fault : Option Break) → is_break_by c fault ≡ false
-    → is_break_by c (if accepted then None else fault) ≡ false
-where_unaccepted c true fault other = refl
-where_unaccepted c false fault other = other
-
-count_none : (p : Connection → Bool) (g : Flow → Connection) (flows : List Flow) → ((f : Flow) → p (g f) ≡ false)
-    → count_by p (map g flows) ≡ 0
-count_none p g [] none = refl
-count_none p g (f ∷ flows) none =
-    let e : count_by p (map g flows) ≡ 0 = count_none p g flows none
-    in let s : cond false 1 0 + count_by p (map g flows) ≡ 0 = omega (arith, e)
-    in sum_by-cons (λ x. cond (p x) 1 0) (g f) (map g flows)
-    ∙ ap (λ b. cond b 1 0 + count_by p (map g flows)) (none f) ∙ s
-
--- it broke no connection
-pub none_broken : (h : History) (c : Cause) → packets_by h.stage c (reverse h.events) ≡ 0
-    → count_by (λ x. is_break_by c x.broken) (connections h) ≡ 0
-none_broken h c none =
-    count_none (λ x. is_break_by c x.broken) (connection_in h) (flows_of (records_of h.stage))
-    (λ f. unbroken h.stage c f (reverse h.events) none)
-
--- it refused no connection
-pub none_refused : (h : History) (c : Cause) → packets_by h.stage c (reverse h.events) ≡ 0
-    → count_by (λ x. is_break_by c x.refused) (connections h) ≡ 0
-none_refused h c none =
-    count_none (λ x. is_break_by c x.refused) (connection_in h) (flows_of (records_of h.stage))
-    (λ f. where_unaccepted c (is_some (acceptor h.stage f (reverse h.events))) _
-    (faultless h.stage c f (reverse h.events) none))

@@ -1,7 +1,7 @@
 -- What became of packets by server and by cause, computed by looking back through events
 -- (docs/DEFINITIONS.md). A past has its newest event first.
-use Rattle.std.specs.Prelude.{ℕ, zero, suc, max, Bool, false, ◌&&◌, ◌==◌, List, [], ◌∷◌, length}
-use Rattle.std.specs.Prelude.{Option, Some, None, map, reverse, count_by}
+use Rattle.std.specs.Prelude.{ℕ, zero, suc, max, Bool, false, ◌&&◌, ◌==◌, nat_lt, List, [], ◌∷◌}
+use Rattle.std.specs.Prelude.{length, Option, Some, None, filter, map, reverse, count_by}
 use Rattle.bm_base.specs.declared.ids.ServerId.{ServerId}
 use Rattle.bm_core.specs.declared.events.Cause.{Cause}
 use Rattle.bm_core.specs.declared.events.Cause.TheVariants.{NeverAccepted, NotHeld, StaleMux}
@@ -100,3 +100,15 @@ cause_count h c = record {
   broken = count_by (λ x. is_break_by c x.broken) (connections h);
   refused = count_by (λ x. is_break_by c x.refused) (connections h);
 }
+
+abbrev pub all_causes : List Cause
+all_causes =
+    NeverAccepted ∷ NotHeld ∷ StaleMux ∷ MovedThrice ∷ ChainLate ∷ SynElsewhere ∷ Full ∷ OldTable
+    ∷ []
+
+abbrev pub occurs : CauseCount → Bool
+occurs c = nat_lt 0 c.packets
+
+-- the counts of the causes that occur
+abbrev pub causes_in : History → List CauseCount
+causes_in h = filter occurs (map (cause_count h) all_causes)

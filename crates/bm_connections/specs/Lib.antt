@@ -2,6 +2,7 @@ pub mod Seen
 pub mod Waits
 pub mod Connections
 pub mod Counts
+pub mod Replies
 pub mod Late
 pub mod Laws
 pub mod Times

@@ -54,20 +54,24 @@ forwarded_text clock None = []
 forwarded_text clock (Some x) =
     spaced (codes "last-forward" ∷ []) ++ spaced (forwarding_words clock x)
 
--- a packet that was dropped, reset or a stray, its verdict, its cause and its clock
-abbrev pub fault_text : Option ℕ → Break → List ℕ
-fault_text clock b =
-    spaced (decimal b.packet ∷ [])
-    ++ spaced (verdict_words b.verdict)
+-- a packet that was dropped, reset or a stray, its verdict and its cause
+abbrev pub fault_words : Break → List ℕ
+fault_words b =
+    spaced (decimal b.packet ∷ []) ++ spaced (verdict_words b.verdict)
     ++ spaced (because_words b.cause)
-    ++ spaced (codes "at" ∷ time_text clock b.clock.0 ∷ [])
 
 -- what broke the connection; else what refused it; else whether a server accepted it
-abbrev pub end_text : Option ℕ → Option Break → Option Break → Option ServerId → List ℕ
-end_text clock (Some b) refused server = spaced (codes "broken" ∷ []) ++ fault_text clock b
-end_text clock None (Some b) server = spaced (codes "refused" ∷ []) ++ fault_text clock b
-end_text clock None None None = spaced (codes "unaccepted" ∷ [])
-end_text clock None None (Some server) = spaced (codes "whole" ∷ [])
+abbrev pub end_words : Option Break → Option Break → Option ServerId → List ℕ
+end_words (Some b) refused server = codes " broken" ++ fault_words b
+end_words None (Some b) server = codes " refused" ++ fault_words b
+end_words None None None = codes " unaccepted"
+end_words None None (Some server) = codes " whole"
+
+-- the clock of what broke the connection, or else of what refused it
+abbrev pub end_time : Option ℕ → Option Break → Option Break → List ℕ
+end_time clock (Some b) refused = spaced (codes "at" ∷ time_text clock b.clock.0 ∷ [])
+end_time clock None (Some b) = spaced (codes "at" ∷ time_text clock b.clock.0 ∷ [])
+end_time clock None None = []
 
 -- the flow, and where it was first and last seen
 abbrev pub seen_text : Option ℕ → Connection → List ℕ
@@ -89,7 +93,8 @@ outcome_text clock c =
     spaced (codes "times" ∷ decimal c.tally.accepted ∷ [])
     ++ spaced (tally_words c.tally)
     ++ forwarded_text clock c.forwarded
-    ++ end_text clock c.broken c.refused c.server
+    ++ end_words c.broken c.refused c.server
+    ++ end_time clock c.broken c.refused
     ++ 10 ∷ []
 
 -- the line of a connection

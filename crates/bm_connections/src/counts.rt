@@ -1,13 +1,14 @@
 //! How many packets have a cause, and how many connections it broke or refused.
-ghost use Rattle.std.specs.Prelude.{◌≡◌, count_by, reverse};
-ghost use Rattle.bm_trace.specs.Swept.{AreCauses};
-ghost use Rattle.bm_connections.specs.Connections.{connections};
+ghost use Rattle.std.specs.Prelude.{◌≡◌, ◌<◌, ◌^◌, ◌++◌, ◌∷◌, [], suc, filter, IfOk, OnOk};
+ghost use Rattle.std.specs.Prelude.{count_by};
+ghost use Rattle.bm_core.specs.declared.events.Cause.{Cause};
+ghost use Rattle.bm_connections.specs.Connections.{one_more};
 ghost use Rattle.bm_connections.specs.Counts as spec;
+ghost use Rattle.bm_connections.specs.Inside.Packets as kept;
 
 use crate::connection::{Break, Connection};
-use crate::noted::one_more;
-use bm_core::{Cause, History};
-use bm_trace::CauseList;
+use bm_core::Cause;
+use std::alloc::{AllocError, Global};
 
 /// How many packets have a cause (a packet counts at each arrival with the cause), how many
 /// connections it broke first, and how many it refused.
@@ -19,19 +20,24 @@ pub struct CauseCount {
     pub refused: u64,
 }
 
-fn number(cause: Cause) -> u8
-    ensures { result ≡ spec.number cause }
+/// All causes, in the order in which they are told.
+const CAUSES: [Cause; 8] = [
+    Cause::NeverAccepted,
+    Cause::NotHeld,
+    Cause::StaleMux,
+    Cause::MovedThrice,
+    Cause::ChainLate,
+    Cause::SynElsewhere,
+    Cause::Full,
+    Cause::OldTable,
+];
+
+/// The place of a cause among all causes.
+fn place_of(cause: Cause) -> usize
+    ensures place { result ≡ spec.number cause }
+    ensures below { result < 8 }
 {
-    match cause {
-        Cause::NeverAccepted => 0,
-        Cause::NotHeld => 1,
-        Cause::StaleMux => 2,
-        Cause::MovedThrice => 3,
-        Cause::ChainLate => 4,
-        Cause::SynElsewhere => 5,
-        Cause::Full => 6,
-        Cause::OldTable => 7,
-    }
+    cause as usize
 }
 
 pub(crate) fn is_cause(cause: Cause, found: Option<Cause>) -> bool
@@ -39,7 +45,7 @@ pub(crate) fn is_cause(cause: Cause, found: Option<Cause>) -> bool
 {
     match found {
         None => false,
-        Some(found) => number(found) == number(cause),
+        Some(found) => found == cause,
     }
 }
 
@@ -52,16 +58,37 @@ fn is_break_by(cause: Cause, first: Option<Break>) -> bool
     }
 }
 
-pub(crate) fn packets_by(h: &History, causes: &CauseList, cause: Cause) -> u64
-    requires { AreCauses h.now causes.now }
-    ensures { result ≡ spec.packets_by h.now.stage cause (reverse h.now.events) }
-{
-    let events = h.events.items();
-    let mut count = 0;
-    for place in 0..events.len() {
-        count = one_more(is_cause(cause, causes.at(place)), count);
+/// How many packets have each cause, after some events.
+#[derive(Clone, Copy)]
+pub(crate) struct CausePackets {
+    /// By the place of the cause.
+    counts: [u64; 8],
+}
+
+impl CausePackets {
+    pub(crate) fn new() -> CausePackets
+        ensures { (c : Cause) → kept.packets_in result c ≡ 0 }
+    {
+        CausePackets { counts: [0; 8] }
     }
-    count
+
+    /// How many packets have the cause.
+    fn of(&self, cause: Cause) -> u64
+        ensures { result ≡ kept.packets_in self.now cause }
+    {
+        self.counts[place_of(cause)]
+    }
+
+    /// Records an event with this cause.
+    pub(crate) fn note(&mut self, cause: Option<Cause>)
+        requires { (c : Cause) → suc (kept.packets_in self.old c) < 2 ^ 64 }
+        ensures { (c : Cause) → kept.packets_in self.new c
+            ≡ one_more (spec.is_cause c cause) (kept.packets_in self.old c) }
+    {
+        if let Some(cause) = cause {
+            self.counts[place_of(cause)] += 1;
+        }
+    }
 }
 
 fn broken_by(table: &[Connection], cause: Cause) -> u64
@@ -82,32 +109,38 @@ fn refused_by(table: &[Connection], cause: Cause) -> u64
         .count() as u64
 }
 
-/// How many packets have the cause, and how many of the history's connections it broke first, and
-/// how many it refused. Takes no memory.
-#[tactic(auto, using(crate::proofs::Sums::none_broken, crate::proofs::Sums::none_refused))]
-pub fn cause_count(
-    h: &History,
-    causes: &CauseList,
+/// Appends the count of a cause that this many packets have, if there are any.
+fn push_occurring(
+    counts: &mut Vec<CauseCount>,
     table: &[Connection],
+    packets: u64,
     cause: Cause,
-) -> CauseCount
-    requires causes { AreCauses h.now causes.now }
-    requires table { table.now ≡ connections h.now }
-    ensures { result ≡ spec.cause_count h.now cause }
+) -> Result<(), AllocError>
+    ensures { OnOk result (counts.new.items
+        ≡ counts.old.items ++ filter spec.occurs (kept.count packets table.now cause ∷ [])) }
 {
-    let packets = packets_by(h, causes, cause);
-    if packets == 0 {
-        return CauseCount {
+    if packets > 0 {
+        counts.push(CauseCount {
             cause,
             packets,
-            broken: 0,
-            refused: 0,
-        };
+            broken: broken_by(table, cause),
+            refused: refused_by(table, cause),
+        })?;
     }
-    CauseCount {
-        cause,
-        packets,
-        broken: broken_by(table, cause),
-        refused: refused_by(table, cause),
+    Ok(())
+}
+
+/// The counts of the causes that occur, by the packets that have them and the connections.
+pub(crate) fn causes_in(
+    alloc: Global,
+    packets: &CausePackets,
+    table: &[Connection],
+) -> Result<Vec<CauseCount>, AllocError>
+    ensures { IfOk result (λ counts. counts.items ≡ kept.causes_in packets.now table.now) }
+{
+    let mut counts = Vec::with_capacity(alloc, CAUSES.len())?;
+    for cause in CAUSES {
+        push_occurring(&mut counts, table, packets.of(cause), cause)?;
     }
+    Ok(counts)
 }

@@ -1,30 +1,24 @@
 //! How many connections each shard of a server holds, and the most that it held at once.
-ghost use Rattle.std.specs.Prelude.{◌≡◌, ℕ, max, ◌&&◌, ◌||◌, ◌+◌, not, false, List, length};
-ghost use Rattle.std.specs.Prelude.{reverse, Some, None, OnOk, IfOk, if◌then◌else◌, [], ◌∷◌};
-ghost use Rattle.std.specs.BTreeSet as set;
-ghost use Rattle.bm_base.specs.declared.flow.Flow.{Flow};
-ghost use Rattle.bm_base.specs.Segments.{same_flow};
-ghost use Rattle.bm_core.specs.Books.{AreDistinct};
+ghost use Rattle.std.specs.Prelude.{◌≡◌, ◌∷◌, [], List, length};
+ghost use Rattle.std.specs.Prelude.{Some, None, OnOk, if◌then◌else◌};
 ghost use Rattle.bm_core.specs.Past as past;
+ghost use Rattle.bm_core.specs.declared.events.Event.{Event};
+ghost use Rattle.bm_core.specs.declared.events.Stage.{Stage};
+ghost use Rattle.bm_state.specs.Holders.{KeepsHolders};
 ghost use Rattle.bm_trace.specs.Ranges.{HasRanges};
 ghost use Rattle.bm_connections.specs.Counts.{most_among};
 ghost use Rattle.bm_connections.specs.Inside.Held as kept;
 
+use crate::noted::one_more;
 use bm_base::{Flow, Segment, ServerId, Taken};
 use bm_core::{Event, Stage, Verdict, What};
 use bm_hash::shard_of;
+use bm_state::{Holders, ShardKey};
 use bm_table::Retirement;
 use std::alloc::{AllocError, Global};
-use std::collections::{BTreeMap, BTreeSet};
+use std::collections::BTreeMap;
 
-/// A shard of a server.
-#[derive(Clone, Copy, PartialEq, Eq, PartialOrd, Ord)]
-pub(crate) struct ShardKey {
-    pub(crate) server: u16,
-    pub(crate) shard: u16,
-}
-
-/// What an event does to a shard: it opens or ends a connection there, or empties the shard.
+/// How an event changes the connections of a shard: it opens one, ends one, or ends all.
 #[derive(Clone, Copy)]
 pub(crate) enum FlowChange {
     Opens(Flow),
@@ -32,7 +26,7 @@ pub(crate) enum FlowChange {
     Empties,
 }
 
-/// A shard, and what happens to it.
+/// A shard, and how its connections change.
 #[derive(Clone, Copy)]
 pub(crate) struct ShardChange {
     pub(crate) key: ShardKey,
@@ -52,12 +46,8 @@ fn verdict_change(verdict: Verdict, flow: Flow) -> Option<FlowChange>
 fn change_at(server: ServerId, shard: u16, flow_change: Option<FlowChange>) -> Option<ShardChange>
     ensures { result ≡ kept.change_at server shard flow_change }
 {
-    let key = ShardKey {
-        server: server.0,
-        shard,
-    };
     Some(ShardChange {
-        key,
+        key: ShardKey::at(server, shard),
         flow_change: flow_change?,
     })
 }
@@ -101,7 +91,7 @@ fn retire_change(server: ServerId, shard: u16, answer: Retirement) -> Option<Sha
     change_at(server, shard, flow_change)
 }
 
-/// What the event does to a shard, if it does anything.
+/// The change of a shard by the event, if there is one.
 fn change_of(stage: &Stage, what: What) -> Option<ShardChange>
     requires { HasRanges stage.now }
     ensures { result ≡ kept.change_of stage.now what }
@@ -132,200 +122,158 @@ fn change_of(stage: &Stage, what: What) -> Option<ShardChange>
     }
 }
 
-fn open(flows: &mut BTreeSet<Flow>, flow: Flow) -> Result<(), AllocError>
-    ensures listed { OnOk result ((q : Flow) → set.contains ⟦<Flow as Ord>⟧.cmp flows.new q
-        ≡ (same_flow flow q || set.contains ⟦<Flow as Ord>⟧.cmp flows.old q)) }
-    ensures count { OnOk result (set.btree_set_len flows.new
-        ≡ set.btree_set_len flows.old
-        + (if set.contains ⟦<Flow as Ord>⟧.cmp flows.old flow then 0 else 1)) }
+/// Whether the server holds the flow that the change opens or ends.
+fn is_held(holders: &Holders, stage: &Stage, change: ShardChange) -> bool
+    requires { HasRanges stage.now }
+    ensures { (past : List Event) → KeepsHolders stage.now past holders.now
+        → result ≡ kept.is_held stage.now past change }
 {
-    flows.insert(flow)?;
-    Ok(())
+    let server = ServerId(change.key.server);
+    match change.flow_change {
+        FlowChange::Opens(flow) | FlowChange::Ends(flow) => {
+            holders.of(stage, &flow).place(server).is_some()
+        }
+        FlowChange::Empties => false,
+    }
 }
 
-fn end(flows: &mut BTreeSet<Flow>, flow: &Flow)
-    ensures listed { (q : Flow) → set.contains ⟦<Flow as Ord>⟧.cmp flows.new q
-        ≡ (not (same_flow flow.now q) && set.contains ⟦<Flow as Ord>⟧.cmp flows.old q) }
-    ensures count { set.btree_set_len flows.new
-        + (if set.contains ⟦<Flow as Ord>⟧.cmp flows.old flow.now then 1 else 0)
-        ≡ set.btree_set_len flows.old }
-{
-    flows.remove(flow);
-}
-
-/// The flows that a shard holds, and the most that it held at once.
-#[derive(Drop)]
-pub(crate) struct HeldFlows {
-    pub(crate) flows: BTreeSet<Flow>,
+/// How many connections a shard holds, and the most that it held at once.
+#[derive(Clone, Copy)]
+pub(crate) struct ShardCount {
+    pub(crate) held: u64,
     pub(crate) most: u64,
 }
 
-impl HeldFlows {
-    /// What is kept of the shard, or of one that held nothing.
-    fn start(alloc: Global, before: Option<HeldFlows>) -> HeldFlows
-        ensures { (flows : List Flow) (most : ℕ) → kept.AreHeldFlows flows most before
-            → kept.AreHeldFlows flows most (Some result) }
+impl ShardCount {
+    /// The count after the change of a flow that the server held before, or didn't.
+    fn changed(self, flow_change: FlowChange, is_held: bool) -> ShardCount
+        requires { kept.CanCount self }
+        ensures { result ≡ kept.changed flow_change is_held self }
     {
-        match before {
-            Some(held_flows) => held_flows,
-            None => HeldFlows {
-                flows: BTreeSet::new(alloc),
-                most: 0,
-            },
+        let held = match flow_change {
+            FlowChange::Opens(_) => one_more(!is_held, self.held),
+            FlowChange::Ends(_) => self.held.saturating_sub(u64::from(is_held)),
+            FlowChange::Empties => 0,
+        };
+        ShardCount {
+            held,
+            most: held.max(self.most),
+        }
+    }
+}
+
+/// The counts of the shards of all servers, as far as events have been read.
+#[derive(Drop)]
+pub(crate) struct ShardCounts {
+    counts: BTreeMap<ShardKey, ShardCount>,
+}
+
+impl ShardCounts {
+    ghost use Rattle.bm_state.specs.declared.shard_key.ShardKey.{ShardKey};
+
+    fn new(alloc: Global) -> ShardCounts
+        ensures { (stage : Stage) → kept.AreCounts stage [] (kept.count result) }
+    {
+        ShardCounts {
+            counts: BTreeMap::new(alloc),
         }
     }
 
-    fn change(&mut self, flow_change: FlowChange) -> Result<(), AllocError>
-        ensures flows { OnOk result ((flows : List Flow) → AreDistinct flows
-            → kept.AreFlows flows self.old.flows
-            → kept.AreFlows (kept.flows_by flow_change flows) self.new.flows) }
-        ensures most { self.new.most ≡ self.old.most }
+    /// The shard's count, or zeros.
+    fn get(&self, key: ShardKey) -> ShardCount
+        ensures { result ≡ kept.count_or_none (kept.count self.now key) }
     {
-        match flow_change {
-            FlowChange::Opens(flow) => {
-                open(&mut self.flows, flow)?;
-                Ok(())
-            }
-            FlowChange::Ends(flow) => {
-                end(&mut self.flows, &flow);
-                Ok(())
-            }
-            FlowChange::Empties => {
-                self.flows.clear();
-                Ok(())
-            }
+        match self.counts.get(&key) {
+            None => ShardCount { held: 0, most: 0 },
+            Some(count) => *count,
         }
     }
 
-    fn count(&mut self)
-        ensures flows { self.new.flows ≡ self.old.flows }
-        ensures most { self.new.most ≡ max (set.btree_set_len self.old.flows) self.old.most }
+    fn put(&mut self, key: ShardKey, count: ShardCount) -> Result<(), AllocError>
+        ensures { OnOk result ((q : ShardKey) → kept.count self.new q
+            ≡ (if kept.same_key key q then Some count else kept.count self.old q)) }
     {
-        self.most = (self.flows.len() as u64).max(self.most);
+        self.counts.insert(key, count)?;
+        Ok(())
+    }
+
+    /// Applies the change to its shard's count, of a flow that the server held before, or didn't.
+    fn apply(&mut self, change: ShardChange, is_held: bool) -> Result<(), AllocError>
+        requires { kept.CanCount (kept.count_or_none (kept.count self.old change.key)) }
+        ensures { OnOk result ((q : ShardKey) → kept.count self.new q
+            ≡ (if kept.same_key change.key q
+            then Some (kept.changed change.flow_change is_held
+            (kept.count_or_none (kept.count self.old change.key)))
+            else kept.count self.old q)) }
+    {
+        let count = self.get(change.key).changed(change.flow_change, is_held);
+        self.put(change.key, count)
+    }
+
+    /// Records the event that comes next, where these servers hold flows before it.
+    #[tactic(auto, using(crate::proofs::Holding::counts_still))]
+    fn note(&mut self, holders: &Holders, stage: &Stage, event: &Event) -> Result<(), AllocError>
+        requires ranges { HasRanges stage.now }
+        requires room { kept.HaveRoom (kept.count self.old) }
+        ensures { (past : List Event) → KeepsHolders stage.now past holders.now
+            → kept.AreCounts stage.now past (kept.count self.old)
+            → OnOk result (kept.AreCounts stage.now (event.now ∷ past) (kept.count self.new)) }
+    {
+        if let Some(change) = change_of(stage, event.what) {
+            let is_held = is_held(holders, stage, change);
+            self.apply(change, is_held)?;
+        }
+        Ok(())
     }
 }
 
 /// What is kept of each shard of each server, after some events.
 #[derive(Drop)]
 pub(crate) struct HeldByShards {
-    held: BTreeMap<ShardKey, HeldFlows>,
+    holders: Holders,
+    counts: ShardCounts,
 }
 
 impl HeldByShards {
-    ghost use Rattle.bm_connections.specs.declared.held.ShardKey.{ShardKey};
-
-    fn new(alloc: Global) -> HeldByShards
-        ensures { (stage : Stage) → kept.AreHeldByShards stage [] (kept.held_flows result) }
+    pub(crate) fn new(alloc: Global) -> HeldByShards
+        ensures { (stage : Stage) → kept.AreHeldByShards stage [] result }
     {
         HeldByShards {
-            held: BTreeMap::new(alloc),
+            holders: Holders::new(alloc),
+            counts: ShardCounts::new(alloc),
         }
     }
 
-    /// Takes out what is kept of the shard.
-    fn take(&mut self, key: ShardKey) -> Option<HeldFlows>
-        ensures held_flows { result ≡ kept.held_flows self.old key }
-        ensures others { (q : ShardKey) → kept.same_key key q ≡ false
-            → kept.held_flows self.new q ≡ kept.held_flows self.old q }
-    {
-        self.held.remove(&key)
-    }
-
-    fn put(&mut self, key: ShardKey, held_flows: HeldFlows) -> Result<(), AllocError>
-        ensures { OnOk result ((q : ShardKey) → kept.held_flows self.new q
-            ≡ (if kept.same_key key q then Some held_flows else kept.held_flows self.old q)) }
-    {
-        self.held.insert(key, held_flows)?;
-        Ok(())
-    }
-
-    /// Applies the change to its shard.
-    fn apply(&mut self, alloc: Global, change: ShardChange) -> Result<(), AllocError>
-        ensures here { OnOk result ((flows : List Flow) (most : ℕ) → AreDistinct flows
-            → kept.AreHeldFlows flows most (kept.held_flows self.old change.key)
-            → kept.AreHeldFlows (kept.flows_by change.flow_change flows)
-            (max (length (kept.flows_by change.flow_change flows)) most)
-            (kept.held_flows self.new change.key)) }
-        ensures others { OnOk result ((q : ShardKey) → kept.same_key change.key q ≡ false
-            → kept.held_flows self.new q ≡ kept.held_flows self.old q) }
-    {
-        let before = self.take(change.key);
-        let mut held_flows = HeldFlows::start(alloc, before);
-        held_flows.change(change.flow_change)?;
-        held_flows.count();
-        self.put(change.key, held_flows)?;
-        Ok(())
-    }
-
-    /// Records the event that comes after these.
-    #[tactic(auto, using(crate::proofs::Holding::held_still, crate::proofs::Holding::held_changed))]
-    fn note(
+    /// Records the event that comes next, after this many events.
+    pub(crate) fn note(
         &mut self,
         alloc: Global,
         stage: &Stage,
-        events: &[Event],
+        place: usize,
         event: &Event,
     ) -> Result<(), AllocError>
         requires ranges { HasRanges stage.now }
-        requires held { kept.AreHeldByShards stage.now (reverse events.now)
-            (kept.held_flows self.old) }
-        ensures { OnOk result (kept.AreHeldByShards stage.now (event.now ∷ reverse events.now)
-            (kept.held_flows self.new)) }
+        requires room { kept.HaveRoom (kept.count self.old.counts) }
+        ensures { (past : List Event) → place ≡ length past
+            → kept.AreHeldByShards stage.now past self.old
+            → OnOk result (kept.AreHeldByShards stage.now (event.now ∷ past) self.new) }
     {
-        if let Some(change) = change_of(stage, event.what) {
-            self.apply(alloc, change)?;
-        }
+        self.counts.note(&self.holders, stage, event)?;
+        self.holders.note(alloc, stage, place, event.what)?;
         Ok(())
     }
 
-    /// The most that the shard held at once.
-    fn most_in(&self, key: ShardKey) -> u64
-        ensures { (flows : List Flow) (most : ℕ)
-            → kept.AreHeldFlows flows most (kept.held_flows self.now key) → result ≡ most }
-    {
-        match self.held.get(&key) {
-            None => 0,
-            Some(held_flows) => held_flows.most,
-        }
-    }
-
     /// The most that one of the server's first shards held at once.
-    pub(crate) fn most_among(
-        &self,
-        stage: &Stage,
-        events: &[Event],
-        server: ServerId,
-        shards: u16,
-    ) -> u64
-        requires { kept.AreHeldByShards stage.now (reverse events.now) (kept.held_flows self.now) }
-        ensures { result ≡ most_among stage.now (reverse events.now) server shards }
+    pub(crate) fn most_among(&self, server: ServerId, shards: u16) -> u64
+        ensures { (stage : Stage) (past : List Event)
+            → kept.AreHeldByShards stage past self.now
+            → result ≡ most_among stage past server shards }
     {
         let mut most = 0;
         for shard in 0..shards {
-            let key = ShardKey {
-                server: server.0,
-                shard,
-            };
-            most = self.most_in(key).max(most);
+            let count = self.counts.get(ShardKey::at(server, shard));
+            most = count.most.max(most);
         }
         most
     }
-}
-
-/// What is kept of each shard after these events.
-#[tactic(auto, using(crate::proofs::Holding::held_more))]
-pub(crate) fn held_by_shards(
-    alloc: Global,
-    stage: &Stage,
-    events: &[Event],
-) -> Result<HeldByShards, AllocError>
-    requires { HasRanges stage.now }
-    ensures { IfOk result
-        (λ held. kept.AreHeldByShards stage.now (reverse events.now) (kept.held_flows held)) }
-{
-    let mut held = HeldByShards::new(alloc);
-    for (place, event) in events.iter().enumerate() {
-        held.note(alloc, stage, &events[..place], event)?;
-    }
-    Ok(held)
 }

@@ -1,17 +1,18 @@
 //! The packets that came too late, and the least timeout under which none of them would have.
-ghost use Rattle.std.specs.Prelude.{◌≡◌, Some, IfOk, if◌then◌else◌, reverse};
+ghost use Rattle.std.specs.Prelude.{◌≡◌, [], ◌∷◌, List, Some, IfOk, OnOk, if◌then◌else◌};
+ghost use Rattle.bm_core.specs.Causes as causes;
 ghost use Rattle.bm_core.specs.declared.events.Cause.TheVariants.{ChainLate as chain_late};
-ghost use Rattle.bm_core.specs.Runs.{IsRun};
-ghost use Rattle.bm_trace.specs.Swept.{AreCauses};
+ghost use Rattle.bm_core.specs.declared.events.Event.{Event};
+ghost use Rattle.bm_state.specs.Moves.{AreMoves};
+ghost use Rattle.bm_trace.specs.Ranges.{HasRanges};
 ghost use Rattle.bm_connections.specs.Counts.{is_cause};
 ghost use Rattle.bm_connections.specs.Late as spec;
-ghost use Rattle.bm_connections.specs.Inside.Stamps.{AreWaits};
+ghost use Rattle.bm_connections.specs.Waits.{wait_of};
 
-use crate::counts::{is_cause, packets_by};
-use crate::waits::{wait_in, waits_of};
+use crate::counts::is_cause;
+use crate::stamps::Stamps;
 use bm_base::Memory;
-use bm_core::{Cause, History};
-use bm_trace::CauseList;
+use bm_core::{Cause, Event, Stage};
 use std::alloc::Global;
 
 /// Of the packets that came too late: the longest time, in nanoseconds, since a packet's bucket
@@ -44,52 +45,71 @@ fn longer(longest: Option<u64>, wait: u64) -> u64
     }
 }
 
-/// The longest wait after an arrival with this cause and this wait.
-fn longest_after(longest: Option<u64>, cause: Option<Cause>, wait: u64) -> Option<u64>
-    ensures { result
-        ≡ (if is_cause chain_late cause then Some (spec.longer longest wait) else longest) }
-{
-    if is_cause(Cause::ChainLate, cause) {
-        Some(longer(longest, wait))
-    } else {
-        longest
-    }
+/// The longest wait of the packets that came too late, after some events.
+#[derive(Drop)]
+pub(crate) struct LateWaits {
+    stamps: Stamps,
+    longest: Option<u64>,
 }
 
-fn longest_wait(h: &History, causes: &CauseList, waits: &[u64]) -> Option<u64>
-    requires causes { AreCauses h.now causes.now }
-    requires waits { AreWaits h.now waits.now }
-    ensures { result ≡ spec.longest_wait h.now.stage (reverse h.now.events) }
-{
-    let events = h.events.items();
-    let mut longest = None;
-    for place in 0..events.len() {
-        longest = longest_after(longest, causes.at(place), wait_in(waits, place));
-    }
-    longest
-}
+impl LateWaits {
+    ghost use Rattle.bm_connections.specs.Inside.Late.{KnowsLate};
+    ghost use Rattle.bm_connections.specs.Inside.Stamps.{KnowsStamps};
 
-/// The longest wait of the history's packets that came too late, by the causes of its events;
-/// `None` if no packet came too late. `Memory` where memory was refused.
-#[tactic(auto, using(crate::proofs::Lateness::none_late))]
-pub fn longest_late(
-    alloc: Global,
-    h: &History,
-    causes: &CauseList,
-) -> Result<Option<LongestLate>, Memory>
-    requires run { IsRun h.now }
-    requires causes { AreCauses h.now causes.now }
-    ensures { IfOk result (λ late. late ≡ spec.longest_late h.now) }
-{
-    if packets_by(h, causes, Cause::ChainLate) == 0 {
-        return Ok(None);
+    /// What is kept before the first event.
+    pub(crate) fn new(alloc: Global, stage: &Stage) -> Result<LateWaits, Memory>
+        ensures { IfOk result (KnowsLate stage.now []) }
+    {
+        Ok(LateWaits {
+            stamps: Stamps::new(alloc, stage)?,
+            longest: None,
+        })
     }
-    let waits = waits_of(alloc, h)?;
-    match longest_wait(h, causes, waits.as_slice()) {
-        None => Ok(None),
-        Some(wait) => Ok(Some(LongestLate {
+
+    /// The longest wait after the event that comes next, which has this cause.
+    fn longest_after(&self, stage: &Stage, event: &Event, cause: Option<Cause>) -> Option<u64>
+        requires ranges { HasRanges stage.now }
+        requires moves { AreMoves stage.now.script.plan self.now.stamps.moves }
+        ensures { (past : List Event) → KnowsStamps stage.now past self.now.stamps → result
+            ≡ (if is_cause chain_late cause
+            then Some (spec.longer self.now.longest
+            (wait_of stage.now past event.now.clock.0 event.now.what))
+            else self.now.longest) }
+    {
+        if is_cause(Cause::ChainLate, cause) {
+            Some(longer(self.longest, self.stamps.wait(stage, event)))
+        } else {
+            self.longest
+        }
+    }
+
+    /// Records the event that comes next, which has this cause.
+    pub(crate) fn note(
+        &mut self,
+        stage: &Stage,
+        event: &Event,
+        cause: Option<Cause>,
+    ) -> Result<(), Memory>
+        requires ranges { HasRanges stage.now }
+        requires moves { AreMoves stage.now.script.plan self.old.stamps.moves }
+        ensures { (past : List Event)
+            → cause ≡ causes.cause stage.now past event.now.clock.0 event.now.what
+            → KnowsLate stage.now past self.old
+            → OnOk result (KnowsLate stage.now (event.now ∷ past) self.new) }
+    {
+        self.longest = self.longest_after(stage, event, cause);
+        self.stamps.note(event.what)?;
+        Ok(())
+    }
+
+    /// The longest wait so far, with its timeout, if a packet came too late.
+    pub(crate) fn longest_late(&self) -> Option<LongestLate>
+        ensures { result ≡ spec.as_late self.now.longest }
+    {
+        let wait = self.longest?;
+        Some(LongestLate {
             wait,
             timeout_s: whole_seconds(wait),
-        })),
+        })
     }
 }

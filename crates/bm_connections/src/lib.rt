@@ -2,26 +2,29 @@
 #![tactic(auto)]
 
 mod connection;
+mod counters;
 mod counts;
 mod held;
 mod late;
 pub mod laws;
 mod noted;
+mod replies;
 mod rows;
 mod seen;
 mod servers;
 mod stamps;
 mod summary;
+mod summary_text;
 mod table;
 mod text;
 mod times;
-mod waits;
 
 pub use connection::{Break, Connection, Forwarding, Sight, Tally};
-pub use counts::{CauseCount, cause_count};
-pub use late::{LongestLate, longest_late};
-pub use servers::{ServerCount, server_counts};
-pub use summary::{causes_text, late_text, servers_text};
+pub use counts::CauseCount;
+pub use late::LongestLate;
+pub use servers::ServerCount;
+pub use summary::{Summary, summary_of};
+pub use summary_text::{causes_text, late_text, servers_text};
 pub use table::connections;
-pub use text::{RackWords, shown_rack, table_text};
+pub use text::{EndWords, RackWords, ServerWord, shown_rack, table_text};
 pub use times::{Clock, SecondsText, TimeText};

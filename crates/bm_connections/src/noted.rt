@@ -1,6 +1,6 @@
 //! The pass over the events: what became of each connection's packets.
 ghost use Rattle.std.specs.Prelude.{◌≡◌, ◌<◌, ◌^◌, ◌&&◌, suc, Some, is_some, reverse};
-ghost use Rattle.std.specs.Prelude.{if◌then◌else◌, length, None, [], ◌∷◌};
+ghost use Rattle.std.specs.Prelude.{if◌then◌else◌, length, None, [], ◌∷◌, OnOk};
 ghost use Rattle.bm_core.specs.Causes as causes;
 ghost use Rattle.bm_core.specs.Past as past;
 ghost use Rattle.bm_core.specs.Runs.{IsRun};
@@ -10,15 +10,15 @@ ghost use Rattle.bm_trace.specs.Totals as totals;
 ghost use Rattle.bm_connections.specs.Connections as spec;
 ghost use Rattle.bm_connections.specs.Inside.Rows as kept;
 ghost use Rattle.bm_connections.specs.Seen.{records_of};
-ghost use Rattle.bm_connections.specs.Inside.Stamps.{AreWaits};
 ghost use Rattle.bm_connections.specs.Waits.{wait_of};
 
 use crate::connection::{Break, Connection, Forwarding, Tally};
 use crate::rows::Rows;
-use crate::waits::wait_in;
-use bm_base::ServerId;
+use crate::stamps::Stamps;
+use bm_base::{Memory, ServerId};
 use bm_core::{Cause, Event, History, Stage, Verdict, What};
 use bm_trace::CauseList;
+use std::alloc::Global;
 
 /// One more, if `so` holds.
 pub(crate) fn one_more(so: bool, count: u64) -> u64
@@ -202,17 +202,25 @@ impl Rows {
 }
 
 /// Records all events.
-pub(crate) fn note_events(rows: &mut Rows, h: &History, causes: &CauseList, waits: &[u64])
+pub(crate) fn note_events(
+    alloc: Global,
+    rows: &mut Rows,
+    h: &History,
+    causes: &CauseList,
+) -> Result<(), Memory>
     requires run { IsRun h.now }
     requires causes { AreCauses h.now causes.now }
-    requires waits { AreWaits h.now waits.now }
     requires rows { kept.AreRows h.now.stage (records_of h.now.stage) [] rows.old }
-    ensures { kept.AreRows h.now.stage (records_of h.now.stage) (reverse h.now.events) rows.new }
+    ensures { OnOk result
+        (kept.AreRows h.now.stage (records_of h.now.stage) (reverse h.now.events) rows.new) }
 {
     let events = h.events.items();
+    let mut stamps = Stamps::new(alloc, &h.stage)?;
     for (place, event) in events.iter().enumerate() {
         let cause = causes.at(place);
-        let wait = wait_in(waits, place);
+        let wait = stamps.wait(&h.stage, event);
         rows.note(&h.stage, &events[..place], event, cause, wait);
+        stamps.note(event.what)?;
     }
+    Ok(())
 }

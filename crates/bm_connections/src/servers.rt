@@ -1,19 +1,18 @@
 //! For each server: how many arrivals it accepted and processed, and the most connections that one
 //! of its shards held at once.
-ghost use Rattle.std.specs.Prelude.{◌≡◌, ◌<◌, ◌^◌, ◌∷◌, [], suc, Some, OnOk, IfOk};
-ghost use Rattle.std.specs.Prelude.{if◌then◌else◌, length, reverse};
+ghost use Rattle.std.specs.Prelude.{◌≡◌, ◌∷◌, [], List, Some, OnOk, IfOk, if◌then◌else◌, map};
 ghost use Rattle.bm_base.specs.declared.ids.ServerId.{ServerId};
 ghost use Rattle.bm_table.specs.Tables.{same_server};
-ghost use Rattle.bm_core.specs.Runs.{IsRun};
+ghost use Rattle.bm_core.specs.declared.events.Event.{Event};
 ghost use Rattle.bm_connections.specs.Counts as spec;
-ghost use Rattle.bm_connections.specs.Inside.Held.{AreHeldByShards, held_flows};
+ghost use Rattle.bm_connections.specs.Inside.Held.{AreHeldByShards};
 ghost use Rattle.bm_connections.specs.Inside.Loads as kept;
 
-use crate::held::{HeldByShards, held_by_shards};
+use crate::held::HeldByShards;
 use crate::noted::{as_break, is_accept, is_process, one_more};
 use crate::text::shown_rack;
-use bm_base::{List, Memory, ServerId};
-use bm_core::{Event, History, Stage, Verdict};
+use bm_base::ServerId;
+use bm_core::{Event, Stage, Verdict};
 use std::alloc::{AllocError, Global};
 use std::collections::BTreeMap;
 
@@ -45,7 +44,7 @@ pub(crate) struct Loads {
 }
 
 impl Loads {
-    fn new(alloc: Global) -> Loads
+    pub(crate) fn new(alloc: Global) -> Loads
         ensures { kept.AreLoads [] (kept.load result) }
     {
         Loads {
@@ -91,12 +90,11 @@ impl Loads {
         self.put(server, count)
     }
 
-    /// Records the event that comes after these.
-    fn note(&mut self, before: &[Event], event: &Event) -> Result<(), AllocError>
-        requires loads { kept.AreLoads (reverse before.now) (kept.load self.old) }
-        requires room { suc (length before.now) < 2 ^ 64 }
-        ensures { OnOk result
-            (kept.AreLoads (event.now ∷ reverse before.now) (kept.load self.new)) }
+    /// Records the event that comes next.
+    pub(crate) fn note(&mut self, event: &Event) -> Result<(), AllocError>
+        requires { kept.HaveRoom (kept.load self.old) }
+        ensures { (past : List Event) → kept.AreLoads past (kept.load self.old)
+            → OnOk result (kept.AreLoads (event.now ∷ past) (kept.load self.new)) }
     {
         match as_break(event, None) {
             None => Ok(()),
@@ -108,27 +106,11 @@ impl Loads {
     }
 }
 
-fn loads_of(alloc: Global, events: &[Event]) -> Result<Loads, AllocError>
-    ensures { IfOk result (λ loads. kept.AreLoads (reverse events.now) (kept.load loads)) }
-{
-    let mut loads = Loads::new(alloc);
-    for (place, event) in events.iter().enumerate() {
-        loads.note(&events[..place], event)?;
-    }
-    Ok(loads)
-}
-
 /// The counts of a server, from those of its arrivals and of its shards.
-fn server_count(
-    stage: &Stage,
-    events: &[Event],
-    loads: &Loads,
-    held: &HeldByShards,
-    server: ServerId,
-) -> ServerCount
-    requires loads { kept.AreLoads (reverse events.now) (kept.load loads.now) }
-    requires held { AreHeldByShards stage.now (reverse events.now) (held_flows held.now) }
-    ensures { result ≡ spec.server_count stage.now (reverse events.now) server }
+fn server_count(stage: &Stage, loads: &Loads, held: &HeldByShards, server: ServerId) -> ServerCount
+    ensures { (past : List Event) → kept.AreLoads past (kept.load loads.now)
+        → AreHeldByShards stage.now past held.now
+        → result ≡ spec.server_count stage.now past server }
 {
     let setting = &stage.script.setting;
     let served = loads.get(server);
@@ -137,26 +119,26 @@ fn server_count(
         rack: shown_rack(setting.racks, Some(server)),
         accepted: served.accepted,
         processed: served.processed,
-        most_held: held.most_among(stage, events, server, setting.shards),
+        most_held: held.most_among(server, setting.shards),
         capacity: setting.capacity,
     }
 }
 
-/// The counts of these servers, in their order. `Memory` where memory was refused.
-pub fn server_counts(
+/// The counts of these servers, in their order, from those of all arrivals and of all shards.
+pub(crate) fn server_counts(
     alloc: Global,
-    h: &History,
+    stage: &Stage,
+    loads: &Loads,
+    held: &HeldByShards,
     servers: &[ServerId],
-) -> Result<List<ServerCount>, Memory>
-    requires { IsRun h.now }
-    ensures { IfOk result (λ list. list ≡ spec.server_counts h.now servers.now) }
+) -> Result<Vec<ServerCount>, AllocError>
+    ensures { IfOk result (λ list. (past : List Event) → kept.AreLoads past (kept.load loads.now)
+        → AreHeldByShards stage.now past held.now
+        → list.items ≡ map (spec.server_count stage.now past) servers.now) }
 {
-    let events = h.events.items();
-    let loads = loads_of(alloc, events)?;
-    let held = held_by_shards(alloc, &h.stage, events)?;
     let mut list = Vec::with_capacity(alloc, servers.len())?;
     for server in servers {
-        list.push(server_count(&h.stage, events, &loads, &held, *server))?;
+        list.push(server_count(stage, loads, held, *server))?;
     }
-    Ok(List::of(list))
+    Ok(list)
 }

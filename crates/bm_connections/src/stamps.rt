@@ -1,6 +1,9 @@
 //! What is kept of labels, for the stamps in them.
-ghost use Rattle.std.specs.Prelude.{◌≡◌, [], ◌∷◌, IfOk, OnOk, reverse};
+ghost use Rattle.std.specs.Prelude.{◌≡◌, [], ◌∷◌, List, IfOk, OnOk};
 ghost use Rattle.bm_core.specs.Past.{label_of};
+ghost use Rattle.bm_core.specs.declared.events.Event.{Event};
+ghost use Rattle.bm_core.specs.declared.events.Stage.{Stage};
+ghost use Rattle.bm_state.specs.Moves.{AreMoves};
 ghost use Rattle.bm_trace.specs.Ranges.{HasRanges};
 ghost use Rattle.bm_connections.specs.Waits.{stamp_of, wait_of};
 
@@ -33,10 +36,11 @@ impl Stamps {
 
     /// The stamp of the server to which a copy of this hop may be passed on by the packet's label,
     /// or 0.
-    fn stamp(&self, stage: &Stage, events: &[Event], packet: u32, hop: Hop) -> u64
+    fn stamp(&self, stage: &Stage, packet: u32, hop: Hop) -> u64
         requires ranges { HasRanges stage.now }
-        requires knows { KnowsStamps stage.now (reverse events.now) self.now }
-        ensures { result ≡ stamp_of hop (label_of stage.now (reverse events.now) packet) }
+        requires moves { AreMoves stage.now.script.plan self.now.moves }
+        ensures { (past : List Event) → KnowsStamps stage.now past self.now
+            → result ≡ stamp_of hop (label_of stage.now past packet) }
     {
         let Some(label) = self.labels.label(stage, &self.moves, packet) else {
             return 0;
@@ -47,33 +51,28 @@ impl Stamps {
         }
     }
 
-    /// Records the event that comes after these.
-    pub(crate) fn note(
-        &mut self,
-        stage: &Stage,
-        events: &[Event],
-        event: &Event,
-    ) -> Result<(), Memory>
-        requires { KnowsStamps stage.now (reverse events.now) self.old }
-        ensures { OnOk result (KnowsStamps stage.now (event.now ∷ reverse events.now) self.new) }
+    /// Records what happens next.
+    pub(crate) fn note(&mut self, what: What) -> Result<(), Memory>
+        ensures { (stage : Stage) (past : List Event) (e : Event) → e.what ≡ what
+            → KnowsStamps stage past self.old → OnOk result (KnowsStamps stage (e ∷ past) self.new) }
     {
-        self.labels.note(&self.versions, event.what);
-        self.versions.note(event.what)?;
+        self.labels.note(&self.versions, what);
+        self.versions.note(what)?;
         Ok(())
     }
 
-    /// How long the packet of the event comes after its bucket left the server to which the copy
-    /// may be passed on. If there is no such server it is the event's clock, and 0 if the event isn't
-    /// an arrival.
-    pub(crate) fn wait(&self, stage: &Stage, events: &[Event], event: &Event) -> u64
+    /// How long the packet of the event that comes next arrives after its bucket left the server to
+    /// which the copy may be passed on. If there is no such server it is the event's clock, and 0 if
+    /// the event isn't an arrival.
+    pub(crate) fn wait(&self, stage: &Stage, event: &Event) -> u64
         requires ranges { HasRanges stage.now }
-        requires knows { KnowsStamps stage.now (reverse events.now) self.now }
-        ensures { result
-            ≡ wait_of stage.now (reverse events.now) event.now.clock.0 event.now.what }
+        requires moves { AreMoves stage.now.script.plan self.now.moves }
+        ensures { (past : List Event) → KnowsStamps stage.now past self.now
+            → result ≡ wait_of stage.now past event.now.clock.0 event.now.what }
     {
         match event.what {
             What::Arrive { packet, hop, .. } => {
-                let stamp = self.stamp(stage, events, packet, hop);
+                let stamp = self.stamp(stage, packet, hop);
                 event.clock.0.saturating_sub(stamp)
             }
             _ => 0,

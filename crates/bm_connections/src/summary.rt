@@ -1,125 +1,58 @@
-//! The lines of servers and of causes.
-ghost use Rattle.std.specs.Prelude.{◌≡◌, ◌++◌, OnOk, IfOk, flat_map, string_bytes};
-ghost use Rattle.bm_connections.specs.Text as spec;
+//! What is told of a history apart from its connections.
+ghost use Rattle.std.specs.Prelude.{◌≡◌, IfOk};
+ghost use Rattle.bm_core.specs.Runs.{IsRun};
+ghost use Rattle.bm_trace.specs.Swept.{AreCauses};
+ghost use Rattle.bm_connections.specs.Connections.{connections};
+ghost use Rattle.bm_connections.specs.Counts.{causes_in, server_counts};
+ghost use Rattle.bm_connections.specs.Late.{longest_late};
+ghost use Rattle.bm_connections.specs.Replies.{replies};
 
-use crate::counts::CauseCount;
+use crate::connection::Connection;
+use crate::counters::Counters;
+use crate::counts::{CauseCount, causes_in};
 use crate::late::LongestLate;
-use crate::servers::ServerCount;
-use crate::text::RackWords;
-use crate::times::SecondsText;
-use bm_base::{Memory, Text};
-use bm_trace::cause_word;
-use std::alloc::{AllocError, Global};
+use crate::servers::{ServerCount, server_counts};
+use bm_base::{List, Memory, ServerId};
+use bm_core::{Event, History};
+use bm_trace::CauseList;
+use std::alloc::Global;
 
-/// A server with its rack, how many arrivals it accepted, and how many it processed.
-fn write_served(text: &mut String, c: &ServerCount) -> Result<(), AllocError>
-    ensures { OnOk result
-        (string_bytes text.new ≡ string_bytes text.old ++ spec.served_text c.now) }
-{
-    let server = c.server.0;
-    let rack = RackWords(c.rack);
-    let accepted = c.accepted;
-    let processed = c.processed;
-    write!(
-        text,
-        "server {server}{rack} accepted {accepted} processed {processed}"
-    )
+/// The counts of the causes that occur and of some servers, the longest wait of the packets that came
+/// too late, if there are any, and the replies to `close` and `retire`.
+#[derive(Drop)]
+pub struct Summary {
+    pub causes: List<CauseCount>,
+    pub servers: List<ServerCount>,
+    pub late: Option<LongestLate>,
+    pub replies: List<Event>,
 }
 
-/// The most that one of a server's shards held at once, and how many it can hold.
-fn write_most(text: &mut String, c: &ServerCount) -> Result<(), AllocError>
-    ensures { OnOk result
-        (string_bytes text.new ≡ string_bytes text.old ++ spec.most_text c.now) }
+/// The summary of a history with these causes and this table of connections: of causes in a fixed
+/// order, and of these servers in theirs. It goes over the events once. `Memory` where memory was
+/// refused.
+pub fn summary_of(
+    alloc: Global,
+    h: &History,
+    causes: &CauseList,
+    table: &[Connection],
+    servers: &[ServerId],
+) -> Result<Summary, Memory>
+    requires run { IsRun h.now }
+    requires causes { AreCauses h.now causes.now }
+    requires table { table.now ≡ connections h.now }
+    ensures causes { IfOk result (λ summary. summary.causes ≡ causes_in h.now) }
+    ensures servers { IfOk result (λ summary. summary.servers ≡ server_counts h.now servers.now) }
+    ensures late { IfOk result (λ summary. summary.late ≡ longest_late h.now) }
+    ensures replies { IfOk result (λ summary. summary.replies ≡ replies h.now) }
 {
-    let most = c.most_held;
-    let capacity = c.capacity;
-    writeln!(text, " most-held {most} of {capacity}")
-}
-
-fn write_server(text: &mut String, c: &ServerCount) -> Result<(), AllocError>
-    ensures { OnOk result
-        (string_bytes text.new ≡ string_bytes text.old ++ spec.server_line c.now) }
-{
-    write_served(text, c)?;
-    write_most(text, c)?;
-    Ok(())
-}
-
-fn write_servers(text: &mut String, servers: &[ServerCount]) -> Result<(), AllocError>
-    ensures { OnOk result (string_bytes text.new
-        ≡ string_bytes text.old ++ flat_map spec.server_line servers.now) }
-{
-    for server in servers {
-        write_server(text, server)?;
-    }
-    Ok(())
-}
-
-/// A line for each server.
-pub fn servers_text(alloc: Global, servers: &[ServerCount]) -> Result<Text, Memory>
-    ensures { IfOk result (λ text. text ≡ flat_map spec.server_line servers.now) }
-{
-    let mut text = String::new(alloc);
-    write_servers(&mut text, servers)?;
-    Ok(Text::of(text))
-}
-
-fn write_cause(text: &mut String, c: &CauseCount) -> Result<(), AllocError>
-    ensures { OnOk result
-        (string_bytes text.new ≡ string_bytes text.old ++ spec.cause_line c.now) }
-{
-    let word = cause_word(c.cause);
-    let packets = c.packets;
-    let broken = c.broken;
-    let refused = c.refused;
-    writeln!(
-        text,
-        "cause {word} packets {packets} broken {broken} refused {refused}"
-    )
-}
-
-fn write_causes(text: &mut String, causes: &[CauseCount]) -> Result<(), AllocError>
-    ensures { OnOk result (string_bytes text.new
-        ≡ string_bytes text.old ++ flat_map spec.cause_line causes.now) }
-{
-    for cause in causes {
-        write_cause(text, cause)?;
-    }
-    Ok(())
-}
-
-/// A line for each cause.
-pub fn causes_text(alloc: Global, causes: &[CauseCount]) -> Result<Text, Memory>
-    ensures { IfOk result (λ text. text ≡ flat_map spec.cause_line causes.now) }
-{
-    let mut text = String::new(alloc);
-    write_causes(&mut text, causes)?;
-    Ok(Text::of(text))
-}
-
-fn write_longest(text: &mut String, late: &LongestLate) -> Result<(), AllocError>
-    ensures { OnOk result
-        (string_bytes text.new ≡ string_bytes text.old ++ spec.late_line late.now) }
-{
-    let wait = SecondsText(late.wait);
-    let seconds = late.timeout_s;
-    writeln!(text, "chain-late longest {wait} timeout_s {seconds}")
-}
-
-fn write_late(text: &mut String, late: Option<LongestLate>) -> Result<(), AllocError>
-    ensures { OnOk result (string_bytes text.new ≡ string_bytes text.old ++ spec.late_text late) }
-{
-    match late {
-        None => Ok(()),
-        Some(longest) => write_longest(text, &longest),
-    }
-}
-
-/// The line of the longest wait of packets that came too late, or nothing.
-pub fn late_text(alloc: Global, late: Option<LongestLate>) -> Result<Text, Memory>
-    ensures { IfOk result (λ text. text ≡ spec.late_text late) }
-{
-    let mut text = String::new(alloc);
-    write_late(&mut text, late)?;
-    Ok(Text::of(text))
+    let counters = Counters::of(alloc, h, causes)?;
+    let occurring = causes_in(alloc, &counters.packets, table)?;
+    let served = server_counts(alloc, &h.stage, &counters.loads, &counters.held, servers)?;
+    let late = counters.late.longest_late();
+    Ok(Summary {
+        causes: List::of(occurring),
+        servers: List::of(served),
+        late,
+        replies: List::of(counters.replies),
+    })
 }

@@ -7,7 +7,6 @@ ghost use Rattle.bm_connections.specs.Connections as spec;
 use crate::connection::Connection;
 use crate::noted::note_events;
 use crate::seen::see_records;
-use crate::waits::waits_of;
 use bm_base::{List, Memory};
 use bm_core::History;
 use bm_trace::CauseList;
@@ -25,7 +24,6 @@ pub fn connections(
     ensures { IfOk result (λ list. list ≡ spec.connections h.now) }
 {
     let mut rows = see_records(alloc, h.stage.capture.records.items())?;
-    let waits = waits_of(alloc, h)?;
-    note_events(&mut rows, h, causes, waits.as_slice());
+    note_events(alloc, &mut rows, h, causes)?;
     Ok(List::of(rows.into_connections()))
 }

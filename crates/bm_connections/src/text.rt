@@ -13,7 +13,7 @@ use std::fmt;
 
 /// A server's number, or `none`.
 #[derive(Clone, Copy)]
-struct ServerWord(Option<ServerId>);
+pub struct ServerWord(pub Option<ServerId>);
 
 impl fmt::Display for ServerWord {
     ghost output = { λ s. Some (spec.server_word s.0) };
@@ -121,38 +121,56 @@ impl fmt::Display for ForwardedWords {
 
 /// A packet that was dropped, reset or a stray, each word after a space.
 #[derive(Clone, Copy)]
-struct FaultWords(Clock, Break);
+struct FaultWords(Break);
 
 impl fmt::Display for FaultWords {
-    ghost output = { λ b. Some (spec.fault_text b.0.0 b.1) };
+    ghost output = { λ b. Some (spec.fault_words b.0) };
 
     fn fmt<W: fmt::Write>(&self, f: &mut fmt::Formatter<W>) -> fmt::Result {
-        let packet = self.1.packet;
-        let verdict = VerdictWords(self.1.verdict);
-        let because = BecauseWords(self.1.cause);
-        let at = TimeText(self.0, self.1.clock);
-        write!(f, " {packet}{verdict}{because} at {at}")
+        let packet = self.0.packet;
+        let verdict = VerdictWords(self.0.verdict);
+        let because = BecauseWords(self.0.cause);
+        write!(f, " {packet}{verdict}{because}")
     }
 }
 
 /// What broke or refused a connection, each word after a space, or whether a server accepted it.
 #[derive(Clone, Copy)]
-struct EndWords {
-    clock: Clock,
-    broken: Option<Break>,
-    refused: Option<Break>,
-    server: Option<ServerId>,
+pub struct EndWords {
+    pub broken: Option<Break>,
+    pub refused: Option<Break>,
+    pub server: Option<ServerId>,
 }
 
 impl fmt::Display for EndWords {
-    ghost output = { λ c. Some (spec.end_text c.clock.0 c.broken c.refused c.server) };
+    ghost output = { λ c. Some (spec.end_words c.broken c.refused c.server) };
 
     fn fmt<W: fmt::Write>(&self, f: &mut fmt::Formatter<W>) -> fmt::Result {
         match (self.broken, self.refused, self.server) {
-            (Some(first), _, _) => write!(f, " broken{}", FaultWords(self.clock, first)),
-            (None, Some(first), _) => write!(f, " refused{}", FaultWords(self.clock, first)),
+            (Some(first), _, _) => write!(f, " broken{}", FaultWords(first)),
+            (None, Some(first), _) => write!(f, " refused{}", FaultWords(first)),
             (None, None, None) => write!(f, " unaccepted"),
             (None, None, Some(_)) => write!(f, " whole"),
+        }
+    }
+}
+
+/// The clock of what broke or refused a connection, each word after a space, or nothing.
+#[derive(Clone, Copy)]
+struct EndTime {
+    clock: Clock,
+    broken: Option<Break>,
+    refused: Option<Break>,
+}
+
+impl fmt::Display for EndTime {
+    ghost output = { λ c. Some (spec.end_time c.clock.0 c.broken c.refused) };
+
+    fn fmt<W: fmt::Write>(&self, f: &mut fmt::Formatter<W>) -> fmt::Result {
+        match (self.broken, self.refused) {
+            (Some(first), _) => write!(f, " at {}", TimeText(self.clock, first.clock)),
+            (None, Some(first)) => write!(f, " at {}", TimeText(self.clock, first.clock)),
+            (None, None) => Ok(()),
         }
     }
 }
@@ -197,12 +215,16 @@ fn write_outcome(text: &mut String, clock: Clock, c: &Connection) -> Result<(), 
     let tally = TallyWords(c.tally);
     let forwarded = ForwardedWords(clock, c.forwarded);
     let end = EndWords {
-        clock,
         broken: c.broken,
         refused: c.refused,
         server: c.server,
     };
-    writeln!(text, " times {times}{tally}{forwarded}{end}")
+    let at = EndTime {
+        clock,
+        broken: c.broken,
+        refused: c.refused,
+    };
+    writeln!(text, " times {times}{tally}{forwarded}{end}{at}")
 }
 
 fn write_connection(

@@ -4,3 +4,4 @@ pub mod Lists
 pub mod Rows
 pub mod Pieces
 pub mod Numbered
+pub mod Told

@@ -1,10 +1,8 @@
 -- One element more of a list that is gone through.
-use Rattle.std.proofs.Common.{◌≡◌, ℕ, zero, suc, ◌+◌, ◌<◌, Bool, List, [], ◌∷◌, ◌++◌, length, take, get_or, map}
-use Rattle.std.proofs.Common.{filter, flat_map, refl, sym, ap, ◌∙◌, arith, append_assoc}
+use Rattle.std.proofs.Common.{◌≡◌, ℕ, zero, suc, ◌+◌, List, [], ◌∷◌, ◌++◌, take, flat_map, refl, sym, ap, ◌∙◌, arith}
+use Rattle.std.proofs.Common.{append_assoc}
 use Rattle.std.specs.Prelude.{slice_get}
-use Rattle.std.proofs.lemmas.Grind.{common_steps}
-use Rattle.std.proofs.lemmas.List.{append-nil, map-append}
-use Rattle.std.proofs.lemmas.List.Elements.{filter-append}
+use Rattle.std.proofs.lemmas.List.{append-nil}
 use Rattle.bm_base.specs.declared.ids.ServerId.{ServerId}
 use Rattle.bm_table.specs.declared.plan.Change.{Change}
 use Rattle.bm_connections_cli.specs.Servers.{added}
@@ -31,13 +29,3 @@ added_more changes v first old new n o =
     n ∙ ap (λ l. l ++ added_by (slice_get changes v)) o
     ∙ append_assoc first (all_added (take v changes)) (added_by (slice_get changes v))
     ∙ ap (λ l. first ++ l) (sym (ap (λ k. all_added (take k changes)) e ∙ added_next changes v))
-
--- one element more under a map and a test
-pub filtered_more : {X Y : Type 0} (p : Y → Bool) (g : X → Y) (xs : List X) (i : ℕ) (d : X) (y : Y) (old new : List Y) →
-    i < length xs → y ≡ g (get_or xs i d) → new ≡ old ++ filter p (y ∷ []) → old ≡ filter p (map g (take i xs)) →
-    new ≡ filter p (map g (take (i + 1) xs))
-filtered_more p g xs i d y old new below is n o =
-    let e : take (i + 1) xs ≡ take i xs ++ get_or xs i d ∷ [] = grind (arith, common_steps)
-    in n ∙ ap (λ l. l ++ filter p (y ∷ [])) o ∙ ap (λ z. filter p (map g (take i xs)) ++ filter p (z ∷ [])) is
-    ∙ sym (ap (λ l. filter p (map g l)) e ∙ ap (filter p) (map-append g (take i xs) (get_or xs i d ∷ []))
-    ∙ filter-append p (map g (take i xs)) (g (get_or xs i d) ∷ []))

@@ -1,14 +1,9 @@
 -- What is reported of a history's connections (docs/FORMATS.md). A clock is when record 1 was
 -- captured, if moments are those of the wall clock.
-use Rattle.std.specs.Prelude.{ℕ, Bool, nat_lt, List, [], ◌∷◌, Option, filter, flat_map, map}
-use Rattle.bm_core.specs.declared.events.Cause.{Cause}
-use Rattle.bm_core.specs.declared.events.Cause.TheVariants.{NeverAccepted, NotHeld, StaleMux}
-use Rattle.bm_core.specs.declared.events.Cause.TheVariants.{MovedThrice, ChainLate, SynElsewhere}
-use Rattle.bm_core.specs.declared.events.Cause.TheVariants.{Full, OldTable}
+use Rattle.std.specs.Prelude.{ℕ, List, [], ◌∷◌, Option, flat_map}
 use Rattle.bm_core.specs.declared.events.History.{History}
-use Rattle.bm_connections.specs.declared.counts.CauseCount.{CauseCount}
 use Rattle.bm_connections.specs.Connections.{connections}
-use Rattle.bm_connections.specs.Counts.{cause_count, server_counts}
+use Rattle.bm_connections.specs.Counts.{causes_in, server_counts}
 use Rattle.bm_connections.specs.Late.{longest_late}
 use Rattle.bm_trace.specs.Report.{note_line}
 use Rattle.bm_connections.specs.Text.{cause_line, late_text, server_line, table_text}
@@ -21,18 +16,6 @@ use Rattle.bm_connections_cli.specs.Changes.{changes_text}
 use Rattle.bm_connections_cli.specs.Csv.{table_csv}
 use Rattle.bm_connections_cli.specs.Json.{json_lines}
 use Rattle.bm_connections_cli.specs.Servers.{servers_of}
-
-abbrev pub all_causes : List Cause
-all_causes =
-    NeverAccepted ∷ NotHeld ∷ StaleMux ∷ MovedThrice ∷ ChainLate ∷ SynElsewhere ∷ Full ∷ OldTable
-    ∷ []
-
-abbrev pub occurs : CauseCount → Bool
-occurs c = nat_lt 0 c.packets
-
--- the counts of the causes that occur
-abbrev pub causes_in : History → List CauseCount
-causes_in h = filter occurs (map (cause_count h) all_causes)
 
 -- a line for each server of the script
 abbrev pub server_lines : History → List ℕ

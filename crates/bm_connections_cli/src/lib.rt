@@ -3,7 +3,6 @@
 #![tactic(auto)]
 
 mod advice;
-mod causes;
 mod changes;
 mod fields;
 mod json;

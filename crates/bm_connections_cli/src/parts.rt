@@ -4,12 +4,15 @@ ghost use Rattle.bm_core.specs.Runs.{IsRun};
 ghost use Rattle.bm_trace.specs.Report.{note_line};
 ghost use Rattle.bm_trace.specs.Swept.{AreCauses};
 ghost use Rattle.bm_connections.specs.Connections as tables;
+ghost use Rattle.bm_connections.specs.Counts as counts;
+ghost use Rattle.bm_connections.specs.Late.{longest_late};
+ghost use Rattle.bm_connections.specs.Replies.{replies};
 ghost use Rattle.bm_drawing.specs.Drawing as draw;
+ghost use Rattle.bm_connections_cli.specs.Servers.{servers_of};
 ghost use Rattle.bm_connections_cli.specs.Text as spec;
 ghost use Rattle.bm_connections_cli.specs.declared.words.Format.TheVariants.{Csv, Json};
 
 use crate::advice::{advice_text, end_text, unsteered_text};
-use crate::causes::causes_in;
 use crate::changes::changes_text;
 use crate::fields::table_csv;
 use crate::json::json_text;
@@ -17,8 +20,8 @@ use crate::replies::replies_text;
 use crate::servers::servers_of;
 use bm_base::{List, Memory, Text};
 use bm_connections::{
-    Clock, Connection, causes_text, connections, late_text, longest_late, server_counts,
-    servers_text, table_text,
+    Clock, Connection, Summary, causes_text, connections, late_text, servers_text, summary_of,
+    table_text,
 };
 use bm_core::History;
 use bm_drawing::drawing;
@@ -37,6 +40,7 @@ pub(crate) fn lines_of(alloc: Global, clock: Clock, h: &History) -> Result<Vec<T
     parts_of(alloc, clock, h, &causes, table.items())
 }
 
+#[tactic(auto, using(crate::proofs::Told::replies_told))]
 fn parts_of(
     alloc: Global,
     clock: Clock,
@@ -49,29 +53,39 @@ fn parts_of(
     requires table { table.now ≡ tables.connections h.now }
     ensures { IfOk result (λ parts. parts.items ≡ spec.parts clock.0 h.now) }
 {
-    let counts = causes_in(alloc, h, causes, table)?;
+    let summary = summary_in(alloc, h, causes, table)?;
     let mut parts = Vec::with_capacity(alloc, 10)?;
     parts.push(table_text(alloc, clock, h.stage.script.setting.racks, table)?)?;
-    parts.push(server_lines(alloc, h)?)?;
+    parts.push(servers_text(alloc, summary.servers.items())?)?;
     parts.push(changes_text(alloc, clock, &h.stage.script.plan)?)?;
-    parts.push(replies_text(alloc, clock, h.events.items())?)?;
-    parts.push(causes_text(alloc, counts.as_slice())?)?;
-    parts.push(late_text(alloc, longest_late(alloc, h, causes)?)?)?;
+    parts.push(replies_text(alloc, clock, summary.replies.items())?)?;
+    parts.push(causes_text(alloc, summary.causes.items())?)?;
+    parts.push(late_text(alloc, summary.late)?)?;
     parts.push(cut_text(alloc, h.stage.capture.cut)?)?;
-    parts.push(advice_text(alloc, counts.as_slice())?)?;
+    parts.push(advice_text(alloc, summary.causes.items())?)?;
     parts.push(unsteered_text(alloc, table)?)?;
     parts.push(end_text(alloc, &h.stage)?)?;
     Ok(parts)
 }
 
-/// A line for each server of the script.
-fn server_lines(alloc: Global, h: &History) -> Result<Text, Memory>
-    requires { IsRun h.now }
-    ensures { IfOk result (λ text. text ≡ spec.server_lines h.now) }
+/// The summary of the history, with the servers of its script.
+fn summary_in(
+    alloc: Global,
+    h: &History,
+    causes: &CauseList,
+    table: &[Connection],
+) -> Result<Summary, Memory>
+    requires run { IsRun h.now }
+    requires causes { AreCauses h.now causes.now }
+    requires table { table.now ≡ tables.connections h.now }
+    ensures causes { IfOk result (λ summary. summary.causes ≡ counts.causes_in h.now) }
+    ensures servers { IfOk result (λ summary. summary.servers
+        ≡ counts.server_counts h.now (servers_of h.now.stage.script)) }
+    ensures late { IfOk result (λ summary. summary.late ≡ longest_late h.now) }
+    ensures replies { IfOk result (λ summary. summary.replies ≡ replies h.now) }
 {
     let servers = servers_of(alloc, &h.stage.script)?;
-    let counts = server_counts(alloc, h, servers.as_slice())?;
-    servers_text(alloc, counts.items())
+    summary_of(alloc, h, causes, table, servers.as_slice())
 }
 
 /// The note that the record of this number is cut short, or nothing.

@@ -12,11 +12,11 @@ use Rattle.bm_core.specs.declared.events.Event.{Event}
 use Rattle.bm_core.specs.declared.events.History.{History}
 use Rattle.bm_core.specs.declared.events.What.{What}
 use Rattle.bm_core.specs.declared.events.What.TheVariants.{Publish}
-use Rattle.bm_trace.specs.Words.{because_words, endpoint, spaced, verdict_words}
+use Rattle.bm_trace.specs.Words.{endpoint}
 use Rattle.bm_connections.specs.declared.connection.Break.{Break}
 use Rattle.bm_connections.specs.declared.connection.Connection.{Connection}
 use Rattle.bm_connections.specs.Connections.{first_of_two}
-use Rattle.bm_connections.specs.Text.{rack_text, server_word, shown_rack}
+use Rattle.bm_connections.specs.Text.{end_words, rack_text, server_word, shown_rack}
 use Rattle.bm_drawing.specs.declared.changes.Published.{Published}
 use Rattle.bm_drawing.specs.declared.plot.Plot.{Plot}
 use Rattle.bm_drawing.specs.Scales.{x, tick_step, seconds}
@@ -212,19 +212,6 @@ changes p free [] = []
 changes p free (c ∷ cs) = change p free c ++ changes p (next_free p free c) cs
 
 -- CONNECTIONS
-
--- a packet that was dropped, reset or a stray, its verdict and its cause
-abbrev pub fault_words : Break → List ℕ
-fault_words b =
-    spaced (decimal b.packet ∷ []) ++ spaced (verdict_words b.verdict)
-    ++ spaced (because_words b.cause)
-
--- what broke the connection; else what refused it; else whether a server accepted it
-abbrev pub end_words : Option Break → Option Break → Option ServerId → List ℕ
-end_words (Some b) refused server = codes " broken" ++ fault_words b
-end_words None (Some b) server = codes " refused" ++ fault_words b
-end_words None None None = codes " unaccepted"
-end_words None None (Some server) = codes " whole"
 
 -- the client, the service, the server that accepted it last with its rack, and its end (section 5.4)
 unfoldable pub title : ℕ → Connection → List ℕ

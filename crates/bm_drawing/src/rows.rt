@@ -1,68 +1,15 @@
 //! The connections, one below another.
 ghost use Rattle.std.specs.Prelude.{◌≡◌, ◌++◌, Some, OnOk, string_bytes};
-ghost use Rattle.bm_connections.specs.Text.{server_word};
 ghost use Rattle.bm_drawing.specs.Drawing as spec;
 
 use crate::legend::colour_of;
 use crate::plot::Plot;
 use crate::scale::x_of;
 use crate::shapes::{Group, Line, Mark};
-use bm_base::ServerId;
-use bm_connections::{Break, Connection, RackWords, shown_rack};
-use bm_trace::{BecauseWords, Endpoint, VerdictWords};
+use bm_connections::{Break, Connection, EndWords, RackWords, ServerWord, shown_rack};
+use bm_trace::Endpoint;
 use std::alloc::AllocError;
 use std::fmt;
-
-/// A server's number, or `none`.
-#[derive(Clone, Copy)]
-struct ServerWord(Option<ServerId>);
-
-impl fmt::Display for ServerWord {
-    ghost output = { λ s. Some (server_word s.0) };
-
-    fn fmt<W: fmt::Write>(&self, f: &mut fmt::Formatter<W>) -> fmt::Result {
-        match self.0 {
-            None => write!(f, "none"),
-            Some(server) => write!(f, "{}", server.0),
-        }
-    }
-}
-
-/// A packet that was dropped, reset or a stray, each word after a space.
-#[derive(Clone, Copy)]
-struct FaultWords(Break);
-
-impl fmt::Display for FaultWords {
-    ghost output = { λ b. Some (spec.fault_words b.0) };
-
-    fn fmt<W: fmt::Write>(&self, f: &mut fmt::Formatter<W>) -> fmt::Result {
-        let packet = self.0.packet;
-        let verdict = VerdictWords(self.0.verdict);
-        let because = BecauseWords(self.0.cause);
-        write!(f, " {packet}{verdict}{because}")
-    }
-}
-
-/// What broke or refused a connection, each word after a space, or whether a server accepted it.
-#[derive(Clone, Copy)]
-struct EndWords {
-    broken: Option<Break>,
-    refused: Option<Break>,
-    server: Option<ServerId>,
-}
-
-impl fmt::Display for EndWords {
-    ghost output = { λ c. Some (spec.end_words c.broken c.refused c.server) };
-
-    fn fmt<W: fmt::Write>(&self, f: &mut fmt::Formatter<W>) -> fmt::Result {
-        match (self.broken, self.refused, self.server) {
-            (Some(first), _, _) => write!(f, " broken{}", FaultWords(first)),
-            (None, Some(first), _) => write!(f, " refused{}", FaultWords(first)),
-            (None, None, None) => write!(f, " unaccepted"),
-            (None, None, Some(_)) => write!(f, " whole"),
-        }
-    }
-}
 
 /// The mark of what broke or refused a connection, or nothing.
 #[derive(Clone, Copy)]

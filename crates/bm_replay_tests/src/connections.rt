@@ -7,10 +7,9 @@ use crate::stages::{
 };
 use bm_base::{Moment, ServerId};
 use bm_connections::{
-    Clock, TimeText, cause_count, causes_text, connections, late_text, longest_late, server_counts,
-    servers_text, table_text,
+    Clock, TimeText, causes_text, connections, late_text, servers_text, summary_of, table_text,
 };
-use bm_core::{Cause, History};
+use bm_core::History;
 use bm_trace::sweep;
 use std::alloc::Global;
 use std::process::Abort;
@@ -104,28 +103,26 @@ fn what_became_of_connections_is_told(rt: HostRuntime) -> Result<(), Fail> {
     check_cases(&rt, rt.alloc(), &CASES)
 }
 
-/// Checks the lines of servers 2 and 1, and of two causes.
+/// Checks the lines of servers 2 and 1, and of the one cause that occurs.
 #[tactic(auto, using(bm_trace::proofs::Ranged::ranges_of))]
 fn check_counts(rt: &impl Abort, alloc: Global, h: &History) -> Result<(), Fail>
     requires { IsRun h.now }
 {
     let causes = sweep(alloc, h)?;
     let table = connections(alloc, h, &causes)?;
-    let servers = server_counts(alloc, h, &[ServerId(2), ServerId(1)])?;
-    let text = servers_text(alloc, servers.items())?;
+    let servers = [ServerId(2), ServerId(1)];
+    let summary = summary_of(alloc, h, &causes, table.items(), &servers)?;
+    let text = servers_text(alloc, summary.servers.items())?;
     assert_eq!(rt;
         text.as_str(),
         "server 2 accepted 0 processed 0 most-held 0 of 4096\n\
         server 1 accepted 1 processed 0 most-held 1 of 4096\n"
     );
-    let counts = [
-        cause_count(h, &causes, table.items(), Cause::NotHeld),
-        cause_count(h, &causes, table.items(), Cause::Full),
-    ];
-    let text = causes_text(alloc, &counts)?;
-    let want = "cause not-held packets 2 broken 1 refused 0\n\
-                cause full packets 0 broken 0 refused 0\n";
-    assert_eq!(rt; text.as_str(), want);
+    let text = causes_text(alloc, summary.causes.items())?;
+    assert_eq!(rt;
+        text.as_str(),
+        "cause not-held packets 2 broken 1 refused 0\n"
+    );
     Ok(())
 }
 
@@ -144,7 +141,9 @@ fn check_late(rt: &impl Abort, alloc: Global, h: &History, text: &str) -> Result
     requires { IsRun h.now }
 {
     let causes = sweep(alloc, h)?;
-    let late = late_text(alloc, longest_late(alloc, h, &causes)?)?;
+    let table = connections(alloc, h, &causes)?;
+    let summary = summary_of(alloc, h, &causes, table.items(), &[])?;
+    let late = late_text(alloc, summary.late)?;
     assert_eq!(rt; late.as_str(), text);
     Ok(())
 }

@@ -38,6 +38,10 @@ pub record CanCount (c : Served) : Type 0 where
   pub accepted : suc c.accepted < 2 ^ 64
   pub processed : suc c.processed < 2 ^ 64
 
+-- each count of each server can take one more
+abbrev pub HaveRoom : (ServerId → Option Served) → Type 0
+HaveRoom loads = (s : ServerId) → CanCount (count_or_none (loads s) s)
+
 -- the counts of each server, if any are kept
 abbrev pub load : Loads → ServerId → Option Served
 load loads s = tree.get (server_order.ghosts).cmp loads.counts s

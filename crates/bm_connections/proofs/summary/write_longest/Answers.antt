@@ -1,5 +1,0 @@
-use Rattle.std.proofs.Common.{append_assoc, rules}
-use Rattle.bm_connections.proofs.summary.write_longest.Goals as goal
-
-pub returns : goal.returns
-returns c = simp append_assoc (search rules)

@@ -1,0 +1,83 @@
+//! The pass over the events that counts packets by their causes and by their servers, and finds the
+//! longest wait of those that came too late, and the replies to commands.
+ghost use Rattle.std.specs.Prelude.{◌≡◌, [], ◌∷◌, List, length, IfOk, OnOk, reverse};
+ghost use Rattle.bm_core.specs.Causes as causes;
+ghost use Rattle.bm_core.specs.Runs.{IsRun};
+ghost use Rattle.bm_core.specs.declared.events.Event.{Event};
+ghost use Rattle.bm_trace.specs.Ranges.{HasRanges};
+ghost use Rattle.bm_trace.specs.Swept.{AreCauses};
+
+use crate::counts::CausePackets;
+use crate::held::HeldByShards;
+use crate::late::LateWaits;
+use crate::replies::note_reply;
+use crate::servers::Loads;
+use bm_base::Memory;
+use bm_core::{Cause, Event, History, Stage};
+use bm_trace::CauseList;
+use std::alloc::Global;
+
+/// What is counted of some events.
+#[derive(Drop)]
+pub(crate) struct Counters {
+    pub(crate) packets: CausePackets,
+    pub(crate) late: LateWaits,
+    pub(crate) loads: Loads,
+    pub(crate) held: HeldByShards,
+    pub(crate) replies: Vec<Event>,
+}
+
+impl Counters {
+    ghost use Rattle.bm_connections.specs.Inside.Counters.{CanCountMore, HasCounted};
+
+    /// What is counted before the first event.
+    fn new(alloc: Global, stage: &Stage) -> Result<Counters, Memory>
+        ensures { IfOk result (HasCounted stage.now []) }
+    {
+        Ok(Counters {
+            packets: CausePackets::new(),
+            late: LateWaits::new(alloc, stage)?,
+            loads: Loads::new(alloc),
+            held: HeldByShards::new(alloc),
+            replies: Vec::new(alloc),
+        })
+    }
+
+    /// Records the event that comes next, after this many events, which has this cause.
+    fn note(
+        &mut self,
+        alloc: Global,
+        stage: &Stage,
+        place: usize,
+        event: &Event,
+        cause: Option<Cause>,
+    ) -> Result<(), Memory>
+        requires ranges { HasRanges stage.now }
+        requires room { CanCountMore stage.now self.old }
+        ensures { (past : List Event) → place ≡ length past
+            → cause ≡ causes.cause stage.now past event.now.clock.0 event.now.what
+            → HasCounted stage.now past self.old
+            → OnOk result (HasCounted stage.now (event.now ∷ past) self.new) }
+    {
+        self.packets.note(cause);
+        self.late.note(stage, event, cause)?;
+        self.loads.note(event)?;
+        self.held.note(alloc, stage, place, event)?;
+        note_reply(&mut self.replies, event)?;
+        Ok(())
+    }
+
+    /// What is counted of all events of a history with these causes.
+    pub(crate) fn of(alloc: Global, h: &History, causes: &CauseList) -> Result<Counters, Memory>
+        requires run { IsRun h.now }
+        requires causes { AreCauses h.now causes.now }
+        ensures { IfOk result (HasCounted h.now.stage (reverse h.now.events)) }
+    {
+        let events = h.events.items();
+        let mut counters = Counters::new(alloc, &h.stage)?;
+        for (place, event) in events.iter().enumerate() {
+            counters.note(alloc, &h.stage, place, event, causes.at(place))?;
+        }
+        Ok(counters)
+    }
+}
