@@ -1,5 +1,5 @@
-//! Makes the real files, standard output and a gate that holds nobody, and calls `beamer` with the
-//! words of the command line.
+//! Makes the real files, standard output and a gate at which no worker waits, and calls `beamer`
+//! with the words of the command line.
 #![tactic(auto)]
 
 use bm_cli::beamer;

@@ -9,7 +9,6 @@ use Rattle.bm_base.specs.declared.label.Label.{Label}
 use Rattle.bm_base.specs.declared.label.Past.{Past}
 use Rattle.bm_base.specs.declared.label.Tag.{Tag}
 
--- these are the same hop
 abbrev pub same_hop : Hop → Hop → Bool
 same_hop Direct Direct = true
 same_hop Chained Chained = true

@@ -39,14 +39,14 @@ pub enum Reason {
     Later,
 }
 
-/// What a record holds.
+/// What a record contains: a segment to be steered, or the first reason against it.
 #[derive(Clone, Copy, PartialEq, Eq)]
 pub enum Body {
     Steerable(Segment),
     Unsteered(Reason),
 }
 
-/// A record of a capture: its moment, and what it holds.
+/// A record of a capture: its moment, and what it contains.
 #[derive(Clone, Copy, PartialEq, Eq)]
 pub struct Record {
     pub moment: Moment,

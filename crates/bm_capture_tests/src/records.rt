@@ -1,4 +1,4 @@
-//! What the captures of both forms hold.
+//! What the captures of both forms contain.
 use bm_base::{Body, Capture, Flow, Moment, Octets, Record, Segment, Vip};
 use std::process::Abort;
 

@@ -15,7 +15,7 @@ use Rattle.bm_check.specs.declared.answer.Answer.TheVariants.{Yes, NotLine, NotR
 use Rattle.bm_check.specs.declared.answer.Answer.TheVariants.{NotSame}
 use Rattle.bm_check.specs.Lines.{AreGood, AreLinesOf, lines}
 
--- each packet, copy and command is accounted for, by these answers of the route and the fault rule
+-- each packet, copy and command is accounted for, by these answers of the route and the impairment rule
 abbrev pub IsAccounted : Routes → Rules → History → Type 0
 IsAccounted R F h = (fates : List Fate) × IsAccountOf R F h.stage fates (reverse h.events)
 

@@ -137,11 +137,11 @@ fn judge<R: Fn(u32, &Flow) -> u16, F: Fn(u32, Hop) -> Fate>(
 }
 
 /// Whether the octets are the report of a run of the stage that is accounted for, or the first
-/// thing that is wrong with them. The route and the fault rule have one answer to each question.
-/// For n octets and a stage of n records, moves and retirements of shards, the time is in proportion
-/// to n log n, unless flows are chosen for one home (docs/SECURITY.md). The memory is in proportion
-/// to n: the events, what is kept of them, and the report of these events from the first octet on
-/// that differs. `Memory` where memory was refused.
+/// thing that is wrong with them. The route and the impairment rule have one answer to each
+/// question. For n octets and a stage of n records, moves and retirements of shards, the time is in
+/// proportion to n log n, unless flows are chosen for one home (docs/SECURITY.md). The memory is in
+/// proportion to n: the events, what is kept of them, and the report of these events from the first
+/// octet on that differs. `Memory` where memory was refused.
 pub fn check<R: Fn(u32, &Flow) -> u16, F: Fn(u32, Hop) -> Fate>(
     alloc: Global,
     stage: Stage,

@@ -21,7 +21,7 @@ fn processed(text: &[u8]) -> Option<(Verdict, &[u8])>
     Some((Verdict::Process(taken_in(taken)?), rest))
 }
 
-/// It was forwarded.
+/// Reads to which server the copy is forwarded.
 fn forwarded(text: &[u8]) -> Option<(Verdict, &[u8])>
     ensures { (s : ℕ) (ws : List (List ℕ)) → s < 2 ^ 16 → text.now ≡ text_of (decimal s ∷ ws)
         → HasRead result (Verdict.Forward (record { 0 = s })) ws }
@@ -30,7 +30,7 @@ fn forwarded(text: &[u8]) -> Option<(Verdict, &[u8])>
     Some((Verdict::Forward(ServerId(number_16(server)?)), rest))
 }
 
-/// It was reset.
+/// Reads why the packet is reset.
 fn reset(text: &[u8]) -> Option<(Verdict, &[u8])>
     ensures { (why : Why) (ws : List (List ℕ)) → text.now ≡ text_of (words.why_word why ∷ ws)
         → HasRead result (Verdict.Reset why) ws }
@@ -39,7 +39,7 @@ fn reset(text: &[u8]) -> Option<(Verdict, &[u8])>
     Some((Verdict::Reset(why_in(why)?), rest))
 }
 
-/// It was dropped.
+/// Reads why the packet is dropped.
 fn dropped(text: &[u8]) -> Option<(Verdict, &[u8])>
     ensures { (why : Why) (ws : List (List ℕ)) → text.now ≡ text_of (words.why_word why ∷ ws)
         → HasRead result (Verdict.Drop why) ws }

@@ -40,7 +40,7 @@ behind_opens : (name : List ℕ) (names : List (List ℕ)) → names ++ name ∷
 behind_opens name [] = λ e. cc
 behind_opens name (x ∷ xs) = λ e. cc
 
--- the reads where the files tell nothing: whatever was read
+-- the reads where the files' octets aren't known: whatever was read
 abbrev just : Result Script StageFault → Captured → ℕ → Reads
 just script captured time = record {
   script = λ name. script;
@@ -77,7 +77,7 @@ stage_alone mode names told files r more both =
 abbrev Refused : StageFault → Option (List ℕ) → Reads → Type 0
 Refused fault name reads = IsRead (script_for reads name) (Err fault)
 
--- by some reads, which are those of the files where they tell them
+-- by some reads, which are those of the files where their octets are known
 refused_some : (told : Octets) (name : Option (List ℕ)) (fault : StageFault) → ReadsScript told name (Err fault) →
     Holds told (Refused fault name)
 refused_some None None fault read = record { reads = just (Err fault) (Err NoMemory) 0; known = tt; holds = read }
@@ -219,7 +219,7 @@ record Gives (names : Named) (script : Script) (r : Captured) (time : ℕ) (read
   pub second : Captures (reads.capture names.capture script.setting.vips) r
   pub third : BeganWith r time names.capture reads
 
--- by some reads, which are those of the files where they tell them
+-- by some reads, which are those of the files where their octets are known
 gives_some : (names : Named) (told : Octets) (script : Script) (r : Captured) (time : ℕ) (name : Option (List ℕ)) →
     names.script ≡ name → ReadsScript told name (Ok script) →
     ReadsFile told names.capture script.setting.vips r → IfOk r (λ read. FileBegan told names.capture time) →
@@ -338,7 +338,7 @@ not_played : (names : Named) (r : Result Script StageFault) (fault : StageFault)
     (fact : List (List ℕ) → Type 0) → fact (script_names names.script) → fact (names_after names r)
 not_played names r fault is fact h = subst (λ s. fact (names_after names s)) (sym is) h
 
--- by some reads, which are those of the files where they tell them
+-- by some reads, which are those of the files where their octets are known
 read_some : (names : Named) (told : Octets) (script : Script) → ReadsScript told names.script (Ok script) →
     Holds told (λ reads. script_for reads names.script ≡ Ok script)
 read_some names told script read = by told names.script refl read where

@@ -149,7 +149,7 @@ record Gives (trace capture script : List ℕ) (files : FilesDid) (stage : Stage
   pub first : ReadsStage Replay (both_named capture script) reads files (Ok stage)
   pub second : IsRead (if_short (reads.trace trace)) r
 
--- by some reads, which are those of the files where they tell them
+-- by some reads, which are those of the files where their octets are known
 gives_some : (trace capture script : List ℕ) (told : Octets) (files : FilesDid) (stage : Stage)
     (r : Result (List ℕ) StageFault) →
     Holds told (λ reads. ReadsStage Replay (both_named capture script) reads files (Ok stage)) →

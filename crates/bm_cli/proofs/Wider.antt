@@ -1,4 +1,4 @@
--- A threaded run, or a check, by a route and a fault rule is one by any that answer the same.
+-- A threaded run, or a check, by a route and an impairment rule is one by any that answer the same.
 use Rattle.std.proofs.Common.{◌≡◌, ℕ, List, Result, Ok, Err, IfOk, length}
 use Rattle.bm_base.specs.declared.memory.Memory.{Memory}
 use Rattle.bm_check.specs.Answers.{IsAccounted, IsAnswered}
@@ -54,7 +54,7 @@ accounted_more : (R S : Routes) (F G : Rules) → ((k : ℕ) (f : Flow) (m : ℕ
     → ((k : ℕ) (hop : Hop) (f : Fate) → F k hop f → G k hop f) → (h : History) → IsAccounted R F h → IsAccounted S G h
 accounted_more R S F G routes rules h is = (is.0, account_more R S F G routes rules h.stage is.0 _ is.1)
 
--- a route and a fault rule that answer just the same
+-- a route and an impairment rule that answer just the same
 pub record AreSame (R S : Routes) (F G : Rules) : Type 0 where
   pub routes : (k : ℕ) (f : Flow) (m : ℕ) → R k f m → S k f m
   pub routes_back : (k : ℕ) (f : Flow) (m : ℕ) → S k f m → R k f m
@@ -77,7 +77,7 @@ answered_same R S F G same stage trace (NotSame n) is =
 answered_same R S F G same stage trace (Yes e) is =
     (is.0, is.1, is.2, is.3, accounted_more R S F G same.routes same.rules is.0 is.4, is.5, is.6)
 
--- what a check answers, where another route and another fault rule answer just the same
+-- what a check answers, where another route and another impairment rule answer just the same
 pub checked_same : (R S : Routes) (F G : Rules) (stage : Stage) (trace : List ℕ) (r : Result Checked Memory)
     → IfOk r (IsAnswered R F stage trace)
     → ((h : History) → h.stage ≡ stage → AreEvents h.events → IsRun h → IsAccounted R F h → text h ≡ trace

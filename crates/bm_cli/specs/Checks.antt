@@ -14,7 +14,7 @@ use Rattle.bm_trace.specs.Types.{AreEvents}
 use Rattle.bm_cli.specs.declared.status.Status.{Status}
 use Rattle.bm_cli.specs.declared.status.Status.TheVariants.{Done, Denied}
 
--- this is what a check answers of the trace, where the route and the fault rule answer so
+-- this is what a check answers of the trace, where the route and the impairment rule answer so
 pub record IsCheckBy (R : Routes) (F : Rules) (stage : Stage) (trace : List ℕ) (answer : Checked)
     : Type 0 where
   -- it names the first thing that is wrong with the trace, or says that nothing is
@@ -23,7 +23,7 @@ pub record IsCheckBy (R : Routes) (F : Rules) (stage : Stage) (trace : List ℕ)
   pub yes : (h : History) → h.stage ≡ stage → AreEvents h.events → IsRun h → IsAccounted R F h
       → text h ≡ trace → answer ≡ Yes (length h.events)
 
--- the same, by the route and the fault rule of the stage's setting
+-- the same, by the route and the impairment rule of the stage's setting
 abbrev pub IsCheckOf : Stage → List ℕ → Checked → Type 0
 IsCheckOf stage =
     IsCheckBy (setting_route stage.script.setting) (setting_rule stage.script.setting) stage

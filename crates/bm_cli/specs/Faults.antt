@@ -1,4 +1,4 @@
--- A fault of the files as a fault of the stage.
+-- A failure of the files, or refused memory, as a fault of the stage.
 use Rattle.bm_io.specs.declared.fault.IoFault.{IoFault}
 use Rattle.bm_io.specs.declared.fault.IoFault.TheVariants.{Failed, Memory as RefusedMemory}
 use Rattle.bm_cli.specs.declared.fault.StageFault.{StageFault}

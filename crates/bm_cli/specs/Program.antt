@@ -20,8 +20,8 @@ pub record Program (A : Type 0) : Type 1 where
   -- just the script's name, if the words have one
   pub scripts : Option A → List (List ℕ)
 
--- What a call promises, for words of this form, by what the files' octets tell, by what it did to
--- the files and to the sink, and by the exit status.
+-- What a call promises, for words of this form, by the files' octets where these are known, by what
+-- it did to the files and to the sink, and by the exit status.
 pub record IsProgram {A : Type 0} (program : Program A) (form : Option A) (told : Octets)
     (files : FilesDid) (sink : SinkDid) (code : ℕ) : Type 0 where
   -- how the call ended, by what was due; all that stands below follows from it
@@ -40,8 +40,8 @@ pub record IsProgram {A : Type 0} (program : Program A) (form : Option A) (told 
   -- the status is 5 exactly if the sink failed
   pub write : code ≡ 5 → Rose sink.faults sink.later
   pub kept : code ≢ 5 → sink.later ≡ sink.faults
-  -- with any status but 0, what was written is the line of that status, whatever the files hold, or
-  -- a first part of the text that was due
+  -- with any status but 0, what was written is the line of that status, whatever the files contain,
+  -- or a first part of the text that was due
   pub usage_line : code ≡ 1 → Appends sink.before sink.now program.usage
   pub read_line : code ≡ 2 → Appends sink.before sink.now (fault_line Files)
   pub line : (code ≡ 3) ⊎ (code ≡ 4) ⊎ (code ≡ 7) →
@@ -56,5 +56,5 @@ pub record IsProgram {A : Type 0} (program : Program A) (form : Option A) (told 
   -- they were asked for all of them, unless the files or the sink failed, or memory was refused
   pub all : code ≢ 2 → code ≢ 5 → code ≢ 6 →
       Holds told (λ reads. AsksAll files.before files.now (program.due form reads).names)
-  -- after a fault of the script they were asked for its name alone, whatever they hold
+  -- after a fault of the script they were asked for its name alone, whatever they contain
   pub script : code ≡ 4 → AsksAll files.before files.now (program.scripts form)

@@ -17,7 +17,7 @@ use Rattle.bm_cli.specs.declared.mode.Mode.{Mode}
 use Rattle.bm_cli.specs.declared.mode.Mode.TheVariants.{Replay, Run}
 use Rattle.bm_cli.specs.Plain.{plain_script}
 
--- WHAT THE FILES HOLD
+-- WHAT THE FILES CONTAIN
 
 -- the octets of each name, if they are known
 abbrev pub Octets : Type 0

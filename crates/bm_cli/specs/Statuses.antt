@@ -33,7 +33,7 @@ FilesDid = Did (List (List ℕ))
 abbrev pub SinkDid : Type 0
 SinkDid = Did (List ℕ)
 
--- the same, from what is known of their content and how their faults are counted
+-- the same, from what is known of their content and how their failures are counted
 abbrev pub did : {S A : Type 0} → (S → Option A) → (S → ℕ) → S → S → Did A
 did told faults old new =
     record { before = told old; now = told new; faults = faults old; later = faults new }

@@ -124,7 +124,7 @@ fn show_check<K: Sink>(alloc: Global, stage: Stage, trace: &[u8], out: &mut K) -
     }
 }
 
-/// What a check of the trace answers, by the route and the fault rule of the stage's setting.
+/// What a check of the trace answers, by the route and the impairment rule of the stage's setting.
 fn answer_of(alloc: Global, stage: Stage, trace: &[u8]) -> Result<Answer, Memory>
     requires sound { IsSound stage }
     requires short { length trace.now ≤ LONGEST }

@@ -17,8 +17,8 @@ use std::alloc::Global;
 use std::sync::Wait;
 use std::thread::Threads;
 
-/// The history of the stage, played by the route and the fault rule of its setting. `packets` has
-/// the packet of each record, and is dropped.
+/// The history of the stage, played by the route and the impairment rule of its setting. `packets`
+/// has the packet of each record, and is dropped.
 pub(crate) fn history_of<R: Threads + Wait + Sync, G: Gate>(
     rt: &R,
     alloc: Global,
@@ -36,8 +36,8 @@ pub(crate) fn history_of<R: Threads + Wait + Sync, G: Gate>(
     Ok(history)
 }
 
-/// The replay of the stage, by the route and the fault rule of its setting, with `packets`, which
-/// has the packet of each record.
+/// The replay of the stage, by the route and the impairment rule of its setting, with `packets`,
+/// which has the packet of each record.
 pub(crate) fn replay_with_packets<R: Threads + Wait + Sync>(
     rt: &R,
     alloc: Global,

@@ -29,8 +29,8 @@ use std::thread::Threads;
 const USAGE: &str =
     "usage: beamer replay CAPTURE [SCRIPT] | run CAPTURE SCRIPT | load N | check TRACE CAPTURE SCRIPT | streams CAPTURE [SCRIPT]\n";
 
-/// Does all that the program does, and returns the status. The gate may hold the workers of a run;
-/// it doesn't change what is due.
+/// Does all that the program does, and returns the status. The gate may make the workers of a run
+/// wait; it doesn't change what is due.
 ///
 /// 0: the report, the lines of streams or the line of a load was written, or a check answers yes.
 /// 1: the words fit no form. 2: the files failed. 3: the capture has a fault. 4: the script has a
@@ -45,10 +45,10 @@ pub fn beamer<R: Threads + Wait + Sync, F: Files, K: Sink, G: Gate>(
     gate: &G,
 ) -> u8
     requires room { F.open_now files.old ≤ 1000 }
-    // On status 0 what was written is the report of a replay, or of a run in threads, of the named
-    // capture through the servers of the named script, or the lines of the streams of that replay,
-    // or the line of a run in threads of the load of this many connections; or a check of the named
-    // trace answers yes.
+    // On status 0 one of these was written, or a check of the named trace answers yes: the report
+    // of a replay, or of a run in threads, of the named capture through the servers of the named
+    // script; the lines of the streams of that replay; the line of a run in threads of the load of
+    // this many connections.
     ensures shown { result ≡ 0 → Holds (F.octets files.old) (λ reads.
         ShowsAnswer (due (form_in words.now) reads).answer
         (K.written out.old) (K.written out.new)) }

@@ -58,7 +58,7 @@ fn is_drop(verdict: Verdict) -> bool
     matches!(verdict, Verdict::Drop(_))
 }
 
-/// The counts after an arrival with this verdict, which is a fault or not.
+/// The counts after an arrival with this verdict, which is a drop, a reset, a stray or none of these.
 fn tallied(verdict: Verdict, fault: bool, t: &Tally) -> Tally
     requires { kept.HasRoom t.now }
     ensures { result ≡ kept.tallied verdict fault t.now }

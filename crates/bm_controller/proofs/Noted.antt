@@ -1,4 +1,4 @@
--- Moves that are noted by the buckets' numbers, and listed again in rising bucket.
+-- Moves that are recorded by the buckets' numbers, and listed again in rising bucket.
 use Rattle.std.proofs.Common.{◌≡◌, ◌≢◌, ℕ, suc, ◌+◌, ◌-◌, ◌*◌, ◌/◌, ◌%◌, ◌<◌, ◌≤◌, true, false, cond, eqb, List, []}
 use Rattle.std.proofs.Common.{◌∷◌, ◌++◌, Option, Some, None, length, inl, inr, refl, ap, sym, ◌∙◌, arith, drop, get_or}
 use Rattle.std.proofs.Math.ListN.{set}
@@ -26,7 +26,7 @@ target_in-set targets place to h b =
           ∙ sym (ap (λ t. cond t to (target_in targets b)) (ne_eqb place b other))
     ]
 
--- what is noted depends on what was there at each bucket
+-- what is recorded depends on what was there at each bucket
 pub noted-same : (n part : ℕ) (moves : List Move) (to to' : ℕ → Option ServerId) → ((b : ℕ) → to b ≡ to' b) → (b : ℕ)
     → noted n part moves to b ≡ noted n part moves to' b
 noted-same n part moves to to' same b = ap (λ f. noted n part moves f b) (λ i x. same x i)
@@ -46,7 +46,7 @@ pub noted-end : (n part : ℕ) (moves : List Move) (i : ℕ) (targets : List (Op
     → noted n part (drop i moves) (target_in targets) b ≡ target_in targets b
 noted-end n part moves i targets h b = at_drop_all (λ (ms : List Move). noted n part ms (target_in targets) b) moves i h
 
--- if the moves rise, each bucket of the part is noted where they bring it
+-- if the moves rise, for each bucket of the part it is recorded where they bring it
 abbrev or_else : Option ServerId → Option ServerId → Option ServerId
 or_else None before = before
 or_else (Some s) before = Some s

@@ -50,7 +50,7 @@ pub(crate) fn moves_by_racks(
     listed(alloc, targets.as_slice())
 }
 
-/// Notes for each bucket where the moves of its rack bring it.
+/// Records for each bucket where the moves of its rack bring it.
 fn find_targets(
     alloc: Global,
     rooms: &mut [u32],
@@ -136,7 +136,7 @@ fn owners_of_rack(
     Ok(owned)
 }
 
-/// Notes where the moves of a rack bring its buckets.
+/// Records where the moves of a rack bring its buckets.
 fn note(targets: &mut [Option<ServerId>], racks: u16, rack: u16, moves: &[Move])
     requires places { All (λ m. m.bucket * racks + rack < length targets.old) moves.now }
     ensures count { length targets.new ≡ length targets.old }

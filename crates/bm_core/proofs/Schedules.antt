@@ -469,7 +469,7 @@ loses_not (Close server flow closed) k hop e = refl
 loses_not (Retire server h at result) k hop e = refl
 loses_not Sync k hop e = refl
 
--- a sending that has no copies owes a Lose
+-- a sending that has no copies is due a Lose
 owes : (f : Fate) (o : Option Sending) (k : ℕ) (hop : Hop)
     → is_loss_due (loss_of_fate f o) k hop ≡ (is_sending o k hop && f.copies == 0)
 owes f None k hop = refl

@@ -49,7 +49,7 @@ unfolding replayed play has_flag is_opening flow_octets fnv_step fnv_1a flow_has
     comes_in_turn taken after_taken opened receiver_after
 stale_broken = refl
 
--- data before its SYN, whose forwarded copy is late: nobody knows it
+-- data before its SYN, whose forwarded copy is late: no server knows its flow
 abbrev early : Stage
 early = stage_of
     (record plain_setting {

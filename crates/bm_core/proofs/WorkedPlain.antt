@@ -1,5 +1,5 @@
--- A connection through the plain setting: its SYN is accepted, its data processed; and data that nobody accepted is
--- reset.
+-- A connection through the plain setting: its SYN is accepted, its data processed; and data that no
+-- server accepted is reset.
 use Rattle.std.proofs.Common.{◌≡◌, [], ◌∷◌, Some, None, refl}
 use Rattle.std.specs.Prelude.{reverse}
 use Rattle.bm_base.specs.declared.label.Hop.TheVariants.{Direct}

@@ -23,7 +23,7 @@ use Rattle.bm_core.specs.Past.{segment_of, same_hop, sending_of, sends, newest}
 abbrev pub Routes : Type 1
 Routes = ℕ → Flow → ℕ → Type 0
 
--- what the fault rule may answer for a packet and a hop
+-- what the impairment rule may answer for a packet and a hop
 abbrev pub Rules : Type 1
 Rules = ℕ → Hop → Fate → Type 0
 
@@ -48,7 +48,7 @@ abbrev pub before : List Fate → List Fate
 before [] = []
 before (f ∷ fates) = fates
 
--- WHAT THE ROUTE AND THE FAULT RULE ANSWERED
+-- WHAT THE ROUTE AND THE IMPAIRMENT RULE ANSWERED
 
 -- a Steer is at a mux that the route may give
 abbrev pub IsRouted : Routes → Stage → What → Type 0

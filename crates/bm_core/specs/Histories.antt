@@ -17,7 +17,8 @@ pub record IsNextIn (mux : ℕ → Flow → ℕ) (fates : List Fate) (stage : St
   pub routed : IsRouted (RouteBy mux) stage e.what
   pub next : IsNextBy fates stage past e
 
--- the whole run of a replay of its stage, with these answers of the route and of the fault rule
+-- the whole run of a replay of its stage, with these answers of the route and of the impairment
+-- rule
 pub record IsReplay (R : Routes) (F : Rules) (h : History) : Type 0 where
   pub run : IsRun h
   -- one fate for each event, the newest first

@@ -1,4 +1,4 @@
--- What the route and the fault rule of a setting answer (docs/DEFINITIONS.md).
+-- What the route and the impairment rule of a setting answer (docs/DEFINITIONS.md).
 use Rattle.std.specs.Prelude.{◌≡◌, ℕ}
 use Rattle.bm_base.specs.declared.flow.Flow.{Flow}
 use Rattle.bm_base.specs.declared.label.Hop.{Hop}
@@ -20,6 +20,6 @@ setting_fate s k hop = fate_in s.faults k hop
 abbrev pub RouteBy : (ℕ → Flow → ℕ) → Routes
 RouteBy mux k f m = m ≡ mux k f
 
--- the fault rule that gives just this answer
+-- the impairment rule that gives just this answer
 abbrev pub RuleBy : (ℕ → Hop → Fate) → Rules
 RuleBy fate k hop f = f ≡ fate k hop

@@ -28,7 +28,6 @@ pub data Actor : Type 0 where
   MuxOf : ℕ → Actor
   ShardOf : ℕ → ℕ → Actor
 
--- these are the same actor
 abbrev pub same_actor : Actor → Actor → Bool
 same_actor Controller Controller = true
 same_actor (MuxOf m) (MuxOf n) = m == n

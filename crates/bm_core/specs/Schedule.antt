@@ -161,7 +161,7 @@ sync_commands [] = []
 sync_commands (SyncCommand at ∷ rest) = due_at at.0 0 Syncs ∷ sync_commands rest
 sync_commands (_ ∷ rest) = sync_commands rest
 
--- the steerable records, the first of which has this number
+-- the steerable records among these, where the first of all has this number
 abbrev pub packets_from : ℕ → List Record → List Due
 packets_from k [] = []
 packets_from k (r ∷ records) =
@@ -175,7 +175,7 @@ dropped zero xs = xs
 dropped (suc n) [] = []
 dropped (suc n) (x ∷ xs) = dropped n xs
 
--- the first one, if there is one
+-- at most the first of these
 abbrev pub first_of : List Due → List Due
 first_of [] = []
 first_of (d ∷ dues) = d ∷ []

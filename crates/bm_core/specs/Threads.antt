@@ -1,7 +1,7 @@
 -- How the history of a threaded run follows its script (docs/DEFINITIONS.md). Worker 0 carries out
 -- the commands, in their order; worker m + 1 carries the packets of mux m. A phase is the time
--- between two Syncs, at which all workers have met. A past has its newest event first, and so have
--- the fates, one for each event.
+-- between two Syncs; at each Sync all workers have done the phase before it. A past has its newest
+-- event first, and so have the fates, one for each event.
 use Rattle.std.specs.Prelude.{◌≡◌, ℕ, zero, suc, ◌+◌, ◌<◌, ◌≤◌, max, Bool, true, false, ◌&&◌, ◌||◌}
 use Rattle.std.specs.Prelude.{not, ◌==◌, nat_le, nat_lt, MatchBool, if◌then◌else◌, List, [], ◌∷◌}
 use Rattle.std.specs.Prelude.{◌⊎◌, length, slice_get, Option, Some, None, IfSome, unwrap_or}

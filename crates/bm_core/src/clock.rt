@@ -4,8 +4,7 @@ ghost use Rattle.bm_core.specs.Runs.{next_clock};
 
 use bm_base::Moment;
 
-/// The clock of an event after one with the clock `last`, for a cause with the moment `cause`. All
-/// three are nanoseconds.
+/// The least clock after both the clock `last` and the moment `cause`. All three are nanoseconds.
 pub fn next_clock(last: Moment, cause: Moment) -> Moment
     requires last { last.0 < 2 ^ 63 }
     requires cause { cause.0 < 2 ^ 63 }

@@ -85,7 +85,7 @@ pub fn pinned(h: &History, packet: u32)
         → IsKeptTo h.now.stage (reverse h.now.events) packet pin }
 {}
 
-/// Each sound stage has a replay, by the route and the fault rows of its own setting.
+/// Each sound stage has a replay, by the route and the impairments of its own setting.
 pub fn some_replay(stage: &Stage)
     requires { IsSound stage.now }
     ensures { let setting = stage.now.script.setting in
@@ -93,7 +93,7 @@ pub fn some_replay(stage: &Stage)
         × IsReplay (RouteBy (setting_mux setting)) (RuleBy (setting_fate setting)) h }
 {}
 
-/// A replay is determined by its stage, its route and its fault rule.
+/// A replay is determined by its stage, its route and its impairment rule.
 pub fn one_replay(a: &History, b: &History)
     requires { a.now.stage ≡ b.now.stage }
     ensures { (mux : ℕ → Flow → ℕ) (fate : ℕ → Hop → Fate)
@@ -110,9 +110,9 @@ pub fn one_next(stage: &Stage)
         → a ≡ b }
 {}
 
-/// A replay of a sound stage, whose sendings have at most three copies each, at most a minute late,
-/// has at most 40 events for each of 200,000 packets and 65 for each of 65,536 commands, and its
-/// clocks are at most 6 × 10^18 nanoseconds.
+/// A bound on a replay of a sound stage whose sendings have at most three copies each, at most a
+/// minute late. It has at most 40 events for each of 200,000 packets and 65 for each of 65,536
+/// commands, and its clocks are at most 6 × 10^18 nanoseconds.
 pub fn short_replay(stage: &Stage)
     requires { IsSound stage.now }
     ensures events { (fates : List Fate) (past : List Event)

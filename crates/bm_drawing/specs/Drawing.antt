@@ -107,7 +107,7 @@ frame height = svg_start ++ size height ++ view height ++ heading ++ ground heig
 
 -- LEGEND
 
--- eight colours that colour-blind readers can tell apart too (Okabe and Ito)
+-- eight colours that colour-blind readers can distinguish too (Okabe and Ito)
 abbrev pub colour : ℕ → List ℕ
 colour n =
     if n % 8 == 0 then codes "#f0e442" else if n % 8 == 1 then codes "#0072b2"

@@ -6,7 +6,7 @@ use crate::shapes::{Group, Line, TextAt};
 use bm_base::ServerId;
 use std::alloc::AllocError;
 
-/// One of eight colours that colour-blind readers can tell apart too (Okabe and Ito).
+/// One of eight colours that colour-blind readers can distinguish too (Okabe and Ito).
 fn colour(number: u16) -> &'static str
     ensures { result.now ≡ spec.colour number }
 {

@@ -73,7 +73,7 @@ bad_count octets = nat_lt 2 (octet_at octets 23) || nat_lt (octet_at octets 23) 
 abbrev pub has_prev : List ℕ → Bool
 has_prev octets = nat_lt 0 (octet_at octets 23)
 
--- there is an older one
+-- there is one before the previous server too
 abbrev pub has_older : List ℕ → Bool
 has_older octets = nat_lt 1 (octet_at octets 23)
 
@@ -130,7 +130,7 @@ option_fault octets = first_fault (
     ∷ fault_when (not (u16_at octets 54 == 0)) (BadOption 54)
     ∷ [])
 
--- all faults, in their order
+-- the first fault, in the order of these checks
 abbrev pub encap_fault : List ℕ → Option EncapFault
 encap_fault octets = first_fault (
     fault_when (nat_lt (length octets) header_length) Short

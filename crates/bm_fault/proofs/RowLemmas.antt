@@ -112,16 +112,16 @@ row_says row k hop same = grind (arith, nat_tests, same)
 row_silent : (row : FaultRow) (k : ℕ) (hop : Hop) → same_hop row.hop hop ≡ false → row_fate row k hop ≡ None
 row_silent row k hop apart = grind (arith, nat_tests, apart)
 
--- a row that was noted
+-- a row that was recorded
 abbrev pub Notes : BTreeMap ℕ Fate → BTreeMap ℕ Fate → FaultRow → Type 0
 Notes old new row =
     (k : ℕ) → get nat_cmp new k ≡ fate_or (get nat_cmp old k) (if row.packet == k then Some row.fate else None)
 
--- a row was noted: it says what nothing said before
+-- a row was recorded: it says what nothing said before
 abbrev pub Adds : List FaultRow → List FaultRow → FaultRow → Type 0
 Adds old new row = (k : ℕ) (hop : Hop) → found_in new k hop ≡ fate_or (found_in old k hop) (row_fate row k hop)
 
--- a row was noted among the fates of its hop, and those of the others stayed
+-- a row was recorded among the fates of its hop, and those of the others stayed
 abbrev pub AddsTo : Inside → Inside → FaultRow → Type 0
 AddsTo old new row =
     (hop : Hop) (k : ℕ)

@@ -1,4 +1,5 @@
--- What a fault rule is: a rule that may always be called, and whose answers are within the limits.
+-- What an impairment rule is: a rule that may always be called, and whose answers are within the
+-- limits.
 use Rattle.std.specs.Prelude.{ℕ, ◌≤◌, ◌*◌, ◌^◌}
 use denote.Param.Members.{Shared}
 use Rattle.bm_base.specs.declared.label.Hop.{Hop}

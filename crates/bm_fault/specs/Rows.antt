@@ -1,4 +1,4 @@
--- What fault rows say of a sending (docs/FORMATS.md).
+-- What impairments say of a sending (docs/FORMATS.md).
 use Rattle.std.specs.Prelude.{ℕ, ◌&&◌, ◌==◌, if◌then◌else◌, List, [], ◌∷◌}
 use Rattle.bm_base.specs.declared.label.Hop.{Hop}
 use Rattle.bm_base.specs.declared.fate.Fate.{Fate}

@@ -1,4 +1,4 @@
--- How contracts see the fault rows and the wire.
+-- How contracts see the impairments and the wire.
 use Rattle.std.specs.Prelude.{ℕ, List, ◌++◌, map}
 use Rattle.bm_base.specs.declared.label.Hop.{Hop}
 use Rattle.bm_base.specs.declared.label.Hop.TheVariants.{Direct, Chained, Twice}

@@ -15,7 +15,7 @@ abbrev pub first_due : List Flying → Option Moment
 first_due [] = None
 first_due (f ∷ flying) = Some f.due
 
--- the first one
+-- the copy that is due first, without its moment
 abbrev pub first_flight : List Flying → Option Flight
 first_flight [] = None
 first_flight (f ∷ flying) = Some f.flight

@@ -11,7 +11,7 @@ pub struct Faults<F> {
 }
 
 impl<F: Fn(u32, Hop) -> Fate> Faults<F> {
-    /// The faults by a rule whose answers are all within the limits: at most 3 copies, at most a
+    /// Impairments by a rule whose answers are all within the limits: at most 3 copies, at most a
     /// minute late.
     pub fn new(f: F) -> Faults<F>
         requires { IsRule F.Fn f }

@@ -1,4 +1,4 @@
-//! The fault rows of a setting, found by packet and hop.
+//! The impairments of a setting, found by packet and hop.
 ghost use Rattle.std.specs.Prelude.{◌≡◌, ◌==◌, ℕ, IfOk, Some, None, if◌then◌else◌, unwrap_or};
 ghost use Rattle.std.specs.BTreeMap.{get};
 ghost use Rattle.std.specs.Ordering.{nat_cmp};
@@ -17,7 +17,7 @@ const PLAIN: Fate = Fate {
     delay: 0,
 };
 
-/// Fault rows, at most one for each packet and hop.
+/// Impairments, at most one for each packet and hop.
 #[derive(Drop)]
 pub struct FaultRows {
     direct: BTreeMap<u32, Fate>,

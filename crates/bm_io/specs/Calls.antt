@@ -13,7 +13,7 @@ next_call calls = min (calls + 1) (2 ^ 64 - 1)
 abbrev pub is_asked : List ℕ → ℕ → Bool
 is_asked fails call = list_any (λ n. n == call) fails
 
--- the count of faults after a call that failed or didn't; it never passes 2^64 - 1
+-- the count of failures after a call that failed or didn't; it never passes 2^64 - 1
 abbrev pub faults_after : Bool → ℕ → ℕ
 faults_after failed faults = if failed then min (faults + 1) (2 ^ 64 - 1) else faults
 

@@ -1,4 +1,4 @@
--- When a fault may be returned.
+-- When a failure may be returned.
 use Rattle.std.specs.Prelude.{◌≡◌, ℕ, ◌+◌, ◌-◌, ◌^◌, ◌≤◌, min, Result, OnErr, OnOk, IsErrOf}
 use Rattle.bm_io.specs.declared.fault.IoFault.{IoFault}
 use Rattle.bm_io.specs.declared.fault.IoFault.TheVariants.{Failed, Memory}

@@ -36,7 +36,7 @@ pub trait Files {
         ensures memory { IsErrOf result Memory → faults self.new ≡ faults self.old }
         ensures open { open_now self.new ≡ open_after result (open_now self.old) };
 
-    /// Takes a source back, and counts a fault where the source failed.
+    /// Takes a source back, and counts a failure where the source failed.
     fn close(&mut self, src: Self::Src)
         requires open { 1 ≤ open_now self.old }
         ensures octets { octets self.new ≡ octets self.old }

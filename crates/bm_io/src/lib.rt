@@ -1,4 +1,4 @@
-//! What the program reads from and writes to, as traits that count their faults.
+//! What the program reads from and writes to, as traits that count their failures.
 #![tactic(auto)]
 
 mod fault;

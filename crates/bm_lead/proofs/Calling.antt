@@ -1,4 +1,4 @@
--- What the calls of worker 0 do, and what its seats hear of them.
+-- What the calls of worker 0 do, and what they add to the calls of its seats.
 use Rattle.std.proofs.Common.{◌≡◌, ℕ, ◌+◌, ◌*◌, ◌^◌, ◌<◌, ◌≤◌, max, false, List, [], ◌∷◌}
 use Rattle.std.proofs.Common.{Option, Some, refl, sym, ap, ◌∙◌, append-nil, arith, subst}
 use Rattle.bm_base.specs.declared.ids.Moment.{Moment}
@@ -30,7 +30,7 @@ pub change_early : (stage : Stage) (v : ℕ) (change : Change) → IsSound stage
 change_early stage v change sound is =
     subst (λ (o : Option Change). change_moment o ≤ 45 * 10 ^ 17) is ((sound_early stage sound).changes v)
 
--- what isn't at a shard is heard nowhere
+-- what isn't at a shard adds no call
 pub hears_elsewhere : (stage : Stage) (servers : List Serving) (a b : List (List Seated)) (n : Note) → b ≡ a
     → ((s h : ℕ) → is_home stage (ShardOf s h) n ≡ false) → Hears stage servers a b (n ∷ [])
 hears_elsewhere stage servers a b n same away s h server at =

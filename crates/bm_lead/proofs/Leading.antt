@@ -47,7 +47,7 @@ home_append stage a (n ∷ x) y = go (is_home stage a n) (home_append stage a x 
   go true old = ap (λ (l : List Note). n ∷ l) old
   go false old = old
 
--- the controller's log after more deeds
+-- the controller's log after more notes
 control_append : (stage : Stage) (x y : List Note)
     → control_log stage (x ++ y) ≡ control_log stage x ++ control_log stage y
 control_append stage x y =
@@ -68,7 +68,7 @@ newest_after : (x y : List Event) → newest (x ++ y) ≡ published_after x (new
 newest_after [] y = refl
 newest_after (e ∷ x) y = ap (λ (v : ℕ). published_by e.what v) (newest_after x y)
 
--- what holds of each deed holds of each event of the controller's log
+-- what holds of each note holds of each event of the controller's log
 pub control_each : (P : Event → Type 0) (stage : Stage) (x : List Note) → AllByRecursion (λ n. P n.event) x
     → AllByRecursion P (control_log stage x)
 control_each P stage [] all = tt
@@ -194,7 +194,7 @@ led_more stage servers p q a b c e before at step done old =
           ∙ ap (λ (l : List Event). posted_clocks l) (sym control)));
     }
 
--- by the deeds of a command
+-- by the notes of a command
 pub leads_step : (stage : Stage) (servers : List Serving) (p q : Posted) (a b : Head) (c : Command) (e : List Note)
     → slice_get stage.script.commands a.next ≡ Some c
     → IsStep stage servers a.porter.latest a.published.0 a.next c e → HasDone stage servers p q a b e

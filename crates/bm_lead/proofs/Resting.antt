@@ -50,7 +50,7 @@ if_some : (P Q : ℕ → Type 0) (o : Option ℕ) → ((c : ℕ) → P c → Q c
 if_some P Q None f h = tt
 if_some P Q (Some c) f h = f c h
 
--- what isn't at home in the controller's log is no Publish
+-- what isn't in the controller's log is no Publish
 not_publish : (stage : Stage) (n : Note) → is_home stage Controller n ≡ false → is_publish n.event.what ≡ false
 not_publish stage n away = elim (cases_Bool (is_publish n.event.what)) [
   | inl is ↦

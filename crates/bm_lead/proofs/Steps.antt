@@ -1,4 +1,4 @@
--- Each kind of command: what its deeds are to those before them.
+-- Each kind of command: what its notes are to those before them.
 use Rattle.std.proofs.Common.{◌≡◌, ℕ, suc, ◌+◌, ◌-◌, ◌<◌, ◌≤◌, ◌==◌, ◌&&◌, max, Bool, true, false, cond}
 use Rattle.std.proofs.Common.{inl, inr, List, [], ◌∷◌, ◌++◌, length, reverse, slice_get, Option, Some}
 use Rattle.std.proofs.Common.{refl, sym, ap, ◌∙◌}
@@ -35,7 +35,7 @@ use Rattle.bm_lead.specs.Leads.{IsPlaced}
 use Rattle.bm_lead.specs.Inside.Steps.{AreOf, AreRetirings}
 use Rattle.bm_lead.proofs.Calling.{retirings_elsewhere}
 
--- WORLD BEFORE: the deeds of earlier commands
+-- WORLD BEFORE: the notes of earlier commands
 
 -- the actor's last clock is below what is above all clocks
 own_below : (stage : Stage) (a : Actor) (top clock : ℕ) (past : List Event) → top < clock
@@ -55,7 +55,7 @@ until_all top clock [] over low = refl
 until_all top clock (e ∷ past) over low =
     let first = low.0 in let yes : leb e.clock.0 clock ≡ true = le-leb _ _ (omega arith) in rw yes refl
 
--- the notes of the deeds are of the command, those before them of earlier ones: the controller's clock
+-- these notes are of the command, those before them of earlier ones: the controller's clock
 pub clock_is : (i : ℕ) (n : Note) (e before : List Note) → n.command ≡ i → AllByRecursion (λ y. y.command ≡ i) e
     → AllByRecursion (λ y. y.command < i) before → AllByRecursion (λ y. is_command y.event.what ≡ true) before
     → clock_before (e ++ before) n ≡ greatest (λ y. y.event.clock.0) before
@@ -88,13 +88,13 @@ none_before i n before is earlier =
     (each_so (λ y. y.command < i) (λ y. cond (is_same_part n y) 1 0 ≡ 0) before
     (λ y low. let other : eqb y.command n.command ≡ false = ne_eqb _ _ (λ e. omega arith) in rw other refl) earlier)
 
--- the deeds of earlier commands; their greatest clock is the controller's
+-- the notes of earlier commands; their greatest clock is the controller's
 pub record Stands (latest i : ℕ) (before : List Note) : Type 0 where
   pub earlier : AllByRecursion (λ y. y.command < i) before
   pub kinds : AllByRecursion (λ y. is_command y.event.what ≡ true) before
   pub clock : latest ≡ greatest (λ y. y.event.clock.0) before
 
--- the deeds of the command i, after those of earlier ones
+-- the notes of the command i, after those of earlier ones
 pub record IsStep (stage : Stage) (servers : List Serving) (latest published i : ℕ) (c : Command) (e : List Note)
     : Type 0 where
   pub commands : AllByRecursion (λ n. n.command ≡ i) e
@@ -245,7 +245,7 @@ marks_below i k server at outcome (n ∷ e) are =
       each_so (λ y. mark_of y.event.what < are.1) (λ y. mark_of y.event.what < k) e (λ y low. omega arith) old,
     )
 
--- the deeds of the first k shards
+-- the notes of the first k shards
 record IsPart (stage : Stage) (latest i k : ℕ) (server : ServerId) (e : List Note) : Type 0 where
   pub commands : AllByRecursion (λ n. n.command ≡ i) e
   pub size : many (λ n. n.command == i) e ≡ k

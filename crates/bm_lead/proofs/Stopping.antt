@@ -4,7 +4,7 @@ use Rattle.bm_worker.specs.declared.stop.Stop.{Stop}
 use Rattle.bm_worker.specs.declared.stop.Stop.TheVariants.{Late, Memory}
 use Rattle.bm_lead.specs.Heads.{OnLate, UnlessMemory}
 
--- an answer that was handed on
+-- an answer that was passed on
 pub unless_late : {A : Type 0} (r : Result A Stop) (stop : Stop) (P Q : Type 0) → IsErrAnd r (λ e. e ≡ stop)
     → OnLate {T = A} (Err stop) Q → (Q → P) → UnlessMemory r P
 unless_late (Ok x) stop P Q is late so = absurd is

@@ -1,5 +1,5 @@
--- What worker 0 does (docs/DEFINITIONS.md), as notes (its deeds), and what holds of those that
--- carry out the first commands of a script. Deeds have the newest first.
+-- What worker 0 does (docs/DEFINITIONS.md), as notes, and what holds of the notes that carry out
+-- the first commands of a script. Lists of notes have the newest first.
 use Rattle.std.specs.Prelude.{◌≡◌, ℕ, ◌<◌, ◌≤◌, ◌==◌, if◌then◌else◌, List, [], ◌∷◌, ◌++◌, take}
 use Rattle.std.specs.Prelude.{IfSome, slice_get}
 use Rattle.std.specs.List.{AllByRecursion}
@@ -21,13 +21,13 @@ use Rattle.bm_merge.specs.Notes.{Note, events_of, many, size_of}
 use Rattle.bm_merge.specs.Workers.{home_part, is_publish}
 use Rattle.bm_worker.specs.Deeds.{deed, no_fate}
 
--- all workers have met, by the command of this number
+-- a Sync at this clock, by the command of this number
 abbrev pub syncing : Moment → ℕ → Note
 syncing clock command = deed clock Sync no_fate command 0 0
 
 -- THE CONTROLLER'S LOG
 
--- the events of the deeds that are in it
+-- the events of the notes that are in it
 abbrev pub control_log : Stage → List Note → List Event
 control_log stage deeds = events_of (home_part stage Controller deeds)
 

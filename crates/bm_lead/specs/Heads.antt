@@ -47,7 +47,7 @@ pub record Begins (stage : Stage) (servers : List Serving) (posted : Posted) (po
   pub tries : porter.tries ≡ 0
   pub latest : porter.latest ≡ 0
 
--- the command is a sync
+-- there is a command, and it is a sync
 abbrev pub IsSyncCommand : Option Command → Type 0
 IsSyncCommand (Some (Sync at)) = Unit {0}
 IsSyncCommand _ = ⊥

@@ -1,4 +1,5 @@
--- What worker 0 promises of what it does (docs/DEFINITIONS.md). Deeds have the newest first.
+-- What worker 0 promises of what it does (docs/DEFINITIONS.md). Lists of notes have the newest
+-- first.
 use Rattle.std.specs.Prelude.{◌≡◌, ℕ, false, ◌+◌, ◌*◌, ◌^◌, ◌<◌, ◌≤◌, List, [], ◌∷◌, ◌++◌, reverse}
 use Rattle.std.specs.Prelude.{slice_get}
 use Rattle.std.specs.List.{AllByRecursion}
@@ -43,13 +44,13 @@ IsPlaced stage servers (Retire server h at result) =
     HasServer servers server × (h < stage.script.setting.shards)
 IsPlaced stage servers _ = Unit {0}
 
--- by these deeds worker 0 goes from p and a to q and b
+-- by these notes worker 0 goes from the posts p and the state a to q and b
 pub record Leads (stage : Stage) (servers : List Serving) (p q : Posted) (a b : Head)
     (deeds : List Note) : Type 0 where
   pub led : (before : List Note) → IsLed stage p a before → IsLed stage q b (deeds ++ before)
   pub board : q.board ≡ p.board
   pub same : IsSamePorter a.porter b.porter
-  -- what its seats hear is exactly what it does at their shards
+  -- its seats' calls and replies grow by exactly what it does at their shards
   pub heard : Hears stage servers a.porter.seats b.porter.seats deeds
   pub placed : AllByRecursion (λ n. IsPlaced stage servers n.event.what) deeds
   -- each clock is above all clocks before
@@ -60,7 +61,7 @@ pub record Leads (stage : Stage) (servers : List Serving) (p q : Posted) (a b : 
 abbrev pub HaveNoSync : List Note → Type 0
 HaveNoSync deeds = AllByRecursion (λ n. is_sync n.event.what ≡ false) deeds
 
--- worker 0 went on by some deeds, none of which is a Sync, and may go on
+-- worker 0 went on without a Sync, and may go on
 abbrev pub HasLed : Stage → List Serving → Posted → Posted → Head → Head → Type 0
 HasLed stage servers p q a b = IsReady stage servers q b
     × ((deeds : List Note) × Leads stage servers p q a b deeds × HaveNoSync deeds)

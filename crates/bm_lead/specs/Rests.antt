@@ -1,5 +1,5 @@
--- The changes that worker 0 posts once a worker has given up (docs/DEFINITIONS.md). Deeds have the
--- newest first.
+-- The changes that worker 0 posts once a worker has given up (docs/DEFINITIONS.md). Lists of notes
+-- have the newest first.
 use Rattle.std.specs.Prelude.{◌≡◌, true, ◌+◌, List, ◌++◌, reverse}
 use Rattle.std.specs.List.{AllByRecursion}
 use Rattle.bm_core.specs.declared.events.Stage.{Stage}
@@ -11,8 +11,8 @@ use Rattle.bm_lead.specs.declared.head.Head.{Head}
 use Rattle.bm_lead.specs.Commands.{posted_clocks}
 use Rattle.bm_lead.specs.Leads.{IsLed}
 
--- by these deeds worker 0 goes from p and a to q and b: each is a Publish at the clock after that
--- of the one before, and the last one's is the greatest
+-- by these notes worker 0 goes from the posts p and the state a to q and b: each is a Publish at
+-- the clock after that of the one before, and the last one's is the greatest
 pub record Adds (stage : Stage) (p q : Posted) (a b : Head) (deeds : List Note) : Type 0 where
   pub underway : (before : List Note) → IsLed stage p a before
       → AtEach (IsUnderway stage) (deeds ++ before)

@@ -88,9 +88,9 @@ fn sync_moment(commands: &[Command], place: usize) -> Moment
     }
 }
 
-/// All workers have met, and this is the greatest clock of what they did. Logs the Sync that is the
-/// next command. `Late` if its clock would be above LAST; then nothing changes. `Memory` where
-/// memory was refused.
+/// All workers have done the phase, and `greatest` is the greatest clock of what they did. Logs the
+/// Sync that is the next command. `Late` if its clock would be above LAST; then nothing changes.
+/// `Memory` where memory was refused.
 pub fn sync(stage: &Stage, head: &mut Head, greatest: Moment) -> Result<(), Stop>
     requires sound { IsSound stage.now }
     requires sync { IsSyncCommand (slice_get stage.now.script.commands head.old.next) }

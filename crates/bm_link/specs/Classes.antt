@@ -1,4 +1,4 @@
--- What a record holds: a segment to be steered, or the first reason against it.
+-- What a record contains: a segment to be steered, or the first reason against it.
 use Rattle.std.specs.Prelude.{ℕ, List, [], length, Bool, not, ◌&&◌, nat_lt, ◌==◌, if◌then◌else◌}
 use Rattle.std.specs.Prelude.{Result, Ok, Err}
 use Rattle.std.specs.List.{list_any}
@@ -60,6 +60,6 @@ abbrev pub of_part : List Vip → Result (List ℕ) LinkFault → Body × List �
 of_part vips (Err e) = unsteered (link_reason e)
 of_part vips (Ok part) = of_segment vips (segment_in part)
 
--- what a record with these octets holds, and its packet
+-- what a record with these octets contains, and its packet
 unfoldable pub classified : ℕ → List Vip → List ℕ → Body × List ℕ
 classified link vips octets = of_part vips (network_of link octets)

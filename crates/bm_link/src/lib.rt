@@ -1,4 +1,4 @@
-//! Link layers, and what a captured record holds.
+//! Link layers, and what a captured record contains.
 #![tactic(auto)]
 
 mod fault;

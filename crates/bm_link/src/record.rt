@@ -1,4 +1,4 @@
-//! What a record holds.
+//! What a record contains.
 ghost use Rattle.std.specs.Prelude.{◌≡◌, ◌<◌, ◌^◌, ℕ, length, IsTrue};
 ghost use Rattle.bm_base.specs.Captures.{IsFit};
 ghost use Rattle.bm_link.specs.Fits.{IsPacketOf};
@@ -11,7 +11,7 @@ use bm_base::{Body, Flow, MAX_INNER, Reason, Vip};
 use bm_ipv4::Ipv4Fault;
 use bm_tcp::{InnerFault, TcpFault, read_packet};
 
-/// What a record of this link type holds for the services, and its packet: a segment to one of
+/// What a record of this link type contains for the services, and its packet: a segment to one of
 /// them, or the first reason against steering it. A record that isn't steered has an empty packet.
 #[tactic(auto, unfolding(crate::specs::Classes::classified))]
 pub fn classify<'a>(link: u16, octets: &'a [u8], vips: &[Vip]) -> (Body, &'a [u8])

@@ -1,4 +1,5 @@
--- In a run of a load each packet is steered once and each copy comes once, and nobody loses, closes, retires or syncs.
+-- In a run of a load each packet is steered once and each copy comes once, and no event is a Lose,
+-- a Close, a Retire or a Sync.
 use Rattle.std.proofs.Common.{◌≡◌, ℕ, zero, suc, Bool, true, false, cond, ◌&&◌, List, [], ◌∷◌}
 use Rattle.std.proofs.Common.{Option, Some, None, refl, ◌∙◌, arith, eqb}
 use Rattle.std.specs.Prelude.{IfSome, slice_get}

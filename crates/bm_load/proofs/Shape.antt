@@ -47,7 +47,7 @@ pub record IsLoadLike (stage : Stage) (n : ℕ) : Type 0 where
       × (segment_of stage o ≡ Some t) × (t.flow ≡ s.flow) × (is_opening t ≡ true) × (o ≤ k)
   pub alone : (j k : ℕ) (s t : Segment) → segment_of stage j ≡ Some s → segment_of stage k ≡ Some t
       → s.flow ≡ t.flow → is_opening s ≡ true → is_opening t ≡ true → j ≡ k
-  -- the mux goes by the flow alone, and no sending has a fault
+  -- the mux goes by the flow alone, and no sending has an impairment
   pub one_mux : (j k : ℕ) (f : Flow)
       → setting_mux stage.script.setting j f ≡ setting_mux stage.script.setting k f
   pub unit_fate : (k : ℕ) (hop : Hop)
@@ -69,7 +69,7 @@ pub record IsRunLike (stage : Stage) (n : ℕ) (fates : List Fate) (all : List E
   pub account : IsAccountOf (RouteBy (setting_mux stage.script.setting))
       (RuleBy (setting_fate stage.script.setting)) stage fates all
 
--- nobody loses, closes, retires or syncs
+-- no event is a Lose, a Close, a Retire or a Sync
 abbrev pub is_quiet : What → Bool
 is_quiet (Lose k hop) = false
 is_quiet (Close server flow closed) = false

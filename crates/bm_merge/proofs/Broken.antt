@@ -90,7 +90,7 @@ IsInPhase stage past e = IfSome (packet_of e.what) (λ k. phase past ≡ phase_o
 abbrev pub IsInTime : Stage → List Event → Event → Type 0
 IsInTime stage past e = IsTimed [] stage past (last_own stage past (actor_of stage e.what)) e.clock.0 e.what
 
--- all is accounted for, by the stage's own route and fault rule
+-- all is accounted for, by the stage's own route and impairment rule
 abbrev pub IsAccounted : Stage → List Event → Type 0
 IsAccounted stage events =
     IsAccountOf (RouteBy (setting_mux stage.script.setting)) (RuleBy (setting_fate stage.script.setting)) stage []
@@ -128,7 +128,7 @@ pub record LacksLook (stage : Stage) (events : List Event) : Type 0 where
   pub account : IsAccounted stage events
   pub steps : AtEach (λ past e. IsOrdered stage past e × IsInPhase stage past e × IsInTime stage past e) events
 
--- SO THEY ARE NO THREADED RUNS, whatever the fates, the route and the fault rule
+-- SO THEY ARE NO THREADED RUNS, whatever the fates, the route and the impairment rule
 
 abbrev pub IsRefused : Stage → List Event → Type 0
 IsRefused stage events = (fates : List Fate) → FollowsInThreads fates stage events → ⊥

@@ -218,7 +218,7 @@ closed_refused : IsRefused closed closed_events
 unfolding flow_octets fnv_step fnv_1a flow_hash
 closed_refused fates follows = let clock : ◌≡◌ {A = ℕ} 12 11 = follows.0.0.timed in absurd (omega arith)
 
--- a retire of four shards, the last of which retires at this clock, for this moment
+-- a retire of four shards; the last of these retires at this clock, for this moment
 abbrev retiring : Stage
 retiring = quiet (RetireCommand (moment 10) (server 1) ∷ []) []
 

@@ -413,7 +413,7 @@ turned true false = refl
 turned false true = refl
 turned false false = refl
 
--- what a worker's own deeds steer, it steered
+-- what a worker's own notes steer, it steered
 steered_own : (logs : List NotedLog) (controller : List Note) (carriers : List (List Note))
     → AreShared logs controller carriers → (m k : ℕ)
     → 1 ≤ many (λ y. steers_packet y.event.what k) (deeds_of carriers m)

@@ -1,4 +1,4 @@
--- Steps by which a worker keeps its promises: the copies that it owes, and the phases.
+-- Steps by which a worker keeps its promises: the copies that are still to arrive, and the phases.
 use Rattle.std.proofs.Common.{◌≡◌, ℕ, suc, ◌+◌, ◌<◌, ◌≤◌, max, Bool, true, false, cond, ◌&&◌, List, [], ◌∷◌, ◌++◌}
 use Rattle.std.proofs.Common.{refl, sym, ap, ◌∙◌, arith, leb, ltb}
 use Rattle.std.specs.List.{AllByRecursion}
@@ -27,7 +27,7 @@ IsOwing deeds k hop clock left =
     (c : ℕ) → many (λ n. arrives n.event.what k hop && leb n.event.clock.0 c) deeds + cond (ltb clock c) left 0
     ≤ total (λ n. cond (sends n.event.what k hop && ltb n.event.clock.0 c) n.fate.copies 0) deeds
 
--- a sending owes its copies
+-- the copies of a sending are still to arrive
 pub owes_more : (n : Note) (deeds : List Note) (k : ℕ) (hop : Hop) (old : ℕ) → arrives n.event.what k hop ≡ false
     → sends n.event.what k hop ≡ true → IsOwing deeds k hop old 0
     → IsOwing (n ∷ deeds) k hop n.event.clock.0 n.fate.copies
@@ -43,7 +43,7 @@ owes_more n deeds k hop old not is owing c =
       go true h = omega arith
       go false h = omega arith
 
--- a copy that arrives later than it was sent is no longer owed
+-- a copy that arrives later than it was sent is no longer to arrive
 pub owes_less : (n : Note) (deeds : List Note) (k : ℕ) (hop : Hop) (clock left : ℕ)
     → arrives n.event.what k hop ≡ true → sends n.event.what k hop ≡ false → clock < n.event.clock.0
     → IsOwing deeds k hop clock (suc left) → IsOwing (n ∷ deeds) k hop clock left
@@ -104,7 +104,7 @@ publish_in_phase control e clock p not low old = go (leb e.clock.0 clock) (now_i
 
 -- SYNCS
 
--- what comes later doesn't change that all have met
+-- what comes later doesn't change that a Sync came after its phase
 pub met_still : (stage : Stage) (more all : List Note) (rest : List Event) (n : Note) (what : What)
     → AllByRecursion (λ y. n.event.clock.0 ≤ y.event.clock.0) more → IsMet stage all rest n what
     → IsMet stage (more ++ all) rest n what

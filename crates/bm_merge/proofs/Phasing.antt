@@ -59,7 +59,7 @@ met_one stage more deeds rest n what low is later top met = elim (cases_Bool (is
   | inr not ↦ met_free stage (more ++ deeds) rest n what not
 ]
 
--- what comes after the last Sync leaves all Syncs met
+-- what comes after the last Sync doesn't change that each Sync came after its phase
 met_later : (stage : Stage) (more deeds control : List Note) (low : ℕ)
     → AllByRecursion (λ y. low ≤ y.event.clock.0) more
     → AllByRecursion (λ n. is_sync n.event.what ≡ true → n.event.clock.0 ≤ low) control

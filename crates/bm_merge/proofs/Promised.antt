@@ -97,7 +97,7 @@ pub record IsTold (R : Routes) (F : Rules) (stage : Stage) (logs : List Log) (al
       (λ k. counts (controlled logs n.event.clock.0) is_sync ≡ phase_of stage k)
   pub timed : IsPromised stage logs all rest n.command (last_own stage rest (actor_of stage n.event.what))
       n.event.clock.0 n.event.what
-  -- the route and the fault rule gave these answers
+  -- the route and the impairment rule gave these answers
   pub routed : IsRouted R stage n.event.what
   pub fate : IfSome (sending_of n.event.what) (λ s. F s.packet s.hop n.fate)
 

@@ -92,7 +92,7 @@ logs_zero : (logs : List NotedLog) → sum_logs (λ l. 0) logs ≡ 0
 logs_zero [] = refl
 logs_zero (l ∷ logs) = let old = logs_zero logs in omega arith
 
--- a note's home is one log
+-- a note is in one log
 no_home : (stage : Stage) (f : Note → ℕ) (n : Note) (a : Actor) (logs : List NotedLog)
     → home_of stage n.seat n.event.what ≡ Some a → has_actor (plain logs) a ≡ false
     → sum_logs (λ l. of_home stage l.actor f n) logs ≡ 0

@@ -504,8 +504,9 @@ worked_run =
     workers_law (RouteBy (setting_mux stage.script.setting)) Losing history logs controller (carrier ∷ []) promises
     refl
 
--- A Sync at the clock of a Lose that comes in its phase: it stands first, so the Lose stands in the wrong phase. So a
--- Sync's clock is to be above those of the Loses too, which a mux's last clock doesn't tell.
+-- A Sync at the clock of a Lose that comes in its phase: it stands first, so the Lose stands in the
+-- wrong phase. So a Sync's clock is to be above those of the Loses too, which a mux's last clock
+-- doesn't show.
 lose_counts : (fates : List Fate)
     → AreThreadSteps fates stage (at 52 (Lose 1 Direct) ∷ at 52 Sync ∷ steer 51 1 0 ∷ switch 1 0 0 ∷ []) → ⊥
 lose_counts fates steps = let late : ◌≡◌ {A = ℕ} 1 0 = steps.0.phase in absurd (omega arith)

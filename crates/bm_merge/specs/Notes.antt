@@ -40,7 +40,7 @@ abbrev pub events_of : List Note → List Event
 events_of [] = []
 events_of (n ∷ notes) = n.event ∷ events_of notes
 
--- the logs without what was noted besides the events
+-- the logs with just their events
 abbrev pub plain : List NotedLog → List Log
 plain [] = []
 plain (l ∷ logs) = record { actor = l.actor; events = events_of l.notes } ∷ plain logs

@@ -234,7 +234,7 @@ copies_below k hop clock n =
 abbrev pub copies_in : ℕ → Hop → Note → ℕ
 copies_in k hop n = if sends n.event.what k hop then n.fate.copies else 0
 
--- the fault rule may give the fate
+-- the impairment rule may give the fate
 abbrev pub IsDrawn : Rules → Note → Type 0
 IsDrawn F n = IfSome (sending_of n.event.what) (λ s. F s.packet s.hop n.fate)
 
@@ -259,7 +259,8 @@ pub record IsCarrier (R : Routes) (F : Rules) (stage : Stage) (m : ℕ) (deeds :
   pub arrived : (k : ℕ) (hop : Hop)
       → many (λ n. arrives n.event.what k hop) deeds ≡ total (copies_in k hop) deeds
 
--- TOGETHER: the workers meet at each Sync, where worker 0 learns the greatest clock of all
+-- TOGETHER: at each Sync all workers have done the phase, and worker 0 learns the greatest clock of
+-- all
 
 -- the note is a Switch of the mux, at this clock or later
 abbrev pub looks_since : ℕ → ℕ → Note → Bool
@@ -358,7 +359,7 @@ pub record IsUnderway (stage : Stage) (rest : List Note) (n : Note) : Type 0 whe
   pub kind : is_command n.event.what ≡ true
   pub meant : IsMeant stage rest n n.event.what ⊎ IsAdded rest n n.event.what
 
--- what worker m + 1 did; deeds are all of it
+-- worker m + 1 did this, where `deeds` is all that it did
 abbrev pub IsCarried : ℕ → List Note → Note → Type 0
 IsCarried m deeds n = (carries m n.event.what ≡ true) × IsOwed deeds n n.event.what
 

@@ -19,8 +19,8 @@ pub fn merges(h: &History)
         → Agree h.now.stage logs → h.now.events ≡ reverse (merged logs) → IsRun h.now }
 {}
 
-/// Logs whose workers keep their promises, by any route and any fault rule, merge into a threaded
-/// run with every packet, copy and command accounted for.
+/// Logs whose workers keep their promises, by any route and any impairment rule, merge into a
+/// threaded run with every packet, copy and command accounted for.
 pub fn threaded<R: Fn(u32, &Flow) -> u16, F: Fn(u32, Hop) -> Fate>(
     h: &History,
     route: &Route<R>,

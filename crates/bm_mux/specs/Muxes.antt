@@ -18,7 +18,7 @@ use Rattle.bm_mux.specs.Steers.{clock_under, sent, steers, switch_to, switches}
 -- a mux, as contracts see it
 pub record MuxState : Type 0 where
   pub id : MuxId
-  -- the posts that its look has seen or heard of
+  -- the posts that its look has seen or learned of
   pub seen : Posted
   pub log : List Event
 
@@ -55,7 +55,7 @@ IsShown clocks clock _ = Unit {0}
 abbrev pub AreShown : MuxId → List ℕ → List Event → Type 0
 AreShown m clocks log = AllByRecursion (λ e. IsOwn m e.what × IsShown clocks e.clock.0 e.what) log
 
--- the log of a mux that heard these posts, and then looked
+-- the log of a mux that learned these posts, and then looked
 pub record IsLogOf (mux : MuxState) (told : Posted) (log : List Event) : Type 0 where
   pub log_is : log ≡ mux.log
   -- what it was shown last
@@ -71,7 +71,7 @@ pub record IsLogOf (mux : MuxState) (told : Posted) (log : List Event) : Type 0 
 abbrev pub with_event : MuxState → Event → MuxState
 with_event mux e = record mux { log = mux.log ++ e ∷ [] }
 
--- the same mux, which has seen or heard no less
+-- the same mux, which has seen or learned of the same posts and maybe more
 pub record IsSameMux (old new : MuxState) : Type 0 where
   pub id : new.id ≡ old.id
   pub later : Continues old.seen new.seen
@@ -83,7 +83,7 @@ pub record HasLooked (old new : MuxState) : Type 0 where
   pub newer : (version_at (reverse old.log) old.id).0 ≤ last_version new.seen
   pub version : (version_at (reverse new.log) old.id).0 ≡ last_version new.seen
 
--- the mux heard this, and then looked and switched
+-- the mux learned these posts, and then looked and switched
 pub record HasBegun (old : MuxState) (told : Posted) (after : ℕ) (new : MuxState) : Type 0 where
   pub looked : HasLooked old new
   pub heard : Continues told new.seen

@@ -31,7 +31,8 @@ steering_clock (e ∷ past) = if is_lose e.what then steering_clock past else e.
 abbrev pub at_clock : ℕ → What → Event
 at_clock clock what = record { clock = record { 0 = clock }; what = what }
 
--- the Switch to the version to which the posts lead, for a cause with this moment
+-- the Switch to the version to which the posts lead, at the clock after the mux's last one and this
+-- moment
 abbrev pub switch_to : MuxId → Posted → List Event → ℕ → Event
 switch_to m seen past cause =
     at_clock (next_clock (steering_clock past) cause) (Switch m (record { 0 = last_version seen }))

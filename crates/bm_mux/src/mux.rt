@@ -16,7 +16,7 @@ use bm_publish::{Guard, Look, Told};
 use std::alloc::Global;
 use std::marker::Model;
 
-/// A mux. Contracts see its number, the posts that its look has seen or heard of, and its log.
+/// A mux. Contracts see its number, the posts that its look has seen or learned of, and its log.
 #[derive(Drop)]
 pub struct Mux {
     /// None only while a call is looking.
@@ -62,9 +62,10 @@ impl Mux {
         }
     }
 
-    /// Hears what was told, looks, and logs one Switch to the version that it sees, with a clock
+    /// Learns these posts, looks, and logs one Switch to the version that it sees, with a clock
     /// above `after`, above that of its last Switch or Steer, and above that of the last post.
-    /// `Memory` where memory or the look was refused; then it has heard, and the log is as it was.
+    /// `Memory` where memory or the look was refused; then it has learned them, and the log is as
+    /// it was.
     pub fn begin(&mut self, told: Told, after: Moment) -> Result<(), Memory>
         requires board { told.board ≡ self.old.seen.board }
         requires after { after.0 ≤ 9 * 10 ^ 18 }
@@ -122,7 +123,7 @@ impl Mux {
         self.notes.clock
     }
 
-    /// The log, after the mux heard what was told and looked once more. Each Switch of the log is
+    /// The log, after the mux learned these posts and looked once more. Each Switch of the log is
     /// to version 0 or to the version of a post that the mux was shown, which has a lower clock.
     /// `Memory` where the look was refused.
     pub fn into_log(self, told: Told) -> Result<Log, Memory>

@@ -27,7 +27,7 @@ pub(crate) struct Notes {
 }
 
 impl Notes {
-    /// Logs a Switch to the guard's version, for a cause with this moment.
+    /// Logs a Switch to the guard's version, at the clock after the mux's last one and `cause`.
     pub(crate) fn switch(&mut self, guard: &Guard, cause: Moment) -> Result<(), Memory>
         requires kept { AreKept self.old guard.now }
         requires room { length self.old.log.items < 2 ^ 48 }

@@ -22,7 +22,7 @@ enough : (left : List ℕ) → 24 ≤ length left → form_of left ≡ form_by (
 unfolding form_of
 enough left more = let t : nat_lt (length left) 24 ≡ false = grind (arith, nat_tests, more) in rw t
 
--- a buffer that is full holds the front of what was left
+-- a buffer that is full contains the front of what was left
 full : (size n : ℕ) (buf left : List ℕ) → length buf ≡ size → n ≡ min (length buf) (length left) → size ≤ n
     → take n buf ≡ take n left → buf ≡ take size left
 full size n buf left is count most same =

@@ -73,7 +73,7 @@ unfolding records_from
 one_step form vips place left few =
     let k : most_records + 1 - place.number ≡ suc (most_records + 1 - (place.number + 1)) = omega arith in rw k refl
 
--- what a loop knows where the source told its octets
+-- what a loop knows where the source's octets are known
 told : (now new : Option (List ℕ)) (form : Form) (vips : List Vip) (total : Captured) (place : Place)
     (records : List Record) (packets : List (List ℕ)) (found : Step) (buffer : List ℕ)
     → SoFar now form vips total place records packets → StepGives now new form place (Ok found) buffer
@@ -270,8 +270,8 @@ wants_memory result e is memory not = let wrong : fault.Memory ≡ fault.ReadFau
 pub first_number : (place : Place) → place ≡ first_place → place.number ≡ 1
 first_number place is = ap (λ (p : Place). p.number) is
 
--- Once this many octets of a capture are consumed, the source has left what comes after the octets held: what was taken
--- from it and isn't consumed is what is held.
+-- Once this many octets of a capture are consumed, the source has left what comes after the octets
+-- that were read ahead: these were taken from it and aren't consumed.
 pub taken : (left : Option (List ℕ)) (ahead octets : List ℕ) (answered : ℕ)
     → prepend_known ahead left ≡ Some (drop answered octets) → left ≡ Some (drop (answered + length ahead) octets)
 taken None ahead octets answered is = absurd (cc)

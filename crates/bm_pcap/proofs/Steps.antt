@@ -60,7 +60,7 @@ short_large room left more = let t : nat_lt room (length left) ≡ true = grind 
 short_cut : (room : ℕ) (left : List ℕ) → length left ≤ room → short room left ≡ Ok cut
 short_cut room left fits = let t : nat_lt room (length left) ≡ false = grind (arith, nat_tests, fits) in rw t
 
--- what a read that was wanted knows where the source told its octets
+-- what a read that was wanted knows where the source's octets are known
 known : (octets : List ℕ) (new : Option (List ℕ)) → Keeps (Some octets) new → new ≡ Some octets
 known octets None keeps = absurd keeps
 known octets (Some same) keeps = ap (λ z. Some z) keeps
@@ -242,7 +242,7 @@ failed_step None mid new form place passed h k = tt
 failed_step (Some octets) mid new form place passed h k =
     let P : Option (List ℕ) → Type 0 = λ m. Keeps m new in known octets new (subst P (known octets mid h) k)
 
--- what is known at the body, where the source told its octets
+-- what is known at the body, where the source's octets are known
 body_told : (octets : List ℕ) (mid new : Option (List ℕ)) (form : Form) (place : Place) (time len most n : ℕ)
     (ahead : List ℕ) (said : Head) → said ≡ head.States time len → HeadGives (Some octets) form place (Ok said)
     → HeadFits place said → Keeps (Some octets) mid → Ahead mid most n ahead → Keeps mid new

@@ -52,7 +52,7 @@ keeps_same None new xs ys same held = tt
 keeps_same (Some a) None xs ys same held = same
 keeps_same (Some a) (Some b) xs ys same held = ap₂ (λ p q. p ++ q) held same
 
--- A piece of the source is held now.
+-- A piece of the source was read ahead.
 pub keeps_more : (left : Option (List ℕ)) (new : Option (List ℕ)) (xs ys more : List ℕ) → Consumes left new more
     → ys ≡ xs ++ more → Keeps (prepend_known xs left) (prepend_known ys new)
 keeps_more None new xs ys more read held = tt
@@ -66,7 +66,7 @@ keeps_trans (Some a) None new h k = absurd h
 keeps_trans (Some a) (Some b) None h k = absurd k
 keeps_trans (Some a) (Some b) (Some c) h k = k ∙ h
 
--- As many octets are held as were wanted.
+-- As many octets were read ahead as were wanted.
 pub ahead_whole : (old left : Option (List ℕ)) (ahead : List ℕ) (most : ℕ) → Keeps old (prepend_known ahead left)
     → most ≤ length ahead → Ahead old most most ahead
 ahead_whole None left ahead most keeps long = tt
@@ -77,7 +77,7 @@ ahead_whole (Some xs) (Some ys) ahead most keeps long = (
       ∙ ap (take most) keeps,
 )
 
--- All that are left are held.
+-- All that are left were read ahead.
 pub ahead_end : (old left : Option (List ℕ)) (ahead : List ℕ) (most n : ℕ) → Keeps old (prepend_known ahead left)
     → IsAtEnd left → n ≡ length ahead → n ≤ most → Ahead old most n ahead
 ahead_end None left ahead most n keeps none is less = tt
@@ -90,7 +90,7 @@ pub length_range : (xs : List ℕ) (start end : ℕ) → end ≤ length xs → l
 length_range xs start end within =
     omega (arith, within, length-take (end - start) (drop start xs), length-drop start xs)
 
--- what a buffer holds from its front
+-- what a buffer contains from its front
 pub front_held : (xs : List ℕ) (start end size : ℕ) → start ≡ 0 → end ≤ size → length xs ≡ size
     → length (slice_range xs start end) ≡ end
 front_held xs start end size zero within is =

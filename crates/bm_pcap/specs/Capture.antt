@@ -22,7 +22,7 @@ CapturedOr E = Result (Capture × List (List ℕ)) E
 abbrev pub Captured : Type 0
 Captured = CapturedOr PcapFault
 
--- no more records
+-- the records end here, and this one is cut, if any
 abbrev pub ends : {E : Type 0} → Option ℕ → CapturedOr E
 ends cut_record = Ok (record { records = []; cut = cut_record }, [])
 

@@ -21,9 +21,10 @@ use Rattle.bm_pcap.specs.Records.{Found, IsOpen, whole, cut, end, next_of, first
 use Rattle.bm_pcap.specs.Records.{behind_record}
 use Rattle.bm_pcap.specs.Taken.{FormLeaves}
 
--- A reader: the source after what was read ahead, what the capture's header says, the place after
--- what was taken, the octets that were read ahead, those that were taken last (only contracts of
--- private calls use these), and what it returns from now on, if it has ended.
+-- A reader: the source after what was read ahead, what the capture's header says, and the place
+-- after what was taken. `held` is the octets that were read ahead, and `passed` those that were
+-- taken last; only contracts of private calls use these. `ended` is what the reader returns from
+-- now on, if it has ended.
 pub record Reader (S : Type 0) : Type 0 where
   pub source : S
   pub form : Form
@@ -89,8 +90,8 @@ StepGives (Some octets) new form place (Err Memory) own = Unit {0}
 StepGives (Some octets) new form place (Err e) own =
     (next_of form place octets ≡ Err e) × (new ≡ Some octets)
 
--- A read fails only if the octets that are held don't decide what comes next: a whole record, or a
--- fault of the capture, is returned first.
+-- A read fails only if the octets that were read ahead don't decide what comes next: a whole
+-- record, or a fault of the capture, is returned first.
 abbrev pub FailsOpen : Form → Place → Result Step PcapFault → List ℕ → Type 0
 FailsOpen form place result ahead = IsErrOf result ReadFault → IsOpen (next_of form place ahead)
 

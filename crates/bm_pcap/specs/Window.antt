@@ -24,7 +24,7 @@ passed window = take window.from window.octets.items
 abbrev pub rest : {S : Type 0} → (S → Option (List ℕ)) → Window S → Option (List ℕ)
 rest left window = prepend_known (held window) (left window.src)
 
--- The first octets of the rest are held: as many as were wanted, or all of them.
+-- The first octets of the rest were read ahead: as many as were wanted, or all of them.
 abbrev pub Ahead : Option (List ℕ) → ℕ → ℕ → List ℕ → Type 0
 Ahead None most n ahead = Unit {0}
 Ahead (Some octets) most n ahead = (n ≡ min most (length octets)) × (take n ahead ≡ take n octets)

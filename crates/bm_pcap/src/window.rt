@@ -116,9 +116,9 @@ impl<S: Source> Window<S> {
         Ok(count)
     }
 
-    /// Reads ahead until `most` octets are held, or all that are left, and returns how many of
-    /// these there are. It reads nothing if they are held already, and otherwise in pieces as large
-    /// as the buffer has room for. After a failure what was read ahead is kept.
+    /// Reads until `most` octets are read ahead, or all that are left, and returns how many of
+    /// these there are. It reads nothing if they were read already, and otherwise in pieces as
+    /// large as the buffer has room for. After a failure what was read ahead is kept.
     pub fn want(&mut self, most: usize) -> Result<usize, Failed>
         requires { most ≤ width self.old }
         ensures bound { IfOk result (λ n. (n ≤ most) × (n ≤ length (held self.new))) }

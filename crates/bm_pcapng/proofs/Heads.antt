@@ -143,7 +143,7 @@ pub kind_later : (order : Order) (first ahead : List ℕ) (kind : Kind) → kind
 kind_later order first ahead kind is there grown =
     is ∙ ap (kind_in order) (sym (same_front 4 first ahead (omega (arith, there)) grown))
 
--- what is held says of a head what the definition says of all octets that begin with it
+-- what was read ahead says of a head what the definition says of all octets that begin with it
 pub head_says : (order : Order) (interfaces : List Interface) (place : Place) (ahead octets : List ℕ) (kind : Kind)
     (result : Result Head NgFault) → kind ≡ kind_at order ahead
     → head_size kind ≤ length ahead → head_size kind ≤ place.room + 1 → Begins ahead octets
@@ -164,7 +164,7 @@ head_says order interfaces place ahead octets kind result is long wide begins sa
     (subst Q (ap (stated kind order place) front ∙ sym said)
     (says kind (order_of kind order (take (head_size kind) octets)) interfaces place octets))
 
--- where the source told its octets, they begin with what is held
+-- where the source's octets are known, they begin with what was read ahead
 pub known : (octets : List ℕ) (new : Option (List ℕ)) → Keeps (Some octets) new → new ≡ Some octets
 known octets None keeps = absurd keeps
 known octets (Some same) keeps = ap (λ z. Some z) keeps
@@ -224,7 +224,7 @@ head_end None order interfaces place most n ahead is_most is none = tt
 head_end (Some octets) order interfaces place most n ahead is_most is none =
     next_end order interfaces place octets (omega (arith, is.0, none, is_most))
 
--- fewer octets are left than tell a length, or one too many comes before
+-- fewer octets are left than a length needs, or one too many comes before
 pub head_short : (old : Option (List ℕ)) (order : Order) (interfaces : List Interface) (place : Place)
     (size most n : ℕ) (ahead : List ℕ) (result : Result Head NgFault)
     → ((octets : List ℕ) → old ≡ Some octets → size ≤ head_size (kind_at order octets))

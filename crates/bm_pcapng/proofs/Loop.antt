@@ -75,7 +75,7 @@ unfolding records_from
 one_step vips order interfaces place left few =
     let k : most_octets + 1 - place.block ≡ suc (most_octets + 1 - (place.block + 1)) = omega arith in rw k refl
 
--- what a loop knows where the source told its octets
+-- what a loop knows where the source's octets are known
 told : (now new : Option (List ℕ)) (order : Order) (interfaces : List Interface) (vips : List Vip) (total : Captured)
     (place : Place) (records : List Record) (packets : List (List ℕ)) (result : Result Step NgFault) (passed : List ℕ)
     → SoFar now order interfaces vips total place records packets

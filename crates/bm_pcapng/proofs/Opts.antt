@@ -10,7 +10,7 @@ use Rattle.bm_pcapng.specs.Options.{code_of, is_over, length_of, options_in, pad
 use Rattle.bm_pcapng.specs.Inside.Options.{is_resolution}
 use Rattle.bm_pcapng.specs.Times.{microseconds, resolution_of}
 
--- the options that are left tell this resolution
+-- the options that are left give this resolution
 abbrev pub Left : Order → List ℕ → Resolution → Type 0
 Left order rest total =
     (fuel : ℕ) × ((length rest ≤ fuel) × (resolution_in (options_in fuel order rest) ≡ total))

@@ -47,7 +47,7 @@ no_section (Some octets) n ahead shown there long most same other =
     ap (take 4) same ∙ ap (λ m. take m ahead) (sym e) ∙ there.1 ∙ ap (λ m. take m octets) e in
     other_type octets (ap is_section (sym front) ∙ other)
 
--- the first twelve octets are held, and the first four say that it is a section
+-- the first twelve octets were read ahead, and the first four say that it is a section
 pub order_told : (octets : List ℕ) (n m : ℕ) (first ahead : List ℕ) → Ahead (Some octets) 4 n first → 4 ≤ n → n ≤ 4
     → is_section (take 4 first) ≡ true → Ahead (Some octets) 12 m ahead → 12 ≤ m → m ≤ 12
     → first_order octets ≡ magic_of (take 12 ahead)

@@ -22,7 +22,7 @@ no_capture : (octets : List ℕ) (vips : List Vip) → first_order octets ≡ No
 unfolding capture
 no_capture octets vips none = ap (begun vips octets) (sym none)
 
--- octets that tell no order are no capture
+-- octets that give no order are no capture
 pub refused_order : (old : Option (List ℕ)) (e : NgFault) → IsOrderFault e → OrderGives old (Err e) → Refuses old e
 refused_order None e is gives = tt
 refused_order (Some octets) fault.NotACapture is gives = λ vips. no_capture octets vips gives

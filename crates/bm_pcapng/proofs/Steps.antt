@@ -36,7 +36,7 @@ whole : (kind : Kind) (own : Order) (interfaces : List Interface) (place : Place
 whole kind own interfaces place n left long within =
     let t : (nat_le n (length left) && nat_le n place.room) ≡ true = grind (arith, nat_tests, long, within) in rw t
 
--- what the head gave, where the source told its octets
+-- what the head gave, where the source's octets are known
 head_gave : (octets : List ℕ) (order : Order) (interfaces : List Interface) (place : Place) (said : Head) (kind : Kind)
     (own : Order) (n : ℕ) → said ≡ head.States kind own n → HeadGives (Some octets) order interfaces place (Ok said)
     → next_of order interfaces place octets ≡ behind_head kind own interfaces place n octets
@@ -61,7 +61,7 @@ gives_of octets order interfaces place (Err (fault.BadLength number n)) is = is
 gives_of octets order interfaces place (Err fault.TooManyPackets) is = is
 gives_of octets order interfaces place (Err fault.Memory) is = is
 
--- what is known at the body of a block, where the source told its octets
+-- what is known at the body of a block, where the source's octets are known
 body_told : (octets : List ℕ) (mid : Option (List ℕ)) (order : Order) (interfaces : List Interface) (place : Place)
     (said : Head) (kind : Kind) (own : Order) (n most m : ℕ) (ahead : List ℕ) → said ≡ head.States kind own n
     → HeadGives (Some octets) order interfaces place (Ok said) → Keeps (Some octets) mid → Ahead mid most m ahead

@@ -39,8 +39,8 @@ IsOpen (Ok step.Cut) = Unit {0}
 IsOpen (Ok step.End) = Unit {0}
 IsOpen (Err e) = ⊥
 
--- A read fails only if the octets that are held don't decide what comes next: a whole block, or a
--- fault of the capture, is returned first.
+-- A read fails only if the octets that were read ahead don't decide what comes next: a whole block,
+-- or a fault of the capture, is returned first.
 abbrev pub FailsOpen : {T : Type 0} → Order → List Interface → Place → Result T NgFault → List ℕ
     → Type 0
 FailsOpen order interfaces place result ahead =

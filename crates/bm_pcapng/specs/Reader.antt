@@ -24,9 +24,9 @@ use Rattle.bm_pcapng.specs.Parts.{BlockGives, FailsOpen, StepFits}
 use Rattle.bm_pcapng.specs.Places.{first_place, interfaces_behind, order_behind, place_behind}
 
 -- A reader: the source after what was read ahead, the order of its section's numbers and its
--- interfaces, the place after what was taken, the octets that were read ahead, those that were
--- taken last (only contracts of private calls use these), and what it returns from now on, if
--- it has ended.
+-- interfaces, and the place after what was taken. `held` is the octets that were read ahead, and
+-- `passed` those that were taken last; only contracts of private calls use these. `ended` is what
+-- the reader returns from now on, if it has ended.
 pub record Reader (S : Type 0) : Type 0 where
   pub source : S
   pub order : Order
@@ -87,7 +87,7 @@ Starts left old (Ok reader) =
 Starts left old (Err refused) = Refuses (left old) refused.1
 
 -- A source that is given back is past some octets that were read ahead, and these aren't more than
--- a reader holds.
+-- the longest block has.
 abbrev pub StartLeaves : {S : Type 0} → (S → Option (List ℕ)) → S → Result (Reader S) (S × NgFault)
     → Type 0
 StartLeaves left old (Ok reader) = Unit {0}

@@ -6,7 +6,7 @@ ghost use Rattle.bm_pcapng.specs.Blocks.{kind_in, kind_of, least_length, magic_o
 use crate::place::LONGEST_BLOCK;
 use bm_pcap::Order;
 
-/// The kinds of block that are told apart.
+/// The kinds of block that are distinguished.
 #[derive(Clone, Copy, PartialEq, Eq)]
 pub enum Kind {
     SectionHeader,

@@ -26,8 +26,8 @@ pub struct Packet {
     pub len: u32,
 }
 
-/// What a block says: it begins a section with this order, describes an interface, holds a packet,
-/// or says nothing that is read.
+/// What a block says: it begins a section with this order, describes an interface, contains a
+/// packet, or says nothing that is read.
 #[derive(Clone, Copy, PartialEq, Eq)]
 pub enum Content {
     Begins(Order),
@@ -37,7 +37,7 @@ pub enum Content {
 }
 
 impl Content {
-    /// The packet of a block that holds one.
+    /// The packet of a block that contains one.
     pub(crate) fn packet(&self) -> Option<Packet>
         ensures { result ≡ packet_in self.now }
     {

@@ -255,7 +255,7 @@ pub fn read_ng<S: Source>(
     }
 }
 
-/// What a record of this link type holds; one of an unsupported type is not IPv4.
+/// What a record of this link type contains; one of an unsupported type is not IPv4.
 fn classify_by<'a>(link: u16, octets: &'a [u8], vips: &[Vip]) -> (Body, &'a [u8])
     requires { length octets.now < 2 ^ 32 }
     ensures class { (result.0, result.1.now) ≡ classified_by link vips.now octets.now }

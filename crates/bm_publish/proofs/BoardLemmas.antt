@@ -105,7 +105,7 @@ turns seat v x y p q same goes views h at = (
   record { right = goes h.right; told = refl; board = subst (λ b. IsOn b v) (sym same) (h.each seat v at) },
 )
 
--- a new seat was told nothing
+-- a new seat has no view
 pub admits : (x : List Entry) (p : Posted) (views : List (Option Posted)) → Keeps x p views
     → Keeps x p (views ++ None ∷ [])
 admits x p views h = record {
@@ -125,7 +125,7 @@ put x p views seat v h on = record {
       (at_set views seat j v u e);
 }
 
--- a seat tells a new one
+-- a seat gives a new one its view
 pub forks : (seat : ℕ) (v : Option Posted) (x : List Entry) (p : Posted) (views : List (Option Posted))
     → Keeps x p views → get_elem? views seat ≡ some v → Keeps x p (set views seat v ++ v ∷ [])
 forks seat v x p views h at =
@@ -137,7 +137,7 @@ forks seat v x p views h at =
           (λ (t : v ≡ u). subst (IsOn p.board) t on) (at_snoc (set views seat v) v u j e);
     }
 
--- a seat takes over what another was told
+-- a seat takes over another's view
 pub merges : (seat other : ℕ) (v w : Option Posted) (x : List Entry) (p : Posted) (views : List (Option Posted))
     → Keeps x p views → get_elem? views seat ≡ some v
     → ¬ (other ≡ seat) → get_elem? (set views seat w) other ≡ some w → Keeps x p (set (set views seat w) other None)

@@ -244,7 +244,7 @@ grant_moves v ask (c ∷ cs) log h pre away =
       ),
     )
 
--- the pen's cell comes home, and isn't the word
+-- the pen's cell is given back, and isn't the word
 given : (c : Cell) (cs : List Cell) (k n : ℕ) → (cell (c ∷ cs) k).1 ≡ false → c.1 ≡ true
     → (0 < length (slice_set ((kept_word c.0, true) ∷ cs) k (n, true)))
     × ((cell (slice_set ((kept_word c.0, true) ∷ cs) k (n, true)) 0).0 ≡ 0 → ⊥)

@@ -7,7 +7,6 @@ use Rattle.bm_table.specs.Plans.{IsPlan}
 
 -- what was posted on a board, or a beginning of it: the plan's first changes, each with a clock
 pub record Posted : Type 0 where
-  -- which board it is
   pub board : Book
   pub plan : Planned
   -- the clock of each post

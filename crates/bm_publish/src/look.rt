@@ -12,7 +12,7 @@ use left_right::reader::{Reader, Reading};
 use std::marker::Model;
 
 /// A reader's end of a board, while it isn't reading. Contracts see the posts that it has seen or
-/// heard of.
+/// learned of.
 #[derive(Drop)]
 pub struct Look {
     reader: Reader<Shown, Option<Told>, Kept>,
@@ -58,7 +58,7 @@ impl Look {
         Look { reader, told }
     }
 
-    /// Hears what the poster tells. From then on it shows nothing older.
+    /// Learns these posts. From then on it shows nothing older.
     pub fn hear(&mut self, told: Told)
         requires { told.board ≡ self.old.board }
         ensures one { (self.new ≡ self.old) ⊎ (self.new ≡ told) }
@@ -68,8 +68,8 @@ impl Look {
         self.told = self.told.longer(&told);
     }
 
-    /// Looks at the table that is posted. Waits for nobody, and takes no lock, no copy and no
-    /// memory. `Memory` where the place is refused; then the look is given back as it was.
+    /// Looks at the table that is posted. Waits for no other thread, and takes no lock, no copy and
+    /// no memory. `Memory` where the place is refused; then the look is returned as it was.
     pub fn look(self) -> Result<Guard, (Look, Memory)>
         ensures { MatchResult result (λ guard. Continues self guard) (λ back. back.0 ≡ self) }
     {

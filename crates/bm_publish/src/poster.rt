@@ -47,7 +47,7 @@ impl Model for Poster {
 }
 
 /// A board that shows version 0 and clock 0 of the plan, its poster and this many looks. `Memory`
-/// where memory was refused; it then waits for nobody, since nobody reads.
+/// where memory was refused; it then waits for no reader, since there is none.
 pub fn board<R: Wait>(
     rt: &R,
     alloc: Global,
@@ -204,8 +204,8 @@ fn posted<R: Wait>(
 }
 
 impl Poster {
-    /// A new board. The opening is posted too, so that the poster's seat is told of its board, and
-    /// the log of posts has its memory.
+    /// A new board. The opening is posted too, so that the poster's seat has a view of its board,
+    /// and the log of posts has its memory.
     fn new<R: Wait>(rt: &R, alloc: Global, plan: &Plan, readers: u16) -> Result<Poster, Memory>
         requires { 1 ≤ readers }
         ensures { IfOk result (λ poster. (poster.plan ≡ plan.now) × (poster.clocks ≡ [])) }
@@ -276,7 +276,7 @@ impl Poster {
         })
     }
 
-    /// All that was posted, for a look to hear. Takes no memory.
+    /// All that was posted, for a look to learn. Takes no memory.
     pub fn tell(&self) -> Told
         ensures { result ≡ self.now }
     {

@@ -38,7 +38,7 @@ impl Absorb<Post> for Shown {
     }
 }
 
-/// The rule of a board. A seat's view is what it was told, if anything.
+/// The rule of a board. A seat's view is the posts that it knows of, or None at first.
 pub struct Kept;
 
 impl Protocol<Shown, Option<Told>> for Kept {
@@ -59,7 +59,7 @@ impl Outcome<Shown, Option<Told>> for Seeing {
     ghost then = { λ v x y w. Sees y.table y.told v w };
 }
 
-/// The poster tells a new reader all that it was told.
+/// The poster gives a new reader its own view.
 pub(crate) struct Telling;
 
 impl Split<Option<Told>> for Telling {
@@ -68,7 +68,7 @@ impl Split<Option<Told>> for Telling {
     ghost right = { λ v. v };
 }
 
-/// A reader takes over what it is told.
+/// A reader takes over the poster's view.
 pub(crate) struct Hearing;
 
 impl Join<Option<Told>> for Hearing {

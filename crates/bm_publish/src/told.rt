@@ -68,7 +68,7 @@ impl Play<Line, u64> for Grant {
     ghost then = { Grants };
 }
 
-/// The step that tells the holder of the permit that it has seen all posts.
+/// The step that shows that the holder of the permit has seen all posts.
 struct Check;
 
 impl Play<Line, u64> for Check {
@@ -186,7 +186,7 @@ fn new_permit(head: &Head, seen: &mut Seen<Line, u64, Counted>) -> (Pen, u64)
 
 impl History {
     /// The history of a new board. None if its permit isn't the first, which can't happen: but the
-    /// logbook doesn't say that a book which nobody else has seen didn't move.
+    /// logbook doesn't say that a book which no other thread has seen didn't move.
     pub(crate) fn open(plan: &Plan) -> Option<History>
         ensures { IfSome result (λ h. (h.plan ≡ plan.now) × (h.clocks ≡ [])) }
     {
@@ -248,7 +248,8 @@ impl History {
         }
     }
 
-    /// All that anyone was told of this board was posted. It does nothing: its contract is a law.
+    /// What a `Told` of this board has is a beginning of what was posted. It does nothing: its
+    /// contract is a law.
     pub(crate) fn was_posted(&mut self, told: &Told)
         requires { told.now.board ≡ self.old.board }
         ensures kept { self.new ≡ self.old }

@@ -51,7 +51,7 @@ pub fn moves(
 
 /// The moves of `moves`, found in a table that the caller keeps: it has a place for each server
 /// number, is zero at each, and is zero again after `Ok`. So one table serves several rebalancings.
-/// `Memory` where memory was refused; the table may then hold anything.
+/// `Memory` where memory was refused; the table may then contain anything.
 pub fn moves_in(
     alloc: Global,
     rooms: &mut [u32],

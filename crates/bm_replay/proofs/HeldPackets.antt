@@ -1,4 +1,4 @@
--- The packets that a replay on its way holds.
+-- The packets that a replay in progress keeps.
 use Rattle.std.proofs.Common.{◌≡◌, ℕ, zero, suc, ◌+◌, ◌<◌, ◌≤◌, false, inl, inr, List, [], ◌∷◌, Option, Some, None}
 use Rattle.std.proofs.Common.{is_some}
 use Rattle.std.proofs.Common.{length, refl, sym, ap, subst, ◌∙◌, arith}

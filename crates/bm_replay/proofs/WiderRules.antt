@@ -1,4 +1,4 @@
--- A replay by a route and a fault rule is one by any that answer the same and more.
+-- A replay by a route and an impairment rule is one by any that answer the same and more.
 use Rattle.std.proofs.Common.{ℕ, List, [], ◌∷◌, Option, Some, None}
 use Rattle.std.specs.Prelude.{IfSome}
 use Rattle.bm_base.specs.declared.flow.Flow.{Flow}

@@ -1,4 +1,4 @@
--- What the route and the fault rule of a setting answer.
+-- What the route and the impairment rule of a setting answer.
 use Rattle.bm_table.specs.declared.setting.Setting.{Setting}
 use Rattle.bm_core.specs.Accounts.{Routes, Rules}
 use Rattle.bm_core.specs.Rules.{RouteBy, RuleBy, setting_fate, setting_mux}

@@ -526,7 +526,7 @@ impl Player {
         Ok(())
     }
 
-    /// Sends the flight, with the fate that the faults give it.
+    /// Sends the flight, with the fate that the impairment rule gives it.
     fn send<F: Fn(u32, Hop) -> Fate>(
         &mut self,
         clock: Moment,

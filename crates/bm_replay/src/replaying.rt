@@ -16,9 +16,9 @@ use bm_route::Route;
 use std::alloc::Global;
 
 /// The history of the stage's replay: a run that follows the script, with the muxes that the route
-/// answers and the fates that the faults give, and in which every packet, copy and command is
-/// accounted for. `octets` has the packet of each record, and frees them as they are replayed.
-/// `Memory` where memory was refused.
+/// answers and the fates that the impairment rule gives, and in which every packet, copy and
+/// command is accounted for. `octets` has the packet of each record, and frees them as they are
+/// replayed. `Memory` where memory was refused.
 pub fn replay<R: Fn(u32, &Flow) -> u16, F: Fn(u32, Hop) -> Fate>(
     alloc: Global,
     stage: Stage,

@@ -1,4 +1,4 @@
--- The states of the shards are what their turns left, and tell what the history says.
+-- The states of the shards are what their turns left, and say what the history says.
 use Rattle.std.proofs.Common.{◌≡◌, ℕ, Bool, true, false, ◌==◌, List, ◌∷◌, Some, None, is_some, refl, ap, sym}
 use Rattle.std.proofs.Common.{◌∙◌, inl, inr, subst}
 use Rattle.std.specs.Prelude.{if◌then◌else◌}

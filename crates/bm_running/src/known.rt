@@ -159,7 +159,7 @@ impl Known {
         Ok(closed == given)
     }
 
-    /// Whether a wish to retire may have this answer. If so, the shard has heard of it.
+    /// Whether a request to retire may have this answer. If so, the shard has taken the call.
     fn may_retire(
         &mut self,
         alloc: Global,

@@ -57,9 +57,9 @@ fn put_leave(leaves: &mut Vec<Leave>, leave: Leave) -> Result<(), Memory>
     Ok(())
 }
 
-/// Which servers are drained, and for each server those buckets that left it of which none below
-/// left it later, in the order in which they left. The first of these since a moment is the least
-/// of all that left since then.
+/// Which servers are drained, and for each server the buckets that left it, in the order in which
+/// they left, except where a bucket with a lower number left later. The first of these since a
+/// moment is the least of all that left since then.
 #[derive(Drop)]
 pub(crate) struct Leaves {
     drained: BTreeSet<u16>,

@@ -238,7 +238,7 @@ plain_weights (suc n) =
     let more = plain_weights n in
     (ap suc more.0, All-cons (IsWithin 1 1000) 1 (replicate n 1) (omega arith, omega arith) more.1)
 
--- no more racks than buckets, each with one of the servers
+-- at most as many racks as buckets, each with one of the servers
 record AreRacks (buckets : ℕ) (servers : List ServerId) (racks : ℕ) : Type 0 where
   within : IsWithin 1 64 racks
   few : racks ≤ buckets
@@ -351,7 +351,7 @@ row-sound n inside =
     (reads-number 0 60000000000)) λ delay is_delay.
     record { packet = is_packet; copies = is_copies.1; delay = is_delay.1 }
 
--- fault rows in their ranges, as many as the tables
+-- impairments in their ranges, as many as the tables
 abbrev pub AreRows : Items → List FaultRow → Type 0
 AreRows items rows = All IsFaultRow rows × (length rows ≡ values.count items)
 

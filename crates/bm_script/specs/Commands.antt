@@ -29,9 +29,9 @@ use Rattle.bm_table.specs.declared.script.Command.TheVariants.{Sync as SyncComma
 use Rattle.bm_table.specs.declared.setting.FaultRow.{FaultRow}
 use Rattle.bm_table.specs.Settings.{rack_of}
 
--- FAULT ROWS
+-- IMPAIRMENTS
 
--- the row of the fault table number n
+-- the impairment of the `fault` table number n
 abbrev pub row_of : ℕ → Members → Result FaultRow ScriptFault
 row_of n members = do
   only ← only_keys (at_.Fault n) 1 row_keys members
@@ -41,7 +41,7 @@ row_of n members = do
   delay ← required (at_.Fault n) key.Delay (number 0 60000000000) members
   Ok (record { packet = packet; hop = hop; fate = record { copies = copies; delay = delay } })
 
--- the rows of these tables; the first has number n
+-- the impairments of these tables; the first table has number n
 abbrev pub rows_from : ℕ → Items → Result (List FaultRow) ScriptFault
 rows_from n no_items = Ok []
 rows_from n (item d items) = do

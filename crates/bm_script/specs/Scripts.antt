@@ -32,7 +32,7 @@ version_in (Some d) = unwrap_or (number 2 3 d) 1
 abbrev pub version_of : Members → ℕ
 version_of members = version_in (value_at key.Version members)
 
--- what the top keys give: the setting without fault rows, and the servers' weights
+-- what the top keys give: the setting without impairments, and the servers' weights
 abbrev pub opening_of : Members → Result Opening ScriptFault
 opening_of members = do
   version ← optional key.Version 1 (number 1 3) members

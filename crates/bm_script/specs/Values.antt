@@ -179,7 +179,7 @@ are_filled racks servers = list_all (has_server racks servers) (range_with_len 0
 abbrev pub if_filled : List ServerId → ℕ → Option ℕ
 if_filled servers racks = if are_filled racks servers then Some racks else None
 
--- how many racks there are: no more than buckets, and each has one of the servers
+-- how many racks there are: at most as many as buckets, and each has one of the servers
 abbrev pub racks : ℕ → List ServerId → Data → Option ℕ
 racks buckets servers d = number 1 (min 64 buckets) d >>= if_filled servers
 

@@ -10,7 +10,7 @@ use toml::Value;
 
 const MAX_RACKS: u64 = 64;
 
-/// How many racks there are: no more than buckets, and each has one of the servers.
+/// How many racks there are: at most as many as buckets, and each has one of the servers.
 pub(crate) fn racks(value: &Value, buckets: u64, servers: &[ServerId]) -> Option<u16>
     ensures { result ≡ values.racks buckets servers.now (view value.now) }
 {

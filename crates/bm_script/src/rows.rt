@@ -15,7 +15,7 @@ use toml::{Table, Value};
 /// The keys of a fault table.
 const ROW_KEYS: [Key; 4] = [Key::Packet, Key::Hop, Key::Copies, Key::Delay];
 
-/// The longest delay of a fault row, in nanoseconds.
+/// The longest delay of an impairment, in nanoseconds.
 const MAX_DELAY: u64 = 60_000_000_000;
 
 pub(crate) fn read_rows(alloc: Global, tables: &[Value]) -> Result<List<FaultRow>, ScriptFault>

@@ -25,7 +25,7 @@ const MAX_COMMANDS: usize = 65_536;
 /// What the top keys give.
 #[derive(Drop)]
 pub(crate) struct Opening {
-    /// Without fault rows.
+    /// Without impairments.
     pub(crate) setting: Setting,
     /// The weight of each server.
     pub(crate) weights: List<u32>,

@@ -119,7 +119,7 @@ err_turn : {M N : Type 0} (h : ℕ) (call : ShardCall) (e : M) (f : N) (old new 
     → TakesTurn h call (Err e) old new → TakesTurn h call (Err f) old new
 err_turn h call e f old new turn = record { turns = turn.turns; sees = turn.sees; others = turn.others }
 
--- what a turn told of a copy that was read, which had this reply
+-- what a turn adds to the seat's calls, for a copy that was read and had this reply
 pub copy_replied : {M : Type 0} (server : Serving) (packet h : ℕ) (due : Moment) (read : Tag × Segment)
     (copy : Result (Tag × Segment) HandleFault) (r : Result ShardReply M) (reply : ShardReply)
     (old new : List Seated) → Ok read ≡ copy → h ≡ shard_for server read.1.flow → r ≡ Ok reply

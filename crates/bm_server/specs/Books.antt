@@ -17,6 +17,6 @@ pub record IsBookOf (server : Serving) (seats : List (List Seated)) (h : ℕ)
       → Covers seat_of i (seen_at seat h) book.entries
   pub mine : (i : ℕ) (seat : List Seated) → slice_get seats i ≡ Some seat
       → own seat_of i book.entries ≡ own seat_of i (seen_at seat h)
-  -- for each seat, the book has what that seat was told
+  -- for each seat, the book has exactly that seat's calls and replies
   pub told : (i : ℕ) (seat : List Seated) → slice_get seats i ≡ Some seat
       → telling (Some (shard_at server h)) i book.entries ≡ told_at seat h

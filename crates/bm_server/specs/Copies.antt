@@ -11,7 +11,7 @@ use Rattle.bm_shard.specs.declared.fault.HandleFault.TheVariants.{Memory}
 use Rattle.bm_server.specs.Servings.{Serving, shard_for}
 use Rattle.bm_server.specs.Seats.{IsReply, Seated, TakesTurn, Tells}
 
--- refused memory is the only fault of a turn
+-- a turn fails only where memory was refused
 abbrev pub IsMemory : Result ShardReply HandleFault → Type 0
 IsMemory (Ok reply) = Unit {0}
 IsMemory (Err fault) = fault ≡ Memory

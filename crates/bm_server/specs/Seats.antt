@@ -1,4 +1,4 @@
--- The seats of a server, and what its shards told them (docs/DEFINITIONS.md).
+-- The seats of a server, and their calls to its shards, each with its reply (docs/DEFINITIONS.md).
 use Rattle.std.specs.Prelude.{◌≡◌, ◌≢◌, ℕ, suc, ◌+◌, ◌==◌, cond, max, List, [], ◌∷◌, ◌++◌, map, reverse}
 use Rattle.std.specs.Prelude.{slice_get, Option, Some, None, Result, Ok, Err}
 use Rattle.atomic_table.specs.Seated.{TableId}
@@ -32,7 +32,7 @@ abbrev pub most_turns : List Seated → ℕ
 most_turns [] = 0
 most_turns (s ∷ ss) = max s.turns (most_turns ss)
 
--- WHAT IT WAS TOLD
+-- ITS CALLS, EACH WITH ITS REPLY
 
 abbrev pub seat_of : ShardEntry → ℕ
 seat_of e = e.seat
@@ -56,7 +56,7 @@ abbrev pub told_of : Option Seated → List Answered
 told_of None = []
 told_of (Some s) = telling s.fixed s.number s.seen
 
--- what the seat was told by the shard h
+-- the seat's calls to the shard h, each with its reply
 abbrev pub told_at : List Seated → ℕ → List Answered
 told_at seat h = told_of (slice_get seat h)
 
@@ -64,7 +64,7 @@ abbrev pub added : {M : Type 0} → ShardCall → Result ShardReply M → List A
 added call (Ok reply) = (call, reply) ∷ []
 added call (Err e) = []
 
--- what a call to the shard h adds to what the shard k told the seat
+-- what a call to the shard h adds to the seat's calls to the shard k
 abbrev pub said : {M : Type 0} → ℕ → ShardCall → Result ShardReply M → ℕ → List Answered
 said h call result k = cond (k == h) (added call result) []
 
@@ -104,7 +104,7 @@ IsReply call (Ok reply) = (shard : Shard) × (past : List ShardEntry)
     × (reply ≡ reply_after shard past call)
 IsReply call (Err e) = Unit {0}
 
--- the seat i of a server, which has made no turn, seen nothing, and was told nothing
+-- the seat i of a server, which has made no turn, seen nothing, and got no reply
 pub record IsNewSeat (server : Serving) (i : ℕ) (seat : List Seated) : Type 0 where
   pub «is» : map who seat ≡ row server i
   pub turns : most_turns seat ≡ 0

@@ -1,4 +1,4 @@
-//! A server's shards, each behind a turnstile.
+//! A server's shards, each with its turnstile.
 ghost use Rattle.std.specs.Prelude.{◌≡◌, ℕ, ◌+◌, ◌*◌, ◌^◌, ◌<◌, ◌≤◌, Some, map, length, slice_get};
 ghost use Rattle.std.specs.Prelude.{IfOk};
 ghost use Rattle.bm_shard.specs.Books.{IsTaken};
@@ -26,7 +26,7 @@ use std::sync::Wait;
 /// The books of a server's shards, in their order.
 pub type Books = List<ShardBook>;
 
-/// A server: its shards, each behind a turnstile with as many seats as the server has.
+/// A server: its shards, each with a turnstile that has as many seats as the server.
 #[derive(Drop)]
 pub struct Server {
     id: ServerId,

@@ -1,4 +1,4 @@
--- What is kept of holders stays right with each event, and tells what servers hold.
+-- What is kept of holders stays right with each event, and says what servers hold.
 use Rattle.std.proofs.Common.{◌≡◌, ℕ, suc, ◌==◌, Bool, true, false, ◌&&◌, ◌||◌, not, ◌⊎◌, inl, inr, List, [], ◌∷◌}
 use Rattle.std.proofs.Common.{length, Option, Some, None, option_map, is_some, refl, sym, ap, ◌∙◌, arith, subst}
 use Rattle.std.specs.Prelude.{if◌then◌else◌}

@@ -1,4 +1,4 @@
--- What the moves of a bucket tell of its entries, and how often it moves.
+-- What the moves of a bucket say of its entries, and how often it moves.
 use Rattle.std.proofs.Common.{◌≡◌, ℕ, zero, suc, ◌+◌, ◌-◌, ◌<◌, ◌≤◌, ◌==◌, true, false, inl, inr, List, [], ◌∷◌, ◌++◌}
 use Rattle.std.proofs.Common.{length, get_or, Option, Some, None, is_some, refl, sym, ap, ◌∙◌, arith, subst, leb}
 use Rattle.std.proofs.Common.{append-nil, append_assoc}

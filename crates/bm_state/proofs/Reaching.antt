@@ -1,4 +1,4 @@
--- Room that holds no more than what stands where there is none.
+-- The default at the end of a list changes no look-up that has this default.
 use Rattle.std.proofs.Common.{◌≡◌, ℕ, zero, suc, List, [], ◌∷◌, ◌++◌, get_or, refl}
 
 pub default_push : {X : Type 0} (xs : List X) (d : X) (q : ℕ) → get_or (xs ++ d ∷ []) q d ≡ get_or xs q d

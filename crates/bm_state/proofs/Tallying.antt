@@ -33,7 +33,7 @@ from_tallies past t are = record {
 
 -- ONE MORE
 
--- no more events pass a test than there are
+-- at most all events pass a test
 few_more : (b : Bool) (n m : ℕ) → n ≤ m → (if b then 1 else 0) + n ≤ suc m
 few_more true n m few = omega arith
 few_more false n m few = omega arith

@@ -21,7 +21,7 @@ use Rattle.bm_state.specs.declared.shard_key.ShardKey.{ShardKey}
 use Rattle.bm_state.specs.FlowKeys.{key_of}
 use Rattle.bm_state.specs.ShardKeys.{key_at}
 
--- the list, if there is one
+-- the items of the list, or none
 abbrev pub listed : Option (SmallVec Holder) → List Holder
 listed None = []
 listed (Some v) = v.items

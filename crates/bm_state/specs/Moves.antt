@@ -18,7 +18,7 @@ abbrev pub bucket_moves : Planned → ℕ → ℕ → List BucketMove
 bucket_moves plan b zero = []
 bucket_moves plan b (suc v) = with_move v (brings (next_change plan v) b) (bucket_moves plan b v)
 
--- the list, if there is one
+-- the items of the list, or none
 abbrev pub listed : {A : Type 0} → Option (Vec BucketMove A) → List BucketMove
 listed None = []
 listed (Some v) = v.items

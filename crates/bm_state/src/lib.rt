@@ -1,8 +1,8 @@
-//! What is known of a history's events so far, in parts of which a caller takes those that it needs:
-//! the clocks of authors, versions, the labels and owners of packets, which servers hold which
-//! flows, the entries of tables, and what became of copies. Each part is given each event in turn.
-//! What it answers is what `bm_core` finds by looking back through these events. Where memory was
-//! refused to a part, it says nothing more.
+//! What is known of a history's events so far, in parts: the clocks of authors, versions, the
+//! labels and owners of packets, which servers hold which flows, the entries of tables, and what
+//! became of copies. A caller takes the parts that it needs, and gives each event to each of them,
+//! in order. What a part answers is what `bm_core` finds by looking back through these events.
+//! Where memory was refused to a part, it says nothing more.
 #![tactic(auto)]
 
 mod author;

@@ -1,4 +1,4 @@
--- What a ring holds.
+-- What a ring keeps.
 use Rattle.std.proofs.Common.{◌≡◌, ℕ, ◌<◌, ◌≤◌, ◌%◌, List, Option, Some, None}
 use Rattle.std.proofs.Common.{refl, arith}
 use Rattle.std.proofs.lemmas.Grind.{common_steps}
@@ -13,7 +13,7 @@ none_of end p None below behind = refl
 none_of end p (Some cell) below behind =
     let lower : cell.position < end = below cell refl in grind (arith, common_steps)
 
--- after all positions nothing is held
+-- after all positions nothing is kept
 pub held_none : (cells : List Cell) (end p : ℕ) → AreBelow end cells → end ≤ p → held_at cells p ≡ None
 held_none cells end p below behind = none_of end p (slice_get cells (p % 65535)) (below (p % 65535)) behind
 
@@ -23,7 +23,7 @@ some_of end p x None below is = absurd (cc)
 some_of end p x (Some cell) below is =
     let lower : cell.position < end = below cell refl in grind (arith, common_steps)
 
--- what is held is held below
+-- what is kept is kept below
 pub held_below : (cells : List Cell) (end p x : ℕ) → AreBelow end cells → held_at cells p ≡ Some x → p < end
 held_below cells end p x below is = some_of end p x (slice_get cells (p % 65535)) (below (p % 65535)) is
 

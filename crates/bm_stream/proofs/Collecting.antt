@@ -44,7 +44,7 @@ nothing : (kept []).length ≡ 0
 unfolding kept
 nothing = refl
 
--- the stream of so many packets isn't long
+-- the stream of this many packets isn't long
 pub short : (stage : Stage) (packets : List (List ℕ)) (start : ℕ) (ks : List ℕ)
     → length (stream (pieces_of stage packets start ks)) ≤ 65535 * length ks
 short stage packets start ks =

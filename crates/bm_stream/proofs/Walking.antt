@@ -50,7 +50,7 @@ by_event stage past place (Close server flow closed) packets = omega arith
 by_event stage past place (Retire server h at result) packets = omega arith
 by_event stage past place Sync packets = omega arith
 
--- an Accept has no more packets than there are events
+-- an Accept has at most as many packets as there are events
 pub few_packets : (stage : Stage) (place : ℕ) (past : List Event) → length (packets_of stage place past) ≤ length past
 few_packets stage place [] = omega arith
 few_packets stage place (e ∷ past) =

@@ -34,8 +34,8 @@ abbrev pub held_place : Stage → List Event → ServerId → Option Segment →
 held_place stage past server None = None
 held_place stage past server (Some s) = option_map (λ h. h.place) (held stage past server s.flow)
 
--- the place of the Accept of which an arrival is a piece: its own, or that of the one which its
--- server holds
+-- the place of the Accept to which an arrival adds a piece: its own, or the one that its server
+-- holds
 abbrev pub accept_by : Stage → List Event → ServerId → Option Segment → Verdict → Option ℕ
 accept_by stage past server s Accept = Some (length past)
 accept_by stage past server s (Process taken) =

@@ -181,7 +181,7 @@ impl Found {
         }
     }
 
-    /// Takes note of an arrival.
+    /// Records an arrival.
     fn note_arrival(
         &mut self,
         alloc: Global,
@@ -213,7 +213,7 @@ impl Found {
         }
     }
 
-    /// Takes note of the event that comes after `place` others.
+    /// Records the event that comes after `place` others.
     pub(crate) fn note(
         &mut self,
         alloc: Global,

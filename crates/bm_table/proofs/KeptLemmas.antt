@@ -113,7 +113,7 @@ step_least p kept s since n here =
       | inr early ↦ rw early (λ b. refl)
     ]
 
--- the first n steps tell the least of the late leaves of the first n changes
+-- the first n steps give the least of the late leaves of the first n changes
 pub least_since-take : (p : Inside) → IsKept p → (s : ServerId) (at timeout n : ℕ) → n ≤ length p.steps.items
     → IsLeast (λ b. leaves_late (planned p) timeout n s at b) (least_since (take n p.steps.items) s (at - timeout))
 least_since-take p kept s when timeout zero h = λ b. refl

@@ -245,7 +245,7 @@ MovesRise-range buckets low [] h = All-nil (λ (m : Move). m.bucket < buckets)
 MovesRise-range buckets low (m ∷ moves) h =
     All-cons (λ (x : Move). x.bucket < buckets) m moves h.1 (MovesRise-range buckets (m.bucket + 1) moves h.2)
 
--- functions that agree at each bucket find the same one at home
+-- functions that agree at each bucket find the same one that is already there
 pub bucket_already_there-agree : (buckets low : ℕ) (f g : ℕ → ServerId) → ((b : ℕ) → b < buckets → f b ≡ g b)
     → (moves : List Move) → MovesRise buckets low moves
     → bucket_already_there f moves ≡ bucket_already_there g moves

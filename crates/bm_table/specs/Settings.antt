@@ -46,8 +46,8 @@ pub record IsSetting (setting : Setting) : Type 0 where
   pub rows : length setting.faults ≤ 4096
   pub faults : All IsFaultRow setting.faults
 
--- 8 buckets on servers 1 and 2 in one rack, one mux without a lag, 4 shards of 4,096 connections, 240 seconds,
--- the service 192.0.2.1:80, packets assigned to muxes by their port, no faults
+-- 8 buckets on servers 1 and 2 in one rack, one mux without a lag, 4 shards of 4,096 connections,
+-- 240 seconds, the service 192.0.2.1:80, packets assigned to muxes by their port, no impairments
 abbrev pub plain_setting : Setting
 plain_setting = record {
   buckets = 8;

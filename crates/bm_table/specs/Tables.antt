@@ -32,7 +32,7 @@ next_change plan v = slice_get plan.changes v
 abbrev pub moves_next : Planned → ℕ → ℕ → Bool
 moves_next plan v b = is_some (brings (next_change plan v) b)
 
--- the moment of that change
+-- the moment of the change, or 0 if there is none
 abbrev pub change_moment : Option Change → ℕ
 change_moment None = 0
 change_moment (Some c) = c.moment.0

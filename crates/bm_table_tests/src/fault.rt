@@ -1,4 +1,4 @@
-//! Tests of `bm_fault`: copies under way, and fault rows.
+//! Tests of `bm_fault`: copies under way, and impairments.
 ghost use Rattle.std.specs.Prelude.{◌*◌};
 
 use bm_base::{Fate, Hop, Moment, MuxId, ServerId, Tag, Version};

@@ -41,7 +41,7 @@ packet_within octets p is =
     subst (λ (q : Packet). length q.packet ≤ length octets) (read_is octets p is)
     (cut_within (total_length octets == 0) octets)
 
--- there are no more data than octets
+-- there are at most as many data as octets
 pub data_within : (octets : List ℕ) (p : Packet) → ipv4_of octets ≡ Ok p → length (data_of p) ≤ length octets
 data_within octets p is =
     subst (λ (q : Packet). length (data_of q) ≤ length octets) (read_is octets p is)

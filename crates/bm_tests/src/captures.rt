@@ -11,7 +11,7 @@ use std::sync::Wait;
 use std::test::Fail;
 use std::thread::Threads;
 
-/// Checks the report of Ethernet frames that are read by so many octets at most.
+/// Checks the report of Ethernet frames, read by at most this many octets at a time.
 fn check_frames(
     rt: &(impl Abort + Threads + Wait + Sync),
     alloc: Global,

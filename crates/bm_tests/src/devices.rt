@@ -110,7 +110,7 @@ fn file(
     })
 }
 
-/// The script and the capture, one of which may fail at a call.
+/// The script and the capture; one of these may fail at a call.
 fn both(alloc: Global, case: &Case, device: Device, call: u32) -> Result<MemFiles, AllocError>
     ensures { IfOk result (λ files. ⟦<MemFiles as Files>⟧.open_now files ≡ 0) }
 {

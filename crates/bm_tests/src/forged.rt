@@ -65,7 +65,7 @@ pub(crate) enum Damage {
     Chained,
     /// Its bucket moved twice, and it is rewritten for the next hop this many times.
     MovedTwice(u8),
-    /// Nothing.
+    /// The copy stays as it is.
     Nothing,
     /// The octet at this place of the packet within, counted from 0, is replaced by this one.
     Octet(usize, u8),

@@ -1,4 +1,4 @@
-//! Runs in threads whose workers a gate holds back.
+//! Runs in threads whose workers wait at a gate.
 use crate::capture::Form::Micro;
 use crate::capture::Kind::Syn;
 use crate::capture::{Packet, raw};
@@ -12,10 +12,10 @@ use std::sync::atomic::{AtomicU32, Ordering};
 use std::test::Fail;
 use std::thread::Threads;
 
-/// How often a held worker looks whether it may go on.
+/// How often a waiting worker looks whether it may go on.
 const LOOKS: u32 = 100_000_000;
 
-/// A worker that is held at a step until another one has come to a step.
+/// A worker that waits at a step until another one has come to a step.
 #[derive(Clone, Copy)]
 struct Hold {
     worker: u16,
@@ -24,7 +24,7 @@ struct Hold {
     until: u32,
 }
 
-/// Holds workers 0, 1 and 2, and counts those that were released in time.
+/// Makes workers 0, 1 and 2 wait, and counts those that were released in time.
 #[derive(Drop)]
 struct Holds {
     holds: &'static [Hold],
@@ -68,7 +68,7 @@ impl Gate for Holds {
     }
 }
 
-/// A run, the workers that are held in it, and what its report says of its packets.
+/// A run, the workers that wait in it, and what its report says of its packets.
 struct Case {
     name: &'static str,
     packets: &'static [Packet],
@@ -145,7 +145,7 @@ static CASES: [Case; 3] = [
     },
 ];
 
-/// The status and the report of a run that the gate may hold.
+/// The status and the report of a run whose workers the gate may make wait.
 fn run(
     rt: &(impl Abort + Threads + Wait + Sync),
     alloc: Global,

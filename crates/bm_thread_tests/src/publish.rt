@@ -44,7 +44,7 @@ fn watch(look: Look) -> (Look, bool)
     (look, true)
 }
 
-/// Posts the change, and tells of it.
+/// Posts the change, and returns all that was posted.
 fn post<R: Wait>(rt: &R, poster: &mut Poster, change: Change) -> Result<Told, Memory>
     requires next { next_change poster.old.plan (last_version poster.old) ≡ Some change }
     requires later { last_post poster.old < 501 }
@@ -54,7 +54,7 @@ fn post<R: Wait>(rt: &R, poster: &mut Poster, change: Change) -> Result<Told, Me
     Ok(poster.tell())
 }
 
-/// Whether the looks during the post were right, and what the look shows once it has heard of it.
+/// Whether the looks during the post were right, and what the look shows once it has learned of it.
 fn beside_a_post<R: Threads + Wait + Sync>(
     rt: &R,
     poster: &mut Poster,

@@ -128,7 +128,7 @@ fn last_seat(
     }
 }
 
-/// The worker of the mux with this number, which has heard what is posted.
+/// The worker of the mux with this number, which knows what is posted.
 fn worker(
     alloc: Global,
     stage: &Stage,

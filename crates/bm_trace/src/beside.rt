@@ -439,9 +439,10 @@ fn put_lines<R: Threads + Sync, K: Sink>(
 }
 
 /// Writes the report of the history with this many threads (0 counts as 1), besides the caller's
-/// own, which meanwhile finds the causes of the next round's events, and one that puts the lines of
-/// the records together and counts the totals. The lines of the records are held whole, those of
-/// the events never. If an error is returned, only a first part of the report was written, not all.
+/// own and one more. The caller's thread meanwhile finds the causes of the next round's events; the
+/// other one puts the lines of the records together and counts the totals. The lines of the records
+/// are whole in memory, those of the events never. If an error is returned, only a first part of
+/// the report was written, not all.
 #[tactic(auto, using(crate::proofs::Ranged::ranges_of))]
 pub fn report_beside<R: Threads + Sync, K: Sink>(
     rt: &R,

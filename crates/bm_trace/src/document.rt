@@ -133,7 +133,7 @@ fn put_rest<K: Sink>(
 }
 
 /// Writes the report of the history, with these causes of its events and these totals. The report
-/// is never held whole. If an error is returned, only a first part of it was written, not all.
+/// is never whole in memory. If an error is returned, only a first part of it was written, not all.
 pub fn report_to<K: Sink>(
     h: &History,
     causes: &CauseList,

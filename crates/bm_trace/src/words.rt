@@ -56,7 +56,7 @@ pub(crate) fn why_word(why: Why) -> &'static str
     }
 }
 
-/// The word of a cause.
+/// The word by which a report's line names the cause.
 pub fn cause_word(cause: Cause) -> &'static str
     ensures { result.now ≡ words.cause_word cause }
 {

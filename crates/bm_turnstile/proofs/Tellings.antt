@@ -1,4 +1,4 @@
--- What a turn adds to what a seat was told.
+-- What a turn adds to a seat's calls and replies.
 use Rattle.std.proofs.Common.{◌≡◌, ℕ, ◌==◌, Bool, cond, List, [], ◌∷◌, ◌++◌, Option, Some, None, Result, Ok, Err}
 use Rattle.std.proofs.Common.{IfOk, OnErr, refl, sym, ap, ◌∙◌, subst, append-nil, append_assoc, eq-eqb, inl, inr}
 use Rattle.std.proofs.lemmas.Bool.{cases_Bool}
@@ -61,7 +61,7 @@ module _ {X E C R : Type 0} (seat_of : E → ℕ) (call_of : E → C) (reply_of 
 
   -- A TURN
 
-  -- what was told is read under the number and the fixed data that no turn changes
+  -- the calls and replies are read under the number and the fixed data that no turn changes
   told_same : (s t : Sitting X E) → who t ≡ who s
       → told_to seat_of call_of reply_of t ≡ all s.fixed s.number t.seen
   told_same s t same = ap (λ (w : Who X). all w.fixed w.number t.seen) same

@@ -1,4 +1,4 @@
--- What a seat was told: its own calls, each with its reply (docs/DEFINITIONS.md).
+-- A seat's own calls, each with its reply (docs/DEFINITIONS.md).
 use Rattle.std.specs.Prelude.{◌≡◌, ℕ, ◌==◌, cond, List, [], ◌∷◌, ◌++◌}
 use Rattle.std.specs.Prelude.{Option, Some, None, Result, Ok, Err}
 use Rattle.bm_turnstile.specs.Sittings.{Sitting}
@@ -17,7 +17,7 @@ module _ {X E C R : Type 0} (seat_of : E → ℕ) (call_of : E → C)
   told None n es = []
   told (Some about) n es = told_after about n [] es
 
-  -- what the seat was told
+  -- the seat's own calls, each with its reply
   abbrev pub told_to : Sitting X E → List (C × R)
   told_to s = told s.fixed s.number s.seen
 

@@ -1,4 +1,4 @@
-//! The rule of the tickets, and what each step on the table tells its seat.
+//! The rule of the tickets, and what each step on the table shows its seat.
 ghost use Rattle.bm_turnstile.specs.Inside.Rule.{Kept, Advances, Draws, Looks};
 ghost use Rattle.bm_turnstile.specs.Views.{first_view, gave, joined, new_view, spent_view};
 

@@ -103,7 +103,8 @@ impl<T: Booked + Drop> Turnstile<T> {
     }
 
     /// Takes all seats back, in the order of their numbers, and returns the state. What each seat
-    /// had seen is a prefix of the book's entries, and the book has what each seat was told.
+    /// had seen is a prefix of the book's entries, and the book has exactly the calls and replies
+    /// of each seat.
     pub fn close(self, seats: Vec<TurnSeat<T>>) -> T
         requires some { 0 < length seats.items }
         requires each { (k : ℕ) (s : _) → slice_get seats.items k ≡ Some s

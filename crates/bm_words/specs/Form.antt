@@ -41,7 +41,7 @@ names_of (capture ∷ script ∷ []) =
     else None
 names_of _ = None
 
--- decimal digits, the first of which isn't 0
+-- decimal digits; the first one isn't 0
 abbrev pub is_numeral : List ℕ → Bool
 is_numeral [] = false
 is_numeral (x ∷ xs) = not (x == 48) && list_all is_ascii_digit (x ∷ xs)

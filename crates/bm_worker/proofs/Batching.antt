@@ -1,4 +1,4 @@
--- A batch among the deeds of a phase.
+-- A batch among the notes of a phase.
 use Rattle.std.proofs.Common.{◌≡◌, ℕ, ◌+◌, ◌*◌, ◌^◌, ◌<◌, ◌≤◌, ◌==◌, Bool, true, false}
 use Rattle.std.proofs.Common.{cond, List, [], ◌∷◌, ◌++◌}
 use Rattle.std.proofs.Common.{reverse, Option, Some, refl, sym, ap, ◌∙◌}

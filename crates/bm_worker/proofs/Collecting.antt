@@ -174,7 +174,7 @@ collected_new F stage routes m from items fates no_items no_fates =
     (subst (λ (l : List Fate). AreCollected F stage routes m from from [] l) (sym no_fates)
     (collected_none F stage routes m from))
 
--- the same with what the vectors hold
+-- the same with what the vectors contain
 pub collected_push : (F : Rules) (stage : Stage) (routes : List (Option MuxId)) (m from at : ℕ)
     (items items' : List MuxItem) (fates fates' : List Fate)
     (i : MuxItem) (f : Fate) → items' ≡ items ++ i ∷ [] → fates' ≡ fates ++ f ∷ [] → from ≤ at → length items < 256

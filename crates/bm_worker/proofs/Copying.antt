@@ -1,4 +1,4 @@
--- The copies of a packet, as their servers read them and as they stand in what the seats were told.
+-- The copies of a packet, as their servers read them and as they stand in the seats' calls.
 use Rattle.std.proofs.Common.{◌≡◌, ℕ, ◌==◌, ◌&&◌, Bool, true, false, cond, List, [], ◌∷◌, ◌++◌, Option, Some}
 use Rattle.std.proofs.Common.{None}
 use Rattle.std.proofs.Common.{slice_get, reverse, refl, sym, ap, ◌∙◌, subst, option_map}

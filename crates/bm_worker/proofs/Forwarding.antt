@@ -212,7 +212,7 @@ carries_one_stop F stage servers d most now next r mux stays latest porter memor
 pub weight_of : (hop next : Hop) → hop_after hop ≡ Some next → hop_weight hop ≡ suc (most_tries next)
 weight_of hop next after = grind arith
 
--- the forward is owed once it was made
+-- the forward is to be completed once it was made
 owes_forward : (stint : Stint) (d : List Note) (k : ℕ) (hop next : Hop) (at : ℕ) (before fate : Fate) (clock : Moment)
     (server to : ServerId) (due w : ℕ)
     → hop_after hop ≡ Some next → at < clock.0 → Owes stint d (debt k hop at before)

@@ -92,7 +92,7 @@ switch_few m seen past = of_test (ltb (version_at past m).0 (last_version seen))
   of_test true = omega arith
   of_test false = omega arith
 
--- what was steered is paid, and so is all that was before
+-- what was steered is completed, and so is all that was before
 batch_settled : (m : MuxId) (seen : Posted) (past : List Event) (s d y : List Note)
     → AreSteerings m (s ++ switch_notes m seen past)
     → PaysFor s y → AreSettled d → AreSettled (y ++ ((s ++ switch_notes m seen past) ++ d))

@@ -1,4 +1,4 @@
--- What the seats were told, and what was noted.
+-- The seats' calls and replies, and what was recorded.
 use Rattle.std.proofs.Common.{◌≡◌, ℕ, ◌==◌, ◌&&◌, Bool, true, false, cond, inl, inr, List, [], ◌∷◌, ◌++◌, map}
 use Rattle.std.proofs.Common.{slice_get, Option, Some, refl, sym, ap, ◌∙◌, append_assoc, append-nil, arith, subst}
 use Rattle.std.proofs.lemmas.Bool.{cases_Bool, eqb-true, eqb-false, eq-eqb, ne_eqb}
@@ -81,7 +81,8 @@ both_true true true e = (refl, refl)
 both_true true false e = absurd (cc)
 both_true false b e = absurd (cc)
 
--- the note of a call that was gained, where the note says what the call with its reply says, and has its home there
+-- the note of a call that was gained, where the note says what the call with its reply says, and is
+-- in the log there
 hears_call : (stage : Stage) (servers : List Serving) (place number home : ℕ) (server : Serving) (call : ShardCall)
     (reply : ShardReply)
     (n : Note) (a b : List (List Seated)) → Suits stage servers → slice_get servers place ≡ Some server

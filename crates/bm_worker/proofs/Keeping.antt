@@ -1,4 +1,4 @@
--- The record of a phase goes on with more deeds.
+-- The record of a phase goes on with more notes.
 use Rattle.std.proofs.Common.{◌≡◌, ℕ, zero, suc, ◌≤◌, max, Bool, true, false, cond, List, []}
 use Rattle.std.proofs.Common.{◌∷◌, ◌++◌}
 use Rattle.std.proofs.Common.{reverse, slice_get, Some, None, refl, sym, ap, ◌∙◌, subst}

@@ -1,4 +1,4 @@
--- How a sending is paid: sums over notes.
+-- How a sending is completed: sums over notes.
 use Rattle.std.proofs.Common.{◌≡◌, ℕ, suc, ◌+◌, ◌<◌, ◌≤◌, ◌==◌, ◌&&◌, Bool, true, false, cond, inl, inr, List, [], ◌∷◌}
 use Rattle.std.proofs.Common.{◌++◌, Option, option_map}
 use Rattle.std.proofs.Common.{None, Some, refl, sym, ap, subst, arith, leb, ltb}

@@ -127,7 +127,7 @@ switch_greatest m seen past = of_test (ltb (version_at past m).0 (last_version s
   of_test true = omega arith
   of_test false = omega arith
 
--- nothing of it is heard at a shard
+-- nothing of it is a call to a shard
 pub steerings_heard : (stage : Stage) (servers : List Serving) (m : MuxId) (x : List Note) (a b : List (List Seated))
     → b ≡ a → AreSteerings m x
     → Hears stage servers a b x

@@ -1,4 +1,4 @@
--- A call leaves a worker with its seats, and one of them was told more.
+-- A call leaves a worker with its seats, and adds a call with its reply to one of them.
 use Rattle.std.proofs.Common.{◌≡◌, ℕ, suc, ◌+◌, ◌<◌, ◌≤◌, ◌==◌, ◌&&◌, Bool, true, false, cond, List, [], ◌∷◌, ◌++◌}
 use Rattle.std.proofs.Common.{length, map, get_or, set, slice_get, Option, Some, Result, Ok, Err, inl, inr, refl, sym}
 use Rattle.std.proofs.Common.{ap, ◌∙◌, subst, append-nil, arith}
@@ -117,7 +117,7 @@ whos_kept seats place a b is same =
 
 -- WHAT WAS TOLD
 
--- what the seats were told after a call
+-- the seats' calls and replies after a call
 told_grows : {M : Type 0} (seats : List (List Seated)) (place shard : ℕ) (a b : List Seated) (call : ShardCall)
     (r : Result ShardReply M)
     → place < length seats → a ≡ get_or seats place a → Tells shard call r a b

@@ -1,4 +1,4 @@
--- What a mux logs and sends of a batch, among the deeds of a phase.
+-- What a mux logs and sends of a batch, among the notes of a phase.
 use Rattle.std.proofs.Common.{◌≡◌, ℕ, ◌+◌, ◌<◌, ◌≤◌, ◌==◌, ◌&&◌, max, Bool, true}
 use Rattle.std.proofs.Common.{false, cond, List, [], ◌∷◌, ◌++◌}
 use Rattle.std.proofs.Common.{length, reverse, slice_get, Option, Some, None, inl, inr, refl, sym, ap, ◌∙◌, subst}

@@ -22,7 +22,7 @@ pub not_some : {X : Type 0} (o : Option X) → is_some o ≡ false → o ≡ Non
 not_some None is = refl
 not_some (Some x) is = absurd (let bad : true ≡ false = is in cc)
 
--- the same worker but for what it was told and why it gave up
+-- the same worker but for the posts that it knows and why it gave up
 ended_as : (F : Rules) (stage : Stage) (servers : List Serving) (stint : Stint) (now next : MuxWorker)
     (stop : Option Stop) → next.mux ≡ now.mux → next.porter ≡ now.porter → HasEnded F stage servers stint now stop
     → HasEnded F stage servers stint next stop

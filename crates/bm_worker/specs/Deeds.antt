@@ -1,5 +1,5 @@
--- What a worker does, as notes (its deeds), and what its seats hear of it. Deeds have the newest
--- first.
+-- What a worker does, as notes, and the calls of its seats, each with its reply. Lists of notes
+-- have the newest first.
 use Rattle.std.specs.Prelude.{◌≡◌, ℕ, if◌then◌else◌, true, List, [], ◌∷◌, ◌++◌, length, map}
 use Rattle.std.specs.Prelude.{slice_get, Some}
 use Rattle.bm_base.specs.declared.fate.Fate.{Fate}
@@ -54,7 +54,7 @@ pub record Suits (stage : Stage) (servers : List Serving) : Type 0 where
       → is_known stage.script.plan (length stage.script.plan.changes) id ≡ true
       → HasServer servers id
 
--- WHAT THE SEATS HEAR
+-- THE CALLS OF THE SEATS
 
 -- an event, and the moment that was passed to the shard
 abbrev pub Said : Type 0
@@ -67,20 +67,20 @@ said_of shard a = (event_told shard a.0 a.1, (call_moment a.0).0)
 abbrev pub saying : Shard → List Answered → List Said
 saying shard told = map (said_of shard) told
 
--- what the deeds say about one actor's log, in the order in which they were done
+-- what the notes say about one actor's log, the oldest first
 abbrev pub noted : Stage → Actor → List Note → List Said
 noted stage a [] = []
 noted stage a (n ∷ deeds) =
     noted stage a deeds ++ (if is_home stage a n then (n.event, n.due) ∷ [] else [])
 
--- what the seats were told grew by exactly these deeds, at each shard in their order
+-- the seats' calls and replies grew by exactly these notes, at each shard in their order
 abbrev pub Hears : Stage → List Serving → List (List Seated) → List (List Seated) → List Note
     → Type 0
 Hears stage servers a b deeds = (s h : ℕ) (server : Serving) → slice_get servers s ≡ Some server
     → saying (shard_at server h) (told_there b s h)
     ≡ saying (shard_at server h) (told_there a s h) ++ noted stage (ShardOf server.id.0 h) deeds
 
--- DEEDS
+-- NOTES
 
 -- what happens at a clock, due at a moment, by the worker of this seat
 abbrev pub deed : Moment → What → Fate → ℕ → ℕ → ℕ → Note
@@ -92,7 +92,7 @@ deed clock what fate command due seat = record {
   seat = seat;
 }
 
--- the fate noted for an event that sends nothing
+-- the fate recorded for an event that sends nothing
 abbrev pub no_fate : Fate
 no_fate = record { copies = 1; delay = 0 }
 

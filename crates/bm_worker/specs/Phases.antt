@@ -1,5 +1,5 @@
 -- What a mux's worker promises of one phase: the time between two Syncs, in which it carries the
--- mux's packets of that phase. Its deeds have the newest first.
+-- mux's packets of that phase. Its notes have the newest first.
 use Rattle.std.specs.Prelude.{◌≡◌, ℕ, suc, ◌+◌, ◌-◌, ◌*◌, ◌^◌, ◌<◌, ◌≤◌, ◌==◌, max, Bool, true}
 use Rattle.std.specs.Prelude.{false, MatchBool}
 use Rattle.std.specs.Prelude.{if◌then◌else◌, List, ◌++◌, length, reverse, slice_get, Option, Some}
@@ -46,7 +46,7 @@ tries_per_packet = 39
 abbrev pub entries_per_packet : ℕ
 entries_per_packet = 11
 
--- deeds: a Switch, the Steer, and its arrivals, some of which a loss may replace
+-- notes: a Switch, the Steer, and its arrivals; a loss may come in place of some of these
 abbrev pub deeds_per_packet : ℕ
 deeds_per_packet = 41
 
@@ -79,7 +79,7 @@ mux_for stint = stint.start.mux.id
 
 -- WHAT THE MUX LOGS
 
--- what these deeds say about the log of the mux m
+-- what these notes say about the log of the mux m
 abbrev pub mux_log : Stage → ℕ → List Note → List Event
 mux_log stage m deeds = events_of (home_part stage (MuxOf m) deeds)
 
@@ -99,7 +99,7 @@ IsMuxGiven stage after first posts rest clock (Steer k m) =
     × (clock ≡ next_clock (last_own stage rest (Some (MuxOf m.0))) (record_moment stage k))
 IsMuxGiven stage after first posts rest clock _ = Unit {0}
 
--- WHAT THE SHARDS ARE TOLD
+-- THE CALLS TO THE SHARDS
 
 -- a copy of a packet with the tag of the label that its mux gave it, for this server and its flow's
 -- shard
@@ -116,7 +116,7 @@ AreCopies stage m servers past seats =
     (s h : ℕ) (server : Serving) → slice_get servers s ≡ Some server
     → AllByRecursion (λ (a : Answered). IsCopyCall stage past m server h a.0) (told_there seats s h)
 
--- EACH DEED
+-- EACH NOTE
 
 -- no arrival of a later packet comes before an arrival of a packet
 abbrev pub IsInOrder : List Note → What → Type 0
@@ -144,7 +144,7 @@ abbrev pub IsPlaced : List Serving → What → Type 0
 IsPlaced servers (Arrive k hop server verdict) = HasServer servers server
 IsPlaced servers _ = Unit {0}
 
--- one of the deeds of the phase, where `deeds` are all of them
+-- one of the notes of the phase, where `deeds` is all of them
 pub record IsDeed (F : Rules) (stage : Stage) (servers : List Serving) (stint : Stint)
     (deeds : List Note) (n : Note) : Type 0 where
   pub kind : carries (mux_for stint).0 n.event.what ≡ true
@@ -165,14 +165,14 @@ pub record Kept (F : Rules) (stage : Stage) (servers : List Serving) (stint : St
     (now : MuxWorker) (deeds : List Note) : Type 0 where
   pub each : AllByRecursion (IsDeed F stage servers stint deeds) deeds
   pub ordered : AtEach (λ rest n. IsInOrder rest n.event.what) deeds
-  -- the mux's log grew by exactly these deeds' events
+  -- the mux's log grew by exactly these notes' events
   pub logged : reverse now.mux.log
       ≡ mux_log stage (mux_for stint).0 deeds ++ reverse stint.start.mux.log
   pub gives : AtEach
       (λ rest e. IsMuxGiven stage stint.after (last_version stint.told) now.mux.seen.clocks
       (rest ++ reverse stint.start.mux.log) e.clock.0 e.what)
       (mux_log stage (mux_for stint).0 deeds)
-  -- what the seats were told grew likewise
+  -- the seats' calls and replies grew likewise
   pub hears : Hears stage servers stint.start.porter.seats now.porter.seats deeds
   pub copies : AreCopies stage (mux_for stint) servers (reverse stint.start.mux.log)
       stint.start.porter.seats
@@ -182,7 +182,7 @@ pub record Kept (F : Rules) (stage : Stage) (servers : List Serving) (stint : St
   pub mux : IsSameMux stint.start.mux now.mux
   pub porter : IsSamePorter stint.start.porter now.porter
 
--- besides the first Switch, no more deeds than the packets may lead to
+-- besides the first Switch, at most as many notes as the packets may lead to
 abbrev pub AreFew : List Note → Type 0
 AreFew deeds = length deeds ≤ deeds_per_packet * many (λ n. is_steer n.event.what) deeds + 1
 
@@ -201,7 +201,7 @@ pub record Phase (F : Rules) (stage : Stage) (servers : List Serving) (stint : S
   pub few : AreFew deeds
 
 -- why the worker gave up: memory, or a moment that was too large, which came from the clock of one
--- of its deeds
+-- of its notes
 abbrev pub IsStopOf : List Note → Stop → Type 0
 IsStopOf deeds Memory = Unit {0}
 IsStopOf deeds (Late moment clock) =
@@ -254,7 +254,7 @@ HasEnded F stage servers stint now None =
 HasEnded F stage servers stint now (Some stop) =
     (deeds : List Note) × Kept F stage servers stint now deeds × IsStopOf deeds stop × AreFew deeds
 
--- a worker that hasn't given up and was told may begin
+-- unless it has given up, the worker knows what is posted, and may begin
 abbrev pub CanWork : Stage → List Serving → List (Option MuxId) → Span → MuxWorker → Type 0
 CanWork stage servers routes span w =
     w.stop ≡ None → (told : Posted) × (w.told ≡ Some told)

@@ -1,4 +1,4 @@
--- What the seats of a worker were told: each call with its reply, by server and shard.
+-- The calls of a worker's seats, each with its reply, by server and shard.
 use Rattle.std.specs.Prelude.{◌≡◌, ℕ, ◌==◌, ◌&&◌, if◌then◌else◌, List, [], ◌∷◌, ◌++◌, slice_get}
 use Rattle.std.specs.Prelude.{Option, Some, None}
 use Rattle.bm_core.specs.declared.events.Event.{Event}
@@ -16,7 +16,7 @@ abbrev pub told_in : Option (List Seated) → ℕ → List Answered
 told_in None h = []
 told_in (Some seat) h = told_at seat h
 
--- what the seats were told by the shard h of the server at the place s, in order
+-- the seats' calls to the shard h of the server at the place s, each with its reply, in order
 abbrev pub told_there : List (List Seated) → ℕ → ℕ → List Answered
 told_there seats s h = told_in (slice_get seats s) h
 
@@ -25,7 +25,7 @@ abbrev pub Gains : ℕ → ℕ → ShardCall → ShardReply → List (List Seate
 Gains place shard call reply a b = (s h : ℕ) → told_there b s h
     ≡ told_there a s h ++ (if s == place && h == shard then (call, reply) ∷ [] else [])
 
--- no more calls
+-- no call was added
 abbrev pub Stays : List (List Seated) → List (List Seated) → Type 0
 Stays a b = (s h : ℕ) → told_there b s h ≡ told_there a s h
 

@@ -65,7 +65,8 @@ impl MuxWorker {
         Ok(batch.end)
     }
 
-    /// Carries the mux's packets of the phase, by looks that show what was told or later posts.
+    /// Carries the mux's packets of the phase, by looks that show the posts that the worker knows
+    /// of, and maybe later ones.
     pub(crate) fn carry_phase<W: Wait, F: Fn(u32, Hop) -> Fate, G: Gate>(
         &mut self,
         rt: &W,

@@ -81,7 +81,7 @@ fn retired(answer: Result<ShardReply, Memory>) -> Result<Moment, Memory>
 }
 
 impl Porter {
-    /// A porter of seats that were told nothing yet. Takes no memory.
+    /// A porter of seats that have made no turn yet. Takes no memory.
     pub fn new(number: u16, seats: Vec<ServerSeat>) -> Porter
         requires { (s : ℕ) (seat : _) → slice_get seats.items s ≡ Some seat → most_turns seat ≡ 0 }
         ensures { result ≡ record { number = number; seats = seats.items; tries = 0; latest = 0 } }
@@ -95,7 +95,7 @@ impl Porter {
     }
 
     /// A copy of the packet, which was due at this moment, arrives as octets; returns the clock and
-    /// the verdict. `Memory` where memory was refused; then nothing was told. It may wait.
+    /// the verdict. `Memory` where memory was refused; then no call was made. It may wait.
     pub fn arrive<R: Wait>(
         &mut self,
         rt: &R,
@@ -131,7 +131,7 @@ impl Porter {
     }
 
     /// The server at the place ends a connection at this moment; returns the clock, and whether it
-    /// held one. `Memory` where memory was refused; then nothing was told. It may wait.
+    /// held one. `Memory` where memory was refused; then no call was made. It may wait.
     pub fn close<R: Wait>(
         &mut self,
         rt: &R,
@@ -164,7 +164,7 @@ impl Porter {
     }
 
     /// Asks the server at the place to retire a shard at this moment, with this outcome; returns
-    /// the clock. `Memory` where memory was refused; then nothing was told. It may wait.
+    /// the clock. `Memory` where memory was refused; then no call was made. It may wait.
     pub fn retire<R: Wait>(
         &mut self,
         rt: &R,

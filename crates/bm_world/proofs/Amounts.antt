@@ -1,4 +1,4 @@
--- How many deeds there are, where a worker may have given up.
+-- How many notes there are, where a worker may have given up.
 use Rattle.std.proofs.Common.{◌≡◌, ℕ, zero, suc, ◌+◌, ◌*◌, ◌<◌, ◌≤◌, Bool, true, false, cond, ◌&&◌, List, []}
 use Rattle.std.proofs.Common.{◌∷◌, ◌++◌, length, length-append, Option, Some, None, refl, sym, ◌∙◌, subst, arith}
 use Rattle.std.proofs.Common.{eqb, leb, ltb, inl, inr}
@@ -141,7 +141,7 @@ lengths_few (d ∷ carriers) c few =
     in let b = total_append (λ n. one_if (is_steer n.event.what)) d (all_deeds carriers)
     in omega arith
 
--- a bound on the deeds of the muxes' workers
+-- a bound on the notes of the muxes' workers
 pub carried_few : (stage : Stage) (routes : List (Option MuxId)) (until : ℕ) (carriers : List (List Note))
     → until ≤ 200000 → length carriers ≤ 64
     → ((m : ℕ) → m < length carriers

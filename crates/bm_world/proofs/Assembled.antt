@@ -1,4 +1,4 @@
--- What the workers handed back keeps the promises of a threaded run.
+-- What the workers gave back keeps the promises of a threaded run.
 use Rattle.std.proofs.Common.{◌≡◌, ℕ, zero, suc, ◌+◌, ◌<◌, ◌≤◌, Bool, true, false, cond, List, [], ◌∷◌}
 use Rattle.std.proofs.Common.{◌++◌, length}
 use Rattle.std.proofs.Common.{Option, Some, None, refl, sym, ap, ◌∙◌, subst, arith, eqb, leb, inl, inr}

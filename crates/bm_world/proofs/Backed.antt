@@ -1,4 +1,4 @@
--- What the workers hand back, after the last phase and where one has given up.
+-- What the workers give back, after the last phase and where one has given up.
 use Rattle.std.proofs.Common.{◌≡◌, ℕ, zero, suc, ◌+◌, Bool, true, false, List, length}
 use Rattle.std.proofs.Common.{map, Option, Some, sym, ap, ◌∙◌, subst, arith}
 use Rattle.std.specs.Prelude.{slice_get, MatchBool}

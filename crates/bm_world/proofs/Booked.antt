@@ -374,7 +374,7 @@ given_all stage logs about (k ∷ kept) replays asked mine order = (
   given_all stage logs about kept replays.1 asked.1 mine.1 order.1,
 )
 
--- what has its home at a shard is by it
+-- what is in a shard's log is by that shard
 pub home_actor : (stage : Stage) (seat s h : ℕ) (what : What) → is_by (home_of stage seat what) (ShardOf s h) ≡ true
     → is_by (actor_of stage what) (ShardOf s h) ≡ true
 home_actor stage seat s h (Publish v) is = is

@@ -1,4 +1,4 @@
--- What the workers handed back stands in the logs, and nothing else does.
+-- What the workers gave back stands in the logs, and nothing else does.
 use Rattle.std.proofs.Common.{◌≡◌, ℕ, zero, suc, ◌+◌, ◌<◌, ◌≤◌, Bool, true, false, cond, ◌&&◌, ◌||◌, List, [], ◌∷◌}
 use Rattle.std.proofs.Common.{◌++◌, length}
 use Rattle.std.proofs.Common.{Option, Some, None, refl, sym, subst, arith, eqb, ltb, inl, inr}
@@ -203,7 +203,7 @@ all_four : (A B C D S : Note → Type 0) (x : List Note) → ((n : Note) → A n
 all_four A B C D S [] f a b c d = tt
 all_four A B C D S (n ∷ x) f a b c d = (f n a.0 b.0 c.0 d.0, all_four A B C D S x f a.1 b.1 c.1 d.1)
 
--- each deed has its log
+-- each note has its log
 pub have_homes : (R : Routes) (F : Rules) (stage : Stage) (controller : List Note) (carriers : List (List Note))
     (books : List Book) (back : AreHandedBack R F stage controller carriers books)
     → HaveHomes stage (logs_of stage controller carriers books back.kept) (all_deeds (controller ∷ carriers))

@@ -1,4 +1,4 @@
--- At the end of a run its workers and its servers have handed back what a threaded run asks for.
+-- At the end of a run its workers and its servers have given back what a threaded run asks for.
 use Rattle.std.proofs.Common.{◌≡◌, ℕ, zero, suc, ◌<◌, Bool, true, false, ◌&&◌, List, [], ◌∷◌, ◌++◌}
 use Rattle.std.proofs.Common.{length, map}
 use Rattle.std.proofs.Common.{Option, Some, None, refl, sym, ap, ◌∙◌, subst, arith, eqb, leb, ltb, inl, inr}
@@ -296,7 +296,7 @@ carried_no_command m (Close server flow closed) h = absurd (cc)
 carried_no_command m (Retire server x at result) h = absurd (cc)
 carried_no_command m Sync h = absurd (cc)
 
--- what the workers and the books have handed back
+-- what the workers and the books have given back
 pub ended : (R : Routes) (F : Rules) (stage : Stage) (servers : List Serving) (routes : List (Option MuxId))
     (board : Board) (p phases : ℕ) (workers : List MuxWorker) (head : List (List Seated)) (controller : List Note)
     (carriers : List (List Note)) (all : List (List Book))

@@ -1,4 +1,4 @@
--- The logs of what the workers handed back agree.
+-- The logs of what the workers gave back agree.
 use Rattle.std.proofs.Common.{◌≡◌, ℕ, zero, suc, ◌+◌, ◌<◌, ◌≤◌, Bool, true, false, ◌&&◌, List, [], ◌∷◌}
 use Rattle.std.proofs.Common.{◌++◌, length}
 use Rattle.std.proofs.Common.{Option, Some, None, refl, sym, ap, ◌∙◌, arith, eqb, ltb, inl, inr}
@@ -60,7 +60,7 @@ both P Q (n ∷ x) ps qs = ((ps.0, qs.0), both P Q x ps.1 qs.1)
 
 -- STANDING
 
--- what has its home with an actor stands in its log
+-- what belongs in a mux's log stands in it
 home_stands : (stage : Stage) (seat : ℕ) (what : What) (m : ℕ) → is_by (home_of stage seat what) (MuxOf m) ≡ true
     → stands_in stage what (MuxOf m) ≡ true
 home_stands stage seat (Publish v) m is = is

@@ -75,7 +75,7 @@ answered_rest : (P : Answered → Type 0) (x y : List Answered) → AllByRecursi
 answered_rest P [] y all = (tt, all)
 answered_rest P (a ∷ x) y all = let old = answered_rest P x y all.1 in ((all.0, old.0), old.1)
 
--- what holds of the calls that a seat was told holds of its entries
+-- what holds of the calls of a seat holds of its entries
 calls_each : (Q : ShardCall → Type 0) (about : Shard) (w : ℕ) (x : List ShardEntry)
     → AllByRecursion (λ (a : Answered). Q a.0) (telling (Some about) w (reverse x))
     → AllByRecursion (λ (e : ShardEntry). Q e.call) (entries_by w x)
@@ -181,7 +181,7 @@ pub record AreDone (stage : Stage) (servers : List Serving) (rows : List (List (
   pub commands : AllByRecursion (λ n. is_command n.event.what ≡ true) controller
   pub first : AllByRecursion (λ n. n.seat ≡ 0) controller
   pub others : (m : ℕ) → AllByRecursion (λ n. n.seat ≡ suc m) (deeds_of carriers m)
-  -- what each worker's seats heard is what it did
+  -- the calls and replies of each worker's seats are what it did
   pub heard : (w : ℕ) (seats : List (List Seated)) → slice_get rows w ≡ Some seats
       → HaveHeard stage servers seats (deeds_of (controller ∷ carriers) w)
   -- and the copies have the labels of the mux's log

@@ -305,7 +305,7 @@ sync_home stage seat (Arrive k hop server verdict) is = absurd (cc)
 sync_home stage seat (Close server flow closed) is = absurd (cc)
 sync_home stage seat (Retire server h moment result) is = absurd (cc)
 
--- all Syncs were met, so each has its clock from what was done
+-- each Sync came after its phase, so each has its clock from what was done
 pub all_synced : (stage : Stage) (all more x : List Note) → ((f : Note → ℕ) → total f all ≤ total f more)
     → AtEach (λ rest n. IsMet stage all (events_of rest) n n.event.what) (home_part stage Controller x)
     → AllByRecursion (λ n. IsSynced stage more n n.event.what) x

@@ -110,7 +110,7 @@ step_home : (P : Event → Type 0) (n : Note) (h : List Note) (b : Bool) → P n
 step_home P n h true p old = (p, old)
 step_home P n h false p old = old
 
--- what holds of each deed holds of the log
+-- what holds of each note holds of the log
 pub log_each : (P : Event → Type 0) (stage : Stage) (m : ℕ) (x : List Note) → AllByRecursion (λ n. P n.event) x
     → AllByRecursion P (mux_log stage m x)
 log_each P stage m [] all = tt

@@ -263,7 +263,7 @@ rows_heard stage servers head workers controller carriers first others (suc m) s
     let w = row_of workers m seats here
     in subst (λ (x : List (List Seated)). HaveHeard stage servers x (deeds_of carriers m)) w.2 (others m w.0 w.1)
 
--- by the changes that are posted later worker 0's seats hear nothing
+-- the changes that are posted later add no call of worker 0's seats
 none_heard : (stage : Stage) (servers : List Serving) (a b : Porting) (x : List Note)
     → AllByRecursion (λ n. is_publish n.event.what ≡ true) x → b ≡ a → Hears stage servers a.seats b.seats x
 none_heard stage servers a b x kinds same =
@@ -406,7 +406,7 @@ over_left F stage servers p q a b workers x all over =
       booked = over_booked F stage servers p q a b workers x all over;
     }
 
--- it can't be that somebody has given up for such a moment
+-- it can't be that a worker has given up for such a moment
 pub none_late : (F : Rules) (stage : Stage) (servers : List Serving) (p q : Posted) (a b : Head)
     (workers : List MuxWorker) (x : List Note) (all : List (List Book)) → IsSound stage → Suits stage servers
     → ((s : ℕ) (server : Serving) → slice_get servers s ≡ Some server → server.seats ≡ suc (length workers))

@@ -46,7 +46,7 @@ use Rattle.bm_world.proofs.Told.{all_told, told_at}
 
 -- WHAT EACH DID
 
--- for each place some deeds: a list of them
+-- for each place some notes: a list of them
 gather : (P : ℕ → List Note → Type 0) (n : ℕ) → ((m : ℕ) → m < n → (d : List Note) × P m d)
     → (more : List (List Note)) × (length more ≡ n) × ((m : ℕ) → m < n → P m (deeds_of more m))
 gather P zero each = ([], refl, λ m low. absurd (omega arith))
@@ -59,14 +59,14 @@ gather P (suc n) each =
       at d more p each zero low = p
       at d more p each (suc m) low = each m (omega arith)
 
--- what each mux's worker did of a phase that it was told of
+-- what each mux's worker did of a phase, once it knew what is posted
 abbrev pub Worked : Rules → Stage → List Serving → List (Option MuxId) → Span → Posted → List MuxWorker
     → List MuxWorker → Type 0
 Worked F stage servers routes span posted old now =
     (m : ℕ) (x y : MuxWorker) → slice_get old m ≡ Some x → slice_get now m ≡ Some y
     → HasWorked F stage servers routes span (told_what posted x) y
 
--- where the call says so of the workers that were told
+-- where the call says so of the workers that know what is posted
 pub worked_at : (F : Rules) (stage : Stage) (servers : List Serving) (routes : List (Option MuxId)) (span : Span)
     (posted : Posted) (old told now : List MuxWorker) → told ≡ map (told_what posted) old
     → HaveWorked F stage servers routes span told now → Worked F stage servers routes span posted old now

@@ -1,4 +1,4 @@
--- What the workers noted, each of its own entries, is noted of all entries of a book.
+-- What the workers recorded, each of its own entries, is recorded of all entries of a book.
 use Rattle.std.proofs.Common.{◌≡◌, ℕ, Bool, true, false, cond, List, [], ◌∷◌, refl, sym, ap, subst, ◌∙◌, eqb}
 use Rattle.std.proofs.lemmas.Bool.{eq-eqb, eqb-true}
 use Rattle.bm_shard.specs.declared.calls.ShardEntry.{ShardEntry}

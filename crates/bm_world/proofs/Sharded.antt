@@ -224,7 +224,7 @@ shard_entries stage logs about (k ∷ kept) of replays asked =
       shard_entries stage logs about kept of replays.1 asked.1,
     )
 
--- and has the clock after the shard's last one and the moment that was handed in
+-- and has the clock after the shard's last one and the moment that was passed to it
 pub shard_clock : (stage : Stage) (about : Shard) (k : Kept) (kept : List Kept) → Replays about (entries_of (k ∷ kept))
     → AreAskedHere stage about kept
     → (note_of k).event.clock.0 ≡ next_clock (unwrap_or (own_clock stage (events_of (notes_of kept)) (home about)) 0)

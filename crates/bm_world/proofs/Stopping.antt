@@ -61,7 +61,7 @@ clock_under c (n ∷ x) one = go (eqb n.event.clock.0 c) refl one (λ h. clock_u
   go true is h old = let same : n.event.clock.0 ≡ c = eqb-true _ _ is in omega arith
   go false is h old = let under = old (omega arith) in omega arith
 
--- where it gave up, this is of its deeds
+-- where it gave up, this is of its notes
 abbrev IsStoppedBy : List Note → Option Stop → Type 0
 IsStoppedBy x None = Unit {0}
 IsStoppedBy x (Some stop) = IsStopOf x stop

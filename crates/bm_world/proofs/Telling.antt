@@ -1,4 +1,4 @@
--- What a seat was told is what its worker noted of the shard's book.
+-- A seat's calls and replies are what its worker recorded of the shard's book.
 use Rattle.std.proofs.Common.{◌≡◌, ℕ, ◌+◌, Bool, true, false, cond, List, [], ◌∷◌, ◌++◌, length}
 use Rattle.std.proofs.Common.{map}
 use Rattle.std.proofs.Common.{Some, refl, sym, ap, ◌∙◌, arith, eqb, append_assoc}
@@ -28,7 +28,7 @@ use Rattle.bm_world.specs.Inside.Shards.{entries_by, AreNoted}
 
 -- ONE MORE ENTRY
 
--- what an entry tells under the number n, after these
+-- the call of an entry with its reply, under the number n, after these
 abbrev pub told_one : Shard → ℕ → List ShardEntry → ShardEntry → Bool → List Answered
 told_one about n before e b = cond b ((e.call, reply_of about before n e.call) ∷ []) []
 
@@ -94,7 +94,7 @@ reverse_twice (e ∷ past) =
     ap (λ (l : List ShardEntry). reverse l) (reverse_more e past) ∙ reverse-append (reverse past) (e ∷ [])
     ∙ ap (λ (l : List ShardEntry). e ∷ l) (reverse_twice past)
 
--- the entries of a seat say what it was told
+-- the entries of a seat have its calls and replies
 pub entries_say : (about : Shard) (w : ℕ) (past : List ShardEntry) → Replays about past
     → saying about (telling (Some about) w (reverse past)) ≡ back (map say_entry (entries_by w past))
 entries_say about w [] replays = refl
@@ -168,7 +168,7 @@ by_seat w (e ∷ es) = go (eqb e.seat w) refl (by_seat w es) where
   go true is old = (eqb-true _ _ is, old)
   go false is old = old
 
--- what was told under a number is what the worker of that number noted
+-- the calls and replies under a number are what the worker of that number recorded
 pub told_noted : (stage : Stage) (a : Actor) (about : Shard) (w : ℕ) (entries : List ShardEntry) (d : List Note)
     → Replays about (reverse entries) → AllByRecursion (λ n. n.seat ≡ w) (home_part stage a d)
     → saying about (telling (Some about) w entries) ≡ noted stage a d

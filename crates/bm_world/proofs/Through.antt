@@ -1,4 +1,4 @@
--- What the workers and the books hand back after the last phase merges to a threaded run.
+-- What the workers and the books give back after the last phase merges to a threaded run.
 use Rattle.std.proofs.Common.{◌≡◌, ℕ, suc, ◌+◌, List, [], ◌∷◌, ◌++◌, length, map, Option, Some, refl}
 use Rattle.std.proofs.Common.{sym, ap, ◌∙◌, subst, arith, append_assoc}
 use Rattle.std.specs.Prelude.{reverse, slice_get}

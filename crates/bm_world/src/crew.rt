@@ -71,8 +71,8 @@ pub(crate) fn make_workers(
     Ok(workers)
 }
 
-/// What a mux's worker gives back: the mux's log, once it has heard what was told and looked, and
-/// the worker's seats.
+/// What a mux's worker gives back: the mux's log, once it has learned what was posted and looked,
+/// and the worker's seats.
 fn part(worker: MuxWorker, told: Told) -> Result<(Log, Vec<ServerSeat>), Memory>
     requires { told.board ≡ worker.mux.seen.board }
     ensures log { IfOk result (λ parts. parts.0 ≡ worker.mux.log) }

@@ -61,7 +61,7 @@ fn records_end(stage: &Stage, place: usize, from: u32) -> u32
     }
 }
 
-/// Tells each worker what is posted. Takes no memory.
+/// Lets each worker know what is posted. Takes no memory.
 fn tell_all(poster: &Poster, workers: &mut [MuxWorker])
     ensures { workers.new ≡ map (told_what poster.now) workers.old }
 {

@@ -1,4 +1,4 @@
--- Whether copies are accounted for, where the fault rule has one answer to each question.
+-- Whether copies are accounted for, where the impairment rule has one answer to each question.
 use Rattle.std.specs.Prelude.{◌≡◌, ℕ, suc, ◌<◌, List, [], ◌∷◌, IfSome}
 use Rattle.bm_base.specs.declared.fate.Fate.{Fate}
 use Rattle.bm_base.specs.declared.label.Hop.{Hop}

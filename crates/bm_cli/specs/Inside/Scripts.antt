@@ -6,7 +6,7 @@ use Rattle.bm_cli.specs.Plain.{plain_script}
 use Rattle.bm_cli.specs.Reading.{Octets, script_in}
 use Rattle.bm_cli.specs.Stages.{IsRead}
 
--- if no script is named it is the one that sets nothing, whatever the files hold
+-- if no script is named it is the one that sets nothing, whatever the files contain
 abbrev pub ReadsScript : Octets → Option (List ℕ) → Result Script StageFault → Type 0
 ReadsScript told None result = IsRead (Ok plain_script) result
 ReadsScript None (Some name) result = Unit {0}

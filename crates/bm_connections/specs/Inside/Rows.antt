@@ -45,7 +45,7 @@ seen_from f first last = record {
 abbrev pub seen_again : Sight → Connection → Connection
 seen_again s c = record c { last = s }
 
--- the counts after an arrival with this verdict, which is a fault or not
+-- the counts after an arrival with this verdict, which is a drop, a reset, a stray or none of these
 abbrev pub tallied : Verdict → Bool → Tally → Tally
 tallied verdict fault t = record {
   accepted = one_more (is_accept verdict) t.accepted;

@@ -28,8 +28,8 @@ AreRetirings i server at outcome h (n ∷ deeds) =
     (clock : Moment) × (k : ℕ) × (h ≡ suc k) × (n ≡ retiring clock server k at outcome i 0)
     × (at.0 < clock.0) × AreRetirings i server at outcome k deeds
 
--- the deeds carry out the command i, where the controller's clock was latest and this many versions
--- were published
+-- the notes carry out the command i, where the controller's clock was `latest` and this many
+-- versions were published
 abbrev pub AreOf : Stage → ℕ → ℕ → ℕ → Command → List Note → Type 0
 AreOf stage latest published i (Change v) deeds =
     (clock : Moment) × (deeds ≡ publishing clock v i ∷ [])
@@ -46,7 +46,7 @@ AreOf stage latest published i (Retire at server) deeds =
 AreOf stage latest published i (Sync at) deeds =
     (clock : Moment) × (deeds ≡ syncing clock i ∷ []) × (latest < clock.0)
 
--- the worker's seats and clock after these deeds, at most this many of which are calls
+-- the worker's seats and clock after these notes, where at most this many are calls
 pub record HasCalled (stage : Stage) (servers : List Serving) (calls : ℕ) (a b : Porting)
     (deeds : List Note) : Type 0 where
   pub heard : Hears stage servers a.seats b.seats deeds
@@ -59,7 +59,7 @@ abbrev pub published_after : List Event → ℕ → ℕ
 published_after [] before = before
 published_after (e ∷ past) before = published_by e.what (published_after past before)
 
--- worker 0 and the board after these deeds, before it goes to the next command
+-- worker 0 and the board after these notes, before it goes to the next command
 pub record HasDone (stage : Stage) (servers : List Serving) (p q : Posted) (a b : Head)
     (deeds : List Note) : Type 0 where
   pub called : HasCalled stage servers 64 a.porter b.porter deeds

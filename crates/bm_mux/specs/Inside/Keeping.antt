@@ -8,7 +8,7 @@ use Rattle.bm_publish.specs.Posts.{Posted, last_version}
 use Rattle.bm_mux.specs.Steers.{steering_clock}
 use Rattle.bm_mux.specs.Muxes.{AreShown, HasServers}
 
--- what a look has seen or heard of, if there is one
+-- the posts that a look has seen or learned of, if there is a look
 abbrev pub seen_by : Option Posted → Posted
 seen_by None = record {
   board = record { number = 0; log_name = 0; cells_name = 0 };
@@ -17,7 +17,7 @@ seen_by None = record {
 }
 seen_by (Some seen) = seen
 
--- the notes of a mux that was shown these posts
+-- the log, the version and the clock of a mux that was shown these posts
 pub record IsKept (id : MuxId) (buckets version clock : ℕ) (log : List Event) (seen : Posted)
     : Type 0 where
   pub mux : id.0 < 64

@@ -1,4 +1,4 @@
--- What a mux does with its notes. Only the proofs of bodies use this.
+-- What a mux records, and what a steered item adds to it. Only the proofs of bodies use this.
 use Rattle.std.specs.Prelude.{◌≡◌, [], ◌∷◌, ◌++◌}
 use Rattle.bm_core.specs.declared.events.What.TheVariants.{Steer}
 use Rattle.bm_publish.specs.Posts.{Posted}
@@ -8,7 +8,7 @@ use Rattle.bm_mux.specs.declared.notes.Notes.{Notes}
 use Rattle.bm_mux.specs.Steers.{at_clock, sent_for, steer_clock}
 use Rattle.bm_mux.specs.Inside.Keeping.{IsKept}
 
--- the notes are those of a mux that was shown these posts
+-- this was recorded by a mux that was shown these posts
 abbrev pub AreKept : Notes → Posted → Type 0
 AreKept n seen = IsKept n.id n.buckets n.version.0 n.clock.0 n.log.items seen
 

@@ -24,7 +24,7 @@ HeadGives (Some octets) form place (Ok (head.States time len)) =
 HeadGives (Some octets) form place (Err ReadFault) = Unit {0}
 HeadGives (Some octets) form place (Err e) = next_of form place octets ≡ Err e
 
--- The header that states this is held.
+-- The header that states this was read ahead.
 abbrev pub HeadIn : Form → List ℕ → Head → Type 0
 HeadIn form ahead (head.States time len) =
     (16 ≤ length ahead) × (len ≡ captured_length form (take 16 ahead))

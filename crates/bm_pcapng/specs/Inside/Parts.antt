@@ -55,7 +55,7 @@ HeadGives None order interfaces place result = Unit {0}
 HeadGives (Some octets) order interfaces place result =
     HeadSays (next_of order interfaces place octets) interfaces place octets result
 
--- The head that states this is held, whatever follows what is held.
+-- The octets that were read ahead have the head that states this, whatever follows them.
 abbrev pub HeadIn : Order → List Interface → Place → List ℕ → Head → Type 0
 HeadIn order interfaces place ahead (head.States kind own n) =
     (octets : List ℕ) → Begins ahead octets
@@ -80,7 +80,7 @@ stated_in kind (Some own) place octets =
 abbrev pub stated : Kind → Order → Place → List ℕ → Result Head NgFault
 stated kind order place octets = stated_in kind (order_of kind order octets) place octets
 
--- what is held begins with the type of a section header
+-- what was read ahead begins with the type of a section header
 abbrev pub IsAtSection : List ℕ → Type 0
 IsAtSection ahead = (4 ≤ length ahead) × (is_section (take 4 ahead) ≡ true)
 
@@ -111,7 +111,7 @@ IsBlockOf kind interfaces n (step.Block size said) =
     (size ≡ n) × IsContentOf kind interfaces n said
 IsBlockOf kind interfaces n other = ⊥
 
--- a block is held whole
+-- if the step is a block, all of it was read ahead
 abbrev pub StepIn : List ℕ → Step → Type 0
 StepIn ahead (step.Block n said) = n ≤ length ahead
 StepIn ahead other = Unit {0}

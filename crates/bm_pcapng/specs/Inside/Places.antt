@@ -4,7 +4,7 @@ use Rattle.bm_pcapng.specs.declared.content.Content.{Content}
 use Rattle.bm_pcapng.specs.declared.content.Packet.{Packet}
 use Rattle.bm_pcapng.specs.declared.content.Content.TheVariants.{Holds}
 
--- the packet of a block that holds one
+-- the packet of a block that contains one
 abbrev pub packet_in : Content → Option Packet
 packet_in (Holds packet) = Some packet
 packet_in other = None

@@ -19,22 +19,22 @@ changed_from change b (entry ∷ entries) =
 abbrev pub IsRight : List Entry → Posted → Type 0
 IsRight entries posted = IsTable posted.plan (last_version posted) entries
 
--- what a seat was told is of this board
+-- a seat's view, if it has one, is of this board
 abbrev pub IsOn : Book → Option Posted → Type 0
 IsOn board told = IfSome told (λ t. t.board ≡ board)
 
--- the table is right, and what each seat was told is of this board
+-- the table is right, and each seat's view, if it has one, is of this board
 pub record Keeps (entries : List Entry) (p : Posted) (views : List (Option Posted)) : Type 0 where
   pub right : IsRight entries p
   pub each : (seat : ℕ) (v : Option Posted) → get_elem? views seat ≡ some v → IsOn p.board v
 
--- a seat that sees this is told of it
+-- after a seat sees this, its view is these posts
 pub record Sees (entries : List Entry) (p : Posted) (before after : Option Posted) : Type 0 where
   pub right : IsRight entries p
   pub told : after ≡ Some p
   pub board : IsOn p.board before
 
--- a seat was told of this board
+-- a seat has a view, which is of this board
 abbrev pub Knows : Book → Option Posted → Type 0
 Knows board view = (told : Posted) × (view ≡ Some told) × (told.board ≡ board)
 

@@ -29,8 +29,8 @@ abbrev pub posted_in : Book → List Line → Posted
 posted_in board log = record { board = board; plan = plan_in log; clocks = clocks_in log }
 
 -- THE PERMIT TO POST
--- The permit to post is the pen of a cell. Each post brings its own cell home, and names the cell of the next permit.
--- The first permit is cell 1.
+-- The permit to post is the pen of a cell. Each post gives its own cell back, and names the cell of
+-- the next permit. The first permit is cell 1.
 
 -- the cell of the permit for the next post
 abbrev pub permit_in : ℕ → List Line → ℕ
@@ -38,13 +38,13 @@ permit_in key [] = key
 permit_in key (Opens plan ∷ log) = permit_in key log
 permit_in key (Posts clock next ∷ log) = permit_in next log
 
--- the cell of each permit that was used is home
+-- the cell of each permit that was used was given back
 abbrev pub IsSpent : List Cell → ℕ → List Line → Type 0
 IsSpent cells key [] = Unit {0}
 IsSpent cells key (Opens plan ∷ log) = IsSpent cells key log
 IsSpent cells key (Posts clock next ∷ log) = ((cell cells key).1 ≡ true) × IsSpent cells next log
 
--- cell 0 is the word of all steps, and holds 0 while it is the only one
+-- cell 0 is the word of all steps, and contains 0 while it is the only one
 pub record IsCounted (cells : List Cell) (log : List Line) : Type 0 where
   pub some : 0 < length cells
   pub word : (cell cells 0).1 ≡ true

@@ -1,4 +1,4 @@
--- The packets that a replay in progress holds.
+-- The packets that a replay in progress keeps.
 use Rattle.std.specs.Prelude.{◌≡◌, ◌<◌, ◌≤◌, ℕ, List, [], ◌∷◌, length, Some, slice_get}
 use Rattle.std.specs.Prelude.{slice_index_or}
 use Rattle.bm_base.specs.declared.capture.Record.{Record}

@@ -121,7 +121,7 @@ coming_for p = first_coming (soonest_command p) (first_due p.wire) p.packet.head
 
 -- STEPS
 
--- this happened
+-- the player after one more event, at this clock
 abbrev pub happened : Moment → What → Player → Player
 happened clock what p =
     record p { events = p.events ++ record { clock = clock; what = what } ∷ []; clock = clock }

@@ -40,7 +40,7 @@ all_shards setting zero = []
 all_shards setting (suc s) =
     all_shards setting s ++ server_shards setting (record { 0 = s }) setting.shards
 
--- nobody's shard
+-- the shard of no server
 abbrev pub no_state : State
 no_state =
     first_state (record { server = record { 0 = 0 }; number = 0; capacity = 0; timeout = 0 })

@@ -63,7 +63,7 @@ pub record AreLeft (plan : Planned) (n : ℕ) (moves : List Move) (s : ℕ) (lea
   pub least : (since : ℕ)
       → IsLeast (left_by plan n moves (record { 0 = s }) since) (first_since leaves since)
 
--- the list, if there is one
+-- the items of the list, or none
 abbrev pub listed : {A : Type 0} → Option (Vec Leave A) → List Leave
 listed None = []
 listed (Some v) = v.items

@@ -8,6 +8,6 @@ pub record IsOpening (opening : Opening) : Type 0 where
   pub setting : IsSetting opening.setting
   pub count : length opening.weights ≡ length opening.setting.servers
   pub weights : All (IsWithin 1 1000) opening.weights
-  -- there are no more racks than buckets, and each has one of the servers
+  -- there are at most as many racks as buckets, and each has one of the servers
   pub few : opening.setting.racks ≤ opening.setting.buckets
   pub filled : are_filled opening.setting.racks opening.setting.servers ≡ true

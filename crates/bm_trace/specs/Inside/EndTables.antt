@@ -6,7 +6,7 @@ use Rattle.bm_trace.specs.declared.endings.First.{First}
 use Rattle.bm_trace.specs.declared.endings.First.TheVariants.{Missing, Only, Followed}
 use Rattle.bm_trace.specs.declared.records.End.{End}
 
--- the list, if there is one
+-- the items of the list, or none
 abbrev pub listed : {A : Type 0} → Option (Vec End A) → List End
 listed None = []
 listed (Some v) = v.items

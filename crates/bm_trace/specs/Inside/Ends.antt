@@ -18,7 +18,6 @@ abbrev pub words_of_option : Option End → List (List ℕ)
 words_of_option None = []
 words_of_option (Some end) = words_of_end end
 
--- the words of these ends
 abbrev pub words_of_ends : List End → List (List ℕ)
 words_of_ends [] = []
 words_of_ends (end ∷ ends) = words_of_end end ++ words_of_ends ends

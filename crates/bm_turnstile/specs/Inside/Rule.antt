@@ -1,5 +1,5 @@
 -- Only the proofs of bodies use this: the rule of the tickets. Word 0 is the next ticket, word 1
--- the ticket being served, and the one slot holds the state.
+-- the ticket being served, and the one slot contains the state.
 use Rattle.std.specs.Prelude.{◌≡◌, ◌≢◌, ◌⊎◌, ℕ, zero, suc, ◌+◌, ◌^◌, ◌<◌, ◌≤◌, ◌==◌}
 use Rattle.std.specs.Prelude.{Bool, true, false, cond, List, [], ◌∷◌, ◌++◌, length, Option, Some}
 use mathlib.Core.Option.{some}
@@ -35,7 +35,8 @@ module _ {E : Type 0} (seat_of : E → ℕ) where
   abbrev pub Grows : ℕ → List E → List E → Type 0
   Grows n log log' = (log' ≡ log) ⊎ ((e : E) × (log' ≡ log ++ e ∷ []) × (seat_of e ≡ n))
 
-  -- the numbers of seats that were given back are dead, and what they had seen covers the entries
+  -- the numbers of seats that were given back are no longer used, and what they had seen covers the
+  -- entries
   abbrev pub OldsFit : (ℕ → Bool) → List E → List (Old E) → Type 0
   OldsFit dead log [] = Unit {0}
   OldsFit dead log (o ∷ os) =
@@ -95,7 +96,7 @@ module _ {T X E : Type 0} (entries : T → List E) (fixed : T → X) (replays : 
         → (s.homes ≡ maybe.none ∷ [])
         × (v : View X E) × (get_elem? s.views i ≡ some v) × IsServed v.stage
 
-  -- WHAT EACH STEP TELLS
+  -- WHAT EACH STEP SHOWS ITS SEAT
 
   -- what a served seat finds
   pub record Finds (v : View X E) (ticket : ℕ) (t : T) : Type 0 where

@@ -103,7 +103,7 @@ switch_notes m seen past =
 
 -- DELIVERED
 
--- the notes x settle the sendings s
+-- the notes x complete the sendings in s, and those in x
 pub record PaysFor (s x : List Note) : Type 0 where
   pub lost : (k : ℕ) (hop : Hop) (clock : ℕ) → total (lost_at k hop clock) x
       ≡ total (copyless_at k hop clock) s + total (copyless_at k hop clock) x
@@ -112,7 +112,7 @@ pub record PaysFor (s x : List Note) : Type 0 where
   pub arrived : (k : ℕ) (hop : Hop) → total (comes k hop) x
       ≡ total (gives k hop) s + total (gives k hop) x
 
--- a steered packet among the deeds of a phase
+-- a steered packet among the notes of a phase
 pub record IsOwed (stint : Stint) (deeds : List Note) (d : Debt) : Type 0 where
   pub note : Note
   pub among : IsAmong note deeds
@@ -147,7 +147,7 @@ IsDelivery (Arrive k hop server verdict) = Unit {0}
 IsDelivery (Lose k hop) = Unit {0}
 IsDelivery _ = ⊥
 
--- every phase goes on with at most this many notes, which settle what was steered, or the worker
+-- every phase goes on with at most this many notes, which complete what was steered, or the worker
 -- gave up
 abbrev pub Delivers : Rules → Stage → List Serving → List Steered → List Fate → MuxWorker
     → MuxWorker
@@ -164,7 +164,7 @@ Delivers F stage servers sents fates old new result =
 
 -- HOW FAR A PHASE IS
 
--- every sending among the deeds is settled
+-- every sending among the notes is completed
 pub record AreSettled (deeds : List Note) : Type 0 where
   pub lost : (k : ℕ) (hop : Hop) (clock : ℕ) → total (lost_at k hop clock) deeds
       ≡ total (copyless_at k hop clock) deeds
@@ -207,7 +207,7 @@ pub record HasSeen (old new : MuxWorker) : Type 0 where
   pub latest : new.porter.latest ≡ max old.porter.latest (steering_clock (reverse new.mux.log))
   pub steps : new.steps ≡ old.steps
 
--- nothing was done; the mux may have seen or heard more
+-- nothing was done; the mux may have seen or learned of more posts
 pub record HasOnlyLooked (old new : MuxWorker) : Type 0 where
   pub mux : IsSameMux old.mux new.mux
   pub log : new.mux.log ≡ old.mux.log

@@ -1,4 +1,4 @@
--- How a sending is settled: each of its copies arrives, and each forward of one is settled in turn;
+-- How a sending is completed: each of its copies arrives, and each forward of one is completed too;
 -- a sending without copies is lost. Only the proofs of bodies use this.
 use Rattle.std.specs.Prelude.{◌≡◌, ◌<◌, ◌≤◌, ◌*◌, ◌^◌, ◌+◌, ℕ, suc, Bool, true, false, ◌&&◌, ◌==◌}
 use Rattle.std.specs.Prelude.{nat_le, nat_lt}
@@ -83,8 +83,8 @@ abbrev pub debt_copyless : Debt → ℕ → Hop → ℕ → ℕ
 debt_copyless d k hop clock =
     if is_of d k hop && (d.fate.copies == 0 && d.clock == clock) then 1 else 0
 
--- the notes settle the copies of the sending, and all that was sent among themselves; with whole, a
--- sending without copies has its Lose among them
+-- the notes x complete the copies of the sending, and all sendings in x; with `whole`, a sending
+-- without copies has its Lose in x
 pub record Pays (whole : Bool) (d : Debt) (x : List Note) : Type 0 where
   pub lost : (k : ℕ) (hop : Hop) (clock : ℕ) → total (lost_at k hop clock) x
       ≡ (if whole then debt_copyless d k hop clock else 0) + total (copyless_at k hop clock) x
@@ -93,9 +93,9 @@ pub record Pays (whole : Bool) (d : Debt) (x : List Note) : Type 0 where
   pub arrived : (k : ℕ) (hop : Hop) → total (comes k hop) x
       ≡ debt_gives d k hop + total (gives k hop) x
 
--- AMONG THE DEEDS OF A PHASE
+-- AMONG THE NOTES OF A PHASE
 
--- each sum over the deeds has the note's part, so it is one of them
+-- each sum over the notes has the note's part, so it is one of them
 abbrev pub IsAmong : Note → List Note → Type 0
 IsAmong n deeds = (f : Note → ℕ) → f n ≤ total f deeds
 
@@ -104,7 +104,7 @@ abbrev pub IsUpTo : ℕ → What → Type 0
 IsUpTo k (Arrive j hop server verdict) = j ≤ k
 IsUpTo k _ = Unit {0}
 
--- one of the deeds is this sending, of a packet of the phase, and no later packet has arrived
+-- one of the notes is this sending, of a packet of the phase, and no later packet has arrived
 pub record Owes (stint : Stint) (deeds : List Note) (d : Debt) : Type 0 where
   pub note : Note
   pub among : IsAmong note deeds
@@ -130,12 +130,12 @@ pub record GoesOn (F : Rules) (stage : Stage) (servers : List Serving) (stint : 
   pub packets : AllByRecursion (λ n. IsOf packet n.event.what) x
   pub few : length x ≤ most
 
--- this many copies are settled, or the whole sending, or the worker gave up
+-- the copies of the sending are completed, with `whole` its Lose too, or the worker gave up
 abbrev pub IsPaid : Bool → Debt → List Note → List Note → Result (Unit {0}) Stop → Type 0
 IsPaid whole d deeds x result =
     MatchResult result (λ _. Pays whole d x) (λ stop. IsStopOf (x ++ deeds) stop)
 
--- in every phase that has this sending, it is settled with at most this many notes, or the worker
+-- in every phase that has this sending, it is completed with at most this many notes, or the worker
 -- gave up
 abbrev pub Carries : Rules → Stage → List Serving → Debt → ℕ → MuxWorker → MuxWorker
     → Result (Unit {0}) Stop → Type 0
@@ -144,7 +144,7 @@ Carries F stage servers d most old new result =
     → (x : List Note) × GoesOn F stage servers stint d.packet most new deeds x
     × IsPaid true d deeds x result
 
--- one copy of it is settled
+-- the same for one copy of it
 abbrev pub CarriesOne : Rules → Stage → List Serving → Debt → ℕ → MuxWorker → MuxWorker
     → Result (Unit {0}) Stop → Type 0
 CarriesOne F stage servers d most old new result =
@@ -152,7 +152,7 @@ CarriesOne F stage servers d most old new result =
     → (x : List Note) × GoesOn F stage servers stint d.packet most new deeds x
     × IsPaid false (with_copies d 1) deeds x result
 
--- i copies of it are settled
+-- i copies of it are completed
 abbrev pub HasCarried : Rules → Stage → List Serving → Debt → ℕ → ℕ → MuxWorker → MuxWorker → Type 0
 HasCarried F stage servers d i most old now =
     (stint : Stint) (deeds : List Note) → Kept F stage servers stint old deeds → Owes stint deeds d
@@ -174,7 +174,7 @@ GrowsByLosses most old new =
     (more : List Event) × (new ≡ old ++ more) × AllByRecursion (λ e. is_lose e.what ≡ true) more
     × (length more ≤ most)
 
--- the worker met a moment that is too large, which came from this clock
+-- the worker came to a moment that is too large, at most a minute after this clock
 abbrev pub IsLateFrom : ℕ → Stop → Type 0
 IsLateFrom clock (Late moment at) =
     (9 * 10 ^ 18 < moment.0) × (moment.0 ≤ at.0 + 60 * 10 ^ 9) × (at.0 ≡ clock)

@@ -36,7 +36,7 @@ use Rattle.bm_world.specs.Inside.Running.{AreApart, AreAtWork, HaveHeard, HaveLo
 
 -- WORKERS
 
--- seats that were told nothing
+-- seats that have made no turn
 abbrev pub HaveNoTurns : List (List Seated) → Type 0
 HaveNoTurns seats = (s : ℕ) (seat : List Seated) → slice_get seats s ≡ Some seat
     → most_turns seat ≡ 0
@@ -49,7 +49,7 @@ pub record IsNewWorker (look : Posted) (seats : List (List Seated)) (m : ℕ) (w
   pub steps : w.steps ≡ 0
   pub stop : w.stop ≡ None
 
--- the worker was told what is posted
+-- the worker, once it knows what is posted
 abbrev pub told_what : Posted → MuxWorker → MuxWorker
 told_what posted w = record w { told = Some posted }
 
@@ -136,7 +136,7 @@ abbrev pub IsTooLate : Option Stop → Type 0
 IsTooLate (Some (Late moment clock)) = Unit {0}
 IsTooLate _ = ⊥
 
--- nobody gave up because memory was refused, but somebody for a moment that was too large
+-- no worker gave up because memory was refused, but one did for a moment that was too large
 pub record IsLate (led : Result (Unit {0}) Stop) (workers : List MuxWorker) : Type 0 where
   pub first : led ≡ Err Memory → ⊥
   pub each : (m : ℕ) (w : MuxWorker) → slice_get workers m ≡ Some w → w.stop ≡ Some Memory → ⊥
@@ -173,7 +173,7 @@ left_of _ next all = 0
 
 -- AT THE END
 
--- the mux heard of all these posts, and then looked: what it was shown by then
+-- the mux learned these posts, and then looked: what it was shown by then
 pub record HasSeenAll (posted : Posted) (w : MuxWorker) : Type 0 where
   pub seen : Posted
   pub is_posted : IsPosted seen

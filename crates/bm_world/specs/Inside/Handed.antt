@@ -130,7 +130,7 @@ pub record AreHandedBack (R : Routes) (F : Rules) (stage : Stage) (controller : 
   pub steered : (k : ℕ)
       → many (λ n. steers_packet n.event.what k) (all_deeds carriers)
       ≡ (if is_some (segment_of stage k) then 1 else 0)
-  -- the workers met at each Sync
+  -- each Sync comes after what all workers did of its phase
   pub met : AtEach
       (λ rest n. IsMet stage (controller ++ all_deeds carriers) (events_of rest) n n.event.what)
       (home_part stage Controller controller)

@@ -1,5 +1,5 @@
--- What the workers leave behind if one of them has given up: less than they give back at the end.
--- Only the proofs of bodies use this.
+-- What the workers leave if one of them has given up: less than they give back at the end. Only the
+-- proofs of bodies use this.
 use Rattle.std.specs.Prelude.{◌≡◌, ◌⊎◌, ℕ, suc, ◌<◌, ◌==◌, ◌&&◌, max}
 use Rattle.std.specs.Prelude.{true, List, ◌++◌, length}
 use Rattle.std.specs.Prelude.{Some, is_some}

@@ -25,7 +25,7 @@ use Rattle.bm_worker.specs.Assigned.{is_assigned}
 use Rattle.bm_worker.specs.declared.worker.MuxWorker.{MuxWorker}
 use Rattle.bm_world.specs.Inside.Handed.{control_log, IsCarriage}
 
--- what these seats were told is exactly what was done at each shard, in its order
+-- these seats' calls and replies are exactly what was done at each shard, in its order
 abbrev pub HaveHeard : Stage → List Serving → List (List Seated) → List Note → Type 0
 HaveHeard stage servers seats deeds =
     (s h : ℕ) (server : Serving) → slice_get servers s ≡ Some server
@@ -53,11 +53,11 @@ pub record IsAtWork (R : Routes) (F : Rules) (stage : Stage) (servers : List Ser
   pub tries : w.porter.tries ≤ tries_per_packet * until
   pub steps : w.steps ≤ until
   pub room : length w.mux.log ≤ entries_per_packet * until + phases
-  -- besides the first Switch of each phase, no more deeds than the packets may lead to
+  -- besides the first Switch of each phase, at most as many notes as the packets may lead to
   pub few : length deeds ≤ deeds_per_packet * many (λ n. is_steer n.event.what) deeds + phases
   pub stop : w.stop ≡ None
 
--- the deeds of a phase before those of earlier phases
+-- the notes of a phase before those of earlier phases, for each worker
 abbrev pub add_deeds : List (List Note) → List (List Note) → List (List Note)
 add_deeds (x ∷ more) (d ∷ carriers) = (x ++ d) ∷ add_deeds more carriers
 add_deeds _ carriers = carriers
@@ -91,8 +91,8 @@ HaveLooked stage controller carriers = (m : ℕ) → m < stage.script.setting.mu
     → 1 ≤ many (looks_since m (sync_clock (control_log stage controller)))
     (controller ++ all_deeds carriers)
 
--- the commands before this place have p syncs, none of which is later than a record from the place
--- `before` on
+-- the commands before this place have p syncs, and none of these is later than a record from the
+-- place `before` on
 pub record IsAtPhase (stage : Stage) (next p before : ℕ) : Type 0 where
   pub syncs : count_of wants_sync (take next stage.script.commands) ≡ p
   pub earlier : (k : ℕ) → before < k → k ≤ length stage.capture.records

@@ -75,7 +75,7 @@ entries_by w [] = []
 entries_by w (e ∷ entries) =
     if e.seat == w then e ∷ entries_by w entries else entries_by w entries
 
--- a worker noted these entries, in order
+-- the notes are of these entries, in order
 abbrev pub AreNoted : List ShardEntry → List Note → Type 0
 AreNoted [] [] = Unit {0}
 AreNoted (e ∷ entries) (n ∷ notes) =

@@ -23,7 +23,7 @@ use Rattle.bm_world.proofs.Making.{suits_made}
 use Rattle.bm_world.proofs.Through.{merge_to_run}
 use Rattle.bm_world.proofs.threads.run_stage.Goals as goal
 
--- what the workers hand back, where they were lent all servers and all routes
+-- what the workers give back, where they were lent all servers and all routes
 back_of : (F : Rules) (stage : Stage) (lent servers : List Serving) (shown routes : List (Option MuxId)) (late : Bool)
     (logs : List (List Event)) (rows : List (List (List Seated))) → shown ≡ routes → lent ≡ servers
     → IsBack F stage lent shown late logs rows → IsBack F stage servers routes late logs rows

@@ -6,7 +6,7 @@ use Rattle.bm_pcap.proofs.Windows.{grown, kept, keeps_same, keeps_more, grows_sa
 use Rattle.bm_pcap.proofs.window.Window.read.Goals as goal
 use borrow.Rule.Slice.PartMut.{put_mid, same_len_mid}
 
--- what is held after a failure, and after a piece
+-- what is read ahead after a failure, and after a piece
 same : (g : _) (c : goal.After-from_residual g)
     → slice_range
     (with_items c.args.self.now.octets
