@@ -2,13 +2,13 @@
 ghost use Rattle.std.specs.Prelude.{◌≡◌, ◌<◌, ◌^◌, ℕ, [], ◌∷◌, List, OnOk, length, suc, Some};
 ghost use Rattle.std.specs.Prelude.{if◌then◌else◌, true, ◌==◌};
 ghost use Rattle.std.specs.Bool.{Decides};
-ghost use Rattle.bm_core.specs.Accounts.{lost_at};
+ghost use Rattle.bm_core.specs.Accounts.{count_of, lost_at};
 ghost use Rattle.bm_base.specs.Labels.{hop_number};
 ghost use Rattle.bm_core.specs.Past.{is_sent_at, sending_of};
 ghost use Rattle.bm_core.specs.declared.events.Event.{Event};
 ghost use Rattle.bm_state.specs.Sendings.{as_sending};
 ghost use Rattle.bm_base.specs.declared.label.Hop.TheVariants.{Direct};
-ghost use Rattle.bm_state.specs.Losses.{AreCounted, KeepsLosses, sendings_at, sent_at};
+ghost use Rattle.bm_state.specs.Losses.{AreCounted, KeepsLosses, is_loss, sendings_at, sent_at};
 ghost use Rattle.bm_state.specs.Inside.Losses.{same_sent};
 
 use crate::count::one_more;
@@ -167,7 +167,9 @@ impl Losses {
 
     /// Whether there is no loss at all.
     pub fn are_none(&self) -> bool
-        ensures { (past : List Event) → KeepsLosses past self.now
+        ensures count { (past : List Event) → KeepsLosses past self.now
+            → result ≡ (count_of is_loss past == 0) }
+        ensures none { (past : List Event) → KeepsLosses past self.now
             → result ≡ true → (k : ℕ) (hop : Hop) (clock : ℕ) → lost_at past k hop clock ≡ 0 }
     {
         self.count == 0
