@@ -1,2 +1,0 @@
--- Only the contracts of private calls and the proofs of bodies use these.
-pub mod Logs
