@@ -1,13 +1,10 @@
 -- A fact on each place of a list, after an item came or went at either end.
 use Rattle.std.proofs.Common.{◌≡◌, ℕ, zero, suc, ◌+◌, ◌<◌, ◌⊎◌, inl, inr, ⊎_elim, List, [], ◌∷◌, ◌++◌, length, map}
 use Rattle.std.proofs.Common.{Some, slice_get, All, refl, sym, ap, ◌∙◌, subst, arith}
-use Rattle.std.proofs.lemmas.Option.{same_Some, slice_get_within}
-use mathlib.Core.List.{map-append}
+use Rattle.std.proofs.lemmas.Option.{same_Some}
 
 pub subst_two : {A B : Type 0} (P : A → B → Type 0) {a a' : A} {b b' : B} → a ≡ a' → b ≡ b' → P a b → P a' b'
 subst_two P {a = a} {a' = a'} {b = b} {b' = b'} e f p = subst (λ y. P a' y) f (subst (λ x. P x b) e p)
-
--- ONE LIST
 
 module _ {A : Type 0} where
   pub there : (xs : List A) (i : ℕ) → i < length xs → (x : A) × (slice_get xs i ≡ Some x)
@@ -49,59 +46,10 @@ module _ {A : Type 0} where
   front_more P m x xs xs' e first rest k y at =
       front_one P m x xs first rest k y (ap (λ (l : List A). slice_get l k) (sym e) ∙ at)
 
-  -- without the first, where places are counted from m
-  pub each_less : (P : ℕ → A → Type 0) (xs rest : List A) (x : A) (m m' : ℕ) → xs ≡ x ∷ rest → m' ≡ m + 1
-      → ((i : ℕ) (y : A) → slice_get xs i ≡ Some y → P (m + i) y)
-      → (i : ℕ) (y : A) → slice_get rest i ≡ Some y → P (m' + i) y
-  each_less P xs rest x m m' e n old i y at =
-      let z : m + suc i ≡ m' + i = omega (arith, n) in
-      subst (λ (k : ℕ). P k y) z (old (suc i) y (ap (λ (l : List A). slice_get l (suc i)) e ∙ at))
-
-  -- of the first, where places are counted from m
-  pub each_first : (P : ℕ → A → Type 0) (xs rest : List A) (x : A) (m : ℕ) → xs ≡ x ∷ rest
-      → ((i : ℕ) (y : A) → slice_get xs i ≡ Some y → P (m + i) y) → P m x
-  each_first P xs rest x m e old =
-      let z : m + 0 ≡ m = omega arith in
-      subst (λ (k : ℕ). P k x) z (old 0 x (ap (λ (l : List A). slice_get l 0) e))
-
   pub all_tail : (P : A → Type 0) (l xs : List A) (x : A) → l ≡ x ∷ xs → All P l → All P xs
   all_tail P l xs x e all =
       let h = subst (λ (l : List A). All P l) e all in
       λ k d lt. h (suc k) d (omega arith)
-
--- TWO LISTS SIDE BY SIDE
-
-module _ {A B : Type 0} where
-  two_cases : (P : ℕ → A → B → Type 0) (xs : List A) (x : A) (ys : List B) (y : B) → length ys ≡ length xs
-      → ((i : ℕ) (a : A) (b : B) → slice_get xs i ≡ Some a → slice_get ys i ≡ Some b → P i a b) → P (length xs) x y
-      → (i : ℕ) (a : A) (b : B) → (slice_get xs i ≡ Some a) ⊎ ((i ≡ length xs) × (x ≡ a))
-      → (slice_get ys i ≡ Some b) ⊎ ((i ≡ length ys) × (y ≡ b)) → P i a b
-  two_cases P xs x ys y long old new i a b (inl p) (inl q) = old i a b p q
-  two_cases P xs x ys y long old new i a b (inl p) (inr q) =
-      let lt = slice_get_within xs i a p in let e = q.0 in absurd (omega arith)
-  two_cases P xs x ys y long old new i a b (inr p) (inl q) =
-      let lt = slice_get_within ys i b q in let e = p.0 in absurd (omega arith)
-  two_cases P xs x ys y long old new i a b (inr p) (inr q) =
-      subst_two (λ (i : ℕ) (z : A). P i z b) (sym p.0) p.1 (subst (λ z. P (length xs) x z) q.1 new)
-
-  -- one more at both ends
-  pub two_more : (P : ℕ → A → B → Type 0) (xs xs' : List A) (x : A) (ys ys' : List B) (y : B)
-      → xs' ≡ xs ++ x ∷ [] → ys' ≡ ys ++ y ∷ [] → length ys ≡ length xs
-      → ((i : ℕ) (a : A) (b : B) → slice_get xs i ≡ Some a → slice_get ys i ≡ Some b → P i a b) → P (length xs) x y
-      → (i : ℕ) (a : A) (b : B) → slice_get xs' i ≡ Some a → slice_get ys' i ≡ Some b → P i a b
-  two_more P xs xs' x ys ys' y e f long old new i a b p q = two_cases P xs x ys y long old new i a b
-      (last_cases xs x a i (ap (λ (l : List A). slice_get l i) (sym e) ∙ p))
-      (last_cases ys y b i (ap (λ (l : List B). slice_get l i) (sym f) ∙ q))
-
--- MAPS
-
-module _ {R S : Type 0} (f : R → S) where
-  pub map_more : (xs xs' : List R) (x : R) → xs' ≡ xs ++ x ∷ [] → map f xs' ≡ map f xs ++ f x ∷ []
-  map_more xs xs' x e = ap (map f) e ∙ map-append f xs (x ∷ [])
-
-  pub none_at : (l : List R) (i : ℕ) (s : S) → l ≡ [] → slice_get (map f l) i ≡ Some s → ⊥
-  none_at [] i s e at = absurd (cc)
-  none_at (x ∷ l) i s e at = absurd (cc)
 
 module _ {R S : Type 0} (f : R → List S) where
   pub all_empty : (l : List R) → All (λ (r : R). f r ≡ []) l

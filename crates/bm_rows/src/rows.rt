@@ -1,5 +1,5 @@
 //! Adding a column at the end, and taking it off.
-ghost use Rattle.std.specs.Prelude.{◌≡◌, ◌<◌, ◌∷◌, length, IfOk, All};
+ghost use Rattle.std.specs.Prelude.{◌≡◌, ◌<◌, ◌∷◌, length, IfOk, OnOk, All};
 ghost use Rattle.bm_rows.specs.Rows.{glued, items_of};
 
 use bm_base::Memory;
@@ -15,52 +15,38 @@ pub fn front<S: Drop>(all: Vec<S>) -> (S, Vec<S>)
     (first, rest)
 }
 
-/// Adds an item of the column to the end of each row. `Memory` where memory was refused; the rows
-/// are then dropped.
-pub fn add_column<S: Drop>(
-    alloc: Global,
-    rows: Vec<Vec<S>>,
-    column: Vec<S>,
-) -> Result<Vec<Vec<S>>, Memory>
-    requires { length rows.items ≡ length column.items }
-    ensures { IfOk result (λ more. items_of more.items ≡ glued (items_of rows.items) column.items) }
+/// Adds an item of the column to the end of each row. `Memory` where memory was refused; some rows
+/// may then have their item.
+pub fn add_column<S: Drop>(rows: &mut Vec<Vec<S>>, column: Vec<S>) -> Result<(), Memory>
+    requires { length rows.old.items ≡ length column.items }
+    ensures { OnOk result
+        (items_of rows.new.items ≡ glued (items_of rows.old.items) column.items) }
 {
-    let mut rest = rows;
-    let mut items = column;
-    let mut done = Vec::new(alloc);
-    while !rest.is_empty() {
-        let (mut row, others) = front(rest);
-        let (item, left) = front(items);
+    let mut items = column.into_iter();
+    for row in rows.iter_mut() {
+        let Some(item) = items.next() else {
+            unreachable!()
+        };
         row.push(item)?;
-        done.push(row)?;
-        rest = others;
-        items = left;
     }
-    Ok(done)
+    Ok(())
 }
 
-/// Takes the last item off each row, and returns the rows and those items. `Memory` where memory
-/// was refused; the rows are then dropped.
-pub fn last_column<S: Drop>(
-    alloc: Global,
-    rows: Vec<Vec<S>>,
-) -> Result<(Vec<Vec<S>>, Vec<S>), Memory>
-    requires { All (λ row. 0 < length row.items) rows.items }
-    ensures rows { IfOk result (λ r. items_of rows.items ≡ glued (items_of r.0.items) r.1.items) }
-    ensures count { IfOk result (λ r. length r.0.items ≡ length rows.items) }
-    ensures long { IfOk result (λ r. length r.1.items ≡ length rows.items) }
+/// Takes the last item off each row. `Memory` where memory was refused; some rows may then have
+/// lost their item.
+pub fn last_column<S: Drop>(alloc: Global, rows: &mut Vec<Vec<S>>) -> Result<Vec<S>, Memory>
+    requires { All (λ row. 0 < length row.items) rows.old.items }
+    ensures rows { IfOk result
+        (λ column. items_of rows.old.items ≡ glued (items_of rows.new.items) column.items) }
+    ensures count { length rows.new.items ≡ length rows.old.items }
+    ensures long { IfOk result (λ column. length column.items ≡ length rows.old.items) }
 {
-    let mut rest = rows;
-    let mut items = Vec::new(alloc);
-    let mut done = Vec::new(alloc);
-    while !rest.is_empty() {
-        let (mut row, others) = front(rest);
+    let mut column = Vec::new(alloc);
+    for row in rows.iter_mut() {
         let Some(item) = row.pop() else {
             unreachable!()
         };
-        items.push(item)?;
-        done.push(row)?;
-        rest = others;
+        column.push(item)?;
     }
-    Ok((done, items))
+    Ok(column)
 }

@@ -1,5 +1,5 @@
 //! The shards of a server and their seats, made and taken apart.
-ghost use Rattle.std.specs.Prelude.{◌≡◌, ℕ, ◌<◌, ◌≤◌, Some, All, [], ◌∷◌, length, slice_get, IfOk};
+ghost use Rattle.std.specs.Prelude.{◌≡◌, ℕ, ◌<◌, ◌≤◌, Some, All, [], length, slice_get, IfOk};
 ghost use Rattle.bm_rows.specs.Rows.{items_of};
 ghost use Rattle.bm_server.specs.Seats.{IsNewSeat};
 ghost use Rattle.bm_server.specs.Servings.{serving};
@@ -37,7 +37,7 @@ pub(crate) fn make_shards(
     for number in 0..shards {
         let book = ShardBook::new(alloc, id, number, capacity, timeout)?;
         let (turnstile, column) = Turnstile::new(alloc, book, seats)?;
-        rows = add_column(alloc, rows, column)?;
+        add_column(&mut rows, column)?;
         made.push(turnstile)?;
     }
     Ok((made, rows))
@@ -75,14 +75,5 @@ pub(crate) fn unseated(alloc: Global, seats: Vec<ServerSeat>) -> Result<Rows, Me
         let ServerSeat { seats } = seat;
         all.push(seats)?;
     }
-    Ok(all)
-}
-
-/// The others, with one more at the front.
-pub(crate) fn before<S: Drop>(first: S, others: Vec<S>) -> Result<Vec<S>, Memory>
-    ensures { IfOk result (λ all. all.items ≡ first ∷ others.items) }
-{
-    let mut all = others;
-    all.insert(0, first)?;
     Ok(all)
 }

@@ -12,7 +12,7 @@ ghost use Rattle.bm_server.specs.Seats.{most_turns, row};
 ghost use Rattle.bm_server.specs.Servings.{serving, shard_for};
 
 use crate::ServerSeat;
-use crate::seats::{before, make_shards, seated, unseated};
+use crate::seats::{make_shards, seated, unseated};
 use bm_base::{Flow, List, Memory, Moment, ServerId};
 use bm_hash::shard_of;
 use bm_rows::last_column;
@@ -213,11 +213,10 @@ impl Server {
         let mut rows = unseated(alloc, seats)?;
         let mut books = Vec::new(alloc);
         while let Some(turnstile) = left.pop() {
-            let (others, column) = last_column(alloc, rows)?;
-            let book = turnstile.close(column);
-            books = before(book, books)?;
-            rows = others;
+            let column = last_column(alloc, &mut rows)?;
+            books.push(turnstile.close(column))?;
         }
+        books.reverse();
         Ok(List::of(books))
     }
 }

@@ -4,7 +4,6 @@ ghost use Rattle.std.specs.Arc.{arc_value};
 
 use crate::tally::Tally;
 use bm_base::Memory;
-use bm_rows::front;
 use bm_turnstile::{TurnSeat, Turnstile};
 use std::alloc::Global;
 use std::sync::{Arc, Wait};
@@ -35,6 +34,7 @@ impl Chair {
     }
 }
 
+/// A chair for each seat.
 fn chairs_of(
     alloc: Global,
     turnstile: &Arc<Turnstile<Tally>, Global>,
@@ -45,16 +45,13 @@ fn chairs_of(
     ensures { IfOk result (λ chairs. length chairs.items ≡ length seats.items) }
 {
     let mut chairs = Vec::new(alloc);
-    let mut rest = seats;
-    while !rest.is_empty() {
-        let (seat, others) = front(rest);
+    for seat in seats {
         let turnstile = Arc::try_clone(turnstile)?;
         chairs.push(Chair {
             turnstile,
             seat,
             turns: 0,
         })?;
-        rest = others;
     }
     Ok(chairs)
 }

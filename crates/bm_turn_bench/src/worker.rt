@@ -39,7 +39,7 @@ fn make_workers(alloc: Global, threads: u16, turnstiles: u16) -> Result<Vec<Work
     }
     for _ in 0..turnstiles {
         let chairs = make_chairs(alloc, threads)?;
-        rows = add_column(alloc, rows, chairs)?;
+        add_column(&mut rows, chairs)?;
     }
     let mut workers = Vec::new(alloc);
     for chairs in rows {

@@ -106,6 +106,17 @@ module _ {X E : Type 0} where
       (s.number ≡ m) × (s.fixed ≡ Some about) × (s.turns ≡ 0) × (s.seen ≡ [])
       × NewFrom about (suc m) ss
 
+  -- a new seat of the turnstile of the first
+  abbrev pub new_sitting : Sitting X E → ℕ → Sitting X E
+  new_sitting first number = record {
+    table = first.table;
+    number = number;
+    given = 0;
+    fixed = first.fixed;
+    turns = 0;
+    seen = [];
+  }
+
   -- what is left of a seat that is given back
   abbrev pub old_of : Sitting X E → Old E
   old_of s = record { number = s.number; seen = s.seen }

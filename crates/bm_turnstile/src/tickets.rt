@@ -29,7 +29,8 @@ pub struct Tickets<T: Booked + Drop> {
     ghost sized: { (table.shared.table_id.words ≡ 2) × (table.shared.table_id.slots ≡ 1) },
 }
 
-fn alone<S: Drop>(alloc: Global, item: S) -> Result<Vec<S>, Memory>
+/// A vector of this item.
+pub(crate) fn alone<S: Drop>(alloc: Global, item: S) -> Result<Vec<S>, Memory>
     ensures { IfOk result (λ items. items.items ≡ item ∷ []) }
 {
     let mut items = Vec::new(alloc);

@@ -5,12 +5,12 @@ ghost use Rattle.bm_turnstile.specs.Seen.{AllBelow, Covers, SeesMore, Turned, ow
 ghost use Rattle.bm_turnstile.specs.Sittings.{IsFresh, IsPost, post, who};
 ghost use Rattle.bm_turnstile.specs.Told.{IsTold, told, told_to};
 ghost use Rattle.bm_turnstile.specs.Views.{AllIn, IsIdle, NewFrom, SeatsCover, SeatsFrom};
-ghost use Rattle.bm_turnstile.specs.Views.{fixed_of, gave, given_of, new_view, old_of, sitting};
+ghost use Rattle.bm_turnstile.specs.Views.{fixed_of, given_of, new_sitting, old_of};
 
 use crate::booked::Booked;
 use crate::rule::Place;
 use crate::seat::TurnSeat;
-use crate::tickets::Tickets;
+use crate::tickets::{Tickets, alone};
 use bm_base::Memory;
 use bm_rows::front;
 use std::alloc::Global;
@@ -65,18 +65,13 @@ impl<T: Booked + Drop> Turnstile<T> {
         ensures new { IfOk result (λ t. NewFrom (T.fixed state) 0 t.1.items) }
         ensures own { IfOk result (λ t. AllIn (λ s. s.table ≡ t.0) t.1.items) }
     {
-        let (tickets, mut first) = Tickets::open(alloc, state)?;
-        let mut rest = Vec::new(alloc);
+        let (tickets, place) = Tickets::open(alloc, state)?;
+        let mut all = alone(alloc, TurnSeat { place, number: 0 })?;
         for number in 1..seats {
-            let seat = another(&tickets, &mut first, number);
-            rest.push(seat)?;
+            let seat = another(&tickets, &mut all[0], number);
+            all.push(seat)?;
         }
-        let first = TurnSeat {
-            place: first,
-            number: 0,
-        };
-        rest.insert(0, first)?;
-        Ok((Turnstile { tickets }, rest))
+        Ok((Turnstile { tickets }, all))
     }
 
     /// Waits until the seat's ticket is served, and makes the call. After `Ok` the seat has seen
@@ -145,19 +140,20 @@ impl<T: Booked + Drop> Turnstile<T> {
     }
 }
 
-// A new seat, under the next number.
-fn another<T: Booked + Drop>(tickets: &Tickets<T>, first: &mut Place<T>, number: u16) -> TurnSeat<T>
-    requires own { first.old.table_id ≡ tickets.now.table.shared.table_id }
-    requires idle { IsIdle first.old.me.0 }
-    requires first { first.old.me.0.number ≡ 0 }
-    requires next { first.old.me.0.given ≡ number }
+// A new seat, under the next number, which the first seat gives.
+fn another<T: Booked + Drop>(
+    tickets: &Tickets<T>,
+    first: &mut TurnSeat<T>,
+    number: u16,
+) -> TurnSeat<T>
+    requires own { first.old.table ≡ tickets.now.table.shared.table_id }
+    requires first { first.old.number ≡ 0 }
+    requires next { first.old.given ≡ number }
     requires few { number < 65535 }
-    requires alone { first.old.me.0.olds ≡ [] }
-    ensures own { first.new.table_id ≡ first.old.table_id }
-    ensures view { first.new.me ≡ (gave first.old.me.0, first.old.me.1) }
-    ensures seat { result ≡ sitting first.old.table_id (new_view first.old.me.0) }
+    ensures first { first.new ≡ record first.old { given = number + 1 } }
+    ensures seat { result ≡ new_sitting first.old number }
 {
-    let place = tickets.split(first);
+    let place = tickets.split(&mut first.place);
     TurnSeat { place, number }
 }
 

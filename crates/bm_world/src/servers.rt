@@ -1,5 +1,5 @@
 //! The servers of a run, and the seats of its workers.
-ghost use Rattle.std.specs.Prelude.{[], ◌≡◌, ℕ, ◌<◌, ◌≤◌, ◌∷◌, length, map, slice_get, Some, All};
+ghost use Rattle.std.specs.Prelude.{[], ◌≡◌, ℕ, ◌<◌, ◌≤◌, length, map, slice_get, Some, All};
 ghost use Rattle.std.specs.Prelude.{IfOk};
 ghost use Rattle.bm_rows.specs.Rows.{items_of};
 ghost use Rattle.bm_turnstile.specs.Sittings.{who};
@@ -57,21 +57,10 @@ pub(crate) fn make_servers(
             setting.timeout,
             workers,
         )?;
-        rows = add_column(alloc, rows, column)?;
+        add_column(&mut rows, column)?;
         servers.push(server)?;
     }
     Ok((servers, rows))
-}
-
-/// The others, with one more at the front.
-fn before(first: Books, others: Vec<Books>) -> Result<Vec<Books>, Memory>
-    ensures { IfOk result (λ all. all.items ≡ first ∷ others.items) }
-{
-    let mut all = others;
-    match all.insert(0, first) {
-        Ok(()) => Ok(all),
-        Err(_) => Err(Memory),
-    }
 }
 
 /// The books of all servers, once all seats are given back.
@@ -92,10 +81,9 @@ pub(crate) fn finish_all(
     let mut rest = rows;
     let mut all = Vec::new(alloc);
     while let Some(server) = left.pop() {
-        let (others, column) = last_column(alloc, rest)?;
-        let books = server.finish(alloc, column)?;
-        all = before(books, all)?;
-        rest = others;
+        let column = last_column(alloc, &mut rest)?;
+        all.push(server.finish(alloc, column)?)?;
     }
+    all.reverse();
     Ok(all)
 }

@@ -1,13 +1,12 @@
-use Rattle.std.proofs.Common.{◌≡◌, ◌++◌, length}
+use Rattle.std.proofs.Common.{◌≡◌, ◌+◌, ◌++◌, length, take, drop}
+use Rattle.std.specs.Vec.Iter.{into_iter_items, into_iter_len}
 use Rattle.bm_rows.specs.Rows.{glued, items_of}
 use Rattle.bm_rows.proofs.rows.add_column.Given as goal
 
-abbrev pub invariant-loop-rest : goal.invariant-loop-rest
-invariant-loop-rest g l = record {
-  long : length l.rest.items ≡ length l.items.items;
-  rows : items_of l.done.items ++ glued (items_of l.rest.items) l.items.items
-      ≡ glued (items_of l.fn.rows.items) l.fn.column.items;
+abbrev pub invariant-loop-row : goal.invariant-loop-row
+invariant-loop-row g l = record {
+  count : into_iter_len l.items + l.row-index ≡ length l.fn.column.items;
+  left : into_iter_items l.items ≡ drop l.row-index l.fn.column.items;
+  rows : items_of l.row-items ≡ glued (take l.row-index (items_of l.fn.rows.items)) l.fn.column.items
+      ++ drop l.row-index (items_of l.fn.rows.items);
 }
-
-abbrev pub decreases-loop-rest : goal.decreases-loop-rest
-decreases-loop-rest g l = length l.rest.items

@@ -1,14 +1,11 @@
-use Rattle.std.proofs.Common.{◌≡◌, ◌+◌, ◌<◌, ◌++◌, length, All}
+use Rattle.std.proofs.Common.{◌≡◌, ℕ, ◌<◌, ◌≤◌, ◌++◌, length, take, drop, get_or}
 use Rattle.bm_rows.specs.Rows.{glued, items_of}
 use Rattle.bm_rows.proofs.rows.last_column.Given as goal
 
-abbrev pub invariant-loop-rest : goal.invariant-loop-rest
-invariant-loop-rest g l = record {
-  full : All (λ row. 0 < length row.items) l.rest.items;
-  done : length l.done.items ≡ length l.items.items;
-  long : length l.done.items + length l.rest.items ≡ length l.fn.rows.items;
-  rows : glued (items_of l.done.items) l.items.items ++ items_of l.rest.items ≡ items_of l.fn.rows.items;
+abbrev pub invariant-loop-row : goal.invariant-loop-row
+invariant-loop-row g l = record {
+  long : length l.column.items ≡ l.row-index;
+  full : (k : ℕ) (d : _) → l.row-index ≤ k → k < length l.row-items → 0 < length (get_or l.row-items k d).items;
+  rows : glued (take l.row-index (items_of l.row-items)) l.column.items ++ drop l.row-index (items_of l.row-items)
+      ≡ items_of l.fn.rows.items;
 }
-
-abbrev pub decreases-loop-rest : goal.decreases-loop-rest
-decreases-loop-rest g l = length l.rest.items

@@ -31,7 +31,7 @@ loop-number-preserved c =
     let ts : List TableId = c.loop-number.made.items in
     let rows = c.loop-number.rows.items in
     let column : List Seated = c.in_ok-turnstile.column.items in
-    let glued = c.in_ok-rows-2.ensures in
+    let glued = c.in_ok-add_column.ensures in
     let items : c.push.new.self.items ≡ ts ++ t ∷ [] = c.in_ok-push.ensures.items in
     let long = ap (λ (l : List TableId). length l) items in
     let made = i.made in
@@ -42,7 +42,7 @@ loop-number-preserved c =
     IsNewSeat (serving a.id a.capacity a.timeout a.seats ts) k x in
     record {
       made = omega (arith, long, length-append ts (t ∷ []), made);
-      count = length_rows _ c.in_ok-rows-2.rows.items rows column glued i.count c.in_ok-turnstile.ensures.count;
+      count = length_rows _ c.add_column.new.rows.items rows column glued i.count c.in_ok-turnstile.ensures.count;
       each = λ k seat at.
           let e = glued_at _ column k seat (ap (λ (l : List (List Seated)). slice_get l k) (sym glued) ∙ at) in
           let old = i.each k e.row e.row_at in

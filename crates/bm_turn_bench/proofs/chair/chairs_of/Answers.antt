@@ -1,5 +1,6 @@
 use Rattle.std.proofs.Common.{◌≡◌, ◌+◌, ◌∷◌, ◌++◌, [], List, All, length, length-append, subst, sym, ap, ◌∙◌, arith}
 use Rattle.std.specs.Arc.{arc_value}
+use Rattle.std.specs.Vec.Iter.{into_iter_items}
 use Rattle.bm_rows.proofs.Places.{all_tail}
 use Rattle.bm_turnstile.specs.Sittings.{Sitting}
 use Rattle.bm_turn_bench.specs.declared.tally.Made.{Made}
@@ -16,27 +17,25 @@ one_more {A = A} xs xs' x e = ap (λ (l : List A). length l) e ∙ length-append
 
 pub invariant_of-push : goal.invariant_of-push
 invariant_of-push c =
-    let i = c.loop-rest.invariant in
-    let rest = c.loop-rest.rest.items in
-    let others = c.front-seat.result.1.items in
-    let seat = c.front-seat.result.0 in
+    let i = c.loop-seat.invariant in
+    let rest = into_iter_items c.loop-seat.seat-iterator in
+    let others = into_iter_items c.next.new.self in
+    let split = c.in-Some.ensures.steps.0 in
     let table = arc_value c.args.turnstile.now in
     record {
-      own = all_first (λ s. s.table ≡ table) rest others seat c.front-seat.ensures i.own
-          ∙ sym c.in_ok-turnstile.ensures;
-      counted = all_first (λ s. s.turns ≡ 0) rest others seat c.front-seat.ensures i.new;
+      own = all_first (λ s. s.table ≡ table) rest others c.in-Some.seat split i.own ∙ sym c.in_ok-turnstile.ensures;
+      counted = all_first (λ s. s.turns ≡ 0) rest others c.in-Some.seat split i.new;
     }
 
-pub loop-rest-preserved : goal.loop-rest-preserved
-loop-rest-preserved c =
-    let i = c.loop-rest.invariant in
-    let rest : List S = c.loop-rest.rest.items in
-    let others : List S = c.front-seat.result.1.items in
-    let seat : S = c.front-seat.result.0 in
+pub loop-seat-preserved : goal.loop-seat-preserved
+loop-seat-preserved c =
+    let i = c.loop-seat.invariant in
+    let rest : List S = into_iter_items c.loop-seat.seat-iterator in
+    let others : List S = into_iter_items c.next.new.self in
+    let split = c.in-Some.ensures.steps in
     let table = arc_value c.args.turnstile.now in
-    let split = c.front-seat.ensures in
     record {
-      own = all_tail (λ (s : S). s.table ≡ table) rest others seat split i.own;
-      new = all_tail (λ (s : S). s.turns ≡ 0) rest others seat split i.new;
-      long = omega (arith, i.long, ap length split, one_more _ _ _ c.in_ok-push.ensures.items);
+      own = all_tail (λ (s : S). s.table ≡ table) rest others c.in-Some.seat split.0 i.own;
+      new = all_tail (λ (s : S). s.turns ≡ 0) rest others c.in-Some.seat split.0 i.new;
+      long = omega (arith, i.long, split.1, one_more _ _ _ c.in_ok-push.ensures.items);
     }

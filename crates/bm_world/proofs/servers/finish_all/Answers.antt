@@ -1,6 +1,6 @@
-use Rattle.std.proofs.Common.{◌≡◌, ℕ, suc, ◌+◌, List, [], ◌∷◌, ◌++◌, length, map, take, slice_get, Some}
+use Rattle.std.proofs.Common.{◌≡◌, ℕ, suc, ◌+◌, List, [], ◌∷◌, ◌++◌, length, map, take, reverse, slice_get, Some}
 use Rattle.std.proofs.Common.{sym, ap, ◌∙◌, subst, arith, length-append, add-one, rules, Vec, Global}
-use Rattle.std.proofs.lemmas.List.{length-map}
+use Rattle.std.proofs.lemmas.List.{length-map, reverse-append}
 use Rattle.bm_rows.proofs.Lasts.{take_all, take_rows, full_rows}
 use Rattle.bm_rows.proofs.Places.{front_more}
 use Rattle.bm_rows.specs.Rows.{items_of}
@@ -32,7 +32,8 @@ loop-server-init c = record {
   rest = sym (take_rows (length c.args.servers.items) _
       (λ w x at. as_many c.args.servers.items x w (c.requires.each w x at)));
   count = let none = ap (λ l. length l) c.new-all.ensures.items in omega (arith, none);
-  books = λ k books at. absurd (no_item c.new-all.result.items k books c.new-all.ensures.items at);
+  books = λ k books at. absurd (no_item (reverse c.new-all.result.items) k books
+      (ap (λ (l : List (List Book)). reverse l) c.new-all.ensures.items) at);
 }
 
 pub last_column-requires : goal.last_column-requires
@@ -49,11 +50,11 @@ pub finish-requires-clause-count : goal.finish-requires-clause-count
 finish-requires-clause-count c =
     let split : c.loop-server.left.items ≡ c.pop.new.self.items ++ c.in-Some.server ∷ [] = search rules
     in let i = c.loop-server.invariant
-    in let cut = c.in_ok-others.ensures
+    in let cut = c.in_ok-column.ensures
     in let p = last_server c.args.servers.items _ c.loop-server.left.items c.pop.new.self.items c.in-Some.server
-    (length c.loop-server.all.items) _ _ c.in_ok-others.column.items c.requires.each i.left split i.count i.rest
+    (length c.loop-server.all.items) _ _ c.in_ok-column.column.items c.requires.each i.left split i.count i.rest
     cut.rows
-    (same_lines _ c.in_ok-others.others.items c.loop-server.rest.items cut.count)
+    (same_lines _ c.last_column.new.rows.items c.loop-server.rest.items c.last_column.ensures.count)
     (cut.long ∙ sym (length-map c.loop-server.rest.items _))
     in p.long
     ∙ (length-map c.args.rows.items _ ∙ c.requires.count (length c.pop.new.self.items) c.in-Some.server p.here)
@@ -62,29 +63,32 @@ pub finish-requires-clause-each : goal.finish-requires-clause-each
 finish-requires-clause-each c =
     let split : c.loop-server.left.items ≡ c.pop.new.self.items ++ c.in-Some.server ∷ [] = search rules
     in let i = c.loop-server.invariant
-    in let cut = c.in_ok-others.ensures
+    in let cut = c.in_ok-column.ensures
     in let p = last_server c.args.servers.items _ c.loop-server.left.items c.pop.new.self.items c.in-Some.server
-    (length c.loop-server.all.items) _ _ c.in_ok-others.column.items c.requires.each i.left split i.count i.rest
+    (length c.loop-server.all.items) _ _ c.in_ok-column.column.items c.requires.each i.left split i.count i.rest
     cut.rows
-    (same_lines _ c.in_ok-others.others.items c.loop-server.rest.items cut.count)
+    (same_lines _ c.last_column.new.rows.items c.loop-server.rest.items c.last_column.ensures.count)
     (cut.long ∙ sym (length-map c.loop-server.rest.items _))
-    in seat_there c.args.servers.items _ c.pop.new.self.items c.in-Some.server _ c.in_ok-others.column.items
+    in seat_there c.args.servers.items _ c.pop.new.self.items c.in-Some.server _ c.in_ok-column.column.items
     c.requires.each p
 
 pub loop-server-preserved : goal.loop-server-preserved
 loop-server-preserved c =
     let split : c.loop-server.left.items ≡ c.pop.new.self.items ++ c.in-Some.server ∷ [] = search rules
     in let i = c.loop-server.invariant
-    in let cut = c.in_ok-others.ensures
+    in let cut = c.in_ok-column.ensures
     in let p = last_server c.args.servers.items _ c.loop-server.left.items c.pop.new.self.items c.in-Some.server
-    (length c.loop-server.all.items) _ _ c.in_ok-others.column.items c.requires.each i.left split i.count i.rest
+    (length c.loop-server.all.items) _ _ c.in_ok-column.column.items c.requires.each i.left split i.count i.rest
     cut.rows
-    (same_lines _ c.in_ok-others.others.items c.loop-server.rest.items cut.count)
+    (same_lines _ c.last_column.new.rows.items c.loop-server.rest.items c.last_column.ensures.count)
     (cut.long ∙ sym (length-map c.loop-server.rest.items _))
     in let m : ℕ = length c.pop.new.self.items
     in let l = one c.loop-server.left.items c.pop.new.self.items c.in-Some.server split
-    in let more = c.in_ok-all.ensures
-    in let n = ap (λ l. length l) more
+    in let books : List (List Book) = c.loop-server.all.items
+    in let more : c.push.new.self.items ≡ books ++ c.in_ok-finish.field-0 ∷ [] = c.in_ok-push.ensures.items
+    in let front : reverse c.push.new.self.items ≡ c.in_ok-finish.field-0 ∷ reverse books =
+    ap (λ (l : List (List Book)). reverse l) more ∙ reverse-append books (c.in_ok-finish.field-0 ∷ [])
+    in let n = ap (λ (l : List (List Book)). length l) more ∙ length-append books (c.in_ok-finish.field-0 ∷ [])
     in let count = i.count
     in record {
       left = p.left_is;
@@ -92,13 +96,13 @@ loop-server-preserved c =
       count = omega (arith, l, n, count);
       books = front_more
           (λ (k : ℕ) (books : List Book). AreBooksThere c.args.servers.items (seats_of c.args.rows.items) k books)
-          m c.in_ok-books.books c.loop-server.all.items c.in_ok-all.all.items more
+          m c.in_ok-finish.field-0 (reverse books) (reverse c.push.new.self.items) front
           (record {
             server = c.in-Some.server;
             server_at = p.here;
-            count = c.in_ok-books.ensures.count;
+            count = c.in_ok-finish.ensures.count;
             each = λ h book at. book_there c.args.servers.items _ c.pop.new.self.items c.in-Some.server _
-                c.in_ok-others.column.items p h book (c.in_ok-books.ensures.books h book at);
+                c.in_ok-column.column.items p h book (c.in_ok-finish.ensures.books h book at);
           })
           (λ k b at. subst (λ (h : ℕ). AreBooksThere c.args.servers.items (seats_of c.args.rows.items) h b)
           (ap (λ (j : ℕ). j + k) l) (i.books k b at));
@@ -109,4 +113,4 @@ returns-clause-books c = λ s books at.
     let none : length c.loop-server.left.items ≡ 0 = search rules
     in let z : length c.loop-server.left.items + s ≡ s = omega (arith, none)
     in subst (λ (k : ℕ). AreBooksThere c.args.servers.items (seats_of c.args.rows.items) k books) z
-    (c.loop-server.invariant.books s books at)
+    (c.loop-server.invariant.books s books (ap (λ (l : List (List Book)). slice_get l s) (sym c.reverse.ensures.items) ∙ at))

@@ -33,11 +33,11 @@ loop-id-preserved c =
     in let kind = c.in_ok-server.ensures.server
     in record {
       made = omega (arith, a, length-append c.loop-id.servers.items (server ∷ []), made);
-      count = length_rows _ c.in_ok-rows-2.rows.items c.loop-id.rows.items c.in_ok-server.column.items
-          c.in_ok-rows-2.ensures i.count c.in_ok-server.ensures.count;
+      count = length_rows _ c.add_column.new.rows.items c.loop-id.rows.items c.in_ok-server.column.items
+          c.in_ok-add_column.ensures i.count c.in_ok-server.ensures.count;
       each = λ w seats at.
           let e = glued_at (map _ c.loop-id.rows.items) c.in_ok-server.column.items w seats
-          (ap (λ (l : List (List (List Seated))). slice_get l w) (sym c.in_ok-rows-2.ensures) ∙ at)
+          (ap (λ (l : List (List (List Seated))). slice_get l w) (sym c.in_ok-add_column.ensures) ∙ at)
           in subst_two (λ (s : List Serving) (x : List (List Seated)). IsNewRow s w x) (sym items) (sym e.whole)
           (new_row_more c.loop-id.servers.items server w e.row e.item (i.each w e.row e.row_at)
           (c.in_ok-server.ensures.each w e.item e.item_at));

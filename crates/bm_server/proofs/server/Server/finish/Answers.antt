@@ -1,6 +1,6 @@
-use Rattle.std.proofs.Common.{◌≡◌, ℕ, suc, ◌+◌, ◌<◌, List, [], ◌∷◌, ◌++◌, length, map, take, slice_get, Some, None}
+use Rattle.std.proofs.Common.{◌≡◌, ℕ, suc, ◌+◌, ◌<◌, List, [], ◌∷◌, ◌++◌, length, map, take, reverse, slice_get, Some, None}
 use Rattle.std.proofs.Common.{sym, ap, ◌∙◌, subst, arith, length-append, add-one, rules}
-use Rattle.std.proofs.lemmas.List.{length-map}
+use Rattle.std.proofs.lemmas.List.{length-map, reverse-append}
 use Rattle.atomic_table.specs.Seated.{TableId}
 use Rattle.bm_rows.proofs.Places.{front_more}
 use Rattle.bm_rows.proofs.Lasts.{take_all, take_rows, full_rows}
@@ -23,14 +23,14 @@ loop-turnstile-init c =
     let shards : List TableId = c.self.inside.shards.items in
     let tables : shards ≡ server.tables = ap (λ (s : Serving). s.tables) c.self.view_is in
     let n : length shards ≡ length server.tables = ap (λ (l : List TableId). length l) tables in
-    let none = c.new-books.ensures.items in
+    let none : c.new-books.result.items ≡ [] = c.new-books.ensures.items in
     record {
       left = tables ∙ (sym (take_all server.tables) ∙ ap (λ (k : ℕ). take k server.tables) (sym n));
       rows = c.in_ok-rows.ensures ∙ sym (take_rows (length shards) seats
           (λ i x at. long_seat server seats c.requires.each i x at ∙ sym n));
       count = let no = ap (λ (l : List Book). length l) none in omega (arith, n, no);
       books = λ k book at.
-          let bad : None ≡ Some book = ap (λ (l : List Book). slice_get l k) (sym none) ∙ at in
+          let bad : None ≡ Some book = ap (λ (l : List Book). slice_get (reverse l) k) (sym none) ∙ at in
           absurd (cc);
     }
 
@@ -59,20 +59,20 @@ last_column-requires c =
     full_rows _ c.loop-turnstile.rows.items seats (length left') rows
     (deep c.args.self seats left left' t (length c.loop-turnstile.books.items) c.requires.each split i.count)
 
-pub close-book-requires-clause-each : goal.close-book-requires-clause-each
-close-book-requires-clause-each c =
+pub close-requires-clause-each : goal.close-requires-clause-each
+close-requires-clause-each c =
     let i = c.loop-turnstile.invariant in
     let seats = c.args.seats.items in
     let left : List TableId = c.loop-turnstile.left.items in
     let left' : List TableId = c.pop.new.self.items in
     let t : TableId = c.in-Some.turnstile in
     let split : left ≡ left' ++ t ∷ [] = search rules in
-    let cut = c.in_ok-others.ensures in
+    let cut = c.in_ok-column.ensures in
     let rows = c.loop-turnstile.rows.items in
-    let column = c.in_ok-others.column.items in
+    let column = c.in_ok-column.column.items in
     let p = popped c.args.self seats left left' t (length c.loop-turnstile.books.items) (map _ rows)
-    (map _ c.in_ok-others.others.items) column c.requires.count c.requires.each i.left split i.count i.rows cut.rows
-    (same_lines _ c.in_ok-others.others.items rows cut.count) (cut.long ∙ sym (length-map rows _)) in
+    (map _ c.last_column.new.rows.items) column c.requires.count c.requires.each i.left split i.count i.rows cut.rows
+    (same_lines _ c.last_column.new.rows.items rows c.last_column.ensures.count) (cut.long ∙ sym (length-map rows _)) in
     posts c.args.self seats (length left') t column p.column_is
 
 pub loop-turnstile-preserved : goal.loop-turnstile-preserved
@@ -84,26 +84,28 @@ loop-turnstile-preserved c =
     let left' : List TableId = c.pop.new.self.items in
     let t : TableId = c.in-Some.turnstile in
     let split : left ≡ left' ++ t ∷ [] = search rules in
-    let cut = c.in_ok-others.ensures in
+    let cut = c.in_ok-column.ensures in
     let rows = c.loop-turnstile.rows.items in
-    let column : List Seated = c.in_ok-others.column.items in
+    let column : List Seated = c.in_ok-column.column.items in
     let books : List Book = c.loop-turnstile.books.items in
     let p = popped server seats left left' t (length books) (map _ rows)
-    (map _ c.in_ok-others.others.items) column c.requires.count c.requires.each i.left split i.count i.rows cut.rows
-    (same_lines _ c.in_ok-others.others.items rows cut.count) (cut.long ∙ sym (length-map rows _)) in
+    (map _ c.last_column.new.rows.items) column c.requires.count c.requires.each i.left split i.count i.rows cut.rows
+    (same_lines _ c.last_column.new.rows.items rows c.last_column.ensures.count) (cut.long ∙ sym (length-map rows _)) in
     let m : ℕ = length left' in
     let l = one left left' t split in
-    let book : Book = c.close-book.result in
-    let closed = c.close-book.ensures in
-    let more : c.in_ok-books.books.items ≡ book ∷ books = c.in_ok-books.ensures in
-    let n = ap (λ (l : List Book). length l) more in
+    let book : Book = c.close.result in
+    let closed = c.close.ensures in
+    let more : c.push.new.self.items ≡ books ++ book ∷ [] = c.in_ok-push.ensures.items in
+    let front : reverse c.push.new.self.items ≡ book ∷ reverse books =
+    ap (λ (l : List Book). reverse l) more ∙ reverse-append books (book ∷ []) in
+    let n = ap (λ (l : List Book). length l) more ∙ length-append books (book ∷ []) in
     let count = i.count in
     let some : 0 < server.seats = subst (λ (s : Serving). 0 < s.seats) c.self.view_is c.self.invariant.seated in
     record {
       left = p.left_is;
       rows = p.others_are;
       count = omega (arith, l, n, count);
-      books = front_more (IsBookOf server seats) m book books c.in_ok-books.books.items more
+      books = front_more (IsBookOf server seats) m book (reverse books) (reverse c.push.new.self.items) front
           (book_from server seats m t column book p.column_is some c.requires.count closed.fixed closed.replays
           closed.below closed.seen closed.told)
           (λ k b at. subst (λ (h : ℕ). IsBookOf server seats h b) (ap (λ (j : ℕ). j + k) l) (i.books k b at));
@@ -113,6 +115,6 @@ pub returns-clause-books : goal.returns-clause-books
 returns-clause-books c = λ h book at.
     let none : length c.loop-turnstile.left.items ≡ 0 = search rules in
     let z : length c.loop-turnstile.left.items + h ≡ h = omega (arith, none) in
-    let here : slice_get c.loop-turnstile.books.items h ≡ Some book =
-    ap (λ (l : List Book). slice_get l h) (sym c.of.ensures) ∙ at in
+    let here : slice_get (reverse c.loop-turnstile.books.items) h ≡ Some book =
+    ap (λ (l : List Book). slice_get l h) (sym (c.of.ensures ∙ c.reverse.ensures.items)) ∙ at in
     subst (λ (k : ℕ). IsBookOf c.args.self c.args.seats.items k book) z (c.loop-turnstile.invariant.books h book here)
