@@ -4,7 +4,7 @@ ghost use Rattle.std.specs.Prelude.{◌≤◌};
 use crate::records::{DATA, SYN, VIPS, check, check_cut, opened, record};
 use bm_base::{Body, Capture, Octets, Reason};
 use bm_io::{MemSource, SureSource};
-use bm_pcap::{Item, PcapFault, PcapReader, read_capture};
+use bm_pcap::{CaptureFault, Item, PcapReader, read_capture};
 use std::alloc::{AllocError, Global};
 use std::test::Fail;
 
@@ -56,7 +56,7 @@ fn read(
     alloc: Global,
     octets: &[u8],
     step: usize,
-) -> Result<Result<(Capture, Octets), PcapFault>, AllocError>
+) -> Result<Result<(Capture, Octets), CaptureFault>, AllocError>
     requires { 1 ≤ step }
 {
     let src = SureSource::new(octets.to_vec(alloc)?, step);
@@ -97,12 +97,12 @@ fn records_have_their_reasons_and_the_last_is_cut_short(rt: HostRuntime) -> Resu
 fn captures_are_refused_by_their_first_fault(rt: HostRuntime) -> Result<(), Fail> {
     // An octet of the capture that is overwritten, and the fault.
     let rows = [
-        (0, 0xd5, PcapFault::NotACapture),
-        (4, 3, PcapFault::BadVersion),
-        (6, 3, PcapFault::BadVersion),
-        (20, 105, PcapFault::BadLink(105)),
-        (34, 4, PcapFault::BadLength(1, 262_184)),
-        (90, 4, PcapFault::BadLength(2, 262_194)),
+        (0, 0xd5, CaptureFault::NotACapture),
+        (4, 3, CaptureFault::BadVersion),
+        (6, 3, CaptureFault::BadVersion),
+        (20, 105, CaptureFault::BadLink(105)),
+        (34, 4, CaptureFault::BadLength(1, 262_184)),
+        (90, 4, CaptureFault::BadLength(2, 262_194)),
     ];
     for (place, octet, want) in rows {
         let mut octets = LITTLE;
@@ -113,7 +113,7 @@ fn captures_are_refused_by_their_first_fault(rt: HostRuntime) -> Result<(), Fail
         assert!(rt; matches!(answer, Err(e) if e == want), "at {place}");
     }
     let answer = read(rt.alloc(), &LITTLE[..23], 100)?;
-    assert!(rt; matches!(answer, Err(PcapFault::NotACapture)));
+    assert!(rt; matches!(answer, Err(CaptureFault::NotACapture)));
     Ok(())
 }
 
@@ -146,10 +146,10 @@ fn a_failed_read_is_answered_again(rt: HostRuntime) -> Result<(), Fail> {
     assert_eq!(rt; reader.link(), 101);
     assert!(rt; matches!(reader.next()?, Item::Record { number: 1, .. }));
     assert!(rt; matches!(reader.next()?, Item::Record { number: 2, .. }));
-    assert!(rt; matches!(reader.next(), Err(PcapFault::ReadFault)));
-    assert!(rt; matches!(reader.next(), Err(PcapFault::ReadFault)));
+    assert!(rt; matches!(reader.next(), Err(CaptureFault::ReadFault)));
+    assert!(rt; matches!(reader.next(), Err(CaptureFault::ReadFault)));
     let again = PcapReader::start(alloc, reader.into_source());
-    assert!(rt; matches!(again, Err((_, PcapFault::NotACapture))));
+    assert!(rt; matches!(again, Err((_, CaptureFault::NotACapture))));
     Ok(())
 }
 
@@ -170,9 +170,10 @@ fn the_end_is_answered_again(rt: HostRuntime) -> Result<(), Fail> {
 #[test]
 fn faults_print_their_numbers(rt: HostRuntime) -> Result<(), Fail> {
     for (fault, want) in [
-        (PcapFault::BadLink(105), "bad link type 105"),
+        (CaptureFault::BadLink(105), "bad link type 105"),
+        (CaptureFault::BadBlock(4), "block 4 is bad"),
         (
-            PcapFault::BadLength(3, 262_145),
+            CaptureFault::BadLength(3, 262_145),
             "record 3 states 262145 octets",
         ),
     ] {

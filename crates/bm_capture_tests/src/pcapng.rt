@@ -4,7 +4,8 @@ ghost use Rattle.std.specs.Prelude.{◌≤◌};
 use crate::records::{DATA, SYN, VIPS, check, check_cut, opened, record};
 use bm_base::{Body, Capture, Octets, Reason};
 use bm_io::{MemSource, Source, SureSource};
-use bm_pcapng::{Front, NgFault, NgItem, NgReader, read_ng};
+use bm_pcap::CaptureFault;
+use bm_pcapng::{Front, NgItem, NgReader, read_ng};
 use std::alloc::{AllocError, Global};
 use std::test::Fail;
 
@@ -85,7 +86,7 @@ fn read(
     alloc: Global,
     octets: &[u8],
     step: usize,
-) -> Result<Result<(Capture, Octets), NgFault>, AllocError>
+) -> Result<Result<(Capture, Octets), CaptureFault>, AllocError>
     requires { 1 ≤ step }
 {
     let src = SureSource::new(octets.to_vec(alloc)?, step);
@@ -125,17 +126,17 @@ fn sections_and_interfaces_are_kept_apart(rt: HostRuntime) -> Result<(), Fail> {
 fn captures_are_refused_by_their_first_fault(rt: HostRuntime) -> Result<(), Fail> {
     // An octet of the capture that is overwritten, and the fault.
     let rows = [
-        (0, 0x0b, NgFault::NotACapture),
-        (4, 0x1d, NgFault::BadBlock(1)),
-        (8, 0x4e, NgFault::NotACapture),
-        (12, 2, NgFault::BadVersion),
-        (24, 0x20, NgFault::BadBlock(1)),
-        (32, 0x10, NgFault::BadBlock(2)),
-        (44, 0x18, NgFault::BadBlock(2)),
-        (56, 1, NgFault::BadBlock(3)),
-        (68, 0x29, NgFault::BadBlock(3)),
-        (70, 4, NgFault::BadLength(1, 262_184)),
-        (200, 80, NgFault::BadBlock(4)),
+        (0, 0x0b, CaptureFault::NotACapture),
+        (4, 0x1d, CaptureFault::BadBlock(1)),
+        (8, 0x4e, CaptureFault::NotACapture),
+        (12, 2, CaptureFault::BadVersion),
+        (24, 0x20, CaptureFault::BadBlock(1)),
+        (32, 0x10, CaptureFault::BadBlock(2)),
+        (44, 0x18, CaptureFault::BadBlock(2)),
+        (56, 1, CaptureFault::BadBlock(3)),
+        (68, 0x29, CaptureFault::BadBlock(3)),
+        (70, 4, CaptureFault::BadLength(1, 262_184)),
+        (200, 80, CaptureFault::BadBlock(4)),
     ];
     for (place, octet, want) in rows {
         let mut octets = LITTLE;
@@ -165,7 +166,7 @@ fn a_cut_capture_keeps_the_records_before_the_cut(rt: HostRuntime) -> Result<(),
         check_cut(&rt, read(rt.alloc(), octets, 100)??, row);
     }
     let answer = read(rt.alloc(), &LITTLE[..11], 100)?;
-    assert!(rt; matches!(answer, Err(NgFault::NotACapture)));
+    assert!(rt; matches!(answer, Err(CaptureFault::NotACapture)));
     Ok(())
 }
 
@@ -180,10 +181,10 @@ fn a_failed_read_is_answered_again(rt: HostRuntime) -> Result<(), Fail> {
     for count in 1..6 {
         assert!(rt; matches!(reader.next()?, NgItem::Record { number, .. } if number == count));
     }
-    assert!(rt; matches!(reader.next(), Err(NgFault::ReadFault)));
-    assert!(rt; matches!(reader.next(), Err(NgFault::ReadFault)));
+    assert!(rt; matches!(reader.next(), Err(CaptureFault::ReadFault)));
+    assert!(rt; matches!(reader.next(), Err(CaptureFault::ReadFault)));
     let again = NgReader::start(alloc, reader.into_source());
-    assert!(rt; matches!(again, Err((_, NgFault::NotACapture))));
+    assert!(rt; matches!(again, Err((_, CaptureFault::NotACapture))));
     Ok(())
 }
 
@@ -238,19 +239,5 @@ fn a_front_gives_its_octets_first(rt: HostRuntime) -> Result<(), Fail> {
     assert_eq!(rt; octets, [5, 6, 3]);
     assert_eq!(rt; front.take(&mut octets)?, 0);
     assert_eq!(rt; front.magic(), [1, 2, 3, 4].as_slice());
-    Ok(())
-}
-
-#[test]
-fn faults_print_their_numbers(rt: HostRuntime) -> Result<(), Fail> {
-    for (fault, want) in [
-        (NgFault::BadBlock(4), "block 4 is bad"),
-        (
-            NgFault::BadLength(3, 262_145),
-            "record 3 states 262145 octets",
-        ),
-    ] {
-        assert_eq!(rt; fault.to_string(rt.alloc())?.as_str(), want);
-    }
     Ok(())
 }

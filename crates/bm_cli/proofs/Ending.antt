@@ -3,7 +3,7 @@ use Rattle.std.proofs.Common.{◌≡◌, ◌≢◌, inl, inr, ℕ, List, [], Opt
 use Rattle.std.proofs.Common.{sym, subst, ◌∙◌, refl}
 use Rattle.bm_core.specs.declared.events.Stage.{Stage}
 use Rattle.bm_words.specs.Form.{Asked, Load, Named}
-use Rattle.bm_cli.specs.declared.fault.CaptureFault.TheVariants.{Memory as NoMemory}
+use Rattle.bm_pcap.specs.declared.fault.CaptureFault.TheVariants.{Memory as NoMemory}
 use Rattle.bm_cli.specs.declared.fault.StageFault.{StageFault}
 use Rattle.bm_cli.specs.declared.fault.StageFault.TheVariants.{Memory as WantsMemory}
 use Rattle.bm_cli.specs.declared.status.Status.{Status}

@@ -1,10 +1,10 @@
 -- Faults, their statuses and their lines.
 use Rattle.std.proofs.Common.{◌≡◌, ◌≢◌, ◌⊎◌, ◌==◌, inl, inr, false, [], sym, ap, ◌∙◌, refl}
 use Rattle.std.proofs.lemmas.Bool.{eqb-false}
-use Rattle.bm_cli.specs.declared.fault.CaptureFault.{CaptureFault}
-use Rattle.bm_cli.specs.declared.fault.CaptureFault.TheVariants.{NotACapture, BadVersion, BadLink, BadBlock}
-use Rattle.bm_cli.specs.declared.fault.CaptureFault.TheVariants.{ReadFault as SourceFault, TooLarge, BadLength}
-use Rattle.bm_cli.specs.declared.fault.CaptureFault.TheVariants.{TooManyPackets, Memory as NoMemory}
+use Rattle.bm_pcap.specs.declared.fault.CaptureFault.{CaptureFault}
+use Rattle.bm_pcap.specs.declared.fault.CaptureFault.TheVariants.{NotACapture, BadVersion, BadLink, BadBlock}
+use Rattle.bm_pcap.specs.declared.fault.CaptureFault.TheVariants.{ReadFault as SourceFault, TooLarge, BadLength}
+use Rattle.bm_pcap.specs.declared.fault.CaptureFault.TheVariants.{TooManyPackets, Memory as NoMemory}
 use Rattle.bm_quota.specs.declared.refusal.Refusal.{Refusal}
 use Rattle.bm_quota.specs.declared.refusal.Refusal.TheVariants.{KnownServer, UnknownServer, NotActive, LastServer}
 use Rattle.bm_quota.specs.declared.refusal.Refusal.TheVariants.{BadBucket, SameServer, StampFell, TooMany}

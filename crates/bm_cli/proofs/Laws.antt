@@ -8,7 +8,7 @@ use Rattle.bm_check.specs.declared.answer.Answer.TheVariants.{Yes, NotLine, NotR
 use Rattle.bm_words.specs.Form.{Named}
 use Rattle.bm_table.specs.declared.script.Script.{Script}
 use Rattle.bm_core.specs.declared.events.Stage.{Stage}
-use Rattle.bm_cli.specs.Captures.{Captured}
+use Rattle.bm_pcap.specs.Capture.{Captured}
 use Rattle.bm_cli.specs.Checks.{checked_line, checked_status}
 use Rattle.bm_cli.specs.declared.fault.StageFault.{StageFault}
 use Rattle.bm_cli.specs.declared.fault.StageFault.TheVariants.{Files}

@@ -6,11 +6,11 @@ use Rattle.std.specs.Result.{result_map_both}
 use Rattle.bm_base.specs.declared.capture.Vip.{Vip}
 use Rattle.bm_io.specs.Causes.{Rose}
 use Rattle.bm_table.specs.declared.script.Script.{Script}
-use Rattle.bm_cli.specs.Captures.{Captured}
-use Rattle.bm_cli.specs.declared.fault.CaptureFault.{CaptureFault}
-use Rattle.bm_cli.specs.declared.fault.CaptureFault.TheVariants.{NotACapture, BadVersion, BadLink, BadBlock, TooLarge}
-use Rattle.bm_cli.specs.declared.fault.CaptureFault.TheVariants.{ReadFault as SourceFault, Memory as NoMemory}
-use Rattle.bm_cli.specs.declared.fault.CaptureFault.TheVariants.{BadLength, TooManyPackets}
+use Rattle.bm_pcap.specs.Capture.{Captured}
+use Rattle.bm_pcap.specs.declared.fault.CaptureFault.{CaptureFault}
+use Rattle.bm_pcap.specs.declared.fault.CaptureFault.TheVariants.{NotACapture, BadVersion, BadLink, BadBlock, TooLarge}
+use Rattle.bm_pcap.specs.declared.fault.CaptureFault.TheVariants.{ReadFault as SourceFault, Memory as NoMemory}
+use Rattle.bm_pcap.specs.declared.fault.CaptureFault.TheVariants.{BadLength, TooManyPackets}
 use Rattle.bm_core.specs.declared.events.Stage.{Stage}
 use Rattle.bm_words.specs.Form.{Named}
 use Rattle.bm_cli.specs.declared.fault.StageFault.{StageFault}
@@ -20,7 +20,9 @@ use Rattle.bm_cli.specs.declared.mode.Mode.TheVariants.{Replay, Run}
 use Rattle.bm_cli.specs.declared.status.Status.TheVariants.{ReadFault, Memory}
 use Rattle.bm_cli.specs.Dues.{names_after}
 use Rattle.bm_cli.specs.Ends.{AsksFor}
-use Rattle.bm_cli.specs.Inside.Captures.{Captures, FileBegan, HasReadCause, ReadsFile}
+use Rattle.bm_pcap.specs.Causes.{HasStepCause}
+use Rattle.bm_pcap.specs.Reader.{Captures}
+use Rattle.bm_cli.specs.Inside.Captures.{FileBegan, ReadsFile}
 use Rattle.bm_cli.specs.Inside.Scripts.{ReadsScript}
 use Rattle.bm_cli.specs.Stages.{IsOutside, IsRead}
 use Rattle.bm_cli.specs.Stages.{ReadsStage, status_by}
@@ -408,7 +410,7 @@ pub captured_stage : (mode : Mode) (names : Named) (told then : Octets) (files :
     IsErrOf r NoMemory ⊎ AsksAll mid files.now (names.capture ∷ []) →
     files.faults ≤ faults →
     IsErrAnd (read_ok script) (λ fault. fault_status fault ≡ ReadFault) ⊎ (faults ≡ files.faults) →
-    HasReadCause faults files.later r →
+    HasStepCause faults files.later r →
     Holds told (ReadsAll mode names files (with_capture script r) r time)
 captured_stage mode names told then files mid script vips r time faults has takes same served first second third before
     part all low kept cause =

@@ -7,7 +7,7 @@ use Rattle.bm_base.specs.declared.capture.Vip.{Vip}
 use Rattle.bm_io.specs.Causes.{Rose}
 use Rattle.bm_table.specs.declared.script.Script.{Script}
 use Rattle.bm_core.specs.declared.events.Stage.{Stage}
-use Rattle.bm_cli.specs.Captures.{Captured}
+use Rattle.bm_pcap.specs.Capture.{Captured}
 use Rattle.bm_cli.specs.declared.fault.StageFault.{StageFault}
 use Rattle.bm_cli.specs.declared.fault.StageFault.TheVariants.{LongTrace}
 use Rattle.bm_cli.specs.declared.mode.Mode.TheVariants.{Replay}

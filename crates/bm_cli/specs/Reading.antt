@@ -8,7 +8,8 @@ use Rattle.bm_script.specs.Scripts.{script_of}
 use Rattle.bm_core.specs.declared.events.Stage.{Stage}
 use Rattle.bm_words.specs.Form.{Named}
 use Rattle.bm_world.specs.Seats.{seats_of}
-use Rattle.bm_cli.specs.Captures.{Captured, began, capture}
+use Rattle.bm_pcap.specs.Capture.{Captured}
+use Rattle.bm_cli.specs.Captures.{began, capture}
 use Rattle.bm_cli.specs.declared.fault.StageFault.{StageFault}
 use Rattle.bm_cli.specs.declared.fault.StageFault.TheVariants.{LongScript, Seats}
 use Rattle.bm_cli.specs.declared.fault.StageFault.TheVariants.{Script as of_script}

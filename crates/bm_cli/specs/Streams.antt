@@ -6,7 +6,7 @@ use Rattle.bm_core.specs.declared.events.History.{History}
 use Rattle.bm_core.specs.declared.events.Stage.{Stage}
 use Rattle.bm_stream.specs.Text.{stream_text}
 use Rattle.bm_words.specs.Form.{Named}
-use Rattle.bm_cli.specs.Captures.{Captured}
+use Rattle.bm_pcap.specs.Capture.{Captured}
 use Rattle.bm_cli.specs.declared.fault.StageFault.{StageFault}
 use Rattle.bm_cli.specs.declared.mode.Mode.{Mode}
 use Rattle.bm_cli.specs.declared.mode.Mode.TheVariants.{Replay}

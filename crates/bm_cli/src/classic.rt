@@ -10,7 +10,7 @@ ghost use Rattle.bm_cli.specs.Inside.Captures.{BeganIn, ReadsClassic};
 
 use bm_base::{Capture, Octets, Vip};
 use bm_io::Source;
-use bm_pcap::{PcapFault, PcapReader, read_capture};
+use bm_pcap::{CaptureFault, PcapReader, read_capture};
 use std::alloc::Global;
 
 /// Reads a capture. Returns its source too, and when a capture without a fault began.
@@ -18,7 +18,7 @@ pub(crate) fn read_classic<S: Source>(
     alloc: Global,
     src: S,
     vips: &[Vip],
-) -> (S, Result<(Capture, Octets), PcapFault>, u64)
+) -> (S, Result<(Capture, Octets), CaptureFault>, u64)
     ensures capture { ReadsClassic (S.left src) vips.now result.1 }
     ensures began { IfOk result.1 (λ read. BeganIn began (S.left src) result.2) }
     ensures early { IfOk result.1 (λ read. result.2 ≤ latest) }
@@ -38,7 +38,7 @@ fn read_records<S: Source>(
     alloc: Global,
     mut reader: PcapReader<S>,
     vips: &[Vip],
-) -> (S, Result<(Capture, Octets), PcapFault>, u64)
+) -> (S, Result<(Capture, Octets), CaptureFault>, u64)
     requires { IsFresh reader }
     ensures capture { ReadsCapture S.left reader vips.now result.1 }
     ensures began { IfOk result.1 (λ read. (octets : List ℕ) →

@@ -5,9 +5,10 @@ ghost use Rattle.bm_cli.specs.Dues.{Refused};
 ghost use Rattle.bm_cli.specs.Telling.{Tells};
 ghost use Rattle.bm_cli.specs.Statuses.{did};
 
-use crate::fault::{CaptureFault, StageFault};
+use crate::fault::StageFault;
 use crate::status::{Status, say};
 use bm_io::Sink;
+use bm_pcap::CaptureFault;
 use bm_quota::Refusal;
 use bm_script::ScriptFault;
 use std::alloc::{AllocError, Global};

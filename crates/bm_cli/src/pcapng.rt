@@ -2,16 +2,17 @@
 ghost use Rattle.std.specs.Prelude.{◌≡◌, ◌≤◌, ℕ, List, IfOk};
 ghost use Rattle.bm_base.specs.Captures.{IsReplayable};
 ghost use Rattle.bm_link.specs.Fits.{ArePackets};
+ghost use Rattle.bm_pcap.specs.Causes.{HasStepCause};
 ghost use Rattle.bm_pcap.specs.Limits.{latest};
 ghost use Rattle.bm_pcapng.specs.Began.{began};
-ghost use Rattle.bm_pcapng.specs.Causes.{HasStepCause};
 ghost use Rattle.bm_pcapng.specs.Reader.{IsFresh, ReadsCapture, StandsIn, to_come};
 ghost use Rattle.bm_cli.specs.Captures.{is_pcapng};
 ghost use Rattle.bm_cli.specs.Inside.Captures.{BeganIn, ReadsPcapng};
 
 use bm_base::{Capture, Octets, Vip};
 use bm_io::Source;
-use bm_pcapng::{NgFault, NgReader, read_ng};
+use bm_pcap::CaptureFault;
+use bm_pcapng::{NgReader, read_ng};
 use std::alloc::Global;
 
 /// A capture of this form begins with these octets, the type of a section header.
@@ -26,7 +27,7 @@ pub(crate) fn read_pcapng<S: Source>(
     alloc: Global,
     src: S,
     vips: &[Vip],
-) -> (S, Result<(Capture, Octets), NgFault>, u64)
+) -> (S, Result<(Capture, Octets), CaptureFault>, u64)
     ensures capture { ReadsPcapng (S.left src) vips.now result.1 }
     ensures began { IfOk result.1 (λ read. BeganIn began (S.left src) result.2) }
     ensures early { result.2 ≤ latest }
@@ -46,7 +47,7 @@ fn read_blocks<S: Source>(
     alloc: Global,
     mut reader: NgReader<S>,
     vips: &[Vip],
-) -> (S, Result<(Capture, Octets), NgFault>, u64)
+) -> (S, Result<(Capture, Octets), CaptureFault>, u64)
     requires { IsFresh reader }
     ensures capture { ReadsCapture S.left reader vips.now result.1 }
     ensures began { IfOk result.1 (λ read. (octets : List ℕ) →

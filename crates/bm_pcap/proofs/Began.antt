@@ -1,16 +1,14 @@
 -- What is known of a capture's beginning while its records are read.
-use Rattle.std.proofs.Common.{◌≡◌, ◌⊎◌, inl, inr, ℕ, ◌≤◌, List, Option, Some, None, unwrap_or, Result, Ok, refl}
+use Rattle.std.proofs.Common.{◌≡◌, ◌⊎◌, inl, inr, ℕ, ◌≤◌, List, Option, Some, None, unwrap_or, Ok, refl}
 use Rattle.std.proofs.Common.{sym, ap, subst, ◌∙◌, drop}
-use Rattle.bm_pcap.specs.declared.fault.PcapFault.{PcapFault}
 use Rattle.bm_pcap.specs.declared.form.Form.{Form}
 use Rattle.bm_pcap.specs.declared.place.Place.{Place}
 use Rattle.bm_pcap.specs.declared.step.Step.{Step}
 use Rattle.bm_pcap.specs.declared.step.Step.TheVariants as step
 use Rattle.bm_pcap.specs.Began.{began, first_time, time_in}
-use Rattle.bm_pcap.specs.Header.{form_of}
 use Rattle.bm_pcap.specs.Limits.{latest}
 use Rattle.bm_pcap.specs.Reader.{StandsIn, StepGives, found_in}
-use Rattle.bm_pcap.specs.Records.{Found, next_of, first_place, behind_record}
+use Rattle.bm_pcap.specs.Records.{next_of, first_place, behind_record}
 
 -- Record 1 is still to come, and its time is this.
 pub record IsToCome (now : Option (List ℕ)) (form : Form) (place : Place) (time : ℕ) : Type 0 where

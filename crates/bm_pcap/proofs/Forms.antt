@@ -5,8 +5,8 @@ use Rattle.std.proofs.lemmas.Bool.{cases_lt}
 use Rattle.std.proofs.lemmas.Bool.Decides.{nat_tests}
 use Rattle.std.proofs.lemmas.List.{take_all, drop-drop}
 use Rattle.std.proofs.Math.Seq.{take-add}
-use Rattle.bm_pcap.specs.declared.fault.PcapFault.{PcapFault}
-use Rattle.bm_pcap.specs.declared.fault.PcapFault.TheVariants as fault
+use Rattle.bm_pcap.specs.declared.fault.CaptureFault.{CaptureFault}
+use Rattle.bm_pcap.specs.declared.fault.CaptureFault.TheVariants as fault
 use Rattle.bm_pcap.specs.declared.form.Form.{Form}
 use Rattle.bm_pcap.specs.declared.form.Order.{Order}
 use Rattle.bm_pcap.specs.declared.form.Unit.{Unit as Unit_of_time}
@@ -72,12 +72,13 @@ form_told mid new n m buf rest left magic size fills most wide behind whole is =
       read.2 ∙ ap₂ (λ a b. Some (drop a (drop b left))) f e ∙ ap (λ z. Some z) (drop-drop 20 4 left),
     )
 
-gives : (left : List ℕ) (new : Option (List ℕ)) (result : Result Form PcapFault) → form_of left ≡ result
+gives : (left : List ℕ) (new : Option (List ℕ)) (result : Result Form CaptureFault) → form_of left ≡ result
     → new ≡ Some (drop 24 left) → FormGives (Some left) new result
 gives left new (Ok form) is rest = (is, rest)
 gives left new (Err fault.NotACapture) is rest = is
 gives left new (Err fault.BadVersion) is rest = is
 gives left new (Err (fault.BadLink link)) is rest = is
+gives left new (Err (fault.BadBlock block)) is rest = is
 gives left new (Err fault.ReadFault) is rest = tt
 gives left new (Err fault.TooLarge) is rest = is
 gives left new (Err (fault.BadLength number n)) is rest = is
@@ -85,7 +86,7 @@ gives left new (Err fault.TooManyPackets) is rest = is
 gives left new (Err fault.Memory) is rest = tt
 
 pub form_read : (old mid new : Option (List ℕ)) (n m : ℕ) (buf rest header : List ℕ) (order : Order)
-    (unit : Unit_of_time) (result : Result Form PcapFault) → length buf ≡ 4 → Fills old mid n buf → 4 ≤ n
+    (unit : Unit_of_time) (result : Result Form CaptureFault) → length buf ≡ 4 → Fills old mid n buf → 4 ≤ n
     → length rest ≡ 20 → Fills mid new m rest → 20 ≤ m
     → magic_of buf ≡ Some (order, unit) → header ≡ buf ++ rest → result ≡ form_by (Some (order, unit)) header
     → FormGives old new result

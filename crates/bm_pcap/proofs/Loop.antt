@@ -8,8 +8,8 @@ use Rattle.bm_base.specs.declared.capture.Record.{Record}
 use Rattle.bm_base.specs.declared.capture.Vip.{Vip}
 use Rattle.bm_base.specs.declared.ids.Moment.{Moment}
 use Rattle.bm_link.specs.Classes.{classified}
-use Rattle.bm_pcap.specs.declared.fault.PcapFault.{PcapFault}
-use Rattle.bm_pcap.specs.declared.fault.PcapFault.TheVariants as fault
+use Rattle.bm_pcap.specs.declared.fault.CaptureFault.{CaptureFault}
+use Rattle.bm_pcap.specs.declared.fault.CaptureFault.TheVariants as fault
 use Rattle.bm_pcap.specs.declared.form.Form.{Form}
 use Rattle.bm_pcap.specs.declared.item.Item.{Item}
 use Rattle.bm_pcap.specs.declared.item.Item.TheVariants as item
@@ -17,14 +17,14 @@ use Rattle.bm_pcap.specs.declared.place.Place.{Place}
 use Rattle.bm_pcap.specs.Limits.{most_records}
 use Rattle.bm_pcap.specs.declared.step.Step.{Step}
 use Rattle.bm_pcap.specs.declared.step.Step.TheVariants as step
-use Rattle.bm_pcap.specs.Capture.{Captured, CapturedOr, after_found, capture, ends, records_from, with_record}
+use Rattle.bm_pcap.specs.Capture.{Captured, after_found, capture, ends, records_from, with_record}
 use Rattle.bm_pcap.specs.Causes.{HasStepCause}
 use Rattle.bm_pcap.specs.Reader.{Reader, Advances, AdvancesFrom, Captures, EndsWith, GivesNext, Keeps, StandsIn}
 use Rattle.bm_pcap.specs.Reader.{StepGives, to_come}
 use Rattle.bm_pcap.specs.Records.{whole, next_of, first_place, moment_at, behind_record}
 
 -- what was read before, and what is still read
-abbrev pub with_front : {E : Type 0} → List Record → List (List ℕ) → CapturedOr E → CapturedOr E
+abbrev pub with_front : List Record → List (List ℕ) → Captured → Captured
 with_front records packets (Ok rest) =
     Ok (record { records = records ++ rest.0.records; cut = rest.0.cut }, packets ++ rest.1)
 with_front records packets (Err e) = Err e
@@ -36,7 +36,7 @@ SoFar now form vips total place records packets =
     × ((now ≡ Some left)
     × (with_front records packets (records_from form vips (most_records + 1 - place.number) place left) ≡ total))
 
-pub no_front : {E : Type 0} (read : CapturedOr E) → with_front [] [] read ≡ read
+pub no_front : (read : Captured) → with_front [] [] read ≡ read
 no_front (Ok read) = refl
 no_front (Err e) = refl
 
@@ -84,8 +84,8 @@ told now new form vips total place records packets found buffer so_far gives =
     let P : Option (List ℕ) → Type 0 = λ m. StepGives m new form place (Ok found) buffer in
     (so_far.0, (so_far.1.1, subst P so_far.1.0 gives))
 
-pub ended : {E : Type 0} (records : List Record) (packets : List (List ℕ)) (one : Option ℕ)
-    → with_front {E = E} records packets (ends one) ≡ Ok (record { records = records; cut = one }, packets)
+pub ended : (records : List Record) (packets : List (List ℕ)) (one : Option ℕ)
+    → with_front records packets (ends one) ≡ Ok (record { records = records; cut = one }, packets)
 ended records packets one =
     ap₂ (λ (rs : List Record) (ps : List (List ℕ)). Ok (record { records = rs; cut = one }, ps)) (append-nil records)
     (append-nil packets)
@@ -112,7 +112,7 @@ at_end now new form vips total place records packets buffer so_far gives =
 
 -- a fault that is neither a failed read nor want of memory is that of the octets
 faulty : (now : Option (List ℕ)) (form : Form) (vips : List Vip) (total : Captured) (place : Place)
-    (records : List Record) (packets : List (List ℕ)) (e : PcapFault)
+    (records : List Record) (packets : List (List ℕ)) (e : CaptureFault)
     → SoFar now form vips total place records packets
     → ((left : List ℕ) → now ≡ Some left → next_of form place left ≡ Err e) → Err e ≡ total
 faulty now form vips total place records packets e so_far next =
@@ -121,7 +121,7 @@ faulty now form vips total place records packets e so_far next =
     (ap (after_found form vips s.0 place so_far.0) (sym (next so_far.0 so_far.1.0)) ∙ sym s.1) ∙ so_far.1.1
 
 at_err : (now new : Option (List ℕ)) (form : Form) (vips : List Vip) (total : Captured) (place : Place)
-    (records : List Record) (packets : List (List ℕ)) (e : PcapFault) (buffer : List ℕ)
+    (records : List Record) (packets : List (List ℕ)) (e : CaptureFault) (buffer : List ℕ)
     → SoFar now form vips total place records packets
     → ((left : List ℕ) → StepGives (Some left) new form place (Err e) buffer → next_of form place left ≡ Err e)
     → StepGives now new form place (Err e) buffer → Err e ≡ total
@@ -130,7 +130,7 @@ at_err now new form vips total place records packets e buffer so_far means gives
     faulty now form vips total place records packets e so_far (λ left is. means left (subst P is gives))
 
 pub at_fault : (now new : Option (List ℕ)) (form : Form) (vips : List Vip) (total : Captured) (place : Place)
-    (records : List Record) (packets : List (List ℕ)) (e : PcapFault) (buffer : List ℕ)
+    (records : List Record) (packets : List (List ℕ)) (e : CaptureFault) (buffer : List ℕ)
     → SoFar now form vips total place records packets → StepGives now new form place (Err e) buffer
     → Captures total (Err e)
 at_fault now new form vips total place records packets fault.ReadFault buffer so_far gives = tt
@@ -141,6 +141,8 @@ at_fault now new form vips total place records packets fault.BadVersion buffer s
     at_err now new form vips total place records packets fault.BadVersion buffer so_far (λ _ h. h.0) gives
 at_fault now new form vips total place records packets (fault.BadLink link) buffer so_far gives =
     at_err now new form vips total place records packets (fault.BadLink link) buffer so_far (λ _ h. h.0) gives
+at_fault now new form vips total place records packets (fault.BadBlock block) buffer so_far gives =
+    at_err now new form vips total place records packets (fault.BadBlock block) buffer so_far (λ _ h. h.0) gives
 at_fault now new form vips total place records packets fault.TooLarge buffer so_far gives =
     at_err now new form vips total place records packets fault.TooLarge buffer so_far (λ _ h. h.0) gives
 at_fault now new form vips total place records packets (fault.BadLength number n) buffer so_far gives =
@@ -148,8 +150,8 @@ at_fault now new form vips total place records packets (fault.BadLength number n
 at_fault now new form vips total place records packets fault.TooManyPackets buffer so_far gives =
     at_err now new form vips total place records packets fault.TooManyPackets buffer so_far (λ _ h. h.0) gives
 
-pub regroup : {E : Type 0} (records : List Record) (packets : List (List ℕ)) (one : Record) (packet : List ℕ)
-    (read : CapturedOr E)
+pub regroup : (records : List Record) (packets : List (List ℕ)) (one : Record) (packet : List ℕ)
+    (read : Captured)
     → with_front records packets (with_record one packet read)
     ≡ with_front (records ++ one ∷ []) (packets ++ packet ∷ []) read
 regroup records packets one packet (Ok read) =
@@ -189,52 +191,53 @@ goes_on now new form vips total place records packets time octets moment body pa
 
 -- what a reader that hasn't ended does
 module _ {S : Type 0} (left : S → Option (List ℕ)) (faults : S → ℕ) (old new : Reader S) where
-  advances : (result : Result Step PcapFault) (own : List ℕ) → old.ended ≡ None
+  advances : (result : Result Step CaptureFault) (own : List ℕ) → old.ended ≡ None
       → Advances left faults old new result own
       → StepGives (to_come left old) (to_come left new) old.form old.place result own
       × HasStepCause (faults old.source) (faults new.source) result × Keeps old new result
   advances result own fresh h =
-      let P : Option (Result Step PcapFault) → Type 0 = λ o. AdvancesFrom left faults o old new result own in let a =
+      let P : Option (Result Step CaptureFault) → Type 0 = λ o. AdvancesFrom left faults o old new result own in let a =
       subst P fresh h in (a.0, a.1, a.2)
 
-  pub gave : (result : Result Item PcapFault) (answer : Item) → GivesNext left faults old new result
+  pub gave : (result : Result Item CaptureFault) (answer : Item) → GivesNext left faults old new result
       → result ≡ Ok answer → GivesNext left faults old new (Ok answer)
   gave result answer h is =
-      let P : Result Item PcapFault → Type 0 = λ r. GivesNext left faults old new r in subst P is h
+      let P : Result Item CaptureFault → Type 0 = λ r. GivesNext left faults old new r in subst P is h
 
   pub stepped : (found : Step) (own : List ℕ) → old.ended ≡ None → Advances left faults old new (Ok found) own
       → StepGives (to_come left old) (to_come left new) old.form old.place (Ok found) own
       × HasStepCause {T = Step} (faults old.source) (faults new.source) (Ok found) × Keeps old new (Ok found)
   stepped found own fresh h = advances (Ok found) own fresh h
 
-  pub failed : (result : Result Item PcapFault) (e : PcapFault) → old.ended ≡ None
+  pub failed : (result : Result Item CaptureFault) (e : CaptureFault) → old.ended ≡ None
       → GivesNext left faults old new result → result ≡ Err e
       → StepGives (to_come left old) (to_come left new) old.form old.place (Err e) []
       × HasStepCause {T = Step} (faults old.source) (faults new.source) (Err e)
   failed result e fresh h is =
-      let P : Result Item PcapFault → Type 0 = λ r. GivesNext left faults old new r in
+      let P : Result Item CaptureFault → Type 0 = λ r. GivesNext left faults old new r in
       let a = advances (Err e) [] fresh (subst P is h) in
       (a.0, a.1)
 
-  last_by : (e : PcapFault) → (before : Reader S) × ((before.ended ≡ None) × Advances left faults before new (Err e) [])
+  last_by : (e : CaptureFault) → (before : Reader S) × ((before.ended ≡ None) × Advances left faults before new (Err e) [])
       → EndsWith left faults (Err e) new
   last_by fault.ReadFault h = h
   last_by fault.Memory h = tt
   last_by fault.NotACapture h = h
   last_by fault.BadVersion h = h
   last_by (fault.BadLink link) h = h
+  last_by (fault.BadBlock block) h = h
   last_by fault.TooLarge h = h
   last_by (fault.BadLength number n) h = h
   last_by fault.TooManyPackets h = h
 
-  pub last_of : (result : Result Item PcapFault) (e : PcapFault) → old.ended ≡ None
+  pub last_of : (result : Result Item CaptureFault) (e : CaptureFault) → old.ended ≡ None
       → GivesNext left faults old new result → result ≡ Err e → EndsWith left faults (Err e) new
   last_of result e fresh h is =
-      let P : Result Item PcapFault → Type 0 = λ r. GivesNext left faults old new r in
+      let P : Result Item CaptureFault → Type 0 = λ r. GivesNext left faults old new r in
       last_by e (old, (fresh, subst P is h))
 
   -- the count stays where an item is answered
-  pub answered : (result : Result Item PcapFault) (answer : Item) → old.ended ≡ None
+  pub answered : (result : Result Item CaptureFault) (answer : Item) → old.ended ≡ None
       → GivesNext left faults old new result → result ≡ Ok answer
       → faults new.source ≡ faults old.source
   answered result (item.Record number moment octets) fresh h is =
@@ -245,7 +248,7 @@ module _ {S : Type 0} (left : S → Option (List ℕ)) (faults : S → ℕ) (old
   answered result item.End fresh h is = (advances _ _ fresh (gave result item.End h is)).1.kept (λ e. cc)
 
 -- a cause where the count stood still before it, and where it stands still
-pub cause_from : {S T : Type 0} (before mid now : ℕ) (e : PcapFault) → mid ≡ before
+pub cause_from : {S T : Type 0} (before mid now : ℕ) (e : CaptureFault) → mid ≡ before
     → HasStepCause {T = S} mid now (Err e)
     → HasStepCause {T = T} before now (Err e)
 cause_from before mid now e same cause = record {
@@ -254,7 +257,7 @@ cause_from before mid now e same cause = record {
   kept = λ not. cause.kept (λ is. not cc) ∙ same;
 }
 
-pub cause_still : {T : Type 0} (before now : ℕ) (result : Result T PcapFault) → now ≡ before
+pub cause_still : {T : Type 0} (before now : ℕ) (result : Result T CaptureFault) → now ≡ before
     → result ≢ Err fault.ReadFault
     → HasStepCause before now result
 cause_still before now result same not = record {
@@ -263,7 +266,7 @@ cause_still before now result same not = record {
   kept = λ _. same;
 }
 
-pub wants_memory : {T : Type 0} (result : Result T PcapFault) (e : PcapFault) → result ≡ Err e → e ≡ fault.Memory
+pub wants_memory : {T : Type 0} (result : Result T CaptureFault) (e : CaptureFault) → result ≡ Err e → e ≡ fault.Memory
     → result ≢ Err fault.ReadFault
 wants_memory result e is memory not = let wrong : fault.Memory ≡ fault.ReadFault = cc in absurd (cc)
 

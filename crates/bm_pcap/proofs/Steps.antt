@@ -6,9 +6,9 @@ use Rattle.std.proofs.lemmas.Bool.{cases_lt}
 use Rattle.std.proofs.lemmas.Bool.Decides.{nat_tests}
 use Rattle.std.proofs.lemmas.List.{take-take, drop-append-le, drop-take, drop_at, drop-drop, length-take}
 use Rattle.std.proofs.lemmas.List.{length-take-le}
-use Rattle.bm_pcap.specs.declared.fault.PcapFault.{PcapFault}
-use Rattle.bm_pcap.specs.declared.fault.PcapFault.TheVariants.{BadLength, TooLarge, TooManyPackets, NotACapture}
-use Rattle.bm_pcap.specs.declared.fault.PcapFault.TheVariants.{BadVersion, BadLink, ReadFault, Memory}
+use Rattle.bm_pcap.specs.declared.fault.CaptureFault.{CaptureFault}
+use Rattle.bm_pcap.specs.declared.fault.CaptureFault.TheVariants.{BadLength, TooLarge, TooManyPackets, NotACapture}
+use Rattle.bm_pcap.specs.declared.fault.CaptureFault.TheVariants.{BadVersion, BadLink, BadBlock, ReadFault, Memory}
 use Rattle.bm_pcap.specs.declared.form.Form.{Form}
 use Rattle.bm_pcap.specs.declared.place.Place.{Place}
 use Rattle.bm_pcap.specs.Limits.{longest, most_records}
@@ -150,7 +150,7 @@ head_told form place octets long wide few =
     ]
 
 pub head_stated : (old : Option (List ℕ)) (form : Form) (place : Place) (most n : ℕ) (ahead shown : List ℕ)
-    (result : Result Head PcapFault) → most ≡ min (place.room + 1) 16 → n ≤ most → Ahead old most n ahead → 16 ≤ n
+    (result : Result Head CaptureFault) → most ≡ min (place.room + 1) 16 → n ≤ most → Ahead old most n ahead → 16 ≤ n
     → place.number ≤ most_records
     → shown ≡ ahead → result ≡ stated form place (take 16 shown) → HeadGives old form place result
 head_stated None form place most n ahead shown result is_most bound is full few same said = tt
@@ -158,7 +158,7 @@ head_stated (Some octets) form place most n ahead shown result is_most bound is 
     let e : n ≡ 16 = omega (arith, is.0, is_most, full) in
     let front : take 16 shown ≡ take 16 octets =
     ap (take 16) same ∙ ap (λ m. take m ahead) (sym e) ∙ is.1 ∙ ap (λ m. take m octets) e in
-    let P : Result Head PcapFault → Type 0 = λ r. HeadGives (Some octets) form place r in
+    let P : Result Head CaptureFault → Type 0 = λ r. HeadGives (Some octets) form place r in
     subst P (sym (said ∙ ap (stated form place) front))
     (head_told form place octets (omega (arith, is.0, full)) (omega (arith, is_most, bound, full)) few)
 
@@ -218,7 +218,7 @@ cut_step (Some octets) new form place said passed is gives keeps =
     let P : Head → Type 0 = λ h. HeadGives (Some octets) form place (Ok h) in
     (subst P is gives, known octets new keeps)
 
-fault_told : (octets : List ℕ) (new : Option (List ℕ)) (form : Form) (place : Place) (e : PcapFault) (passed : List ℕ)
+fault_told : (octets : List ℕ) (new : Option (List ℕ)) (form : Form) (place : Place) (e : CaptureFault) (passed : List ℕ)
     → HeadGives (Some octets) form place (Err e) → new ≡ Some octets
     → StepGives (Some octets) new form place (Err e) passed
 fault_told octets new form place ReadFault passed gives same = same
@@ -226,11 +226,12 @@ fault_told octets new form place Memory passed gives same = tt
 fault_told octets new form place NotACapture passed gives same = (gives, same)
 fault_told octets new form place BadVersion passed gives same = (gives, same)
 fault_told octets new form place (BadLink link) passed gives same = (gives, same)
+fault_told octets new form place (BadBlock block) passed gives same = (gives, same)
 fault_told octets new form place TooLarge passed gives same = (gives, same)
 fault_told octets new form place (BadLength number n) passed gives same = (gives, same)
 fault_told octets new form place TooManyPackets passed gives same = (gives, same)
 
-pub fault_step : (old new : Option (List ℕ)) (form : Form) (place : Place) (e : PcapFault) (passed : List ℕ)
+pub fault_step : (old new : Option (List ℕ)) (form : Form) (place : Place) (e : CaptureFault) (passed : List ℕ)
     → HeadGives old form place (Err e) → Keeps old new → StepGives old new form place (Err e) passed
 fault_step None new form place e passed gives keeps = tt
 fault_step (Some octets) new form place e passed gives keeps =

@@ -6,8 +6,8 @@ use Rattle.bm_base.specs.declared.capture.Capture.{Capture}
 use Rattle.bm_base.specs.declared.capture.Record.{Record}
 use Rattle.bm_base.specs.declared.capture.Vip.{Vip}
 use Rattle.bm_link.specs.Classes.{classified}
-use Rattle.bm_pcap.specs.declared.fault.PcapFault.{PcapFault}
-use Rattle.bm_pcap.specs.declared.fault.PcapFault.TheVariants.{TooManyPackets}
+use Rattle.bm_pcap.specs.declared.fault.CaptureFault.{CaptureFault}
+use Rattle.bm_pcap.specs.declared.fault.CaptureFault.TheVariants.{TooManyPackets}
 use Rattle.bm_pcap.specs.declared.form.Form.{Form}
 use Rattle.bm_pcap.specs.declared.place.Place.{Place}
 use Rattle.bm_pcap.specs.Limits.{most_records}
@@ -16,25 +16,22 @@ use Rattle.bm_pcap.specs.Records.{Found, whole, cut, end, next_of, first_place, 
 use Rattle.bm_pcap.specs.Records.{behind_record}
 
 -- a capture, and the packet of each of its records, or a fault
-abbrev pub CapturedOr : Type 0 → Type 0
-CapturedOr E = Result (Capture × List (List ℕ)) E
-
 abbrev pub Captured : Type 0
-Captured = CapturedOr PcapFault
+Captured = Result (Capture × List (List ℕ)) CaptureFault
 
 -- the records end here, and this one is cut, if any
-abbrev pub ends : {E : Type 0} → Option ℕ → CapturedOr E
+abbrev pub ends : Option ℕ → Captured
 ends cut_record = Ok (record { records = []; cut = cut_record }, [])
 
 -- a record before the others
-abbrev pub with_record : {E : Type 0} → Record → List ℕ → CapturedOr E → CapturedOr E
+abbrev pub with_record : Record → List ℕ → Captured → Captured
 with_record one packet (Ok others) =
     Ok (record { records = one ∷ others.0.records; cut = others.0.cut }, packet ∷ others.1)
 with_record one packet (Err e) = Err e
 
 -- what was found at a place, followed by the records after it
 abbrev pub after_found : Form → List Vip → (Place → List ℕ → Captured) → Place → List ℕ
-    → Result Found PcapFault → Captured
+    → Result Found CaptureFault → Captured
 after_found form vips others place left (Ok (whole time octets)) =
     with_record
     (record { moment = moment_at place time; body = (classified form.link vips octets).0 })
@@ -51,7 +48,7 @@ records_from form vips zero place left =
 records_from form vips (suc more) place left =
     after_found form vips (records_from form vips more) place left (next_of form place left)
 
-abbrev pub behind_form : List Vip → List ℕ → Result Form PcapFault → Captured
+abbrev pub behind_form : List Vip → List ℕ → Result Form CaptureFault → Captured
 behind_form vips octets (Ok form) = records_from form vips most_records first_place (drop 24 octets)
 behind_form vips octets (Err e) = Err e
 

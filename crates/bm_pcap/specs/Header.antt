@@ -3,8 +3,8 @@ use Rattle.std.specs.Prelude.{ℕ, ◌%◌, ◌^◌, List, length, take, drop, B
 use Rattle.std.specs.Prelude.{if◌then◌else◌, Option, Some, None, Result, Ok, Err}
 use Rattle.byteorder.specs.Endian.{big_number, little_number}
 use Rattle.bm_link.specs.Links.{is_link}
-use Rattle.bm_pcap.specs.declared.fault.PcapFault.{PcapFault}
-use Rattle.bm_pcap.specs.declared.fault.PcapFault.TheVariants.{NotACapture, BadVersion, BadLink}
+use Rattle.bm_pcap.specs.declared.fault.CaptureFault.{CaptureFault}
+use Rattle.bm_pcap.specs.declared.fault.CaptureFault.TheVariants.{NotACapture, BadVersion, BadLink}
 use Rattle.bm_pcap.specs.declared.form.Form.{Form}
 use Rattle.bm_pcap.specs.declared.form.Order.{Order}
 use Rattle.bm_pcap.specs.declared.form.Order.TheVariants.{Big, Little}
@@ -39,7 +39,7 @@ abbrev pub link_of : Order → List ℕ → ℕ
 link_of order octets = number_at order 4 20 octets % 2 ^ 16
 
 -- the rest of the header, after the magic number
-abbrev pub form_by : Option (Order × Unit_of_time) → List ℕ → Result Form PcapFault
+abbrev pub form_by : Option (Order × Unit_of_time) → List ℕ → Result Form CaptureFault
 form_by None header = Err NotACapture
 form_by (Some magic) header =
     if not (is_version magic.0 header) then Err BadVersion
@@ -47,7 +47,7 @@ form_by (Some magic) header =
     else Ok (record { order = magic.0; unit = magic.1; link = link_of magic.0 header })
 
 -- what the header says, or the first fault in it
-unfoldable pub form_of : List ℕ → Result Form PcapFault
+unfoldable pub form_of : List ℕ → Result Form CaptureFault
 form_of octets =
     if nat_lt (length octets) 24 then Err NotACapture
     else form_by (magic_of (take 4 octets)) (take 24 octets)

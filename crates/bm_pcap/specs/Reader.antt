@@ -2,8 +2,8 @@
 use Rattle.std.specs.Prelude.{◌≡◌, ℕ, ◌+◌, ◌≤◌, List, [], length, drop, Option, Some, None}
 use Rattle.std.specs.Prelude.{Result, Ok, Err, IsErrOf, unwrap_or}
 use Rattle.std.specs.Io.KnownBytes.{prepend_known}
-use Rattle.bm_pcap.specs.declared.fault.PcapFault.{PcapFault}
-use Rattle.bm_pcap.specs.declared.fault.PcapFault.TheVariants.{Memory, ReadFault}
+use Rattle.bm_pcap.specs.declared.fault.CaptureFault.{CaptureFault}
+use Rattle.bm_pcap.specs.declared.fault.CaptureFault.TheVariants.{Memory, ReadFault}
 use Rattle.bm_pcap.specs.declared.form.Form.{Form}
 use Rattle.bm_pcap.specs.declared.item.Item.{Item}
 use Rattle.bm_pcap.specs.declared.item.Item.TheVariants as item
@@ -31,7 +31,7 @@ pub record Reader (S : Type 0) : Type 0 where
   pub place : Place
   pub held : List ℕ
   pub passed : List ℕ
-  pub ended : Option (Result Step PcapFault)
+  pub ended : Option (Result Step CaptureFault)
 
 -- The octets that aren't consumed yet, if the source's octets are known: those that were read
 -- ahead, and then those that the source has left.
@@ -47,19 +47,19 @@ abbrev pub IsFresh : {S : Type 0} → Reader S → Type 0
 IsFresh reader = (reader.place ≡ first_place) × (reader.ended ≡ None) × (reader.held ≡ [])
 
 -- The result is a reader of what the header says, or the header's first fault with the source.
-abbrev pub Starts : {S : Type 0} → (S → Option (List ℕ)) → S → Result (Reader S) (S × PcapFault)
+abbrev pub Starts : {S : Type 0} → (S → Option (List ℕ)) → S → Result (Reader S) (S × CaptureFault)
     → Type 0
 Starts left old (Ok reader) = FormGives (left old) (left reader.source) (Ok reader.form)
 Starts left old (Err refused) = FormGives (left old) (left refused.0) (Err refused.1)
 
 -- After the header, or its fault, the source has the rest left.
 abbrev pub StartLeaves : {S : Type 0} → (S → Option (List ℕ)) → S
-    → Result (Reader S) (S × PcapFault) → Type 0
+    → Result (Reader S) (S × CaptureFault) → Type 0
 StartLeaves left old (Ok reader) = FormLeaves (left old) (left reader.source) (Ok reader.form)
 StartLeaves left old (Err refused) = FormLeaves (left old) (left refused.0) (Err refused.1)
 
 -- the count rises if `ReadFault` is returned, and stays the same otherwise
-abbrev pub StartsWithCause : {S : Type 0} → (S → ℕ) → S → Result (Reader S) (S × PcapFault) → Type 0
+abbrev pub StartsWithCause : {S : Type 0} → (S → ℕ) → S → Result (Reader S) (S × CaptureFault) → Type 0
 StartsWithCause {S} faults old (Ok reader) = faults reader.source ≡ faults old
 StartsWithCause {S} faults old (Err refused) =
     HasStepCause {T = Reader S} (faults old) (faults refused.0) (Err refused.1)
@@ -79,7 +79,7 @@ step_taken step.End = 0
 -- What was returned is what comes next, a record with its own octets, and what follows it is still
 -- to come. After a failed read nothing is lost. If the source's octets aren't known, nothing is
 -- said.
-abbrev pub StepGives : Option (List ℕ) → Option (List ℕ) → Form → Place → Result Step PcapFault
+abbrev pub StepGives : Option (List ℕ) → Option (List ℕ) → Form → Place → Result Step CaptureFault
     → List ℕ → Type 0
 StepGives None new form place result own = Unit {0}
 StepGives (Some octets) new form place (Ok found) own =
@@ -92,12 +92,12 @@ StepGives (Some octets) new form place (Err e) own =
 
 -- A read fails only if the octets that were read ahead don't decide what comes next: a whole
 -- record, or a fault of the capture, is returned first.
-abbrev pub FailsOpen : Form → Place → Result Step PcapFault → List ℕ → Type 0
+abbrev pub FailsOpen : Form → Place → Result Step CaptureFault → List ℕ → Type 0
 FailsOpen form place result ahead = IsErrOf result ReadFault → IsOpen (next_of form place ahead)
 
 -- After a record a reader is at the next place; any other result it keeps, and returns from then
 -- on.
-abbrev pub Keeps : {S : Type 0} → Reader S → Reader S → Result Step PcapFault → Type 0
+abbrev pub Keeps : {S : Type 0} → Reader S → Reader S → Result Step CaptureFault → Type 0
 Keeps old new (Ok (step.Record time len)) =
     StepFits old.place (step.Record time len)
     × (new.form ≡ old.form)
@@ -108,7 +108,7 @@ Keeps old new result = (new.form ≡ old.form) × (new.place ≡ old.place) × (
 -- A reader that has ended returns the same again and changes nothing; any other returns what comes
 -- next.
 abbrev pub AdvancesFrom : {S : Type 0} → (S → Option (List ℕ)) → (S → ℕ)
-    → Option (Result Step PcapFault) → Reader S → Reader S → Result Step PcapFault → List ℕ
+    → Option (Result Step CaptureFault) → Reader S → Reader S → Result Step CaptureFault → List ℕ
     → Type 0
 AdvancesFrom left faults (Some ended) old new result own = (result ≡ ended) × (new ≡ old)
 AdvancesFrom left faults None old new result own =
@@ -118,13 +118,13 @@ AdvancesFrom left faults None old new result own =
     × FailsOpen old.form old.place result new.held
 
 abbrev pub Advances : {S : Type 0} → (S → Option (List ℕ)) → (S → ℕ) → Reader S → Reader S
-    → Result Step PcapFault → List ℕ → Type 0
+    → Result Step CaptureFault → List ℕ → Type 0
 Advances left faults old new result own = AdvancesFrom left faults old.ended old new result own
 
 -- What `next` returns, and what it leaves. An item has the number of the place; a record has its
 -- moment, and its octets.
 abbrev pub GivesNext : {S : Type 0} → (S → Option (List ℕ)) → (S → ℕ) → Reader S → Reader S
-    → Result Item PcapFault → Type 0
+    → Result Item CaptureFault → Type 0
 GivesNext left faults old new (Ok (item.Record number moment octets)) =
     (time : ℕ)
     × (Advances left faults old new (Ok (step.Record time (length octets.now))) octets.now
@@ -171,7 +171,7 @@ last_step (Some number) = step.Cut
 
 -- A reader whose capture was read returns the cut or the end from now on; if the capture has a
 -- fault, that fault. `Memory` says nothing.
-abbrev pub HasEnded : Captured → Option (Result Step PcapFault) → Type 0
+abbrev pub HasEnded : Captured → Option (Result Step CaptureFault) → Type 0
 HasEnded (Ok read) ended = ended ≡ Some (Ok (last_step read.0.cut))
 HasEnded (Err Memory) ended = Unit {0}
 HasEnded (Err e) ended = ended ≡ Some (Err e)

@@ -3,8 +3,8 @@ use Rattle.std.specs.Prelude.{ℕ, ◌+◌, ◌-◌, ◌*◌, ◌^◌, max, List
 use Rattle.std.specs.Prelude.{nat_lt, nat_le, ◌==◌, if◌then◌else◌, Some, None, unwrap_or, Result}
 use Rattle.std.specs.Prelude.{Ok, Err}
 use Rattle.bm_base.specs.declared.ids.Moment.{Moment}
-use Rattle.bm_pcap.specs.declared.fault.PcapFault.{PcapFault}
-use Rattle.bm_pcap.specs.declared.fault.PcapFault.TheVariants.{BadLength, TooLarge, TooManyPackets}
+use Rattle.bm_pcap.specs.declared.fault.CaptureFault.{CaptureFault}
+use Rattle.bm_pcap.specs.declared.fault.CaptureFault.TheVariants.{BadLength, TooLarge, TooManyPackets}
 use Rattle.bm_pcap.specs.declared.form.Form.{Form}
 use Rattle.bm_pcap.specs.declared.place.Place.{Place}
 use Rattle.bm_pcap.specs.Limits.{longest, most_octets, most_records}
@@ -28,12 +28,12 @@ pub data Found : Type 0 where
   end : Found
 
 -- the octets end before the record does, or the capture gets too large before that
-abbrev pub short : ℕ → List ℕ → Result Found PcapFault
+abbrev pub short : ℕ → List ℕ → Result Found CaptureFault
 short room left = if nat_lt room (length left) then Err TooLarge else Ok cut
 
 -- What follows a record's header, which states n octets. A fault of the length is at the header's
 -- last octet, and so comes before an octet that is too many.
-abbrev pub behind_header : Form → ℕ → ℕ → ℕ → List ℕ → Result Found PcapFault
+abbrev pub behind_header : Form → ℕ → ℕ → ℕ → List ℕ → Result Found CaptureFault
 behind_header form number room n left =
     if nat_lt longest n then Err (BadLength number n)
     else if nat_le (16 + n) (length left)
@@ -43,13 +43,13 @@ behind_header form number room n left =
 -- What is at the front of the octets that are left, at the place of the record of this number,
 -- where the capture may have `room` more octets. A header that ends after octet room + 1 comes
 -- after an octet that is too many.
-abbrev pub record_at : Form → ℕ → ℕ → List ℕ → Result Found PcapFault
+abbrev pub record_at : Form → ℕ → ℕ → List ℕ → Result Found CaptureFault
 record_at form number room left =
     if nat_lt (length left) 16 || nat_lt room 15 then short room left
     else behind_header form number room (captured_length form (take 16 left)) left
 
 -- the same, with the end of the octets, and a fault for a record after the last one that is allowed
-unfoldable pub next_of : Form → Place → List ℕ → Result Found PcapFault
+unfoldable pub next_of : Form → Place → List ℕ → Result Found CaptureFault
 next_of form place left =
     if length left == 0 then Ok end
     else if nat_lt most_records place.number then Err TooManyPackets
@@ -74,7 +74,7 @@ behind_record place time n = record {
 }
 
 -- These octets alone are no whole record and have no fault: what follows them decides.
-abbrev pub IsOpen : Result Found PcapFault → Type 0
+abbrev pub IsOpen : Result Found CaptureFault → Type 0
 IsOpen (Ok (whole time octets)) = ⊥
 IsOpen (Ok cut) = Unit {0}
 IsOpen (Ok end) = Unit {0}

@@ -6,7 +6,7 @@ ghost use Rattle.bm_pcap.specs.Header.{form_by, magic_of, nanoseconds_in, number
 ghost use Rattle.bm_pcap.specs.Parts.{FormGives};
 ghost use Rattle.bm_pcap.specs.Taken.{FormLeaves};
 
-use crate::PcapFault;
+use crate::CaptureFault;
 use bm_io::{Source, fill};
 use bm_link::is_link;
 use byteorder::{BigEndian, ByteOrder, LittleEndian};
@@ -84,24 +84,24 @@ fn magic(octets: &[u8]) -> Option<(Order, Unit)>
 }
 
 /// The rest of the header, after the magic number.
-fn form_behind(order: Order, unit: Unit, header: &[u8]) -> Result<Form, PcapFault>
+fn form_behind(order: Order, unit: Unit, header: &[u8]) -> Result<Form, CaptureFault>
     requires { length header.now ≡ 24 }
     ensures form { result ≡ form_by (Some (order, unit)) header.now }
     ensures link { IfOk result (λ form. IsTrue (is_link form.link)) }
     ensures others { IfErr result IsHeaderFault }
 {
     if order.read_u16(header, 4) != 2 || order.read_u16(header, 6) != 4 {
-        return Err(PcapFault::BadVersion);
+        return Err(CaptureFault::BadVersion);
     }
     let link = (order.read_u32(header, 20) % 65536) as u16;
     if !is_link(link) {
-        return Err(PcapFault::BadLink(link));
+        return Err(CaptureFault::BadLink(link));
     }
     Ok(Form { order, unit, link })
 }
 
 /// Reads the header of a capture, and no more than the magic number if that is wrong.
-pub(crate) fn read_form<S: Source>(src: &mut S) -> Result<Form, PcapFault>
+pub(crate) fn read_form<S: Source>(src: &mut S) -> Result<Form, CaptureFault>
     ensures form { FormGives (S.left src.old) (S.left src.new) result }
     ensures leaves { FormLeaves (S.left src.old) (S.left src.new) result }
     ensures link { IfOk result (λ form. IsTrue (is_link form.link)) }
@@ -110,14 +110,14 @@ pub(crate) fn read_form<S: Source>(src: &mut S) -> Result<Form, PcapFault>
 {
     let mut first = [0u8; 4];
     if fill(src, &mut first)? < 4 {
-        return Err(PcapFault::NotACapture);
+        return Err(CaptureFault::NotACapture);
     }
     let Some((order, unit)) = magic(&first) else {
-        return Err(PcapFault::NotACapture);
+        return Err(CaptureFault::NotACapture);
     };
     let mut rest = [0u8; 20];
     if fill(src, &mut rest)? < 20 {
-        return Err(PcapFault::NotACapture);
+        return Err(CaptureFault::NotACapture);
     }
     let mut header = [0u8; 24];
     join(&mut header, &first, &rest);

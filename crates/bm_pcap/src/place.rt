@@ -13,8 +13,14 @@ pub const MOST_OCTETS: u32 = 268_435_456;
 /// The most octets of a record.
 pub const LONGEST: u32 = 262_144;
 
+/// How many octets the header of a capture has.
+const CAPTURE_HEADER: u32 = 24;
+
+/// How many octets the header of a record has.
+pub(crate) const RECORD_HEADER: u32 = 16;
+
 /// The most octets that are read ahead: the longest record and its header.
-pub const WIDEST: u32 = LONGEST + 16;
+pub const WIDEST: u32 = LONGEST + RECORD_HEADER;
 
 /// The number of the next record, how many octets the capture may have from here on, the captured
 /// time of record 1, and the moment of the record before.
@@ -33,7 +39,7 @@ impl Place {
     {
         Place {
             number: 1,
-            room: MOST_OCTETS - 24,
+            room: MOST_OCTETS - CAPTURE_HEADER,
             first: None,
             last: Moment(0),
         }
@@ -48,7 +54,7 @@ impl Place {
         let first = self.first.unwrap_or(time);
         Place {
             number: self.number + 1,
-            room: self.room - 16 - len,
+            room: self.room - RECORD_HEADER - len,
             first: Some(first),
             last: Moment(self.last.0.max(time.saturating_sub(first))),
         }

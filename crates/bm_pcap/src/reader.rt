@@ -11,7 +11,7 @@ ghost use Rattle.bm_pcap.specs.Reader.{KnowsBegan, ReadsCapture, StartLeaves, St
 ghost use Rattle.bm_pcap.specs.Inside.Reader.{IsLast, own_octets};
 ghost use Rattle.bm_pcap.specs.Reader.{StartsWithCause, time_began};
 
-use crate::PcapFault;
+use crate::CaptureFault;
 use crate::form::{Form, read_form};
 use crate::item::Item;
 use crate::place::{Place, WIDEST};
@@ -29,7 +29,7 @@ pub struct PcapReader<S> {
     window: Window<S>,
     form: Form,
     place: Place,
-    ended: Option<Result<Step, PcapFault>>,
+    ended: Option<Result<Step, CaptureFault>>,
 }
 
 impl<S> Model for PcapReader<S> {
@@ -62,7 +62,7 @@ impl<S: Source> PcapReader<S> {
 
     /// Reads the header of a capture, and returns a reader of its records. On a fault the source is
     /// given back.
-    pub fn start(alloc: Global, mut src: S) -> Result<PcapReader<S>, (S, PcapFault)>
+    pub fn start(alloc: Global, mut src: S) -> Result<PcapReader<S>, (S, CaptureFault)>
         ensures starts { Starts S.left src result }
         ensures leaves { StartLeaves S.left src result }
         ensures fresh { IfOk result IsFresh }
@@ -76,12 +76,12 @@ impl<S: Source> PcapReader<S> {
     }
 
     /// A reader of a capture whose header was read.
-    fn behind_header(alloc: Global, src: S, form: Form) -> Result<PcapReader<S>, (S, PcapFault)>
+    fn behind_header(alloc: Global, src: S, form: Form) -> Result<PcapReader<S>, (S, CaptureFault)>
         requires { IsTrue (is_link form.link) }
         ensures reader { IfOk result
             (λ reader. (reader.source ≡ src) × (reader.form ≡ form) × IsFresh reader) }
         ensures memory { IfErr result
-            (λ refused. (refused.0 ≡ src) × (refused.1 ≡ PcapFault.Memory)) }
+            (λ refused. (refused.0 ≡ src) × (refused.1 ≡ CaptureFault.Memory)) }
     {
         match Window::new(alloc, src, WIDEST as usize) {
             Ok(window) => Ok(PcapReader {
@@ -90,7 +90,7 @@ impl<S: Source> PcapReader<S> {
                 place: Place::first(),
                 ended: None,
             }),
-            Err(src) => Err((src, PcapFault::Memory)),
+            Err(src) => Err((src, CaptureFault::Memory)),
         }
     }
 
@@ -124,7 +124,7 @@ impl<S: Source> PcapReader<S> {
 
     /// Reads what comes next. After a fault, a record that is cut short, or the end, it returns the
     /// same again.
-    fn advance(&mut self) -> Result<Step, PcapFault>
+    fn advance(&mut self) -> Result<Step, CaptureFault>
         ensures advances { Advances S.left S.faults self.old self.new result
             (own_octets result self.new.passed) }
         ensures last { IfOk result (IsLast self.new.passed) }
@@ -144,7 +144,7 @@ impl<S: Source> PcapReader<S> {
 
     /// The next record, the one that is cut short, or the end. After a fault, a record that is cut
     /// short, or the end, it returns the same again. Takes no memory.
-    pub fn next(&mut self) -> Result<Item<'_>, PcapFault>
+    pub fn next(&mut self) -> Result<Item<'_>, CaptureFault>
         ensures others { IfErr result IsRecordFault }
         ensures* after { sem 𝓛
             (Rests (the_row S.row) self.entry
@@ -172,7 +172,7 @@ pub fn read_capture<S: Source>(
     alloc: Global,
     r: &mut PcapReader<S>,
     vips: &[Vip],
-) -> Result<(Capture, Octets), PcapFault>
+) -> Result<(Capture, Octets), CaptureFault>
     requires { IsFresh r.old }
     ensures capture { ReadsCapture S.left r.old vips.now result }
     ensures replayable { IfOk result (λ read. IsReplayable vips.now read.0) }
@@ -182,7 +182,7 @@ pub fn read_capture<S: Source>(
     ensures form { r.new.form ≡ r.old.form }
     ensures last { EndsWith S.left S.faults result r.new }
     ensures number { IfOk result (λ read. IfSome read.0.cut (λ n. r.new.place.number ≡ n)) }
-    ensures open { IsErrOf result PcapFault.Memory → r.new.ended ≡ None }
+    ensures open { IsErrOf result CaptureFault.Memory → r.new.ended ≡ None }
     ensures began { IfOk result (λ read. KnowsBegan S.left r.old r.new) }
     ensures early { IfOk result (λ read. time_began r.new ≤ latest) }
     ensures cause { HasStepCause (S.faults r.old.source) (S.faults r.new.source) result }

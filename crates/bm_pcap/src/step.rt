@@ -11,9 +11,9 @@ ghost use Rattle.bm_pcap.specs.Inside.Reader.{IsLast, own_octets};
 ghost use Rattle.bm_pcap.specs.Records.{IsOpen, next_of, time_of};
 ghost use Rattle.bm_pcap.specs.Window.{held, passed, rest, width};
 
-use crate::PcapFault;
+use crate::CaptureFault;
 use crate::form::Form;
-use crate::place::{LONGEST, MOST_RECORDS, Place};
+use crate::place::{LONGEST, MOST_RECORDS, Place, RECORD_HEADER};
 use crate::window::Window;
 use bm_io::Source;
 
@@ -38,7 +38,7 @@ pub(crate) fn read_step<S: Source>(
     window: &mut Window<S>,
     form: &Form,
     place: &Place,
-) -> Result<Step, PcapFault>
+) -> Result<Step, CaptureFault>
     requires { width window.old ≡ widest }
     ensures gives { StepGives (rest S.left window.old) (rest S.left window.new) form.now place.now
         result (own_octets result (passed window.new)) }
@@ -53,11 +53,11 @@ pub(crate) fn read_step<S: Source>(
         Head::End => Ok(Step::End),
         Head::Cut => Ok(Step::Cut),
         Head::States { time, len } => {
-            let whole = 16 + len as usize;
+            let whole = (RECORD_HEADER + len) as usize;
             let room = place.room as usize;
             let count = window.want(whole.min(room + 1))?;
             if count > room {
-                return Err(PcapFault::TooLarge);
+                return Err(CaptureFault::TooLarge);
             }
             if count < whole {
                 return Ok(Step::Cut);
@@ -73,12 +73,12 @@ fn read_head<S: Source>(
     window: &mut Window<S>,
     form: &Form,
     place: &Place,
-) -> Result<Head, PcapFault>
+) -> Result<Head, CaptureFault>
     requires { width window.old ≡ widest }
     ensures gives { HeadGives (rest S.left window.old) form.now place.now result }
     ensures keeps { Keeps (rest S.left window.old) (rest S.left window.new) }
     ensures held { IfOk result (HeadIn form.now (held window.new)) }
-    ensures open { IsErrOf result PcapFault.ReadFault
+    ensures open { IsErrOf result CaptureFault.ReadFault
         → IsOpen (next_of form.now place.now (held window.new)) }
     ensures fits { IfOk result (HeadFits place.now) }
     ensures others { IfErr result IsRecordFault }
@@ -89,18 +89,19 @@ fn read_head<S: Source>(
         return read_end(window, form, place);
     }
     let room = place.room as usize;
-    let count = window.want((room + 1).min(16))?;
+    let header = RECORD_HEADER as usize;
+    let count = window.want((room + 1).min(header))?;
     if count == 0 {
         return Ok(Head::End);
     }
-    if count < 16 {
+    if count < header {
         return if count > room {
-            Err(PcapFault::TooLarge)
+            Err(CaptureFault::TooLarge)
         } else {
             Ok(Head::Cut)
         };
     }
-    states(form, place, &window.held()[..16])
+    states(form, place, &window.held()[..header])
 }
 
 /// Looks for an octet after the last record that is allowed.
@@ -108,13 +109,13 @@ fn read_end<S: Source>(
     window: &mut Window<S>,
     form: &Form,
     place: &Place,
-) -> Result<Head, PcapFault>
+) -> Result<Head, CaptureFault>
     requires wide { width window.old ≡ widest }
     requires last { MOST_RECORDS < place.now.number }
     ensures gives { HeadGives (rest S.left window.old) form.now place.now result }
     ensures keeps { Keeps (rest S.left window.old) (rest S.left window.new) }
     ensures held { IfOk result (HeadIn form.now (held window.new)) }
-    ensures open { IsErrOf result PcapFault.ReadFault
+    ensures open { IsErrOf result CaptureFault.ReadFault
         → IsOpen (next_of form.now place.now (held window.new)) }
     ensures fits { IfOk result (HeadFits place.now) }
     ensures others { IfErr result IsRecordFault }
@@ -122,23 +123,23 @@ fn read_end<S: Source>(
     ensures cause { HasStepCause (S.faults window.old.src) (S.faults window.new.src) result }
 {
     if window.want(1)? > 0 {
-        return Err(PcapFault::TooManyPackets);
+        return Err(CaptureFault::TooManyPackets);
     }
     Ok(Head::End)
 }
 
 /// What a whole header of a record states.
-fn states(form: &Form, place: &Place, header: &[u8]) -> Result<Head, PcapFault>
+fn states(form: &Form, place: &Place, header: &[u8]) -> Result<Head, CaptureFault>
     requires { length header.now ≡ 16 }
     ensures stated { result ≡ stated form.now place.now header.now }
     ensures early { IfOk result IsEarly }
 {
     let len = form.order.read_u32(header, 8);
     if len > LONGEST {
-        return Err(PcapFault::BadLength(place.number, len));
+        return Err(CaptureFault::BadLength(place.number, len));
     }
-    if place.room < 16 {
-        return Err(PcapFault::TooLarge);
+    if place.room < RECORD_HEADER {
+        return Err(CaptureFault::TooLarge);
     }
     Ok(Head::States {
         time: time(form, header),

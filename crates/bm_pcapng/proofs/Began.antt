@@ -1,11 +1,10 @@
 -- What is known of a capture's beginning while its blocks are read.
-use Rattle.std.proofs.Common.{◌≡◌, ℕ, zero, suc, ◌-◌, ◌+◌, ◌≤◌, List, [], drop, Option, Some, None, Result, Ok, Err}
+use Rattle.std.proofs.Common.{◌≡◌, ℕ, zero, suc, ◌-◌, ◌+◌, ◌≤◌, List, [], drop, Option, Some, None, Ok}
 use Rattle.std.proofs.Common.{refl, sym, ap, ap₂, subst, ◌∙◌, arith}
 use Rattle.bm_pcap.specs.declared.form.Order.{Order}
 use Rattle.bm_pcap.specs.Limits.{most_octets}
 use Rattle.bm_pcapng.specs.declared.content.Content.{Content}
 use Rattle.bm_pcapng.specs.declared.content.Content.TheVariants.{Begins, Describes, Holds, Nothing}
-use Rattle.bm_pcapng.specs.declared.fault.NgFault.{NgFault}
 use Rattle.bm_pcapng.specs.declared.interface.Interface.{Interface}
 use Rattle.bm_pcapng.specs.declared.place.Place.{Place}
 use Rattle.bm_pcapng.specs.declared.step.Step.{Step}

@@ -1,5 +1,5 @@
 -- What the octets that were read say of the head of a block.
-use Rattle.std.proofs.Common.{◌≡◌, ℕ, true, false, ◌+◌, ◌<◌, ◌≤◌, nat_lt, ◌==◌, ◌||◌, ◌&&◌, not, inl, inr, min}
+use Rattle.std.proofs.Common.{◌≡◌, ℕ, true, false, ◌+◌, ◌<◌, ◌≤◌, nat_lt, ◌==◌, ◌&&◌, not, inl, inr, min}
 use Rattle.std.proofs.Common.{if◌then◌else◌, List, length, Option, Some, None, Result, Ok, Err, take, ap, sym, subst}
 use Rattle.std.proofs.Common.{◌∙◌, arith, refl, Bool, IfOk}
 use Rattle.std.proofs.lemmas.Bool.{cases_lt}
@@ -13,8 +13,8 @@ use Rattle.bm_pcap.specs.Window.{Ahead}
 use Rattle.bm_pcapng.specs.declared.block.Kind.{Kind}
 use Rattle.bm_pcapng.specs.declared.block.Kind.TheVariants.{SectionHeader, InterfaceDescription}
 use Rattle.bm_pcapng.specs.declared.block.Kind.TheVariants.{EnhancedPacket, SimplePacket, Other}
-use Rattle.bm_pcapng.specs.declared.fault.NgFault.{NgFault}
-use Rattle.bm_pcapng.specs.declared.fault.NgFault.TheVariants.{BadBlock, TooLarge, TooManyPackets}
+use Rattle.bm_pcap.specs.declared.fault.CaptureFault.{CaptureFault}
+use Rattle.bm_pcap.specs.declared.fault.CaptureFault.TheVariants.{BadBlock, TooLarge, TooManyPackets}
 use Rattle.bm_pcapng.specs.declared.interface.Interface.{Interface}
 use Rattle.bm_pcapng.specs.declared.place.Place.{Place}
 use Rattle.bm_pcapng.specs.declared.step.Head.{Head}
@@ -22,7 +22,7 @@ use Rattle.bm_pcapng.specs.declared.step.Head.TheVariants as head
 use Rattle.bm_pcapng.specs.declared.step.Step.{Step}
 use Rattle.bm_pcapng.specs.declared.step.Step.TheVariants as step
 use Rattle.bm_pcapng.specs.Blocks.{behind_head, head_size, is_length, is_packet, kind_in, lacks, least_length}
-use Rattle.bm_pcapng.specs.Blocks.{next_of, order_of, ordered, short, sized}
+use Rattle.bm_pcapng.specs.Blocks.{next_of, order_of, ordered, short}
 use Rattle.bm_pcapng.specs.Parts.{IsOpen}
 use Rattle.bm_pcapng.specs.Inside.Parts.{Begins, HeadGives, HeadIn, HeadSays, stated, stated_in}
 
@@ -145,7 +145,7 @@ kind_later order first ahead kind is there grown =
 
 -- what was read ahead says of a head what the definition says of all octets that begin with it
 pub head_says : (order : Order) (interfaces : List Interface) (place : Place) (ahead octets : List ℕ) (kind : Kind)
-    (result : Result Head NgFault) → kind ≡ kind_at order ahead
+    (result : Result Head CaptureFault) → kind ≡ kind_at order ahead
     → head_size kind ≤ length ahead → head_size kind ≤ place.room + 1 → Begins ahead octets
     → result ≡ stated kind order place (take (head_size kind) ahead)
     → HeadSays (next_of order interfaces place octets) interfaces place octets result
@@ -156,8 +156,8 @@ head_says order interfaces place ahead octets kind result is long wide begins sa
     let same : kind ≡ kind_at order octets = kind_later order ahead octets kind is some begins in
     let more = longer ahead octets begins in
     let found = next_ordered order interfaces place octets kind same (omega (arith, long, more)) wide in
-    let P : Result Step NgFault → Type 0 = λ f. HeadSays f interfaces place octets result in
-    let Q : Result Head NgFault → Type 0 = λ r. HeadSays
+    let P : Result Step CaptureFault → Type 0 = λ f. HeadSays f interfaces place octets result in
+    let Q : Result Head CaptureFault → Type 0 = λ r. HeadSays
     (ordered kind (order_of kind order (take (head_size kind) octets)) interfaces place octets) interfaces place octets
     r in
     subst P (sym found)
@@ -182,7 +182,7 @@ begins_old old left octets ahead is keeps =
     held_begins octets ahead left (subst P is keeps)
 
 pub states_given : (old left : Option (List ℕ)) (order : Order) (interfaces : List Interface) (place : Place)
-    (ahead : List ℕ) (kind : Kind) (result : Result Head NgFault) → kind ≡ kind_at order ahead
+    (ahead : List ℕ) (kind : Kind) (result : Result Head CaptureFault) → kind ≡ kind_at order ahead
     → head_size kind ≤ length ahead → head_size kind ≤ place.room + 1
     → Keeps old (prepend_known ahead left)
     → result ≡ stated kind order place (take (head_size kind) ahead) → HeadGives old order interfaces place result
@@ -191,7 +191,7 @@ states_given (Some octets) left order interfaces place ahead kind result is long
     head_says order interfaces place ahead octets kind result is long wide (held_begins octets ahead left keeps) said
 
 states_in : (order : Order) (interfaces : List Interface) (place : Place) (ahead : List ℕ)
-    (result : Result Head NgFault)
+    (result : Result Head CaptureFault)
     → ((octets : List ℕ) → Begins ahead octets → HeadSays (next_of order interfaces place octets) interfaces place
     octets result)
     → IfOk result (HeadIn order interfaces place ahead)
@@ -201,7 +201,7 @@ states_in order interfaces place ahead (Ok (head.States kind own n)) h = h
 states_in order interfaces place ahead (Err e) h = tt
 
 pub states_held : (order : Order) (interfaces : List Interface) (place : Place) (ahead : List ℕ) (kind : Kind)
-    (result : Result Head NgFault) → kind ≡ kind_at order ahead
+    (result : Result Head CaptureFault) → kind ≡ kind_at order ahead
     → head_size kind ≤ length ahead → head_size kind ≤ place.room + 1
     → result ≡ stated kind order place (take (head_size kind) ahead)
     → IfOk result (HeadIn order interfaces place ahead)
@@ -226,7 +226,7 @@ head_end (Some octets) order interfaces place most n ahead is_most is none =
 
 -- fewer octets are left than a length needs, or one too many comes before
 pub head_short : (old : Option (List ℕ)) (order : Order) (interfaces : List Interface) (place : Place)
-    (size most n : ℕ) (ahead : List ℕ) (result : Result Head NgFault)
+    (size most n : ℕ) (ahead : List ℕ) (result : Result Head CaptureFault)
     → ((octets : List ℕ) → old ≡ Some octets → size ≤ head_size (kind_at order octets))
     → ((octets : List ℕ) → old ≡ Some octets → 0 < length octets)
     → most ≡ min (place.room + 1) size → Ahead old most n ahead → n < size
@@ -238,8 +238,8 @@ head_short (Some octets) order interfaces place size most n ahead result fits so
     let few : min (length octets) (place.room + 1) < head_size (kind_at order octets) =
     omega (arith, le, there.0, is_most, less) in
     let found = next_short order interfaces place octets one few in
-    let P : Result Head NgFault → Type 0 = λ r. HeadGives (Some octets) order interfaces place r in
-    let answer : Bool → Result Head NgFault = λ b. if b then Err TooLarge else Ok head.Cut in
+    let P : Result Head CaptureFault → Type 0 = λ r. HeadGives (Some octets) order interfaces place r in
+    let answer : Bool → Result Head CaptureFault = λ b. if b then Err TooLarge else Ok head.Cut in
     elim (cases_lt place.room n) [
       | inl over ↦
           let t : nat_lt place.room n ≡ true = grind (arith, nat_tests, over) in

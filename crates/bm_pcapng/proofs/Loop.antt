@@ -1,34 +1,34 @@
 -- Reading blocks one after the other, as a loop does.
-use Rattle.std.proofs.Common.{◌≡◌, ◌≢◌, ℕ, zero, suc, ◌-◌, ◌+◌, ◌≤◌, List, [], ◌∷◌, ◌++◌, length, drop, take, Option}
+use Rattle.std.proofs.Common.{◌≡◌, ℕ, zero, suc, ◌-◌, ◌+◌, ◌≤◌, List, [], ◌∷◌, ◌++◌, drop, take, Option}
 use Rattle.std.proofs.Common.{Some, None, Result, Ok, Err, refl, sym, ap, ap₂, subst, ◌∙◌, arith}
 use Rattle.std.proofs.lemmas.List.{drop-take, take-take}
 use Rattle.bm_base.specs.declared.capture.Body.{Body}
-use Rattle.bm_base.specs.declared.capture.Capture.{Capture}
 use Rattle.bm_base.specs.declared.capture.Record.{Record}
 use Rattle.bm_base.specs.declared.capture.Vip.{Vip}
 use Rattle.bm_base.specs.declared.ids.Moment.{Moment}
 use Rattle.bm_pcap.specs.declared.form.Order.{Order}
-use Rattle.bm_pcap.specs.Capture.{ends, with_record}
+use Rattle.bm_pcap.specs.Capture.{Captured, ends, with_record}
 use Rattle.bm_pcap.specs.Limits.{latest, most_octets}
 use Rattle.bm_pcap.proofs.Loop.{ended, no_front, regroup, with_front}
 use Rattle.bm_pcapng.specs.declared.content.Content.{Content}
 use Rattle.bm_pcapng.specs.declared.content.Content.TheVariants.{Begins, Describes, Holds, Nothing}
 use Rattle.bm_pcapng.specs.declared.content.Packet.{Packet}
-use Rattle.bm_pcapng.specs.declared.fault.NgFault.{NgFault}
-use Rattle.bm_pcapng.specs.declared.fault.NgFault.TheVariants as fault
+use Rattle.bm_pcap.specs.declared.fault.CaptureFault.{CaptureFault}
+use Rattle.bm_pcap.specs.declared.fault.CaptureFault.TheVariants as fault
 use Rattle.bm_pcapng.specs.declared.interface.Interface.{Interface}
 use Rattle.bm_pcapng.specs.declared.place.Place.{Place}
 use Rattle.bm_pcapng.specs.declared.step.Step.{Step}
 use Rattle.bm_pcapng.specs.declared.step.Step.TheVariants.{Block, Cut, End}
 use Rattle.bm_pcapng.specs.Blocks.{next_of}
-use Rattle.bm_pcapng.specs.Capture.{Captured, after_found, capture, classified_by, packet_octets, records_from}
-use Rattle.bm_pcapng.specs.Causes.{HasStepCause}
+use Rattle.bm_pcapng.specs.Capture.{after_found, capture, classified_by, packet_octets, records_from}
+use Rattle.bm_pcap.specs.Causes.{HasStepCause}
+use Rattle.bm_pcap.specs.Reader.{Captures}
 use Rattle.bm_pcapng.specs.Parts.{BlockGives}
 use Rattle.bm_pcapng.specs.Inside.Parts.{own_octets}
 use Rattle.bm_pcapng.specs.Places.{first_place, interfaces_behind, moment_at, order_behind}
 use Rattle.bm_pcapng.specs.Inside.Places.{packet_in}
 use Rattle.bm_pcapng.specs.Places.{place_behind}
-use Rattle.bm_pcapng.specs.Reader.{Reader, Advances, AdvancesFrom, Captures, EndsWith, Keeps, StandsIn}
+use Rattle.bm_pcapng.specs.Reader.{Reader, Advances, AdvancesFrom, EndsWith, Keeps, StandsIn}
 use Rattle.bm_pcapng.specs.Reader.{IsPassedOver}
 use Rattle.bm_pcapng.specs.Reader.{octets_in, to_come}
 
@@ -77,7 +77,7 @@ one_step vips order interfaces place left few =
 
 -- what a loop knows where the source's octets are known
 told : (now new : Option (List ℕ)) (order : Order) (interfaces : List Interface) (vips : List Vip) (total : Captured)
-    (place : Place) (records : List Record) (packets : List (List ℕ)) (result : Result Step NgFault) (passed : List ℕ)
+    (place : Place) (records : List Record) (packets : List (List ℕ)) (result : Result Step CaptureFault) (passed : List ℕ)
     → SoFar now order interfaces vips total place records packets
     → BlockGives now new order interfaces place result passed
     → (left : List ℕ)
@@ -89,7 +89,7 @@ told now new order interfaces vips total place records packets result passed so_
 
 -- an answer that ends the capture
 at_last : (left : List ℕ) (order : Order) (interfaces : List Interface) (vips : List Vip) (total : Captured)
-    (place : Place) (records : List Record) (packets : List (List ℕ)) (result : Result Step NgFault) (answer : Captured)
+    (place : Place) (records : List Record) (packets : List (List ℕ)) (result : Result Step CaptureFault) (answer : Captured)
     → with_front records packets (records_from vips (most_left place) order interfaces place left) ≡ total
     → next_of order interfaces place left ≡ result
     → ((others : Order → List Interface → Place → List ℕ → Captured)
@@ -123,7 +123,7 @@ at_end now new order interfaces vips total place records packets passed so_far g
 
 -- a fault that is neither a failed read nor want of memory is that of the octets
 at_err : (now new : Option (List ℕ)) (order : Order) (interfaces : List Interface) (vips : List Vip) (total : Captured)
-    (place : Place) (records : List Record) (packets : List (List ℕ)) (e : NgFault) (passed : List ℕ)
+    (place : Place) (records : List Record) (packets : List (List ℕ)) (e : CaptureFault) (passed : List ℕ)
     → SoFar now order interfaces vips total place records packets
     → ((left : List ℕ) → BlockGives (Some left) new order interfaces place (Err e) passed
     → next_of order interfaces place left ≡ Err e)
@@ -133,7 +133,7 @@ at_err now new order interfaces vips total place records packets e passed so_far
     at_last t.0 order interfaces vips total place records packets (Err e) (Err e) t.1.0 (means t.0 t.1.1) (λ _. refl)
 
 pub at_fault : (now new : Option (List ℕ)) (order : Order) (interfaces : List Interface) (vips : List Vip)
-    (total : Captured) (place : Place) (records : List Record) (packets : List (List ℕ)) (e : NgFault) (passed : List ℕ)
+    (total : Captured) (place : Place) (records : List Record) (packets : List (List ℕ)) (e : CaptureFault) (passed : List ℕ)
     → SoFar now order interfaces vips total place records packets
     → BlockGives now new order interfaces place (Err e) passed → Captures total (Err e)
 at_fault now new order interfaces vips total place records packets fault.ReadFault passed so_far gives = tt
@@ -144,6 +144,9 @@ at_fault now new order interfaces vips total place records packets fault.BadVers
     at_err now new order interfaces vips total place records packets fault.BadVersion passed so_far (λ _ h. h.0) gives
 at_fault now new order interfaces vips total place records packets (fault.BadBlock block) passed so_far gives =
     at_err now new order interfaces vips total place records packets (fault.BadBlock block) passed so_far (λ _ h. h.0)
+    gives
+at_fault now new order interfaces vips total place records packets (fault.BadLink link) passed so_far gives =
+    at_err now new order interfaces vips total place records packets (fault.BadLink link) passed so_far (λ _ h. h.0)
     gives
 at_fault now new order interfaces vips total place records packets fault.TooLarge passed so_far gives =
     at_err now new order interfaces vips total place records packets fault.TooLarge passed so_far (λ _ h. h.0) gives
@@ -235,62 +238,40 @@ passes_over now new order interfaces vips total place records packets n content 
 
 -- what a reader that hasn't ended does
 module _ {S : Type 0} (left : S → Option (List ℕ)) (faults : S → ℕ) (old new : Reader S) where
-  pub advanced : (result : Result Step NgFault) → old.ended ≡ None
+  pub advanced : (result : Result Step CaptureFault) → old.ended ≡ None
       → Advances left faults old new result (own_octets result new.passed)
       → BlockGives (to_come left old) (to_come left new) old.order old.interfaces old.place result
       (own_octets result new.passed)
       × HasStepCause (faults old.source) (faults new.source) result × Keeps old new result
   advanced result fresh h =
-      let P : Option (Result Step NgFault) → Type 0 = λ o. AdvancesFrom left faults o old new result
+      let P : Option (Result Step CaptureFault) → Type 0 = λ o. AdvancesFrom left faults o old new result
       (own_octets result new.passed) in let a =
       subst P fresh h in (a.0, a.1, a.2)
 
   -- what it answered, where that is known
-  pub gave : (result : Result Step NgFault) (answer : Result Step NgFault)
+  pub gave : (result : Result Step CaptureFault) (answer : Result Step CaptureFault)
       → Advances left faults old new result (own_octets result new.passed)
       → result ≡ answer → Advances left faults old new answer (own_octets answer new.passed)
   gave result answer h is =
-      let P : Result Step NgFault → Type 0 = λ r. Advances left faults old new r (own_octets r new.passed) in
+      let P : Result Step CaptureFault → Type 0 = λ r. Advances left faults old new r (own_octets r new.passed) in
       subst P is h
 
-  last_by : (e : NgFault) → (before : Reader S) × ((before.ended ≡ None) × Advances left faults before new (Err e) [])
+  last_by : (e : CaptureFault) → (before : Reader S) × ((before.ended ≡ None) × Advances left faults before new (Err e) [])
       → EndsWith left faults (Err e) new
   last_by fault.ReadFault h = h
   last_by fault.Memory h = tt
   last_by fault.NotACapture h = h
   last_by fault.BadVersion h = h
   last_by (fault.BadBlock block) h = h
+  last_by (fault.BadLink link) h = h
   last_by fault.TooLarge h = h
   last_by (fault.BadLength number n) h = h
   last_by fault.TooManyPackets h = h
 
-  pub last_fault : (result : Result Step NgFault) (e : NgFault) → old.ended ≡ None
+  pub last_fault : (result : Result Step CaptureFault) (e : CaptureFault) → old.ended ≡ None
       → Advances left faults old new result (own_octets result new.passed) → result ≡ Err e
       → EndsWith left faults (Err e) new
   last_fault result e fresh h is = last_by e (old, (fresh, gave result (Err e) h is))
-
--- a cause where the count stood still before it, and where it stands still
-pub cause_from : {S T : Type 0} (before mid now : ℕ) (e : NgFault) → mid ≡ before
-    → HasStepCause {T = S} mid now (Err e)
-    → HasStepCause {T = T} before now (Err e)
-cause_from before mid now e same cause = record {
-  later = omega (arith, same, cause.later);
-  failed = λ is. rw (sym same) (cause.failed cc);
-  kept = λ not. cause.kept (λ is. not cc) ∙ same;
-}
-
-pub cause_still : {T : Type 0} (before now : ℕ) (result : Result T NgFault) → now ≡ before
-    → result ≢ Err fault.ReadFault
-    → HasStepCause before now result
-cause_still before now result same not = record {
-  later = omega (arith, same);
-  failed = λ is. absurd (not is);
-  kept = λ _. same;
-}
-
-pub wants_memory : {T : Type 0} (result : Result T NgFault) (e : NgFault) → result ≡ Err e → e ≡ fault.Memory
-    → result ≢ Err fault.ReadFault
-wants_memory result e is memory not = let wrong : fault.Memory ≡ fault.ReadFault = cc in absurd (cc)
 
 pub moment_early : (place : Place) (time : Option ℕ) → place.last.0 ≤ latest → (moment_at place time).0 ≤ latest
 moment_early place None early = early

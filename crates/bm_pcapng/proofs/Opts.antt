@@ -1,12 +1,12 @@
 -- Options, gone over one by one.
-use Rattle.std.proofs.Common.{◌≡◌, ℕ, zero, suc, true, false, ◌+◌, ◌<◌, ◌≤◌, nat_lt, ◌==◌, ◌&&◌, ◌||◌, List, length}
+use Rattle.std.proofs.Common.{◌≡◌, ℕ, zero, suc, true, false, ◌+◌, ◌<◌, ◌≤◌, List, length}
 use Rattle.std.proofs.Common.{take, drop}
 use Rattle.std.proofs.Common.{slice_index, if◌then◌else◌, arith, refl, sym, ap, ◌∙◌, length-drop}
 use Rattle.std.proofs.lemmas.Bool.Decides.{nat_tests}
 use Rattle.std.proofs.lemmas.List.{get_or-drop, get_or-take, length-take-le}
 use Rattle.bm_pcap.specs.declared.form.Order.{Order}
 use Rattle.bm_pcapng.specs.declared.time.Resolution.{Resolution}
-use Rattle.bm_pcapng.specs.Options.{code_of, is_over, length_of, options_in, padded, resolution_in}
+use Rattle.bm_pcapng.specs.Options.{is_over, length_of, options_in, padded, resolution_in}
 use Rattle.bm_pcapng.specs.Inside.Options.{is_resolution}
 use Rattle.bm_pcapng.specs.Times.{microseconds, resolution_of}
 

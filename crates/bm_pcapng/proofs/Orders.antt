@@ -1,12 +1,12 @@
 -- What the first octets of a capture say of its order.
-use Rattle.std.proofs.Common.{◌≡◌, ℕ, true, false, ◌<◌, ◌≤◌, nat_lt, ◌||◌, not, min, List, length, Option, Some, None}
+use Rattle.std.proofs.Common.{◌≡◌, ℕ, true, false, ◌<◌, ◌≤◌, nat_lt, ◌||◌, not, List, length, Option, Some, None}
 use Rattle.std.proofs.Common.{Ok, Err}
 use Rattle.std.proofs.Common.{take, ap, sym, subst, ◌∙◌, arith, refl, if◌then◌else◌}
 use Rattle.std.proofs.lemmas.Bool.Decides.{nat_tests}
 use Rattle.std.specs.Io.KnownBytes.{Keeps}
 use Rattle.bm_pcap.specs.declared.form.Order.{Order}
 use Rattle.bm_pcap.specs.Window.{Ahead}
-use Rattle.bm_pcapng.specs.declared.fault.NgFault.TheVariants as fault
+use Rattle.bm_pcap.specs.declared.fault.CaptureFault.TheVariants as fault
 use Rattle.bm_pcapng.specs.Blocks.{is_section, magic_of}
 use Rattle.bm_pcapng.specs.Capture.{first_order}
 use Rattle.bm_pcapng.specs.Inside.Parts.{OrderGives}

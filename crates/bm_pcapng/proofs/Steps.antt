@@ -1,6 +1,6 @@
 -- What the octets that were read say of the block that stands next.
-use Rattle.std.proofs.Common.{◌≡◌, ℕ, true, false, ◌+◌, ◌-◌, ◌<◌, ◌≤◌, nat_lt, nat_le, ◌&&◌, min, List, ◌++◌, length}
-use Rattle.std.proofs.Common.{Option, Some, None, unwrap_or, Result, Ok, Err, take, drop, ap, ap₂, sym, subst, ◌∙◌}
+use Rattle.std.proofs.Common.{◌≡◌, ℕ, true, false, ◌+◌, ◌-◌, ◌<◌, ◌≤◌, nat_le, ◌&&◌, min, List, ◌++◌, length}
+use Rattle.std.proofs.Common.{Option, Some, None, Result, Ok, Err, take, drop, ap, ap₂, sym, subst, ◌∙◌}
 use Rattle.std.proofs.Common.{arith}
 use Rattle.std.proofs.Common.{length-append, refl}
 use Rattle.std.proofs.lemmas.Bool.Decides.{nat_tests}
@@ -10,8 +10,8 @@ use Rattle.bm_pcap.specs.declared.form.Order.{Order}
 use Rattle.bm_pcap.specs.Window.{Ahead}
 use Rattle.bm_pcapng.specs.declared.block.Kind.{Kind}
 use Rattle.bm_pcapng.specs.declared.content.Content.{Content}
-use Rattle.bm_pcapng.specs.declared.fault.NgFault.{NgFault}
-use Rattle.bm_pcapng.specs.declared.fault.NgFault.TheVariants as fault
+use Rattle.bm_pcap.specs.declared.fault.CaptureFault.{CaptureFault}
+use Rattle.bm_pcap.specs.declared.fault.CaptureFault.TheVariants as fault
 use Rattle.bm_pcapng.specs.declared.interface.Interface.{Interface}
 use Rattle.bm_pcapng.specs.declared.place.Place.{Place}
 use Rattle.bm_pcapng.specs.declared.step.Head.{Head}
@@ -49,12 +49,13 @@ ahead_told octets mid most m ahead keeps there =
     let A : Option (List ℕ) → Type 0 = λ o. Ahead o most m ahead in subst A (known octets mid keeps) there
 
 gives_of : (octets : List ℕ) (order : Order) (interfaces : List Interface) (place : Place)
-    (result : Result Step NgFault)
+    (result : Result Step CaptureFault)
     → next_of order interfaces place octets ≡ result → StepGives (Some octets) order interfaces place result
 gives_of octets order interfaces place (Ok found) is = is
 gives_of octets order interfaces place (Err fault.NotACapture) is = is
 gives_of octets order interfaces place (Err fault.BadVersion) is = is
 gives_of octets order interfaces place (Err (fault.BadBlock block)) is = is
+gives_of octets order interfaces place (Err (fault.BadLink link)) is = is
 gives_of octets order interfaces place (Err fault.ReadFault) is = tt
 gives_of octets order interfaces place (Err fault.TooLarge) is = is
 gives_of octets order interfaces place (Err (fault.BadLength number n)) is = is
@@ -94,7 +95,7 @@ body_cut (Some octets) mid order interfaces place said kind own n most m ahead i
     ∙ short_cut place.room octets (omega (arith, all, within))
 
 pub body_whole : (old mid : Option (List ℕ)) (order : Order) (interfaces : List Interface) (place : Place)
-    (said : Head) (kind : Kind) (own : Order) (n most m : ℕ) (ahead block : List ℕ) (result : Result Step NgFault)
+    (said : Head) (kind : Kind) (own : Order) (n most m : ℕ) (ahead block : List ℕ) (result : Result Step CaptureFault)
     → said ≡ head.States kind own n
     → HeadGives old order interfaces place (Ok said) → Keeps old mid → Ahead mid most m ahead
     → most ≡ min n (place.room + 1) → m ≤ place.room → n ≤ m → block ≡ take n ahead

@@ -1,5 +1,5 @@
 -- Units of time.
-use Rattle.std.proofs.Common.{◌≡◌, ℕ, ◌*◌, ◌/◌, ◌^◌, ◌<◌, ◌≤◌, arith, sym}
+use Rattle.std.proofs.Common.{◌≡◌, ℕ, ◌*◌, ◌^◌, ◌<◌, ◌≤◌, arith, sym}
 use Rattle.std.proofs.Math.Nat.{div-eq_of_lt, one-le-pow}
 use Rattle.bm_pcapng.specs.declared.time.Resolution.{Resolution}
 use Rattle.bm_pcapng.specs.declared.time.Resolution.TheVariants.{Decimal, Binary}

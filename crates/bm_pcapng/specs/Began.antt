@@ -5,7 +5,7 @@ use Rattle.bm_pcap.specs.declared.form.Order.{Order}
 use Rattle.bm_pcap.specs.Limits.{latest, most_octets}
 use Rattle.bm_pcapng.specs.declared.content.Content.{Content}
 use Rattle.bm_pcapng.specs.declared.content.Content.TheVariants.{Begins, Describes, Holds, Nothing}
-use Rattle.bm_pcapng.specs.declared.fault.NgFault.{NgFault}
+use Rattle.bm_pcap.specs.declared.fault.CaptureFault.{CaptureFault}
 use Rattle.bm_pcapng.specs.declared.interface.Interface.{Interface}
 use Rattle.bm_pcapng.specs.declared.place.Place.{Place}
 use Rattle.bm_pcapng.specs.declared.step.Step.{Step}
@@ -28,7 +28,7 @@ first_of (Some time) later = Some time
 
 -- what was found at a place, followed by the blocks after it
 abbrev pub time_found : (Order → List Interface → Place → List ℕ → Option ℕ) → Order
-    → List Interface → Place → List ℕ → Result Step NgFault → Option ℕ
+    → List Interface → Place → List ℕ → Result Step CaptureFault → Option ℕ
 time_found others order interfaces place left (Ok (Block n content)) =
     first_of (time_in content)
     (others (order_behind order content) (interfaces_behind interfaces content)

@@ -1,14 +1,14 @@
 -- Blocks (draft-ietf-opsawg-pcapng, "General Block Structure"): a type and a total length of four
 -- octets each, a body, and the total length again.
-use Rattle.std.specs.Prelude.{ℕ, ◌+◌, ◌-◌, ◌%◌, List, length, take, drop, Bool, true, false, not}
+use Rattle.std.specs.Prelude.{ℕ, ◌+◌, ◌-◌, ◌%◌, List, length, take, Bool, true, false, not}
 use Rattle.std.specs.Prelude.{nat_lt, nat_le, ◌==◌, ◌&&◌, ◌||◌, if◌then◌else◌, Option, Some, None}
 use Rattle.std.specs.Prelude.{Result, Ok, Err}
 use Rattle.bm_pcap.specs.declared.form.Order.{Order}
 use Rattle.bm_pcap.specs.declared.form.Order.TheVariants.{Big, Little}
 use Rattle.bm_pcap.specs.Header.{number_at}
 use Rattle.bm_pcap.specs.Limits.{most_records}
-use Rattle.bm_pcapng.specs.declared.fault.NgFault.{NgFault}
-use Rattle.bm_pcapng.specs.declared.fault.NgFault.TheVariants.{BadBlock, TooLarge, TooManyPackets}
+use Rattle.bm_pcap.specs.declared.fault.CaptureFault.{CaptureFault}
+use Rattle.bm_pcap.specs.declared.fault.CaptureFault.TheVariants.{BadBlock, TooLarge, TooManyPackets}
 use Rattle.bm_pcapng.specs.declared.block.Kind.{Kind}
 use Rattle.bm_pcapng.specs.declared.block.Kind.TheVariants.{SectionHeader, InterfaceDescription}
 use Rattle.bm_pcapng.specs.declared.block.Kind.TheVariants.{EnhancedPacket, SimplePacket, Other}
@@ -71,47 +71,47 @@ is_length kind n = n % 4 == 0 && nat_le (least_length kind) n && nat_le n longes
 abbrev pub lacks : ℕ → ℕ → List ℕ → Bool
 lacks n room left = nat_lt (length left) n || nat_lt (room + 1) n
 
-abbrev pub short : ℕ → List ℕ → Result Step NgFault
+abbrev pub short : ℕ → List ℕ → Result Step CaptureFault
 short room left = if nat_lt room (length left) then Err TooLarge else Ok Cut
 
-abbrev pub with_content : ℕ → Result Content NgFault → Result Step NgFault
+abbrev pub with_content : ℕ → Result Content CaptureFault → Result Step CaptureFault
 with_content n (Ok content) = Ok (Block n content)
 with_content n (Err e) = Err e
 
 -- a whole block of n octets
-abbrev pub framed : Kind → Order → List Interface → Place → ℕ → List ℕ → Result Step NgFault
+abbrev pub framed : Kind → Order → List Interface → Place → ℕ → List ℕ → Result Step CaptureFault
 framed kind order interfaces place n block =
     if number_at order 4 (n - 4) block == n
     then with_content n (content kind order interfaces place block)
     else Err (BadBlock place.block)
 
 -- a block that may have the n octets that it states
-abbrev pub behind_head : Kind → Order → List Interface → Place → ℕ → List ℕ → Result Step NgFault
+abbrev pub behind_head : Kind → Order → List Interface → Place → ℕ → List ℕ → Result Step CaptureFault
 behind_head kind order interfaces place n left =
     if nat_le n (length left) && nat_le n place.room
     then framed kind order interfaces place n (take n left)
     else short place.room left
 
 -- a block whose head states a total length of n octets
-abbrev pub sized : Kind → Order → List Interface → Place → ℕ → List ℕ → Result Step NgFault
+abbrev pub sized : Kind → Order → List Interface → Place → ℕ → List ℕ → Result Step CaptureFault
 sized kind order interfaces place n left =
     if not (is_length kind n) then Err (BadBlock place.block)
     else if is_packet kind && nat_lt most_records place.number then Err TooManyPackets
     else behind_head kind order interfaces place n left
 
-abbrev pub ordered : Kind → Option Order → List Interface → Place → List ℕ → Result Step NgFault
+abbrev pub ordered : Kind → Option Order → List Interface → Place → List ℕ → Result Step CaptureFault
 ordered kind None interfaces place left = Err (BadBlock place.block)
 ordered kind (Some order) interfaces place left =
     sized kind order interfaces place (number_at order 4 4 (take (head_size kind) left)) left
 
-abbrev pub block_at : Kind → Order → List Interface → Place → List ℕ → Result Step NgFault
+abbrev pub block_at : Kind → Order → List Interface → Place → List ℕ → Result Step CaptureFault
 block_at kind order interfaces place left =
     if lacks (head_size kind) place.room left then short place.room left
     else ordered kind (order_of kind order (take (head_size kind) left)) interfaces place left
 
 -- What is at the front of the octets that are left, at a place of a section with this order and
 -- these interfaces: a block, one that is cut short, or the end.
-unfoldable pub next_of : Order → List Interface → Place → List ℕ → Result Step NgFault
+unfoldable pub next_of : Order → List Interface → Place → List ℕ → Result Step CaptureFault
 next_of order interfaces place left =
     if length left == 0 then Ok End
     else block_at (kind_in order (take 4 left)) order interfaces place left

@@ -3,19 +3,18 @@
 use Rattle.std.specs.Prelude.{ℕ, zero, suc, List, [], length, take, drop, not, ◌||◌, nat_lt}
 use Rattle.std.specs.Prelude.{if◌then◌else◌, Option, Some, None, Result, Ok, Err}
 use Rattle.bm_base.specs.declared.capture.Body.{Body}
-use Rattle.bm_base.specs.declared.capture.Capture.{Capture}
 use Rattle.bm_base.specs.declared.capture.Reason.TheVariants.{NotIpv4}
 use Rattle.bm_base.specs.declared.capture.Vip.{Vip}
 use Rattle.bm_link.specs.Classes.{classified, unsteered}
 use Rattle.bm_link.specs.Links.{is_link}
-use Rattle.bm_pcap.specs.Capture.{ends, with_record}
+use Rattle.bm_pcap.specs.Capture.{Captured, ends, with_record}
 use Rattle.bm_pcap.specs.declared.form.Order.{Order}
 use Rattle.bm_pcap.specs.Limits.{most_octets}
 use Rattle.bm_pcapng.specs.declared.content.Content.{Content}
 use Rattle.bm_pcapng.specs.declared.content.Content.TheVariants.{Holds}
 use Rattle.bm_pcapng.specs.declared.content.Packet.{Packet}
-use Rattle.bm_pcapng.specs.declared.fault.NgFault.{NgFault}
-use Rattle.bm_pcapng.specs.declared.fault.NgFault.TheVariants.{NotACapture, TooLarge}
+use Rattle.bm_pcap.specs.declared.fault.CaptureFault.{CaptureFault}
+use Rattle.bm_pcap.specs.declared.fault.CaptureFault.TheVariants.{NotACapture, TooLarge}
 use Rattle.bm_pcapng.specs.declared.interface.Interface.{Interface}
 use Rattle.bm_pcapng.specs.declared.place.Place.{Place}
 use Rattle.bm_pcapng.specs.declared.step.Step.{Step}
@@ -23,10 +22,6 @@ use Rattle.bm_pcapng.specs.declared.step.Step.TheVariants.{Block, Cut, End}
 use Rattle.bm_pcapng.specs.Blocks.{is_section, magic_of, next_of}
 use Rattle.bm_pcapng.specs.Places.{first_place, interfaces_behind, moment_at, order_behind}
 use Rattle.bm_pcapng.specs.Places.{place_behind}
-
--- a capture, and the packet of each of its records
-abbrev pub Captured : Type 0
-Captured = Result (Capture × List (List ℕ)) NgFault
 
 -- A record of an unsupported link type is not IPv4.
 abbrev pub classified_by : ℕ → List Vip → List ℕ → Body × List ℕ
@@ -46,7 +41,7 @@ with_block vips place left other others = others
 
 -- what was found at a place, followed by the blocks after it
 abbrev pub after_found : List Vip → (Order → List Interface → Place → List ℕ → Captured) → Order
-    → List Interface → Place → List ℕ → Result Step NgFault → Captured
+    → List Interface → Place → List ℕ → Result Step CaptureFault → Captured
 after_found vips others order interfaces place left (Ok (Block n content)) =
     with_block vips place left content
     (others (order_behind order content) (interfaces_behind interfaces content)

@@ -5,8 +5,8 @@ use Rattle.std.specs.Prelude.{Ok, Err}
 use Rattle.bm_pcap.specs.declared.form.Order.{Order}
 use Rattle.bm_pcap.specs.Header.{number_at}
 use Rattle.bm_pcap.specs.Limits.{longest}
-use Rattle.bm_pcapng.specs.declared.fault.NgFault.{NgFault}
-use Rattle.bm_pcapng.specs.declared.fault.NgFault.TheVariants.{BadBlock, BadLength, BadVersion}
+use Rattle.bm_pcap.specs.declared.fault.CaptureFault.{CaptureFault}
+use Rattle.bm_pcap.specs.declared.fault.CaptureFault.TheVariants.{BadBlock, BadLength, BadVersion}
 use Rattle.bm_pcapng.specs.declared.block.Kind.{Kind}
 use Rattle.bm_pcapng.specs.declared.block.Kind.TheVariants.{SectionHeader, InterfaceDescription}
 use Rattle.bm_pcapng.specs.declared.block.Kind.TheVariants.{EnhancedPacket, SimplePacket, Other}
@@ -19,7 +19,7 @@ use Rattle.bm_pcapng.specs.Options.{resolution_by}
 use Rattle.bm_pcapng.specs.Times.{nanoseconds}
 
 -- "Section Header Block": the major version, octets 12 and 13, is 1
-abbrev pub section_content : Order → List ℕ → Result Content NgFault
+abbrev pub section_content : Order → List ℕ → Result Content CaptureFault
 section_content order block =
     if number_at order 2 12 block == 1 then Ok (Begins order) else Err BadVersion
 
@@ -35,7 +35,7 @@ interface_of order block = record {
   resolution = resolution_by order (options_of block);
 }
 
-abbrev pub interface_content : Order → List Interface → Place → List ℕ → Result Content NgFault
+abbrev pub interface_content : Order → List Interface → Place → List ℕ → Result Content CaptureFault
 interface_content order interfaces place block =
     if nat_lt (length interfaces) most_interfaces then Ok (Describes (interface_of order block))
     else Err (BadBlock place.block)
@@ -52,7 +52,7 @@ abbrev pub fits_in : ℕ → ℕ → ℕ → Bool
 fits_in at len n = nat_le (at + len + 4) n
 
 abbrev pub packet_at : Place → ℕ → ℕ → List ℕ → Option Interface → (Interface → Option ℕ)
-    → Result Content NgFault
+    → Result Content CaptureFault
 packet_at place at len block None time = Err (BadBlock place.block)
 packet_at place at len block (Some interface) time =
     if fits_in at len (length block)
@@ -61,12 +61,12 @@ packet_at place at len block (Some interface) time =
 
 -- a captured length above the limit is reported before anything else that is wrong with a packet
 abbrev pub packet_content : Place → ℕ → ℕ → List ℕ → Option Interface → (Interface → Option ℕ)
-    → Result Content NgFault
+    → Result Content CaptureFault
 packet_content place at len block interface time =
     if nat_lt longest len then Err (BadLength place.number len)
     else packet_at place at len block interface time
 
-abbrev pub enhanced_content : Order → List Interface → Place → List ℕ → Result Content NgFault
+abbrev pub enhanced_content : Order → List Interface → Place → List ℕ → Result Content CaptureFault
 enhanced_content order interfaces place block =
     packet_content place 28 (number_at order 4 20 block) block
     (slice_get interfaces (number_at order 4 8 block))
@@ -80,14 +80,14 @@ captured_of None original = original
 captured_of (Some interface) original =
     if interface.snapshot == 0 then original else min original interface.snapshot
 
-abbrev pub simple_content : Order → List Interface → Place → List ℕ → Result Content NgFault
+abbrev pub simple_content : Order → List Interface → Place → List ℕ → Result Content CaptureFault
 simple_content order interfaces place block =
     packet_content place 12
     (captured_of (slice_get interfaces 0) (number_at order 4 8 block)) block
     (slice_get interfaces 0) (λ interface. None)
 
 -- what a block says, in a section with this order and these interfaces
-unfoldable pub content : Kind → Order → List Interface → Place → List ℕ → Result Content NgFault
+unfoldable pub content : Kind → Order → List Interface → Place → List ℕ → Result Content CaptureFault
 content SectionHeader order interfaces place block = section_content order block
 content InterfaceDescription order interfaces place block =
     interface_content order interfaces place block

@@ -5,8 +5,8 @@ use Rattle.bm_pcap.specs.declared.form.Order.{Order}
 use Rattle.bm_pcap.specs.Limits.{longest, most_records}
 use Rattle.bm_pcapng.specs.declared.content.Content.{Content}
 use Rattle.bm_pcapng.specs.declared.content.Content.TheVariants as content
-use Rattle.bm_pcapng.specs.declared.fault.NgFault.{NgFault}
-use Rattle.bm_pcapng.specs.declared.fault.NgFault.TheVariants.{ReadFault}
+use Rattle.bm_pcap.specs.declared.fault.CaptureFault.{CaptureFault}
+use Rattle.bm_pcap.specs.declared.fault.CaptureFault.TheVariants.{ReadFault}
 use Rattle.bm_pcapng.specs.declared.interface.Interface.{Interface}
 use Rattle.bm_pcapng.specs.declared.place.Place.{Place}
 use Rattle.bm_pcapng.specs.declared.step.Step.{Step}
@@ -33,7 +33,7 @@ StepFits interfaces place (step.Block n said) =
 StepFits interfaces place other = Unit {0}
 
 -- These octets alone are no whole block and have no fault: what follows them decides.
-abbrev pub IsOpen : Result Step NgFault → Type 0
+abbrev pub IsOpen : Result Step CaptureFault → Type 0
 IsOpen (Ok (step.Block n said)) = ⊥
 IsOpen (Ok step.Cut) = Unit {0}
 IsOpen (Ok step.End) = Unit {0}
@@ -41,7 +41,7 @@ IsOpen (Err e) = ⊥
 
 -- A read fails only if the octets that were read ahead don't decide what comes next: a whole block,
 -- or a fault of the capture, is returned first.
-abbrev pub FailsOpen : {T : Type 0} → Order → List Interface → Place → Result T NgFault → List ℕ
+abbrev pub FailsOpen : {T : Type 0} → Order → List Interface → Place → Result T CaptureFault → List ℕ
     → Type 0
 FailsOpen order interfaces place result ahead =
     IsErrOf result ReadFault → IsOpen (next_of order interfaces place ahead)
@@ -49,7 +49,7 @@ FailsOpen order interfaces place result ahead =
 -- What was returned is what comes next, a block with its own octets, and what follows is still to
 -- come. After a failed read nothing is lost. If the source's octets aren't known, nothing is said.
 abbrev pub BlockGives : Option (List ℕ) → Option (List ℕ) → Order → List Interface → Place
-    → Result Step NgFault → List ℕ → Type 0
+    → Result Step CaptureFault → List ℕ → Type 0
 BlockGives None new order interfaces place result own = Unit {0}
 BlockGives (Some octets) new order interfaces place (Ok (step.Block n said)) own =
     (next_of order interfaces place octets ≡ Ok (step.Block n said))

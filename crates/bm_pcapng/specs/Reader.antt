@@ -7,8 +7,8 @@ use Rattle.bm_pcap.specs.declared.form.Order.{Order}
 use Rattle.bm_pcapng.specs.declared.content.Content.{Content}
 use Rattle.bm_pcapng.specs.declared.content.Content.TheVariants.{Holds}
 use Rattle.bm_pcapng.specs.declared.content.Packet.{Packet}
-use Rattle.bm_pcapng.specs.declared.fault.NgFault.{NgFault}
-use Rattle.bm_pcapng.specs.declared.fault.NgFault.TheVariants.{Memory, ReadFault}
+use Rattle.bm_pcap.specs.declared.fault.CaptureFault.{CaptureFault}
+use Rattle.bm_pcap.specs.declared.fault.CaptureFault.TheVariants.{Memory}
 use Rattle.bm_pcapng.specs.declared.interface.Interface.{Interface}
 use Rattle.bm_pcapng.specs.declared.item.NgItem.{NgItem}
 use Rattle.bm_pcapng.specs.declared.item.NgItem.TheVariants as item
@@ -17,8 +17,10 @@ use Rattle.bm_pcapng.specs.declared.step.Step.{Step}
 use Rattle.bm_pcapng.specs.declared.step.Step.TheVariants.{Block, Cut, End}
 use Rattle.bm_pcapng.specs.Began.{began, time_or_zero}
 use Rattle.bm_pcapng.specs.Blocks.{next_of}
-use Rattle.bm_pcapng.specs.Capture.{Captured, capture, first_order}
-use Rattle.bm_pcapng.specs.Causes.{HasStepCause}
+use Rattle.bm_pcapng.specs.Capture.{capture, first_order}
+use Rattle.bm_pcap.specs.Capture.{Captured}
+use Rattle.bm_pcap.specs.Causes.{HasStepCause}
+use Rattle.bm_pcap.specs.Reader.{Captures}
 use Rattle.bm_pcapng.specs.Limits.{longest_block}
 use Rattle.bm_pcapng.specs.Parts.{BlockGives, FailsOpen, StepFits}
 use Rattle.bm_pcapng.specs.Places.{first_place, interfaces_behind, order_behind, place_behind}
@@ -34,7 +36,7 @@ pub record Reader (S : Type 0) : Type 0 where
   pub place : Place
   pub held : List ℕ
   pub passed : List ℕ
-  pub ended : Option (Result Step NgFault)
+  pub ended : Option (Result Step CaptureFault)
 
 -- The octets that aren't consumed yet, if the source's octets are known: those that were read
 -- ahead, and then those that the source has left.
@@ -58,16 +60,8 @@ IsFresh reader = (reader.place ≡ first_place) × (reader.ended ≡ None) × (r
 abbrev pub StandsIn : Option (List ℕ) → Order → List ℕ → Type 0
 StandsIn left order octets = (first_order octets ≡ Some order) × (left ≡ Some octets)
 
--- The result is the capture that the octets are, for these services. `ReadFault` and `Memory` say
--- nothing.
-abbrev pub Captures : Captured → Captured → Type 0
-Captures wanted (Ok answer) = Ok answer ≡ wanted
-Captures wanted (Err ReadFault) = Unit {0}
-Captures wanted (Err Memory) = Unit {0}
-Captures wanted (Err e) = Err e ≡ wanted
-
 -- The capture has this fault, for whichever services.
-abbrev pub Refuses : Option (List ℕ) → NgFault → Type 0
+abbrev pub Refuses : Option (List ℕ) → CaptureFault → Type 0
 Refuses None e = Unit {0}
 Refuses (Some octets) e = (vips : List Vip) → Captures (capture vips octets) (Err e)
 
@@ -80,7 +74,7 @@ IsOpened (Some octets) order =
 
 -- The result is a reader at the front of a capture, or the fault of its first block with the
 -- source.
-abbrev pub Starts : {S : Type 0} → (S → Option (List ℕ)) → S → Result (Reader S) (S × NgFault)
+abbrev pub Starts : {S : Type 0} → (S → Option (List ℕ)) → S → Result (Reader S) (S × CaptureFault)
     → Type 0
 Starts left old (Ok reader) =
     IsOpened (left old) reader.order × Keeps_octets (left old) (to_come left reader)
@@ -88,7 +82,7 @@ Starts left old (Err refused) = Refuses (left old) refused.1
 
 -- A source that is given back is past some octets that were read ahead, and these aren't more than
 -- the longest block has.
-abbrev pub StartLeaves : {S : Type 0} → (S → Option (List ℕ)) → S → Result (Reader S) (S × NgFault)
+abbrev pub StartLeaves : {S : Type 0} → (S → Option (List ℕ)) → S → Result (Reader S) (S × CaptureFault)
     → Type 0
 StartLeaves left old (Ok reader) = Unit {0}
 StartLeaves left old (Err refused) =
@@ -96,13 +90,13 @@ StartLeaves left old (Err refused) =
     × Keeps_octets (left old) (prepend_known ahead (left refused.0))
 
 -- the count rises if `ReadFault` is returned, and stays the same otherwise
-abbrev pub StartsWithCause : {S : Type 0} → (S → ℕ) → S → Result (Reader S) (S × NgFault) → Type 0
+abbrev pub StartsWithCause : {S : Type 0} → (S → ℕ) → S → Result (Reader S) (S × CaptureFault) → Type 0
 StartsWithCause {S} faults old (Ok reader) = faults reader.source ≡ faults old
 StartsWithCause {S} faults old (Err refused) =
     HasStepCause {T = Reader S} (faults old) (faults refused.0) (Err refused.1)
 
 -- After a block a reader is at the next place; any other result it keeps, and returns from then on.
-abbrev pub Keeps : {S : Type 0} → Reader S → Reader S → Result Step NgFault → Type 0
+abbrev pub Keeps : {S : Type 0} → Reader S → Reader S → Result Step CaptureFault → Type 0
 Keeps old new (Ok (Block n content)) =
     StepFits old.interfaces old.place (Block n content)
     × (new.order ≡ order_behind old.order content)
@@ -118,7 +112,7 @@ Keeps old new result =
 -- A reader that has ended returns the same again and changes nothing; any other returns what comes
 -- next.
 abbrev pub AdvancesFrom : {S : Type 0} → (S → Option (List ℕ)) → (S → ℕ)
-    → Option (Result Step NgFault) → Reader S → Reader S → Result Step NgFault → List ℕ → Type 0
+    → Option (Result Step CaptureFault) → Reader S → Reader S → Result Step CaptureFault → List ℕ → Type 0
 AdvancesFrom left faults (Some ended) old new result own = (result ≡ ended) × (new ≡ old)
 AdvancesFrom left faults None old new result own =
     BlockGives (to_come left old) (to_come left new) old.order old.interfaces old.place result own
@@ -127,7 +121,7 @@ AdvancesFrom left faults None old new result own =
     × FailsOpen old.order old.interfaces old.place result new.held
 
 abbrev pub Advances : {S : Type 0} → (S → Option (List ℕ)) → (S → ℕ) → Reader S → Reader S
-    → Result Step NgFault → List ℕ → Type 0
+    → Result Step CaptureFault → List ℕ → Type 0
 Advances left faults old new result own = AdvancesFrom left faults old.ended old new result own
 
 -- a block without a packet
@@ -146,7 +140,7 @@ pub data Passes {S : Type 0} (left : S → Option (List ℕ)) (faults : S → �
 
 -- After blocks without a packet the reader returns this, a block with its own octets.
 abbrev pub Stops : {S : Type 0} → (S → Option (List ℕ)) → (S → ℕ) → Reader S → Reader S → ℕ
-    → Result Step NgFault → List ℕ → Type 0
+    → Result Step CaptureFault → List ℕ → Type 0
 Stops {S} left faults old new number result own =
     (mid : Reader S)
     × (Passes left faults old mid × Advances left faults mid new result own
@@ -155,7 +149,7 @@ Stops {S} left faults old new number result own =
 -- What `next` returns, and what it leaves. A record has the number of its place, its moment, the
 -- link type of its interface, and its octets, which are in its block's.
 abbrev pub GivesNext : {S : Type 0} → (S → Option (List ℕ)) → (S → ℕ) → Reader S → Reader S
-    → Result NgItem NgFault → Type 0
+    → Result NgItem CaptureFault → Type 0
 GivesNext left faults old new (Ok (item.Record number moment link octets)) =
     (n : ℕ) × ((packet : Packet) × ((block : List ℕ)
     × (Stops left faults old new number (Ok (Block n (Holds packet))) block
@@ -190,7 +184,7 @@ last_step (Some number) = Cut
 
 -- A reader whose capture was read returns the cut or the end from now on; if the capture has a
 -- fault, that fault. `Memory` says nothing.
-abbrev pub HasEnded : Captured → Option (Result Step NgFault) → Type 0
+abbrev pub HasEnded : Captured → Option (Result Step CaptureFault) → Type 0
 HasEnded (Ok read) ended = ended ≡ Some (Ok (last_step read.0.cut))
 HasEnded (Err Memory) ended = Unit {0}
 HasEnded (Err e) ended = ended ≡ Some (Err e)

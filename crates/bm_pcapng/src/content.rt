@@ -13,8 +13,8 @@ ghost use Rattle.bm_pcapng.specs.Contents.{enhanced_content, simple_content, pac
 ghost use Rattle.bm_pcapng.specs.Contents.{captured_of};
 
 use crate::place::{LONGEST, MOST_INTERFACES};
-use crate::{Interface, Kind, NgFault, Place};
-use bm_pcap::Order;
+use crate::{Interface, Kind, Place};
+use bm_pcap::{CaptureFault, Order};
 
 /// A packet in its block: its time, if it has one, the link type of its interface, and where its
 /// octets begin and how many there are.
@@ -56,7 +56,7 @@ pub(crate) fn content_of(
     interfaces: &[Interface],
     place: &Place,
     block: &[u8],
-) -> Result<Content, NgFault>
+) -> Result<Content, CaptureFault>
     requires { least_length kind ≤ length block.now }
     ensures start { kind ≡ SectionHeader → IfErr result IsStartFault }
     ensures content { result ≡ content kind order interfaces.now place.now block.now }
@@ -72,7 +72,7 @@ pub(crate) fn content_of(
     }
 }
 
-fn section(order: Order, block: &[u8]) -> Result<Content, NgFault>
+fn section(order: Order, block: &[u8]) -> Result<Content, CaptureFault>
     requires { 28 ≤ length block.now }
     ensures content { result ≡ section_content order block.now }
     ensures start { IfErr result IsStartFault }
@@ -80,7 +80,7 @@ fn section(order: Order, block: &[u8]) -> Result<Content, NgFault>
     ensures others { IfErr result IsContentFault }
 {
     if order.read_u16(block, 12) != 1 {
-        return Err(NgFault::BadVersion);
+        return Err(CaptureFault::BadVersion);
     }
     Ok(Content::Begins(order))
 }
@@ -90,7 +90,7 @@ fn interface(
     interfaces: &[Interface],
     place: &Place,
     block: &[u8],
-) -> Result<Content, NgFault>
+) -> Result<Content, CaptureFault>
     requires { 20 ≤ length block.now }
     ensures content { result ≡ interface_content order interfaces.now place.now block.now }
     ensures fits { IfOk result
@@ -98,7 +98,7 @@ fn interface(
     ensures others { IfErr result IsContentFault }
 {
     if interfaces.len() >= MOST_INTERFACES {
-        return Err(NgFault::BadBlock(place.block));
+        return Err(CaptureFault::BadBlock(place.block));
     }
     Ok(Content::Describes(Interface::of(order, block)))
 }
@@ -108,7 +108,7 @@ fn enhanced(
     interfaces: &[Interface],
     place: &Place,
     block: &[u8],
-) -> Result<Content, NgFault>
+) -> Result<Content, CaptureFault>
     requires { 32 ≤ length block.now }
     ensures content { result ≡ enhanced_content order interfaces.now place.now block.now }
     ensures fits { IfOk result (IsPacketIn (length block.now)) }
@@ -119,10 +119,10 @@ fn enhanced(
     let low = u64::from(order.read_u32(block, 16));
     let len = order.read_u32(block, 20);
     if len > LONGEST {
-        return Err(NgFault::BadLength(place.number, len));
+        return Err(CaptureFault::BadLength(place.number, len));
     }
     let Some(interface) = interfaces.get(number as usize) else {
-        return Err(NgFault::BadBlock(place.block));
+        return Err(CaptureFault::BadBlock(place.block));
     };
     let time = interface.resolution.nanoseconds(high * 4_294_967_296 + low);
     packet_in(place, 28, len, block, Some(time), interface)
@@ -133,7 +133,7 @@ fn simple(
     interfaces: &[Interface],
     place: &Place,
     block: &[u8],
-) -> Result<Content, NgFault>
+) -> Result<Content, CaptureFault>
     requires { 16 ≤ length block.now }
     ensures content { result ≡ simple_content order interfaces.now place.now block.now }
     ensures fits { IfOk result (IsPacketIn (length block.now)) }
@@ -142,10 +142,10 @@ fn simple(
     let interface = interfaces.first();
     let len = captured(interface, order.read_u32(block, 8));
     if len > LONGEST {
-        return Err(NgFault::BadLength(place.number, len));
+        return Err(CaptureFault::BadLength(place.number, len));
     }
     let Some(interface) = interface else {
-        return Err(NgFault::BadBlock(place.block));
+        return Err(CaptureFault::BadBlock(place.block));
     };
     packet_in(place, 12, len, block, None, interface)
 }
@@ -168,7 +168,7 @@ fn packet_in(
     block: &[u8],
     time: Option<u128>,
     interface: &Interface,
-) -> Result<Content, NgFault>
+) -> Result<Content, CaptureFault>
     requires { len ≤ longest }
     ensures content { result
         ≡ packet_at place.now at len block.now (Some interface.now) (λ _. time) }
@@ -176,7 +176,7 @@ fn packet_in(
     ensures others { IfErr result IsContentFault }
 {
     if at as usize + len as usize + 4 > block.len() {
-        return Err(NgFault::BadBlock(place.block));
+        return Err(CaptureFault::BadBlock(place.block));
     }
     Ok(Content::Holds(Packet {
         time,

@@ -3,7 +3,6 @@
 
 mod block;
 mod content;
-mod fault;
 mod front;
 mod interface;
 mod item;
@@ -15,7 +14,6 @@ mod time;
 
 pub use block::Kind;
 pub use content::{Content, Packet};
-pub use fault::NgFault;
 pub use front::Front;
 pub use interface::Interface;
 pub use item::NgItem;

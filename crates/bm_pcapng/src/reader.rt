@@ -5,10 +5,11 @@ ghost use Rattle.std.specs.Prelude.{IsErrOf};
 ghost use Rattle.std.specs.Io.KnownBytes.{Keeps};
 ghost use Rattle.bm_base.specs.Captures.{IsFit, IsReplayable};
 ghost use Rattle.bm_link.specs.Fits.{ArePackets, IsPacketOf};
+ghost use Rattle.bm_pcap.specs.Causes.{HasStepCause};
 ghost use Rattle.bm_pcap.specs.Window.{rest, source_of, width};
 ghost use Rattle.bm_pcapng.specs.Limits.{longest_block};
 ghost use Rattle.bm_pcapng.specs.Capture.{classified_by};
-ghost use Rattle.bm_pcapng.specs.Causes.{HasStepCause, IsBlockFault, IsCaptureFault, IsStartFault};
+ghost use Rattle.bm_pcapng.specs.Causes.{IsBlockFault, IsCaptureFault, IsStartFault};
 ghost use Rattle.bm_pcapng.specs.Reader.{Advances, EndsWith, GivesNext, HasEnded};
 ghost use Rattle.bm_pcapng.specs.Inside.Reader.{GivesStop};
 ghost use Rattle.bm_pcapng.specs.Reader.{IsBounded, IsFresh, KnowsBegan};
@@ -22,11 +23,11 @@ use crate::item::NgItem;
 use crate::place::{LATEST, LONGEST_BLOCK};
 use crate::section::Section;
 use crate::step::{Step, look, read_order, read_step};
-use crate::{NgFault, Packet, Place};
+use crate::{Packet, Place};
 use bm_base::{Body, Capture, List, Octets, Reason, Record, Vip};
 use bm_io::Source;
 use bm_link::{classify, is_link};
-use bm_pcap::Window;
+use bm_pcap::{CaptureFault, Window};
 use std::alloc::Global;
 use std::marker::Model;
 
@@ -36,7 +37,7 @@ pub struct NgReader<S> {
     window: Window<S>,
     section: Section,
     place: Place,
-    ended: Option<Result<Step, NgFault>>,
+    ended: Option<Result<Step, CaptureFault>>,
 }
 
 impl<S> Model for NgReader<S> {
@@ -79,7 +80,7 @@ impl<S: Source> NgReader<S> {
 
     /// Reads the first block of a capture, and returns a reader at its front. On a fault the source
     /// is given back, after at most 16,777,216 octets that were read ahead.
-    pub fn start(alloc: Global, src: S) -> Result<NgReader<S>, (S, NgFault)>
+    pub fn start(alloc: Global, src: S) -> Result<NgReader<S>, (S, CaptureFault)>
         ensures starts { Starts S.left src result }
         ensures leaves { StartLeaves S.left src result }
         ensures fresh { IfOk result IsFresh }
@@ -88,7 +89,7 @@ impl<S: Source> NgReader<S> {
     {
         let mut window = match Window::new(alloc, src, LONGEST_BLOCK) {
             Ok(window) => window,
-            Err(src) => return Err((src, NgFault::Memory)),
+            Err(src) => return Err((src, CaptureFault::Memory)),
         };
         match open(alloc, &mut window) {
             Ok(section) => Ok(NgReader {
@@ -124,7 +125,7 @@ impl<S: Source> NgReader<S> {
 
     /// Reads the next block. After a fault, a block that is cut short, or the end, it returns the
     /// same again.
-    fn advance(&mut self) -> Result<Step, NgFault>
+    fn advance(&mut self) -> Result<Step, CaptureFault>
         ensures advances { Advances S.left S.faults self.old self.new result
             (own_octets result self.new.passed) }
         ensures last { IfOk result (IsLast self.new.passed) }
@@ -146,7 +147,7 @@ impl<S: Source> NgReader<S> {
     }
 
     /// Skips blocks without a packet.
-    fn stop(&mut self) -> Result<Stop, NgFault>
+    fn stop(&mut self) -> Result<Stop, CaptureFault>
         ensures gives { GivesStop S.left S.faults self.old self.new result }
         ensures last { IfOk result (IsStopLast self.new.passed) }
         ensures bounded { IsBounded self.new }
@@ -179,7 +180,7 @@ impl<S: Source> NgReader<S> {
 
     /// The next record, the one that is cut short, or the end. After a fault, a record that is cut
     /// short, or the end, it returns the same again. Takes no memory.
-    pub fn next(&mut self) -> Result<NgItem<'_>, NgFault>
+    pub fn next(&mut self) -> Result<NgItem<'_>, CaptureFault>
         ensures others { IfErr result IsBlockFault }
         ensures* after { sem 𝓛
             (Rests (the_row S.row) self.entry
@@ -199,7 +200,7 @@ impl<S: Source> NgReader<S> {
 }
 
 /// Reads the first block of a capture, and consumes none of its octets.
-fn open<S: Source>(alloc: Global, window: &mut Window<S>) -> Result<Section, NgFault>
+fn open<S: Source>(alloc: Global, window: &mut Window<S>) -> Result<Section, CaptureFault>
     requires { width window.old ≡ longest_block }
     ensures opens { OpensIn (rest S.left window.old) result }
     ensures keeps { Keeps (rest S.left window.old) (rest S.left window.new) }
@@ -224,7 +225,7 @@ pub fn read_ng<S: Source>(
     alloc: Global,
     r: &mut NgReader<S>,
     vips: &[Vip],
-) -> Result<(Capture, Octets), NgFault>
+) -> Result<(Capture, Octets), CaptureFault>
     requires { IsFresh r.old }
     ensures capture { ReadsCapture S.left r.old vips.now result }
     ensures replayable { IfOk result (λ read. IsReplayable vips.now read.0) }
@@ -233,7 +234,7 @@ pub fn read_ng<S: Source>(
     ensures ended { HasEnded result r.new.ended }
     ensures last { EndsWith S.left S.faults result r.new }
     ensures number { IfOk result (λ read. IfSome read.0.cut (λ n. r.new.place.number ≡ n)) }
-    ensures open { IsErrOf result NgFault.Memory → r.new.ended ≡ None }
+    ensures open { IsErrOf result CaptureFault.Memory → r.new.ended ≡ None }
     ensures began { IfOk result (λ read. KnowsBegan S.left r.old r.new) }
     ensures cause { HasStepCause (S.faults r.old.source) (S.faults r.new.source) result }
 {

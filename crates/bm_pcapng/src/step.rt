@@ -2,10 +2,11 @@
 ghost use Rattle.std.specs.Prelude.{◌≡◌, ◌≤◌, length, nat_lt, if◌then◌else◌, IfOk, IfErr, OnOk, Ok};
 ghost use Rattle.std.specs.Prelude.{Err};
 ghost use Rattle.std.specs.Io.KnownBytes.{Keeps};
+ghost use Rattle.bm_pcap.specs.Causes.{HasStepCause};
 ghost use Rattle.bm_pcap.specs.Window.{held, passed, rest, source_of, width};
-ghost use Rattle.bm_pcapng.specs.declared.fault.NgFault.TheVariants.{TooLarge};
+ghost use Rattle.bm_pcap.specs.declared.fault.CaptureFault.TheVariants.{TooLarge};
 ghost use Rattle.bm_pcapng.specs.Blocks.{framed, head_size, least_length};
-ghost use Rattle.bm_pcapng.specs.Causes.{HasStepCause, IsBlockFault};
+ghost use Rattle.bm_pcapng.specs.Causes.{IsBlockFault};
 ghost use Rattle.bm_pcapng.specs.Inside.Causes.{IsContentFault, IsOrderFault};
 ghost use Rattle.bm_pcapng.specs.Causes.{IsStartFault};
 ghost use Rattle.bm_pcapng.specs.Limits.{longest_block};
@@ -20,9 +21,9 @@ use crate::block::{is_section, magic, order_of};
 use crate::content::content_of;
 use crate::place::MOST_RECORDS;
 use crate::section::Section;
-use crate::{Content, Kind, NgFault, Place};
+use crate::{Content, Kind, Place};
 use bm_io::Source;
-use bm_pcap::{Order, Window};
+use bm_pcap::{CaptureFault, Order, Window};
 
 /// What comes next: a block, with how many octets it has and what it says; one that is cut short;
 /// the end.
@@ -46,7 +47,7 @@ pub(crate) fn read_step<S: Source>(
     window: &mut Window<S>,
     section: &Section,
     place: &Place,
-) -> Result<Step, NgFault>
+) -> Result<Step, CaptureFault>
     requires { width window.old ≡ longest_block }
     ensures gives { BlockGives (rest S.left window.old) (rest S.left window.new)
         section.now.order section.now.interfaces.items place.now result
@@ -72,7 +73,7 @@ pub(crate) fn look<S: Source>(
     window: &mut Window<S>,
     section: &Section,
     place: &Place,
-) -> Result<Step, NgFault>
+) -> Result<Step, CaptureFault>
     requires { width window.old ≡ longest_block }
     ensures gives { StepGives (rest S.left window.old) section.now.order
         section.now.interfaces.items place.now result }
@@ -96,7 +97,7 @@ pub(crate) fn look<S: Source>(
             let room = place.room as usize;
             let count = window.want(whole.min(room + 1))?;
             if count > room {
-                return Err(NgFault::TooLarge);
+                return Err(CaptureFault::TooLarge);
             }
             if count < whole {
                 return Ok(Step::Cut);
@@ -108,11 +109,11 @@ pub(crate) fn look<S: Source>(
 }
 
 /// The octets end before what was wanted, or the capture gets too large before that.
-fn short(count: usize, room: usize) -> Result<Head, NgFault>
+fn short(count: usize, room: usize) -> Result<Head, CaptureFault>
     ensures { result ≡ (if nat_lt room count then Err TooLarge else Ok Head.Cut) }
 {
     if count > room {
-        Err(NgFault::TooLarge)
+        Err(CaptureFault::TooLarge)
     } else {
         Ok(Head::Cut)
     }
@@ -123,7 +124,7 @@ fn read_head<S: Source>(
     window: &mut Window<S>,
     section: &Section,
     place: &Place,
-) -> Result<Head, NgFault>
+) -> Result<Head, CaptureFault>
     requires { width window.old ≡ longest_block }
     ensures gives { HeadGives (rest S.left window.old) section.now.order
         section.now.interfaces.items place.now result }
@@ -158,7 +159,7 @@ fn read_head<S: Source>(
 }
 
 /// What a whole head says of a block of this kind, in a section of this order.
-fn states(kind: Kind, order: Order, place: &Place, head: &[u8]) -> Result<Head, NgFault>
+fn states(kind: Kind, order: Order, place: &Place, head: &[u8]) -> Result<Head, CaptureFault>
     requires { head_size kind ≤ length head.now }
     ensures stated { result ≡ stated kind order place.now head.now }
     ensures start { kind ≡ Kind.SectionHeader → StartsSection result }
@@ -166,14 +167,14 @@ fn states(kind: Kind, order: Order, place: &Place, head: &[u8]) -> Result<Head, 
     ensures others { IfErr result IsBlockFault }
 {
     let Some(order) = order_of(kind, order, head) else {
-        return Err(NgFault::BadBlock(place.block));
+        return Err(CaptureFault::BadBlock(place.block));
     };
     let size = order.read_u32(head, 4);
     if !kind.is_length(size) {
-        return Err(NgFault::BadBlock(place.block));
+        return Err(CaptureFault::BadBlock(place.block));
     }
     if kind.is_packet() && place.number > MOST_RECORDS {
-        return Err(NgFault::TooManyPackets);
+        return Err(CaptureFault::TooManyPackets);
     }
     Ok(Head::States(kind, order, size))
 }
@@ -186,7 +187,7 @@ fn framed(
     place: &Place,
     size: u32,
     block: &[u8],
-) -> Result<Step, NgFault>
+) -> Result<Step, CaptureFault>
     requires whole { length block.now ≡ size }
     requires fixed { least_length kind ≤ size }
     ensures block { result
@@ -196,14 +197,14 @@ fn framed(
     ensures others { IfErr result IsContentFault }
 {
     if order.read_u32(block, size as usize - 4) != size {
-        return Err(NgFault::BadBlock(place.block));
+        return Err(CaptureFault::BadBlock(place.block));
     }
     let said = content_of(kind, order, section.interfaces(), place, block)?;
     Ok(Step::Block(size, said))
 }
 
 /// Reads the order that the first twelve octets of a capture give, and consumes none of them.
-pub(crate) fn read_order<S: Source>(window: &mut Window<S>) -> Result<Order, NgFault>
+pub(crate) fn read_order<S: Source>(window: &mut Window<S>) -> Result<Order, CaptureFault>
     requires { width window.old ≡ longest_block }
     ensures gives { OrderGives (rest S.left window.old) result }
     ensures section { OnOk result (IsAtSection (held window.new)) }
@@ -214,16 +215,16 @@ pub(crate) fn read_order<S: Source>(window: &mut Window<S>) -> Result<Order, NgF
         (S.faults (source_of window.new)) result }
 {
     if window.want(4)? < 4 {
-        return Err(NgFault::NotACapture);
+        return Err(CaptureFault::NotACapture);
     }
     if !is_section(&window.held()[..4]) {
-        return Err(NgFault::NotACapture);
+        return Err(CaptureFault::NotACapture);
     }
     if window.want(12)? < 12 {
-        return Err(NgFault::NotACapture);
+        return Err(CaptureFault::NotACapture);
     }
     match magic(&window.held()[..12]) {
         Some(order) => Ok(order),
-        None => Err(NgFault::NotACapture),
+        None => Err(CaptureFault::NotACapture),
     }
 }

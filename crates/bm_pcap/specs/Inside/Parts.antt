@@ -1,9 +1,9 @@
 -- The parts of a capture, as they are read.
 use Rattle.std.specs.Prelude.{◌≡◌, ℕ, ◌≤◌, List, length, take, Option, Some, None}
 use Rattle.std.specs.Prelude.{Result, Ok, Err, nat_lt, if◌then◌else◌}
-use Rattle.bm_pcap.specs.declared.fault.PcapFault.{PcapFault}
-use Rattle.bm_pcap.specs.declared.fault.PcapFault.TheVariants.{BadLength, ReadFault}
-use Rattle.bm_pcap.specs.declared.fault.PcapFault.TheVariants.{TooLarge}
+use Rattle.bm_pcap.specs.declared.fault.CaptureFault.{CaptureFault}
+use Rattle.bm_pcap.specs.declared.fault.CaptureFault.TheVariants.{BadLength, ReadFault}
+use Rattle.bm_pcap.specs.declared.fault.CaptureFault.TheVariants.{TooLarge}
 use Rattle.bm_pcap.specs.declared.form.Form.{Form}
 use Rattle.bm_pcap.specs.declared.place.Place.{Place}
 use Rattle.bm_pcap.specs.Limits.{latest, longest, most_records}
@@ -13,7 +13,7 @@ use Rattle.bm_pcap.specs.Records.{cut, end, next_of, behind_header, time_of, cap
 
 -- If a record's header states a time and a length, what follows the header decides; otherwise the
 -- header decides alone. A failed read says nothing.
-abbrev pub HeadGives : Option (List ℕ) → Form → Place → Result Head PcapFault → Type 0
+abbrev pub HeadGives : Option (List ℕ) → Form → Place → Result Head CaptureFault → Type 0
 HeadGives None form place result = Unit {0}
 HeadGives (Some octets) form place (Ok head.End) = next_of form place octets ≡ Ok end
 HeadGives (Some octets) form place (Ok head.Cut) = next_of form place octets ≡ Ok cut
@@ -42,7 +42,7 @@ HeadFits place (head.States time len) =
 HeadFits place other = Unit {0}
 
 -- what a whole header of a record says at its place
-abbrev pub stated : Form → Place → List ℕ → Result Head PcapFault
+abbrev pub stated : Form → Place → List ℕ → Result Head CaptureFault
 stated form place header =
     if nat_lt longest (captured_length form header) then Err
     (BadLength place.number (captured_length form header))

@@ -1,11 +1,11 @@
 -- What the contracts of private calls and the proofs of bodies use in addition to Causes.
-use Rattle.bm_pcapng.specs.declared.fault.NgFault.{NgFault}
-use Rattle.bm_pcapng.specs.declared.fault.NgFault.TheVariants.{NotACapture, BadVersion, BadBlock}
-use Rattle.bm_pcapng.specs.declared.fault.NgFault.TheVariants.{ReadFault, TooLarge, BadLength}
-use Rattle.bm_pcapng.specs.declared.fault.NgFault.TheVariants.{TooManyPackets, Memory}
+use Rattle.bm_pcap.specs.declared.fault.CaptureFault.{CaptureFault}
+use Rattle.bm_pcap.specs.declared.fault.CaptureFault.TheVariants.{NotACapture, BadVersion, BadLink, BadBlock}
+use Rattle.bm_pcap.specs.declared.fault.CaptureFault.TheVariants.{ReadFault, TooLarge, BadLength}
+use Rattle.bm_pcap.specs.declared.fault.CaptureFault.TheVariants.{TooManyPackets, Memory}
 
 -- the faults of a capture's first twelve octets
-abbrev pub IsOrderFault : NgFault → Type 0
+abbrev pub IsOrderFault : CaptureFault → Type 0
 IsOrderFault NotACapture = Unit {0}
 IsOrderFault ReadFault = Unit {0}
 IsOrderFault BadVersion = ⊥
@@ -14,9 +14,10 @@ IsOrderFault TooLarge = ⊥
 IsOrderFault (BadLength number n) = ⊥
 IsOrderFault TooManyPackets = ⊥
 IsOrderFault Memory = ⊥
+IsOrderFault (BadLink link) = ⊥
 
 -- the faults of what a whole block says
-abbrev pub IsContentFault : NgFault → Type 0
+abbrev pub IsContentFault : CaptureFault → Type 0
 IsContentFault BadVersion = Unit {0}
 IsContentFault (BadBlock block) = Unit {0}
 IsContentFault (BadLength number n) = Unit {0}
@@ -25,3 +26,4 @@ IsContentFault TooLarge = ⊥
 IsContentFault TooManyPackets = ⊥
 IsContentFault Memory = ⊥
 IsContentFault NotACapture = ⊥
+IsContentFault (BadLink link) = ⊥

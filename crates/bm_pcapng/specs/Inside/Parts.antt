@@ -9,9 +9,9 @@ use Rattle.bm_pcapng.specs.declared.block.Kind.{Kind}
 use Rattle.bm_pcapng.specs.declared.block.Kind.TheVariants.{SectionHeader}
 use Rattle.bm_pcapng.specs.declared.content.Content.{Content}
 use Rattle.bm_pcapng.specs.declared.content.Content.TheVariants as content
-use Rattle.bm_pcapng.specs.declared.fault.NgFault.{NgFault}
-use Rattle.bm_pcapng.specs.declared.fault.NgFault.TheVariants.{BadBlock, NotACapture, ReadFault}
-use Rattle.bm_pcapng.specs.declared.fault.NgFault.TheVariants.{TooManyPackets}
+use Rattle.bm_pcap.specs.declared.fault.CaptureFault.{CaptureFault}
+use Rattle.bm_pcap.specs.declared.fault.CaptureFault.TheVariants.{BadBlock, NotACapture, ReadFault}
+use Rattle.bm_pcap.specs.declared.fault.CaptureFault.TheVariants.{TooManyPackets}
 use Rattle.bm_pcapng.specs.declared.interface.Interface.{Interface}
 use Rattle.bm_pcapng.specs.declared.place.Place.{Place}
 use Rattle.bm_pcapng.specs.declared.step.Head.{Head}
@@ -32,7 +32,7 @@ Begins ahead octets = take (length ahead) octets ≡ ahead
 
 -- The order that was read is the one that a capture's first octets give. A failed read says
 -- nothing.
-abbrev pub OrderGives : Option (List ℕ) → Result Order NgFault → Type 0
+abbrev pub OrderGives : Option (List ℕ) → Result Order CaptureFault → Type 0
 OrderGives None result = Unit {0}
 OrderGives (Some octets) (Ok order) = first_order octets ≡ Some order
 OrderGives (Some octets) (Err NotACapture) = first_order octets ≡ None
@@ -40,7 +40,7 @@ OrderGives (Some octets) (Err e) = Unit {0}
 
 -- If a head states a kind, an order and a total length, what follows the head decides; otherwise
 -- the head decides alone. A failed read says nothing.
-abbrev pub HeadSays : Result Step NgFault → List Interface → Place → List ℕ → Result Head NgFault
+abbrev pub HeadSays : Result Step CaptureFault → List Interface → Place → List ℕ → Result Head CaptureFault
     → Type 0
 HeadSays found interfaces place octets (Ok head.End) = found ≡ Ok step.End
 HeadSays found interfaces place octets (Ok head.Cut) = found ≡ Ok step.Cut
@@ -49,7 +49,7 @@ HeadSays found interfaces place octets (Ok (head.States kind own n)) =
 HeadSays found interfaces place octets (Err ReadFault) = Unit {0}
 HeadSays found interfaces place octets (Err e) = found ≡ Err e
 
-abbrev pub HeadGives : Option (List ℕ) → Order → List Interface → Place → Result Head NgFault
+abbrev pub HeadGives : Option (List ℕ) → Order → List Interface → Place → Result Head CaptureFault
     → Type 0
 HeadGives None order interfaces place result = Unit {0}
 HeadGives (Some octets) order interfaces place result =
@@ -70,14 +70,14 @@ HeadFits place (head.States kind order n) =
 HeadFits place other = Unit {0}
 
 -- what a whole head says of a block of this kind, in a section of this order
-abbrev pub stated_in : Kind → Option Order → Place → List ℕ → Result Head NgFault
+abbrev pub stated_in : Kind → Option Order → Place → List ℕ → Result Head CaptureFault
 stated_in kind None place octets = Err (BadBlock place.block)
 stated_in kind (Some own) place octets =
     if not (is_length kind (number_at own 4 4 octets)) then Err (BadBlock place.block)
     else if is_packet kind && nat_lt most_records place.number then Err TooManyPackets
     else Ok (head.States kind own (number_at own 4 4 octets))
 
-abbrev pub stated : Kind → Order → Place → List ℕ → Result Head NgFault
+abbrev pub stated : Kind → Order → Place → List ℕ → Result Head CaptureFault
 stated kind order place octets = stated_in kind (order_of kind order octets) place octets
 
 -- what was read ahead begins with the type of a section header
@@ -85,7 +85,7 @@ abbrev pub IsAtSection : List ℕ → Type 0
 IsAtSection ahead = (4 ≤ length ahead) × (is_section (take 4 ahead) ≡ true)
 
 -- the head of a section header, or a fault of a capture's first block
-abbrev pub StartsSection : Result Head NgFault → Type 0
+abbrev pub StartsSection : Result Head CaptureFault → Type 0
 StartsSection (Ok (head.States kind own n)) = kind ≡ SectionHeader
 StartsSection (Ok other) = Unit {0}
 StartsSection (Err e) = IsStartFault e
@@ -117,7 +117,7 @@ StepIn ahead (step.Block n said) = n ≤ length ahead
 StepIn ahead other = Unit {0}
 
 -- What was read is what comes next. A failed read says nothing.
-abbrev pub StepGives : Option (List ℕ) → Order → List Interface → Place → Result Step NgFault
+abbrev pub StepGives : Option (List ℕ) → Order → List Interface → Place → Result Step CaptureFault
     → Type 0
 StepGives None order interfaces place result = Unit {0}
 StepGives (Some octets) order interfaces place (Ok found) =
@@ -131,7 +131,7 @@ abbrev pub last_of : ℕ → List ℕ → List ℕ
 last_of n octets = drop (length octets - n) octets
 
 -- a block's octets are the last that were taken
-abbrev pub own_octets : Result Step NgFault → List ℕ → List ℕ
+abbrev pub own_octets : Result Step CaptureFault → List ℕ → List ℕ
 own_octets (Ok (step.Block n said)) passed = last_of n passed
 own_octets (Ok step.Cut) passed = []
 own_octets (Ok step.End) passed = []

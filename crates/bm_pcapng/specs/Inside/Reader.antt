@@ -2,8 +2,7 @@
 use Rattle.std.specs.Prelude.{ℕ, ◌+◌, ◌≤◌, List, [], length, Option, Some}
 use Rattle.std.specs.Prelude.{None, Result, Ok, Err}
 use Rattle.bm_pcapng.specs.declared.content.Content.TheVariants.{Holds}
-use Rattle.bm_pcapng.specs.declared.content.Packet.{Packet}
-use Rattle.bm_pcapng.specs.declared.fault.NgFault.{NgFault}
+use Rattle.bm_pcap.specs.declared.fault.CaptureFault.{CaptureFault}
 use Rattle.bm_pcapng.specs.declared.reader.Stop.{Stop}
 use Rattle.bm_pcapng.specs.declared.reader.Stop.TheVariants as stop
 use Rattle.bm_pcapng.specs.declared.section.Section.{Section}
@@ -20,7 +19,7 @@ IsStopLast passed (stop.Packet number n packet) =
 IsStopLast passed other = Unit {0}
 
 -- what a reader that has ended returns is no block, and its faults are those of blocks
-abbrev pub EndsWell : Option (Result Step NgFault) → Type 0
+abbrev pub EndsWell : Option (Result Step CaptureFault) → Type 0
 EndsWell None = Unit {0}
 EndsWell (Some (Ok (Block n content))) = ⊥
 EndsWell (Some (Ok Cut)) = Unit {0}
@@ -28,13 +27,13 @@ EndsWell (Some (Ok End)) = Unit {0}
 EndsWell (Some (Err e)) = IsBlockFault e
 
 -- The first block of the capture is read.
-abbrev pub OpensIn : Option (List ℕ) → Result Section NgFault → Type 0
+abbrev pub OpensIn : Option (List ℕ) → Result Section CaptureFault → Type 0
 OpensIn old (Ok section) = IsOpened old section.order
 OpensIn old (Err e) = Refuses old e
 
 -- What was found: a packet, with its number, in a block of n octets.
 abbrev pub GivesStop : {S : Type 0} → (S → Option (List ℕ)) → (S → ℕ) → Reader S → Reader S
-    → Result Stop NgFault → Type 0
+    → Result Stop CaptureFault → Type 0
 GivesStop left faults old new (Ok (stop.Packet number n packet)) =
     Stops left faults old new number (Ok (Block n (Holds packet))) (last_of n new.passed)
 GivesStop left faults old new (Ok (stop.Cut number)) = Stops left faults old new number (Ok Cut) []

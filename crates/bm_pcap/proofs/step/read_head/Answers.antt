@@ -13,17 +13,17 @@ returns-then-count-eq0-clause-gives g c =
 
 pub returns-then-count-room-clause-gives : goal.returns-then-count-room-clause-gives
 returns-then-count-room-clause-gives g c =
-    head_large _ c.args.form.now c.args.place.now _ _ _ c.min.ensures c.in_ok-count.ensures.ahead c.if-count-lt16.true
+    head_large _ c.args.form.now c.args.place.now _ _ _ c.min.ensures c.in_ok-count.ensures.ahead c.if-count-header.true
     c.if-count-room.true c.if-place-gt-MOST_RECORDS.false
 
 pub returns-else-count-room-clause-gives : goal.returns-else-count-room-clause-gives
 returns-else-count-room-clause-gives g c =
     let some : 0 < c.in_ok-count.count = omega arith in
     head_cut _ c.args.form.now c.args.place.now _ _ _ c.min.ensures c.in_ok-count.ensures.ahead some
-    c.if-count-lt16.true c.if-count-room.false c.if-place-gt-MOST_RECORDS.false
+    c.if-count-header.true c.if-count-room.false c.if-place-gt-MOST_RECORDS.false
 
 pub returns-clause-gives : goal.returns-clause-gives
 returns-clause-gives g c =
     head_stated _ c.args.form.now c.args.place.now _ _ _ c.held.result.now c.states.result c.min.ensures
-    c.in_ok-count.ensures.bound.0 c.in_ok-count.ensures.ahead c.if-count-lt16.false c.if-place-gt-MOST_RECORDS.false
+    c.in_ok-count.ensures.bound.0 c.in_ok-count.ensures.ahead c.if-count-header.false c.if-place-gt-MOST_RECORDS.false
     c.held.ensures c.states.ensures.stated

@@ -1,6 +1,5 @@
-use Rattle.std.proofs.Common.{◌≡◌, ◌∷◌, [], None, ◌∙◌, ap, sym, arith, refl, Ok, Err, length, Some, length-append, ℕ}
-use Rattle.std.proofs.Common.{List}
-use Rattle.std.proofs.Common.{Result, subst, ◌≤◌, ◌+◌}
+use Rattle.std.proofs.Common.{◌≡◌, ◌∷◌, [], None, ◌∙◌, ap, sym, arith, refl, Ok, Err, length, Some, length-append}
+use Rattle.std.proofs.Common.{◌≤◌, ◌+◌}
 use Rattle.std.proofs.lemmas.Result.{err_from_is_err_and}
 use Rattle.bm_base.specs.declared.capture.Capture.{Capture}
 use Rattle.bm_base.specs.declared.ids.Moment.{Moment}
@@ -16,7 +15,7 @@ use Rattle.bm_pcapng.specs.Places.{moment_at}
 use Rattle.bm_pcapng.specs.Reader.{Reader}
 use Rattle.bm_pcapng.specs.Began.{time_or_zero}
 use Rattle.bm_pcapng.proofs.Began.{began_starts, began_more, began_ends, knows_began}
-use Rattle.bm_pcapng.proofs.Loop.{advanced, at_cut, at_end, at_fault, cause_from, cause_still, gave, goes_on}
+use Rattle.bm_pcapng.proofs.Loop.{advanced, at_cut, at_end, at_fault, gave, goes_on}
 use Rattle.bm_pcapng.proofs.Loop.{holds_packet}
 use Rattle.bm_pcapng.proofs.Loop.{last_fault, moment_early, moment_late, passes_over, place_of, place_passed, starts}
 use Rattle.bm_pcapng.proofs.Loop.{without_packet}

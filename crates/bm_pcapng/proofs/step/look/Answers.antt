@@ -1,4 +1,4 @@
-use Rattle.std.proofs.Common.{◌∙◌, ap, ℕ, List, take}
+use Rattle.std.proofs.Common.{ap, ℕ, List, take}
 use Rattle.bm_pcapng.proofs.Steps.{body_whole}
 use Rattle.bm_pcapng.proofs.step.look.Goals as goal
 

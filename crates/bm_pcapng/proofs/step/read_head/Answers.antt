@@ -1,9 +1,9 @@
-use Rattle.std.proofs.Common.{arith, ◌<◌, ◌≤◌, ◌≡◌, ◌+◌, length, take, ◌∙◌, sym, ap, ℕ}
+use Rattle.std.proofs.Common.{arith, ◌<◌, ◌≤◌, ◌+◌, length, take, ◌∙◌, ap}
 use Rattle.std.proofs.KnownBytes.{Keeps-trans}
 use Rattle.bm_pcap.specs.Window.{held}
 use Rattle.bm_pcapng.specs.Blocks.{head_size}
 use Rattle.bm_pcapng.specs.Inside.Parts.{stated}
-use Rattle.bm_pcapng.proofs.Heads.{ahead_old, begins_old, eight, head_end, head_short, kind_at, kind_later, kind_told}
+use Rattle.bm_pcapng.proofs.Heads.{ahead_old, begins_old, eight, head_end, head_short, kind_later, kind_told}
 use Rattle.bm_pcapng.proofs.Heads.{open_head, some_read, states_given, states_held}
 use Rattle.bm_pcapng.proofs.step.read_head.Goals as goal
 

@@ -1,4 +1,4 @@
-use Rattle.std.proofs.Common.{arith, sym, ap, ◌∙◌, ℕ, List, take}
+use Rattle.std.proofs.Common.{arith, sym, ◌∙◌}
 use Rattle.bm_pcapng.proofs.Orders.{no_order, no_section, order_bad, order_read}
 use Rattle.bm_pcapng.proofs.Heads.{ahead_old}
 use Rattle.bm_pcapng.proofs.step.read_order.Goals as goal

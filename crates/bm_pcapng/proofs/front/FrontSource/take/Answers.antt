@@ -1,4 +1,4 @@
-use Rattle.std.proofs.Common.{◌≡◌, ◌+◌, ◌≤◌, ◌-◌, ◌∙◌, arith, ap, ℕ, length, drop, length-append, length-drop}
+use Rattle.std.proofs.Common.{◌≡◌, ◌+◌, ◌≤◌, ◌∙◌, arith, length, drop, length-append, length-drop}
 use Rattle.std.proofs.lemmas.List.{length-take-le}
 use Rattle.bm_pcapng.proofs.Fronts.{behind_front, given_front, piece_is}
 use Rattle.bm_pcapng.proofs.front.FrontSource.take.Goals as goal

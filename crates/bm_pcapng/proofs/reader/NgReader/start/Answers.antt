@@ -1,4 +1,4 @@
-use Rattle.std.proofs.Common.{◌≡◌, ◌≤◌, ◌+◌, ℕ, length, subst, sym, arith}
+use Rattle.std.proofs.Common.{◌≤◌, ◌+◌, subst, sym, arith}
 use Rattle.bm_pcap.proofs.Windows.{length_range}
 use Rattle.bm_pcapng.specs.declared.place.Place.{Place}
 use Rattle.bm_pcapng.proofs.reader.NgReader.start.Goals as goal

@@ -1,10 +1,10 @@
-use Rattle.std.proofs.Common.{◌≡◌, ◌∙◌, ap, sym, refl, Ok, Err, ℕ}
+use Rattle.std.proofs.Common.{◌∙◌, ap, sym, refl, Ok, Err}
 use Rattle.std.proofs.lemmas.Result.{err_from_is_err_and}
 use Rattle.bm_pcapng.specs.declared.content.Content.{Content}
 use Rattle.bm_pcapng.specs.declared.content.Content.TheVariants.{Holds}
 use Rattle.bm_pcapng.specs.declared.step.Step.{Step}
 use Rattle.bm_pcapng.specs.declared.step.Step.TheVariants.{Block, Cut, End}
-use Rattle.bm_pcapng.specs.Reader.{Passes, Reader}
+use Rattle.bm_pcapng.specs.Reader.{Reader}
 use Rattle.bm_pcapng.specs.Reader.Passes.{here, over}
 use Rattle.bm_pcapng.proofs.Loop.{gave, holds_packet, without_packet}
 use Rattle.bm_pcapng.proofs.reader.NgReader.stop.Goals as goal

@@ -1,4 +1,4 @@
-use Rattle.std.proofs.Common.{arith, ap, sym, ◌∙◌, ◌<◌, ◌/◌, ◌*◌, ◌^◌, ℕ}
+use Rattle.std.proofs.Common.{arith, ap, ◌∙◌, ◌<◌, ◌/◌, ◌*◌, ◌^◌, ℕ}
 use Rattle.bm_pcapng.specs.Times.{nanoseconds, per_second}
 use Rattle.bm_pcapng.proofs.Times.{some_units, beyond}
 use Rattle.bm_pcapng.proofs.time.Resolution.nanoseconds.Goals as goal
