@@ -1,5 +1,5 @@
 //! The commands of a script, read in their order.
-ghost use Rattle.std.specs.Prelude.{◌≡◌, ◌≢◌, ◌≤◌, ◌<◌, Ok, Err, OnOk, IfOk, IfErr, length, None};
+ghost use Rattle.std.specs.Prelude.{◌≡◌, ◌≢◌, ◌≤◌, ◌<◌, Ok, Err, OnOk, IfOk, IfErr, IsOk, IsErrAnd, length, None};
 ghost use Rattle.std.specs.Prelude.{Some};
 ghost use Rattle.bm_controller.specs.Commands as orders;
 ghost use Rattle.bm_controller.specs.Commands.Command.{AddServer};
@@ -252,14 +252,11 @@ impl<P: Fn(ServerId) -> u16 + Drop> Reading<P> {
         ensures { Reads self.old self.new
             (commands.carried (progress self.old) at Verb.Add (table_view table.now)) result }
     {
-        let number = self.number();
-        let place = Place::Command(number);
+        let place = Place::Command(self.number());
         let server = required_server(table, place)?;
         let weight = added_weight(table, place, self.version)?;
-        match add_server(&mut self.controller, Moment(at), server, weight) {
-            Ok(()) => self.publish(at),
-            Err(refusal) => Err(fault_of(number, refusal)),
-        }
+        let answer = add_server(&mut self.controller, Moment(at), server, weight);
+        self.publish(at, answer)
     }
 
     fn drain(&mut self, at: u64, table: &Table) -> Result<(), ScriptFault>
@@ -268,12 +265,9 @@ impl<P: Fn(ServerId) -> u16 + Drop> Reading<P> {
         ensures { Reads self.old self.new
             (commands.carried (progress self.old) at Verb.Drain (table_view table.now)) result }
     {
-        let number = self.number();
-        let server = required_server(table, Place::Command(number))?;
-        match self.controller.drain(Moment(at), server) {
-            Ok(()) => self.publish(at),
-            Err(refusal) => Err(fault_of(number, refusal)),
-        }
+        let server = required_server(table, Place::Command(self.number()))?;
+        let answer = self.controller.drain(Moment(at), server);
+        self.publish(at, answer)
     }
 
     fn weigh(&mut self, at: u64, table: &Table) -> Result<(), ScriptFault>
@@ -282,14 +276,11 @@ impl<P: Fn(ServerId) -> u16 + Drop> Reading<P> {
         ensures { Reads self.old self.new
             (commands.carried (progress self.old) at Verb.Weigh (table_view table.now)) result }
     {
-        let number = self.number();
-        let place = Place::Command(number);
+        let place = Place::Command(self.number());
         let server = required_server(table, place)?;
         let weight = required_weight(table, place)?;
-        match self.controller.weigh(Moment(at), server, weight) {
-            Ok(()) => self.publish(at),
-            Err(refusal) => Err(fault_of(number, refusal)),
-        }
+        let answer = self.controller.weigh(Moment(at), server, weight);
+        self.publish(at, answer)
     }
 
     fn shift(&mut self, at: u64, table: &Table) -> Result<(), ScriptFault>
@@ -298,14 +289,11 @@ impl<P: Fn(ServerId) -> u16 + Drop> Reading<P> {
         ensures { Reads self.old self.new
             (commands.carried (progress self.old) at Verb.Move (table_view table.now)) result }
     {
-        let number = self.number();
-        let place = Place::Command(number);
+        let place = Place::Command(self.number());
         let bucket = required_number(table, place, Key::Bucket, 0, 65_535)?;
         let server = required_server(table, place)?;
-        match self.controller.shift(Moment(at), bucket as u32, server) {
-            Ok(()) => self.publish(at),
-            Err(refusal) => Err(fault_of(number, refusal)),
-        }
+        let answer = self.controller.shift(Moment(at), bucket as u32, server);
+        self.publish(at, answer)
     }
 
     fn close(&mut self, at: u64, table: &Table) -> Result<(), ScriptFault>
@@ -347,12 +335,18 @@ impl<P: Fn(ServerId) -> u16 + Drop> Reading<P> {
         self.tell(at, server, command)
     }
 
-    /// Adds a command, which leads to the change that the controller made last.
-    fn publish(&mut self, at: u64) -> Result<(), ScriptFault>
-        requires { self.old.versions < 65536 }
+    /// Adds a command, which leads to the change that the controller made last, unless it refused.
+    fn publish(&mut self, at: u64, answer: Result<(), RackRefusal>) -> Result<(), ScriptFault>
+        requires few { length self.old.commands.items < 65536 }
+        requires versions { self.old.versions < 65536 }
         ensures ok { OnOk result (IsPublished self.old self.new at) }
-        ensures err { IfErr result (λ fault. fault ≡ memory) }
+        ensures accepted { OnOk result (IsOk answer) }
+        ensures err { IfErr result (λ fault. fault ≢ memory → IsErrAnd answer
+            (λ refusal. fault ≡ command_fault (commands.next (progress self.old)) refusal)) }
     {
+        if let Err(refusal) = answer {
+            return Err(fault_of(self.number(), refusal));
+        }
         let version = self.versions + 1;
         self.commands.push(Command::Change(Version(version)))?;
         self.versions = version;
