@@ -14,10 +14,10 @@ use Rattle.bm_merge.specs.Notes.{Note}
 use Rattle.bm_merge.specs.Workers.{is_home}
 use Rattle.bm_server.specs.Servings.{Serving, shard_at}
 use Rattle.bm_server.specs.Seats.{Seated}
-use Rattle.bm_worker.specs.Deeds.{Hears, IsSamePorter, Sits, saying}
-use Rattle.bm_worker.specs.Inside.Deeds.{retiring}
-use Rattle.bm_worker.specs.Portings.{Porting}
-use Rattle.bm_worker.specs.Told.{told_there}
+use Rattle.bm_worker.specs.WorkerNotes.{Hears, IsSameCaller, Sits, saying}
+use Rattle.bm_worker.specs.Inside.WorkerNotes.{retiring}
+use Rattle.bm_worker.specs.Callers.{CallerState}
+use Rattle.bm_worker.specs.SeatCalls.{told_there}
 use Rattle.bm_worker.proofs.Hearing.{hears_more, hears_none}
 use Rattle.bm_publish.specs.Posts.{Posted}
 use Rattle.bm_lead.specs.declared.head.Head.{Head}
@@ -36,15 +36,15 @@ pub hears_elsewhere : (stage : Stage) (servers : List Serving) (a b : List (List
 hears_elsewhere stage servers a b n same away s h server at =
     rw (same, away server.id.0 h) (sym (append-nil (saying (shard_at server h) (told_there a s h))))
 
-pub same_porter : (a b d : Porting) → IsSamePorter a b → IsSamePorter b d → IsSamePorter a d
-same_porter a b d first then =
+pub same_caller : (a b d : CallerState) → IsSameCaller a b → IsSameCaller b d → IsSameCaller a d
+same_caller a b d first then =
     record { number = then.number ∙ first.number; who_is = then.who_is ∙ first.who_is }
 
-pub sits_kept : (servers : List Serving) (a b : Porting) → Sits servers a → IsSamePorter a b → Sits servers b
+pub sits_kept : (servers : List Serving) (a b : CallerState) → Sits servers a → IsSameCaller a b → Sits servers b
 sits_kept servers a b sits same = rw same.number (same.who_is ∙ sits)
 
 -- no call yet
-pub none_called : (stage : Stage) (servers : List Serving) (a : Porting) → HasCalled stage servers 0 a a []
+pub none_called : (stage : Stage) (servers : List Serving) (a : CallerState) → HasCalled stage servers 0 a a []
 none_called stage servers a = record {
   heard = hears_none stage servers a.seats;
   same = record { number = refl; who_is = refl };
@@ -54,10 +54,10 @@ none_called stage servers a = record {
 
 -- one shard more
 pub retired_more : (stage : Stage) (servers : List Serving) (i k : ℕ) (server : Serving) (at clock : Moment)
-    (outcome : Retirement) (a b d : Porting) (deeds : List Note) → b.number ≡ 0
+    (outcome : Retirement) (a b d : CallerState) (deeds : List Note) → b.number ≡ 0
     → AreRetirings i server.id at outcome k deeds → HasCalled stage servers k a b deeds
     → Hears stage servers b.seats d.seats (retiring clock server.id k at outcome i b.number ∷ [])
-    → IsSamePorter b d → d.tries ≤ b.tries + 1 → d.latest ≡ max b.latest clock.0 → at.0 < clock.0
+    → IsSameCaller b d → d.tries ≤ b.tries + 1 → d.latest ≡ max b.latest clock.0 → at.0 < clock.0
     → (deeds : List Note) × AreRetirings i server.id at outcome (k + 1) deeds
     × HasCalled stage servers (k + 1) a d deeds
 retired_more stage servers i k server at clock outcome a b d deeds zero are called heard same tries latest later =
@@ -69,13 +69,13 @@ retired_more stage servers i k server at clock outcome a b d deeds zero are call
       (clock, k, omega arith, refl, later, are),
       record {
         heard = hears_more stage servers a.seats b.seats d.seats deeds (n ∷ []) called.heard one;
-        same = same_porter a b d called.same same;
+        same = same_caller a b d called.same same;
         tries = let t = called.tries in omega arith;
         latest = let l = called.latest in omega arith;
       },
     )
 
-pub called_up_to : (stage : Stage) (servers : List Serving) (n m : ℕ) (a b : Porting) (deeds : List Note) → n ≤ m
+pub called_up_to : (stage : Stage) (servers : List Serving) (n m : ℕ) (a b : CallerState) (deeds : List Note) → n ≤ m
     → HasCalled stage servers n a b deeds → HasCalled stage servers m a b deeds
 called_up_to stage servers n m a b deeds low called = record {
   heard = called.heard;
@@ -94,7 +94,7 @@ retirings_elsewhere stage i h server at outcome (n ∷ deeds) are =
 
 -- calls alone
 pub has_called : (stage : Stage) (servers : List Serving) (p : Posted) (a b : Head) (deeds : List Note)
-    → HasCalled stage servers 64 a.porter b.porter deeds → control_log stage deeds ≡ [] → b.next ≡ a.next
+    → HasCalled stage servers 64 a.caller b.caller deeds → control_log stage deeds ≡ [] → b.next ≡ a.next
     → b.log.items ≡ a.log.items → b.last_post.0 ≡ a.last_post.0 → b.published.0 ≡ a.published.0
     → HasDone stage servers p p a b deeds
 has_called stage servers p a b deeds called away next log last published = record {

@@ -24,7 +24,7 @@ drop_all (x ∷ l) = drop_all l
 -- THE BEGIN
 
 pub ready_first : (stage : Stage) (servers : List Serving) (posted : Posted) (head : Head) → IsSound stage
-    → Begins stage servers posted head.porter → head.next ≡ 0 → head.published.0 ≡ 0 → head.last_post.0 ≡ 0
+    → Begins stage servers posted head.caller → head.next ≡ 0 → head.published.0 ≡ 0 → head.last_post.0 ≡ 0
     → IsReady stage servers posted head
 ready_first stage servers posted head sound begins next published last = record {
   next = omega arith;
@@ -43,7 +43,7 @@ ready_first stage servers posted head sound begins next published last = record 
 }
 
 pub led_nothing : (stage : Stage) (servers : List Serving) (posted : Posted) (head : Head)
-    → Begins stage servers posted head.porter → head.next ≡ 0 → head.published.0 ≡ 0 → head.log.items ≡ []
+    → Begins stage servers posted head.caller → head.next ≡ 0 → head.published.0 ≡ 0 → head.log.items ≡ []
     → IsLed stage posted head []
 led_nothing stage servers posted head begins next published log = record {
   each = tt;

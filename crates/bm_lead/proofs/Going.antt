@@ -12,7 +12,7 @@ use Rattle.bm_merge.specs.Notes.{Note, greatest}
 use Rattle.bm_merge.proofs.Noting.{each_append}
 use Rattle.bm_server.specs.Servings.{Serving}
 use Rattle.bm_publish.specs.Posts.{Posted, last_or, last_post}
-use Rattle.bm_worker.specs.Deeds.{Suits}
+use Rattle.bm_worker.specs.WorkerNotes.{Suits}
 use Rattle.bm_lead.specs.declared.head.Head.{Head}
 use Rattle.bm_lead.specs.Commands.{control_log, posted_clocks}
 use Rattle.bm_lead.specs.Heads.{IsReady, IsSyncCommand}
@@ -31,7 +31,7 @@ last_snoc low c (x ∷ clocks) = last_snoc x c clocks
 record ArePosts (p : Posted) (b : Head) (n : ℕ) : Type 0 where
   pub count : length p.clocks ≡ b.published.0
   pub last : last_post p ≡ b.last_post.0
-  pub below : b.last_post.0 ≤ b.porter.latest
+  pub below : b.last_post.0 ≤ b.caller.latest
   pub early : b.last_post.0 + 4096 ≤ 9 * 10 ^ 18
   pub published : b.published.0 ≡ n
 
@@ -81,18 +81,18 @@ ready_from stage servers p q a b e c n at ready done names posts =
       early = posts.early;
       tries = (let few = ready.tries in let more = done.called.tries in let same = done.next in omega arith);
       number = done.called.same.number ∙ ready.number;
-      sits = sits_kept servers a.porter b.porter ready.sits done.called.same;
+      sits = sits_kept servers a.caller b.caller ready.sits done.called.same;
     }
 
 pub ready_more : (stage : Stage) (servers : List Serving) (p q : Posted) (a b : Head) (c : Command) (e : List Note)
     → slice_get stage.script.commands a.next ≡ Some c → IsReady stage servers p a
-    → AreOf stage a.porter.latest a.published.0 a.next c e → HasDone stage servers p q a b e
+    → AreOf stage a.caller.latest a.published.0 a.next c e → HasDone stage servers p q a b e
     → IsReady stage servers q (gone_on b)
 ready_more stage servers p q a b c e at ready of done =
     go c at of (subst (λ (l : List Command). NamesVersions (a.published.0 + 1) (length stage.script.plan.changes) l)
     (drop_at stage.script.commands a.next c at) ready.versions) where
       go : (c : Command) → slice_get stage.script.commands a.next ≡ Some c
-          → AreOf stage a.porter.latest a.published.0 a.next c e
+          → AreOf stage a.caller.latest a.published.0 a.next c e
           → NamesVersions (a.published.0 + 1) (length stage.script.plan.changes)
           (c ∷ drop (suc a.next) stage.script.commands)
           → IsReady stage servers q (gone_on b)
@@ -135,23 +135,23 @@ ready_more stage servers p q a b c e at ready of done =
 
 step_of : (stage : Stage) (servers : List Serving) (p : Posted) (a : Head) (c : Command) (e : List Note) → IsSound stage
     → Suits stage servers → IsReady stage servers p a → slice_get stage.script.commands a.next ≡ Some c
-    → AreOf stage a.porter.latest a.published.0 a.next c e
-    → IsStep stage servers a.porter.latest a.published.0 a.next c e
+    → AreOf stage a.caller.latest a.published.0 a.next c e
+    → IsStep stage servers a.caller.latest a.published.0 a.next c e
 step_of stage servers p a (Change v) e sound suits ready at of =
     let next = next_version a.published.0 (length stage.script.plan.changes) a.next stage.script.commands v at
-    ready.versions in change_step stage servers a.porter.latest a.published.0 a.next v e at next.0 next.1 of
+    ready.versions in change_step stage servers a.caller.latest a.published.0 a.next v e at next.0 next.1 of
 step_of stage servers p a (Close when server flow) e sound suits ready at of =
-    close_step stage servers a.porter.latest a.published.0 a.next when server flow e at
+    close_step stage servers a.caller.latest a.published.0 a.next when server flow e at
     (suits.known server (command_known stage a.next (Close when server flow) sound at)) of
 step_of stage servers p a (Retire when server) e sound suits ready at of =
-    retire_step stage servers a.porter.latest a.published.0 a.next when server e at
+    retire_step stage servers a.caller.latest a.published.0 a.next when server e at
     (suits.known server (command_known stage a.next (Retire when server) sound at)) of
 step_of stage servers p a (Sync when) e sound suits ready at of =
-    sync_step stage servers a.porter.latest a.published.0 a.next when e at of
+    sync_step stage servers a.caller.latest a.published.0 a.next when e at of
 
 pub command_leads : (stage : Stage) (servers : List Serving) (p q : Posted) (a b : Head) (c : Command) (e : List Note)
     → IsSound stage → Suits stage servers → IsReady stage servers p a → slice_get stage.script.commands a.next ≡ Some c
-    → AreOf stage a.porter.latest a.published.0 a.next c e → HasDone stage servers p q a b e
+    → AreOf stage a.caller.latest a.published.0 a.next c e → HasDone stage servers p q a b e
     → Leads stage servers p q a (gone_on b) e
 command_leads stage servers p q a b c e sound suits ready at of done =
     leads_step stage servers p q a b c e at (step_of stage servers p a c e sound suits ready at of) done
@@ -176,7 +176,7 @@ led_none stage servers p a ready = (ready, ([], leads_none stage servers p a, tt
 pub led_command : (stage : Stage) (servers : List Serving) (p q : Posted) (a b : Head) (c : Command) → IsSound stage
     → Suits stage servers → IsReady stage servers p a → slice_get stage.script.commands a.next ≡ Some c
     → (IsSyncCommand (slice_get stage.script.commands a.next) → ⊥)
-    → ((e : List Note) × AreOf stage a.porter.latest a.published.0 a.next c e × HasDone stage servers p q a b e)
+    → ((e : List Note) × AreOf stage a.caller.latest a.published.0 a.next c e × HasDone stage servers p q a b e)
     → HasLed stage servers p q a (gone_on b)
 led_command stage servers p q a b c sound suits ready at not made =
     let no_sync : IsSyncCommand (Some c) → ⊥ =
@@ -185,7 +185,7 @@ led_command stage servers p q a b c sound suits ready at not made =
       (
         made.0,
         command_leads stage servers p q a b c made.0 sound suits ready at made.1 made.2,
-        no_sync_of stage a.porter.latest a.published.0 a.next c made.0 no_sync made.1,
+        no_sync_of stage a.caller.latest a.published.0 a.next c made.0 no_sync made.1,
       ),
     )
 

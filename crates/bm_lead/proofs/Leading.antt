@@ -31,7 +31,7 @@ use Rattle.bm_lead.specs.Commands.{AreDone, IsControlStep, IsJudgedBy, control_l
 use Rattle.bm_worker.proofs.Hearing.{hears_more, hears_none}
 use Rattle.bm_lead.specs.Leads.{IsLed, IsPlaced, Leads}
 use Rattle.bm_lead.specs.Inside.Steps.{HasDone, published_after}
-use Rattle.bm_lead.proofs.Calling.{same_porter}
+use Rattle.bm_lead.proofs.Calling.{same_caller}
 use Rattle.bm_lead.proofs.Scripted.{count_at}
 use Rattle.bm_lead.proofs.Steps.{IsStep, Stands}
 
@@ -152,21 +152,21 @@ gone_on b = record b { next = b.next + 1 }
 
 led_more : (stage : Stage) (servers : List Serving) (p q : Posted) (a b : Head) (c : Command) (e before : List Note)
     → slice_get stage.script.commands a.next ≡ Some c
-    → IsStep stage servers a.porter.latest a.published.0 a.next c e → HasDone stage servers p q a b e
+    → IsStep stage servers a.caller.latest a.published.0 a.next c e → HasDone stage servers p q a b e
     → IsLed stage p a before → IsLed stage q (gone_on b) (e ++ before)
 led_more stage servers p q a b c e before at step done old =
-    let stands : Stands a.porter.latest a.next before =
+    let stands : Stands a.caller.latest a.next before =
     record { earlier = old.done.earlier; kinds = all_kinds stage before old.each; clock = old.latest } in
     let here : List Event = control_log stage e in
     let control : control_log stage (e ++ before) ≡ here ++ control_log stage before = control_append stage e before in
-    let low : AllByRecursion (λ y. y.event.clock.0 ≤ a.porter.latest) before =
+    let low : AllByRecursion (λ y. y.event.clock.0 ≤ a.caller.latest) before =
     subst (λ (top : ℕ). AllByRecursion (λ y. y.event.clock.0 ≤ top) before) (sym old.latest) (all_under before) in
-    let under : AllByRecursion (λ y. y.clock.0 ≤ a.porter.latest) (control_log stage before) =
-    control_each (λ y. y.clock.0 ≤ a.porter.latest) stage before low in
+    let under : AllByRecursion (λ y. y.clock.0 ≤ a.caller.latest) (control_log stage before) =
+    control_each (λ y. y.clock.0 ≤ a.caller.latest) stage before low in
     record {
       each = step.each before stands old.each;
       done = subst (λ (i : ℕ). AreDone stage i (e ++ before)) (sym (ap (λ (i : ℕ). i + 1) done.next ∙ add-one a.next))
-          (done_more stage servers a.porter.latest a.published.0 a.next c e before at step old.done);
+          (done_more stage servers a.caller.latest a.published.0 a.next c e before at step old.done);
       seats = each_append (λ n. n.seat ≡ 0) e before step.seats old.seats;
       log = ap (λ l. reverse l) done.log ∙ (reverse-append a.log.items here
           ∙ (ap (λ (l : List Event). l ++ reverse a.log.items) step.home
@@ -178,12 +178,12 @@ led_more stage servers p q a b c e before at step done old =
           (sym control)
           (each_append (λ n. IsJudgedBy stage (here ++ control_log stage before) n.event.clock.0 n.event.what) e before
           (step.judged (control_log stage before) old.published under)
-          (each_two (λ n. n.event.clock.0 ≤ a.porter.latest)
+          (each_two (λ n. n.event.clock.0 ≤ a.caller.latest)
           (λ n. IsJudgedBy stage (control_log stage before) n.event.clock.0 n.event.what)
           (λ n. IsJudgedBy stage (here ++ control_log stage before) n.event.clock.0 n.event.what) before
           (λ n top was. judged_later stage here (control_log stage before) n.event.clock.0 n.event.what
           (control_each (λ y. n.event.clock.0 < y.clock.0) stage e
-          (each_so (λ y. a.porter.latest < y.event.clock.0) (λ y. n.event.clock.0 < y.event.clock.0) e
+          (each_so (λ y. a.caller.latest < y.event.clock.0) (λ y. n.event.clock.0 < y.event.clock.0) e
           (λ y high. omega arith) step.since)) was) low old.judged));
       latest = (let sum = greatest_append (λ n. n.event.clock.0) e before in
           let was = old.latest in let now = done.called.latest in omega arith);
@@ -197,7 +197,7 @@ led_more stage servers p q a b c e before at step done old =
 -- by the notes of a command
 pub leads_step : (stage : Stage) (servers : List Serving) (p q : Posted) (a b : Head) (c : Command) (e : List Note)
     → slice_get stage.script.commands a.next ≡ Some c
-    → IsStep stage servers a.porter.latest a.published.0 a.next c e → HasDone stage servers p q a b e
+    → IsStep stage servers a.caller.latest a.published.0 a.next c e → HasDone stage servers p q a b e
     → Leads stage servers p q a (gone_on b) e
 leads_step stage servers p q a b c e at step done = record {
   led = λ before old. led_more stage servers p q a b c e before at step done old;
@@ -216,7 +216,7 @@ leads_none stage servers p a = record {
   led = λ before old. old;
   board = refl;
   same = record { number = refl; who_is = refl };
-  heard = hears_none stage servers a.porter.seats;
+  heard = hears_none stage servers a.caller.seats;
   placed = tt;
   since = tt;
   rises = omega arith;
@@ -228,11 +228,11 @@ leads_more stage servers p q r a b d x y first then = record {
   led = λ before old. subst (λ (l : List Note). IsLed stage r d l) (sym (append_assoc y x before))
       (then.led (x ++ before) (first.led before old));
   board = then.board ∙ first.board;
-  same = same_porter a.porter b.porter d.porter first.same then.same;
-  heard = hears_more stage servers a.porter.seats b.porter.seats d.porter.seats x y first.heard then.heard;
+  same = same_caller a.caller b.caller d.caller first.same then.same;
+  heard = hears_more stage servers a.caller.seats b.caller.seats d.caller.seats x y first.heard then.heard;
   placed = each_append (λ n. IsPlaced stage servers n.event.what) y x then.placed first.placed;
-  since = each_append (λ n. a.porter.latest < n.event.clock.0) y x
-      (each_so (λ n. b.porter.latest < n.event.clock.0) (λ n. a.porter.latest < n.event.clock.0) y
+  since = each_append (λ n. a.caller.latest < n.event.clock.0) y x
+      (each_so (λ n. b.caller.latest < n.event.clock.0) (λ n. a.caller.latest < n.event.clock.0) y
       (λ n high. let low = first.rises in omega arith) then.since) first.since;
   rises = let low = first.rises in let high = then.rises in omega arith;
 }

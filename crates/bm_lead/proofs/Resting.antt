@@ -138,7 +138,7 @@ adds_none stage p a posted = record {
   seats = tt;
   log = refl;
   posted = ap (λ (l : List ℕ). record p { clocks = l }) (sym (append-nil p.clocks));
-  porter = refl;
+  caller = refl;
 }
 
 pub adds_more : (stage : Stage) (p q r : Posted) (a b d : Head) → ((x : List Note) × Adds stage p q a b x)
@@ -166,6 +166,6 @@ adds_more stage p q r a b d old added =
         posted = added.posted ∙ (ap (λ (y : Posted). with_post y added.clock.0) was.posted
             ∙ ap (λ (l : List ℕ). record p { clocks = l })
             (append_assoc p.clocks (posted_clocks (events_of x)) (added.clock.0 ∷ [])));
-        porter = added.porter ∙ was.porter;
+        caller = added.caller ∙ was.caller;
       },
     )

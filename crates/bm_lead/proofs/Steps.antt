@@ -27,8 +27,8 @@ use Rattle.bm_merge.specs.Workers.{IsCommanded, IsMeant, clock_before, is_same_p
 use Rattle.bm_merge.proofs.Noting.{each_append, each_so, each_two, greatest_append, greatest_none, greatest_same}
 use Rattle.bm_merge.proofs.Noting.{total_append, total_none}
 use Rattle.bm_server.specs.Servings.{Serving}
-use Rattle.bm_worker.specs.Deeds.{HasServer}
-use Rattle.bm_worker.specs.Inside.Deeds.{closing, retiring}
+use Rattle.bm_worker.specs.WorkerNotes.{HasServer}
+use Rattle.bm_worker.specs.Inside.WorkerNotes.{closing, retiring}
 use Rattle.bm_lead.specs.Commands.{IsControlStep, IsJudgedBy, control_log, syncing}
 use Rattle.bm_lead.specs.Inside.Commands.{publishing}
 use Rattle.bm_lead.specs.Leads.{IsPlaced}

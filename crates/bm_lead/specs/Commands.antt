@@ -19,11 +19,11 @@ use Rattle.bm_core.specs.Runs.Actor.{Controller}
 use Rattle.bm_merge.specs.Merges.{IsNextVersion, newest_until}
 use Rattle.bm_merge.specs.Notes.{Note, events_of, many, size_of}
 use Rattle.bm_merge.specs.Workers.{home_part, is_publish}
-use Rattle.bm_worker.specs.Deeds.{deed, no_fate}
+use Rattle.bm_worker.specs.WorkerNotes.{note_at, no_fate}
 
 -- a Sync at this clock, by the command of this number
 abbrev pub syncing : Moment → ℕ → Note
-syncing clock command = deed clock Sync no_fate command 0 0
+syncing clock command = note_at clock Sync no_fate command 0 0
 
 -- THE CONTROLLER'S LOG
 

@@ -8,8 +8,8 @@ use Rattle.bm_table.specs.Scripts.{NamesVersions}
 use Rattle.bm_core.specs.declared.events.Stage.{Stage}
 use Rattle.bm_server.specs.Servings.{Serving}
 use Rattle.bm_publish.specs.Posts.{Posted, last_post}
-use Rattle.bm_worker.specs.Deeds.{Sits}
-use Rattle.bm_worker.specs.Portings.{Porting}
+use Rattle.bm_worker.specs.WorkerNotes.{Sits}
+use Rattle.bm_worker.specs.Callers.{CallerState}
 use Rattle.bm_worker.specs.declared.stop.Stop.{Stop}
 use Rattle.bm_worker.specs.declared.stop.Stop.TheVariants.{Late, Memory}
 use Rattle.bm_lead.specs.declared.head.Head.{Head}
@@ -30,22 +30,22 @@ pub record IsReady (stage : Stage) (servers : List Serving) (posted : Posted) (h
       (drop head.next stage.script.commands)
   pub posted_is : HasPosted stage posted head
   -- the last post is no later than what worker 0 did, and than LAST - 4,096
-  pub below : head.last_post.0 ≤ head.porter.latest
+  pub below : head.last_post.0 ≤ head.caller.latest
   pub early : head.last_post.0 + 4096 ≤ 9 * 10 ^ 18
   -- at most one call for each shard of a command
-  pub tries : head.porter.tries ≤ 64 * head.next
-  pub number : head.porter.number ≡ 0
-  pub sits : Sits servers head.porter
+  pub tries : head.caller.tries ≤ 64 * head.next
+  pub number : head.caller.number ≡ 0
+  pub sits : Sits servers head.caller
 
 -- nothing is posted, and worker 0 has a seat of every server and has done nothing
-pub record Begins (stage : Stage) (servers : List Serving) (posted : Posted) (porter : Porting)
+pub record Begins (stage : Stage) (servers : List Serving) (posted : Posted) (caller : CallerState)
     : Type 0 where
   pub plan : posted.plan ≡ stage.script.plan
   pub clocks : posted.clocks ≡ []
-  pub number : porter.number ≡ 0
-  pub sits : Sits servers porter
-  pub tries : porter.tries ≡ 0
-  pub latest : porter.latest ≡ 0
+  pub number : caller.number ≡ 0
+  pub sits : Sits servers caller
+  pub tries : caller.tries ≡ 0
+  pub latest : caller.latest ≡ 0
 
 -- there is a command, and it is a sync
 abbrev pub IsSyncCommand : Option Command → Type 0

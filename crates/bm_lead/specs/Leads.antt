@@ -15,7 +15,7 @@ use Rattle.bm_merge.specs.Notes.{Note, greatest}
 use Rattle.bm_merge.specs.Workers.{IsCommanded}
 use Rattle.bm_server.specs.Servings.{Serving}
 use Rattle.bm_publish.specs.Posts.{Posted}
-use Rattle.bm_worker.specs.Deeds.{HasServer, Hears, IsSamePorter}
+use Rattle.bm_worker.specs.WorkerNotes.{HasServer, Hears, IsSameCaller}
 use Rattle.bm_lead.specs.declared.head.Head.{Head}
 use Rattle.bm_lead.specs.Commands.{AreDone, IsControlStep, IsJudgedBy, control_log, posted_clocks}
 use Rattle.bm_lead.specs.Commands.{syncing}
@@ -35,7 +35,7 @@ pub record IsLed (stage : Stage) (posted : Posted) (head : Head) (deeds : List N
   pub published : newest (control_log stage deeds) ≡ head.published.0
   pub posts : posted.clocks ≡ posted_clocks (control_log stage deeds)
   -- the greatest clock
-  pub latest : head.porter.latest ≡ greatest (λ n. n.event.clock.0) deeds
+  pub latest : head.caller.latest ≡ greatest (λ n. n.event.clock.0) deeds
 
 -- a Close is at one of the servers, a Retire at a shard of one
 abbrev pub IsPlaced : Stage → List Serving → What → Type 0
@@ -49,13 +49,13 @@ pub record Leads (stage : Stage) (servers : List Serving) (p q : Posted) (a b : 
     (deeds : List Note) : Type 0 where
   pub led : (before : List Note) → IsLed stage p a before → IsLed stage q b (deeds ++ before)
   pub board : q.board ≡ p.board
-  pub same : IsSamePorter a.porter b.porter
+  pub same : IsSameCaller a.caller b.caller
   -- its seats' calls and replies grow by exactly what it does at their shards
-  pub heard : Hears stage servers a.porter.seats b.porter.seats deeds
+  pub heard : Hears stage servers a.caller.seats b.caller.seats deeds
   pub placed : AllByRecursion (λ n. IsPlaced stage servers n.event.what) deeds
   -- each clock is above all clocks before
-  pub since : AllByRecursion (λ n. a.porter.latest < n.event.clock.0) deeds
-  pub rises : a.porter.latest ≤ b.porter.latest
+  pub since : AllByRecursion (λ n. a.caller.latest < n.event.clock.0) deeds
+  pub rises : a.caller.latest ≤ b.caller.latest
 
 -- none of them is a Sync
 abbrev pub HaveNoSync : List Note → Type 0
@@ -74,5 +74,5 @@ pub record HasSynced (stage : Stage) (servers : List Serving) (posted : Posted) 
   pub bound : clock.0 ≤ 9 * 10 ^ 18
   pub leads : Leads stage servers posted posted a b (syncing clock a.next ∷ [])
   pub ready : IsReady stage servers posted b
-  pub latest : b.porter.latest ≡ clock.0
+  pub latest : b.caller.latest ≡ clock.0
   pub next : b.next ≡ a.next + 1

@@ -1,6 +1,6 @@
 -- The changes that worker 0 posts once a worker has given up (docs/DEFINITIONS.md). Lists of notes
 -- have the newest first.
-use Rattle.std.specs.Prelude.{◌≡◌, true, ◌+◌, List, ◌++◌, reverse}
+use Rattle.std.specs.Prelude.{◌≡◌, true, List, ◌++◌, reverse}
 use Rattle.std.specs.List.{AllByRecursion}
 use Rattle.bm_core.specs.declared.events.Stage.{Stage}
 use Rattle.bm_core.specs.Runs.{AtEach}
@@ -23,4 +23,4 @@ pub record Adds (stage : Stage) (p q : Posted) (a b : Head) (deeds : List Note) 
   pub log : reverse b.log.items ≡ events_of deeds ++ reverse a.log.items
   pub posted : q ≡ record p { clocks = p.clocks ++ posted_clocks (events_of deeds) }
   -- its seats are as they were
-  pub porter : b.porter ≡ a.porter
+  pub caller : b.caller ≡ a.caller

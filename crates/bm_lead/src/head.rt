@@ -9,14 +9,14 @@ ghost use Rattle.bm_lead.specs.Leads.{IsLed};
 
 use bm_base::{Moment, Version};
 use bm_core::Event;
-use bm_worker::Porter;
+use bm_worker::Caller;
 use std::alloc::Global;
 
 /// Worker 0.
 #[derive(Drop)]
 pub struct Head {
     /// Its seats. The greatest clock of what it did is the controller's clock.
-    pub porter: Porter,
+    pub caller: Caller,
     /// The place of the next command, counted from 0.
     pub next: usize,
     /// How many versions are published.
@@ -29,18 +29,18 @@ pub struct Head {
 
 impl Head {
     /// Worker 0 before the first command. Takes no memory.
-    pub fn new(alloc: Global, porter: Porter) -> Head
-        ensures porter { result.porter ≡ porter }
+    pub fn new(alloc: Global, caller: Caller) -> Head
+        ensures caller { result.caller ≡ caller }
         ensures next { result.next ≡ 0 }
         ensures published { (result.published.0 ≡ 0) × (result.last_post.0 ≡ 0) }
         ensures log { result.log.items ≡ [] }
         ensures ready { (stage : Stage) (servers : List Serving) (posted : Posted) → IsSound stage
-            → Begins stage servers posted porter → IsReady stage servers posted result }
+            → Begins stage servers posted caller → IsReady stage servers posted result }
         ensures led { (stage : Stage) (servers : List Serving) (posted : Posted)
-            → Begins stage servers posted porter → IsLed stage posted result [] }
+            → Begins stage servers posted caller → IsLed stage posted result [] }
     {
         Head {
-            porter,
+            caller,
             next: 0,
             published: Version(0),
             last_post: Moment(0),

@@ -5,7 +5,7 @@ ghost use Rattle.bm_table.specs.declared.script.Command.TheVariants.{Sync};
 ghost use Rattle.bm_core.specs.Stages.{IsSound};
 ghost use Rattle.bm_server.specs.Servings.{Serving};
 ghost use Rattle.bm_publish.specs.Posts.{Posted};
-ghost use Rattle.bm_worker.specs.Deeds.{Suits};
+ghost use Rattle.bm_worker.specs.WorkerNotes.{Suits};
 ghost use Rattle.bm_lead.specs.Heads.{IsPhase, IsReady, IsStopFrom, IsSyncCommand, OnLate};
 ghost use Rattle.bm_lead.specs.Heads.{UnlessMemory};
 ghost use Rattle.bm_lead.specs.Leads.{HasLed, HasSynced};
@@ -17,34 +17,30 @@ use bm_base::{LAST, Moment};
 use bm_core::{Stage, What};
 use bm_io::Gate;
 use bm_publish::Poster;
-use bm_server::Server;
 use bm_table::Command;
-use bm_worker::Stop;
+use bm_worker::{Shared, Stop};
 use std::sync::Wait;
 
 /// Carries out the next command, which isn't a sync.
-fn lead_next<R: Wait, G: Gate>(
+fn lead_next<R: Wait, F, G: Gate>(
     rt: &R,
-    gate: &G,
-    stage: &Stage,
-    servers: &[Server],
+    shared: &Shared<'_, F, G>,
     poster: &mut Poster,
     head: &mut Head,
 ) -> Result<(), Stop>
-    requires sound { IsSound stage.now }
-    requires suits { Suits stage.now servers.now }
-    requires ready { IsReady stage.now servers.now poster.old head.old }
-    requires there { head.old.next < length stage.now.script.commands }
-    requires no_sync { IsSyncCommand (slice_get stage.now.script.commands head.old.next) → ⊥ }
-    ensures led { UnlessMemory result
-        (HasLed stage.now servers.now poster.old poster.new head.old head.new) }
+    requires ready { IsReady shared.now.stage shared.now.servers poster.old head.old }
+    requires there { head.old.next < length shared.now.stage.script.commands }
+    requires no_sync { IsSyncCommand (slice_get shared.now.stage.script.commands head.old.next)
+        → ⊥ }
+    ensures led { UnlessMemory result (HasLed shared.now.stage shared.now.servers poster.old
+        poster.new head.old head.new) }
     ensures next { OnOk result (head.new.next ≡ head.old.next + 1) }
-    ensures stop { IfErr result (IsStopFrom (9 * 10 ^ 18 - 4096) head.new.porter.latest) }
+    ensures stop { IfErr result (IsStopFrom (9 * 10 ^ 18 - 4096) head.new.caller.latest) }
 {
     let place = head.next;
-    let commands = stage.script.commands.items();
-    gate.at(0, place as u32 + 1);
-    carry_out(rt, stage, servers, commands[place], poster, head)?;
+    let commands = shared.stage().script.commands.items();
+    shared.come_to_gate(0, place as u32 + 1);
+    carry_out(rt, shared, commands[place], poster, head)?;
     head.next += 1;
     Ok(())
 }
@@ -53,26 +49,22 @@ fn lead_next<R: Wait, G: Gate>(
 /// where there is a sync or no command. Right before each it comes to the gate. `Late` if a moment
 /// would be above LAST, or the clock of a post above LAST - 4,096; the commands before it are then
 /// carried out. `Memory` where memory was refused. It may wait.
-pub fn lead_phase<R: Wait, G: Gate>(
+pub fn lead_phase<R: Wait, F, G: Gate>(
     rt: &R,
-    gate: &G,
-    stage: &Stage,
-    servers: &[Server],
+    shared: &Shared<'_, F, G>,
     poster: &mut Poster,
     head: &mut Head,
     until: usize,
 ) -> Result<(), Stop>
-    requires sound { IsSound stage.now }
-    requires suits { Suits stage.now servers.now }
-    requires ready { IsReady stage.now servers.now poster.old head.old }
-    requires phase { IsPhase stage.now.script.commands head.old.next until }
-    ensures led { UnlessMemory result
-        (HasLed stage.now servers.now poster.old poster.new head.old head.new) }
+    requires ready { IsReady shared.now.stage shared.now.servers poster.old head.old }
+    requires phase { IsPhase shared.now.stage.script.commands head.old.next until }
+    ensures led { UnlessMemory result (HasLed shared.now.stage shared.now.servers poster.old
+        poster.new head.old head.new) }
     ensures next { OnOk result (head.new.next ≡ until) }
-    ensures stop { IfErr result (IsStopFrom (9 * 10 ^ 18 - 4096) head.new.porter.latest) }
+    ensures stop { IfErr result (IsStopFrom (9 * 10 ^ 18 - 4096) head.new.caller.latest) }
 {
     while head.next < until {
-        lead_next(rt, gate, stage, servers, poster, head)?;
+        lead_next(rt, shared, poster, head)?;
     }
     Ok(())
 }
@@ -94,7 +86,7 @@ fn sync_moment(commands: &[Command], place: usize) -> Moment
 pub fn sync(stage: &Stage, head: &mut Head, greatest: Moment) -> Result<(), Stop>
     requires sound { IsSound stage.now }
     requires sync { IsSyncCommand (slice_get stage.now.script.commands head.old.next) }
-    requires greatest { head.old.porter.latest ≤ greatest.0 }
+    requires greatest { head.old.caller.latest ≤ greatest.0 }
     ensures synced { (servers : List Serving) (posted : Posted) → Suits stage.now servers
         → IsReady stage.now servers posted head.old
         → OnOk result (HasSynced stage.now servers posted greatest.0 head.old head.new) }
@@ -104,7 +96,7 @@ pub fn sync(stage: &Stage, head: &mut Head, greatest: Moment) -> Result<(), Stop
     let at = sync_moment(stage.script.commands.items(), head.next);
     let clock = clock_up_to(LAST, greatest, at)?;
     write_down(&mut head.log, clock, What::Sync)?;
-    head.porter.see(clock);
+    head.caller.see(clock);
     head.next += 1;
     Ok(())
 }

@@ -8,7 +8,7 @@ ghost use Rattle.bm_core.specs.Stages.{IsSound};
 ghost use Rattle.bm_link.specs.Fits.{ArePackets, IsPacketOf};
 ghost use Rattle.bm_server.specs.Seats.{IsNewSeat};
 ghost use Rattle.bm_table.specs.Settings.{plain_setting};
-ghost use Rattle.bm_worker.specs.Deeds.{Suits};
+ghost use Rattle.bm_worker.specs.WorkerNotes.{Suits};
 ghost use Rattle.bm_worker.specs.Phases.{CanWork};
 
 use crate::packets::syn;
@@ -24,7 +24,7 @@ use bm_mux::Mux;
 use bm_publish::{Look, Poster, board};
 use bm_server::{Server, ServerSeat};
 use bm_table::{Plan, Script, Setting};
-use bm_worker::{MuxWorker, Porter, Shared, Span, work_all};
+use bm_worker::{Caller, MuxWorker, Shared, Span, work_all};
 use std::alloc::Global;
 use std::sync::Wait;
 use std::test::Fail;
@@ -152,7 +152,7 @@ fn worker(
     let mux = Mux::new(alloc, MuxId(number), look, stage.script.setting.buckets);
     Ok(MuxWorker {
         mux,
-        porter: Porter::new(number + 1, seats),
+        caller: Caller::new(number + 1, seats),
         steps: 0,
         told: Some(poster.tell()),
         stop: None,
@@ -160,7 +160,7 @@ fn worker(
 }
 
 /// Two workers.
-fn crew(
+fn make_pair(
     alloc: Global,
     stage: &Stage,
     server: &Server,
@@ -212,30 +212,13 @@ fn carry<W: Threads + Wait + Sync>(
             delay: 0,
         }
     });
-    let shared = Shared {
-        alloc,
-        stage,
-        octets,
-        routes: &routes,
-        servers,
-        faults: &faults,
-        gate: &OpenGate,
-    };
+    let shared = Shared::new(alloc, stage, octets, &routes, servers, &faults, &OpenGate);
     let span = Span {
         from: 0,
         until: 2,
         after: Moment(0),
     };
     work_all(rt, &shared, span, workers);
-    let Shared {
-        alloc: _alloc,
-        stage: _stage,
-        octets: _octets,
-        routes: _routes,
-        servers: _servers,
-        faults: _faults,
-        gate: _gate,
-    } = shared;
 }
 
 /// The workers of a run of one server, after its only phase.
@@ -261,7 +244,7 @@ fn carry_beside_a_board<W: Threads + Wait + Sync>(
     requires looks { (looks.0 ≡ poster.now) × (looks.1 ≡ poster.now) }
 {
     let (server, seats) = Server::new(alloc, ServerId(1), 1, 4_096, 240_000_000_000, 3)?;
-    let mut workers = crew(alloc, stage, &server, seats, looks, poster)?;
+    let mut workers = make_pair(alloc, stage, &server, seats, looks, poster)?;
     let servers = alone(alloc, server)?;
     carry(rt, alloc, stage, octets, &servers, &mut workers);
     Ok(workers)
@@ -291,7 +274,7 @@ fn each_mux_carries_its_packet(rt: HostRuntime) -> Result<(), Fail> {
     for worker in workers.iter() {
         assert!(rt; worker.stop.is_none() && worker.told.is_none());
         assert_eq!(rt; worker.steps, 1);
-        let clock = worker.porter.latest().0;
+        let clock = worker.caller.latest().0;
         first = first.min(clock);
         last = last.max(clock);
     }

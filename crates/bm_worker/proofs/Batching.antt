@@ -35,9 +35,9 @@ use Rattle.bm_mux.specs.Steers.{switches, tag_by}
 use Rattle.bm_server.specs.Servings.{Serving}
 use Rattle.bm_worker.specs.Inside.Batches.{AreDrawn, AreOwed, IsItemOf, IsSent, Rise, last_packet}
 use Rattle.bm_worker.specs.Inside.Batches.{sent_notes, steering, switch_note, switch_notes}
-use Rattle.bm_worker.specs.Deeds.{Suits}
-use Rattle.bm_worker.specs.Inside.Debts.{IsAmong}
-use Rattle.bm_worker.specs.Phases.{IsDeed, Stint, mux_for}
+use Rattle.bm_worker.specs.WorkerNotes.{Suits}
+use Rattle.bm_worker.specs.Inside.Pending.{IsAmong}
+use Rattle.bm_worker.specs.Phases.{IsPhaseNote, Stint, mux_for}
 use Rattle.bm_worker.specs.Assigned.{is_mux, is_assigned, assigned_mux}
 use Rattle.bm_base.proofs.Entries.{tag_valid}
 use Rattle.bm_table.proofs.Tables.{early_entry}
@@ -65,7 +65,7 @@ pub sent_deeds : (F : Rules) (stage : Stage) (servers : List Serving) (stint : S
     (items : List MuxItem) (fates : List Fate) → stint.after ≤ last → stint.from ≤ low
     → last_packet low items ≤ stint.until → Rise low items
     → AllByRecursion (IsItemOf stage stint.routes (mux_for stint).0) items → AreDrawn F items fates
-    → AllByRecursion (IsDeed F stage servers stint all)
+    → AllByRecursion (IsPhaseNote F stage servers stint all)
     (sent_notes (mux_for stint) (sent (mux_for stint) seen last items) fates)
 sent_deeds F stage servers stint seen all last low [] fates after from until rise each drawn = tt
 sent_deeds F stage servers stint seen all last low (i ∷ items) [] after from until rise each drawn = absurd drawn
@@ -73,7 +73,7 @@ sent_deeds F stage servers stint seen all last low (i ∷ items) (f ∷ fates) a
     let m = mux_for stint in let next = steer_clock last i in
     let above : stint.from < i.packet = (let lt = rise.0 in omega (arith, lt, from)) in
     let below : i.packet ≤ stint.until = (let le = rise_last i.packet items rise.1 in omega (arith, le, until)) in
-    each_append (IsDeed F stage servers stint all) (sent_notes m (sent m seen next items) fates)
+    each_append (IsPhaseNote F stage servers stint all) (sent_notes m (sent m seen next items) fates)
     (steering (record { 0 = next }) i.packet m f (m.0 + 1) ∷ [])
     (sent_deeds F stage servers stint seen all next i.packet items fates (omega (arith, after)) (omega (arith, above))
     until rise.1 each.1 drawn.3) (
@@ -94,11 +94,11 @@ sent_deeds F stage servers stint seen all last low (i ∷ items) (f ∷ fates) a
 pub switch_deeds : (F : Rules) (stage : Stage) (servers : List Serving) (stint : Stint) (seen : Posted)
     (all : List Note) (past : List Event)
     → stint.after < steering_clock past
-    → AllByRecursion (IsDeed F stage servers stint all) (switch_notes (mux_for stint) seen past)
+    → AllByRecursion (IsPhaseNote F stage servers stint all) (switch_notes (mux_for stint) seen past)
 switch_deeds F stage servers stint seen all past begun =
     of_test (ltb (version_at past (mux_for stint)).0 (last_version seen)) where
       of_test : (b : Bool)
-          → AllByRecursion (IsDeed F stage servers stint all)
+          → AllByRecursion (IsPhaseNote F stage servers stint all)
           (cond b (switch_note (mux_for stint) seen past (last_post seen) ∷ []) [])
       of_test true = (
         record {

@@ -28,7 +28,7 @@ use Rattle.bm_worker.specs.declared.stop.Stop.{Stop}
 use Rattle.bm_worker.specs.declared.stop.Stop.TheVariants.{Memory}
 use Rattle.bm_worker.specs.declared.worker.MuxWorker.{MuxWorker}
 use Rattle.bm_worker.specs.Inside.Batches.{HasOnlyLooked, HasSeen, IsDoneTo, IsLogged, IsSteerTo, switch_note}
-use Rattle.bm_worker.specs.Phases.{AreCopies, HasEnded, IsDeed, IsOlder, IsReady, IsStopOf, IsAssigned, Kept}
+use Rattle.bm_worker.specs.Phases.{AreCopies, HasEnded, IsPhaseNote, IsOlder, IsReady, IsStopOf, IsAssigned, Kept}
 use Rattle.bm_worker.specs.Phases.{Stint, mux_log, mux_for}
 use Rattle.bm_worker.specs.Assigned.{RoutedBy, is_mux, is_assigned, assigned_mux}
 use Rattle.bm_worker.proofs.Collecting.{assigned_none, mux_is}
@@ -49,11 +49,11 @@ kept_none F stage servers stint = record {
   ordered = tt;
   logged = refl;
   gives = tt;
-  hears = hears_none stage servers stint.start.porter.seats;
+  hears = hears_none stage servers stint.start.caller.seats;
   copies = λ are. are;
   latest = omega arith;
   mux = same_posts stint.start stint.start refl refl;
-  porter = record { number = refl; who_is = refl };
+  caller = record { number = refl; who_is = refl };
 }
 
 -- memory was refused before the first look
@@ -163,18 +163,18 @@ begun_step F stage servers stint mid ready begun seen_it =
           (rest ++ past) e.clock.0 e.what) l)
           (sym log)
           ((look, (last_post seen, last_posted seen, (omega (arith, own)))), tt);
-      hears = steerings_heard stage servers m (n ∷ []) stint.start.porter.seats mid.porter.seats seen_it.seats
+      hears = steerings_heard stage servers m (n ∷ []) stint.start.caller.seats mid.caller.seats seen_it.seats
           (refl, tt);
       copies = λ are. subst (λ (l : List (List Seated)). AreCopies stage m servers (reverse mid.mux.log) l)
           (sym seen_it.seats)
-          (copies_as stage servers m past (reverse mid.mux.log) stint.start.porter.seats
+          (copies_as stage servers m past (reverse mid.mux.log) stint.start.caller.seats
           (λ k l is. ap (λ (z : List Event). label_of stage z k) turned ∙ is) are);
       latest =
           let clock : steering_clock (reverse mid.mux.log) ≡ n.event.clock.0 =
           ap (λ (l : List Event). steering_clock l) turned in
           let l = seen_it.latest in omega (arith, clock, l);
       mux = begun.looked.same;
-      porter = seen_it.porter;
+      caller = seen_it.caller;
     }
 
 or_left : (a b : Bool) → a ≡ true → ◌≡◌ {A = Bool} (a || b) true
@@ -247,11 +247,11 @@ phase_ended F stage servers stint now d next is done = (
   record {
     kept = done.kept;
     carrier = record {
-      kinds = each_so (IsDeed F stage servers stint d) (λ n. carries (mux_for stint).0 n.event.what ≡ true) d
+      kinds = each_so (IsPhaseNote F stage servers stint d) (λ n. carries (mux_for stint).0 n.event.what ≡ true) d
           (λ n of. of.kind) done.kept.each;
-      owed = each_so (IsDeed F stage servers stint d) (λ n. IsOwed d n n.event.what) d (λ n of. of.owed)
+      owed = each_so (IsPhaseNote F stage servers stint d) (λ n. IsOwed d n n.event.what) d (λ n of. of.owed)
           done.kept.each;
-      answers = each_so (IsDeed F stage servers stint d) (IsAnswer (RoutedBy stint.routes) F stage) d
+      answers = each_so (IsPhaseNote F stage servers stint d) (IsAnswer (RoutedBy stint.routes) F stage) d
           (λ n of. (routed stage stint n.event.what of.kind of.assigned, of.drawn)) done.kept.each;
       lost = done.settled.lost;
       sent = done.settled.sent;

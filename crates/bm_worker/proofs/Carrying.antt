@@ -26,15 +26,15 @@ use Rattle.bm_worker.specs.declared.stop.Stop.{Stop}
 use Rattle.bm_worker.specs.declared.stop.Stop.TheVariants.{Memory, Late}
 use Rattle.bm_worker.specs.declared.worker.MuxWorker.{MuxWorker}
 use Rattle.bm_worker.specs.Arrivals.{HasCome, IsCopy}
-use Rattle.bm_worker.specs.Deeds.{IsSamePorter, Sits, Suits, no_fate}
-use Rattle.bm_worker.specs.Inside.Deeds.{arrival, loss}
-use Rattle.bm_worker.specs.Inside.Debts.{Carries, Debt, GrowsByLosses, HasCarried, IsCopyOf, IsLateFrom}
-use Rattle.bm_worker.specs.Inside.Debts.{IsSameWorker, Owes, Pays}
-use Rattle.bm_worker.specs.Inside.Debts.{with_copies}
+use Rattle.bm_worker.specs.WorkerNotes.{IsSameCaller, Sits, Suits, no_fate}
+use Rattle.bm_worker.specs.Inside.WorkerNotes.{arrival, loss}
+use Rattle.bm_worker.specs.Inside.Pending.{Carries, Pending, GrowsByLosses, HasCarried, IsCopyOf, IsLateFrom}
+use Rattle.bm_worker.specs.Inside.Pending.{IsSameWorker, Owes, Pays}
+use Rattle.bm_worker.specs.Inside.Pending.{with_copies}
 use Rattle.bm_worker.specs.Inside.Lost.{with_loss}
 use Rattle.bm_worker.specs.Phases.{IsStopOf, Kept, Stint, mux_for}
-use Rattle.bm_worker.specs.Portings.{Porting}
-use Rattle.bm_worker.specs.Told.{Stays}
+use Rattle.bm_worker.specs.Callers.{CallerState}
+use Rattle.bm_worker.specs.SeatCalls.{Stays}
 use Rattle.bm_worker.proofs.Copying.{copy_reads}
 use Rattle.bm_worker.proofs.Paying.{pays_lost, pays_more, pays_none, pays_one, pays_whole}
 use Rattle.bm_worker.proofs.Steps.{kept_arrival, kept_loss, kept_stays, one_of, owes_more}
@@ -56,21 +56,21 @@ answered P P' S S' (Err e) f g is = g e is
 
 -- THE WORKER STAYS THE SAME
 
-pub same_porter_on : (a b c : Porting) → IsSamePorter a b → IsSamePorter b c → IsSamePorter a c
-same_porter_on a b c p q = record { number = q.number ∙ p.number; who_is = q.who_is ∙ p.who_is }
+pub same_caller_on : (a b c : CallerState) → IsSameCaller a b → IsSameCaller b c → IsSameCaller a c
+same_caller_on a b c p q = record { number = q.number ∙ p.number; who_is = q.who_is ∙ p.who_is }
 
 pub same_worker : (w : MuxWorker) → IsSameWorker w w
-same_worker w = record { id = refl; seen = refl; porter = record { number = refl; who_is = refl }; steps = refl }
+same_worker w = record { id = refl; seen = refl; caller = record { number = refl; who_is = refl }; steps = refl }
 
 pub same_worker_on : (a b c : MuxWorker) → IsSameWorker a b → IsSameWorker b c → IsSameWorker a c
 same_worker_on a b c p q = record {
   id = q.id ∙ p.id;
   seen = q.seen ∙ p.seen;
-  porter = same_porter_on a.porter b.porter c.porter p.porter q.porter;
+  caller = same_caller_on a.caller b.caller c.caller p.caller q.caller;
   steps = q.steps ∙ p.steps;
 }
 
-pub sits_on : (servers : List Serving) (a b : Porting) → IsSamePorter a b → Sits servers a → Sits servers b
+pub sits_on : (servers : List Serving) (a b : CallerState) → IsSameCaller a b → Sits servers a → Sits servers b
 sits_on servers a b same sits =
     same.who_is
     ∙ (sits ∙ ap (λ (n : ℕ). Rattle.std.proofs.Common.map (λ server. row server n) servers) (sym same.number))
@@ -99,10 +99,10 @@ one_loss k clock hop n log some = (at_clock clock (Lose k hop) ∷ [], refl, (re
 -- GIVING UP
 
 -- the moment comes from the sending's clock
-pub late_stop : (stint : Stint) (d : List Note) (debt : Debt) (stop : Stop) → Owes stint d debt
-    → IsLateFrom debt.clock stop → IsStopOf d stop
-late_stop stint d debt Memory owes late = absurd late
-late_stop stint d debt (Late moment at) owes late = (
+pub late_stop : (stint : Stint) (d : List Note) (pending : Pending) (stop : Stop) → Owes stint d pending
+    → IsLateFrom pending.clock stop → IsStopOf d stop
+late_stop stint d pending Memory owes late = absurd late
+late_stop stint d pending (Late moment at) owes late = (
   late.0,
   late.1,
   one_of owes.note d (λ n. n.event.clock.0 == at.0) owes.among
@@ -113,35 +113,35 @@ pub stop_of_memory : (d : List Note) (stop : Stop) → stop ≡ Memory → IsSto
 stop_of_memory d stop is = subst (λ (s : Stop). IsStopOf d s) (sym is) tt
 
 -- before anything was done
-pub carries_late : (F : Rules) (stage : Stage) (servers : List Serving) (debt : Debt) (most : ℕ) (w : MuxWorker)
+pub carries_late : (F : Rules) (stage : Stage) (servers : List Serving) (pending : Pending) (most : ℕ) (w : MuxWorker)
     (r : Result (Unit {0}) Stop)
-    → (stop : Stop) → IsErrAnd r (λ e. e ≡ stop) → IsLateFrom debt.clock stop → Carries F stage servers debt most w w r
-carries_late F stage servers debt most w r stop is late = λ stint d kept owes. (
+    → (stop : Stop) → IsErrAnd r (λ e. e ≡ stop) → IsLateFrom pending.clock stop → Carries F stage servers pending most w w r
+carries_late F stage servers pending most w r stop is late = λ stint d kept owes. (
   [],
   record { kept = kept; packets = tt; few = omega arith },
-  ended (λ _. Pays true debt []) (λ e. e ≡ stop) (λ e. IsStopOf d e) r is
-      (λ e same. subst (λ (x : Stop). IsStopOf d x) (sym same) (late_stop stint d debt stop owes late)),
+  ended (λ _. Pays true pending []) (λ e. e ≡ stop) (λ e. IsStopOf d e) r is
+      (λ e same. subst (λ (x : Stop). IsStopOf d x) (sym same) (late_stop stint d pending stop owes late)),
 )
 
 -- NO COPIES
 
-pub carries_loss : (F : Rules) (stage : Stage) (servers : List Serving) (debt : Debt) (most : ℕ) (w next : MuxWorker)
+pub carries_loss : (F : Rules) (stage : Stage) (servers : List Serving) (pending : Pending) (most : ℕ) (w next : MuxWorker)
     (r : Result (Unit {0}) Stop)
-    → 1 ≤ most → debt.fate.copies ≡ 0
-    → MatchResult r (λ _. next ≡ with_loss debt.packet debt.hop debt.clock w) (λ stop. (stop ≡ Memory) × (next ≡ w))
-    → Carries F stage servers debt most w next r
-carries_loss F stage servers debt most w next (Ok u) some none is = λ stint d kept owes.
-    let n = loss (debt.clock + 1) debt.packet debt.hop ((mux_for stint).0 + 1) in (
+    → 1 ≤ most → pending.fate.copies ≡ 0
+    → MatchResult r (λ _. next ≡ with_loss pending.packet pending.hop pending.clock w) (λ stop. (stop ≡ Memory) × (next ≡ w))
+    → Carries F stage servers pending most w next r
+carries_loss F stage servers pending most w next (Ok u) some none is = λ stint d kept owes.
+    let n = loss (pending.clock + 1) pending.packet pending.hop ((mux_for stint).0 + 1) in (
       n ∷ [],
       record {
         kept = subst (λ (x : MuxWorker). Kept F stage servers stint x (n ∷ d)) (sym is)
-            (kept_loss F stage servers stint w d debt none owes kept);
+            (kept_loss F stage servers stint w d pending none owes kept);
         packets = (refl, tt);
         few = omega (arith, some);
       },
-      pays_lost ((mux_for stint).0 + 1) debt none (debt.clock + 1) (omega arith),
+      pays_lost ((mux_for stint).0 + 1) pending none (pending.clock + 1) (omega arith),
     )
-carries_loss F stage servers debt most w next (Err stop) some none is = λ stint d kept owes. (
+carries_loss F stage servers pending most w next (Err stop) some none is = λ stint d kept owes. (
   [],
   record {
     kept = subst (λ (x : MuxWorker). Kept F stage servers stint x d) (sym is.1) kept;
@@ -162,99 +162,99 @@ grows_by_loss most k clock hop w next (Err stop) some is =
 
 pub same_by_loss : (k clock : ℕ) (hop : Hop) (w next : MuxWorker) (r : Result (Unit {0}) Stop)
     → MatchResult r (λ _. next ≡ with_loss k hop clock w) (λ stop. (stop ≡ Memory) × (next ≡ w))
-    → IsSameWorker w next × (next.porter.tries ≡ w.porter.tries)
+    → IsSameWorker w next × (next.caller.tries ≡ w.caller.tries)
 same_by_loss k clock hop w next (Ok u) is =
-    subst (λ (x : MuxWorker). IsSameWorker w x × (x.porter.tries ≡ w.porter.tries)) (sym is)
-    (record { id = refl; seen = refl; porter = record { number = refl; who_is = refl }; steps = refl }, refl)
+    subst (λ (x : MuxWorker). IsSameWorker w x × (x.caller.tries ≡ w.caller.tries)) (sym is)
+    (record { id = refl; seen = refl; caller = record { number = refl; who_is = refl }; steps = refl }, refl)
 same_by_loss k clock hop w next (Err stop) is =
-    subst (λ (x : MuxWorker). IsSameWorker w x × (x.porter.tries ≡ w.porter.tries)) (sym is.1) (same_worker w, refl)
+    subst (λ (x : MuxWorker). IsSameWorker w x × (x.caller.tries ≡ w.caller.tries)) (sym is.1) (same_worker w, refl)
 
 -- THE LOOP OVER COPIES
 
-pub carried_none : (F : Rules) (stage : Stage) (servers : List Serving) (debt : Debt) (w : MuxWorker)
-    → HasCarried F stage servers debt 0 0 w w
-carried_none F stage servers debt w = λ stint d kept owes.
-    ([], record { kept = kept; packets = tt; few = omega arith }, pays_none debt)
+pub carried_none : (F : Rules) (stage : Stage) (servers : List Serving) (pending : Pending) (w : MuxWorker)
+    → HasCarried F stage servers pending 0 0 w w
+carried_none F stage servers pending w = λ stint d kept owes.
+    ([], record { kept = kept; packets = tt; few = omega arith }, pays_none pending)
 
 -- one copy more, which is not forwarded
-pub carried_arrival : (F : Rules) (stage : Stage) (servers : List Serving) (debt : Debt) (i most : ℕ)
+pub carried_arrival : (F : Rules) (stage : Stage) (servers : List Serving) (pending : Pending) (i most : ℕ)
     (old now next : MuxWorker)
     (place : ℕ) (octets : List ℕ) (due : Moment) (r : Moment × Verdict) → Suits stage servers
-    → (copy : IsCopyOf stage servers now.mux place debt.packet debt.hop octets)
-    → due.0 ≡ debt.clock + debt.fate.delay → due.0 < r.0.0
-    → ((server : ServerId) → sending_of (Arrive debt.packet debt.hop server r.1) ≡ None)
+    → (copy : IsCopyOf stage servers now.mux place pending.packet pending.hop octets)
+    → due.0 ≡ pending.clock + pending.fate.delay → due.0 < r.0.0
+    → ((server : ServerId) → sending_of (Arrive pending.packet pending.hop server r.1) ≡ None)
     → ((server : Serving) (read : _) → slice_get servers place ≡ Some server → IsCopy server octets read
-    → HasCome place server debt.packet read due r now.porter.seats next.porter.seats)
-    → next.mux ≡ now.mux → next.porter.latest ≡ max now.porter.latest r.0.0 → IsSamePorter now.porter next.porter
-    → HasCarried F stage servers debt i most old now → HasCarried F stage servers debt (i + 1) (most + 1) old next
-carried_arrival F stage servers debt i most old now next place octets due r suits copy is lt none come mux latest porter
+    → HasCome place server pending.packet read due r now.caller.seats next.caller.seats)
+    → next.mux ≡ now.mux → next.caller.latest ≡ max now.caller.latest r.0.0 → IsSameCaller now.caller next.caller
+    → HasCarried F stage servers pending i most old now → HasCarried F stage servers pending (i + 1) (most + 1) old next
+carried_arrival F stage servers pending i most old now next place octets due r suits copy is lt none come mux latest caller
     carried = λ stint d kept owes.
     let c = carried stint d kept owes in let x = c.0 in let w = (mux_for stint).0 + 1 in
-    let n = arrival r.0 debt.packet debt.hop copy.server.id r.1 no_fate due.0 w in (
+    let n = arrival r.0 pending.packet pending.hop copy.server.id r.1 no_fate due.0 w in (
       n ∷ x,
       record {
-        kept = kept_arrival F stage servers stint now next (x ++ d) debt place octets due r no_fate suits copy is lt
+        kept = kept_arrival F stage servers stint now next (x ++ d) pending place octets due r no_fate suits copy is lt
             (subst (λ o. IfSome o (λ s. F s.packet s.hop no_fate)) (sym (none copy.server.id)) tt)
             (come copy.server (copy.tag, copy.segment) copy.is_server
-            (copy_reads stage servers now.mux place debt.packet debt.hop octets copy))
-            mux latest porter (owes_more stint x d debt c.1.packets owes) c.1.kept;
+            (copy_reads stage servers now.mux place pending.packet pending.hop octets copy))
+            mux latest caller (owes_more stint x d pending c.1.packets owes) c.1.kept;
         packets = (refl, c.1.packets);
         few = let f = c.1.few in omega arith;
       },
-      pays_more debt i x (n ∷ []) c.2
-          (pays_one w debt r.0 copy.server.id r.1 no_fate due.0 (none copy.server.id) is lt),
+      pays_more pending i x (n ∷ []) c.2
+          (pays_one w pending r.0 copy.server.id r.1 no_fate due.0 (none copy.server.id) is lt),
     )
 
 -- memory was refused in the loop
-pub carried_stop : (F : Rules) (stage : Stage) (servers : List Serving) (debt : Debt) (i few most : ℕ)
+pub carried_stop : (F : Rules) (stage : Stage) (servers : List Serving) (pending : Pending) (i few most : ℕ)
     (old now next : MuxWorker)
-    (r : Result (Unit {0}) Stop) → few ≤ most → next.mux ≡ now.mux → Stays now.porter.seats next.porter.seats
-    → next.porter.latest ≡ now.porter.latest → IsSamePorter now.porter next.porter
+    (r : Result (Unit {0}) Stop) → few ≤ most → next.mux ≡ now.mux → Stays now.caller.seats next.caller.seats
+    → next.caller.latest ≡ now.caller.latest → IsSameCaller now.caller next.caller
     → IsErrAnd r (λ stop. stop ≡ Memory)
-    → HasCarried F stage servers debt i few old now → Carries F stage servers debt most old next r
-carried_stop F stage servers debt i few most old now next r top mux stays latest porter memory carried =
+    → HasCarried F stage servers pending i few old now → Carries F stage servers pending most old next r
+carried_stop F stage servers pending i few most old now next r top mux stays latest caller memory carried =
     λ stint d kept owes.
     let c = carried stint d kept owes in let x = c.0 in (
       x,
       record {
-        kept = kept_stays F stage servers stint now next (x ++ d) mux stays latest porter c.1.kept;
+        kept = kept_stays F stage servers stint now next (x ++ d) mux stays latest caller c.1.kept;
         packets = c.1.packets;
         few = let f = c.1.few in omega (arith, f, top);
       },
-      ended (λ _. Pays true debt x) (λ stop. stop ≡ Memory) (λ stop. IsStopOf (x ++ d) stop) r memory
+      ended (λ _. Pays true pending x) (λ stop. stop ≡ Memory) (λ stop. IsStopOf (x ++ d) stop) r memory
           (stop_of_memory (x ++ d)),
     )
 
 -- all copies were carried
-pub carried_whole : (F : Rules) (stage : Stage) (servers : List Serving) (debt : Debt) (i few most : ℕ)
+pub carried_whole : (F : Rules) (stage : Stage) (servers : List Serving) (pending : Pending) (i few most : ℕ)
     (old now : MuxWorker)
-    → few ≤ most → i ≡ debt.fate.copies → 1 ≤ i → HasCarried F stage servers debt i few old now
-    → Carries F stage servers debt most old now (Ok tt)
-carried_whole F stage servers debt i few most old now top all some carried = λ stint d kept owes.
+    → few ≤ most → i ≡ pending.fate.copies → 1 ≤ i → HasCarried F stage servers pending i few old now
+    → Carries F stage servers pending most old now (Ok tt)
+carried_whole F stage servers pending i few most old now top all some carried = λ stint d kept owes.
     let c = carried stint d kept owes in let x = c.0 in (
       x,
       record { kept = c.1.kept; packets = c.1.packets; few = let f = c.1.few in omega (arith, f, top) },
-      pays_whole debt x (omega (arith, some, all)) (subst (λ (j : ℕ). Pays false (with_copies debt j) x) all c.2),
+      pays_whole pending x (omega (arith, some, all)) (subst (λ (j : ℕ). Pays false (with_copies pending j) x) all c.2),
     )
 
 -- the worker after a loss
-pub loss_is : (k clock : ℕ) (hop : Hop) (w : MuxWorker) (mux : MuxState) (porter : Porting)
-    → mux ≡ record w.mux { log = w.mux.log ++ at_clock (clock + 1) (Lose k hop) ∷ [] } → IsSamePorter w.porter porter
-    → porter.seats ≡ w.porter.seats → porter.tries ≡ w.porter.tries → porter.latest ≡ max w.porter.latest (clock + 1)
-    → ◌≡◌ {A = MuxWorker} (record w { mux = mux; porter = porter }) (with_loss k hop clock w)
-loss_is k clock hop w mux porter is same seats tries latest = λ i. record w {
+pub loss_is : (k clock : ℕ) (hop : Hop) (w : MuxWorker) (mux : MuxState) (caller : CallerState)
+    → mux ≡ record w.mux { log = w.mux.log ++ at_clock (clock + 1) (Lose k hop) ∷ [] } → IsSameCaller w.caller caller
+    → caller.seats ≡ w.caller.seats → caller.tries ≡ w.caller.tries → caller.latest ≡ max w.caller.latest (clock + 1)
+    → ◌≡◌ {A = MuxWorker} (record w { mux = mux; caller = caller }) (with_loss k hop clock w)
+loss_is k clock hop w mux caller is same seats tries latest = λ i. record w {
   mux = is i;
-  porter = record { number = same.number i; seats = seats i; tries = tries i; latest = latest i };
+  caller = record { number = same.number i; seats = seats i; tries = tries i; latest = latest i };
 }
 
--- the worker with another porter
-pub same_by_porter : (a now : MuxWorker) (porter : Porting) → now.mux ≡ a.mux → now.steps ≡ a.steps
-    → IsSamePorter a.porter now.porter
-    → IsSamePorter now.porter porter → IsSameWorker a (record now { porter = porter })
-same_by_porter a now porter mux steps same next = record {
+-- the worker with another caller
+pub same_by_caller : (a now : MuxWorker) (caller : CallerState) → now.mux ≡ a.mux → now.steps ≡ a.steps
+    → IsSameCaller a.caller now.caller
+    → IsSameCaller now.caller caller → IsSameWorker a (record now { caller = caller })
+same_by_caller a now caller mux steps same next = record {
   id = ap (λ (x : MuxState). x.id) mux;
   seen = ap (λ (x : MuxState). x.seen) mux;
-  porter = same_porter_on a.porter now.porter porter same next;
+  caller = same_caller_on a.caller now.caller caller same next;
   steps = steps;
 }
 
@@ -267,7 +267,7 @@ pub copy_as : (stage : Stage) (servers : List Serving) (a b : MuxState) (place k
 copy_as stage servers a b place k hop octets is copy =
     subst (λ (x : MuxState). IsCopyOf stage servers x place k hop octets) (sym is) copy
 
--- what a porter asks of a copy
+-- what a caller asks of a copy
 pub asks_copy : (stage : Stage) (servers : List Serving) (mux : MuxState) (place k : ℕ) (hop : Hop) (octets : List ℕ)
     → IsCopyOf stage servers mux place k hop octets → (server : Serving) → slice_get servers place ≡ Some server
     → (read : _) × IsCopy server octets read
@@ -285,11 +285,11 @@ place_inside (x ∷ servers) zero server at = omega arith
 place_inside (x ∷ servers) (suc place) server at = let old = place_inside servers place server at in omega arith
 
 -- memory was refused before anything was done
-pub carries_stop : (F : Rules) (stage : Stage) (servers : List Serving) (debt : Debt) (most : ℕ) (w : MuxWorker)
+pub carries_stop : (F : Rules) (stage : Stage) (servers : List Serving) (pending : Pending) (most : ℕ) (w : MuxWorker)
     (r : Result (Unit {0}) Stop)
-    → IsErrAnd r (λ stop. stop ≡ Memory) → Carries F stage servers debt most w w r
-carries_stop F stage servers debt most w r memory = λ stint d kept owes. (
+    → IsErrAnd r (λ stop. stop ≡ Memory) → Carries F stage servers pending most w w r
+carries_stop F stage servers pending most w r memory = λ stint d kept owes. (
   [],
   record { kept = kept; packets = tt; few = omega arith },
-  ended (λ _. Pays true debt []) (λ stop. stop ≡ Memory) (λ stop. IsStopOf d stop) r memory (stop_of_memory d),
+  ended (λ _. Pays true pending []) (λ stop. stop ≡ Memory) (λ stop. IsStopOf d stop) r memory (stop_of_memory d),
 )

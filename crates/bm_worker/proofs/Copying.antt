@@ -26,10 +26,10 @@ use Rattle.bm_shard.proofs.Copies.{copy_spelled}
 use Rattle.bm_server.specs.Seats.{Answered, Seated}
 use Rattle.bm_server.specs.Servings.{Serving, shard_for}
 use Rattle.bm_worker.specs.Arrivals.{HasCome, IsCopy}
-use Rattle.bm_worker.specs.Deeds.{Suits}
-use Rattle.bm_worker.specs.Inside.Debts.{IsCopyOf}
+use Rattle.bm_worker.specs.WorkerNotes.{Suits}
+use Rattle.bm_worker.specs.Inside.Pending.{IsCopyOf}
 use Rattle.bm_worker.specs.Phases.{AreCopies, IsCopyCall}
-use Rattle.bm_worker.specs.Told.{Stays, told_there}
+use Rattle.bm_worker.specs.SeatCalls.{Stays, told_there}
 use Rattle.bm_worker.proofs.Hearing.{same_shard}
 
 -- the hop of a label's tag

@@ -26,13 +26,13 @@ use Rattle.bm_worker.specs.declared.worker.MuxWorker.{MuxWorker}
 use Rattle.bm_worker.specs.Inside.Batches.{AreOwed, Delivers, IsDelivery, IsOwed, IsSent, PaysFor, last_sent}
 use Rattle.bm_worker.specs.Inside.Batches.{sent_notes}
 use Rattle.bm_worker.specs.Inside.Batches.{steering}
-use Rattle.bm_worker.specs.Deeds.{HasServer}
-use Rattle.bm_worker.specs.Inside.Debts.{Carries, Debt, GrowsByLosses, IsCopyOf, IsOf, IsUpTo, Owes, Pays, comes}
-use Rattle.bm_worker.specs.Inside.Debts.{comes_by}
-use Rattle.bm_worker.specs.Inside.Debts.{copyless_at, debt, gives, gives_by, lost_at}
+use Rattle.bm_worker.specs.WorkerNotes.{HasServer}
+use Rattle.bm_worker.specs.Inside.Pending.{Carries, Pending, GrowsByLosses, IsCopyOf, IsOf, IsUpTo, Owes, Pays, comes}
+use Rattle.bm_worker.specs.Inside.Pending.{comes_by}
+use Rattle.bm_worker.specs.Inside.Pending.{copyless_at, pending, gives, gives_by, lost_at}
 use Rattle.bm_worker.specs.Phases.{IsStopOf, Kept, Stint, mux_for}
-use Rattle.bm_worker.specs.Portings.{Porting}
-use Rattle.bm_worker.specs.Told.{told_there}
+use Rattle.bm_worker.specs.Callers.{CallerState}
+use Rattle.bm_worker.specs.SeatCalls.{told_there}
 use Rattle.bm_turnstile.specs.Sittings.{who}
 use Rattle.bm_worker.proofs.Carrying.{ended}
 use Rattle.bm_worker.proofs.Keeping.{more_many}
@@ -45,7 +45,7 @@ pub pays_for_none : PaysFor [] []
 pays_for_none = record { lost = λ k hop c. refl; sent = λ k hop c. omega arith; arrived = λ k hop. refl }
 
 pays_for_more : (clock : Moment) (k : ℕ) (m : MuxId) (fate : Fate) (w : ℕ) (s x y : List Note) → PaysFor s x
-    → Pays true (debt k Direct clock.0 fate) y
+    → Pays true (pending k Direct clock.0 fate) y
     → PaysFor (steering clock k m fate w ∷ s) (y ++ x)
 pays_for_more clock k m fate w s x y p q = record {
   lost = λ j hop c.
@@ -67,7 +67,7 @@ owed_at : (stint : Stint) (d : List Note) (low : ℕ) (sents : List Steered) (fa
     → AreOwed stint d low sents fates → slice_get sents i ≡ Some t → slice_get fates i ≡ Some f
     → (low ≤ last_sent low (take i sents)) × (last_sent low (take i sents) < t.packet)
     × (last_sent low (take (suc i) sents) ≡ t.packet)
-    × IsOwed stint d (debt t.packet Direct t.clock.0 f)
+    × IsOwed stint d (pending t.packet Direct t.clock.0 f)
 owed_at stint d low [] fates i t f owed at fate = absurd (let bad : None ≡ Some t = at in cc)
 owed_at stint d low (x ∷ sents) [] i t f owed at fate = absurd owed
 owed_at stint d low (x ∷ sents) (g ∷ fates) zero t f owed at fate =
@@ -75,8 +75,8 @@ owed_at stint d low (x ∷ sents) (g ∷ fates) zero t f owed at fate =
       omega arith,
       subst (λ (z : Steered). low < z.packet) same owed.0,
       ap (λ (z : Steered). z.packet) same,
-      subst (λ (z : Steered). IsOwed stint d (debt z.packet Direct z.clock.0 f)) same
-          (subst (λ (z : Fate). IsOwed stint d (debt x.packet Direct x.clock.0 z)) drawn owed.1),
+      subst (λ (z : Steered). IsOwed stint d (pending z.packet Direct z.clock.0 f)) same
+          (subst (λ (z : Fate). IsOwed stint d (pending x.packet Direct x.clock.0 z)) drawn owed.1),
     )
 owed_at stint d low (x ∷ sents) (g ∷ fates) (suc i) t f owed at fate =
     let old = owed_at stint d x.packet sents fates i t f owed.2 at fate in
@@ -129,7 +129,7 @@ of_delivery k (Close server flow closed) is = is
 of_delivery k (Retire server h at result) is = is
 of_delivery k Sync is = is
 
-owes_now : (stint : Stint) (x d : List Note) (e : Debt) → IsOwed stint d e
+owes_now : (stint : Stint) (x d : List Note) (e : Pending) → IsOwed stint d e
     → AllByRecursion (λ y. IsUpTo e.packet y.event.what) (x ++ d) → Owes stint (x ++ d) e
 owes_now stint x d e is first = record {
   note = is.note;
@@ -163,25 +163,25 @@ delivered_none F stage servers sents fates w =
 
 -- the worker's count of steps is no part of the record
 pub kept_steps : (F : Rules) (stage : Stage) (servers : List Serving) (stint : Stint) (now next : MuxWorker)
-    (d : List Note) → next.mux ≡ now.mux → next.porter ≡ now.porter → Kept F stage servers stint now d
+    (d : List Note) → next.mux ≡ now.mux → next.caller ≡ now.caller → Kept F stage servers stint now d
     → Kept F stage servers stint next d
-kept_steps F stage servers stint now next d mux porter kept =
-    kept_stays F stage servers stint now next d mux (λ s h. ap (λ (p : Porting). told_there p.seats s h) porter)
-    (ap (λ (p : Porting). p.latest) porter)
+kept_steps F stage servers stint now next d mux caller kept =
+    kept_stays F stage servers stint now next d mux (λ s h. ap (λ (p : CallerState). told_there p.seats s h) caller)
+    (ap (λ (p : CallerState). p.latest) caller)
     (record {
-      number = ap (λ (p : Porting). p.number) porter;
+      number = ap (λ (p : CallerState). p.number) caller;
       who_is =
-          ap (λ (p : Porting). map (map who) p.seats) porter;
+          ap (λ (p : CallerState). map (map who) p.seats) caller;
     }) kept
 
 pub delivered_more : (F : Rules) (stage : Stage) (servers : List Serving) (sents : List Steered) (fates : List Fate)
     (i : ℕ) (t : Steered) (f : Fate)
     (old now step next : MuxWorker) → slice_get sents i ≡ Some t → slice_get fates i ≡ Some f → step.mux ≡ now.mux
-    → step.porter ≡ now.porter
+    → step.caller ≡ now.caller
     → HasDelivered F stage servers sents fates i old now
-    → Carries F stage servers (debt t.packet Direct t.clock.0 f) 39 step next (Ok tt)
+    → Carries F stage servers (pending t.packet Direct t.clock.0 f) 39 step next (Ok tt)
     → HasDelivered F stage servers sents fates (i + 1) old next
-delivered_more F stage servers sents fates i t f old now step next at fate mux porter done carries =
+delivered_more F stage servers sents fates i t f old now step next at fate mux caller done carries =
     λ stint deeds low kept owed first.
     let o = done stint deeds low kept owed first in let x = o.0 in
     let here = owed_at stint deeds low sents fates i t f owed at fate in
@@ -189,8 +189,8 @@ delivered_more F stage servers sents fates i t f old now step next at fate mux p
     let ups = each_append (λ y. IsUpTo t.packet y.event.what) x deeds
     (ups_to_more (last_sent low (take i sents)) t.packet x (let lt = here.1 in omega (arith, lt)) o.5)
     (ups_to_more low t.packet deeds (let le = here.0 in let lt = here.1 in omega (arith, le, lt)) first) in
-    let c = carries stint (x ++ deeds) (kept_steps F stage servers stint now step (x ++ deeds) mux porter o.1)
-    (owes_now stint x deeds (debt t.packet Direct t.clock.0 f) here.3 ups) in
+    let c = carries stint (x ++ deeds) (kept_steps F stage servers stint now step (x ++ deeds) mux caller o.1)
+    (owes_now stint x deeds (pending t.packet Direct t.clock.0 f) here.3 ups) in
     let y = c.0 in
     let next_place : i + 1 ≡ suc i = omega arith in (
       y ++ x,
@@ -216,11 +216,11 @@ pub delivers_stop : (F : Rules) (stage : Stage) (servers : List Serving) (sents 
     (i : ℕ) (t : Steered) (f : Fate)
     (old now step next : MuxWorker) (stop : Stop) (r : Result (Unit {0}) Stop) → i < length sents
     → slice_get sents i ≡ Some t → slice_get fates i ≡ Some f
-    → step.mux ≡ now.mux → step.porter ≡ now.porter → IsErrAnd r (λ e. e ≡ stop)
+    → step.mux ≡ now.mux → step.caller ≡ now.caller → IsErrAnd r (λ e. e ≡ stop)
     → HasDelivered F stage servers sents fates i old now
-    → Carries F stage servers (debt t.packet Direct t.clock.0 f) 39 step next (Err stop)
+    → Carries F stage servers (pending t.packet Direct t.clock.0 f) 39 step next (Err stop)
     → Delivers F stage servers sents fates old next r
-delivers_stop F stage servers sents fates i t f old now step next stop r inside at fate mux porter is done carries =
+delivers_stop F stage servers sents fates i t f old now step next stop r inside at fate mux caller is done carries =
     λ stint deeds low kept owed first.
     let o = done stint deeds low kept owed first in let x = o.0 in
     let here = owed_at stint deeds low sents fates i t f owed at fate in
@@ -228,8 +228,8 @@ delivers_stop F stage servers sents fates i t f old now step next stop r inside 
     let ups = each_append (λ y. IsUpTo t.packet y.event.what) x deeds
     (ups_to_more (last_sent low (take i sents)) t.packet x (let lt = here.1 in omega (arith, lt)) o.5)
     (ups_to_more low t.packet deeds (let le = here.0 in let lt = here.1 in omega (arith, le, lt)) first) in
-    let c = carries stint (x ++ deeds) (kept_steps F stage servers stint now step (x ++ deeds) mux porter o.1)
-    (owes_now stint x deeds (debt t.packet Direct t.clock.0 f) here.3 ups) in
+    let c = carries stint (x ++ deeds) (kept_steps F stage servers stint now step (x ++ deeds) mux caller o.1)
+    (owes_now stint x deeds (pending t.packet Direct t.clock.0 f) here.3 ups) in
     let y = c.0 in
     let all : (y ++ x) ++ deeds ≡ y ++ (x ++ deeds) = append_assoc y x deeds in (
       y ++ x,

@@ -36,13 +36,13 @@ use Rattle.bm_worker.specs.declared.stop.Stop.{Stop}
 use Rattle.bm_worker.specs.declared.stop.Stop.TheVariants.{Memory}
 use Rattle.bm_worker.specs.declared.worker.MuxWorker.{MuxWorker}
 use Rattle.bm_worker.specs.Arrivals.{HasCome, IsCopy}
-use Rattle.bm_worker.specs.Deeds.{HasServer, IsSamePorter, Suits, no_fate}
-use Rattle.bm_worker.specs.Inside.Deeds.{arrival}
-use Rattle.bm_worker.specs.Inside.Debts.{Carries, CarriesOne, Debt, HasCarried, IsCopyOf, IsForwarded, IsOf}
-use Rattle.bm_worker.specs.Inside.Debts.{Owes, Pays}
-use Rattle.bm_worker.specs.Inside.Debts.{debt, most_tries, with_copies}
+use Rattle.bm_worker.specs.WorkerNotes.{HasServer, IsSameCaller, Suits, no_fate}
+use Rattle.bm_worker.specs.Inside.WorkerNotes.{arrival}
+use Rattle.bm_worker.specs.Inside.Pending.{Carries, CarriesOne, Pending, HasCarried, IsCopyOf, IsForwarded, IsOf}
+use Rattle.bm_worker.specs.Inside.Pending.{Owes, Pays}
+use Rattle.bm_worker.specs.Inside.Pending.{pending, most_tries, with_copies}
 use Rattle.bm_worker.specs.Phases.{IsStopOf, Kept, Stint, mux_for}
-use Rattle.bm_worker.specs.Told.{Stays}
+use Rattle.bm_worker.specs.SeatCalls.{Stays}
 use Rattle.bm_worker.proofs.Carrying.{answered, ended, stop_of_memory}
 use Rattle.bm_worker.proofs.Copying.{copy_reads, tag_hop}
 use Rattle.bm_worker.proofs.Keeping.{more_many}
@@ -165,16 +165,16 @@ not_forward (Reset w) no_to = refl
 not_forward (Drop w) no_to = refl
 
 -- a copy that is not forwarded
-pub carries_one : (F : Rules) (stage : Stage) (servers : List Serving) (d : Debt) (most : ℕ) (now next : MuxWorker)
+pub carries_one : (F : Rules) (stage : Stage) (servers : List Serving) (d : Pending) (most : ℕ) (now next : MuxWorker)
     (place : ℕ) (octets : List ℕ) (due : Moment) (r : Moment × Verdict) → 1 ≤ most → Suits stage servers
     → (copy : IsCopyOf stage servers now.mux place d.packet d.hop octets)
     → due.0 ≡ d.clock + d.fate.delay → due.0 < r.0.0
     → ((server : ServerId) → sending_of (Arrive d.packet d.hop server r.1) ≡ None)
     → ((server : Serving) (read : _) → slice_get servers place ≡ Some server → IsCopy server octets read
-    → HasCome place server d.packet read due r now.porter.seats next.porter.seats)
-    → next.mux ≡ now.mux → next.porter.latest ≡ max now.porter.latest r.0.0 → IsSamePorter now.porter next.porter
+    → HasCome place server d.packet read due r now.caller.seats next.caller.seats)
+    → next.mux ≡ now.mux → next.caller.latest ≡ max now.caller.latest r.0.0 → IsSameCaller now.caller next.caller
     → CarriesOne F stage servers d most now next (Ok tt)
-carries_one F stage servers d most now next place octets due r some suits copy is lt none come mux latest porter =
+carries_one F stage servers d most now next place octets due r some suits copy is lt none come mux latest caller =
     λ stint deeds kept owes.
     let w = (mux_for stint).0 + 1 in
     let n = arrival r.0 d.packet d.hop copy.server.id r.1 no_fate due.0 w in (
@@ -184,7 +184,7 @@ carries_one F stage servers d most now next place octets due r some suits copy i
             (subst (λ o. IfSome o (λ s. F s.packet s.hop no_fate)) (sym (none copy.server.id)) tt)
             (come copy.server (copy.tag, copy.segment) copy.is_server
             (copy_reads stage servers now.mux place d.packet d.hop octets copy))
-            mux latest porter owes kept;
+            mux latest caller owes kept;
         packets = (refl, tt);
         few = omega (arith, some);
       },
@@ -192,15 +192,15 @@ carries_one F stage servers d most now next place octets due r some suits copy i
     )
 
 -- a copy that didn't come for want of memory
-pub carries_one_stop : (F : Rules) (stage : Stage) (servers : List Serving) (d : Debt) (most : ℕ) (now next : MuxWorker)
-    (r : Result (Unit {0}) Stop) → next.mux ≡ now.mux → Stays now.porter.seats next.porter.seats
-    → next.porter.latest ≡ now.porter.latest → IsSamePorter now.porter next.porter
+pub carries_one_stop : (F : Rules) (stage : Stage) (servers : List Serving) (d : Pending) (most : ℕ) (now next : MuxWorker)
+    (r : Result (Unit {0}) Stop) → next.mux ≡ now.mux → Stays now.caller.seats next.caller.seats
+    → next.caller.latest ≡ now.caller.latest → IsSameCaller now.caller next.caller
     → IsErrAnd r (λ stop. stop ≡ Memory) → CarriesOne F stage servers d most now next r
-carries_one_stop F stage servers d most now next r mux stays latest porter memory = λ stint deeds kept owes. (
+carries_one_stop F stage servers d most now next r mux stays latest caller memory = λ stint deeds kept owes. (
   [],
   record {
     kept =
-        kept_stays F stage servers stint now next deeds mux stays latest porter kept;
+        kept_stays F stage servers stint now next deeds mux stays latest caller kept;
     packets = tt;
     few = omega arith;
   },
@@ -215,8 +215,8 @@ weight_of hop next after = grind arith
 -- the forward is to be completed once it was made
 owes_forward : (stint : Stint) (d : List Note) (k : ℕ) (hop next : Hop) (at : ℕ) (before fate : Fate) (clock : Moment)
     (server to : ServerId) (due w : ℕ)
-    → hop_after hop ≡ Some next → at < clock.0 → Owes stint d (debt k hop at before)
-    → Owes stint (arrival clock k hop server (Forward to) fate due w ∷ d) (debt k next clock.0 fate)
+    → hop_after hop ≡ Some next → at < clock.0 → Owes stint d (pending k hop at before)
+    → Owes stint (arrival clock k hop server (Forward to) fate due w ∷ d) (pending k next clock.0 fate)
 owes_forward stint d k hop next at before fate clock server to due w after lt owes =
     let n = arrival clock k hop server (Forward to) fate due w in
     record {
@@ -241,19 +241,19 @@ pub carries_forward : (F : Rules) (stage : Stage) (servers : List Serving) (k at
     → (copy : IsCopyOf stage servers now.mux place k hop octets)
     → due.0 ≡ at + before.delay → due.0 < r.0.0 → r.1 ≡ Forward to → F k onto fate
     → ((server : Serving) (read : _) → slice_get servers place ≡ Some server → IsCopy server octets read
-    → HasCome place server k read due r now.porter.seats next.porter.seats)
-    → next.mux ≡ now.mux → next.porter.latest ≡ max now.porter.latest r.0.0 → IsSamePorter now.porter next.porter
-    → Carries F stage servers (debt k onto r.0.0 fate) (most_tries onto) next last result
-    → CarriesOne F stage servers (debt k hop at before) (hop_weight hop) now last result
+    → HasCome place server k read due r now.caller.seats next.caller.seats)
+    → next.mux ≡ now.mux → next.caller.latest ≡ max now.caller.latest r.0.0 → IsSameCaller now.caller next.caller
+    → Carries F stage servers (pending k onto r.0.0 fate) (most_tries onto) next last result
+    → CarriesOne F stage servers (pending k hop at before) (hop_weight hop) now last result
 carries_forward F stage servers k at hop onto before fate now next last place octets due r to result after suits
-    copy is lt forward drawn come mux latest porter carries =
+    copy is lt forward drawn come mux latest caller carries =
     λ stint deeds kept owes.
     let w = (mux_for stint).0 + 1 in
-    let d = debt k hop at before in
+    let d = pending k hop at before in
     let n = arrival r.0 k hop copy.server.id (Forward to) fate due.0 w in
     let came =
-    subst (λ (v : Verdict). HasCome place copy.server k (copy.tag, copy.segment) due (r.0, v) now.porter.seats
-    next.porter.seats) forward
+    subst (λ (v : Verdict). HasCome place copy.server k (copy.tag, copy.segment) due (r.0, v) now.caller.seats
+    next.caller.seats) forward
     (come copy.server (copy.tag, copy.segment) copy.is_server
     (copy_reads stage servers now.mux place k hop octets copy)) in
     let sent : IfSome (sending_of (Arrive k hop copy.server.id (Forward to))) (λ s. F s.packet s.hop fate) =
@@ -261,7 +261,7 @@ carries_forward F stage servers k at hop onto before fate now next last place oc
     (sym after) drawn in
     let one =
     kept_arrival F stage servers stint now next deeds d place octets due (r.0, Forward to) fate suits copy is lt
-    sent came mux latest porter owes kept in
+    sent came mux latest caller owes kept in
     let c = carries stint (n ∷ deeds) one
     (owes_forward stint deeds k hop onto at before fate r.0 copy.server.id to due.0 w after (omega (arith, is, lt)) owes) in
     let y = c.0 in
@@ -272,7 +272,7 @@ carries_forward F stage servers k at hop onto before fate now next last place oc
         packets = each_append (λ x. IsOf k x.event.what) y (n ∷ []) c.1.packets (refl, tt);
         few = let e = length-append y (n ∷ []) in let f = c.1.few in let w = weight_of hop onto after in omega arith;
       },
-      answered (λ _. Pays true (debt k onto r.0.0 fate) y) (λ _. Pays false (with_copies d 1) (y ++ n ∷ []))
+      answered (λ _. Pays true (pending k onto r.0.0 fate) y) (λ _. Pays false (with_copies d 1) (y ++ n ∷ []))
           (λ stop. IsStopOf (y ++ n ∷ deeds) stop) (λ stop. IsStopOf ((y ++ n ∷ []) ++ deeds) stop) result
           (λ _ paid. pays_forward w d onto r.0 copy.server.id to fate due.0 y after is lt paid)
           (λ stop is. subst (λ (l : List Note). IsStopOf l stop) (sym all) is) c.2,
@@ -280,7 +280,7 @@ carries_forward F stage servers k at hop onto before fate now next last place oc
 
 -- THE LOOP OVER COPIES
 
-pub carried_copy : (F : Rules) (stage : Stage) (servers : List Serving) (d : Debt) (i few most : ℕ)
+pub carried_copy : (F : Rules) (stage : Stage) (servers : List Serving) (d : Pending) (i few most : ℕ)
     (old now next : MuxWorker)
     → HasCarried F stage servers d i few old now → CarriesOne F stage servers d most now next (Ok tt)
     → HasCarried F stage servers d (i + 1) (few + most) old next
@@ -296,7 +296,7 @@ carried_copy F stage servers d i few most old now next carried one = λ stint de
       pays_more d i x y c.2 o.2,
     )
 
-pub carried_copy_stop : (F : Rules) (stage : Stage) (servers : List Serving) (d : Debt) (i few more most : ℕ)
+pub carried_copy_stop : (F : Rules) (stage : Stage) (servers : List Serving) (d : Pending) (i few more most : ℕ)
     (old now next : MuxWorker)
     (stop : Stop) (r : Result (Unit {0}) Stop) → few + more ≤ most → IsErrAnd r (λ e. e ≡ stop)
     → HasCarried F stage servers d i few old now → CarriesOne F stage servers d more now next (Err stop)

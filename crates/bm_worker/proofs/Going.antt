@@ -36,11 +36,11 @@ use Rattle.bm_worker.specs.Inside.Batches.{AreCollected, AreDrawn, AreOwed, AreS
 use Rattle.bm_worker.specs.Inside.Batches.{HasOnlyLooked, HasSeen}
 use Rattle.bm_worker.specs.Inside.Batches.{IsDelivery, IsDoneTo, IsItemOf, IsLogged, IsSent, PaysFor}
 use Rattle.bm_worker.specs.Inside.Batches.{last_packet, last_sent, sent_notes, switch_note, switch_notes}
-use Rattle.bm_worker.specs.Deeds.{Suits}
-use Rattle.bm_worker.specs.Inside.Debts.{GrowsByLosses, IsUpTo, comes, comes_by, copyless_at, gives, gives_by, lost_at}
+use Rattle.bm_worker.specs.WorkerNotes.{Suits}
+use Rattle.bm_worker.specs.Inside.Pending.{GrowsByLosses, IsUpTo, comes, comes_by, copyless_at, gives, gives_by, lost_at}
 use Rattle.bm_worker.specs.Phases.{AreCopies, AreFew, HasEnded, IsStopOf, Kept, Stint, is_steer, mux_for}
-use Rattle.bm_worker.specs.Portings.{Porting}
-use Rattle.bm_worker.specs.Told.{told_there}
+use Rattle.bm_worker.specs.Callers.{CallerState}
+use Rattle.bm_worker.specs.SeatCalls.{told_there}
 use Rattle.bm_worker.specs.Assigned.{is_assigned}
 use Rattle.bm_worker.proofs.Batching.{all_sent, batch_version, sent_owed}
 use Rattle.bm_worker.proofs.Carrying.{ended}
@@ -417,18 +417,18 @@ kept_looked F stage servers stint now next d looked kept =
       ordered = tt;
       logged = ap (λ (l : List Event). reverse l) looked.log;
       gives = tt;
-      hears = hears_stays stage servers now.porter.seats next.porter.seats
-          (λ s h. ap (λ (p : Porting). told_there p.seats s h) looked.porter);
-      copies = λ are. subst (λ (l : List Event). AreCopies stage (mux_for stint) servers (reverse l) next.porter.seats)
+      hears = hears_stays stage servers now.caller.seats next.caller.seats
+          (λ s h. ap (λ (p : CallerState). told_there p.seats s h) looked.caller);
+      copies = λ are. subst (λ (l : List Event). AreCopies stage (mux_for stint) servers (reverse l) next.caller.seats)
           (sym looked.log)
-          (copies_stay stage servers (mux_for stint) (reverse now.mux.log) now.porter.seats next.porter.seats
-          (λ s h. ap (λ (p : Porting). told_there p.seats s h) looked.porter) are);
-      latest = let e : next.porter.latest ≡ now.porter.latest = ap (λ (p : Porting). p.latest) looked.porter in
+          (copies_stay stage servers (mux_for stint) (reverse now.mux.log) now.caller.seats next.caller.seats
+          (λ s h. ap (λ (p : CallerState). told_there p.seats s h) looked.caller) are);
+      latest = let e : next.caller.latest ≡ now.caller.latest = ap (λ (p : CallerState). p.latest) looked.caller in
           omega (arith, e);
       mux = looked.mux;
-      porter = record {
-        number = ap (λ (p : Porting). p.number) looked.porter;
-        who_is = ap (λ (p : Porting). map (map who) p.seats) looked.porter;
+      caller = record {
+        number = ap (λ (p : CallerState). p.number) looked.caller;
+        who_is = ap (λ (p : CallerState). map (map who) p.seats) looked.caller;
       };
     })
 
@@ -589,8 +589,8 @@ switches_few m seen past = of_test (ltb (version_at past m).0 (last_version seen
 
 -- at most eleven events for each packet: a Switch, its Steer, and nine Loses
 pub batch_grows : (w mid next : MuxWorker) (items : List MuxItem) (sents : List Steered) (places : ℕ)
-    → HasSteered w.mux items mid.mux [] sents → mid.porter.tries ≡ w.porter.tries → mid.steps ≡ w.steps
-    → next.porter.tries ≤ mid.porter.tries + 39 * length sents → next.steps ≤ mid.steps + length sents
+    → HasSteered w.mux items mid.mux [] sents → mid.caller.tries ≡ w.caller.tries → mid.steps ≡ w.steps
+    → next.caller.tries ≤ mid.caller.tries + 39 * length sents → next.steps ≤ mid.steps + length sents
     → GrowsByLosses (9 * length sents) mid.mux.log next.mux.log → 0 < length items → length items ≤ places
     → GrowsBy places w next
 batch_grows w mid next items sents places steered tries_is steps_is tries steps grows some few =

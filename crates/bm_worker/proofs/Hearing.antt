@@ -1,6 +1,6 @@
 -- The seats' calls and replies, and what was recorded.
 use Rattle.std.proofs.Common.{◌≡◌, ℕ, ◌==◌, ◌&&◌, Bool, true, false, cond, inl, inr, List, [], ◌∷◌, ◌++◌, map}
-use Rattle.std.proofs.Common.{slice_get, Option, Some, refl, sym, ap, ◌∙◌, append_assoc, append-nil, arith, subst}
+use Rattle.std.proofs.Common.{slice_get, Option, Some, refl, sym, ap, ◌∙◌, append_assoc, append-nil, arith}
 use Rattle.std.proofs.lemmas.Bool.{cases_Bool, eqb-true, eqb-false, eq-eqb, ne_eqb}
 use Rattle.std.proofs.lemmas.List.{map-append}
 use Rattle.std.proofs.lemmas.Option.{same_Some}
@@ -27,9 +27,9 @@ use Rattle.bm_shard.specs.declared.calls.ShardReply.TheVariants.{Arrived, Closed
 use Rattle.bm_server.specs.Servings.{Serving}
 use Rattle.bm_server.specs.Seats.{Answered, Seated}
 use Rattle.bm_server.specs.Servings.{shard_at, shard_for}
-use Rattle.bm_worker.specs.Deeds.{Hears, Said, Suits, noted, said_of, saying}
-use Rattle.bm_worker.specs.Inside.Deeds.{arrival, closing, retiring}
-use Rattle.bm_worker.specs.Told.{Gains, Stays, told_there}
+use Rattle.bm_worker.specs.WorkerNotes.{Hears, Said, Suits, noted, said_of, saying}
+use Rattle.bm_worker.specs.Inside.WorkerNotes.{arrival, closing, retiring}
+use Rattle.bm_worker.specs.SeatCalls.{Gains, Stays, told_there}
 use Rattle.bm_worker.specs.Arrivals.{HasCome}
 
 -- SEVERAL DEEDS

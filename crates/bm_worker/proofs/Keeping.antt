@@ -19,8 +19,8 @@ use Rattle.bm_publish.specs.Posts.{last_version}
 use Rattle.bm_mux.specs.Muxes.{IsSameMux, post_clock}
 use Rattle.bm_server.specs.Servings.{Serving}
 use Rattle.bm_worker.specs.declared.worker.MuxWorker.{MuxWorker}
-use Rattle.bm_worker.specs.Deeds.{Hears, IsSamePorter, clock_of}
-use Rattle.bm_worker.specs.Phases.{AreCopies, IsDeed, IsInOrder, IsLossOf, IsMuxGiven, Kept, Stint, mux_log}
+use Rattle.bm_worker.specs.WorkerNotes.{Hears, IsSameCaller, clock_of}
+use Rattle.bm_worker.specs.Phases.{AreCopies, IsPhaseNote, IsInOrder, IsLossOf, IsMuxGiven, Kept, Stint, mux_log}
 use Rattle.bm_worker.specs.Phases.{mux_for}
 use Rattle.bm_worker.proofs.Hearing.{hears_more}
 
@@ -54,7 +54,7 @@ lost_more x d clock (Retire server h at result) is = tt
 lost_more x d clock Sync is = tt
 
 deed_more : (F : Rules) (stage : Stage) (servers : List Serving) (stint : Stint) (x d : List Note) (n : Note)
-    → IsDeed F stage servers stint d n → IsDeed F stage servers stint (x ++ d) n
+    → IsPhaseNote F stage servers stint d n → IsPhaseNote F stage servers stint (x ++ d) n
 deed_more F stage servers stint x d n is = record {
   kind = is.kind;
   seat = is.seat;
@@ -127,17 +127,17 @@ given_later stage after first xs ys rest clock Sync before is = tt
 
 pub record Step (F : Rules) (stage : Stage) (servers : List Serving) (stint : Stint) (now next : MuxWorker)
     (d x : List Note) : Type 0 where
-  pub each : AllByRecursion (IsDeed F stage servers stint (x ++ d)) x
+  pub each : AllByRecursion (IsPhaseNote F stage servers stint (x ++ d)) x
   pub ordered : AtEach (λ rest n. IsInOrder (rest ++ d) n.event.what) x
   pub logged : reverse next.mux.log ≡ mux_log stage (mux_for stint).0 x ++ reverse now.mux.log
   pub gives : AtEach (λ rest e. IsMuxGiven stage stint.after (last_version stint.told) next.mux.seen.clocks
       (rest ++ reverse now.mux.log) e.clock.0 e.what) (mux_log stage (mux_for stint).0 x)
-  pub hears : Hears stage servers now.porter.seats next.porter.seats x
-  pub copies : AreCopies stage (mux_for stint) servers (reverse now.mux.log) now.porter.seats
-      → AreCopies stage (mux_for stint) servers (reverse next.mux.log) next.porter.seats
-  pub latest : next.porter.latest ≡ max now.porter.latest (greatest clock_of x)
+  pub hears : Hears stage servers now.caller.seats next.caller.seats x
+  pub copies : AreCopies stage (mux_for stint) servers (reverse now.mux.log) now.caller.seats
+      → AreCopies stage (mux_for stint) servers (reverse next.mux.log) next.caller.seats
+  pub latest : next.caller.latest ≡ max now.caller.latest (greatest clock_of x)
   pub mux : IsSameMux now.mux next.mux
-  pub porter : IsSamePorter now.porter next.porter
+  pub caller : IsSameCaller now.caller next.caller
 
 same_mux_on : (stint : Stint) (now next : MuxWorker) → IsSameMux stint.start.mux now.mux → IsSameMux now.mux next.mux
     → IsSameMux stint.start.mux next.mux
@@ -162,8 +162,8 @@ pub kept_more : (F : Rules) (stage : Stage) (servers : List Serving) (stint : St
 kept_more F stage servers stint now next d x old step =
     let m = (mux_for stint).0 in let past = reverse stint.start.mux.log in let first = last_version stint.told in
     record {
-      each = each_append (IsDeed F stage servers stint (x ++ d)) x d step.each
-          (each_so (IsDeed F stage servers stint d) (IsDeed F stage servers stint (x ++ d)) d
+      each = each_append (IsPhaseNote F stage servers stint (x ++ d)) x d step.each
+          (each_so (IsPhaseNote F stage servers stint d) (IsPhaseNote F stage servers stint (x ++ d)) d
           (λ n is. deed_more F stage servers stint x d n is) old.each);
       ordered = at_append (λ rest n. IsInOrder rest n.event.what) x d step.ordered old.ordered;
       logged = step.logged ∙ (ap (λ (l : List Event). mux_log stage m x ++ l) old.logged
@@ -189,13 +189,13 @@ kept_more F stage servers stint now next d x old step =
           (λ rest e is. given_later stage stint.after first now.mux.seen.clocks next.mux.seen.clocks (rest ++ past)
           e.clock.0 e.what
           step.mux.later.posts is) old.gives));
-      hears = hears_more stage servers stint.start.porter.seats now.porter.seats next.porter.seats d x old.hears
+      hears = hears_more stage servers stint.start.caller.seats now.caller.seats next.caller.seats d x old.hears
           step.hears;
       copies = λ are. step.copies (old.copies are);
       latest = let one = old.latest in let two = step.latest in let g = greatest_append clock_of x d in omega arith;
       mux = same_mux_on stint now next old.mux step.mux;
-      porter = record {
-        number = step.porter.number ∙ old.porter.number;
-        who_is = step.porter.who_is ∙ old.porter.who_is;
+      caller = record {
+        number = step.caller.number ∙ old.caller.number;
+        who_is = step.caller.who_is ∙ old.caller.who_is;
       };
     }

@@ -18,7 +18,7 @@ use Rattle.bm_core.specs.Past.{label_after, label_of, labelled, segment_of}
 use Rattle.bm_mux.specs.Muxes.{MuxState}
 use Rattle.bm_mux.specs.Steers.{is_lose}
 use Rattle.bm_server.specs.Servings.{Serving}
-use Rattle.bm_worker.specs.Inside.Debts.{GrowsByLosses, IsCopyOf}
+use Rattle.bm_worker.specs.Inside.Pending.{GrowsByLosses, IsCopyOf}
 
 -- LOSSES CHANGE NO LABEL
 

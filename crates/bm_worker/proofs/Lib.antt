@@ -7,6 +7,7 @@ mod Weighing
 pub mod Copying
 pub mod Steps
 pub mod Carrying
+pub mod Sent
 pub mod Known
 pub mod Labels
 pub mod Forwarding

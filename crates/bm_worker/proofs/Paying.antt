@@ -14,10 +14,10 @@ use Rattle.bm_core.specs.declared.events.What.TheVariants.{Arrive}
 use Rattle.bm_core.specs.Past.{same_hop, is_forward, is_sending, sending_of, sends}
 use Rattle.bm_merge.specs.Notes.{Note}
 use Rattle.bm_merge.proofs.Noting.{total_append}
-use Rattle.bm_worker.specs.Inside.Deeds.{arrival, loss}
-use Rattle.bm_worker.specs.Inside.Debts.{Debt, Pays, comes, comes_by, copyless_at, debt, debt_copyless, debt_gives}
-use Rattle.bm_worker.specs.Inside.Debts.{debt_gives_by}
-use Rattle.bm_worker.specs.Inside.Debts.{gives, gives_by, is_of, lost_at, with_copies}
+use Rattle.bm_worker.specs.Inside.WorkerNotes.{arrival, loss}
+use Rattle.bm_worker.specs.Inside.Pending.{Pending, Pays, comes, comes_by, copyless_at, pending, pending_copyless, pending_gives}
+use Rattle.bm_worker.specs.Inside.Pending.{pending_gives_by}
+use Rattle.bm_worker.specs.Inside.Pending.{gives, gives_by, is_of, lost_at, with_copies}
 
 nothing : (b : Bool) → ◌≡◌ {A = ℕ} (cond b 0 0) 0
 nothing true = refl
@@ -29,7 +29,7 @@ one_more false i = refl
 
 -- NO COPY YET
 
-pub pays_none : (d : Debt) → Pays false (with_copies d 0) []
+pub pays_none : (d : Pending) → Pays false (with_copies d 0) []
 pays_none d = record {
   lost = λ k hop clock. refl;
   sent = λ k hop clock. omega arith;
@@ -38,7 +38,7 @@ pays_none d = record {
 
 -- ONE MORE COPY, with all that came of it
 
-pub pays_more : (d : Debt) (i : ℕ) (x y : List Note) → Pays false (with_copies d i) x → Pays false (with_copies d 1) y
+pub pays_more : (d : Pending) (i : ℕ) (x y : List Note) → Pays false (with_copies d i) x → Pays false (with_copies d 1) y
     → Pays false (with_copies d (i + 1)) (y ++ x)
 pays_more d i x y p q = record {
   lost = λ k hop clock.
@@ -70,7 +70,7 @@ no_sending k hop server (Forward s) not = absurd (let bad : true ≡ false = not
 no_sending k hop server (Reset w) not = refl
 no_sending k hop server (Drop w) not = refl
 
-pub pays_one : (w : ℕ) (d : Debt) (clock : Moment) (server : ServerId) (v : Verdict) (fate : Fate) (due : ℕ)
+pub pays_one : (w : ℕ) (d : Pending) (clock : Moment) (server : ServerId) (v : Verdict) (fate : Fate) (due : ℕ)
     → sending_of (Arrive d.packet d.hop server v) ≡ None → due ≡ d.clock + d.fate.delay → due < clock.0
     → Pays false (with_copies d 1) (arrival clock d.packet d.hop server v fate due w ∷ [])
 pays_one w d clock server v fate due none is lt = record {
@@ -80,10 +80,10 @@ pays_one w d clock server v fate due none is lt = record {
 }
 
 -- a copy that is forwarded, and all copies of the forward
-pub pays_forward : (w : ℕ) (d : Debt) (next : Hop) (clock : Moment) (server to : ServerId) (fate : Fate) (due : ℕ)
+pub pays_forward : (w : ℕ) (d : Pending) (next : Hop) (clock : Moment) (server to : ServerId) (fate : Fate) (due : ℕ)
     (y : List Note)
     → hop_after d.hop ≡ Some next → due ≡ d.clock + d.fate.delay → due < clock.0
-    → Pays true (debt d.packet next clock.0 fate) y
+    → Pays true (pending d.packet next clock.0 fate) y
     → Pays false (with_copies d 1) (y ++ arrival clock d.packet d.hop server (Forward to) fate due w ∷ [])
 pays_forward w d next clock server to fate due y after is lt p =
     let n = arrival clock d.packet d.hop server (Forward to) fate due w in
@@ -94,18 +94,18 @@ pays_forward w d next clock server to fate due y after is lt p =
       lost = λ k h c.
           let a = total_append (lost_at k h c) y (n ∷ []) in let b = total_append (copyless_at k h c) y (n ∷ []) in
           let one = p.lost k h c in
-          let same : copyless_at k h c n ≡ debt_copyless (debt d.packet next clock.0 fate) k h c =
+          let same : copyless_at k h c n ≡ pending_copyless (pending d.packet next clock.0 fate) k h c =
           ap (λ (t : Bool). cond (t && ((fate.copies == 0) && (clock.0 == c))) 1 0) (sent k h) in omega arith;
       sent = λ k h c.
           let a = total_append (comes_by k h c) y (n ∷ []) in let b =
           total_append (gives_by k h c) y (n ∷ []) in let one = p.sent k h c in
-          let same : gives_by k h c n ≡ debt_gives_by (debt d.packet next clock.0 fate) k h c =
+          let same : gives_by k h c n ≡ pending_gives_by (pending d.packet next clock.0 fate) k h c =
           ap (λ (t : Bool). cond (t && ltb clock.0 c) fate.copies 0) (sent k h) in
           let le = in_time (is_of d k h) d.clock clock.0 c (omega (arith, is, lt)) in omega arith;
       arrived = λ k h.
           let a = total_append (comes k h) y (n ∷ []) in let b = total_append (gives k h) y (n ∷ []) in let one =
           p.arrived k h in
-          let same : gives k h n ≡ debt_gives (debt d.packet next clock.0 fate) k h =
+          let same : gives k h n ≡ pending_gives (pending d.packet next clock.0 fate) k h =
           ap (λ (t : Bool). cond t fate.copies 0) (sent k h) in omega arith;
     }
 
@@ -115,7 +115,7 @@ not_zero : (b c : Bool) (n : ℕ) → 1 ≤ n → ◌≡◌ {A = ℕ} (cond (b &
 not_zero false c n le = refl
 not_zero true c n le = rw (ne_eqb n 0 (λ e. omega (arith, e, le))) refl
 
-pub pays_whole : (d : Debt) (x : List Note) → 1 ≤ d.fate.copies → Pays false (with_copies d d.fate.copies) x
+pub pays_whole : (d : Pending) (x : List Note) → 1 ≤ d.fate.copies → Pays false (with_copies d d.fate.copies) x
     → Pays true d x
 pays_whole d x le p = record {
   lost = λ k hop c.
@@ -134,7 +134,7 @@ zero_copies : (b : Bool) (n : ℕ) → n ≡ 0 → cond b n 0 ≡ 0
 zero_copies true n e = e
 zero_copies false n e = refl
 
-pub pays_lost : (w : ℕ) (d : Debt) → d.fate.copies ≡ 0 → (clock : ℕ) → clock ≡ suc d.clock
+pub pays_lost : (w : ℕ) (d : Pending) → d.fate.copies ≡ 0 → (clock : ℕ) → clock ≡ suc d.clock
     → Pays true d (loss clock d.packet d.hop w ∷ [])
 pays_lost w d zero_is clock is = subst (λ (c : ℕ). Pays true d (loss c d.packet d.hop w ∷ [])) (sym is) (record {
   lost = λ k hop c. rw (same_suc d.clock c, eq-eqb d.fate.copies 0 zero_is) refl;

@@ -30,10 +30,10 @@ use Rattle.bm_worker.specs.declared.worker.MuxWorker.{MuxWorker}
 use Rattle.bm_worker.specs.Inside.Batches.{AreDrawn, HasSeen, IsDelivery, IsItemOf}
 use Rattle.bm_worker.specs.Inside.Batches.{IsLogged, Rise}
 use Rattle.bm_worker.specs.Inside.Batches.{last_packet, last_sent, sent_notes, steering, switch_note, switch_notes}
-use Rattle.bm_worker.specs.Deeds.{Hears, Said, clock_of, saying}
-use Rattle.bm_worker.specs.Told.{told_there}
-use Rattle.bm_worker.specs.Inside.Debts.{GrowsByLosses}
-use Rattle.bm_worker.specs.Phases.{AreCopies, IsDeed, IsMuxGiven}
+use Rattle.bm_worker.specs.WorkerNotes.{Hears, Said, clock_of, saying}
+use Rattle.bm_worker.specs.SeatCalls.{told_there}
+use Rattle.bm_worker.specs.Inside.Pending.{GrowsByLosses}
+use Rattle.bm_worker.specs.Phases.{AreCopies, IsPhaseNote, IsMuxGiven}
 use Rattle.bm_worker.specs.Phases.{Stint, is_steer, mux_log, mux_for}
 use Rattle.bm_worker.specs.Assigned.{is_mux, is_assigned, assigned_mux}
 use Rattle.bm_worker.proofs.Batching.{sent_deeds, switch_deeds}
@@ -167,7 +167,7 @@ batch_step F stage servers stint now next d low i items fates out out' id same b
     let posts = next.mux.seen.clocks in let first = last_version stint.told in
     let le_c = switch_begun m seen past in
     record {
-      each = each_append (IsDeed F stage servers stint (x ++ d)) s (switch_notes m seen past)
+      each = each_append (IsPhaseNote F stage servers stint (x ++ d)) s (switch_notes m seen past)
           (sent_deeds F stage servers stint seen (x ++ d) c low all_items fates (omega (arith, begun, le_c)) from until
           rise each drawn)
           (switch_deeds F stage servers stint seen (x ++ d) past begun);
@@ -183,10 +183,10 @@ batch_step F stage servers stint now next d low i items fates out out' id same b
           (switch_logged m low seen past logged)
           (switched_more stint.after m.0 sw past switched) refl))
           (gives_switch stage m stint.after first low seen past logged switched begun));
-      hears = steerings_heard stage servers m x now.porter.seats next.porter.seats seen_it.seats kinds;
+      hears = steerings_heard stage servers m x now.caller.seats next.caller.seats seen_it.seats kinds;
       copies = λ are. subst (λ (l : List (List Seated)). AreCopies stage m servers (reverse next.mux.log) l)
           (sym seen_it.seats)
-          (copies_as stage servers m past (reverse next.mux.log) now.porter.seats
+          (copies_as stage servers m past (reverse next.mux.log) now.caller.seats
           (λ k l is. let le = label_low stage m low k l past logged is in
           ap (λ (z : List Event). label_of stage z k) turned
           ∙ (label_high stage low k (reverse st) (sw ++ past) le (steers_above m c low low all_items (omega arith) rise)
@@ -198,7 +198,7 @@ batch_step F stage servers stint now next d low i items fates out out' id same b
           let a = greatest_append clock_of s (switch_notes m seen past) in let lt = final_more c i items in
           let l = seen_it.latest in omega (arith, clock, g, h, a, lt, l);
       mux = same;
-      porter = seen_it.porter;
+      caller = seen_it.caller;
     }
 
 -- WHAT A BATCH LEAVES OF THE LOG

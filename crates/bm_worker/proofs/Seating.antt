@@ -16,12 +16,12 @@ use Rattle.bm_turnstile.specs.Sittings.{Who, who}
 use Rattle.bm_server.specs.Servings.{Serving}
 use Rattle.bm_server.specs.Seats.{Seated, Answered, row, row_from, said, Tells, most_turns}
 use Rattle.bm_server.specs.Servings.{shard_at}
-use Rattle.bm_worker.specs.Told.{Gains, Stays, told_in, told_there}
-use Rattle.bm_worker.specs.Deeds.{Sits}
-use Rattle.bm_worker.specs.Portings.{Porting}
+use Rattle.bm_worker.specs.SeatCalls.{Gains, Stays, told_in, told_there}
+use Rattle.bm_worker.specs.WorkerNotes.{Sits}
+use Rattle.bm_worker.specs.Callers.{CallerState}
 
-pub sits_as : (c a : Porting) (servers : List Serving) → a ≡ c → Sits servers c → Sits servers a
-sits_as c a servers e h = subst (λ (x : Porting). Sits servers x) (sym e) h
+pub sits_as : (c a : CallerState) (servers : List Serving) → a ≡ c → Sits servers c → Sits servers a
+sits_as c a servers e h = subst (λ (x : CallerState). Sits servers x) (sym e) h
 
 as_many : (servers : List Serving) (seats : List (List Seated)) (n : ℕ)
     → map (map who) seats ≡ map (λ server. row server n) servers
@@ -30,7 +30,7 @@ as_many servers seats n sits =
     sym (length-map seats (map who)) ∙ (ap (λ l. length l) sits ∙ length-map servers (λ server. row server n))
 
 -- there is a seat at the place of each server
-pub seat_there : (c a : Porting) (servers : List Serving) (place : ℕ) → a ≡ c → Sits servers c → place < length servers
+pub seat_there : (c a : CallerState) (servers : List Serving) (place : ℕ) → a ≡ c → Sits servers c → place < length servers
     → place < length a.seats
 seat_there c a servers place e h lt =
     let long = as_many servers a.seats a.number (sits_as c a servers e h) in omega (arith, lt, long)
@@ -72,7 +72,7 @@ row_at servers seats n place seat server sits a b =
     same_Some (map who seat) (row server n) (sym left ∙ (ap (λ l. slice_get l place) sits ∙ right))
 
 -- the seat at the place is one of the server there
-pub mine_there : (c a : Porting) (servers : List Serving) (place : ℕ) (seat : List Seated) (server : Serving) → a ≡ c
+pub mine_there : (c a : CallerState) (servers : List Serving) (place : ℕ) (seat : List Seated) (server : Serving) → a ≡ c
     → Sits servers c
     → place < length servers → seat ≡ get_or a.seats place seat → server ≡ get_or servers place server
     → map (λ (s : Seated). s.table) seat ≡ server.tables
@@ -82,13 +82,13 @@ mine_there c a servers place seat server e h lt is at =
 
 -- TURNS
 
-pub few_there : (c a : Porting) (servers : List Serving) (place : ℕ) (seat : List Seated) → a ≡ c → Sits servers c
+pub few_there : (c a : CallerState) (servers : List Serving) (place : ℕ) (seat : List Seated) → a ≡ c → Sits servers c
     → place < length servers
     → seat ≡ get_or a.seats place seat → c.tries < 4294967295
     → ((s : ℕ) (seat : List Seated) → slice_get a.seats s ≡ Some seat → most_turns seat ≤ a.tries)
     → most_turns seat < 4294967295
 few_there c a servers place seat e h lt is few turns =
-    let tries : a.tries ≡ c.tries = ap (λ (x : Porting). x.tries) e in
+    let tries : a.tries ≡ c.tries = ap (λ (x : CallerState). x.tries) e in
     let most = turns place seat (seat_got a.seats place seat (seat_there c a servers place e h lt) is) in
     omega (arith, few, tries, most)
 
@@ -145,7 +145,7 @@ both_conds true b x = refl
 both_conds false b x = refl
 
 -- a call that was answered is gained
-pub gains : {M : Type 0} (c a : Porting) (servers : List Serving) (place shard : ℕ) (old new : List Seated)
+pub gains : {M : Type 0} (c a : CallerState) (servers : List Serving) (place shard : ℕ) (old new : List Seated)
     (call : ShardCall)
     (r : Result ShardReply M) (reply : ShardReply) → a ≡ c → Sits servers c → place < length servers
     → old ≡ get_or a.seats place old
@@ -161,7 +161,7 @@ none_said true false = refl
 none_said false b = refl
 
 -- one that was not leaves all as it was
-pub stays : {M : Type 0} (c a : Porting) (servers : List Serving) (place shard : ℕ) (old new : List Seated)
+pub stays : {M : Type 0} (c a : CallerState) (servers : List Serving) (place shard : ℕ) (old new : List Seated)
     (call : ShardCall)
     (r : Result ShardReply M) (why : M) → a ≡ c → Sits servers c → place < length servers
     → old ≡ get_or a.seats place old

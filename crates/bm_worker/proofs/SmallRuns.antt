@@ -11,7 +11,7 @@ use Rattle.bm_core.specs.declared.events.Stage.{Stage}
 use Rattle.bm_core.specs.Stages.{IsSound}
 use Rattle.bm_mux.specs.Muxes.{HasServers}
 use Rattle.bm_server.specs.Servings.{Serving, serving}
-use Rattle.bm_worker.specs.Deeds.{Suits}
+use Rattle.bm_worker.specs.WorkerNotes.{Suits}
 use Rattle.bm_worker.proofs.Known.{known_cur, known_server}
 
 abbrev small_plan : Planned

@@ -31,8 +31,8 @@ use Rattle.bm_mux.specs.Steers.{at_clock, is_lose, sent, steer_clock, steering_c
 use Rattle.bm_mux.specs.Steers.{switches}
 use Rattle.bm_worker.specs.Inside.Batches.{AreDrawn, IsItemOf, IsLogged, IsSteerTo, Rise}
 use Rattle.bm_worker.specs.Inside.Batches.{sent_notes, steering, switch_note, switch_notes}
-use Rattle.bm_worker.specs.Deeds.{clock_of, noted}
-use Rattle.bm_worker.specs.Inside.Debts.{IsUpTo}
+use Rattle.bm_worker.specs.WorkerNotes.{clock_of, noted}
+use Rattle.bm_worker.specs.Inside.Pending.{IsUpTo}
 use Rattle.bm_worker.specs.Phases.{IsInOrder, IsMuxGiven}
 use Rattle.bm_worker.proofs.Keeping.{at_append, at_so}
 

@@ -30,12 +30,12 @@ use Rattle.bm_mux.specs.Steers.{at_clock}
 use Rattle.bm_server.specs.Servings.{Serving}
 use Rattle.bm_worker.specs.declared.worker.MuxWorker.{MuxWorker}
 use Rattle.bm_worker.specs.Arrivals.{HasCome}
-use Rattle.bm_worker.specs.Deeds.{Hears, IsSamePorter, Suits}
-use Rattle.bm_worker.specs.Inside.Deeds.{arrival, loss}
-use Rattle.bm_worker.specs.Inside.Debts.{Debt, IsAmong, IsCopyOf, IsOf, IsUpTo, Owes}
+use Rattle.bm_worker.specs.WorkerNotes.{Hears, IsSameCaller, Suits}
+use Rattle.bm_worker.specs.Inside.WorkerNotes.{arrival, loss}
+use Rattle.bm_worker.specs.Inside.Pending.{Pending, IsAmong, IsCopyOf, IsOf, IsUpTo, Owes}
 use Rattle.bm_worker.specs.Inside.Lost.{with_loss}
 use Rattle.bm_worker.specs.Phases.{AreCopies, IsMuxGiven, Kept, Stint, mux_log, mux_for}
-use Rattle.bm_worker.specs.Told.{Stays}
+use Rattle.bm_worker.specs.SeatCalls.{Stays}
 use Rattle.bm_worker.proofs.Copying.{copies_as, copies_come, copies_stay, tag_hop}
 use Rattle.bm_worker.proofs.Hearing.{hears_arrival, hears_none, hears_stays}
 use Rattle.bm_worker.proofs.Keeping.{kept_more, more_many}
@@ -59,22 +59,22 @@ same_posts now next id seen = record {
 
 pub kept_stays : (F : Rules) (stage : Stage) (servers : List Serving) (stint : Stint) (now next : MuxWorker)
     (d : List Note)
-    → next.mux ≡ now.mux → Stays now.porter.seats next.porter.seats → next.porter.latest ≡ now.porter.latest
-    → IsSamePorter now.porter next.porter → Kept F stage servers stint now d → Kept F stage servers stint next d
-kept_stays F stage servers stint now next d mux same latest porter kept =
+    → next.mux ≡ now.mux → Stays now.caller.seats next.caller.seats → next.caller.latest ≡ now.caller.latest
+    → IsSameCaller now.caller next.caller → Kept F stage servers stint now d → Kept F stage servers stint next d
+kept_stays F stage servers stint now next d mux same latest caller kept =
     kept_more F stage servers stint now next d [] kept (record {
       each = tt;
       ordered = tt;
       logged = ap (λ (x : MuxState). reverse x.log) mux;
       gives = tt;
-      hears = hears_stays stage servers now.porter.seats next.porter.seats same;
+      hears = hears_stays stage servers now.caller.seats next.caller.seats same;
       copies = λ are.
-          subst (λ (x : MuxState). AreCopies stage (mux_for stint) servers (reverse x.log) next.porter.seats)
+          subst (λ (x : MuxState). AreCopies stage (mux_for stint) servers (reverse x.log) next.caller.seats)
           (sym mux)
-          (copies_stay stage servers (mux_for stint) (reverse now.mux.log) now.porter.seats next.porter.seats same are);
+          (copies_stay stage servers (mux_for stint) (reverse now.mux.log) now.caller.seats next.caller.seats same are);
       latest = omega (arith, latest);
       mux = same_posts now next (ap (λ (x : MuxState). x.id) mux) (ap (λ (x : MuxState). x.seen) mux);
-      porter = porter;
+      caller = caller;
     })
 
 -- WHAT IS OWED STAYS SO
@@ -92,20 +92,20 @@ of_packet_up_to k (Close server flow closed) is = tt
 of_packet_up_to k (Retire server h at result) is = tt
 of_packet_up_to k Sync is = tt
 
-pub owes_more : (stint : Stint) (x d : List Note) (debt : Debt) → AllByRecursion (λ n. IsOf debt.packet n.event.what) x
-    → Owes stint d debt → Owes stint (x ++ d) debt
-owes_more stint x d debt packets owes = record {
+pub owes_more : (stint : Stint) (x d : List Note) (pending : Pending) → AllByRecursion (λ n. IsOf pending.packet n.event.what) x
+    → Owes stint d pending → Owes stint (x ++ d) pending
+owes_more stint x d pending packets owes = record {
   note = owes.note;
   among = among_more owes.note x d owes.among;
   sending = owes.sending;
   clock = owes.clock;
   fate = owes.fate;
-  steered = let a = owes.steered in let le = more_many (λ y. steers_packet y.event.what debt.packet) x d in omega arith;
+  steered = let a = owes.steered in let le = more_many (λ y. steers_packet y.event.what pending.packet) x d in omega arith;
   later = owes.later;
   within = owes.within;
-  first = each_append (λ y. IsUpTo debt.packet y.event.what) x d
-      (each_so (λ n. IsOf debt.packet n.event.what) (λ y. IsUpTo debt.packet y.event.what) x
-      (λ n is. of_packet_up_to debt.packet n.event.what is) packets) owes.first;
+  first = each_append (λ y. IsUpTo pending.packet y.event.what) x d
+      (each_so (λ n. IsOf pending.packet n.event.what) (λ y. IsUpTo pending.packet y.event.what) x
+      (λ n is. of_packet_up_to pending.packet n.event.what is) packets) owes.first;
 }
 
 -- A COPY ARRIVES
@@ -114,11 +114,11 @@ pub one_of : (n : Note) (d : List Note) (test : Note → Bool) → IsAmong n d �
 one_of n d test among is =
     let a = among (λ y. cond (test y) 1 0) in let one : ◌≡◌ {A = ℕ} (cond (test n) 1 0) 1 = rw is refl in omega arith
 
-due_among : (stint : Stint) (d : List Note) (debt : Debt) (due : ℕ) → Owes stint d debt
-    → due ≡ debt.clock + debt.fate.delay
-    → 1 ≤ many (is_due_at debt.packet debt.hop due) d
-due_among stint d debt due owes is =
-    one_of owes.note d (is_due_at debt.packet debt.hop due) owes.among
+due_among : (stint : Stint) (d : List Note) (pending : Pending) (due : ℕ) → Owes stint d pending
+    → due ≡ pending.clock + pending.fate.delay
+    → 1 ≤ many (is_due_at pending.packet pending.hop due) d
+due_among stint d pending due owes is =
+    one_of owes.note d (is_due_at pending.packet pending.hop due) owes.among
     (and_from _ _ owes.sending (eq-eqb due (owes.note.event.clock.0 + owes.note.fate.delay)
     (is ∙ (λ i. sym owes.clock i + (sym owes.fate i).delay))))
 
@@ -140,21 +140,21 @@ none_after k d all =
     (λ y is. up_to_not_after k y.event.what is) all)
 
 pub kept_arrival : (F : Rules) (stage : Stage) (servers : List Serving) (stint : Stint) (now next : MuxWorker)
-    (d : List Note) (debt : Debt)
+    (d : List Note) (pending : Pending)
     (place : ℕ) (octets : List ℕ) (due : Moment) (r : Moment × Verdict) (fate : Fate) → Suits stage servers
-    → (copy : IsCopyOf stage servers now.mux place debt.packet debt.hop octets)
-    → due.0 ≡ debt.clock + debt.fate.delay → due.0 < r.0.0
-    → IsDrawn F (arrival r.0 debt.packet debt.hop copy.server.id r.1 fate due.0 ((mux_for stint).0 + 1))
-    → HasCome place copy.server debt.packet (copy.tag, copy.segment) due r now.porter.seats next.porter.seats
-    → next.mux ≡ now.mux → next.porter.latest ≡ max now.porter.latest r.0.0 → IsSamePorter now.porter next.porter
-    → Owes stint d debt → Kept F stage servers stint now d
+    → (copy : IsCopyOf stage servers now.mux place pending.packet pending.hop octets)
+    → due.0 ≡ pending.clock + pending.fate.delay → due.0 < r.0.0
+    → IsDrawn F (arrival r.0 pending.packet pending.hop copy.server.id r.1 fate due.0 ((mux_for stint).0 + 1))
+    → HasCome place copy.server pending.packet (copy.tag, copy.segment) due r now.caller.seats next.caller.seats
+    → next.mux ≡ now.mux → next.caller.latest ≡ max now.caller.latest r.0.0 → IsSameCaller now.caller next.caller
+    → Owes stint d pending → Kept F stage servers stint now d
     → Kept F stage servers stint next
-    (arrival r.0 debt.packet debt.hop copy.server.id r.1 fate due.0 ((mux_for stint).0 + 1) ∷ d)
-kept_arrival F stage servers stint now next d debt place octets due r fate suits copy is lt drawn come mux latest porter
+    (arrival r.0 pending.packet pending.hop copy.server.id r.1 fate due.0 ((mux_for stint).0 + 1) ∷ d)
+kept_arrival F stage servers stint now next d pending place octets due r fate suits copy is lt drawn come mux latest caller
     owes kept =
     let m = (mux_for stint).0 in
-    let n = arrival r.0 debt.packet debt.hop copy.server.id r.1 fate due.0 (m + 1) in
-    let hop_is : copy.tag.hop ≡ debt.hop = tag_hop copy.label debt.hop copy.tag copy.tagged in
+    let n = arrival r.0 pending.packet pending.hop copy.server.id r.1 fate due.0 (m + 1) in
+    let hop_is : copy.tag.hop ≡ pending.hop = tag_hop copy.label pending.hop copy.tag copy.tagged in
     let not_mine : is_home stage (MuxOf m) n ≡ false =
     ap (λ (o : Option Segment). is_by (option_map (λ (x : Segment). ShardOf copy.server.id.0 (shard stage x.flow)) o)
     (MuxOf m)) copy.is_segment in
@@ -169,9 +169,9 @@ kept_arrival F stage servers stint now next d debt place octets due r fate suits
           assigned = tt;
           owed = (
             let a = owes.steered in let le =
-                more_many (λ y. steers_packet y.event.what debt.packet) (n ∷ []) d in omega arith,
-            let a = due_among stint d debt due.0 owes is in let le =
-                more_many (is_due_at debt.packet debt.hop due.0) (n ∷ []) d in omega arith,
+                more_many (λ y. steers_packet y.event.what pending.packet) (n ∷ []) d in omega arith,
+            let a = due_among stint d pending due.0 owes is in let le =
+                more_many (is_due_at pending.packet pending.hop due.0) (n ∷ []) d in omega arith,
           );
           lost = tt;
           drawn = drawn;
@@ -179,39 +179,39 @@ kept_arrival F stage servers stint now next d debt place octets due r fate suits
         },
         tt,
       );
-      ordered = (none_after debt.packet d owes.first, tt);
+      ordered = (none_after pending.packet d owes.first, tt);
       logged = ap (λ (x : MuxState). reverse x.log) mux ∙ ap (λ (l : List Event). l ++ reverse now.mux.log) (sym none);
       gives = subst (λ (l : List Event). AtEach (GivenNow stage stint now next) l) (sym none) tt;
-      hears = subst (λ (h : Hop). Hears stage servers now.porter.seats next.porter.seats
-          (arrival r.0 debt.packet h copy.server.id r.1 fate due.0 (m + 1) ∷ [])) hop_is
-          (hears_arrival stage servers place debt.packet (m + 1) copy.server (copy.tag, copy.segment) due r fate
-          now.porter.seats next.porter.seats
+      hears = subst (λ (h : Hop). Hears stage servers now.caller.seats next.caller.seats
+          (arrival r.0 pending.packet h copy.server.id r.1 fate due.0 (m + 1) ∷ [])) hop_is
+          (hears_arrival stage servers place pending.packet (m + 1) copy.server (copy.tag, copy.segment) due r fate
+          now.caller.seats next.caller.seats
           suits copy.is_server come copy.is_segment);
       copies = λ are.
-          subst (λ (x : MuxState). AreCopies stage (mux_for stint) servers (reverse x.log) next.porter.seats)
+          subst (λ (x : MuxState). AreCopies stage (mux_for stint) servers (reverse x.log) next.caller.seats)
           (sym mux)
-          (subst (λ (y : MuxId). AreCopies stage y servers (reverse now.mux.log) next.porter.seats) kept.mux.id
-          (copies_come stage servers now.mux place debt.packet debt.hop octets due r now.porter.seats next.porter.seats
+          (subst (λ (y : MuxId). AreCopies stage y servers (reverse now.mux.log) next.caller.seats) kept.mux.id
+          (copies_come stage servers now.mux place pending.packet pending.hop octets due r now.caller.seats next.caller.seats
           suits copy come
-          (subst (λ (y : MuxId). AreCopies stage y servers (reverse now.mux.log) now.porter.seats) (sym kept.mux.id)
+          (subst (λ (y : MuxId). AreCopies stage y servers (reverse now.mux.log) now.caller.seats) (sym kept.mux.id)
           are)));
       latest = omega (arith, latest);
       mux = same_posts now next (ap (λ (x : MuxState). x.id) mux) (ap (λ (x : MuxState). x.seen) mux);
-      porter = porter;
+      caller = caller;
     })
 
 -- A SENDING IS LOST
 
 pub kept_loss : (F : Rules) (stage : Stage) (servers : List Serving) (stint : Stint) (now : MuxWorker) (d : List Note)
-    (debt : Debt)
-    → debt.fate.copies ≡ 0 → Owes stint d debt → Kept F stage servers stint now d
-    → Kept F stage servers stint (with_loss debt.packet debt.hop debt.clock now)
-    (loss (debt.clock + 1) debt.packet debt.hop ((mux_for stint).0 + 1) ∷ d)
-kept_loss F stage servers stint now d debt none owes kept =
+    (pending : Pending)
+    → pending.fate.copies ≡ 0 → Owes stint d pending → Kept F stage servers stint now d
+    → Kept F stage servers stint (with_loss pending.packet pending.hop pending.clock now)
+    (loss (pending.clock + 1) pending.packet pending.hop ((mux_for stint).0 + 1) ∷ d)
+kept_loss F stage servers stint now d pending none owes kept =
     let m = (mux_for stint).0 in
-    let n = loss (debt.clock + 1) debt.packet debt.hop (m + 1) in
-    let next = with_loss debt.packet debt.hop debt.clock now in
-    let e = at_clock (debt.clock + 1) (Lose debt.packet debt.hop) in
+    let n = loss (pending.clock + 1) pending.packet pending.hop (m + 1) in
+    let next = with_loss pending.packet pending.hop pending.clock now in
+    let e = at_clock (pending.clock + 1) (Lose pending.packet pending.hop) in
     let mine : is_home stage (MuxOf m) n ≡ true = eq-eqb ((m + 1) - 1) m (omega arith) in
     let one : mux_log stage m (n ∷ []) ≡ e ∷ [] = ap (λ (b : Bool). events_of (cond b (n ∷ []) [])) mine in
     let turned : reverse next.mux.log ≡ e ∷ reverse now.mux.log = reverse-append now.mux.log (e ∷ []) in
@@ -225,13 +225,13 @@ kept_loss F stage servers stint now d debt none owes kept =
           assigned = tt;
           owed = tt;
           lost = (
-            debt.clock,
+            pending.clock,
             omega arith,
-            let a = one_of owes.note d (is_copyless debt.packet debt.hop debt.clock) owes.among
+            let a = one_of owes.note d (is_copyless pending.packet pending.hop pending.clock) owes.among
                 (and_from _ _ owes.sending
                 (and_from _ _ (eq-eqb owes.note.fate.copies 0 (ap (λ (x : Fate). x.copies) owes.fate ∙ none))
-                (eq-eqb owes.note.event.clock.0 debt.clock owes.clock))) in
-                let le = more_many (is_copyless debt.packet debt.hop debt.clock) (n ∷ []) d in omega arith,
+                (eq-eqb owes.note.event.clock.0 pending.clock owes.clock))) in
+                let le = more_many (is_copyless pending.packet pending.hop pending.clock) (n ∷ []) d in omega arith,
           );
           drawn = tt;
           placed = tt;
@@ -241,11 +241,11 @@ kept_loss F stage servers stint now d debt none owes kept =
       ordered = (tt, tt);
       logged = turned ∙ ap (λ (l : List Event). l ++ reverse now.mux.log) (sym one);
       gives = subst (λ (l : List Event). AtEach (GivenNow stage stint now next) l) (sym one) (tt, tt);
-      hears = hears_none stage servers now.porter.seats;
+      hears = hears_none stage servers now.caller.seats;
       copies = λ are. copies_as stage servers (mux_for stint) (reverse now.mux.log) (reverse next.mux.log)
-          now.porter.seats
+          now.caller.seats
           (λ k l is. subst (λ (past : List Event). label_of stage past k ≡ Some l) (sym turned) is) are;
       latest = omega arith;
       mux = same_posts now next refl refl;
-      porter = record { number = refl; who_is = refl };
+      caller = record { number = refl; who_is = refl };
     })

@@ -3,7 +3,7 @@ use Rattle.std.proofs.Common.{◌≡◌, ℕ, ◌+◌, ◌*◌, ◌<◌, ◌≤�
 use Rattle.bm_base.specs.declared.label.Hop.{Hop}
 use Rattle.bm_base.specs.declared.label.Hop.TheVariants.{Direct, Chained, Twice}
 use Rattle.bm_core.specs.Inside.Weights.{hop_weight}
-use Rattle.bm_worker.specs.Inside.Debts.{copy_lost, most_lost, most_tries}
+use Rattle.bm_worker.specs.Inside.Pending.{copy_lost, most_lost, most_tries}
 
 pub some_lost : (hop : Hop) → 1 ≤ most_lost hop
 some_lost Direct = omega arith

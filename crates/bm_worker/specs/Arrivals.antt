@@ -13,7 +13,7 @@ use Rattle.bm_shard.specs.Copies.{copy_in}
 use Rattle.bm_server.specs.Servings.{Serving}
 use Rattle.bm_server.specs.Seats.{Seated}
 use Rattle.bm_server.specs.Servings.{shard_for}
-use Rattle.bm_worker.specs.Told.{Gains}
+use Rattle.bm_worker.specs.SeatCalls.{Gains}
 
 -- the server reads this tag and segment in the octets
 abbrev pub IsCopy : Serving → List ℕ → Tag × Segment → Type 0

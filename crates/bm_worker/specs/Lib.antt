@@ -1,8 +1,9 @@
 pub mod Assigned
-pub mod Portings
-pub mod Told
+pub mod Callers
+pub mod SeatCalls
 pub mod Arrivals
-pub mod Deeds
+pub mod WorkerNotes
+pub mod Environments
 pub mod Phases
 pub mod Views
 pub mod Inside

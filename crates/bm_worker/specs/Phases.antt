@@ -3,7 +3,7 @@
 use Rattle.std.specs.Prelude.{◌≡◌, ℕ, suc, ◌+◌, ◌-◌, ◌*◌, ◌^◌, ◌<◌, ◌≤◌, ◌==◌, max, Bool, true}
 use Rattle.std.specs.Prelude.{false, MatchBool}
 use Rattle.std.specs.Prelude.{if◌then◌else◌, List, ◌++◌, length, reverse, slice_get, Option, Some}
-use Rattle.std.specs.Prelude.{None, IfSome, is_some}
+use Rattle.std.specs.Prelude.{None, IfSome}
 use Rattle.std.specs.List.{AllByRecursion}
 use Rattle.bm_base.specs.declared.ids.MuxId.{MuxId}
 use Rattle.bm_base.specs.declared.label.Label.{Label}
@@ -14,14 +14,12 @@ use Rattle.bm_core.specs.declared.events.What.{What}
 use Rattle.bm_core.specs.declared.events.What.TheVariants.{Arrive, Lose, Steer, Switch}
 use Rattle.bm_core.specs.Accounts.{Rules, counts, steers_packet}
 use Rattle.bm_core.specs.Past.{is_switch_of, label_of, segment_of, shard, version_at}
-use Rattle.bm_core.specs.Stages.{IsSound}
 use Rattle.bm_core.specs.Runs.{AtEach, next_clock}
 use Rattle.bm_core.specs.Runs.Actor.{MuxOf}
 use Rattle.bm_core.specs.Threads.{last_own, packet_of, record_moment, steers_later}
 use Rattle.bm_merge.specs.Notes.{Note, events_of, greatest, many, switched_since}
 use Rattle.bm_merge.specs.Workers.{IsCarrier, IsDrawn, IsOwed, arrives_after, carries, home_part}
 use Rattle.bm_merge.specs.Workers.{is_copyless}
-use Rattle.bm_link.specs.Fits.{ArePackets}
 use Rattle.bm_shard.specs.declared.calls.ShardCall.{ShardCall}
 use Rattle.bm_shard.specs.declared.calls.ShardCall.TheVariants.{Arrive as Arrives}
 use Rattle.bm_server.specs.Servings.{Serving}
@@ -32,9 +30,9 @@ use Rattle.bm_worker.specs.declared.span.Span.{Span}
 use Rattle.bm_worker.specs.declared.stop.Stop.{Stop}
 use Rattle.bm_worker.specs.declared.stop.Stop.TheVariants.{Memory, Late}
 use Rattle.bm_worker.specs.declared.worker.MuxWorker.{MuxWorker}
-use Rattle.bm_worker.specs.Deeds.{HasServer, Hears, IsSamePorter, Sits, Suits, clock_of}
-use Rattle.bm_worker.specs.Told.{told_there}
-use Rattle.bm_worker.specs.Assigned.{RoutedBy, is_assigned, assigned_mux}
+use Rattle.bm_worker.specs.WorkerNotes.{HasServer, Hears, IsSameCaller, Sits, clock_of}
+use Rattle.bm_worker.specs.SeatCalls.{told_there}
+use Rattle.bm_worker.specs.Assigned.{RoutedBy, is_assigned}
 
 -- HOW MUCH A PACKET MAY LEAD TO
 
@@ -47,8 +45,8 @@ abbrev pub entries_per_packet : ℕ
 entries_per_packet = 11
 
 -- notes: a Switch, the Steer, and its arrivals; a loss may come in place of some of these
-abbrev pub deeds_per_packet : ℕ
-deeds_per_packet = 41
+abbrev pub notes_per_packet : ℕ
+notes_per_packet = 41
 
 -- one worker's part of a phase
 pub record Stint : Type 0 where
@@ -145,7 +143,7 @@ IsPlaced servers (Arrive k hop server verdict) = HasServer servers server
 IsPlaced servers _ = Unit {0}
 
 -- one of the notes of the phase, where `deeds` is all of them
-pub record IsDeed (F : Rules) (stage : Stage) (servers : List Serving) (stint : Stint)
+pub record IsPhaseNote (F : Rules) (stage : Stage) (servers : List Serving) (stint : Stint)
     (deeds : List Note) (n : Note) : Type 0 where
   pub kind : carries (mux_for stint).0 n.event.what ≡ true
   pub seat : n.seat ≡ (mux_for stint).0 + 1
@@ -163,7 +161,7 @@ pub record IsDeed (F : Rules) (stage : Stage) (servers : List Serving) (stint : 
 -- what holds at every moment of a phase, and of what was done if a worker gives up
 pub record Kept (F : Rules) (stage : Stage) (servers : List Serving) (stint : Stint)
     (now : MuxWorker) (deeds : List Note) : Type 0 where
-  pub each : AllByRecursion (IsDeed F stage servers stint deeds) deeds
+  pub each : AllByRecursion (IsPhaseNote F stage servers stint deeds) deeds
   pub ordered : AtEach (λ rest n. IsInOrder rest n.event.what) deeds
   -- the mux's log grew by exactly these notes' events
   pub logged : reverse now.mux.log
@@ -173,18 +171,18 @@ pub record Kept (F : Rules) (stage : Stage) (servers : List Serving) (stint : St
       (rest ++ reverse stint.start.mux.log) e.clock.0 e.what)
       (mux_log stage (mux_for stint).0 deeds)
   -- the seats' calls and replies grew likewise
-  pub hears : Hears stage servers stint.start.porter.seats now.porter.seats deeds
+  pub hears : Hears stage servers stint.start.caller.seats now.caller.seats deeds
   pub copies : AreCopies stage (mux_for stint) servers (reverse stint.start.mux.log)
-      stint.start.porter.seats
-      → AreCopies stage (mux_for stint) servers (reverse now.mux.log) now.porter.seats
+      stint.start.caller.seats
+      → AreCopies stage (mux_for stint) servers (reverse now.mux.log) now.caller.seats
   -- the greatest clock exactly
-  pub latest : now.porter.latest ≡ max stint.start.porter.latest (greatest clock_of deeds)
+  pub latest : now.caller.latest ≡ max stint.start.caller.latest (greatest clock_of deeds)
   pub mux : IsSameMux stint.start.mux now.mux
-  pub porter : IsSamePorter stint.start.porter now.porter
+  pub caller : IsSameCaller stint.start.caller now.caller
 
 -- besides the first Switch, at most as many notes as the packets may lead to
 abbrev pub AreFew : List Note → Type 0
-AreFew deeds = length deeds ≤ deeds_per_packet * many (λ n. is_steer n.event.what) deeds + 1
+AreFew deeds = length deeds ≤ notes_per_packet * many (λ n. is_steer n.event.what) deeds + 1
 
 -- what a worker did in a phase, to its end
 pub record Phase (F : Rules) (stage : Stage) (servers : List Serving) (stint : Stint)
@@ -210,17 +208,6 @@ IsStopOf deeds (Late moment clock) =
 
 -- THE WORKER
 
--- what the run has, for all phases
-pub record IsRunnable (stage : Stage) (octets : List (List ℕ)) (routes : List (Option MuxId))
-    (servers : List Serving)
-    : Type 0 where
-  pub sound : IsSound stage
-  pub packets : ArePackets stage.capture.records octets
-  pub suits : Suits stage servers
-  pub count : length routes ≡ length stage.capture.records
-  -- a packet that has a mux is steerable
-  pub steerable : (k m : ℕ) → assigned_mux routes k ≡ Some m → is_some (segment_of stage k) ≡ true
-
 -- an event in the mux's log from before the phase
 pub record IsOlder (m : MuxId) (from after : ℕ) (e : Event) : Type 0 where
   pub own : IsOwn m e.what
@@ -231,19 +218,19 @@ pub record IsOlder (m : MuxId) (from after : ℕ) (e : Event) : Type 0 where
 pub record IsReady (stage : Stage) (servers : List Serving) (stint : Stint) : Type 0 where
   pub until : (stint.from ≤ stint.until) × (stint.until ≤ length stage.capture.records)
   pub after : stint.after ≤ 9 * 10 ^ 18
-  pub sits : Sits servers stint.start.porter
+  pub sits : Sits servers stint.start.caller
   pub mux : (mux_for stint).0 < 64
-  pub number : stint.start.porter.number ≡ (mux_for stint).0 + 1
+  pub number : stint.start.caller.number ≡ (mux_for stint).0 + 1
   pub told : stint.told.board ≡ stint.start.mux.seen.board
   pub plan : stint.start.mux.seen.plan ≡ stage.script.plan
   pub older : AllByRecursion (IsOlder (mux_for stint) stint.from stint.after) stint.start.mux.log
-  pub tries : stint.start.porter.tries + tries_per_packet * (stint.until - stint.from) ≤ 4294967295
+  pub tries : stint.start.caller.tries + tries_per_packet * (stint.until - stint.from) ≤ 4294967295
   pub steps : stint.start.steps + (stint.until - stint.from) ≤ 4294967295
   pub room : length stint.start.mux.log + entries_per_packet * (stint.until - stint.from) + 1 < 2 ^ 48
 
 -- how much the worker's counts may rise in the phase
 pub record HasGrown (stint : Stint) (now : MuxWorker) : Type 0 where
-  pub tries : now.porter.tries ≤ stint.start.porter.tries + tries_per_packet * (stint.until - stint.from)
+  pub tries : now.caller.tries ≤ stint.start.caller.tries + tries_per_packet * (stint.until - stint.from)
   pub steps : now.steps ≤ stint.start.steps + (stint.until - stint.from)
   pub log : length now.mux.log ≤ length stint.start.mux.log + entries_per_packet * (stint.until - stint.from) + 1
 

@@ -2,9 +2,9 @@
 #![tactic(auto)]
 
 mod batch;
+mod caller;
 mod phase;
 mod place;
-mod porter;
 mod sends;
 mod shared;
 mod span;
@@ -12,8 +12,8 @@ mod stop;
 mod work;
 mod worker;
 
+pub use caller::Caller;
 pub use place::place_of;
-pub use porter::Porter;
 pub use shared::Shared;
 pub use span::Span;
 pub use stop::Stop;

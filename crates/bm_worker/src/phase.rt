@@ -1,12 +1,13 @@
 //! A mux's part of a phase: its first look, and then batch after batch.
-ghost use Rattle.std.specs.Prelude.{◌≡◌, ◌+◌, ◌-◌, ◌*◌, ◌^◌, ◌<◌, ◌≤◌, IfOk, MatchResult, length};
+ghost use Rattle.std.specs.Prelude.{◌≡◌, ◌+◌, ◌-◌, ◌<◌, ◌≤◌, IfOk, MatchResult, length};
 ghost use Rattle.std.specs.Prelude.{IsSome, Some};
 ghost use Rattle.bm_publish.specs.Posts.{Posted};
-ghost use Rattle.bm_fault.specs.Faults.{Gives, IsRule};
+ghost use Rattle.bm_fault.specs.Faults.{IsRule};
 ghost use Rattle.bm_mux.specs.Muxes.{IsSameMux};
-ghost use Rattle.bm_worker.specs.Inside.Batches.{CarriesTo, EndsAs, GrowsBy};
-ghost use Rattle.bm_worker.specs.Deeds.{IsSamePorter, Sits};
-ghost use Rattle.bm_worker.specs.Phases.{HasGrown, IsReady, IsRunnable, stint_of, tries_per_packet};
+ghost use Rattle.bm_worker.specs.Environments.{In};
+ghost use Rattle.bm_worker.specs.Inside.Batches.{CanCarry, CarriesTo, EndsAs, GrowsBy};
+ghost use Rattle.bm_worker.specs.WorkerNotes.{IsSameCaller};
+ghost use Rattle.bm_worker.specs.Phases.{HasGrown, IsReady, stint_of};
 
 use crate::batch::collect;
 use crate::{MuxWorker, Shared, Span, Stop};
@@ -18,10 +19,10 @@ use std::sync::Wait;
 impl MuxWorker {
     /// The worker's mux. Takes no memory.
     fn mux_id(&self) -> MuxId
-        requires { self.now.porter.number ≡ self.now.mux.id.0 + 1 }
+        requires { self.now.caller.number ≡ self.now.mux.id.0 + 1 }
         ensures { result ≡ self.now.mux.id }
     {
-        MuxId(self.porter.number() - 1)
+        MuxId(self.caller.number() - 1)
     }
 
     /// Steers and delivers the next batch of the mux's packets among the records at the places
@@ -35,24 +36,16 @@ impl MuxWorker {
         from: u32,
         until: u32,
     ) -> Result<u32, Stop>
-        requires rule { IsRule F.Fn shared.now.faults.now.rule }
-        requires run { IsRunnable shared.now.stage.now shared.now.octets.now shared.now.routes.now
-            shared.now.servers.now }
-        requires until { (from < until) × (until ≤ length shared.now.stage.now.capture.records) }
-        requires plan { self.old.mux.seen.plan ≡ shared.now.stage.now.script.plan }
-        requires mux { self.old.mux.id.0 < 64 }
-        requires sits { Sits shared.now.servers.now self.old.porter }
-        requires number { self.old.porter.number ≡ self.old.mux.id.0 + 1 }
-        requires tries { self.old.porter.tries + tries_per_packet * (until - from) ≤ 4294967295 }
-        requires steps { self.old.steps + (until - from) ≤ 4294967295 }
-        requires room { length self.old.mux.log < 2 ^ 48 }
+        requires rule { IsRule F.Fn shared.now.rule }
+        requires until { (from < until) × (until ≤ length shared.now.stage.capture.records) }
+        requires can { CanCarry shared.now.stage shared.now.servers (until - from) self.old }
         ensures more { IfOk result (λ end. (from < end) × (end ≤ until)) }
         ensures mux { IsSameMux self.old.mux self.new.mux }
-        ensures porter { IsSamePorter self.old.porter self.new.porter }
+        ensures caller { IsSameCaller self.old.caller self.new.caller }
         ensures grows { MatchResult result (λ end. GrowsBy (end - from) self.old self.new)
             (λ _. GrowsBy (until - from) self.old self.new) }
-        ensures carries { CarriesTo (Gives F.Fn shared.now.faults.now.rule) shared.now.stage.now
-            shared.now.servers.now shared.now.routes.now from until self.old self.new result }
+        ensures carries { In F.Fn shared.now CarriesTo shared.now.routes from until self.old
+            self.new result }
     {
         let batch = collect(shared, self.mux_id(), from, until)?;
         sents.clear();
@@ -60,7 +53,7 @@ impl MuxWorker {
             return Ok(batch.end);
         }
         self.mux.batch(&batch.items, sents)?;
-        self.porter.see(self.mux.clock());
+        self.caller.see(self.mux.clock());
         self.deliver(rt, shared, sents, &batch.fates)?;
         Ok(batch.end)
     }
@@ -73,26 +66,23 @@ impl MuxWorker {
         shared: &Shared<'_, F, G>,
         span: Span,
     ) -> Result<(), Stop>
-        requires rule { IsRule F.Fn shared.now.faults.now.rule }
-        requires run { IsRunnable shared.now.stage.now shared.now.octets.now shared.now.routes.now
-            shared.now.servers.now }
+        requires rule { IsRule F.Fn shared.now.rule }
         requires told { IsSome self.old.told }
         requires ready { (told : Posted) → self.old.told ≡ Some told
-            → IsReady shared.now.stage.now shared.now.servers.now
-            (stint_of shared.now.routes.now span told self.old) }
+            → IsReady shared.now.stage shared.now.servers
+            (stint_of shared.now.routes span told self.old) }
         ensures grown { (told : Posted) → self.old.told ≡ Some told
-            → HasGrown (stint_of shared.now.routes.now span told self.old) self.new }
+            → HasGrown (stint_of shared.now.routes span told self.old) self.new }
         ensures ended { (told : Posted) → self.old.told ≡ Some told
-            → EndsAs (Gives F.Fn shared.now.faults.now.rule) shared.now.stage.now
-            shared.now.servers.now (stint_of shared.now.routes.now span told self.old) self.new
+            → In F.Fn shared.now EndsAs (stint_of shared.now.routes span told self.old) self.new
             result }
     {
         let Some(told) = self.told.take() else {
             unreachable!();
         };
         self.mux.begin(told, span.after)?;
-        self.porter.see(self.mux.clock());
-        let mut sents = Vec::new(shared.alloc);
+        self.caller.see(self.mux.clock());
+        let mut sents = Vec::new(shared.alloc());
         let mut next = span.from;
         while next < span.until {
             next = self.carry_batch(rt, shared, &mut sents, next, span.until)?;

@@ -3,13 +3,13 @@ ghost use Rattle.std.specs.Prelude.{◌≡◌, ◌+◌, ◌*◌, ◌^◌, ◌≤
 ghost use Rattle.bm_encap.specs.Faults.{chained};
 ghost use Rattle.bm_base.specs.Labels.{hop_after};
 ghost use Rattle.bm_core.specs.Inside.Weights.{hop_weight};
-ghost use Rattle.bm_core.specs.Stages.{IsSound};
-ghost use Rattle.bm_fault.specs.Faults.{Gives, IsRule};
+ghost use Rattle.bm_fault.specs.Faults.{IsRule};
 ghost use Rattle.bm_worker.specs.declared.stop.Stop.TheVariants.{Memory as stopped};
-ghost use Rattle.bm_worker.specs.Deeds.{Sits, Suits};
-ghost use Rattle.bm_worker.specs.Inside.Debts.{Carries, CarriesOne, GrowsByLosses, IsCopyOf};
-ghost use Rattle.bm_worker.specs.Inside.Debts.{IsForwarded, copy_lost, most_lost, most_tries};
-ghost use Rattle.bm_worker.specs.Inside.Debts.{IsLateFrom, IsSameWorker, debt};
+ghost use Rattle.bm_worker.specs.Environments.{In};
+ghost use Rattle.bm_worker.specs.Inside.Pending.{CanSend, Carries, CarriesOne, HasSent, IsLateFrom};
+ghost use Rattle.bm_worker.specs.Inside.Pending.{IsWithinLimits, copy_lost, pending, most_lost};
+ghost use Rattle.bm_worker.specs.Inside.Pending.{most_tries};
+ghost use Rattle.bm_worker.specs.Inside.Sendings.{HasCopy, IsForwardedBy, pending_of};
 ghost use Rattle.bm_worker.specs.Inside.Lost.{with_loss};
 
 use crate::place::place_of;
@@ -69,7 +69,7 @@ impl MuxWorker {
             (λ stop. (stop ≡ stopped) × (self.new ≡ self.old)) }
     {
         self.mux.lost(packet, hop, clock)?;
-        self.porter.lose(clock);
+        self.caller.lose(clock);
         Ok(())
     }
 
@@ -85,27 +85,20 @@ impl MuxWorker {
         clock: Moment,
         fate: Fate,
     ) -> Result<(), Stop>
-        requires rule { IsRule F.Fn shared.now.faults.now.rule }
-        requires sound { IsSound shared.now.stage.now }
-        requires suits { Suits shared.now.stage.now shared.now.servers.now }
+        requires rule { IsRule F.Fn shared.now.rule }
         requires next { hop_after sending.now.hop ≡ Some next }
-        requires onward { IsForwarded shared.now.stage.now shared.now.servers.now self.old.mux
-            sending.now.place sending.now.packet sending.now.hop sending.now.octets.now to }
-        requires sits { Sits shared.now.servers.now self.old.porter }
-        requires number { self.old.porter.number ≡ self.old.mux.id.0 + 1 }
-        requires few { self.old.porter.tries + most_tries next ≤ 4294967295 }
-        requires fate { (fate.copies ≤ 3) × (fate.delay ≤ 60 * 10 ^ 9) }
-        ensures same { IsSameWorker self.old self.new }
-        ensures grows { GrowsByLosses (most_lost next) self.old.mux.log self.new.mux.log }
-        ensures tries { self.new.porter.tries ≤ self.old.porter.tries + most_tries next }
-        ensures carries { let d = debt sending.now.packet next clock.0 fate in
-            Carries (Gives F.Fn shared.now.faults.now.rule) shared.now.stage.now
-            shared.now.servers.now d (most_tries next) self.old self.new result }
+        requires onward { IsForwardedBy shared.now.stage shared.now.servers self.old.mux sending.now
+            to }
+        requires can { CanSend shared.now.servers (most_tries next) self.old }
+        requires fate { IsWithinLimits fate }
+        ensures sent { HasSent (most_lost next) (most_tries next) self.old self.new }
+        ensures carries { let d = pending sending.now.packet next clock.0 fate in
+            In F.Fn shared.now Carries d (most_tries next) self.old self.new result }
     {
-        let Some(place) = place_of(shared.servers, to) else {
+        let Some(place) = place_of(shared.servers(), to) else {
             unreachable!();
         };
-        let octets = turned(shared.alloc, sending.octets)?;
+        let octets = turned(shared.alloc(), sending.octets)?;
         let onward = Sending {
             packet: sending.packet,
             hop: next,
@@ -126,28 +119,19 @@ impl MuxWorker {
         sending: &Sending<'_>,
         due: Moment,
     ) -> Result<(), Stop>
-        requires rule { IsRule F.Fn shared.now.faults.now.rule }
-        requires sound { IsSound shared.now.stage.now }
-        requires suits { Suits shared.now.stage.now shared.now.servers.now }
-        requires copy { IsCopyOf shared.now.stage.now shared.now.servers.now self.old.mux
-            sending.now.place sending.now.packet sending.now.hop sending.now.octets.now }
-        requires sits { Sits shared.now.servers.now self.old.porter }
-        requires number { self.old.porter.number ≡ self.old.mux.id.0 + 1 }
-        requires few { self.old.porter.tries + hop_weight sending.now.hop ≤ 4294967295 }
+        requires rule { IsRule F.Fn shared.now.rule }
+        requires copy { HasCopy shared.now.stage shared.now.servers self.old.mux sending.now }
+        requires can { CanSend shared.now.servers (hop_weight sending.now.hop) self.old }
         requires due { (due.0 ≡ sending.now.clock.0 + sending.now.fate.delay)
             × (due.0 ≤ 9 * 10 ^ 18) }
-        ensures same { IsSameWorker self.old self.new }
-        ensures grows { GrowsByLosses (copy_lost sending.now.hop) self.old.mux.log self.new.mux.log }
-        ensures tries { self.new.porter.tries
-            ≤ self.old.porter.tries + hop_weight sending.now.hop }
-        ensures carries { let d = debt sending.now.packet sending.now.hop
-            sending.now.clock.0 sending.now.fate in
-            CarriesOne (Gives F.Fn shared.now.faults.now.rule) shared.now.stage.now
-            shared.now.servers.now d (hop_weight sending.now.hop) self.old self.new result }
+        ensures sent { HasSent (copy_lost sending.now.hop) (hop_weight sending.now.hop) self.old
+            self.new }
+        ensures carries { In F.Fn shared.now CarriesOne (pending_of sending.now)
+            (hop_weight sending.now.hop) self.old self.new result }
     {
-        let (clock, verdict) = self.porter.arrive(
+        let (clock, verdict) = self.caller.arrive(
             rt,
-            shared.servers,
+            shared.servers(),
             sending.place,
             sending.packet,
             sending.octets,
@@ -159,7 +143,7 @@ impl MuxWorker {
         let Some(next) = sending.hop.next() else {
             unreachable!();
         };
-        let fate = shared.faults.fate(sending.packet, next);
+        let fate = shared.fate(sending.packet, next);
         self.forward(rt, shared, sending, next, to, clock, fate)
     }
 
@@ -171,23 +155,14 @@ impl MuxWorker {
         shared: &Shared<'_, F, G>,
         sending: &Sending<'_>,
     ) -> Result<(), Stop>
-        requires rule { IsRule F.Fn shared.now.faults.now.rule }
-        requires sound { IsSound shared.now.stage.now }
-        requires suits { Suits shared.now.stage.now shared.now.servers.now }
-        requires copy { IsCopyOf shared.now.stage.now shared.now.servers.now self.old.mux
-            sending.now.place sending.now.packet sending.now.hop sending.now.octets.now }
-        requires sits { Sits shared.now.servers.now self.old.porter }
-        requires number { self.old.porter.number ≡ self.old.mux.id.0 + 1 }
-        requires few { self.old.porter.tries + most_tries sending.now.hop ≤ 4294967295 }
-        requires fate { (sending.now.fate.copies ≤ 3) × (sending.now.fate.delay ≤ 60 * 10 ^ 9) }
-        ensures same { IsSameWorker self.old self.new }
-        ensures grows { GrowsByLosses (most_lost sending.now.hop) self.old.mux.log self.new.mux.log }
-        ensures tries { self.new.porter.tries
-            ≤ self.old.porter.tries + most_tries sending.now.hop }
-        ensures carries { let d = debt sending.now.packet sending.now.hop
-            sending.now.clock.0 sending.now.fate in
-            Carries (Gives F.Fn shared.now.faults.now.rule) shared.now.stage.now
-            shared.now.servers.now d (most_tries sending.now.hop) self.old self.new result }
+        requires rule { IsRule F.Fn shared.now.rule }
+        requires copy { HasCopy shared.now.stage shared.now.servers self.old.mux sending.now }
+        requires can { CanSend shared.now.servers (most_tries sending.now.hop) self.old }
+        requires fate { IsWithinLimits sending.now.fate }
+        ensures sent { HasSent (most_lost sending.now.hop) (most_tries sending.now.hop) self.old
+            self.new }
+        ensures carries { In F.Fn shared.now Carries (pending_of sending.now)
+            (most_tries sending.now.hop) self.old self.new result }
     {
         let due = due_of(sending.clock, sending.fate)?;
         if sending.fate.copies == 0 {

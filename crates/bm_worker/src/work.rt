@@ -1,8 +1,9 @@
 //! The workers of the muxes, in parallel.
 ghost use Rattle.std.specs.Prelude.{◌≡◌, ℕ, All, Some, length, slice_get};
-ghost use Rattle.bm_fault.specs.Faults.{Gives, IsRule};
+ghost use Rattle.bm_fault.specs.Faults.{IsRule};
 ghost use Rattle.bm_worker.specs.declared.worker.MuxWorker.{MuxWorker as Worker};
-ghost use Rattle.bm_worker.specs.Phases.{CanWork, HasWorked, IsRunnable};
+ghost use Rattle.bm_worker.specs.Environments.{In};
+ghost use Rattle.bm_worker.specs.Phases.{CanWork, HasWorked};
 
 use crate::{MuxWorker, Shared, Span};
 use bm_base::{Fate, Hop};
@@ -19,13 +20,9 @@ impl MuxWorker {
         shared: &Shared<'_, F, G>,
         span: Span,
     )
-        requires rule { IsRule F.Fn shared.now.faults.now.rule }
-        requires run { IsRunnable shared.now.stage.now shared.now.octets.now shared.now.routes.now
-            shared.now.servers.now }
-        requires can { CanWork shared.now.stage.now shared.now.servers.now shared.now.routes.now
-            span self.old }
-        ensures { HasWorked (Gives F.Fn shared.now.faults.now.rule) shared.now.stage.now
-            shared.now.servers.now shared.now.routes.now span self.old self.new }
+        requires rule { IsRule F.Fn shared.now.rule }
+        requires can { CanWork shared.now.stage shared.now.servers shared.now.routes span self.old }
+        ensures { In F.Fn shared.now HasWorked shared.now.routes span self.old self.new }
     {
         if self.stop.is_some() {
             return;
@@ -42,16 +39,13 @@ pub fn work_all<W: Threads + Wait + Sync, F: Fn(u32, Hop) -> Fate + Sync, G: Gat
     span: Span,
     workers: &mut [MuxWorker],
 )
-    requires rule { IsRule F.Fn shared.now.faults.now.rule }
-    requires run { IsRunnable shared.now.stage.now shared.now.octets.now shared.now.routes.now
-        shared.now.servers.now }
-    requires can { All (CanWork shared.now.stage.now shared.now.servers.now shared.now.routes.now
-        span) workers.old }
+    requires rule { IsRule F.Fn shared.now.rule }
+    requires can { All (CanWork shared.now.stage shared.now.servers shared.now.routes span)
+        workers.old }
     ensures count { length workers.new ≡ length workers.old }
     ensures each { (i : ℕ) (old new : Worker) → slice_get workers.old i ≡ Some old
         → slice_get workers.new i ≡ Some new
-        → HasWorked (Gives F.Fn shared.now.faults.now.rule) shared.now.stage.now
-        shared.now.servers.now shared.now.routes.now span old new }
+        → In F.Fn shared.now HasWorked shared.now.routes span old new }
 {
     let threads = workers.len().max(1);
     thread::for_each_mut(
@@ -59,14 +53,10 @@ pub fn work_all<W: Threads + Wait + Sync, F: Fn(u32, Hop) -> Fate + Sync, G: Gat
         workers,
         threads,
         &|_, me: &mut MuxWorker|
-            requires { IsRule F.Fn shared.now.faults.now.rule
-                × IsRunnable shared.now.stage.now shared.now.octets.now shared.now.routes.now
-                shared.now.servers.now
-                × CanWork shared.now.stage.now shared.now.servers.now shared.now.routes.now span
-                me.now }
-            ensures { HasWorked (Gives F.Fn shared.entry.now.faults.now.rule)
-                shared.entry.now.stage.now shared.entry.now.servers.now
-                shared.entry.now.routes.now span me.entry.now me.exit.now }
+            requires { IsRule F.Fn shared.now.rule
+                × CanWork shared.now.stage shared.now.servers shared.now.routes span me.now }
+            ensures { In F.Fn shared.entry.now HasWorked shared.entry.now.routes span me.entry.now
+                me.exit.now }
         { me.work(rt, shared, span) },
     );
 }

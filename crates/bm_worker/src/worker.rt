@@ -1,5 +1,5 @@
 //! The worker of a mux.
-use crate::{Porter, Stop};
+use crate::{Caller, Stop};
 use bm_mux::Mux;
 use bm_publish::Told;
 
@@ -7,7 +7,7 @@ use bm_publish::Told;
 #[derive(Drop)]
 pub struct MuxWorker {
     pub mux: Mux,
-    pub porter: Porter,
+    pub caller: Caller,
     /// How many packets it delivered, in all phases.
     pub steps: u32,
     /// What was posted before the next phase.

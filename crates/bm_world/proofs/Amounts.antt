@@ -27,7 +27,7 @@ use Rattle.bm_merge.proofs.Sharing.{deeds_upto, sum_seats}
 use Rattle.bm_worker.specs.Phases.{IsMuxGiven, is_steer, mux_log}
 use Rattle.bm_worker.specs.Assigned.{is_mux, is_assigned, assigned_mux}
 use Rattle.bm_lead.specs.Commands.{AreDone, control_log}
-use Rattle.bm_world.proofs.Deeds.{IsAmong, all_among}
+use Rattle.bm_world.proofs.InLogs.{IsAmong, all_among}
 use Rattle.bm_world.proofs.Ending.{is_under, one_mux}
 use Rattle.bm_world.proofs.Homes.{home_is}
 use Rattle.bm_world.proofs.Leaving.{home_fewer}

@@ -29,11 +29,11 @@ use Rattle.bm_merge.proofs.Phasing.{met_shared}
 use Rattle.bm_merge.proofs.Reaching.{one_if}
 use Rattle.bm_world.specs.Inside.Shards.{notes_of}
 use Rattle.bm_mux.specs.Muxes.{post_clock}
-use Rattle.bm_world.specs.Inside.Handed.{posted_clocks, control_log, IsMuxGivenBy, IsControlStep}
-use Rattle.bm_world.specs.Inside.Handed.{IsBookOfAll, AreHandedBack}
+use Rattle.bm_world.specs.Inside.Returned.{posted_clocks, control_log, IsMuxGivenBy, IsControlStep}
+use Rattle.bm_world.specs.Inside.Returned.{IsBookOfAll, AreHandedBack}
 use Rattle.bm_world.proofs.Homes.{home_is, carried_not_control}
 use Rattle.bm_world.proofs.Logs.{mux_logs, shard_logs, logs_of, book_notes, are_seated, own_logs}
-use Rattle.bm_world.proofs.Deeds.{are_workers, have_homes, have_seats, all_shared, all_carried, steered_once}
+use Rattle.bm_world.proofs.InLogs.{are_workers, have_homes, have_seats, all_shared, all_carried, steered_once}
 use Rattle.bm_world.proofs.Entries.{at_notes, at_so, control_entries, mux_entries, posts_count}
 use Rattle.bm_world.proofs.Booked.{book_entries, book_given, book_actors}
 

@@ -14,15 +14,15 @@ use Rattle.bm_merge.specs.Notes.{Note}
 use Rattle.bm_publish.specs.Posts.{Posted}
 use Rattle.bm_server.specs.Seats.{Seated, row}
 use Rattle.bm_server.specs.Servings.{Serving}
-use Rattle.bm_worker.specs.Deeds.{Sits}
-use Rattle.bm_worker.specs.Portings.{Porting}
+use Rattle.bm_worker.specs.WorkerNotes.{Sits}
+use Rattle.bm_worker.specs.Callers.{CallerState}
 use Rattle.bm_worker.specs.declared.worker.MuxWorker.{MuxWorker}
 use Rattle.bm_lead.specs.declared.head.Head.{Head}
 use Rattle.bm_lead.specs.Rests.{Adds}
 use Rattle.bm_lead.proofs.Ending.{all_published}
-use Rattle.bm_world.specs.Inside.Crews.{rows_of, HasPostedRest, HasSeenAll, IsThrough}
+use Rattle.bm_world.specs.Inside.RunStates.{rows_of, HasPostedRest, HasSeenAll, IsThrough}
 use Rattle.bm_world.specs.Inside.GivenUp.{HasGivenUp}
-use Rattle.bm_world.proofs.Crewing.{shown_all}
+use Rattle.bm_world.proofs.MakingWorkers.{shown_all}
 use Rattle.bm_world.proofs.Ending.{row_of}
 
 -- how the phases ended
@@ -91,23 +91,23 @@ all_shown F stage servers routes late posted head workers is seen m w here =
 -- THE SEATS
 
 -- who sits where
-pub record AreSitting (stage : Stage) (servers : List Serving) (head : Porting) (workers : List MuxWorker) : Type
+pub record AreSitting (stage : Stage) (servers : List Serving) (head : CallerState) (workers : List MuxWorker) : Type
     0 where
   pub muxes : length workers ≡ stage.script.setting.muxes
   pub first : Sits servers head
   pub number : head.number ≡ 0
   pub each : (m : ℕ) (w : MuxWorker) → slice_get workers m ≡ Some w
-      → Sits servers w.porter × (w.porter.number ≡ m + 1)
+      → Sits servers w.caller × (w.caller.number ≡ m + 1)
 
 pub sitting : (F : Rules) (stage : Stage) (servers : List Serving) (routes : List (Option MuxId)) (late : Bool)
     (posted : Posted) (head : Head) (workers : List MuxWorker) → Stood F stage servers routes late posted head workers
-    → AreSitting stage servers head.porter workers
+    → AreSitting stage servers head.caller workers
 sitting F stage servers routes true posted head workers is =
     let given = is.given_up
     in record {
       muxes = given.muxes;
-      first = subst (λ (p : Porting). Sits servers p) (sym is.added.porter) given.ready.sits;
-      number = ap (λ (p : Porting). p.number) is.added.porter ∙ given.ready.number;
+      first = subst (λ (p : CallerState). Sits servers p) (sym is.added.caller) given.ready.sits;
+      number = ap (λ (p : CallerState). p.number) is.added.caller ∙ given.ready.number;
       each = λ m w here. let one = given.each m w here in (one.sits, one.number);
     }
 sitting F stage servers routes false posted head workers is =
@@ -119,12 +119,12 @@ sitting F stage servers routes false posted head workers is =
       each = λ m w here. let one = standing.at_work.each m w here in (one.sits, one.number);
     }
 
-sits_as : (servers : List Serving) (p : Porting) (n : ℕ) → Sits servers p → p.number ≡ n
+sits_as : (servers : List Serving) (p : CallerState) (n : ℕ) → Sits servers p → p.number ≡ n
     → map (map who) p.seats ≡ map (λ server. row server n) servers
 sits_as servers p n sits is =
     subst (λ (k : ℕ). map (map who) p.seats ≡ map (λ (server : Serving). row server k) servers) is sits
 
-pub row_sits : (stage : Stage) (servers : List Serving) (head : Porting) (workers : List MuxWorker)
+pub row_sits : (stage : Stage) (servers : List Serving) (head : CallerState) (workers : List MuxWorker)
     → AreSitting stage servers head workers → (w : ℕ) (seats : List (List Seated))
     → slice_get (rows_of head.seats workers) w ≡ Some seats
     → map (map who) seats ≡ map (λ server. row server w) servers
@@ -136,10 +136,10 @@ row_sits stage servers head workers are (suc m) seats here =
     in let one = are.each m w.0 w.1
     in let next : m + 1 ≡ suc m = omega arith
     in subst (λ (x : List (List Seated)). map (map who) x ≡ map (λ (server : Serving). row server (suc m)) servers) w.2
-    (sits_as servers w.0.porter (suc m) one.0 (one.1 ∙ next))
+    (sits_as servers w.0.caller (suc m) one.0 (one.1 ∙ next))
 
-pub rows_long : (stage : Stage) (servers : List Serving) (head : Porting) (workers : List MuxWorker)
+pub rows_long : (stage : Stage) (servers : List Serving) (head : CallerState) (workers : List MuxWorker)
     → AreSitting stage servers head workers
     → length (rows_of head.seats workers) ≡ stage.script.setting.muxes + 1
 rows_long stage servers head workers are =
-    let size = length-map workers (λ (w : MuxWorker). w.porter.seats) in let muxes = are.muxes in omega arith
+    let size = length-map workers (λ (w : MuxWorker). w.caller.seats) in let muxes = are.muxes in omega arith

@@ -36,10 +36,10 @@ use Rattle.bm_merge.proofs.Keeping.{no_deeds}
 use Rattle.bm_merge.proofs.Reaching.{one_if}
 use Rattle.bm_world.specs.Inside.Shards.{Kept, entries_of, note_of, notes_of, IsAsked, AreAsked}
 use Rattle.bm_worker.specs.Phases.{mux_log, IsInOrder}
-use Rattle.bm_world.specs.Inside.Handed.{control_log, IsJudgedBy, IsCopied, IsBookOfAll, AreHandedBack}
+use Rattle.bm_world.specs.Inside.Returned.{control_log, IsJudgedBy, IsCopied, IsBookOfAll, AreHandedBack}
 use Rattle.bm_world.proofs.Homes.{home_is, home_each}
 use Rattle.bm_world.proofs.Logs.{logs_of, book_notes, named_mux}
-use Rattle.bm_world.proofs.Deeds.{are_workers, all_sent}
+use Rattle.bm_world.proofs.InLogs.{are_workers, all_sent}
 use Rattle.bm_world.proofs.Sharded.{shard_entries, shard_clock, all_asked_here}
 
 -- BY SEATS

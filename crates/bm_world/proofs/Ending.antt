@@ -36,18 +36,18 @@ use Rattle.bm_merge.proofs.Reaching.{one_if}
 use Rattle.bm_merge.proofs.Sharing.{deeds_upto, sum_seats}
 use Rattle.bm_server.specs.Seats.{Seated}
 use Rattle.bm_server.specs.Servings.{Serving}
-use Rattle.bm_worker.specs.Deeds.{HasServer, Suits}
+use Rattle.bm_worker.specs.WorkerNotes.{HasServer, Suits}
 use Rattle.bm_worker.specs.Phases.{mux_log, IsPlaced, AreCopies}
 use Rattle.bm_worker.specs.Assigned.{is_mux, assigned_mux}
 use Rattle.bm_worker.specs.declared.worker.MuxWorker.{MuxWorker}
-use Rattle.bm_world.specs.Inside.Handed.{control_log, posted_clocks, IsControl, IsBooked, has_book, AreHandedBack}
+use Rattle.bm_world.specs.Inside.Returned.{control_log, posted_clocks, IsControl, IsBooked, has_book, AreHandedBack}
 use Rattle.bm_world.specs.Inside.Running.{HaveHeard, AreAtWork, HaveLooked}
 use Rattle.bm_lead.specs.Leads.{IsPlaced as IsLedAt}
 use Rattle.bm_world.specs.Inside.Routed.{AreRouted}
 use Rattle.bm_world.specs.Inside.Served.{AreBooksThere}
-use Rattle.bm_world.specs.Inside.Crews.{rows_of}
+use Rattle.bm_world.specs.Inside.RunStates.{rows_of}
 use Rattle.bm_world.proofs.Assembled.{at_change}
-use Rattle.bm_world.proofs.Deeds.{all_carried}
+use Rattle.bm_world.proofs.InLogs.{all_carried}
 use Rattle.bm_world.proofs.Finishing.{AreDone, all_books, has_shard, own_books, books_of_all}
 use Rattle.bm_world.proofs.Growing.{carriage_later}
 
@@ -205,8 +205,8 @@ pub record IsEnded (R : Routes) (F : Rules) (stage : Stage) (servers : List Serv
       → IsPrefix w.mux.seen.clocks (posted_clocks (control_log stage controller))
 
 pub row_of : (workers : List MuxWorker) (m : ℕ) (seats : List (List Seated))
-    → slice_get (map (λ (w : MuxWorker). w.porter.seats) workers) m ≡ Some seats
-    → (w : MuxWorker) × (slice_get workers m ≡ Some w) × (w.porter.seats ≡ seats)
+    → slice_get (map (λ (w : MuxWorker). w.caller.seats) workers) m ≡ Some seats
+    → (w : MuxWorker) × (slice_get workers m ≡ Some w) × (w.caller.seats ≡ seats)
 row_of [] m seats here = absurd (cc)
 row_of (w ∷ workers) zero seats here = (w, refl, same_Some _ _ here)
 row_of (w ∷ workers) (suc m) seats here = row_of workers m seats here
@@ -237,8 +237,8 @@ are_done : (R : Routes) (F : Rules) (stage : Stage) (servers : List Serving) (ro
     → AreDone stage servers (rows_of head workers) controller carriers
 are_done R F stage servers routes board p phases workers head controller carriers end =
     let count = end.at_work.count
-    in let lines : length (map (λ (w : MuxWorker). w.porter.seats) workers) ≡ length workers =
-    length-map workers (λ (w : MuxWorker). w.porter.seats)
+    in let lines : length (map (λ (w : MuxWorker). w.caller.seats) workers) ≡ length workers =
+    length-map workers (λ (w : MuxWorker). w.caller.seats)
     in record {
       suits = end.suits;
       lines = omega arith;
@@ -256,7 +256,7 @@ are_done R F stage servers routes board p phases workers head controller carrier
             at.id,
             subst (λ (x : List (List Seated)). AreCopies stage w.0.mux.id servers
                 (mux_log stage m (deeds_of carriers m)) x) w.2
-                (subst (λ (l : List Event). AreCopies stage w.0.mux.id servers l w.0.porter.seats) at.logged at.copies),
+                (subst (λ (l : List Event). AreCopies stage w.0.mux.id servers l w.0.caller.seats) at.logged at.copies),
           );
     }
 

@@ -30,11 +30,11 @@ use Rattle.bm_base.specs.declared.flow.Segment.{Segment}
 use Rattle.bm_merge.proofs.Standing.{entry_of}
 use Rattle.bm_mux.specs.Muxes.{post_clock}
 use Rattle.bm_worker.specs.Phases.{mux_log}
-use Rattle.bm_world.specs.Inside.Handed.{posted_clocks, control_log, IsMuxGivenBy, IsControlStep, IsControl}
-use Rattle.bm_world.specs.Inside.Handed.{AreHandedBack}
+use Rattle.bm_world.specs.Inside.Returned.{posted_clocks, control_log, IsMuxGivenBy, IsControlStep, IsControl}
+use Rattle.bm_world.specs.Inside.Returned.{AreHandedBack}
 use Rattle.bm_world.proofs.Homes.{home_is, home_each, carried_not_control}
 use Rattle.bm_world.proofs.Logs.{mux_logs, shard_logs, logs_of}
-use Rattle.bm_world.proofs.Deeds.{all_among, IsAmong, steered_known, all_sent}
+use Rattle.bm_world.proofs.InLogs.{all_among, IsAmong, steered_known, all_sent}
 
 -- FROM NOTES TO EVENTS
 

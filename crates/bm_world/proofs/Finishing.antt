@@ -31,11 +31,11 @@ use Rattle.bm_merge.proofs.Keeping.{no_deeds}
 use Rattle.bm_server.specs.Seats.{Answered, Seated, seat_of, telling}
 use Rattle.bm_server.specs.Servings.{Serving, shard_at}
 use Rattle.bm_turnstile.specs.Seen.{AllBelow}
-use Rattle.bm_worker.specs.Deeds.{saying, noted, Suits}
+use Rattle.bm_worker.specs.WorkerNotes.{saying, noted, Suits}
 use Rattle.bm_worker.specs.Phases.{mux_log, IsCopyCall, AreCopies}
-use Rattle.bm_worker.specs.Told.{told_there}
+use Rattle.bm_worker.specs.SeatCalls.{told_there}
 use Rattle.bm_world.specs.Inside.Shards.{entries_by, AreNoted}
-use Rattle.bm_world.specs.Inside.Handed.{IsCopied, IsBookOfAll, has_book, HaveOwnBooks}
+use Rattle.bm_world.specs.Inside.Returned.{IsCopied, IsBookOfAll, has_book, HaveOwnBooks}
 use Rattle.bm_world.specs.Inside.Running.{HaveHeard}
 use Rattle.bm_world.specs.Inside.Served.{IsBookThere, AreBooksThere}
 use Rattle.bm_world.proofs.Homes.{home_each}

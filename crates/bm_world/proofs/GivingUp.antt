@@ -25,9 +25,9 @@ use Rattle.bm_merge.proofs.Noting.{total_append, each_append, each_so}
 use Rattle.bm_merge.proofs.Reaching.{one_if}
 use Rattle.bm_worker.specs.Phases.{mux_log, IsLossOf, IsMuxGiven}
 use Rattle.bm_worker.specs.Assigned.{assigned_mux, is_mux, is_assigned}
-use Rattle.bm_world.specs.Inside.Handed.{IsCarriage, IsMuxGivenBy}
+use Rattle.bm_world.specs.Inside.Returned.{IsCarriage, IsMuxGivenBy}
 use Rattle.bm_world.specs.Inside.Left.{IsSyncIn, IsMuxClocked, IsSteerable, IsLeft, IsSynced}
-use Rattle.bm_world.proofs.Deeds.{IsAmong, all_among}
+use Rattle.bm_world.proofs.InLogs.{IsAmong, all_among}
 use Rattle.bm_world.proofs.Growing.{post_more, log_append, owed_more}
 
 -- SYNCS THAT THERE ARE

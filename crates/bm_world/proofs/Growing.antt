@@ -29,7 +29,7 @@ use Rattle.bm_merge.proofs.Reaching.{one_if}
 use Rattle.bm_mux.specs.Muxes.{post_clock}
 use Rattle.bm_worker.specs.Phases.{mux_log, IsInOrder, IsMuxGiven}
 use Rattle.bm_worker.specs.Assigned.{RoutedBy, assigned_mux}
-use Rattle.bm_world.specs.Inside.Handed.{IsMuxGivenBy, IsPhasedBy, IsCarriage}
+use Rattle.bm_world.specs.Inside.Returned.{IsMuxGivenBy, IsPhasedBy, IsCarriage}
 use Rattle.bm_world.proofs.Homes.{home_append}
 
 -- WHAT IS SEEN

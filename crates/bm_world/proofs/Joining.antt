@@ -26,10 +26,10 @@ use Rattle.bm_merge.proofs.Phasing.{IsPhased, phased_more, phased_publish}
 use Rattle.bm_merge.proofs.Reaching.{one_if}
 use Rattle.bm_server.specs.Seats.{Seated}
 use Rattle.bm_server.specs.Servings.{Serving}
-use Rattle.bm_worker.specs.Deeds.{clock_of, noted, Sits, Hears, IsSamePorter}
-use Rattle.bm_worker.specs.Phases.{mux_log, AreCopies, IsPlaced, IsDeed, IsMuxGiven, Phase, stint_of}
+use Rattle.bm_worker.specs.WorkerNotes.{clock_of, noted, Sits, Hears, IsSameCaller}
+use Rattle.bm_worker.specs.Phases.{mux_log, AreCopies, IsPlaced, IsPhaseNote, IsMuxGiven, Phase, stint_of}
 use Rattle.bm_worker.specs.Phases.{HasGrown, is_steer}
-use Rattle.bm_worker.specs.Portings.{Porting}
+use Rattle.bm_worker.specs.Callers.{CallerState}
 use Rattle.bm_worker.specs.declared.span.Span.{Span}
 use Rattle.bm_publish.specs.Posts.{Posted, last_version}
 use Rattle.bm_server.specs.Seats.{row}
@@ -37,7 +37,7 @@ use Rattle.std.proofs.Common.{map}
 use Rattle.std.proofs.lemmas.Bool.{le-leb, lt-leb, lt-ltb, le-ltb}
 use Rattle.bm_worker.specs.Assigned.{is_mux, is_assigned, assigned_mux, RoutedBy}
 use Rattle.bm_worker.specs.declared.worker.MuxWorker.{MuxWorker}
-use Rattle.bm_world.specs.Inside.Handed.{control_log}
+use Rattle.bm_world.specs.Inside.Returned.{control_log}
 use Rattle.bm_world.specs.Inside.Running.{HaveHeard, IsAtWork, add_deeds}
 use Rattle.bm_world.proofs.Homes.{home_append, home_each}
 use Rattle.bm_world.proofs.Growing.{carriage_later, carriage_more, carrier_routed, log_append}
@@ -192,7 +192,7 @@ assigned_sum routes m before until k low =
       go : (x y : Bool) → one_if ((true && x) && y) + one_if ((true && false) && y) ≡ one_if ((true && x) && y)
       go x y = omega arith
 
-pub sits_still : (servers : List Serving) (a b : Porting) → IsSamePorter a b → Sits servers a → Sits servers b
+pub sits_still : (servers : List Serving) (a b : CallerState) → IsSameCaller a b → Sits servers a → Sits servers b
 sits_still servers a b same sits =
     same.who_is ∙ sits ∙ ap (λ (n : ℕ). map (λ server. row server n) servers) (sym same.number)
 
@@ -241,7 +241,7 @@ at_work_more R F stage servers routes control y board p phases m span told old n
     in let posts = kept.mux.later.posts
     in let log : mux_log stage m x ++ mux_log stage m deeds ≡ mux_log stage m (x ++ deeds) =
     sym (log_append stage m x deeds)
-    in let D : Note → Type 0 = IsDeed F stage servers stint x
+    in let D : Note → Type 0 = IsPhaseNote F stage servers stint x
     in let within : AllByRecursion (λ n. IfSome (packet_of n.event.what) (λ k. (span.from < k) × (k ≤ span.until))) x =
     each_so D (λ n. IfSome (packet_of n.event.what) (λ k. (span.from < k) × (k ≤ span.until))) x (λ n d. d.within)
     kept.each
@@ -272,8 +272,8 @@ at_work_more R F stage servers routes control y board p phases m span told old n
       id = ap (λ (i : MuxId). i.0) kept.mux.id ∙ id;
       logged = kept.logged ∙ ap (λ (k : ℕ). mux_log stage k x ++ reverse old.mux.log) id
           ∙ ap (λ (l : List Event). mux_log stage m x ++ l) at.logged ∙ log;
-      heard = heard_more stage servers old.porter.seats now.porter.seats x deeds kept.hears at.heard;
-      copies = subst (λ (i : MuxId). AreCopies stage i servers (reverse now.mux.log) now.porter.seats) (sym kept.mux.id)
+      heard = heard_more stage servers old.caller.seats now.caller.seats x deeds kept.hears at.heard;
+      copies = subst (λ (i : MuxId). AreCopies stage i servers (reverse now.mux.log) now.caller.seats) (sym kept.mux.id)
           (kept.copies at.copies);
       placed = each_append (λ n. IsPlaced servers n.event.what) x deeds
           (each_so D (λ n. IsPlaced servers n.event.what) x (λ n d. d.placed) kept.each) at.placed;
@@ -301,8 +301,8 @@ at_work_more R F stage servers routes control y board p phases m span told old n
           (λ n. IfSome (packet_of n.event.what) (λ k. k ≤ span.until)) deeds
           (λ n w. if_some (λ k. k ≤ span.from) (λ k. k ≤ span.until) (packet_of n.event.what) (λ k h. omega arith) w)
           at.within);
-      number = kept.porter.number ∙ at.number;
-      sits = sits_still servers old.porter now.porter kept.porter at.sits;
+      number = kept.caller.number ∙ at.number;
+      sits = sits_still servers old.caller now.caller kept.caller at.sits;
       board_is = kept.mux.later.board ∙ at.board_is;
       plan = kept.mux.later.plan ∙ at.plan;
       tries = let a = done.grown.tries in let b = at.tries in omega arith;

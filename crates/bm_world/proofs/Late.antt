@@ -33,24 +33,24 @@ use Rattle.bm_merge.proofs.Underway.{underway_bounded}
 use Rattle.bm_publish.specs.Posts.{Posted}
 use Rattle.bm_server.specs.Seats.{Seated}
 use Rattle.bm_server.specs.Servings.{Serving, shard_at}
-use Rattle.bm_worker.specs.Deeds.{Hears, Said, Suits, clock_of, noted, saying}
+use Rattle.bm_worker.specs.WorkerNotes.{Hears, Said, Suits, clock_of, noted, saying}
 use Rattle.bm_worker.specs.Phases.{AreCopies, mux_log}
 use Rattle.bm_worker.specs.Phases.{IsPlaced as IsCarriedAt}
-use Rattle.bm_worker.specs.Portings.{Porting}
-use Rattle.bm_worker.specs.Told.{told_there}
+use Rattle.bm_worker.specs.Callers.{CallerState}
+use Rattle.bm_worker.specs.SeatCalls.{told_there}
 use Rattle.bm_worker.specs.declared.worker.MuxWorker.{MuxWorker}
 use Rattle.bm_lead.specs.declared.head.Head.{Head}
 use Rattle.bm_lead.specs.Commands.{control_log, posted_clocks}
 use Rattle.bm_lead.specs.Leads.{IsLed, IsPlaced}
 use Rattle.bm_lead.specs.Rests.{Adds}
-use Rattle.bm_world.specs.Inside.Crews.{rows_of}
+use Rattle.bm_world.specs.Inside.RunStates.{rows_of}
 use Rattle.bm_world.specs.Inside.GivenUp.{HasGivenUp}
-use Rattle.bm_world.specs.Inside.Handed.{IsBooked}
+use Rattle.bm_world.specs.Inside.Returned.{IsBooked}
 use Rattle.bm_world.specs.Inside.Left.{AreLeft, IsLeft, IsMuxClocked, IsSynced}
 use Rattle.bm_world.specs.Inside.Running.{HaveHeard}
 use Rattle.bm_world.specs.Inside.Served.{AreBooksThere}
 use Rattle.bm_world.proofs.Amounts.{changes_few, total_ones}
-use Rattle.bm_world.proofs.Deeds.{all_carried, deeds_each}
+use Rattle.bm_world.proofs.InLogs.{all_carried, deeds_each}
 use Rattle.bm_world.proofs.Ending.{carried_booked, carried_no_command, led_booked, row_of}
 use Rattle.bm_world.proofs.Finishing.{AreDone, all_books, books_of_all, own_books}
 use Rattle.bm_world.proofs.GivingUp.{sync_append, unsynced}
@@ -254,7 +254,7 @@ left_bounded F stage controller carriers books left short =
 rows_heard : (stage : Stage) (servers : List Serving) (head : List (List Seated)) (workers : List MuxWorker)
     (controller : List Note) (carriers : List (List Note)) → HaveHeard stage servers head controller
     → ((m : ℕ) (w : MuxWorker) → slice_get workers m ≡ Some w
-    → HaveHeard stage servers w.porter.seats (deeds_of carriers m))
+    → HaveHeard stage servers w.caller.seats (deeds_of carriers m))
     → (w : ℕ) (seats : List (List Seated)) → slice_get (rows_of head workers) w ≡ Some seats
     → HaveHeard stage servers seats (deeds_of (controller ∷ carriers) w)
 rows_heard stage servers head workers controller carriers first others zero seats here =
@@ -264,10 +264,10 @@ rows_heard stage servers head workers controller carriers first others (suc m) s
     in subst (λ (x : List (List Seated)). HaveHeard stage servers x (deeds_of carriers m)) w.2 (others m w.0 w.1)
 
 -- the changes that are posted later add no call of worker 0's seats
-none_heard : (stage : Stage) (servers : List Serving) (a b : Porting) (x : List Note)
+none_heard : (stage : Stage) (servers : List Serving) (a b : CallerState) (x : List Note)
     → AllByRecursion (λ n. is_publish n.event.what ≡ true) x → b ≡ a → Hears stage servers a.seats b.seats x
 none_heard stage servers a b x kinds same =
-    subst (λ (z : Porting). Hears stage servers a.seats z.seats x) (sym same) (λ s h server at.
+    subst (λ (z : CallerState). Hears stage servers a.seats z.seats x) (sym same) (λ s h server at.
     sym (append-nil (saying (shard_at server h) (told_there a.seats s h)))
     ∙ ap (λ (l : List Said). saying (shard_at server h) (told_there a.seats s h) ++ l)
     (sym (none_noted stage server.id.0 h x kinds)))
@@ -295,19 +295,19 @@ record IsOver (F : Rules) (stage : Stage) (servers : List Serving) (p q : Posted
   shown : (m : ℕ) (w : MuxWorker) → slice_get workers m ≡ Some w → IsPrefix w.mux.seen.clocks q.clocks
   count : length all ≡ length servers
   books : (s : ℕ) (books : List Book) → slice_get all s ≡ Some books
-      → AreBooksThere servers (rows_of b.porter.seats workers) s books
+      → AreBooksThere servers (rows_of b.caller.seats workers) s books
 
 over_done : (F : Rules) (stage : Stage) (servers : List Serving) (p q : Posted) (a b : Head)
     (workers : List MuxWorker) (x : List Note) (all : List (List Book))
     (over : IsOver F stage servers p q a b workers x all)
-    → AreDone stage servers (rows_of b.porter.seats workers) (x ++ over.given_up.controller) over.given_up.carriers
+    → AreDone stage servers (rows_of b.caller.seats workers) (x ++ over.given_up.controller) over.given_up.carriers
 over_done F stage servers p q a b workers x all over =
     let given = over.given_up
     in let controller = given.controller
     in let carriers = given.carriers
     in let count = given.count
-    in let lines : length (map (λ (w : MuxWorker). w.porter.seats) workers) ≡ length workers =
-    length-map workers (λ (w : MuxWorker). w.porter.seats)
+    in let lines : length (map (λ (w : MuxWorker). w.caller.seats) workers) ≡ length workers =
+    length-map workers (λ (w : MuxWorker). w.caller.seats)
     in record {
       suits = over.suits;
       lines = omega arith;
@@ -316,9 +316,9 @@ over_done F stage servers p q a b workers x all over =
       first = each_append (λ n. n.seat ≡ 0) x controller over.added.seats given.led.seats;
       others = deeds_each (λ m n. n.seat ≡ suc m) carriers (λ m low.
           let w = there workers m (omega arith) in (given.each m w.0 w.1).left.seats);
-      heard = rows_heard stage servers b.porter.seats workers (x ++ controller) carriers
-          (heard_more stage servers a.porter.seats b.porter.seats x controller
-          (none_heard stage servers a.porter b.porter x over.added.kinds over.added.porter) given.heard)
+      heard = rows_heard stage servers b.caller.seats workers (x ++ controller) carriers
+          (heard_more stage servers a.caller.seats b.caller.seats x controller
+          (none_heard stage servers a.caller b.caller x over.added.kinds over.added.caller) given.heard)
           (λ m w here. (given.each m w here).heard);
       copies = λ m seats here.
           let w = row_of workers m seats here
@@ -328,7 +328,7 @@ over_done F stage servers p q a b workers x all over =
             at.id,
             subst (λ (y : List (List Seated)). AreCopies stage w.0.mux.id servers
                 (mux_log stage m (deeds_of carriers m)) y) w.2
-                (subst (λ (l : List Event). AreCopies stage w.0.mux.id servers l w.0.porter.seats) at.logged at.copies),
+                (subst (λ (l : List Event). AreCopies stage w.0.mux.id servers l w.0.caller.seats) at.logged at.copies),
           );
     }
 
@@ -343,7 +343,7 @@ over_booked F stage servers p q a b workers x all over =
     in let carriers = given.carriers
     in let count = given.count
     in let shards = over.sound.script.setting.shards.0
-    in let rows = rows_of b.porter.seats workers
+    in let rows = rows_of b.caller.seats workers
     in let B : Note → Type 0 = λ n. IsBooked stage (all_books all) n.event.what
     in let commands = all_kinds stage (x ++ controller) (over.added.underway controller given.led)
     in each_append B (x ++ controller) (all_deeds carriers)
@@ -374,7 +374,7 @@ over_left F stage servers p q a b workers x all over =
     in let carriers = given.carriers
     in let count = given.count
     in let added = over.added
-    in let rows = rows_of b.porter.seats workers
+    in let rows = rows_of b.caller.seats workers
     in let deeds = (x ++ controller) ++ all_deeds carriers
     in let control = control_log stage (x ++ controller)
     in let log = control_append stage x controller
@@ -416,7 +416,7 @@ pub none_late : (F : Rules) (stage : Stage) (servers : List Serving) (p q : Post
     → ((m : ℕ) (w : MuxWorker) → slice_get workers m ≡ Some w → IsPrefix w.mux.seen.clocks q.clocks)
     → length all ≡ length servers
     → ((s : ℕ) (books : List Book) → slice_get all s ≡ Some books
-    → AreBooksThere servers (rows_of b.porter.seats workers) s books) → ⊥
+    → AreBooksThere servers (rows_of b.caller.seats workers) s books) → ⊥
 none_late F stage servers p q a b workers x all sound suits seats short given added posts shown count books =
     let over : IsOver F stage servers p q a b workers x all = record {
       sound = sound;

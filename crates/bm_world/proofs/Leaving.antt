@@ -39,12 +39,12 @@ use Rattle.bm_merge.proofs.Sharing.{shared}
 use Rattle.bm_mux.specs.Muxes.{post_clock}
 use Rattle.bm_worker.specs.Phases.{IsLossOf}
 use Rattle.bm_world.specs.Inside.Shards.{Kept, entries_of, note_of, notes_of}
-use Rattle.bm_world.specs.Inside.Handed.{control_log, posted_clocks, IsBookOfAll, IsCopied, IsBooked}
+use Rattle.bm_world.specs.Inside.Returned.{control_log, posted_clocks, IsBookOfAll, IsCopied, IsBooked}
 use Rattle.bm_world.specs.Inside.Left.{IsSyncIn, IsMuxClocked, IsSteerable, IsSynced, AreLeft}
 use Rattle.bm_world.proofs.Homes.{home_is, home_each, carried_not_control}
 use Rattle.bm_world.proofs.Logs.{logs_of, book_notes, are_seated, own_logs, AreWorkers}
-use Rattle.bm_world.proofs.Deeds.{all_carried, all_of_worker, command_home, carried_home}
-use Rattle.bm_world.proofs.Deeds.{arrives_owed, deeds_each, total_of_worker, have_seats}
+use Rattle.bm_world.proofs.InLogs.{all_carried, all_of_worker, command_home, carried_home}
+use Rattle.bm_world.proofs.InLogs.{arrives_owed, deeds_each, total_of_worker, have_seats}
 use Rattle.bm_world.proofs.Entries.{at_notes, at_so, both}
 use Rattle.bm_world.proofs.Booked.{its_actor, book_actors, retire_due}
 use Rattle.bm_world.proofs.Assembled.{each_log, at_any}

@@ -2,7 +2,7 @@ pub mod Seated
 pub mod Sharded
 pub mod Homes
 pub mod Logs
-pub mod Deeds
+pub mod InLogs
 pub mod Entries
 pub mod Booked
 pub mod Assembled
@@ -17,14 +17,14 @@ pub mod Serving
 pub mod KnownServers
 pub mod Leaving
 pub mod GivingUp
-pub mod Told
+pub mod BeforePhase
 pub mod Phased
 pub mod Through
 pub mod Rising
 pub mod Starting
 pub mod Answered
 pub mod Numbers
-pub mod Crewing
+pub mod MakingWorkers
 pub mod Amounts
 pub mod Stopping
 pub mod Late

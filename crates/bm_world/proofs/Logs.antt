@@ -16,7 +16,7 @@ use Rattle.bm_merge.specs.Merges.{has_actor, HaveOwnLogs, named}
 use Rattle.bm_merge.specs.Notes.{Note, NotedLog, events_of, plain}
 use Rattle.bm_merge.specs.Workers.{is_home, home_part, seat_part, deeds_of, carries, IsSeated, AreSeated}
 use Rattle.bm_world.specs.Inside.Shards.{notes_of}
-use Rattle.bm_world.specs.Inside.Handed.{IsBookOfAll, has_book, HaveOwnBooks}
+use Rattle.bm_world.specs.Inside.Returned.{IsBookOfAll, has_book, HaveOwnBooks}
 use Rattle.bm_world.proofs.Homes.{seat_all, seat_none, home_none, home_each, command_not_mux, carried_not_control}
 use Rattle.bm_world.proofs.Homes.{carried_not_other}
 use Rattle.bm_world.proofs.Seated.{AreSeatedNotes, seated_notes}

@@ -15,9 +15,9 @@ use Rattle.bm_mux.specs.Muxes.{HasServers}
 use Rattle.bm_publish.specs.Posts.{Posted}
 use Rattle.bm_server.specs.Seats.{Seated}
 use Rattle.bm_server.specs.Servings.{Serving}
-use Rattle.bm_worker.specs.Deeds.{Suits}
+use Rattle.bm_worker.specs.WorkerNotes.{Suits}
 use Rattle.bm_worker.proofs.Known.{known_cur}
-use Rattle.bm_world.specs.Inside.Crews.{HaveNoTurns}
+use Rattle.bm_world.specs.Inside.RunStates.{HaveNoTurns}
 use Rattle.bm_world.specs.Inside.Served.{IsNewRow, IsServerOf}
 use Rattle.bm_world.proofs.KnownServers.{known_server}
 

@@ -28,14 +28,14 @@ use Rattle.bm_merge.proofs.Reaching.{one_if}
 use Rattle.bm_merge.proofs.Sharing.{greatest_shared}
 use Rattle.bm_publish.specs.Posts.{Posted, last_version}
 use Rattle.bm_server.specs.Servings.{Serving}
-use Rattle.bm_worker.specs.Deeds.{clock_of}
-use Rattle.bm_worker.specs.Phases.{IsDeed, stint_of}
+use Rattle.bm_worker.specs.WorkerNotes.{clock_of}
+use Rattle.bm_worker.specs.Phases.{IsPhaseNote, stint_of}
 use Rattle.bm_worker.specs.Assigned.{assigned_mux}
 use Rattle.bm_worker.specs.declared.span.Span.{Span}
 use Rattle.bm_worker.specs.declared.worker.MuxWorker.{MuxWorker}
-use Rattle.bm_world.specs.Inside.Handed.{control_log}
+use Rattle.bm_world.specs.Inside.Returned.{control_log}
 use Rattle.bm_world.specs.Inside.Running.{IsAtWork, AreAtWork, AreApart, HaveLooked, add_deeds}
-use Rattle.bm_world.proofs.Deeds.{all_carried}
+use Rattle.bm_world.proofs.InLogs.{all_carried}
 use Rattle.bm_world.proofs.Growing.{carriage_later}
 use Rattle.bm_world.proofs.Homes.{home_each}
 use Rattle.bm_world.proofs.Joining.{added_of, added_count, added_total, AreOfPhase, control_same, phased_led, HasDone}
@@ -90,7 +90,7 @@ all_at_work_more R F stage servers routes board p phases span told old now contr
     let a = worker_at old m (omega arith)
     in let b = worker_at now m (omega arith)
     in let kept = (done.each m a.0 b.0 a.1 b.1).phase.kept
-    in each_so (IsDeed F stage servers (stint_of routes span told a.0) (deeds_of more m)) D (deeds_of more m)
+    in each_so (IsPhaseNote F stage servers (stint_of routes span told a.0) (deeds_of more m)) D (deeds_of more m)
     (λ n d. (
       d.later,
       if_some (λ k. (span.from < k) × (k ≤ span.until)) (λ k. phase_of stage k ≡ p)
@@ -158,7 +158,7 @@ all_looked F stage servers routes span told old now controller x carriers more m
     subst (λ (k : ℕ). 1 ≤ many (λ n. is_switch_of n.event.what k) (deeds_of more m)) id d.phase.looked
     in let most : many (λ n. is_switch_of n.event.what m) (deeds_of more m) ≤ total f (deeds_of more m) =
     total_most (λ n. one_if (is_switch_of n.event.what m)) f (deeds_of more m)
-    (each_so (IsDeed F stage servers (stint_of routes span told a.0) (deeds_of more m))
+    (each_so (IsPhaseNote F stage servers (stint_of routes span told a.0) (deeds_of more m))
     (λ n. one_if (is_switch_of n.event.what m) ≤ f n) (deeds_of more m)
     (λ n k. look_one (is_switch_of n.event.what m) _ (λ is. le-leb _ _ (let l = k.later in omega arith)))
     d.phase.kept.each)

@@ -21,7 +21,7 @@ use Rattle.bm_merge.proofs.Commanding.{all_kinds}
 use Rattle.bm_merge.proofs.Noting.{each_append, greatest_append}
 use Rattle.bm_publish.specs.Posts.{Posted, last_version}
 use Rattle.bm_server.specs.Servings.{Serving}
-use Rattle.bm_worker.specs.Deeds.{clock_of, Suits}
+use Rattle.bm_worker.specs.WorkerNotes.{clock_of, Suits}
 use Rattle.bm_worker.specs.Phases.{HasEnded, HasWorked, stint_of}
 use Rattle.bm_worker.specs.Assigned.{RoutedBy, assigned_mux}
 use Rattle.bm_worker.specs.declared.span.Span.{Span}
@@ -34,15 +34,15 @@ use Rattle.bm_lead.specs.Leads.{HasLed, HasSynced, IsLed, IsPlaced, Leads}
 use Rattle.bm_world.specs.declared.phase.Next.{Next}
 use Rattle.bm_world.specs.declared.phase.Next.TheVariants.{Phase as Coming, End, Late as TooLate}
 use Rattle.bm_world.specs.Inside.GivenUp.{HasGivenUp}
-use Rattle.bm_world.specs.Inside.Crews.{left_of, HasMet, IsNext}
-use Rattle.bm_world.specs.Inside.Crews.{told_what, latest_in, HaveNotStopped, HaveWorked, IsBetween, IsStanding}
-use Rattle.bm_world.specs.Inside.Crews.{IsThrough}
-use Rattle.bm_world.specs.Inside.Handed.{control_log}
+use Rattle.bm_world.specs.Inside.RunStates.{left_of, HasMet, IsNext}
+use Rattle.bm_world.specs.Inside.RunStates.{told_what, latest_in, HaveNotStopped, HaveWorked, IsBetween, IsStanding}
+use Rattle.bm_world.specs.Inside.RunStates.{IsThrough}
+use Rattle.bm_world.specs.Inside.Returned.{control_log}
 use Rattle.bm_world.specs.Inside.Running.{AreAtWork, AreApart, HaveLooked, IsAtPhase, add_deeds}
 use Rattle.bm_world.proofs.Joining.{AreOfPhase, HasDone, heard_more}
 use Rattle.bm_world.proofs.Meeting.{HaveDone, all_at_work_more, all_looked, sync_met}
 use Rattle.bm_world.proofs.Stopping.{too_late_to_sync}
-use Rattle.bm_world.proofs.Told.{all_told, told_at}
+use Rattle.bm_world.proofs.BeforePhase.{all_told, told_at}
 
 -- WHAT EACH DID
 
@@ -127,7 +127,7 @@ have_done F stage servers routes span posted old now long before after worked =
 
 -- what worker 0 did is of the phase
 of_phase : (stage : Stage) (servers : List Serving) (posted q : Posted) (head b : Head) (after : ℕ)
-    (x controller : List Note) → IsLed stage posted head controller → after ≡ head.porter.latest
+    (x controller : List Note) → IsLed stage posted head controller → after ≡ head.caller.latest
     → Leads stage servers posted q head b x → AllByRecursion (λ n. is_sync n.event.what ≡ false) x
     → AreOfPhase after x
 of_phase stage servers posted q head b after x controller led is leads none = record {
@@ -143,7 +143,7 @@ of_phase stage servers posted q head b after x controller led is leads none = re
 pub phase_stands : (F : Rules) (stage : Stage) (servers : List Serving) (routes : List (Option MuxId))
     (posted q : Posted) (head b : Head) (old now : List MuxWorker) (span : Span)
     (between : IsBetween F stage servers routes posted head old span.from)
-    → span.after.0 ≡ head.porter.latest → span.from ≤ span.until
+    → span.after.0 ≡ head.caller.latest → span.from ≤ span.until
     → ((k : ℕ) → span.from < k → k ≤ span.until → phase_of stage k ≡ between.p)
     → HasLed stage servers posted q head b → length now ≡ length old → HaveNotStopped now
     → Worked F stage servers routes span posted old now
@@ -165,7 +165,7 @@ phase_stands F stage servers routes posted q head b old now span between after o
     in let version : last_version posted ≡ head.published.0 = standing.ready.posted_is.count
     in let apart : AreApart stage span.after.0 (last_version posted) controller carriers =
     subst (λ (k : ℕ). AreApart stage k (last_version posted) controller carriers) (sym after)
-    (subst (λ (k : ℕ). AreApart stage head.porter.latest k controller carriers) (sym version) between.apart)
+    (subst (λ (k : ℕ). AreApart stage head.caller.latest k controller carriers) (sym version) between.apart)
     in let phase = of_phase stage servers posted q head b span.after.0 x controller standing.led after leads led.1.2
     in let one = all_at_work_more R F stage servers routes posted.board between.p between.p span posted told now
     controller x carriers done.0 (λ k m s is seg. is) numbers order apart phase done.1 at
@@ -178,7 +178,7 @@ phase_stands F stage servers routes posted q head b old now span between after o
         muxes = long ∙ muxes;
         ready = led.0;
         led = leads.led controller standing.led;
-        heard = heard_more stage servers head.porter.seats b.porter.seats x controller leads.heard standing.heard;
+        heard = heard_more stage servers head.caller.seats b.caller.seats x controller leads.heard standing.heard;
         placed = each_append (λ n. IsPlaced stage servers n.event.what) x controller leads.placed standing.placed;
         at_work = subst (λ (k : Book). AreAtWork R F stage servers routes k between.p (between.p + 1) span.until now
             (x ++ controller) (add_deeds done.0 carriers)) (sym leads.board) one;
@@ -193,7 +193,7 @@ phase_stands F stage servers routes posted q head b old now span between after o
 -- the greatest clock of all workers
 latest_all : (g : Note → ℕ) (carriers : List (List Note)) (workers : List MuxWorker) → length carriers ≡ length workers
     → ((m : ℕ) (w : MuxWorker) → slice_get workers m ≡ Some w
-    → w.porter.latest ≡ greatest clock_of (deeds_of carriers m))
+    → w.caller.latest ≡ greatest clock_of (deeds_of carriers m))
     → latest_in workers ≡ greatest clock_of (all_deeds carriers)
 latest_all g [] [] count each = refl
 latest_all g [] (w ∷ workers) count each = absurd (omega arith)
@@ -207,7 +207,7 @@ latest_all g (d ∷ carriers) (w ∷ workers) count each =
 pub latest_is : (F : Rules) (stage : Stage) (servers : List Serving) (routes : List (Option MuxId)) (posted : Posted)
     (head : Head) (workers : List MuxWorker) (p phases until : ℕ) (controller : List Note) (carriers : List (List Note))
     → IsStanding F stage servers routes posted head workers p phases until controller carriers
-    → max head.porter.latest (latest_in workers) ≡ greatest clock_of (controller ++ all_deeds carriers)
+    → max head.caller.latest (latest_in workers) ≡ greatest clock_of (controller ++ all_deeds carriers)
 latest_is F stage servers routes posted head workers p phases until controller carriers standing =
     let all = latest_all clock_of carriers workers standing.at_work.count
     (λ m w here. (standing.at_work.each m w here).latest)
@@ -219,7 +219,7 @@ pub sync_stands : (F : Rules) (stage : Stage) (servers : List Serving) (routes :
     (head b : Head) (workers : List MuxWorker) (p start : ℕ) (controller : List Note) (carriers : List (List Note))
     → IsStanding F stage servers routes posted head workers p (p + 1) start controller carriers
     → HaveLooked stage controller carriers
-    → HasSynced stage servers posted (max head.porter.latest (latest_in workers)) head b
+    → HasSynced stage servers posted (max head.caller.latest (latest_in workers)) head b
     → IsAtPhase stage (head.next + 1) (p + 1) start → start ≤ length stage.capture.records
     → IsBetween F stage servers routes posted b workers start
 sync_stands F stage servers routes posted head b workers p start controller carriers standing looked synced at within =
@@ -244,7 +244,7 @@ sync_stands F stage servers routes posted head b workers p start controller carr
         muxes = standing.muxes;
         ready = synced.ready;
         led = led;
-        heard = heard_more stage servers head.porter.seats b.porter.seats (n ∷ []) controller synced.leads.heard
+        heard = heard_more stage servers head.caller.seats b.caller.seats (n ∷ []) controller synced.leads.heard
             standing.heard;
         placed = (synced.leads.placed.0, standing.placed);
         at_work = subst (λ (k : ℕ). AreAtWork R F stage servers routes posted.board k (p + 1) start workers
@@ -333,7 +333,7 @@ pub phase_meets : (F : Rules) (stage : Stage) (servers : List Serving) (routes :
     → IsSound stage → Suits stage servers
     → ((k m : ℕ) → assigned_mux routes k ≡ Some m → is_some (segment_of stage k) ≡ true)
     → (between : IsBetween F stage servers routes posted head old span.from)
-    → span.after.0 ≡ head.porter.latest → span.from ≤ span.until → span.until ≤ length stage.capture.records
+    → span.after.0 ≡ head.caller.latest → span.from ≤ span.until → span.until ≤ length stage.capture.records
     → ((k : ℕ) → span.from < k → k ≤ span.until → phase_of stage k ≡ between.p)
     → (length stage.script.commands ≤ place → span.until ≡ length stage.capture.records)
     → (place < length stage.script.commands → IsAtPhase stage (place + 1) (between.p + 1) span.until)

@@ -12,7 +12,7 @@ use Rattle.bm_turnstile.specs.Sittings.{who}
 use Rattle.bm_server.specs.Books.{IsBookOf}
 use Rattle.bm_server.specs.Seats.{Seated, IsNewSeat, row, told_at, most_turns}
 use Rattle.bm_server.specs.Servings.{Serving}
-use Rattle.bm_worker.specs.Told.{told_in, told_there}
+use Rattle.bm_worker.specs.SeatCalls.{told_in, told_there}
 use Rattle.bm_world.specs.Inside.Served.{IsBookThere, IsNewRow}
 
 -- A SERVER MORE

@@ -20,22 +20,22 @@ use Rattle.bm_mux.specs.Muxes.{MuxState}
 use Rattle.bm_publish.specs.Posts.{Posted}
 use Rattle.bm_server.specs.Seats.{Answered, Seated, row}
 use Rattle.bm_server.specs.Servings.{Serving, shard_at}
-use Rattle.bm_worker.specs.Deeds.{saying, Sits}
+use Rattle.bm_worker.specs.WorkerNotes.{saying, Sits}
 use Rattle.bm_worker.specs.Phases.{AreCopies, IsCopyCall}
-use Rattle.bm_worker.specs.Portings.{Porting}
-use Rattle.bm_worker.specs.Told.{told_there}
+use Rattle.bm_worker.specs.Callers.{CallerState}
+use Rattle.bm_worker.specs.SeatCalls.{told_there}
 use Rattle.bm_worker.specs.Assigned.{RoutedBy, is_assigned}
 use Rattle.bm_worker.specs.declared.worker.MuxWorker.{MuxWorker}
 use Rattle.bm_lead.specs.declared.head.Head.{Head}
 use Rattle.bm_lead.specs.Heads.{Begins, IsReady}
 use Rattle.bm_lead.specs.Leads.{IsLed}
-use Rattle.bm_world.specs.Inside.Crews.{IsBetween, IsNewWorker}
-use Rattle.bm_world.specs.Inside.Handed.{IsCarriage}
+use Rattle.bm_world.specs.Inside.RunStates.{IsBetween, IsNewWorker}
+use Rattle.bm_world.specs.Inside.Returned.{IsCarriage}
 use Rattle.bm_world.specs.Inside.Running.{HaveHeard, IsAtWork, AreApart, IsAtPhase}
 use Rattle.bm_world.specs.Inside.Served.{IsNewRow}
 use Rattle.bm_world.proofs.Meeting.{idle, idle_all, idle_count, idle_deeds, nothing_apart}
 use Rattle.bm_world.proofs.Scripting.{phase_first}
-use Rattle.bm_world.proofs.Crewing.{all_at}
+use Rattle.bm_world.proofs.MakingWorkers.{all_at}
 
 no_heard : (stage : Stage) (servers : List Serving) (seats : List (List Seated))
     → ((s h : ℕ) → told_there seats s h ≡ []) → HaveHeard stage servers seats []
@@ -76,25 +76,25 @@ new_at_work : (R : Routes) (F : Rules) (stage : Stage) (servers : List Serving) 
 new_at_work R F stage servers routes posted seats m w plan new is =
     let log : w.mux.log ≡ [] = ap (λ (x : MuxState). x.log) is.mux
     in let seen : w.mux.seen ≡ posted = ap (λ (x : MuxState). x.seen) is.mux
-    in let own : w.porter.seats ≡ seats = ap (λ (x : Porting). x.seats) is.porter
-    in let number : w.porter.number ≡ m + 1 = ap (λ (x : Porting). x.number) is.porter
-    in let none : (s h : ℕ) → told_there w.porter.seats s h ≡ [] =
+    in let own : w.caller.seats ≡ seats = ap (λ (x : CallerState). x.seats) is.caller
+    in let number : w.caller.number ≡ m + 1 = ap (λ (x : CallerState). x.number) is.caller
+    in let none : (s h : ℕ) → told_there w.caller.seats s h ≡ [] =
     λ s h. ap (λ (x : List (List Seated)). told_there x s h) own ∙ new.told s h
     in record {
       carriage = no_carriage R F stage w.mux.seen.clocks m;
       id = ap (λ (x : MuxState). x.id.0) is.mux;
       logged = ap (λ (x : List Event). reverse x) log;
-      heard = no_heard stage servers w.porter.seats none;
-      copies = no_copies stage w.mux.id servers (reverse w.mux.log) w.porter.seats none;
+      heard = no_heard stage servers w.caller.seats none;
+      copies = no_copies stage w.mux.id servers (reverse w.mux.log) w.caller.seats none;
       placed = tt;
-      latest = ap (λ (x : Porting). x.latest) is.porter;
+      latest = ap (λ (x : CallerState). x.latest) is.caller;
       steered = λ k. sym (ap (λ (b : Bool). one_if b) (none_assigned routes m k));
       within = tt;
       number = number;
-      sits = subst (λ (p : Porting). Sits servers p) (sym is.porter) new.«is»;
+      sits = subst (λ (p : CallerState). Sits servers p) (sym is.caller) new.«is»;
       board_is = ap (λ (x : Posted). x.board) seen;
       plan = ap (λ (x : Posted). x.plan) seen ∙ plan;
-      tries = let t : w.porter.tries ≡ 0 = ap (λ (x : Porting). x.tries) is.porter in omega arith;
+      tries = let t : w.caller.tries ≡ 0 = ap (λ (x : CallerState). x.tries) is.caller in omega arith;
       steps = let t = is.steps in omega arith;
       room = let t : length w.mux.log ≡ 0 = ap (λ (x : List Event). length x) log in omega arith;
       few = omega arith;
@@ -104,8 +104,8 @@ new_at_work R F stage servers routes posted seats m w plan new is =
 -- between no phase and the first one
 pub starts : (F : Rules) (stage : Stage) (servers : List Serving) (routes : List (Option MuxId)) (posted : Posted)
     (head : Head) (workers : List MuxWorker) → IsSound stage
-    → length workers ≡ stage.script.setting.muxes → Begins stage servers posted head.porter
-    → ((s h : ℕ) → told_there head.porter.seats s h ≡ [])
+    → length workers ≡ stage.script.setting.muxes → Begins stage servers posted head.caller
+    → ((s h : ℕ) → told_there head.caller.seats s h ≡ [])
     → IsReady stage servers posted head → IsLed stage posted head [] → head.next ≡ 0 → head.published.0 ≡ 0
     → ((m : ℕ) (w : MuxWorker) → slice_get workers m ≡ Some w
     → (seats : List (List Seated)) × IsNewRow servers (m + 1) seats × IsNewWorker posted seats m w)
@@ -122,7 +122,7 @@ starts F stage servers routes posted head workers sound muxes begins none ready 
         muxes = muxes;
         ready = ready;
         led = led;
-        heard = no_heard stage servers head.porter.seats none;
+        heard = no_heard stage servers head.caller.seats none;
         placed = tt;
         at_work = record {
           count = idle_count n;
@@ -145,31 +145,31 @@ starts F stage servers routes posted head workers sound muxes begins none ready 
 
 -- so a run starts with what was made for it
 pub starts_with : (F : Rules) (stage : Stage) (servers : List Serving) (routes : List (Option MuxId)) (posted : Posted)
-    (porter : Porting) (head : Head) (first : List (List Seated)) (others : List (List (List Seated)))
+    (caller : CallerState) (head : Head) (first : List (List Seated)) (others : List (List (List Seated)))
     (looks : List Posted) (workers : List MuxWorker) → IsSound stage → posted.plan ≡ stage.script.plan
-    → posted.clocks ≡ [] → porter ≡ record { number = 0; seats = first; tries = 0; latest = 0 }
-    → head.porter ≡ porter → head.next ≡ 0 → head.published.0 ≡ 0
-    → (Begins stage servers posted porter → IsReady stage servers posted head)
-    → (Begins stage servers posted porter → IsLed stage posted head []) → IsNewRow servers 0 first
+    → posted.clocks ≡ [] → caller ≡ record { number = 0; seats = first; tries = 0; latest = 0 }
+    → head.caller ≡ caller → head.next ≡ 0 → head.published.0 ≡ 0
+    → (Begins stage servers posted caller → IsReady stage servers posted head)
+    → (Begins stage servers posted caller → IsLed stage posted head []) → IsNewRow servers 0 first
     → ((m : ℕ) (seats : List (List Seated)) → slice_get others m ≡ Some seats → IsNewRow servers (m + 1) seats)
     → All (λ (look : Posted). look ≡ posted) looks → length looks ≡ stage.script.setting.muxes
     → length others ≡ length looks → length workers ≡ length others
     → ((m : ℕ) (look : Posted) (seats : List (List Seated)) (w : MuxWorker) → slice_get looks m ≡ Some look
     → slice_get others m ≡ Some seats → slice_get workers m ≡ Some w → IsNewWorker look seats m w)
     → IsBetween F stage servers routes posted head workers 0
-starts_with F stage servers routes posted porter head first others looks workers sound plan clocks is same next
+starts_with F stage servers routes posted caller head first others looks workers sound plan clocks is same next
     published ready led row rows all muxes long many each =
-    let begins : Begins stage servers posted porter = record {
+    let begins : Begins stage servers posted caller = record {
       plan = plan;
       clocks = clocks;
-      number = ap (λ (p : Porting). p.number) is;
-      sits = subst (λ (p : Porting). Sits servers p) (sym is) row.«is»;
-      tries = ap (λ (p : Porting). p.tries) is;
-      latest = ap (λ (p : Porting). p.latest) is;
+      number = ap (λ (p : CallerState). p.number) is;
+      sits = subst (λ (p : CallerState). Sits servers p) (sym is) row.«is»;
+      tries = ap (λ (p : CallerState). p.tries) is;
+      latest = ap (λ (p : CallerState). p.latest) is;
     }
     in starts F stage servers routes posted head workers sound (many ∙ long ∙ muxes)
-    (subst (λ (p : Porting). Begins stage servers posted p) (sym same) begins)
-    (λ s h. ap (λ (p : Porting). told_there p.seats s h) (same ∙ is) ∙ row.told s h)
+    (subst (λ (p : CallerState). Begins stage servers posted p) (sym same) begins)
+    (λ s h. ap (λ (p : CallerState). told_there p.seats s h) (same ∙ is) ∙ row.told s h)
     (ready begins) (led begins) next published
     (λ m w here.
     let low = slice_get_within workers m w here

@@ -25,8 +25,8 @@ use Rattle.bm_merge.proofs.Noting.{each_append, each_so, greatest_append, total_
 use Rattle.bm_merge.proofs.Reaching.{one_if}
 use Rattle.bm_publish.specs.Posts.{Posted, last_version}
 use Rattle.bm_server.specs.Servings.{Serving}
-use Rattle.bm_worker.specs.Deeds.{clock_of}
-use Rattle.bm_worker.specs.Phases.{AreCopies, AreFew, HasEnded, HasWorked, IsDeed, IsLossOf}
+use Rattle.bm_worker.specs.WorkerNotes.{clock_of}
+use Rattle.bm_worker.specs.Phases.{AreCopies, AreFew, HasEnded, HasWorked, IsPhaseNote, IsLossOf}
 use Rattle.bm_worker.specs.Phases.{IsPlaced as IsCarriedAt}
 use Rattle.bm_worker.specs.Phases.{IsStopOf, IsAssigned, Kept, Stint, is_steer, mux_log, mux_for, stint_of}
 use Rattle.bm_worker.specs.Assigned.{RoutedBy, is_assigned, assigned_mux}
@@ -38,7 +38,7 @@ use Rattle.bm_lead.specs.declared.head.Head.{Head}
 use Rattle.bm_lead.specs.Commands.{AreDone, control_log}
 use Rattle.bm_lead.specs.Heads.{IsStopFrom, UnlessMemory}
 use Rattle.bm_lead.specs.Leads.{HasLed, HaveNoSync, IsLed, IsPlaced, Leads}
-use Rattle.bm_world.specs.Inside.Crews.{IsBetween, IsLate, IsStanding, IsTooLate, latest_in, told_what}
+use Rattle.bm_world.specs.Inside.RunStates.{IsBetween, IsLate, IsStanding, IsTooLate, latest_in, told_what}
 use Rattle.bm_world.specs.Inside.GivenUp.{HasGivenUp, HasLeft}
 use Rattle.bm_world.specs.Inside.Left.{IsSteerable, IsSyncIn, IsSynced}
 use Rattle.bm_world.specs.Inside.Running.{IsAtWork, add_deeds}
@@ -129,7 +129,7 @@ kept_left : (F : Rules) (stage : Stage) (servers : List Serving) (routes : List 
     → HasLeft F stage servers (y ++ control) board m now (x ++ deeds)
 kept_left F stage servers routes control y board phases m span posted old now x deeds known sync kept at =
     let stint = stint_of routes span posted (told_what posted old)
-    in let D : Note → Type 0 = IsDeed F stage servers stint x
+    in let D : Note → Type 0 = IsPhaseNote F stage servers stint x
     in let id : old.mux.id.0 ≡ m = at.id
     in let seen = now.mux.seen.clocks
     in let here : IsSyncIn (y ++ control) span.after.0 =
@@ -153,13 +153,13 @@ kept_left F stage servers routes control y board phases m span posted old now x 
       id = ap (λ (i : MuxId). i.0) kept.mux.id ∙ id;
       logged = kept.logged ∙ ap (λ (k : ℕ). mux_log stage k x ++ reverse old.mux.log) id
           ∙ ap (λ (l : List Event). mux_log stage m x ++ l) at.logged ∙ sym (log_append stage m x deeds);
-      heard = heard_more stage servers old.porter.seats now.porter.seats x deeds kept.hears at.heard;
-      copies = subst (λ (i : MuxId). AreCopies stage i servers (reverse now.mux.log) now.porter.seats) (sym kept.mux.id)
+      heard = heard_more stage servers old.caller.seats now.caller.seats x deeds kept.hears at.heard;
+      copies = subst (λ (i : MuxId). AreCopies stage i servers (reverse now.mux.log) now.caller.seats) (sym kept.mux.id)
           (kept.copies at.copies);
       placed = each_append (λ n. IsCarriedAt servers n.event.what) x deeds
           (each_so D (λ n. IsCarriedAt servers n.event.what) x (λ n d. d.placed) kept.each) at.placed;
-      number = kept.porter.number ∙ at.number;
-      sits = sits_still servers old.porter now.porter kept.porter at.sits;
+      number = kept.caller.number ∙ at.number;
+      sits = sits_still servers old.caller now.caller kept.caller at.sits;
       board_is = kept.mux.later.board ∙ at.board_is;
     }
 
@@ -171,7 +171,7 @@ kept_steered : (F : Rules) (stage : Stage) (servers : List Serving) (routes : Li
     → (k : ℕ) → many (λ n. steers_packet n.event.what k) (x ++ deeds) ≤ one_if (is_assigned routes m 0 span.until k)
 kept_steered F stage servers routes control board phases m span posted old now x deeds order kept at k =
     let stint = stint_of routes span posted (told_what posted old)
-    in let D : Note → Type 0 = IsDeed F stage servers stint x
+    in let D : Note → Type 0 = IsPhaseNote F stage servers stint x
     in let id : old.mux.id.0 ≡ m = at.id
     in let a = total_append (λ n. one_if (steers_packet n.event.what k)) x deeds
     in let b = at.steered k
@@ -284,9 +284,9 @@ pub gives_up : (F : Rules) (stage : Stage) (servers : List Serving) (routes : Li
     → IsSound stage
     → ((k m : ℕ) → assigned_mux routes k ≡ Some m → is_some (segment_of stage k) ≡ true)
     → IsBetween F stage servers routes posted head old span.from
-    → span.after.0 ≡ head.porter.latest → span.from ≤ span.until → span.until ≤ length stage.capture.records
+    → span.after.0 ≡ head.caller.latest → span.from ≤ span.until → span.until ≤ length stage.capture.records
     → UnlessMemory led (HasLed stage servers posted q head b)
-    → IfErr led (IsStopFrom (9 * 10 ^ 18 - 4096) b.porter.latest)
+    → IfErr led (IsStopFrom (9 * 10 ^ 18 - 4096) b.caller.latest)
     → length now ≡ length old
     → ((m : ℕ) (x y : MuxWorker) → slice_get old m ≡ Some x → slice_get now m ≡ Some y
     → HasWorked F stage servers routes span (told_what posted x) y)
@@ -346,7 +346,7 @@ gives_up F stage servers routes posted q head b old now span led sound known bet
       muxes = muxes;
       ready = went.0;
       led = is_led;
-      heard = heard_more stage servers head.porter.seats b.porter.seats d before leads.heard standing.heard;
+      heard = heard_more stage servers head.caller.seats b.caller.seats d before leads.heard standing.heard;
       placed = each_append (λ n. IsPlaced stage servers n.event.what) d before leads.placed standing.placed;
       count = total_carriers;
       each = λ m w here. (each m w here).left;
@@ -365,7 +365,7 @@ gives_up F stage servers routes posted q head b old now span led sound known bet
           let sum = greatest_append clock_of (d ++ before) (all_deeds (add_deeds more carriers))
           in elim late.some [
             | inl first ↦
-                let c = led_large led b.porter.latest first.0 late.first first.1 from
+                let c = led_large led b.caller.latest first.0 late.first first.1 from
                 in let l = is_led.latest
                 in omega arith
             | inr worker ↦
@@ -376,7 +376,7 @@ gives_up F stage servers routes posted q head b old now span led sound known bet
     }
 
 latest_under : (workers : List MuxWorker) (top : ℕ)
-    → ((m : ℕ) (w : MuxWorker) → slice_get workers m ≡ Some w → w.porter.latest ≤ top) → latest_in workers ≤ top
+    → ((m : ℕ) (w : MuxWorker) → slice_get workers m ≡ Some w → w.caller.latest ≤ top) → latest_in workers ≤ top
 latest_under [] top each = omega arith
 latest_under (w ∷ workers) top each =
     let here = each 0 w refl
@@ -390,7 +390,7 @@ pub too_late_to_sync : (F : Rules) (stage : Stage) (servers : List Serving) (rou
     → ((k m : ℕ) → assigned_mux routes k ≡ Some m → is_some (segment_of stage k) ≡ true)
     → until ≤ length stage.capture.records → phases ≤ suc p
     → IsStanding F stage servers routes posted head workers p phases until controller carriers
-    → IsStopFrom (9 * 10 ^ 18) (max head.porter.latest (latest_in workers)) (Late moment clock)
+    → IsStopFrom (9 * 10 ^ 18) (max head.caller.latest (latest_in workers)) (Late moment clock)
     → HasGivenUp F stage servers posted head workers
 too_late_to_sync F stage servers routes posted head workers p phases until controller carriers moment clock sound known
     within few standing from =

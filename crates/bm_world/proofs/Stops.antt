@@ -7,7 +7,7 @@ use Rattle.std.proofs.lemmas.Option.{same_Some}
 use Rattle.bm_worker.specs.declared.stop.Stop.{Stop}
 use Rattle.bm_worker.specs.declared.stop.Stop.TheVariants.{Late, Memory}
 use Rattle.bm_worker.specs.declared.worker.MuxWorker.{MuxWorker}
-use Rattle.bm_world.specs.Inside.Crews.{one_stopped, stop_in, wants_memory, HaveNotStopped, IsLate, IsTooLate}
+use Rattle.bm_world.specs.Inside.RunStates.{one_stopped, stop_in, wants_memory, HaveNotStopped, IsLate, IsTooLate}
 
 left_false : (a b : Bool) → (a || b) ≡ false → (a ≡ false) × (b ≡ false)
 left_false true b is = absurd (cc)

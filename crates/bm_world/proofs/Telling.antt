@@ -22,8 +22,8 @@ use Rattle.bm_merge.specs.Notes.{Note}
 use Rattle.bm_merge.specs.Workers.{home_part, is_home}
 use Rattle.bm_server.specs.Seats.{Answered, seat_of, call_of, reply_of, telling}
 use Rattle.bm_turnstile.specs.Told.{told_after}
-use Rattle.bm_worker.specs.Deeds.{Said, said_of, saying, noted}
-use Rattle.bm_worker.specs.Told.{event_told}
+use Rattle.bm_worker.specs.WorkerNotes.{Said, said_of, saying, noted}
+use Rattle.bm_worker.specs.SeatCalls.{event_told}
 use Rattle.bm_world.specs.Inside.Shards.{entries_by, AreNoted}
 
 -- ONE MORE ENTRY

@@ -18,14 +18,14 @@ use Rattle.bm_merge.specs.Workers.{deeds_of, ArePromises}
 use Rattle.bm_merge.proofs.Keeping.{joined_run}
 use Rattle.bm_server.specs.Servings.{Serving}
 use Rattle.bm_publish.specs.Posts.{Posted}
-use Rattle.bm_worker.specs.Deeds.{Suits}
+use Rattle.bm_worker.specs.WorkerNotes.{Suits}
 use Rattle.bm_worker.specs.Phases.{mux_log}
 use Rattle.bm_worker.specs.Assigned.{RoutedBy}
 use Rattle.bm_worker.specs.declared.worker.MuxWorker.{MuxWorker}
 use Rattle.bm_lead.specs.declared.head.Head.{Head}
 use Rattle.bm_lead.proofs.Ending.{all_led, all_published}
-use Rattle.bm_world.specs.Inside.Crews.{rows_of, IsThrough, MergeToRun}
-use Rattle.bm_world.specs.Inside.Handed.{IsBookOfAll}
+use Rattle.bm_world.specs.Inside.RunStates.{rows_of, IsThrough, MergeToRun}
+use Rattle.bm_world.specs.Inside.Returned.{IsBookOfAll}
 use Rattle.bm_world.specs.Inside.Logged.{book_log, books_logs}
 use Rattle.bm_world.specs.Inside.Routed.{AreRouted}
 use Rattle.bm_world.specs.Inside.Served.{AreBooksThere}
@@ -105,7 +105,7 @@ is_ended : (F : Rules) (stage : Stage) (servers : List Serving) (routes : List (
     → AreRouted stage routes
     → ((m : ℕ) (w : MuxWorker) → slice_get workers m ≡ Some w → IsPrefix w.mux.seen.clocks posted.clocks)
     → (end : IsThrough F stage servers routes posted head workers)
-    → IsEnded (RoutedBy routes) F stage servers routes posted.board end.p end.phases workers head.porter.seats
+    → IsEnded (RoutedBy routes) F stage servers routes posted.board end.p end.phases workers head.caller.seats
     end.controller end.carriers
 is_ended F stage servers routes posted head workers sound suits seats routed shown end =
     let standing = end.standing
@@ -134,13 +134,13 @@ pub merge_to_run : (F : Rules) (stage : Stage) (servers : List Serving) (routes 
     → ((m : ℕ) (w : MuxWorker) → slice_get workers m ≡ Some w → IsPrefix w.mux.seen.clocks posted.clocks)
     → IsThrough F stage servers routes posted head workers → length all ≡ length servers
     → ((s : ℕ) (books : List Book) → slice_get all s ≡ Some books
-    → AreBooksThere servers (rows_of head.porter.seats workers) s books)
+    → AreBooksThere servers (rows_of head.caller.seats workers) s books)
     → logs ≡ (head.log.items ∷ map (λ (w : MuxWorker). w.mux.log) workers) ++ books_logs all
     → MergeToRun (RoutedBy routes) F stage logs
 merge_to_run F stage servers routes posted head workers all logs sound suits seats routed shown end count books are h is
     events =
     let fin = is_ended F stage servers routes posted head workers sound suits seats routed shown end
-    in let back = ended (RoutedBy routes) F stage servers routes posted.board end.p end.phases workers head.porter.seats
+    in let back = ended (RoutedBy routes) F stage servers routes posted.board end.p end.phases workers head.caller.seats
     end.controller end.carriers all fin count books
     in let promises = handed_back (RoutedBy routes) F stage end.controller end.carriers (all_books all) back
     in let named = logs_of stage end.controller end.carriers (all_books all) back.kept

@@ -1,7 +1,7 @@
 -- Only the contracts of private calls and the proofs of bodies use these.
-pub mod Crews
+pub mod RunStates
 pub mod GivenUp
-pub mod Handed
+pub mod Returned
 pub mod Left
 pub mod Logged
 pub mod Routed

@@ -2,8 +2,8 @@
 #![tactic(auto)]
 
 mod counting;
-mod crew;
 mod known;
+mod mux_workers;
 mod phase;
 mod places;
 mod routing;

@@ -5,16 +5,16 @@ ghost use Rattle.std.specs.Prelude.{IfOk, OnOk, MatchBool};
 ghost use denote.Param.Send.{IsSync};
 ghost use Rattle.bm_core.specs.Stages.{IsSound};
 ghost use Rattle.bm_core.specs.Threads.{phase_of};
-ghost use Rattle.bm_fault.specs.Faults.{Gives, IsRule};
-ghost use Rattle.bm_worker.specs.Deeds.{Suits};
-ghost use Rattle.bm_worker.specs.Phases.{CanWork, IsRunnable};
+ghost use Rattle.bm_fault.specs.Faults.{IsRule};
+ghost use Rattle.bm_worker.specs.Environments.{In};
+ghost use Rattle.bm_worker.specs.Phases.{CanWork};
 ghost use Rattle.bm_lead.specs.Heads.{IsPhase, IsReady, IsStopFrom, IsSyncCommand, UnlessMemory};
 ghost use Rattle.bm_lead.specs.Leads.{HasLed};
-ghost use Rattle.bm_world.specs.Inside.Crews.{HasMet, HaveNotStopped, HaveWorked, IsBetween};
-ghost use Rattle.bm_world.specs.Inside.Crews.{IsLate};
-ghost use Rattle.bm_world.specs.Inside.Crews.{IsNext, IsThrough, latest_in, left_of, one_stopped};
-ghost use Rattle.bm_world.specs.Inside.Crews.{stop_in};
-ghost use Rattle.bm_world.specs.Inside.Crews.{told_what, wants_memory};
+ghost use Rattle.bm_world.specs.Inside.RunStates.{HasMet, HaveNotStopped, HaveWorked, IsBetween};
+ghost use Rattle.bm_world.specs.Inside.RunStates.{IsLate};
+ghost use Rattle.bm_world.specs.Inside.RunStates.{IsNext, IsThrough, latest_in, left_of, one_stopped};
+ghost use Rattle.bm_world.specs.Inside.RunStates.{stop_in};
+ghost use Rattle.bm_world.specs.Inside.RunStates.{told_what, wants_memory};
 ghost use Rattle.bm_world.specs.Inside.GivenUp.{HasGivenUp};
 ghost use Rattle.bm_world.specs.Inside.Running.{IsAtPhase};
 
@@ -80,50 +80,38 @@ fn work_beside<W: Threads + Wait + Sync, F: Fn(u32, Hop) -> Fate + Sync, G: Gate
     span: Span,
     until: usize,
 ) -> Result<(), Stop>
-    requires rule { IsRule F.Fn shared.now.faults.now.rule }
-    requires run { IsRunnable shared.now.stage.now shared.now.octets.now shared.now.routes.now
-        shared.now.servers.now }
-    requires ready { IsReady shared.now.stage.now shared.now.servers.now poster.old head.old }
-    requires phase { IsPhase shared.now.stage.now.script.commands head.old.next until }
-    requires can { All (CanWork shared.now.stage.now shared.now.servers.now shared.now.routes.now
-        span) workers.old }
-    ensures led { UnlessMemory result (HasLed shared.now.stage.now shared.now.servers.now
-        poster.old poster.new head.old head.new) }
+    requires rule { IsRule F.Fn shared.now.rule }
+    requires ready { IsReady shared.now.stage shared.now.servers poster.old head.old }
+    requires phase { IsPhase shared.now.stage.script.commands head.old.next until }
+    requires can { All (CanWork shared.now.stage shared.now.servers shared.now.routes span)
+        workers.old }
+    ensures led { UnlessMemory result (HasLed shared.now.stage shared.now.servers poster.old
+        poster.new head.old head.new) }
     ensures next { OnOk result (head.new.next ≡ until) }
-    ensures stop { IfErr result (IsStopFrom (9 * 10 ^ 18 - 4096) head.new.porter.latest) }
+    ensures stop { IfErr result (IsStopFrom (9 * 10 ^ 18 - 4096) head.new.caller.latest) }
     ensures count { length workers.new ≡ length workers.old }
-    ensures worked { HaveWorked (Gives F.Fn shared.now.faults.now.rule) shared.now.stage.now
-        shared.now.servers.now shared.now.routes.now span workers.old workers.new }
+    ensures worked { In F.Fn shared.now HaveWorked shared.now.routes span workers.old workers.new }
 {
-    let Shared {
-        stage,
-        servers,
-        gate,
-        ..
-    } = *shared;
     let ((), led) = join_mut(
         rt,
         &mut ||
             requires { IsSync W.row × IsSync F.row × IsSync G.row
-                × IsRule F.Fn shared.now.faults.now.rule
-                × IsRunnable shared.now.stage.now shared.now.octets.now shared.now.routes.now
-                shared.now.servers.now
-                × All (CanWork shared.now.stage.now shared.now.servers.now shared.now.routes.now
-                span) workers.now }
+                × IsRule F.Fn shared.now.rule
+                × All (CanWork shared.now.stage shared.now.servers shared.now.routes span)
+                workers.now }
             ensures { (length workers.exit.now ≡ length workers.entry.now)
-                × HaveWorked (Gives F.Fn shared.entry.now.faults.now.rule)
-                shared.entry.now.stage.now shared.entry.now.servers.now
-                shared.entry.now.routes.now span workers.entry.now workers.exit.now }
+                × In F.Fn shared.entry.now HaveWorked shared.entry.now.routes span
+                workers.entry.now workers.exit.now }
         { work_all(rt, shared, span, workers) },
         &mut || -> Result<(), Stop>
-            requires { IsSync G.row × IsSound stage.now × Suits stage.now servers.now
-                × IsReady stage.now servers.now poster.now head.now
-                × IsPhase stage.now.script.commands head.now.next until }
-            ensures { UnlessMemory result (HasLed stage.entry.now servers.entry.now
+            requires { IsSync F.row × IsSync G.row
+                × IsReady shared.now.stage shared.now.servers poster.now head.now
+                × IsPhase shared.now.stage.script.commands head.now.next until }
+            ensures { UnlessMemory result (HasLed shared.entry.now.stage shared.entry.now.servers
                 poster.entry.now poster.exit.now head.entry.now head.exit.now)
                 × OnOk result (head.exit.now.next ≡ until)
-                × IfErr result (IsStopFrom (9 * 10 ^ 18 - 4096) head.exit.now.porter.latest) }
-        { lead_phase(rt, gate, stage, servers, poster, head, until) },
+                × IfErr result (IsStopFrom (9 * 10 ^ 18 - 4096) head.exit.now.caller.latest) }
+        { lead_phase(rt, shared, poster, head, until) },
     );
     led
 }
@@ -174,11 +162,11 @@ fn is_late(led: Result<(), Stop>, workers: &[MuxWorker]) -> Result<bool, Memory>
 
 /// The greatest clock of what all workers did.
 fn latest_of(head: &Head, workers: &[MuxWorker]) -> Moment
-    ensures { result.0 ≡ max head.now.porter.latest (latest_in workers.now) }
+    ensures { result.0 ≡ max head.now.caller.latest (latest_in workers.now) }
 {
-    let mut latest = head.porter.latest();
+    let mut latest = head.caller.latest();
     for worker in workers {
-        latest = latest.max(worker.porter.latest());
+        latest = latest.max(worker.caller.latest());
     }
     latest
 }
@@ -210,24 +198,22 @@ pub(crate) fn run_phase<W: Threads + Wait + Sync, F: Fn(u32, Hop) -> Fate + Sync
     workers: &mut [MuxWorker],
     start: u32,
 ) -> Result<Next, Memory>
-    requires rule { IsRule F.Fn shared.now.faults.now.rule }
-    requires run { IsRunnable shared.now.stage.now shared.now.octets.now shared.now.routes.now
-        shared.now.servers.now }
-    requires between { IsBetween (Gives F.Fn shared.now.faults.now.rule) shared.now.stage.now
-        shared.now.servers.now shared.now.routes.now poster.old head.old workers.old start }
-    ensures next { IfOk result (IsNext (Gives F.Fn shared.now.faults.now.rule) shared.now.stage.now
-        shared.now.servers.now shared.now.routes.now poster.new head.new workers.new) }
-    ensures fewer { IfOk result (λ next. let all = length shared.now.stage.now.script.commands in
+    requires rule { IsRule F.Fn shared.now.rule }
+    requires between { In F.Fn shared.now IsBetween shared.now.routes poster.old head.old
+        workers.old start }
+    ensures next { IfOk result
+        (In F.Fn shared.now IsNext shared.now.routes poster.new head.new workers.new) }
+    ensures fewer { IfOk result (λ next. let all = length shared.now.stage.script.commands in
         left_of next head.new.next all < suc (all - head.old.next)) }
     ensures count { length workers.new ≡ length workers.old }
 {
-    let stage = shared.stage;
+    let stage = shared.stage();
     let place = sync_place(stage.script.commands.items(), head.next);
     let until = records_end(stage, place, start);
     let span = Span {
         from: start,
         until,
-        after: head.porter.latest(),
+        after: head.caller.latest(),
     };
     tell_all(poster, workers);
     let led = work_beside(rt, shared, poster, head, workers, span, place);
@@ -245,16 +231,12 @@ pub(crate) fn run_phases<W: Threads + Wait + Sync, F: Fn(u32, Hop) -> Fate + Syn
     head: &mut Head,
     workers: &mut [MuxWorker],
 ) -> Result<bool, Memory>
-    requires rule { IsRule F.Fn shared.now.faults.now.rule }
-    requires run { IsRunnable shared.now.stage.now shared.now.octets.now shared.now.routes.now
-        shared.now.servers.now }
-    requires first { IsBetween (Gives F.Fn shared.now.faults.now.rule) shared.now.stage.now
-        shared.now.servers.now shared.now.routes.now poster.old head.old workers.old 0 }
+    requires rule { IsRule F.Fn shared.now.rule }
+    requires first { In F.Fn shared.now IsBetween shared.now.routes poster.old head.old
+        workers.old 0 }
     ensures late { IfOk result (λ late. MatchBool late
-        (HasGivenUp (Gives F.Fn shared.now.faults.now.rule) shared.now.stage.now
-        shared.now.servers.now poster.new head.new workers.new)
-        (IsThrough (Gives F.Fn shared.now.faults.now.rule) shared.now.stage.now
-        shared.now.servers.now shared.now.routes.now poster.new head.new workers.new)) }
+        (In F.Fn shared.now HasGivenUp poster.new head.new workers.new)
+        (In F.Fn shared.now IsThrough shared.now.routes poster.new head.new workers.new)) }
     ensures count { length workers.new ≡ length workers.old }
 {
     let mut next = Next::Phase(0);

@@ -10,14 +10,14 @@ ghost use Rattle.bm_lead.specs.Rests.{Adds};
 ghost use Rattle.bm_merge.specs.Notes.{Note};
 ghost use Rattle.bm_route.specs.Routes.{Answers, IsRoute};
 ghost use Rattle.bm_rows.specs.Rows.{items_of};
-ghost use Rattle.bm_worker.specs.Phases.{IsRunnable};
+ghost use Rattle.bm_worker.specs.Environments.{In};
 ghost use Rattle.bm_worker.specs.Assigned.{RoutedBy};
-ghost use Rattle.bm_world.specs.Inside.Crews.{IsBack, MakeRun};
+ghost use Rattle.bm_world.specs.Inside.RunStates.{IsBack, MakeRun};
 ghost use Rattle.bm_world.specs.Inside.Routed.{AreRouted};
 ghost use Rattle.bm_world.specs.Inside.Served.{IsNewRow};
 
-use crate::crew::{make_workers, take_apart};
 use crate::known::known_servers;
+use crate::mux_workers::{make_workers, take_apart};
 use crate::phase::run_phases;
 use crate::routing::route_all;
 use crate::run_logs::merge_beside;
@@ -30,7 +30,7 @@ use bm_lead::{Head, post_the_rest};
 use bm_publish::{Look, Poster, board};
 use bm_route::Route;
 use bm_rows::front;
-use bm_worker::{Porter, Shared};
+use bm_worker::{Caller, Shared};
 use std::alloc::Global;
 use std::sync::Wait;
 use std::thread::Threads;
@@ -78,23 +78,20 @@ fn run_on_board<W: Threads + Wait + Sync, F: Fn(u32, Hop) -> Fate + Sync, G: Gat
     looks: Vec<Look>,
     rows: Rows,
 ) -> Result<Back, Memory>
-    requires rule { IsRule F.Fn shared.now.faults.now.rule }
-    requires run { IsRunnable shared.now.stage.now shared.now.octets.now shared.now.routes.now
-        shared.now.servers.now }
-    requires board { (poster.old.plan ≡ shared.now.stage.now.script.plan)
-        × (poster.old.clocks ≡ []) }
+    requires rule { IsRule F.Fn shared.now.rule }
+    requires board { (poster.old.plan ≡ shared.now.stage.script.plan) × (poster.old.clocks ≡ []) }
     requires looks { All (λ look. look ≡ poster.old) looks.items }
-    requires muxes { length looks.items ≡ shared.now.stage.now.script.setting.muxes }
+    requires muxes { length looks.items ≡ shared.now.stage.script.setting.muxes }
     requires count { length rows.items ≡ length looks.items + 1 }
     requires rows { (w : ℕ) (seats : _) → slice_get (items_of rows.items) w ≡ Some seats
-        → IsNewRow shared.now.servers.now w seats }
-    ensures { IfOk result (λ back. IsBack (Gives F.Fn shared.now.faults.now.rule)
-        shared.now.stage.now shared.now.servers.now shared.now.routes.now back.late back.logs.items
-        (items_of back.rows.items)) }
+        → IsNewRow shared.now.servers w seats }
+    ensures { IfOk result (λ back. In F.Fn shared.now IsBack shared.now.routes back.late
+        back.logs.items (items_of back.rows.items)) }
 {
-    let Shared { alloc, stage, .. } = *shared;
+    let alloc = shared.alloc();
+    let stage = shared.stage();
     let (first, others) = front(rows);
-    let mut head = Head::new(alloc, Porter::new(0, first));
+    let mut head = Head::new(alloc, Caller::new(0, first));
     let mut workers = make_workers(alloc, stage.script.setting.buckets, looks, others)?;
     let late = run_phases(rt, shared, poster, &mut head, workers.as_mut_slice())?;
     post_left(rt, stage, poster, &mut head, late)?;
@@ -108,18 +105,15 @@ fn run_workers<W: Threads + Wait + Sync, F: Fn(u32, Hop) -> Fate + Sync, G: Gate
     shared: &Shared<'_, F, G>,
     rows: Rows,
 ) -> Result<Back, Memory>
-    requires rule { IsRule F.Fn shared.now.faults.now.rule }
-    requires run { IsRunnable shared.now.stage.now shared.now.octets.now shared.now.routes.now
-        shared.now.servers.now }
-    requires count { length rows.items ≡ shared.now.stage.now.script.setting.muxes + 1 }
+    requires rule { IsRule F.Fn shared.now.rule }
+    requires count { length rows.items ≡ shared.now.stage.script.setting.muxes + 1 }
     requires rows { (w : ℕ) (seats : _) → slice_get (items_of rows.items) w ≡ Some seats
-        → IsNewRow shared.now.servers.now w seats }
-    ensures { IfOk result (λ back. IsBack (Gives F.Fn shared.now.faults.now.rule)
-        shared.now.stage.now shared.now.servers.now shared.now.routes.now back.late back.logs.items
-        (items_of back.rows.items)) }
+        → IsNewRow shared.now.servers w seats }
+    ensures { IfOk result (λ back. In F.Fn shared.now IsBack shared.now.routes back.late
+        back.logs.items (items_of back.rows.items)) }
 {
-    let script = &shared.stage.script;
-    let (mut poster, looks) = board(rt, shared.alloc, &script.plan, script.setting.muxes)?;
+    let script = &shared.stage().script;
+    let (mut poster, looks) = board(rt, shared.alloc(), &script.plan, script.setting.muxes)?;
     let back = run_on_board(rt, shared, &mut poster, looks, rows);
     poster.end(rt);
     back
@@ -146,15 +140,15 @@ fn run_stage<W: Threads + Wait + Sync, F: Fn(u32, Hop) -> Fate + Sync, G: Gate>(
     let setting = &stage.script.setting;
     let ids = known_servers(alloc, &stage.script)?;
     let (servers, rows) = make_servers(alloc, setting, ids.as_slice(), setting.muxes + 1)?;
-    let shared = Shared {
+    let shared = Shared::new(
         alloc,
         stage,
-        octets: &octets,
-        routes: routes.as_slice(),
-        servers: servers.as_slice(),
+        &octets,
+        routes.as_slice(),
+        servers.as_slice(),
         faults,
         gate,
-    };
+    );
     let back = run_workers(rt, &shared, rows);
     drop(shared);
     // Only the workers read these, and the merge needs their memory.

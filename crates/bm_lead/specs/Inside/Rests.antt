@@ -16,4 +16,4 @@ pub record HasAdded (p q : Posted) (a b : Head) : Type 0 where
   pub log : b.log.items ≡ a.log.items ++ record { clock = clock; what = Publish version } ∷ []
   pub published : b.published ≡ version
   pub last_post : b.last_post ≡ clock
-  pub porter : b.porter ≡ a.porter
+  pub caller : b.caller ≡ a.caller

@@ -14,9 +14,9 @@ use Rattle.bm_core.specs.Runs.{next_clock}
 use Rattle.bm_merge.specs.Notes.{Note, greatest}
 use Rattle.bm_server.specs.Servings.{Serving}
 use Rattle.bm_publish.specs.Posts.{Posted, last_or}
-use Rattle.bm_worker.specs.Deeds.{Hears, IsSamePorter}
-use Rattle.bm_worker.specs.Inside.Deeds.{closing, retiring}
-use Rattle.bm_worker.specs.Portings.{Porting}
+use Rattle.bm_worker.specs.WorkerNotes.{Hears, IsSameCaller, Sits}
+use Rattle.bm_worker.specs.Inside.WorkerNotes.{closing, retiring}
+use Rattle.bm_worker.specs.Callers.{CallerState}
 use Rattle.bm_lead.specs.declared.head.Head.{Head}
 use Rattle.bm_lead.specs.Commands.{control_log, posted_clocks, syncing}
 use Rattle.bm_lead.specs.Inside.Commands.{publishing}
@@ -46,11 +46,17 @@ AreOf stage latest published i (Retire at server) deeds =
 AreOf stage latest published i (Sync at) deeds =
     (clock : Moment) × (deeds ≡ syncing clock i ∷ []) × (latest < clock.0)
 
+-- worker 0 has its seats at the servers, and may make this many calls
+pub record CanCall (servers : List Serving) (calls : ℕ) (p : CallerState) : Type 0 where
+  pub sits : Sits servers p
+  pub number : p.number ≡ 0
+  pub few : p.tries + calls ≤ 4294967295
+
 -- the worker's seats and clock after these notes, where at most this many are calls
-pub record HasCalled (stage : Stage) (servers : List Serving) (calls : ℕ) (a b : Porting)
+pub record HasCalled (stage : Stage) (servers : List Serving) (calls : ℕ) (a b : CallerState)
     (deeds : List Note) : Type 0 where
   pub heard : Hears stage servers a.seats b.seats deeds
-  pub same : IsSamePorter a b
+  pub same : IsSameCaller a b
   pub tries : b.tries ≤ a.tries + calls
   pub latest : b.latest ≡ max a.latest (greatest (λ n. n.event.clock.0) deeds)
 
@@ -62,7 +68,7 @@ published_after (e ∷ past) before = published_by e.what (published_after past 
 -- worker 0 and the board after these notes, before it goes to the next command
 pub record HasDone (stage : Stage) (servers : List Serving) (p q : Posted) (a b : Head)
     (deeds : List Note) : Type 0 where
-  pub called : HasCalled stage servers 64 a.porter b.porter deeds
+  pub called : HasCalled stage servers 64 a.caller b.caller deeds
   pub next : b.next ≡ a.next
   pub log : b.log.items ≡ a.log.items ++ control_log stage deeds
   pub posted : q ≡ record p { clocks = p.clocks ++ posted_clocks (control_log stage deeds) }
@@ -72,7 +78,7 @@ pub record HasDone (stage : Stage) (servers : List Serving) (p q : Posted) (a b 
 -- worker 0 carried out a command like this, from p and a to q and b
 abbrev pub CarriesOut : Stage → List Serving → Posted → Posted → Head → Head → Command → Type 0
 CarriesOut stage servers p q a b c =
-    (deeds : List Note) × AreOf stage a.porter.latest a.published.0 a.next c deeds
+    (deeds : List Note) × AreOf stage a.caller.latest a.published.0 a.next c deeds
     × HasDone stage servers p q a b deeds
 
 -- the script knows the server

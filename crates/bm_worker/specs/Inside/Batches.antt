@@ -27,10 +27,10 @@ use Rattle.bm_mux.specs.Steers.{steering_clock, switch_to}
 use Rattle.bm_server.specs.Servings.{Serving}
 use Rattle.bm_worker.specs.declared.stop.Stop.{Stop}
 use Rattle.bm_worker.specs.declared.worker.MuxWorker.{MuxWorker}
-use Rattle.bm_worker.specs.Deeds.{IsSamePorter, deed, no_fate}
-use Rattle.bm_worker.specs.Inside.Debts.{Debt, IsAmong, IsCopyOf, IsUpTo, comes, comes_by}
-use Rattle.bm_worker.specs.Inside.Debts.{copyless_at}
-use Rattle.bm_worker.specs.Inside.Debts.{debt, gives, gives_by, lost_at}
+use Rattle.bm_worker.specs.WorkerNotes.{IsSameCaller, note_at, no_fate}
+use Rattle.bm_worker.specs.Inside.Pending.{CanSend, Pending, IsAmong, IsCopyOf, IsUpTo, comes, comes_by}
+use Rattle.bm_worker.specs.Inside.Pending.{copyless_at}
+use Rattle.bm_worker.specs.Inside.Pending.{pending, gives, gives_by, lost_at}
 use Rattle.bm_worker.specs.Phases.{AreFew, HasEnded, IsStopOf, Kept, Stint, mux_for}
 use Rattle.bm_worker.specs.Phases.{entries_per_packet, tries_per_packet}
 use Rattle.bm_worker.specs.Assigned.{is_assigned, assigned_mux}
@@ -79,7 +79,7 @@ pub record AreCollected (F : Rules) (stage : Stage) (routes : List (Option MuxId
 -- WHAT IT LOGS AND SENDS, as notes, the newest first
 
 abbrev pub steering : Moment → ℕ → MuxId → Fate → ℕ → Note
-steering clock k m fate seat = deed clock (Steer k m) fate 0 0 seat
+steering clock k m fate seat = note_at clock (Steer k m) fate 0 0 seat
 
 abbrev pub sent_notes : MuxId → List Steered → List Fate → List Note
 sent_notes m [] fates = []
@@ -113,7 +113,7 @@ pub record PaysFor (s x : List Note) : Type 0 where
       ≡ total (gives k hop) s + total (gives k hop) x
 
 -- a steered packet among the notes of a phase
-pub record IsOwed (stint : Stint) (deeds : List Note) (d : Debt) : Type 0 where
+pub record IsOwed (stint : Stint) (deeds : List Note) (d : Pending) : Type 0 where
   pub note : Note
   pub among : IsAmong note deeds
   pub sending : sends note.event.what d.packet d.hop ≡ true
@@ -128,7 +128,7 @@ abbrev pub AreOwed : Stint → List Note → ℕ → List Steered → List Fate 
 AreOwed stint deeds low [] fates = Unit {0}
 AreOwed stint deeds low (t ∷ sents) [] = ⊥
 AreOwed stint deeds low (t ∷ sents) (f ∷ fates) =
-    (low < t.packet) × IsOwed stint deeds (debt t.packet Direct t.clock.0 f)
+    (low < t.packet) × IsOwed stint deeds (pending t.packet Direct t.clock.0 f)
     × AreOwed stint deeds t.packet sents fates
 
 -- a copy of the packet for the server of its tag
@@ -199,19 +199,19 @@ pub record IsDoneTo (F : Rules) (stage : Stage) (servers : List Serving) (stint 
   pub switched : switched_since stint.after (mux_for stint).0 (reverse now.mux.log) ≡ true
   pub begun : stint.after < steering_clock (reverse now.mux.log)
 
--- what the worker did is recorded: the porter has the mux's clock, and nothing else changed
+-- what the worker did is recorded: the caller has the mux's clock, and nothing else changed
 pub record HasSeen (old new : MuxWorker) : Type 0 where
-  pub seats : new.porter.seats ≡ old.porter.seats
-  pub porter : IsSamePorter old.porter new.porter
-  pub tries : new.porter.tries ≡ old.porter.tries
-  pub latest : new.porter.latest ≡ max old.porter.latest (steering_clock (reverse new.mux.log))
+  pub seats : new.caller.seats ≡ old.caller.seats
+  pub caller : IsSameCaller old.caller new.caller
+  pub tries : new.caller.tries ≡ old.caller.tries
+  pub latest : new.caller.latest ≡ max old.caller.latest (steering_clock (reverse new.mux.log))
   pub steps : new.steps ≡ old.steps
 
 -- nothing was done; the mux may have seen or learned of more posts
 pub record HasOnlyLooked (old new : MuxWorker) : Type 0 where
   pub mux : IsSameMux old.mux new.mux
   pub log : new.mux.log ≡ old.mux.log
-  pub porter : new.porter ≡ old.porter
+  pub caller : new.caller ≡ old.caller
   pub steps : new.steps ≡ old.steps
 
 -- the phase goes on from the place to the one returned, or the worker gave up
@@ -223,9 +223,18 @@ CarriesTo F stage servers routes from until old new result =
     → MatchResult result (λ end. (d : List Note) × IsDoneTo F stage servers stint new end d)
     (λ stop. HasEnded F stage servers stint new (Some stop))
 
+-- the worker may carry its mux's packets of this many places
+pub record CanCarry (stage : Stage) (servers : List Serving) (places : ℕ) (w : MuxWorker) : Type
+    0 where
+  pub plan : w.mux.seen.plan ≡ stage.script.plan
+  pub mux : w.mux.id.0 < 64
+  pub can : CanSend servers (tries_per_packet * places) w
+  pub steps : w.steps + places ≤ 4294967295
+  pub room : length w.mux.log < 2 ^ 48
+
 -- how much this many places may add to the worker's counts
 pub record GrowsBy (places : ℕ) (old new : MuxWorker) : Type 0 where
-  pub tries : new.porter.tries ≤ old.porter.tries + tries_per_packet * places
+  pub tries : new.caller.tries ≤ old.caller.tries + tries_per_packet * places
   pub steps : new.steps ≤ old.steps + places
   pub log : length new.mux.log ≤ length old.mux.log + entries_per_packet * places
 

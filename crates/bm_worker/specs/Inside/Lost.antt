@@ -9,5 +9,5 @@ use Rattle.bm_worker.specs.declared.worker.MuxWorker.{MuxWorker}
 abbrev pub with_loss : ℕ → Hop → ℕ → MuxWorker → MuxWorker
 with_loss k hop clock w = record w {
   mux = record w.mux { log = w.mux.log ++ at_clock (clock + 1) (Lose k hop) ∷ [] };
-  porter = record w.porter { latest = max w.porter.latest (clock + 1) };
+  caller = record w.caller { latest = max w.caller.latest (clock + 1) };
 }

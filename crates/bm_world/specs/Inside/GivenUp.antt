@@ -11,7 +11,7 @@ use Rattle.bm_merge.specs.Notes.{Note, greatest}
 use Rattle.bm_merge.specs.Workers.{all_deeds, deeds_of}
 use Rattle.bm_server.specs.Servings.{Serving}
 use Rattle.bm_publish.specs.Posts.{Posted}
-use Rattle.bm_worker.specs.Deeds.{clock_of, Sits}
+use Rattle.bm_worker.specs.WorkerNotes.{clock_of, Sits}
 use Rattle.bm_worker.specs.Phases.{mux_log, AreCopies}
 use Rattle.bm_worker.specs.Phases.{IsPlaced as IsCarriedAt}
 use Rattle.bm_worker.specs.declared.worker.MuxWorker.{MuxWorker}
@@ -28,11 +28,11 @@ pub record HasLeft (F : Rules) (stage : Stage) (servers : List Serving) (control
   pub left : IsLeft F stage control w.mux.seen.clocks m deeds
   pub id : w.mux.id.0 ≡ m
   pub logged : reverse w.mux.log ≡ mux_log stage m deeds
-  pub heard : HaveHeard stage servers w.porter.seats deeds
-  pub copies : AreCopies stage w.mux.id servers (reverse w.mux.log) w.porter.seats
+  pub heard : HaveHeard stage servers w.caller.seats deeds
+  pub copies : AreCopies stage w.mux.id servers (reverse w.mux.log) w.caller.seats
   pub placed : AllByRecursion (λ n. IsCarriedAt servers n.event.what) deeds
-  pub number : w.porter.number ≡ m + 1
-  pub sits : Sits servers w.porter
+  pub number : w.caller.number ≡ m + 1
+  pub sits : Sits servers w.caller
   pub board_is : w.mux.seen.board ≡ board
 
 -- all that was done, and that one of its clocks is large
@@ -43,7 +43,7 @@ pub record HasGivenUp (F : Rules) (stage : Stage) (servers : List Serving) (post
   pub muxes : length workers ≡ stage.script.setting.muxes
   pub ready : IsReady stage servers posted head
   pub led : IsLed stage posted head controller
-  pub heard : HaveHeard stage servers head.porter.seats controller
+  pub heard : HaveHeard stage servers head.caller.seats controller
   pub placed : AllByRecursion (λ n. IsPlaced stage servers n.event.what) controller
   pub count : length carriers ≡ length workers
   pub each : (m : ℕ) (w : MuxWorker) → slice_get workers m ≡ Some w

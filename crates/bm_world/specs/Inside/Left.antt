@@ -21,8 +21,8 @@ use Rattle.bm_merge.specs.Workers.{IsBefore, IsDrawn, IsOwed, IsUnderway, carrie
 use Rattle.bm_merge.specs.Workers.{deeds_of, all_deeds}
 use Rattle.bm_mux.specs.Muxes.{post_clock}
 use Rattle.bm_worker.specs.Phases.{mux_log, IsLossOf}
-use Rattle.bm_world.specs.Inside.Handed.{HaveOwnBooks, IsBooked, IsBookOfAll, control_log}
-use Rattle.bm_world.specs.Inside.Handed.{posted_clocks}
+use Rattle.bm_world.specs.Inside.Returned.{HaveOwnBooks, IsBooked, IsBookOfAll, control_log}
+use Rattle.bm_world.specs.Inside.Returned.{posted_clocks}
 
 -- 0, or the clock of a Sync in the controller's log
 abbrev pub IsSyncIn : List Event → ℕ → Type 0

@@ -17,13 +17,13 @@ use Rattle.bm_merge.specs.Workers.{home_part, deeds_of, all_deeds, looks_since}
 use Rattle.bm_merge.proofs.Phasing.{IsPhased}
 use Rattle.bm_server.specs.Seats.{Seated}
 use Rattle.bm_server.specs.Servings.{Serving, shard_at}
-use Rattle.bm_worker.specs.Deeds.{clock_of, noted, saying, Sits}
+use Rattle.bm_worker.specs.WorkerNotes.{clock_of, noted, saying, Sits}
 use Rattle.bm_worker.specs.Phases.{mux_log, AreCopies, IsPlaced, is_steer}
-use Rattle.bm_worker.specs.Phases.{deeds_per_packet, entries_per_packet, tries_per_packet}
-use Rattle.bm_worker.specs.Told.{told_there}
+use Rattle.bm_worker.specs.Phases.{notes_per_packet, entries_per_packet, tries_per_packet}
+use Rattle.bm_worker.specs.SeatCalls.{told_there}
 use Rattle.bm_worker.specs.Assigned.{is_assigned}
 use Rattle.bm_worker.specs.declared.worker.MuxWorker.{MuxWorker}
-use Rattle.bm_world.specs.Inside.Handed.{control_log, IsCarriage}
+use Rattle.bm_world.specs.Inside.Returned.{control_log, IsCarriage}
 
 -- these seats' calls and replies are exactly what was done at each shard, in its order
 abbrev pub HaveHeard : Stage → List Serving → List (List Seated) → List Note → Type 0
@@ -39,22 +39,22 @@ pub record IsAtWork (R : Routes) (F : Rules) (stage : Stage) (servers : List Ser
   pub carriage : IsCarriage R F stage control w.mux.seen.clocks m deeds
   pub id : w.mux.id.0 ≡ m
   pub logged : reverse w.mux.log ≡ mux_log stage m deeds
-  pub heard : HaveHeard stage servers w.porter.seats deeds
-  pub copies : AreCopies stage w.mux.id servers (reverse w.mux.log) w.porter.seats
+  pub heard : HaveHeard stage servers w.caller.seats deeds
+  pub copies : AreCopies stage w.mux.id servers (reverse w.mux.log) w.caller.seats
   pub placed : AllByRecursion (λ n. IsPlaced servers n.event.what) deeds
-  pub latest : w.porter.latest ≡ greatest clock_of deeds
+  pub latest : w.caller.latest ≡ greatest clock_of deeds
   pub steered : (k : ℕ) → many (λ n. steers_packet n.event.what k) deeds
       ≡ (if is_assigned routes m 0 until k then 1 else 0)
   pub within : AllByRecursion (λ n. IfSome (packet_of n.event.what) (λ k. k ≤ until)) deeds
-  pub number : w.porter.number ≡ m + 1
-  pub sits : Sits servers w.porter
+  pub number : w.caller.number ≡ m + 1
+  pub sits : Sits servers w.caller
   pub board_is : w.mux.seen.board ≡ board
   pub plan : w.mux.seen.plan ≡ stage.script.plan
-  pub tries : w.porter.tries ≤ tries_per_packet * until
+  pub tries : w.caller.tries ≤ tries_per_packet * until
   pub steps : w.steps ≤ until
   pub room : length w.mux.log ≤ entries_per_packet * until + phases
   -- besides the first Switch of each phase, at most as many notes as the packets may lead to
-  pub few : length deeds ≤ deeds_per_packet * many (λ n. is_steer n.event.what) deeds + phases
+  pub few : length deeds ≤ notes_per_packet * many (λ n. is_steer n.event.what) deeds + phases
   pub stop : w.stop ≡ None
 
 -- the notes of a phase before those of earlier phases, for each worker

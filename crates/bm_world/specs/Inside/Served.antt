@@ -7,7 +7,7 @@ use Rattle.bm_shard.specs.Books.{Book, Replays}
 use Rattle.bm_server.specs.Seats.{Seated, most_turns, row, seat_of, telling}
 use Rattle.bm_server.specs.Servings.{Serving, shard_at}
 use Rattle.bm_turnstile.specs.Seen.{AllBelow}
-use Rattle.bm_worker.specs.Told.{told_there}
+use Rattle.bm_worker.specs.SeatCalls.{told_there}
 
 -- the book of the shard h of the server at the place s, if these are the seats of all workers
 pub record IsBookThere (server : Serving) (rows : List (List (List Seated))) (s h : ℕ)

@@ -10,7 +10,7 @@ loop-head-preserved g c =
     let test = c.loop-head-test.true in (
       omega (arith, next, low),
       omega (arith, next, test),
-      led_more c.args.stage.now c.args.servers.now c.args.poster.now c.loop-head.poster c.lead_next.new.poster
+      led_more c.args.shared.now.stage c.args.shared.now.servers c.args.poster.now c.loop-head.poster c.lead_next.new.poster
           c.args.head.now
           c.loop-head.head c.lead_next.new.head c.loop-head.invariant.2 c.in_ok-lead_next.ensures.led,
     )
@@ -19,6 +19,6 @@ pub returns-in_err-lead_next-clause-led : goal.returns-in_err-lead_next-clause-l
 returns-in_err-lead_next-clause-led g c =
     unless_err c.from_residual.result c.in_err-lead_next.field-0.0 _ _ c.from_residual.ensures.1
     c.in_err-lead_next.ensures.led
-    (led_more c.args.stage.now c.args.servers.now c.args.poster.now c.loop-head.poster c.lead_next.new.poster
+    (led_more c.args.shared.now.stage c.args.shared.now.servers c.args.poster.now c.loop-head.poster c.lead_next.new.poster
     c.args.head.now
     c.loop-head.head c.lead_next.new.head c.loop-head.invariant.2)

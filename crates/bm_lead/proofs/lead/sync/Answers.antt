@@ -32,7 +32,7 @@ returns-clause-synced c = λ servers posted suits ready.
     let stage = c.args.stage.now in
     let clock = c.in_ok-clock.clock in
     let at = c.sync_moment-at.result in
-    let b : Head = record a { porter = c.see.new.self; log = c.write_down.new.log } in
+    let b : Head = record a { caller = c.see.new.self; log = c.write_down.new.log } in
     let here : slice_get stage.script.commands a.next ≡ Some (Sync at) =
     ap (λ (l : List Command). slice_get l a.next) (sym c.items.ensures) ∙ c.sync_moment-at.ensures in
     let next = c.in_ok-clock.ensures.ok.0 in
@@ -40,7 +40,7 @@ returns-clause-synced c = λ servers posted suits ready.
     let latest = c.see.ensures.latest in
     let done : HasDone stage servers posted posted a b (syncing clock a.next ∷ []) = record {
       called = record {
-        heard = hears_elsewhere stage servers a.porter.seats b.porter.seats (syncing clock a.next) c.see.ensures.seats
+        heard = hears_elsewhere stage servers a.caller.seats b.caller.seats (syncing clock a.next) c.see.ensures.seats
             (λ s h. refl);
         same = c.see.ensures.same;
         tries = let t = c.see.ensures.tries in omega arith;
@@ -52,7 +52,7 @@ returns-clause-synced c = λ servers posted suits ready.
       last_post = refl;
       published = refl;
     } in
-    let of : AreOf stage a.porter.latest a.published.0 a.next (Sync at) (syncing clock a.next ∷ []) =
+    let of : AreOf stage a.caller.latest a.published.0 a.next (Sync at) (syncing clock a.next ∷ []) =
     (clock, refl, omega arith) in
     record {
       clock = clock;

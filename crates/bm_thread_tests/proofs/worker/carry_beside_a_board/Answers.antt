@@ -2,7 +2,7 @@ use Rattle.std.proofs.Common.{◌*◌, ◌^◌, List, [], ◌∷◌, sym, subst,
 use Rattle.std.specs.Prelude.{All}
 use Rattle.bm_server.specs.Servings.{Serving}
 use Rattle.bm_worker.specs.declared.worker.MuxWorker.{MuxWorker}
-use Rattle.bm_worker.specs.Deeds.{Suits}
+use Rattle.bm_worker.specs.WorkerNotes.{Suits}
 use Rattle.bm_worker.specs.Phases.{CanWork}
 use Rattle.bm_worker.proofs.SmallRuns.{suits_one}
 use Rattle.bm_thread_tests.proofs.worker.carry_beside_a_board.Goals as goal

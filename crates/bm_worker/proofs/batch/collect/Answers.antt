@@ -7,8 +7,8 @@ use Rattle.bm_worker.proofs.batch.collect.Goals as goal
 pub loop-at-init : goal.loop-at-init
 loop-at-init g c = record {
   at = omega arith;
-  all = collected_new (Gives g.F.Fn c.args.shared.now.faults.now.rule) c.args.shared.now.stage.now
-      c.args.shared.now.routes.now c.args.mux.0 c.args.from
+  all = collected_new (Gives g.F.Fn c.args.shared.now.rule) c.args.shared.now.stage
+      c.args.shared.now.routes c.args.mux.0 c.args.from
       c.in_ok-items.items.items c.in_ok-fates.fates.items c.in_ok-items.ensures.items
       c.in_ok-fates.ensures.items;
 }
@@ -27,8 +27,8 @@ loop-at-preserved g c =
     c.loop-at.items.ok.0 in omega (arith, l, t, n, ok)) in
     record {
       at = let le = i.at in omega (arith, le);
-      all = collected_push (Gives g.F.Fn c.args.shared.now.faults.now.rule) c.args.shared.now.stage.now
-          c.args.shared.now.routes.now c.args.mux.0
+      all = collected_push (Gives g.F.Fn c.args.shared.now.rule) c.args.shared.now.stage
+          c.args.shared.now.routes c.args.mux.0
           c.args.from c.loop-at.at c.loop-at.items.items c.push.new.self.items c.loop-at.fates.items
           c.push-in-loop-at.new.self.items
           c.item_at-item.result c.fate-fate.result c.in_ok-push.ensures.items c.in_ok-push-2.ensures.items i.at few
@@ -39,15 +39,14 @@ loop-at-preserved g c =
 
 pub is_assigned_to-requires : goal.is_assigned_to-requires
 is_assigned_to-requires g c =
-    let many = c.requires.run.count in let until = c.requires.until.1 in let test = c.loop-at-test.true in
-    omega (arith, many, until, test)
+    let until = c.requires.until.1 in let test = c.loop-at-test.true in omega (arith, until, test)
 
 pub loop-at-preserved-then-not-is_assigned_to : goal.loop-at-preserved-then-not-is_assigned_to
 loop-at-preserved-then-not-is_assigned_to g c =
     let i = c.loop-at.invariant in record {
       at = let le = i.at in omega (arith, le);
-      all = collected_skip (Gives g.F.Fn c.args.shared.now.faults.now.rule) c.args.shared.now.stage.now
-          c.args.shared.now.routes.now c.args.mux.0 c.args.from c.loop-at.at c.loop-at.items.items
+      all = collected_skip (Gives g.F.Fn c.args.shared.now.rule) c.args.shared.now.stage
+          c.args.shared.now.routes c.args.mux.0 c.args.from c.loop-at.at c.loop-at.items.items
           c.loop-at.fates.items (sym c.if-not-is_assigned_to.ensures) i.all;
     }
 
@@ -62,6 +61,6 @@ pub returns-clause-all : goal.returns-clause-all
 returns-clause-all g c =
     let test = c.loop-at-test.false in let end = c.loop-at.auto.at-end in
     let over : c.loop-at.at ≡ c.args.until = omega (arith, test, end) in
-    subst (λ (end : ℕ). AreCollected (Gives g.F.Fn c.args.shared.now.faults.now.rule) c.args.shared.now.stage.now
-    c.args.shared.now.routes.now c.args.mux.0 c.args.from end c.loop-at.items.items c.loop-at.fates.items) over
+    subst (λ (end : ℕ). AreCollected (Gives g.F.Fn c.args.shared.now.rule) c.args.shared.now.stage
+    c.args.shared.now.routes c.args.mux.0 c.args.from end c.loop-at.items.items c.loop-at.fates.items) over
     c.loop-at.invariant.all

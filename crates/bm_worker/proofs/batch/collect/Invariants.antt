@@ -6,6 +6,6 @@ use Rattle.bm_worker.proofs.batch.collect.Given as goal
 abbrev pub invariant-loop-at : goal.invariant-loop-at
 invariant-loop-at g l = record {
   at : l.fn.from ≤ l.at;
-  all : AreCollected (Gives g.F.Fn l.shared.faults.now.rule) l.shared.stage.now l.shared.routes.now l.mux.0 l.fn.from
+  all : AreCollected (Gives g.F.Fn l.shared.rule) l.shared.stage l.shared.routes l.mux.0 l.fn.from
       l.at l.items.items l.fates.items;
 }

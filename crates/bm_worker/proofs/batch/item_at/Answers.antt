@@ -1,18 +1,20 @@
-use Rattle.std.proofs.Common.{◌≤◌, sym, subst, ◌∙◌, List, ℕ, length}
-use Rattle.bm_link.specs.Fits.{ReadsAs}
-use Rattle.bm_worker.proofs.Collecting.{packet_of_record, mux_is}
+use Rattle.std.proofs.Common.{◌≡◌, ◌+◌, Some, sym, subst, ◌∙◌, ap}
+use Rattle.bm_core.specs.declared.events.Stage.{Stage}
+use Rattle.bm_core.specs.Past.{segment_of}
+use Rattle.bm_core.specs.Threads.{record_moment}
+use Rattle.bm_worker.proofs.Collecting.{mux_is}
 use Rattle.bm_worker.proofs.batch.item_at.Goals as goal
 
 pub returns-clause-item : goal.returns-clause-item
 returns-clause-item g c =
-    let got = sym c.segment.ensures ∙ c.in-Some.is in
-    let packet =
-    packet_of_record c.args.shared.now.stage.now c.args.shared.now.octets.now c.args.at c.in-Some.segment
-    c.requires.run.packets got in
+    let got : segment_of c.args.shared.now.stage (c.args.at + 1) ≡ Some c.in-Some.segment =
+    subst (λ (s : Stage). segment_of s (c.args.at + 1) ≡ Some c.in-Some.segment) c.stage-stage.ensures.value
+    (sym c.segment.ensures ∙ c.in-Some.is) in
+    let packet = c.octets_at.ensures c.in-Some.segment got in
     record {
       assigned = mux_is c.args.mux.0 _ c.requires.assigned;
-      moment = c.moment_at.ensures;
+      moment = c.moment_at.ensures ∙ ap (λ (s : Stage). record_moment s (c.args.at + 1)) c.stage-stage.ensures.value;
       segment = got;
-      reads = subst (λ (l : List ℕ). ReadsAs l c.in-Some.segment) (sym c.get.ensures) packet.1;
-      short = subst (λ (l : List ℕ). length l ≤ 65479) (sym c.get.ensures) packet.0;
+      reads = packet.1;
+      short = packet.0;
     }

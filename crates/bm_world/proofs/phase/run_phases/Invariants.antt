@@ -1,14 +1,14 @@
 use Rattle.std.proofs.Common.{◌≡◌, length}
 use Rattle.bm_fault.specs.Faults.{Gives}
-use Rattle.bm_world.specs.Inside.Crews.{IsNext, left_of}
+use Rattle.bm_world.specs.Inside.RunStates.{IsNext, left_of}
 use Rattle.bm_world.proofs.phase.run_phases.Given as goal
 
 abbrev pub invariant-loop-next : goal.invariant-loop-next
 invariant-loop-next g l = record {
-  next : IsNext (Gives g.F.Fn l.shared.faults.now.rule) l.shared.stage.now l.shared.servers.now l.shared.routes.now
+  next : IsNext (Gives g.F.Fn l.shared.rule) l.shared.stage l.shared.servers l.shared.routes
       l.poster l.head l.workers l.next;
   count : length l.workers ≡ length l.fn.workers;
 }
 
 abbrev pub decreases-loop-next : goal.decreases-loop-next
-decreases-loop-next g l = left_of l.next l.head.next (length l.shared.stage.now.script.commands)
+decreases-loop-next g l = left_of l.next l.head.next (length l.shared.stage.script.commands)

@@ -2,7 +2,7 @@ use Rattle.std.proofs.Common.{◌≡◌, ◌++◌, ◌+◌, Some, map, take, dro
 use Rattle.std.proofs.lemmas.List.Edits.{map_over_more}
 use Rattle.bm_publish.specs.Posts.{Posted}
 use Rattle.bm_worker.specs.declared.worker.MuxWorker.{MuxWorker}
-use Rattle.bm_world.specs.Inside.Crews.{told_what}
+use Rattle.bm_world.specs.Inside.RunStates.{told_what}
 use Rattle.bm_world.proofs.phase.tell_all.Goals as goal
 
 pub loop-place-preserved : goal.loop-place-preserved

@@ -1,5 +1,5 @@
 use Rattle.std.proofs.Common.{◌≡◌, ◌++◌, map, take, drop}
-use Rattle.bm_world.specs.Inside.Crews.{told_what}
+use Rattle.bm_world.specs.Inside.RunStates.{told_what}
 use Rattle.bm_world.proofs.phase.tell_all.Given as goal
 
 abbrev pub invariant-loop-place : goal.invariant-loop-place

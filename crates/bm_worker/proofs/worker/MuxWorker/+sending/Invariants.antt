@@ -1,16 +1,14 @@
-use Rattle.std.proofs.Common.{◌+◌, ◌*◌, ◌≤◌}
+use Rattle.std.proofs.Common.{◌+◌, ◌*◌}
 use Rattle.bm_core.specs.Inside.Weights.{hop_weight}
 use Rattle.bm_fault.specs.Faults.{Gives}
-use Rattle.bm_worker.specs.Inside.Debts.{GrowsByLosses, HasCarried, IsSameWorker, copy_lost, debt}
+use Rattle.bm_worker.specs.Inside.Pending.{HasCarried, HasSent, copy_lost, pending}
 use Rattle.bm_worker.proofs.worker.MuxWorker.+sending.Given as goal
 
 abbrev pub invariant-send-loop : goal.invariant-send-loop
 invariant-send-loop g l = record {
-  same : IsSameWorker l.fn.self l.self;
-  grows : GrowsByLosses (copy_lost l.fn.sending.hop * l.counter) l.fn.self.mux.log l.self.mux.log;
-  tries : l.self.porter.tries ≤ l.fn.self.porter.tries + hop_weight l.fn.sending.hop * l.counter;
-  carried : HasCarried (Gives g.F.Fn l.shared.faults.now.rule) l.shared.stage.now l.shared.servers.now
-      (debt l.fn.sending.packet l.fn.sending.hop l.fn.sending.clock.0 l.fn.sending.fate) l.counter
+  sent : HasSent (copy_lost l.fn.sending.hop * l.counter) (hop_weight l.fn.sending.hop * l.counter) l.fn.self l.self;
+  carried : HasCarried (Gives g.F.Fn l.shared.rule) l.shared.stage l.shared.servers
+      (pending l.fn.sending.packet l.fn.sending.hop l.fn.sending.clock.0 l.fn.sending.fate) l.counter
       (hop_weight l.fn.sending.hop * l.counter) l.fn.self l.self;
 }
 

@@ -4,7 +4,7 @@ use Rattle.bm_merge.specs.Notes.{Note}
 use Rattle.bm_publish.specs.Posts.{Posted}
 use Rattle.bm_mux.specs.Muxes.{IsSameMux}
 use Rattle.bm_worker.specs.Inside.Batches.{IsDoneTo}
-use Rattle.bm_worker.specs.Deeds.{IsSamePorter}
+use Rattle.bm_worker.specs.WorkerNotes.{IsSameCaller}
 use Rattle.bm_worker.specs.Phases.{stint_of}
 use Rattle.bm_worker.proofs.worker.MuxWorker.carry_phase.Given as goal
 
@@ -13,13 +13,13 @@ invariant-loop-next g l = record {
   from : l.span.from ≤ l.next;
   until : l.next ≤ l.span.until;
   mux : IsSameMux l.fn.self.mux l.self.mux;
-  porter : IsSamePorter l.fn.self.porter l.self.porter;
-  tries : l.self.porter.tries ≤ l.fn.self.porter.tries + 39 * (l.next - l.span.from);
+  caller : IsSameCaller l.fn.self.caller l.self.caller;
+  tries : l.self.caller.tries ≤ l.fn.self.caller.tries + 39 * (l.next - l.span.from);
   steps : l.self.steps ≤ l.fn.self.steps + (l.next - l.span.from);
   log : length l.self.mux.log ≤ length l.fn.self.mux.log + 11 * (l.next - l.span.from) + 1;
   done : (told : Posted) → l.fn.self.told ≡ Some told → (d : List Note)
-      × IsDoneTo (Gives g.F.Fn l.shared.faults.now.rule) l.shared.stage.now l.shared.servers.now
-      (stint_of l.shared.routes.now l.span told l.fn.self) l.self l.next d;
+      × IsDoneTo (Gives g.F.Fn l.shared.rule) l.shared.stage l.shared.servers
+      (stint_of l.shared.routes l.span told l.fn.self) l.self l.next d;
 }
 
 abbrev pub decreases-loop-next : goal.decreases-loop-next

@@ -1,0 +1,118 @@
+//! The workers of the muxes, before the first phase and after the last.
+ghost use Rattle.std.specs.Prelude.{◌≡◌, ℕ, ◌+◌, ◌<◌, ◌≤◌, ◌∷◌, length, map, slice_get, Some, All};
+ghost use Rattle.std.specs.Prelude.{List as Items, IfOk, OnOk};
+ghost use Rattle.bm_mux.specs.Muxes.{HasServers};
+ghost use Rattle.bm_rows.specs.Rows.{items_of};
+ghost use Rattle.bm_server.specs.Seats.{Seated};
+ghost use Rattle.bm_world.specs.Inside.RunStates.{HasSeenAll, HaveNoTurns, IsNewWorker, rows_of};
+
+use crate::servers::Rows;
+use bm_base::{List, Memory, MuxId};
+use bm_core::Log;
+use bm_lead::Head;
+use bm_mux::Mux;
+use bm_publish::{Look, Poster, Told};
+use bm_rows::front;
+use bm_server::ServerSeat;
+use bm_worker::{Caller, MuxWorker};
+use std::alloc::Global;
+
+/// The worker of a mux before its first phase. Takes no memory.
+fn make_worker(
+    alloc: Global,
+    mux: u16,
+    look: Look,
+    buckets: u32,
+    seats: Vec<ServerSeat>,
+) -> MuxWorker
+    requires mux { mux < 64 }
+    requires look { (buckets ≡ look.plan.buckets) × HasServers look.plan }
+    requires seats { HaveNoTurns seats.items }
+    ensures { IsNewWorker look seats.items mux result }
+{
+    MuxWorker {
+        mux: Mux::new(alloc, MuxId(mux), look, buckets),
+        caller: Caller::new(mux + 1, seats),
+        steps: 0,
+        told: None,
+        stop: None,
+    }
+}
+
+/// A worker for each mux, with its look and its row of seats.
+pub(crate) fn make_workers(
+    alloc: Global,
+    buckets: u32,
+    looks: Vec<Look>,
+    rows: Rows,
+) -> Result<Vec<MuxWorker>, Memory>
+    requires few { length rows.items ≤ 64 }
+    requires count { length looks.items ≡ length rows.items }
+    requires looks { All (λ look. (buckets ≡ look.plan.buckets) × HasServers look.plan)
+        looks.items }
+    requires rows { All HaveNoTurns (items_of rows.items) }
+    ensures count { IfOk result (λ workers. length workers.items ≡ length rows.items) }
+    ensures each { IfOk result (λ workers. (m : ℕ) (look : _) (seats : Items (Items Seated)) (w : _)
+        → slice_get looks.items m ≡ Some look → slice_get (items_of rows.items) m ≡ Some seats
+        → slice_get workers.items m ≡ Some w → IsNewWorker look seats m w) }
+{
+    let mut workers = Vec::new(alloc);
+    let mut left = looks;
+    let mut rest = rows;
+    let mut mux = 0u16;
+    'each: while !left.is_empty() {
+        let (look, more) = front(left);
+        let (seats, others) = front(rest);
+        workers.push(make_worker(alloc, mux, look, buckets, seats))?;
+        left = more;
+        rest = others;
+        mux += 1;
+    }
+    Ok(workers)
+}
+
+/// What a mux's worker gives back: the mux's log, once it has learned what was posted and looked,
+/// and the worker's seats.
+fn part(worker: MuxWorker, told: Told) -> Result<(Log, Vec<ServerSeat>), Memory>
+    requires { told.board ≡ worker.mux.seen.board }
+    ensures log { IfOk result (λ parts. parts.0 ≡ worker.mux.log) }
+    ensures seats { IfOk result (λ parts. parts.1.items ≡ worker.caller.seats) }
+    ensures shown { OnOk result (HasSeenAll told worker) }
+{
+    let MuxWorker { mux, caller, .. } = worker;
+    let log = mux.into_log(told)?;
+    Ok((log, caller.into_seats()))
+}
+
+/// What the workers give back: the logs of the controller and of the muxes, and each worker's
+/// seats. Each mux looks once more, at all that is posted.
+pub(crate) fn take_apart(
+    alloc: Global,
+    poster: &Poster,
+    head: Head,
+    workers: Vec<MuxWorker>,
+) -> Result<(Vec<Log>, Rows), Memory>
+    requires boards { (m : ℕ) (w : _) → slice_get workers.items m ≡ Some w
+        → w.mux.seen.board ≡ poster.now.board }
+    ensures logs { IfOk result
+        (λ back. back.0.items ≡ head.log.items ∷ map (λ w. w.mux.log) workers.items) }
+    ensures rows { IfOk result
+        (λ back. items_of back.1.items ≡ rows_of head.caller.seats workers.items) }
+    ensures shown { OnOk result ((m : ℕ) (w : _) → slice_get workers.items m ≡ Some w
+        → HasSeenAll poster.now w) }
+{
+    let Head { caller, log, .. } = head;
+    let mut logs = Vec::new(alloc);
+    let mut rows = Vec::new(alloc);
+    logs.push(List::of(log))?;
+    rows.push(caller.into_seats())?;
+    let mut rest = workers;
+    while !rest.is_empty() {
+        let (worker, others) = front(rest);
+        let (log, seats) = part(worker, poster.tell())?;
+        logs.push(log)?;
+        rows.push(seats)?;
+        rest = others;
+    }
+    Ok((logs, rows))
+}
