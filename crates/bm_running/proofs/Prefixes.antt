@@ -1,7 +1,8 @@
 -- The beginnings of a run are runs.
 use mathlib.Core.List.{reverse_aux}
-use Rattle.std.proofs.Common.{ℕ, zero, suc, ◌+◌, ◌<◌, ◌≤◌, List, [], ◌∷◌, length, get_or, arith, subst}
+use Rattle.std.proofs.Common.{ℕ, zero, suc, ◌+◌, ◌^◌, ◌<◌, ◌≤◌, List, [], ◌∷◌, length, get_or, arith, subst}
 use Rattle.std.specs.Prelude.{reverse, take}
+use Rattle.std.proofs.lemmas.List.{length-reverse, length-take-le}
 use Rattle.bm_core.specs.declared.events.Event.{Event}
 use Rattle.bm_core.specs.declared.events.Stage.{Stage}
 use Rattle.bm_core.specs.Runs.{IsStep, Run}
@@ -36,3 +37,11 @@ first_bad stage events place d below run bad = (
       in bad is.0,
   λ m early no. no (run_begins stage events [] m place (omega arith) run),
 )
+
+-- fewer events came before one of them
+pub few_before : (events : List Event) (place : ℕ) → place < length events → length events < 2 ^ 63
+    → length (reverse (take place events)) < 2 ^ 63
+few_before events place below few =
+    let all = length-reverse (take place events)
+    in let first = length-take-le place events (omega (arith, below))
+    in omega (arith, all, first, below, few)

@@ -29,8 +29,9 @@ use Rattle.bm_shard.specs.States.{State, known_in}
 use Rattle.bm_shard.specs.declared.book.Shard.{Shard}
 use Rattle.bm_shard.specs.declared.calls.ShardCall.{ShardCall}
 use Rattle.bm_state.specs.declared.shard_key.ShardKey.{ShardKey}
+use Rattle.bm_state.specs.Inside.Retirements.{same_key}
 use Rattle.bm_running.specs.declared.shards.Shards.{Shards}
-use Rattle.bm_running.specs.Inside.Shards.{IsServedAt, IsShardOf, KeepsShards, same_key, server_of, state_in}
+use Rattle.bm_running.specs.Inside.Shards.{IsServedAt, IsShardOf, KeepsShards, server_of, state_in}
 
 same_key-true : (a b : ShardKey) → same_key a b ≡ true → a ≡ b
 same_key-true a b e =

@@ -1,5 +1,5 @@
 //! What is known of the events so far, by which it is decided whether another may come.
-ghost use Rattle.std.specs.Prelude.{◌≡◌, [], ◌∷◌, List, IfOk, MatchBool, OnOk, reverse, true};
+ghost use Rattle.std.specs.Prelude.{◌≡◌, [], ◌∷◌, List, IfOk, MatchBool, OnOk, true};
 ghost use Rattle.std.specs.Prelude.{◌<◌, ◌^◌, ℕ, length};
 ghost use Rattle.std.specs.Bool.{Decides};
 ghost use Rattle.bm_core.specs.Past.{newest};
@@ -8,6 +8,7 @@ ghost use Rattle.bm_state.specs.Moves.{AreMoves};
 ghost use Rattle.bm_running.specs.Inside.Leaves.{KeepsLeaves};
 ghost use Rattle.bm_core.specs.Stages.{IsSound};
 ghost use Rattle.bm_core.specs.declared.events.Event.{Event};
+ghost use Rattle.bm_core.specs.declared.events.Stage.{Stage};
 ghost use Rattle.bm_running.specs.Inside.Shards.{KeepsShards};
 
 use crate::decisions::{is_answer, is_verdict};
@@ -47,49 +48,38 @@ impl Known {
             tallies: Tallies::new(alloc),
             losses: Losses::new(alloc),
             shards: Shards::new(alloc),
-            leaves: Leaves::new(alloc, &stage.script.plan),
+            leaves: Leaves::new(alloc),
         })
     }
 
-    fn may_publish(&self, stage: &Stage, events: &[Event], version: Version) -> bool
-        requires knows { Knows stage.now (reverse events.now) self.now }
-        ensures { (clock : ℕ) → Decides result
-            (MayCome stage.now (reverse events.now) clock (What.Publish version)) }
+    fn may_publish(&self, stage: &Stage, version: Version) -> bool
+        ensures { (past : List Event) (clock : ℕ) → Knows stage.now past self.now
+            → Decides result (MayCome stage.now past clock (What.Publish version)) }
     {
         0 < version.0
             && version.0 - 1 == self.versions.newest().0
             && version.0 <= stage.script.plan.versions()
     }
 
-    fn may_switch(&self, stage: &Stage, events: &[Event], mux: MuxId, version: Version) -> bool
-        requires knows { Knows stage.now (reverse events.now) self.now }
-        ensures { (clock : ℕ) → Decides result
-            (MayCome stage.now (reverse events.now) clock (What.Switch mux version)) }
+    fn may_switch(&self, stage: &Stage, mux: MuxId, version: Version) -> bool
+        ensures { (past : List Event) (clock : ℕ) → Knows stage.now past self.now
+            → Decides result (MayCome stage.now past clock (What.Switch mux version)) }
     {
         mux.0 < stage.script.setting.muxes && version.0 <= self.versions.newest().0
     }
 
-    fn may_steer(&self, stage: &Stage, events: &[Event], packet: u32, mux: MuxId) -> bool
-        requires knows { Knows stage.now (reverse events.now) self.now }
-        ensures { (clock : ℕ) → Decides result
-            (MayCome stage.now (reverse events.now) clock (What.Steer packet mux)) }
+    fn may_steer(&self, stage: &Stage, packet: u32, mux: MuxId) -> bool
+        ensures { (past : List Event) (clock : ℕ) → Knows stage.now past self.now
+            → Decides result (MayCome stage.now past clock (What.Steer packet mux)) }
     {
         mux.0 < stage.script.setting.muxes
             && !self.tallies.is_sent(packet, Hop::Direct)
             && stage.segment(packet).is_some()
     }
 
-    fn may_lose(
-        &self,
-        stage: &Stage,
-        events: &[Event],
-        clock: Moment,
-        packet: u32,
-        hop: Hop,
-    ) -> bool
-        requires knows { Knows stage.now (reverse events.now) self.now }
-        ensures { Decides result
-            (MayCome stage.now (reverse events.now) clock.0 (What.Lose packet hop)) }
+    fn may_lose(&self, clock: Moment, packet: u32, hop: Hop) -> bool
+        ensures { (stage : Stage) (past : List Event) → Knows stage past self.now
+            → Decides result (MayCome stage past clock.0 (What.Lose packet hop)) }
     {
         0 < clock.0 && self.losses.is_sent_at(packet, hop, Moment(clock.0 - 1))
     }
@@ -99,7 +89,6 @@ impl Known {
         &mut self,
         alloc: Global,
         stage: &Stage,
-        events: &[Event],
         clock: Moment,
         packet: u32,
         hop: Hop,
@@ -107,13 +96,13 @@ impl Known {
         verdict: Verdict,
     ) -> Result<bool, Memory>
         requires sound { IsSound stage.now }
-        requires knows { Knows stage.now (reverse events.now) self.old }
-        ensures decides { IfOk result (λ may. Decides may
-            (MayCome stage.now (reverse events.now) clock.0
-            (What.Arrive packet hop server verdict))) }
-        ensures shards { (e : Event) → e.what ≡ What.Arrive packet hop server verdict
-            → IfOk result (λ may. may ≡ true
-            → KeepsShards stage.now (e ∷ reverse events.now) self.new.shards) }
+        requires moves { AreMoves stage.now.script.plan self.old.moves }
+        ensures decides { (past : List Event) → Knows stage.now past self.old
+            → IfOk result (λ may. Decides may
+            (MayCome stage.now past clock.0 (What.Arrive packet hop server verdict))) }
+        ensures shards { (past : List Event) (e : Event) → Knows stage.now past self.old
+            → e.what ≡ What.Arrive packet hop server verdict → IfOk result (λ may. may ≡ true
+            → KeepsShards stage.now (e ∷ past) self.new.shards) }
         ensures others { OnOk result (self.new ≡ record self.old { shards = self.new.shards }) }
     {
         let Some(segment) = stage.segment(packet) else {
@@ -140,19 +129,18 @@ impl Known {
         &mut self,
         alloc: Global,
         stage: &Stage,
-        events: &[Event],
         clock: Moment,
         server: ServerId,
         flow: Flow,
         closed: bool,
     ) -> Result<bool, Memory>
-        requires sound { IsSound stage.now }
-        requires knows { Knows stage.now (reverse events.now) self.old }
-        ensures decides { IfOk result (λ may. Decides may
-            (MayCome stage.now (reverse events.now) clock.0 (What.Close server flow closed))) }
-        ensures shards { (e : Event) → e.what ≡ What.Close server flow closed
-            → IfOk result (λ may. may ≡ true
-            → KeepsShards stage.now (e ∷ reverse events.now) self.new.shards) }
+        requires { IsSound stage.now }
+        ensures decides { (past : List Event) → Knows stage.now past self.old
+            → IfOk result (λ may. Decides may
+            (MayCome stage.now past clock.0 (What.Close server flow closed))) }
+        ensures shards { (past : List Event) (e : Event) → Knows stage.now past self.old
+            → e.what ≡ What.Close server flow closed → IfOk result (λ may. may ≡ true
+            → KeepsShards stage.now (e ∷ past) self.new.shards) }
         ensures others { OnOk result (self.new ≡ record self.old { shards = self.new.shards }) }
     {
         let given = self.shards.close(alloc, stage, clock, server, flow)?;
@@ -164,27 +152,23 @@ impl Known {
         &mut self,
         alloc: Global,
         stage: &Stage,
-        events: &[Event],
         clock: Moment,
         server: ServerId,
         shard: u16,
         at: Moment,
         answer: Retirement,
     ) -> Result<bool, Memory>
-        requires sound { IsSound stage.now }
-        requires knows { Knows stage.now (reverse events.now) self.old }
-        ensures decides { IfOk result (λ may. Decides may
-            (MayCome stage.now (reverse events.now) clock.0
-            (What.Retire server shard at answer))) }
-        ensures shards { (e : Event) → e.what ≡ What.Retire server shard at answer
-            → IfOk result (λ may. may ≡ true
-            → KeepsShards stage.now (e ∷ reverse events.now) self.new.shards) }
+        requires { IsSound stage.now }
+        ensures decides { (past : List Event) → Knows stage.now past self.old
+            → IfOk result (λ may. Decides may
+            (MayCome stage.now past clock.0 (What.Retire server shard at answer))) }
+        ensures shards { (past : List Event) (e : Event) → Knows stage.now past self.old
+            → e.what ≡ What.Retire server shard at answer → IfOk result (λ may. may ≡ true
+            → KeepsShards stage.now (e ∷ past) self.new.shards) }
         ensures others { OnOk result (self.new ≡ record self.old { shards = self.new.shards }) }
     {
-        let newest = self.versions.newest();
         let timeout = stage.script.setting.timeout;
-        let plan = &stage.script.plan;
-        let due = self.leaves.retirement(plan, newest.0, server, at, timeout);
+        let due = self.leaves.retirement(server, at, timeout);
         self.shards
             .retire(alloc, stage, clock, server, shard, answer)?;
         Ok(at.0 < clock.0 && is_answer(answer, due))
@@ -192,63 +176,52 @@ impl Known {
 
     /// Whether what the event says may come next. If so, its shard has been asked.
     #[tactic(auto, using(crate::proofs::Serving::still_keeps))]
-    fn may_come(
-        &mut self,
-        alloc: Global,
-        stage: &Stage,
-        events: &[Event],
-        event: &Event,
-    ) -> Result<bool, Memory>
+    fn may_come(&mut self, alloc: Global, stage: &Stage, event: &Event) -> Result<bool, Memory>
         requires sound { IsSound stage.now }
-        requires knows { Knows stage.now (reverse events.now) self.old }
-        ensures decides { IfOk result (λ may. Decides may
-            (MayCome stage.now (reverse events.now) event.now.clock.0 event.now.what)) }
-        ensures shards { IfOk result (λ may. may ≡ true
-            → KeepsShards stage.now (event.now ∷ reverse events.now) self.new.shards) }
+        requires moves { AreMoves stage.now.script.plan self.old.moves }
+        ensures decides { (past : List Event) → Knows stage.now past self.old
+            → IfOk result (λ may. Decides may
+            (MayCome stage.now past event.now.clock.0 event.now.what)) }
+        ensures shards { (past : List Event) → Knows stage.now past self.old
+            → IfOk result (λ may. may ≡ true
+            → KeepsShards stage.now (event.now ∷ past) self.new.shards) }
         ensures others { OnOk result (self.new ≡ record self.old { shards = self.new.shards }) }
     {
         let clock = event.clock;
         match event.what {
-            What::Publish(version) => Ok(self.may_publish(stage, events, version)),
-            What::Switch { mux, version } => Ok(self.may_switch(stage, events, mux, version)),
-            What::Steer { packet, mux } => Ok(self.may_steer(stage, events, packet, mux)),
-            What::Lose { packet, hop } => Ok(self.may_lose(stage, events, clock, packet, hop)),
+            What::Publish(version) => Ok(self.may_publish(stage, version)),
+            What::Switch { mux, version } => Ok(self.may_switch(stage, mux, version)),
+            What::Steer { packet, mux } => Ok(self.may_steer(stage, packet, mux)),
+            What::Lose { packet, hop } => Ok(self.may_lose(clock, packet, hop)),
             What::Arrive {
                 packet,
                 hop,
                 server,
                 verdict,
-            } => self.may_arrive(alloc, stage, events, clock, packet, hop, server, verdict),
+            } => self.may_arrive(alloc, stage, clock, packet, hop, server, verdict),
             What::Close {
                 server,
                 flow,
                 closed,
-            } => self.may_close(alloc, stage, events, clock, server, flow, closed),
+            } => self.may_close(alloc, stage, clock, server, flow, closed),
             What::Retire {
                 server,
                 shard,
                 at,
                 result,
-            } => self.may_retire(alloc, stage, events, clock, server, shard, at, result),
+            } => self.may_retire(alloc, stage, clock, server, shard, at, result),
             What::Sync => Ok(true),
         }
     }
 
     /// Records what buckets leave by the version, if one is published.
     #[tactic(auto, using(crate::proofs::Leaving::still_newest))]
-    fn note_leaves(
-        &mut self,
-        alloc: Global,
-        stage: &Stage,
-        events: &[Event],
-        event: &Event,
-    ) -> Result<(), Memory>
-        requires moves { AreMoves stage.now.script.plan self.old.moves }
-        requires keeps { KeepsLeaves stage.now.script.plan (newest (reverse events.now))
-            self.old.leaves }
-        requires may { MayCome stage.now (reverse events.now) event.now.clock.0 event.now.what }
-        ensures keeps { OnOk result (KeepsLeaves stage.now.script.plan
-            (newest (event.now ∷ reverse events.now)) self.new.leaves) }
+    fn note_leaves(&mut self, alloc: Global, stage: &Stage, event: &Event) -> Result<(), Memory>
+        requires { AreMoves stage.now.script.plan self.old.moves }
+        ensures keeps { (past : List Event)
+            → KeepsLeaves stage.now.script.plan (newest past) self.old.leaves
+            → MayCome stage.now past event.now.clock.0 event.now.what → OnOk result
+            (KeepsLeaves stage.now.script.plan (newest (event.now ∷ past)) self.new.leaves) }
         ensures others { OnOk result (self.new ≡ record self.old { leaves = self.new.leaves }) }
     {
         match event.what {
@@ -268,31 +241,29 @@ impl Known {
         }
     }
 
-    /// Whether the event may come after these, which are a run. If so, it is known. Takes time in
+    /// Whether the event may come after those that are known. If so, it is known too. Takes time in
     /// proportion to the logarithm of the number of events and of moves; a Publish takes that for
     /// each of its moves.
     pub(crate) fn step(
         &mut self,
         alloc: Global,
         stage: &Stage,
-        events: &[Event],
         event: &Event,
     ) -> Result<bool, Memory>
         requires sound { IsSound stage.now }
-        requires few { length events.now < 2 ^ 63 }
-        requires knows { Knows stage.now (reverse events.now) self.old }
-        ensures { IfOk result (λ may. MatchBool may
-            (Knows stage.now (event.now ∷ reverse events.now) self.new)
-            (IsStep stage.now (reverse events.now) event.now → ⊥)) }
+        requires moves { AreMoves stage.now.script.plan self.old.moves }
+        ensures { (past : List Event) → length past < 2 ^ 63 → Knows stage.now past self.old
+            → IfOk result (λ may. MatchBool may (Knows stage.now (event.now ∷ past) self.new)
+            (IsStep stage.now past event.now → ⊥)) }
     {
         let author = author_of(stage, event.what);
         if !self.clocks.allow(author, event.clock) {
             return Ok(false);
         }
-        if !self.may_come(alloc, stage, events, event)? {
+        if !self.may_come(alloc, stage, event)? {
             return Ok(false);
         }
-        self.note_leaves(alloc, stage, events, event)?;
+        self.note_leaves(alloc, stage, event)?;
         self.clocks.note(author, event.clock)?;
         self.labels.note(&self.versions, event.what);
         self.versions.note(event.what)?;

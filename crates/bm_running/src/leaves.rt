@@ -5,6 +5,7 @@ ghost use Rattle.std.specs.BTreeMap as tree;
 ghost use Rattle.std.specs.BTreeSet as set;
 ghost use Rattle.std.specs.Ordering.{nat_cmp};
 ghost use Rattle.bm_state.specs.Moves.{AreMoves};
+ghost use Rattle.bm_table.specs.Planned.{Planned};
 ghost use Rattle.bm_table.specs.Plans.{IsPlan};
 ghost use Rattle.bm_table.specs.Tables as tables;
 ghost use Rattle.bm_table.specs.Tables.{IsRetirement};
@@ -26,8 +27,7 @@ pub(crate) struct Leave {
 
 /// The first of these buckets that left at this moment or later.
 fn first_since(leaves: &[Leave], since: u64) -> Option<u32>
-    requires { Rises 0 0 leaves.now }
-    ensures { result ≡ first_since leaves.now since }
+    ensures { Rises 0 0 leaves.now → result ≡ first_since leaves.now since }
 {
     let place = leaves.partition_point(|l| l.moment < since);
     if place < leaves.len() {
@@ -39,17 +39,16 @@ fn first_since(leaves: &[Leave], since: u64) -> Option<u32>
 
 /// How many of these buckets are below another.
 fn count_below(leaves: &[Leave], bucket: u32) -> usize
-    requires { Rises 0 0 leaves.now }
     ensures few { result ≤ length leaves.now }
-    ensures below { take result leaves.now ≡ below bucket leaves.now }
+    ensures below { Rises 0 0 leaves.now → take result leaves.now ≡ below bucket leaves.now }
 {
     leaves.partition_point(|l| l.bucket < bucket)
 }
 
 /// Adds a bucket that leaves now, in place of those that aren't below it.
 fn put_leave(leaves: &mut Vec<Leave>, leave: Leave) -> Result<(), Memory>
-    requires { Rises 0 0 leaves.old.items }
-    ensures { OnOk result (leaves.new.items ≡ with_leave leave leaves.old.items) }
+    ensures { Rises 0 0 leaves.old.items
+        → OnOk result (leaves.new.items ≡ with_leave leave leaves.old.items) }
 {
     let count = count_below(leaves.as_slice(), leave.bucket);
     leaves.truncate(count);
@@ -70,8 +69,8 @@ impl Leaves {
     ghost use Rattle.bm_running.specs.Inside.Leaves.{KeepsLeaves, is_kept};
 
     /// By the first table.
-    pub(crate) fn new(alloc: Global, plan: &Plan) -> Leaves
-        ensures { KeepsLeaves plan.now 0 result }
+    pub(crate) fn new(alloc: Global) -> Leaves
+        ensures { (plan : Planned) → KeepsLeaves plan 0 result }
     {
         Leaves {
             drained: BTreeSet::new(alloc),
@@ -104,8 +103,8 @@ impl Leaves {
 
     /// A bucket leaves the server.
     fn leave(&mut self, alloc: Global, server: ServerId, leave: Leave) -> Result<(), Memory>
-        requires { Rises 0 0 (listed (tree.get nat_cmp self.old.left server.0)) }
-        ensures left { OnOk result ((q : ℕ) → listed (tree.get nat_cmp self.new.left q)
+        ensures left { Rises 0 0 (listed (tree.get nat_cmp self.old.left server.0))
+            → OnOk result ((q : ℕ) → listed (tree.get nat_cmp self.new.left q)
             ≡ (if server.0 == q then with_leave leave (listed (tree.get nat_cmp self.old.left q))
             else listed (tree.get nat_cmp self.old.left q))) }
         ensures drained { self.new.drained ≡ self.old.drained }
@@ -131,9 +130,9 @@ impl Leaves {
             ≡ tables.change_moment (tables.next_change plan.now changes) }
         requires range { All (λ m. m.bucket < plan.now.buckets) list.now }
         requires moves { AreMoves plan.now moves.now }
-        requires left { (s : ℕ) → AreLeft plan.now changes (take 0 list.now) s
-            (listed (tree.get nat_cmp self.old.left s)) }
-        ensures left { OnOk result ((s : ℕ) → AreLeft plan.now changes list.now s
+        ensures left { ((s : ℕ) → AreLeft plan.now changes (take 0 list.now) s
+            (listed (tree.get nat_cmp self.old.left s)))
+            → OnOk result ((s : ℕ) → AreLeft plan.now changes list.now s
             (listed (tree.get nat_cmp self.new.left s))) }
         ensures drained { self.new.drained ≡ self.old.drained }
     {
@@ -165,10 +164,9 @@ impl Leaves {
         moves: &Moves,
         changes: u32,
     ) -> Result<(), Memory>
-        requires within { changes < length plan.now.changes }
-        requires moves { AreMoves plan.now moves.now }
-        requires keeps { KeepsLeaves plan.now changes self.old }
-        ensures { OnOk result (KeepsLeaves plan.now (suc changes) self.new) }
+        requires { AreMoves plan.now moves.now }
+        ensures { changes < length plan.now.changes → KeepsLeaves plan.now changes self.old
+            → OnOk result (KeepsLeaves plan.now (suc changes) self.new) }
     {
         if plan.versions() <= changes {
             return Ok(());
@@ -184,16 +182,9 @@ impl Leaves {
 
     /// Whether the server may retire at this moment. Takes time in proportion to the logarithm of
     /// the number of moves.
-    pub(crate) fn retirement(
-        &self,
-        plan: &Plan,
-        changes: u32,
-        server: ServerId,
-        at: Moment,
-        timeout: u64,
-    ) -> Retirement
-        requires { KeepsLeaves plan.now changes self.now }
-        ensures { IsRetirement plan.now timeout changes server at.0 result }
+    pub(crate) fn retirement(&self, server: ServerId, at: Moment, timeout: u64) -> Retirement
+        ensures { (plan : Planned) (changes : ℕ) → KeepsLeaves plan changes self.now
+            → IsRetirement plan timeout changes server at.0 result }
     {
         if !self.drained.contains(&server.0) {
             return Retirement::NotDrained;
@@ -205,8 +196,8 @@ impl Leaves {
     }
 
     fn first_left(&self, server: ServerId, since: u64) -> Option<u32>
-        requires { Rises 0 0 (listed (tree.get nat_cmp self.now.left server.0)) }
-        ensures { result ≡ first_since (listed (tree.get nat_cmp self.now.left server.0)) since }
+        ensures { Rises 0 0 (listed (tree.get nat_cmp self.now.left server.0))
+            → result ≡ first_since (listed (tree.get nat_cmp self.now.left server.0)) since }
     {
         match self.left.get(&server.0) {
             Some(list) => first_since(list.as_slice(), since),

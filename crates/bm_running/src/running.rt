@@ -24,8 +24,8 @@ pub fn follow(alloc: Global, stage: &Stage, events: &[Event]) -> Result<Followed
     ensures { IfOk result (IsFollowed stage.now events.now) }
 {
     let mut known = Known::new(alloc, stage)?;
-    for place in 0..events.len() {
-        if !known.step(alloc, stage, &events[..place], &events[place])? {
+    for (place, event) in events.iter().enumerate() {
+        if !known.step(alloc, stage, event)? {
             return Ok(Followed::Stops(place + 1));
         }
     }

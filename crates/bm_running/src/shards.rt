@@ -47,7 +47,7 @@ pub(crate) struct Shards {
 }
 
 impl Shards {
-    ghost use Rattle.bm_running.specs.Inside.Shards.{IsServedAt, KeepsShards, same_key, state_in};
+    ghost use Rattle.bm_running.specs.Inside.Shards.{IsServedAt, KeepsShards, state_in};
 
     /// Before the first event.
     pub(crate) fn new(alloc: Global) -> Shards

@@ -1,5 +1,5 @@
 -- What is kept of the shards of all servers.
-use Rattle.std.specs.Prelude.{◌≡◌, ℕ, Bool, ◌&&◌, ◌==◌, if◌then◌else◌, List, unwrap_or}
+use Rattle.std.specs.Prelude.{◌≡◌, ℕ, if◌then◌else◌, List, unwrap_or}
 use Rattle.std.specs.BTreeMap as tree
 use Rattle.bm_base.specs.declared.ids.Moment.{Moment}
 use Rattle.bm_base.specs.declared.ids.ServerId.{ServerId}
@@ -13,10 +13,8 @@ use Rattle.bm_shard.specs.declared.calls.ShardCall.{ShardCall}
 use Rattle.bm_table.specs.declared.setting.Setting.{Setting}
 use Rattle.bm_state.specs.contracts.shard_key.ShardKeyOrd.TheImpl as key_order
 use Rattle.bm_state.specs.declared.shard_key.ShardKey.{ShardKey}
+use Rattle.bm_state.specs.Inside.Retirements.{same_key}
 use Rattle.bm_running.specs.declared.shards.Shards.{Shards}
-
-abbrev pub same_key : ShardKey → ShardKey → Bool
-same_key a b = a.server == b.server && a.shard == b.shard
 
 -- the key's server
 abbrev pub server_of : ShardKey → ServerId

@@ -10,5 +10,5 @@ returns c = record {
   tallies = c.new-5.ensures;
   losses = c.new-6.ensures;
   shards = c.new-7.ensures c.args.stage.now;
-  leaves = c.new-8.ensures;
+  leaves = c.new-8.ensures c.args.stage.now.script.plan;
 }

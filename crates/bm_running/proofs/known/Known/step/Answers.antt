@@ -1,6 +1,5 @@
-use Rattle.std.proofs.Common.{◌<◌, ◌^◌, ◌∷◌, arith, length, refl, subst, sym}
-use Rattle.std.specs.Prelude.{reverse}
-use Rattle.std.proofs.lemmas.List.{length-reverse}
+use Rattle.std.proofs.Common.{◌∷◌, refl, subst, sym}
+use Rattle.bm_core.specs.Past.{newest}
 use Rattle.bm_state.specs.Clocks.{KeepsClocks}
 use Rattle.bm_state.specs.Labels.{KeepsLabels}
 use Rattle.bm_state.specs.Moves.{AreMoves}
@@ -8,15 +7,14 @@ use Rattle.bm_state.specs.Losses.{KeepsLosses}
 use Rattle.bm_state.specs.Tallies.{KeepsTallies}
 use Rattle.bm_state.specs.Versions.{KeepsVersions}
 use Rattle.bm_running.specs.declared.known.Known.{Known}
+use Rattle.bm_running.specs.Inside.Leaves.{KeepsLeaves}
 use Rattle.bm_running.specs.Inside.Shards.{KeepsShards}
 use Rattle.bm_running.proofs.known.Known.step.Goals as goal
 
 pub returns : goal.returns
-returns c =
+returns c past few knows =
     let stage = c.args.stage.now
-    in let past = reverse c.args.events.now
     in let e = c.args.event.now
-    in let knows = c.requires.knows
     in let author = c.author_of-author.ensures
     in let on_time = (c.allow.ensures stage past e knows.clocks author refl).0 c.if-not-allow.false
     in let came = c.if-not-branch.false
@@ -28,11 +26,11 @@ returns c =
     in let losses = subst (λ (k : Known). KeepsLosses past k.losses) same knows.losses
     in let moves = subst (λ (k : Known). AreMoves stage.script.plan k.moves) same knows.moves
     in let noted = sym c.in_ok-note_leaves.ensures.others
-    in let few : length past < 2 ^ 63 =
-    (let all = length-reverse c.args.events.now in let limit = c.requires.few in omega (arith, all, limit))
+    in let decides = c.in_ok-may_come.ensures.decides past knows
+    in let may = decides.0 came
     in record {
       run = (
-        record { clock = on_time.0; own = on_time.1; may = c.in_ok-may_come.ensures.decides.0 came },
+        record { clock = on_time.0; own = on_time.1; may = may },
         knows.run,
       );
       clocks =
@@ -48,6 +46,9 @@ returns c =
           c.in_ok-note-3.ensures past e refl few (subst (λ (k : Known). KeepsTallies past k.tallies) noted tallies);
       losses = c.in_ok-note-4.ensures past few (subst (λ (k : Known). KeepsLosses past k.losses) noted losses);
       shards =
-          subst (λ (k : Known). KeepsShards stage (e ∷ past) k.shards) noted (c.in_ok-may_come.ensures.shards came);
-      leaves = c.in_ok-note_leaves.ensures.keeps;
+          subst (λ (k : Known). KeepsShards stage (e ∷ past) k.shards) noted
+          (c.in_ok-may_come.ensures.shards past knows came);
+      leaves =
+          c.in_ok-note_leaves.ensures.keeps past
+          (subst (λ (k : Known). KeepsLeaves stage.script.plan (newest past) k.leaves) same knows.leaves) may;
     }

@@ -6,6 +6,7 @@ use Rattle.bm_running.proofs.leaves.Leaves.leave_all.Given as goal
 
 abbrev pub invariant-loop-place : goal.invariant-loop-place
 invariant-loop-place l = record {
-  left : (s : ℕ) → AreLeft l.plan l.changes (take l.place l.list) s (listed (tree.get nat_cmp l.self.left s));
+  left : ((s : ℕ) → AreLeft l.plan l.changes (take 0 l.list) s (listed (tree.get nat_cmp l.fn.self.left s)))
+      → (s : ℕ) → AreLeft l.plan l.changes (take l.place l.list) s (listed (tree.get nat_cmp l.self.left s));
   drained : l.self.drained ≡ l.fn.self.drained;
 }
