@@ -22,6 +22,7 @@ use Rattle.bm_core.specs.Past.{flows_after, flows_arrived, flows_held, held, is_
 use Rattle.bm_core.proofs.Listed.{flows_are_distinct, flows_of_shard}
 use Rattle.bm_table.specs.Tables.{same_server}
 use Rattle.bm_state.specs.declared.shard_key.ShardKey.{ShardKey}
+use Rattle.bm_state.specs.Inside.Retirements.{same_key}
 use Rattle.bm_state.specs.ShardKeys.{key_at}
 use Rattle.bm_connections.specs.declared.held.FlowChange.{FlowChange}
 use Rattle.bm_connections.specs.declared.held.FlowChange.TheVariants.{Opens, Ends, Empties}
@@ -29,7 +30,7 @@ use Rattle.bm_connections.specs.declared.held.ShardChange.{ShardChange}
 use Rattle.bm_connections.specs.declared.held.ShardCount.{ShardCount}
 use Rattle.bm_connections.specs.Counts.{most_in_shard}
 use Rattle.bm_connections.specs.Inside.Held.{AreCounts, HaveRoom, arrival_change, change_at, change_of, changed}
-use Rattle.bm_connections.specs.Inside.Held.{count_after, count_or_none, holds, number_by, same_key, server_of}
+use Rattle.bm_connections.specs.Inside.Held.{count_after, count_or_none, holds, number_by, server_of}
 use Rattle.bm_connections.proofs.Steps.{same_flow-true, same_flow_refl}
 
 -- LISTS

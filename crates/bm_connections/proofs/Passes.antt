@@ -1,7 +1,8 @@
 -- The passes over all records and over all events.
 use Rattle.std.proofs.Common.{◌≡◌, ℕ, zero, suc, ◌+◌, ◌<◌, List, [], ◌∷◌, length, take, get_or, reverse}
 use Rattle.std.proofs.Common.{Option, Some, is_some, refl, sym, ap, ◌∙◌, arith, subst}
-use Rattle.std.specs.Prelude.{slice_get}
+use Rattle.std.specs.Prelude.{◌^◌, slice_get}
+use Rattle.std.proofs.lemmas.List.{length-reverse, length-take-le}
 use Rattle.bm_base.specs.declared.capture.Record.{Record}
 use Rattle.bm_core.specs.declared.events.Cause.{Cause}
 use Rattle.bm_core.specs.declared.events.Event.{Event}
@@ -36,6 +37,14 @@ fault_here h shown place d found run same below by =
     let below' : place < length h.events = rw same at below
     in let e : slice_get h.events place ≡ Some (get_or h.events place d) = get_within h.events place d below'
     in rw same (ap is_some by ∙ cause_there h place run ∙ ap (λ o. is_fault_after h.stage (past_at h place) o) e)
+
+-- fewer events came before one of them
+pub few_before : (events : List Event) (place : ℕ) → place < length events → length events < 2 ^ 64
+    → suc (length (reverse (take place events))) < 2 ^ 64
+few_before events place below few =
+    let all = length-reverse (take place events)
+    in let first = length-take-le place events (omega (arith, below))
+    in omega (arith, all, first, below, few)
 
 -- what holds after one event more
 pub past_more : (P : List Event → Type 0) (shown : List Event) (n : ℕ) (d : Event) → n < length shown

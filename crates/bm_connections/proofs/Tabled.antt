@@ -23,7 +23,7 @@ use Rattle.bm_connections.specs.declared.connection.Sight.{Sight}
 use Rattle.bm_connections.specs.declared.rows.Rows.{Rows}
 use Rattle.bm_connections.specs.declared.seen.Seen.{Seen}
 use Rattle.bm_connections.specs.Connections.{as_break, connection}
-use Rattle.bm_connections.specs.Inside.Rows.{AreRows, HasRoomAt, IsSeen, changed_at, noted, packet_place, place_in}
+use Rattle.bm_connections.specs.Inside.Rows.{AreRows, HasRoomAt, HasRoomForEach, IsSeen, changed_at, noted, packet_place, place_in}
 use Rattle.bm_connections.specs.Inside.Rows.{places_of, seen, seen_again, seen_from, table}
 use Rattle.bm_connections.specs.Seen.{flows_of, is_packet_of, is_seen, records_of, sight}
 use Rattle.bm_connections.specs.Waits.{wait_of}
@@ -214,7 +214,7 @@ rows_noted stage past e found waited b place old new is at after by fault same c
           (here_noted stage (records_of stage) past e found waited b s is seg after by fault))
 
 -- the place of a packet is one of a connection
-pub place_there : (stage : Stage) (past : List Event) (k place : ℕ) (rows : Rows)
+place_there : (stage : Stage) (past : List Event) (k place : ℕ) (rows : Rows)
     → packet_place rows.places.items k ≡ Some place → AreRows stage (records_of stage) past rows
     → place < length rows.connections.items
 place_there stage past k place rows at kept =
@@ -231,11 +231,12 @@ place_there stage past k place rows at kept =
       within (Some s) k = place_within (flows_of (records_of stage)) s.flow place k
 
 -- each connection has room
-pub room : (stage : Stage) (events : List Event) (rows : Rows) (place : ℕ)
-    → suc (length events) < 2 ^ 64 → AreRows stage (records_of stage) (reverse events) rows
-    → HasRoomAt rows.connections.items place
-room stage events rows place few k =
-    let few' : suc (length (reverse events)) < 2 ^ 64 = omega (arith, length-reverse events)
-    in subst (λ xs. HasRoomAt xs place) (sym k.connections)
-    (room_of (connection stage (records_of stage) (reverse events)) (flows_of (records_of stage)) place
-    (λ f. room_in stage f (reverse events) few'))
+pub have_room : (stage : Stage) (past : List Event) (rows : Rows) → suc (length past) < 2 ^ 64
+    → AreRows stage (records_of stage) past rows → HasRoomForEach rows
+have_room stage past rows few kept = record {
+  there = λ k place at. place_there stage past k place rows at kept;
+  room = λ place.
+      subst (λ xs. HasRoomAt xs place) (sym kept.connections)
+      (room_of (connection stage (records_of stage) past) (flows_of (records_of stage)) place
+      (λ f. room_in stage f past few));
+}

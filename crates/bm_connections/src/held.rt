@@ -5,6 +5,7 @@ ghost use Rattle.bm_core.specs.Past as past;
 ghost use Rattle.bm_core.specs.declared.events.Event.{Event};
 ghost use Rattle.bm_core.specs.declared.events.Stage.{Stage};
 ghost use Rattle.bm_state.specs.Holders.{KeepsHolders};
+ghost use Rattle.bm_state.specs.Inside.Retirements.{same_key};
 ghost use Rattle.bm_trace.specs.Ranges.{HasRanges};
 ghost use Rattle.bm_connections.specs.Counts.{most_among};
 ghost use Rattle.bm_connections.specs.Inside.Held as kept;
@@ -191,7 +192,7 @@ impl ShardCounts {
 
     fn put(&mut self, key: ShardKey, count: ShardCount) -> Result<(), AllocError>
         ensures { OnOk result ((q : ShardKey) → kept.count self.new q
-            ≡ (if kept.same_key key q then Some count else kept.count self.old q)) }
+            ≡ (if same_key key q then Some count else kept.count self.old q)) }
     {
         self.counts.insert(key, count)?;
         Ok(())
@@ -201,7 +202,7 @@ impl ShardCounts {
     fn apply(&mut self, change: ShardChange, is_held: bool) -> Result<(), AllocError>
         requires { kept.CanCount (kept.count_or_none (kept.count self.old change.key)) }
         ensures { OnOk result ((q : ShardKey) → kept.count self.new q
-            ≡ (if kept.same_key change.key q
+            ≡ (if same_key change.key q
             then Some (kept.changed change.flow_change is_held
             (kept.count_or_none (kept.count self.old change.key)))
             else kept.count self.old q)) }

@@ -1,9 +1,11 @@
 //! The pass over the events: what became of each connection's packets.
 ghost use Rattle.std.specs.Prelude.{◌≡◌, ◌<◌, ◌^◌, ◌&&◌, suc, Some, is_some, reverse};
-ghost use Rattle.std.specs.Prelude.{if◌then◌else◌, length, None, [], ◌∷◌, OnOk};
+ghost use Rattle.std.specs.Prelude.{if◌then◌else◌, length, List, None, [], ◌∷◌, OnOk};
 ghost use Rattle.bm_core.specs.Causes as causes;
 ghost use Rattle.bm_core.specs.Past as past;
 ghost use Rattle.bm_core.specs.Runs.{IsRun};
+ghost use Rattle.bm_core.specs.declared.events.Event.{Event};
+ghost use Rattle.bm_core.specs.declared.events.Stage.{Stage};
 ghost use Rattle.bm_trace.specs.CauseOf.{is_fault};
 ghost use Rattle.bm_trace.specs.Swept.{AreCauses};
 ghost use Rattle.bm_trace.specs.Totals as totals;
@@ -16,7 +18,7 @@ use crate::connection::{Break, Connection, Forwarding, Tally};
 use crate::rows::Rows;
 use crate::stamps::Stamps;
 use bm_base::{Memory, ServerId};
-use bm_core::{Cause, Event, History, Stage, Verdict, What};
+use bm_core::{Cause, Event, History, Verdict, What};
 use bm_trace::CauseList;
 use std::alloc::Global;
 
@@ -171,25 +173,15 @@ impl Rows {
         self.connections[place].note(arrival, wait);
     }
 
-    /// Records the event that comes after these, with this cause and this wait.
-    fn note(
-        &mut self,
-        stage: &Stage,
-        before: &[Event],
-        event: &Event,
-        cause: Option<Cause>,
-        wait: u64,
-    )
-        requires rows { kept.AreRows stage.now (records_of stage.now) (reverse before.now)
-            self.old }
-        requires room { suc (length before.now) < 2 ^ 64 }
-        requires cause { cause
-            ≡ causes.cause stage.now (reverse before.now) event.now.clock.0 event.now.what }
-        requires wait { wait
-            ≡ wait_of stage.now (reverse before.now) event.now.clock.0 event.now.what }
-        requires fault { is_some cause ≡ is_fault stage.now (reverse before.now) event.now.what }
-        ensures { kept.AreRows stage.now (records_of stage.now) (event.now ∷ reverse before.now)
-            self.new }
+    /// Records the event that comes next, with this cause and this wait.
+    fn note(&mut self, event: &Event, cause: Option<Cause>, wait: u64)
+        requires { kept.HasRoomForEach self.old }
+        ensures { (stage : Stage) (past : List Event)
+            → kept.AreRows stage (records_of stage) past self.old
+            → cause ≡ causes.cause stage past event.now.clock.0 event.now.what
+            → is_some cause ≡ is_fault stage past event.now.what
+            → wait ≡ wait_of stage past event.now.clock.0 event.now.what
+            → kept.AreRows stage (records_of stage) (event.now ∷ past) self.new }
     {
         match as_break(event, cause) {
             None => {}
@@ -219,7 +211,7 @@ pub(crate) fn note_events(
     for (place, event) in events.iter().enumerate() {
         let cause = causes.at(place);
         let wait = stamps.wait(&h.stage, event);
-        rows.note(&h.stage, &events[..place], event, cause, wait);
+        rows.note(event, cause, wait);
         stamps.note(event.what)?;
     }
     Ok(())

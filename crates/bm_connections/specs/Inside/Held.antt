@@ -1,5 +1,5 @@
 -- What the code keeps of shards while it goes through events, and how an event changes one.
-use Rattle.std.specs.Prelude.{◌≡◌, ℕ, suc, ◌-◌, ◌<◌, ◌^◌, max, ◌==◌, Bool, false, not, ◌&&◌}
+use Rattle.std.specs.Prelude.{◌≡◌, ℕ, suc, ◌-◌, ◌<◌, ◌^◌, max, Bool, false, not}
 use Rattle.std.specs.Prelude.{if◌then◌else◌, List, length, Option, Some, None, is_some}
 use Rattle.std.specs.BTreeMap as tree
 use Rattle.bm_base.specs.declared.flow.Flow.{Flow}
@@ -25,9 +25,6 @@ use Rattle.bm_connections.specs.declared.held.FlowChange.TheVariants.{Opens, End
 use Rattle.bm_connections.specs.declared.held.ShardChange.{ShardChange}
 use Rattle.bm_connections.specs.Connections.{one_more}
 use Rattle.bm_connections.specs.Counts.{most_in_shard}
-
-abbrev pub same_key : ShardKey → ShardKey → Bool
-same_key a b = a.server == b.server && a.shard == b.shard
 
 -- the server of the shard
 abbrev pub server_of : ShardKey → ServerId

@@ -1,6 +1,6 @@
 -- What the code keeps of connections while it goes through records and events.
 use Rattle.std.specs.Prelude.{◌≡◌, ℕ, zero, suc, ◌<◌, ◌^◌, Bool, ◌&&◌, if◌then◌else◌, List, [], ◌∷◌}
-use Rattle.std.specs.Prelude.{◌++◌, Option, Some, None, is_some, map, option_map, slice_get}
+use Rattle.std.specs.Prelude.{◌++◌, length, Option, Some, None, is_some, map, option_map, slice_get}
 use Rattle.std.specs.BTreeMap as tree
 use Rattle.bm_base.specs.contracts.flow.FlowOrd.TheImpl as flow_order
 use Rattle.bm_base.specs.Segments.{same_flow}
@@ -137,6 +137,12 @@ abbrev pub HasRoomAt : List Connection → ℕ → Type 0
 HasRoomAt [] n = Unit {0}
 HasRoomAt (c ∷ list) zero = HasRoom c.tally
 HasRoomAt (c ∷ list) (suc n) = HasRoomAt list n
+
+-- the connection of each packet can count one arrival more
+pub record HasRoomForEach (rows : Rows) : Type 0 where
+  pub there : (k place : ℕ) → packet_place rows.places.items k ≡ Some place
+      → place < length rows.connections.items
+  pub room : (place : ℕ) → HasRoomAt rows.connections.items place
 
 -- WHAT IS KEPT
 
