@@ -74,7 +74,7 @@ events_all : (stage : Stage) (shown events : List Event) (i : ℕ) → shown ≡
 events_all stage shown events i same =
     events_whole stage shown i ∙ ap (λ xs. event_lines stage (reverse xs)) same
 
-events_step : (stage : Stage) (events : List Event) (i : ℕ) (d : Event) → i < length events
+pub events_step : (stage : Stage) (events : List Event) (i : ℕ) (d : Event) → i < length events
     → event_lines stage (reverse (take i events)) ++ event_line stage (reverse (take i events)) (get_or events i d)
     ≡ event_lines stage (reverse (take (i + 1) events))
 events_step stage events i d below = ap (λ x. event_lines stage x) (sym (reverse_take events i d below))

@@ -11,6 +11,7 @@ use Rattle.std.proofs.lemmas.List.{append-nil, take-append-drop}
 use Rattle.std.proofs.lemmas.Grind.{common_steps}
 use Rattle.std.proofs.lemmas.Option.{same_Some, slice_get-get_or, slice_get_within}
 use Rattle.bm_table.proofs.Gets.{slice_get-append_left, slice_get-push}
+use Rattle.bm_core.specs.declared.events.Event.{Event}
 use Rattle.bm_core.specs.declared.events.History.{History}
 use Rattle.bm_trace.specs.Inside.Pieces.{AreInRow, AreLines, AreWritten, HasDealt, HaveWritten, IsRound, IsWritten}
 use Rattle.bm_trace.specs.Inside.Pieces.{PutsLines, PutsPart, first_lines, place_of}
@@ -21,8 +22,8 @@ use Rattle.bm_trace.specs.declared.beside.Round.{Round}
 use Rattle.bm_trace.specs.declared.swept.Sweeper.{Sweeper}
 use Rattle.bm_io.specs.Written.{WritesPart}
 use Rattle.bm_trace.specs.Inside.Parts.{HandsOn, HandsPart, all_lines}
-use Rattle.bm_trace.specs.Report.{event_lines, record_lines}
-use Rattle.bm_trace.proofs.Parted.{events_whole, later_lines}
+use Rattle.bm_trace.specs.Report.{event_line, event_lines, record_lines}
+use Rattle.bm_trace.proofs.Parted.{events_step, events_whole, later_lines}
 
 -- THE LINES
 
@@ -32,6 +33,18 @@ take_over xs n over = grind (arith, common_steps)
 lines_both : (h : History) (i j k : ℕ) (x y : List ℕ) → AreLines h i j x → AreLines h j k y → AreLines h i k (x ++ y)
 lines_both h i j k x y first second =
     sym (append_assoc (first_lines h i) x y) ∙ ap (λ z. z ++ y) first ∙ second
+
+-- the line of one event more
+pub lines_more : (h : History) (shown : List Event) (from place : ℕ) (d : Event) (old new : List ℕ) → shown ≡ h.events
+    → place < length h.events
+    → new ≡ old ++ event_line h.stage (reverse (take place shown)) (get_or shown place d)
+    → AreLines h from place old → AreLines h from (place + 1) new
+lines_more h shown from place d old new same below is are =
+    let line = event_line h.stage (reverse (take place h.events)) (get_or h.events place d)
+    in let now : new ≡ old ++ line =
+    subst (λ es. new ≡ old ++ event_line h.stage (reverse (take place es)) (get_or es place d)) same is
+    in ap (λ x. first_lines h from ++ x) now ∙ sym (append_assoc (first_lines h from) old line)
+    ∙ ap (λ x. x ++ line) are ∙ events_step h.stage h.events place d below
 
 -- the lines of all events
 abbrev lines_of_events : History → List ℕ
@@ -214,6 +227,17 @@ piece_refused h from k a b c p is before put = go p.refused refl put where
       (lines_at h from k p is fine) part)
 
 -- ROUNDS
+
+-- the pieces of a round were written, and end where it does
+pub round_written : (h : History) (round : Round) (old new shown : List Piece) → IsRound h round
+    → old ≡ round.pieces.items → length new ≡ length old → HaveWritten h old new → shown ≡ new
+    → AreWritten h round.from shown × (place_of h round.from (length shown) ≡ round.to)
+round_written h round old new shown is begun count each same =
+    let row = subst (AreInRow h round.from) (sym begun) is.dealt.row
+    in (
+      subst (AreWritten h round.from) (sym same) (all_written h round.from old new count row each),
+      ap (λ n. place_of h round.from n) (ap length same ∙ count ∙ ap length begun) ∙ sym is.dealt.place,
+    )
 
 pub round_of : (h : History) (from to : ℕ) (sweeper : Sweeper) (dealt : List Piece) (pieces spare : Vec Piece Global)
     → pieces.items ≡ dealt → from ≤ length h.events → HasDealt h from dealt sweeper to → 0 < length dealt

@@ -39,14 +39,20 @@ here h place d below =
     let e : slice_get h.events place ≡ Some (get_or h.events place d) = get_within h.events place d below
     in ap (λ o. cause_after h.stage (past_at h place) o) e
 
--- the cause of an event, from the list of them
+-- the cause of an event
+pub cause_at : (h : History) (shown : List Event) (place : ℕ) (d : Event) (found : Option Cause) → shown ≡ h.events
+    → place < length h.events → found ≡ cause_of h place
+    → found ≡ cause h.stage (reverse (take place shown)) (get_or shown place d).clock.0 (get_or shown place d).what
+cause_at h shown place d found same below is = rw same (is ∙ here h place d below)
+
+-- the same, from the list of causes
 pub cause_here : (h : History) (shown : List Event) (place : ℕ) (d : Event) (causes : List (Option Cause))
     (found : Option Cause) → shown ≡ h.events → place < length shown → AreCauses h causes
     → found ≡ cause_in causes place
     → found ≡ cause h.stage (reverse (take place shown)) (get_or shown place d).clock.0 (get_or shown place d).what
 cause_here h shown place d causes found same below all is =
     let below' : place < length h.events = rw same at below
-    in rw same (is ∙ all place ∙ here h place d below')
+    in cause_at h shown place d found same below' (is ∙ all place)
 
 pub length_before : (h : History) (shown : List Event) (n : ℕ) → shown ≡ h.events → n < length h.events
     → n ≡ length (reverse (take n shown))

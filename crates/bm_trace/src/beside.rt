@@ -4,6 +4,7 @@ ghost use Rattle.std.specs.Prelude.{[], false, length, reverse, string_bytes, ta
 ghost use Rattle.std.specs.Prelude.{vec_len, ◌-◌};
 ghost use Rattle.std.specs.Io.KnownBytes.{Appends};
 ghost use Rattle.bm_core.specs.Runs.{IsRun};
+ghost use Rattle.bm_core.specs.declared.events.History.{History};
 ghost use Rattle.bm_io.specs.Causes.{HasIoCause};
 ghost use Rattle.bm_io.specs.Written.{WritesPart};
 ghost use Rattle.bm_trace.specs.CauseOf.{cause_of};
@@ -56,7 +57,7 @@ fn write_line(
 {
     let events = h.events.items();
     let event = &events[place];
-    write_event(lines, versions, &h.stage, &events[..place], event, cause)?;
+    write_event(lines, versions, &h.stage, event, cause)?;
     versions.note(event.what)?;
     Ok(())
 }
@@ -261,18 +262,13 @@ fn write_beside<R: Threads + Sync>(
     dealt
 }
 
-/// Writes the lines of the pieces to the sink; the first piece begins at this place.
-fn put_pieces<K: Sink>(
-    h: &History,
-    pieces: &[Piece],
-    from: usize,
-    out: &mut K,
-) -> Result<(), IoFault>
-    requires from { from ≤ length h.now.events }
-    requires written { AreWritten h.now from pieces.now }
-    ensures ok { OnOk result (PutsLines h.now from (place_of h.now from (length pieces.now))
+/// Writes the lines of the pieces to the sink.
+fn put_pieces<K: Sink>(pieces: &[Piece], out: &mut K) -> Result<(), IoFault>
+    ensures ok { (h : History) (from : ℕ) → from ≤ length h.events → AreWritten h from pieces.now
+        → OnOk result (PutsLines h from (place_of h from (length pieces.now))
         (K.written out.old) (K.written out.new)) }
-    ensures err { OnErr result (PutsPart h.now from (K.written out.old) (K.written out.new)) }
+    ensures err { (h : History) (from : ℕ) → from ≤ length h.events → AreWritten h from pieces.now
+        → OnErr result (PutsPart h from (K.written out.old) (K.written out.new)) }
     ensures cause { HasIoCause (K.faults out.old) (K.faults out.new) result }
 {
     for piece in pieces {
@@ -344,7 +340,7 @@ impl Round {
             self.spare.as_mut_slice(),
             self.to,
         )?;
-        put_pieces(h, &self.pieces, self.from, out)?;
+        put_pieces(&self.pieces, out)?;
         swap(&mut self.pieces, &mut self.spare);
         self.from = self.to;
         self.to = behind;

@@ -62,7 +62,7 @@ fn put_events<K: Sink>(
     let mut versions = Versions::new(*lines.allocator());
     for (place, event) in events.iter().enumerate() {
         let cause = causes.at(place);
-        write_event(lines, &versions, &h.stage, &events[..place], event, cause)?;
+        write_event(lines, &versions, &h.stage, event, cause)?;
         versions.note(event.what)?;
         put_full(lines, out)?;
     }

@@ -1,8 +1,9 @@
 //! The lines of a report.
-ghost use Rattle.std.specs.Prelude.{◌≡◌, ◌∷◌, ◌++◌, [], reverse, OnOk};
+ghost use Rattle.std.specs.Prelude.{◌≡◌, ◌∷◌, ◌++◌, [], List, OnOk};
 ghost use Rattle.std.specs.Prelude.{codes, decimal, string_bytes, if◌then◌else◌};
 ghost use Rattle.bm_core.specs.Causes as causes;
 ghost use Rattle.bm_core.specs.Past as past;
+ghost use Rattle.bm_core.specs.declared.events.Event.{Event};
 ghost use Rattle.bm_trace.specs.Ranges.{HasRanges};
 ghost use Rattle.bm_trace.specs.Words as words;
 ghost use Rattle.bm_trace.specs.Report as report;
@@ -125,19 +126,11 @@ pub struct Aside {
 }
 
 /// What the line of an event with this cause says of the events before it.
-fn aside_of(
-    versions: &Versions,
-    stage: &Stage,
-    events: &[Event],
-    event: &Event,
-    cause: Option<Cause>,
-) -> Aside
-    requires ranges { HasRanges stage.now }
-    requires kept { KeepsVersions (reverse events.now) versions.now }
-    requires cause { cause ≡ causes.cause stage.now (reverse events.now) event.now.clock.0
-        event.now.what }
-    ensures { result ≡ report.aside stage.now (reverse events.now) event.now.clock.0
-        event.now.what }
+fn aside_of(versions: &Versions, stage: &Stage, event: &Event, cause: Option<Cause>) -> Aside
+    requires { HasRanges stage.now }
+    ensures { (past : List Event) → KeepsVersions past versions.now
+        → cause ≡ causes.cause stage.now past event.now.clock.0 event.now.what
+        → result ≡ report.aside stage.now past event.now.clock.0 event.now.what }
 {
     match event.what {
         What::Steer { packet, mux } => Aside {
@@ -198,24 +191,21 @@ pub fn write_line(line: &mut String, event: &Event, aside: &Aside) -> Result<(),
     }
 }
 
-/// The line of an event with this cause, which comes after these events.
+/// Appends the line of an event with this cause. `versions` are the versions before it.
 pub(crate) fn write_event(
     line: &mut String,
     versions: &Versions,
     stage: &Stage,
-    events: &[Event],
     event: &Event,
     cause: Option<Cause>,
 ) -> Result<(), AllocError>
-    requires ranges { HasRanges stage.now }
-    requires kept { KeepsVersions (reverse events.now) versions.now }
-    requires cause { cause ≡ causes.cause stage.now (reverse events.now) event.now.clock.0
-        event.now.what }
-    ensures { OnOk result
-        (string_bytes line.new ≡ string_bytes line.old
-        ++ report.event_line stage.now (reverse events.now) event.now) }
+    requires { HasRanges stage.now }
+    ensures { (past : List Event) → KeepsVersions past versions.now
+        → cause ≡ causes.cause stage.now past event.now.clock.0 event.now.what
+        → OnOk result (string_bytes line.new ≡ string_bytes line.old
+        ++ report.event_line stage.now past event.now) }
 {
-    let aside = aside_of(versions, stage, events, event, cause);
+    let aside = aside_of(versions, stage, event, cause);
     write_line(line, event, &aside)?;
     Ok(())
 }

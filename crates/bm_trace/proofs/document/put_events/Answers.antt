@@ -20,12 +20,17 @@ returns-in_err-put_full-clause-err g c =
     on_err _ _
     (events_refused c.args.h.now.stage c.items-events.result.now c.args.h.now.events c.loop-place.place
     _ _ _ _ _ _ _ c.loop-place-test.true c.items-events.ensures c.loop-place.invariant.written
-    c.in_ok-write_event.ensures c.in_err-put_full.ensures.err)
+    (c.in_ok-write_event.ensures _ c.loop-place.invariant.known
+    (cause_here c.args.h.now c.items-events.result.now c.loop-place.place _ c.args.causes.now _ c.items-events.ensures
+    c.loop-place-test.true c.requires.causes c.at-cause.ensures)) c.in_err-put_full.ensures.err)
 
 pub loop-place-preserved : goal.loop-place-preserved
 loop-place-preserved g c = record {
   written = events_more c.args.h.now.stage c.items-events.result.now c.loop-place.place _ _ _ _ _ _ _ _
-      c.loop-place-test.true c.loop-place.invariant.written c.in_ok-write_event.ensures c.in_ok-put_full.ensures.ok;
+      c.loop-place-test.true c.loop-place.invariant.written
+      (c.in_ok-write_event.ensures _ c.loop-place.invariant.known
+      (cause_here c.args.h.now c.items-events.result.now c.loop-place.place _ c.args.causes.now _
+      c.items-events.ensures c.loop-place-test.true c.requires.causes c.at-cause.ensures)) c.in_ok-put_full.ensures.ok;
   known = versions_next c.items-events.result.now c.loop-place.place _ _ c.loop-place-test.true
       (c.in_ok-note.ensures _ _ refl c.loop-place.invariant.known);
   later = c.in_ok-put_full.ensures.cause.kept ∙ c.loop-place.invariant.later;
@@ -35,8 +40,3 @@ pub returns-clause-ok : goal.returns-clause-ok
 returns-clause-ok g c =
     events_done c.args.h.now.stage c.items-events.result.now c.args.h.now.events c.loop-place.place _ _ _ _
     c.items-events.ensures c.loop-place-test.false c.loop-place.invariant.written
-
-pub write_event-requires-clause-cause : goal.write_event-requires-clause-cause
-write_event-requires-clause-cause g c =
-    cause_here c.args.h.now c.items-events.result.now c.loop-place.place _ c.args.causes.now _ c.items-events.ensures
-    c.loop-place-test.true c.requires.causes c.at-cause.ensures

@@ -1,8 +1,8 @@
 use Rattle.std.proofs.Common.{◌∙◌, ap, rules, subst, sym}
 use Rattle.std.proofs.lemmas.List.{with_items_is}
-use Rattle.bm_trace.specs.Inside.Pieces.{AreInRow, AreWritten, HasDealt}
+use Rattle.bm_trace.specs.Inside.Pieces.{HasDealt, PutsLines}
 use Rattle.bm_trace.proofs.Parted.{on_err}
-use Rattle.bm_trace.proofs.Pieces.{all_written, puts_left, puts_none}
+use Rattle.bm_trace.proofs.Pieces.{puts_left, puts_none, round_written}
 use Rattle.bm_trace.proofs.beside.Round.put.Goals as goal
 
 pub returns-in_err-behind-clause-err : goal.returns-in_err-behind-clause-err
@@ -11,16 +11,26 @@ returns-in_err-behind-clause-err g c =
     in let from = c.args.self.now.from
     in on_err _ _ (puts_left h from from _ _ (puts_none h from _))
 
-pub put_pieces-requires-clause-written : goal.put_pieces-requires-clause-written
-put_pieces-requires-clause-written g c =
+pub returns-in_err-put_pieces-clause-err : goal.returns-in_err-put_pieces-clause-err
+returns-in_err-put_pieces-clause-err g c =
+    let is = c.deref.ensures.value
+    ∙ with_items_is c.args.self.now.pieces c.write_beside.new.pieces
+    (c.in_ok-behind.ensures.count ∙ c.as_mut_slice.ensures.len)
+    in let written = round_written c.args.h.now c.args.self.now _ c.write_beside.new.pieces _ c.requires.round
+    c.as_mut_slice.ensures.value c.in_ok-behind.ensures.count c.in_ok-behind.ensures.each is
+    in on_err _ _ (c.in_err-put_pieces.ensures.err c.args.h.now c.args.self.now.from c.requires.round.from written.0)
+
+pub returns-clause-lines : goal.returns-clause-lines
+returns-clause-lines g c =
     let h = c.args.h.now
     in let from = c.args.self.now.from
-    in let row = subst (AreInRow h from) (sym c.as_mut_slice.ensures.value) c.requires.round.dealt.row
     in let is = c.deref.ensures.value
     ∙ with_items_is c.args.self.now.pieces c.write_beside.new.pieces
     (c.in_ok-behind.ensures.count ∙ c.as_mut_slice.ensures.len)
-    in subst (AreWritten h from) (sym is)
-    (all_written h from _ _ c.in_ok-behind.ensures.count row c.in_ok-behind.ensures.each)
+    in let written = round_written h c.args.self.now _ c.write_beside.new.pieces _ c.requires.round
+    c.as_mut_slice.ensures.value c.in_ok-behind.ensures.count c.in_ok-behind.ensures.each is
+    in subst (λ to. PutsLines h from to (g.K.Sink.written c.args.out.now) (g.K.Sink.written c.put_pieces.new.out))
+    written.1 (c.in_ok-put_pieces.ensures.ok h from c.requires.round.from written.0)
 
 pub returns-clause-round : goal.returns-clause-round
 returns-clause-round g c =
