@@ -9,7 +9,6 @@ use bm_core::{Event, Log, Stage, Verdict, What};
 use bm_merge::{EventLog, join_in_order, merge, merge_rising, merge_rising_beside, room_for};
 use bm_table::{Plan, Retirement, Script, Setting};
 use std::alloc::Global;
-use std::test::Fail;
 
 fn event(clock: u64, what: What) -> Event {
     Event {
@@ -74,7 +73,7 @@ fn merge_to(alloc: Global, parts: &[&[Event]], want: &[Event]) -> Result<bool, M
 }
 
 #[test]
-fn a_moved_connection_is_put_together(rt: HostRuntime) -> Result<(), Fail> {
+fn a_moved_connection_is_put_together(rt: HostRuntime) {
     let direct = arrive(1_002, 2, Hop::Direct, 2, Verdict::Forward(ServerId(1)));
     let chained = arrive(1_003, 2, Hop::Chained, 1, Verdict::Process(Taken::Advance));
     let accepted = arrive(2, 1, Hop::Direct, 1, Verdict::Accept);
@@ -89,12 +88,11 @@ fn a_moved_connection_is_put_together(rt: HostRuntime) -> Result<(), Fail> {
         direct,
         chained,
     ];
-    assert!(rt; merge_to(rt.alloc(), &parts, &want)?);
-    Ok(())
+    assert!(rt; merge_to(rt.alloc(), &parts, &want) == Ok(true));
 }
 
 #[test]
-fn a_loss_may_have_a_later_clock_than_what_stands_behind_it(rt: HostRuntime) -> Result<(), Fail> {
+fn a_loss_may_have_a_later_clock_than_what_stands_behind_it(rt: HostRuntime) {
     let packet = 1;
     let hop = Hop::Chained;
     let lost = event(901, What::Lose { packet, hop });
@@ -119,8 +117,7 @@ fn a_loss_may_have_a_later_clock_than_what_stands_behind_it(rt: HostRuntime) -> 
         direct,
         lost,
     ];
-    assert!(rt; merge_to(rt.alloc(), &parts, &want)?);
-    Ok(())
+    assert!(rt; merge_to(rt.alloc(), &parts, &want) == Ok(true));
 }
 
 /// Events whose clocks never decrease, as a log.
@@ -164,12 +161,12 @@ fn make_rows(alloc: Global, count: u32) -> Result<Vec<Row>, Memory>
 }
 
 #[test]
-fn events_of_one_clock_keep_the_order_of_their_logs(rt: HostRuntime) -> Result<(), Fail> {
+fn events_of_one_clock_keep_the_order_of_their_logs(rt: HostRuntime) {
     let alloc = rt.alloc();
-    let first = make_row(alloc, &[switch(1, 0), switch(5, 1)])?;
-    let second = make_row(alloc, &[publish(5, 1), publish(6, 2)])?;
-    let third = make_row(alloc, &[steer(1, 1), steer(5, 2)])?;
-    let merged = merge_rising(alloc, &[first, second, third])?;
+    let first = make_row(alloc, &[switch(1, 0), switch(5, 1)]).expect(&rt, "memory");
+    let second = make_row(alloc, &[publish(5, 1), publish(6, 2)]).expect(&rt, "memory");
+    let third = make_row(alloc, &[steer(1, 1), steer(5, 2)]).expect(&rt, "memory");
+    let merged = merge_rising(alloc, &[first, second, third]).expect(&rt, "memory");
     let want = [
         switch(1, 0),
         steer(1, 1),
@@ -179,22 +176,20 @@ fn events_of_one_clock_keep_the_order_of_their_logs(rt: HostRuntime) -> Result<(
         publish(6, 2),
     ];
     assert!(rt; merged.as_slice() == want.as_slice());
-    Ok(())
 }
 
 /// These are too many to look at the next event of each.
 #[test]
-fn the_events_of_65_logs_keep_their_order(rt: HostRuntime) -> Result<(), Fail> {
+fn the_events_of_65_logs_keep_their_order(rt: HostRuntime) {
     let alloc = rt.alloc();
-    let rows = make_rows(alloc, 65)?;
-    let merged = merge_rising(alloc, rows.as_slice())?;
+    let rows = make_rows(alloc, 65).expect(&rt, "memory");
+    let merged = merge_rising(alloc, rows.as_slice()).expect(&rt, "memory");
     let events = merged.as_slice();
     assert!(rt; events.len() == 130);
     assert!(rt; events.first() == Some(&publish(7, 0)));
     assert!(rt; events.get(64) == Some(&publish(7, 64)));
     assert!(rt; events.get(65) == Some(&switch(8, 0)));
     assert!(rt; events.last() == Some(&switch(8, 64)));
-    Ok(())
 }
 
 /// This many events as a log, with every second clock from this one on.
@@ -210,15 +205,15 @@ fn make_long_row(alloc: Global, first: u32, count: u32) -> Result<Row, Memory>
 }
 
 #[test]
-fn four_threads_merge_as_one_does(rt: HostRuntime) -> Result<(), Fail> {
+fn four_threads_merge_as_one_does(rt: HostRuntime) {
     let alloc = rt.alloc();
-    let odd = make_long_row(alloc, 1, 5_000)?;
-    let even = make_long_row(alloc, 2, 5_000)?;
+    let odd = make_long_row(alloc, 1, 5_000).expect(&rt, "memory");
+    let even = make_long_row(alloc, 2, 5_000).expect(&rt, "memory");
     let logs = [odd.events.as_slice(), even.events.as_slice()];
-    let beside = merge_rising_beside(&rt, alloc, 4, &logs, room_for(alloc, 10_000)?)?;
+    let room = room_for(alloc, 10_000).expect(&rt, "memory");
+    let beside = merge_rising_beside(&rt, alloc, 4, &logs, room).expect(&rt, "memory");
     let clocks = beside.as_slice().iter().map(|event| event.clock.0);
     assert!(rt; clocks.eq(1..10_001u64));
-    let merged = merge_rising(alloc, &[odd, even])?;
+    let merged = merge_rising(alloc, &[odd, even]).expect(&rt, "memory");
     assert!(rt; beside.as_slice() == merged.as_slice());
-    Ok(())
 }

@@ -7,7 +7,6 @@ use bm_core::{Verdict, What, Why};
 use bm_shard::{ShardBook, ShardCall, ShardReply};
 use bm_table::Retirement;
 use std::alloc::Global;
-use std::test::Fail;
 
 const SYN: u8 = 0x02;
 
@@ -95,8 +94,8 @@ fn new_book(alloc: Global) -> Result<ShardBook, Memory> {
 }
 
 #[test]
-fn a_copy_is_judged_by_what_came_before(rt: HostRuntime) -> Result<(), Fail> {
-    let mut book = new_book(rt.alloc())?;
+fn a_copy_is_judged_by_what_came_before(rt: HostRuntime) {
+    let mut book = new_book(rt.alloc()).expect(&rt, "memory");
     assert!(rt; book.clock() == Moment(0));
     let other = Some(ServerId(2));
     let full = Verdict::Drop(Why::Full);
@@ -117,12 +116,11 @@ fn a_copy_is_judged_by_what_came_before(rt: HostRuntime) -> Result<(), Fail> {
     for (prev, segment, due, clock, verdict) in rows {
         assert!(rt; arrive(&mut book, prev, segment, due) == arrived(clock, verdict));
     }
-    Ok(())
 }
 
 #[test]
-fn a_shard_closes_and_retires(rt: HostRuntime) -> Result<(), Fail> {
-    let mut book = new_book(rt.alloc())?;
+fn a_shard_closes_and_retires(rt: HostRuntime) {
+    let mut book = new_book(rt.alloc()).expect(&rt, "memory");
     let opening = (1000, 100, 1, SYN);
     let first = arrive(&mut book, None, opening, 1_000_000_499);
     assert!(rt; first == arrived(1_000_000_500, Verdict::Accept));
@@ -134,7 +132,7 @@ fn a_shard_closes_and_retires(rt: HostRuntime) -> Result<(), Fail> {
     let after = arrive(&mut book, None, opening, 0);
     assert!(rt; after == arrived(2_000_000_002, Verdict::Drop(Why::Retired)));
     assert!(rt; book.clock() == Moment(2_000_000_002));
-    assert_eq!(rt; book.history().len(), 5);
+    assert!(rt; book.history().len() == 5);
     let server = ServerId(1);
     let flow = flow(1000);
     let closed = true;
@@ -148,14 +146,13 @@ fn a_shard_closes_and_retires(rt: HostRuntime) -> Result<(), Fail> {
         .get(1)
         .map(|entry| (entry.seat, entry.event.what));
     assert!(rt; kept == Some((3, close)));
-    Ok(())
 }
 
 // The reset of a segment with an acknowledgment number has that as its sequence number, and the
 // flag RST alone.
 #[test]
-fn a_packet_of_no_connection_is_answered_by_a_reset(rt: HostRuntime) -> Result<(), Fail> {
-    let mut book = new_book(rt.alloc())?;
+fn a_packet_of_no_connection_is_answered_by_a_reset(rt: HostRuntime) {
+    let mut book = new_book(rt.alloc()).expect(&rt, "memory");
     let reply = arrive(
         &mut book,
         Some(ServerId(2)),
@@ -170,11 +167,9 @@ fn a_packet_of_no_connection_is_answered_by_a_reset(rt: HostRuntime) -> Result<(
         },
     ) = reply
     else {
-        assert!(rt; false, "no reset");
-        return Ok(());
+        panic!(rt; "no reset");
     };
     assert!(rt; (clock, verdict) == (Moment(1_000_000_501), Verdict::Reset(Why::ChainExpired)));
     let tcp: [u8; 14] = [0, 80, 3, 234, 0, 0, 1, 245, 0, 0, 0, 0, 0x50, 0x04];
-    assert_eq!(rt; &octets[20..34], tcp.as_slice());
-    Ok(())
+    assert!(rt; &octets[20..34] == tcp.as_slice());
 }

@@ -1,9 +1,9 @@
 //! Tests of `bm_table`: plans, tables and settings.
+use crate::printing::assert_prints;
 use bm_base::{Entry, List, Memory, Moment, Past, ServerId, Version, Vip};
 use bm_table::{Change, Kind, Limit, Move, Plan, PlanFault, Retirement, Setting, Table};
 use std::alloc::Global;
 use std::process::Abort;
-use std::test::Fail;
 
 fn change(alloc: Global, moment: u64, kind: Kind, moves: &[(u32, u16)]) -> Result<Change, Memory> {
     let mut list = Vec::new(alloc);
@@ -33,33 +33,31 @@ const ROWS: [Row; 7] = [
     (700, &[(4, 1)], Ok(())),
 ];
 
-fn assert_push(rt: &impl Abort, alloc: Global, plan: &mut Plan, row: &Row) -> Result<(), Memory> {
+fn assert_push(rt: &impl Abort, alloc: Global, plan: &mut Plan, row: &Row) {
     let (moment, moves, want) = *row;
-    let next = change(alloc, moment, Kind::Shift, moves)?;
+    let next = change(alloc, moment, Kind::Shift, moves).expect(rt, "memory");
     assert!(rt; plan.push(next) == want, "at {moment}");
-    Ok(())
 }
 
 // The first change moves bucket 4 from server 1 to server 2 at 500, the second moves nothing, and
 // the third moves it back at 700.
-fn assert_last_moves(rt: &impl Abort, alloc: Global, plan: &Plan) -> Result<(), Memory> {
+fn assert_last_moves(rt: &impl Abort, alloc: Global, plan: &Plan) {
     assert!(rt; plan.buckets() == 8 && plan.versions() == 3);
-    assert_eq!(rt; plan.owners()?.len(), 8);
-    let mut table = Table::opening(alloc, plan)?;
-    table.apply(&plan.copy_change(Version(1))?);
-    table.apply(&plan.copy_change(Version(2))?);
+    assert!(rt; plan.owners().expect(rt, "memory").len() == 8);
+    let mut table = Table::opening(alloc, plan).expect(rt, "memory");
+    table.apply(&plan.copy_change(Version(1)).expect(rt, "memory"));
+    table.apply(&plan.copy_change(Version(2)).expect(rt, "memory"));
     let first = Past {
         server: ServerId(1),
         stamp: Moment(500),
     };
     assert!(rt; table.entry(4) == entry(2, Some(first), None));
-    table.apply(&plan.copy_change(Version(3))?);
+    table.apply(&plan.copy_change(Version(3)).expect(rt, "memory"));
     let second = Past {
         server: ServerId(2),
         stamp: Moment(700),
     };
     assert!(rt; table.entry(4) == entry(1, Some(second), Some(first)));
-    Ok(())
 }
 
 fn entry(cur: u16, prev: Option<Past>, older: Option<Past>) -> Entry {
@@ -71,31 +69,26 @@ fn entry(cur: u16, prev: Option<Past>, older: Option<Past>) -> Entry {
 }
 
 #[test]
-fn a_plan_refuses_changes_in_order_and_its_table_has_the_last_moves(
-    rt: HostRuntime,
-) -> Result<(), Fail> {
+fn a_plan_refuses_changes_in_order_and_its_table_has_the_last_moves(rt: HostRuntime) {
     let alloc = rt.alloc();
-    let mut plan = Plan::new(alloc, 8, [ServerId(1), ServerId(2)].as_slice())?;
+    let mut plan = Plan::new(alloc, 8, [ServerId(1), ServerId(2)].as_slice()).expect(&rt, "memory");
     assert!(rt; plan.opening(4) == ServerId(1));
     assert!(rt; plan.opening(5) == ServerId(2));
     for row in &ROWS {
-        assert_push(&rt, alloc, &mut plan, row)?;
+        assert_push(&rt, alloc, &mut plan, row);
     }
-    assert_last_moves(&rt, alloc, &plan)?;
-    Ok(())
+    assert_last_moves(&rt, alloc, &plan);
 }
 
 // Servers 1 and 2; bucket 4 moves to 2 at 500, and 2 is drained at 2,000, with a timeout of 1 s.
 #[test]
-fn a_server_retires_once_the_last_move_from_it_is_past_the_timeout(
-    rt: HostRuntime,
-) -> Result<(), Fail> {
+fn a_server_retires_once_the_last_move_from_it_is_past_the_timeout(rt: HostRuntime) {
     let alloc = rt.alloc();
-    let mut plan = Plan::new(alloc, 8, [ServerId(1), ServerId(2)].as_slice())?;
-    let shift = change(alloc, 500, Kind::Shift, &[(4, 2)])?;
+    let mut plan = Plan::new(alloc, 8, [ServerId(1), ServerId(2)].as_slice()).expect(&rt, "memory");
+    let shift = change(alloc, 500, Kind::Shift, &[(4, 2)]).expect(&rt, "memory");
     assert!(rt; plan.push(shift) == Ok(()));
     let drained = [(1, 1), (3, 1), (4, 1), (5, 1), (7, 1)];
-    let drain = change(alloc, 2_000, Kind::Drain(ServerId(2)), &drained)?;
+    let drain = change(alloc, 2_000, Kind::Drain(ServerId(2)), &drained).expect(&rt, "memory");
     assert!(rt; plan.push(drain) == Ok(()));
     let rows = [
         (2, 3_000, Retirement::TooEarly(1)),
@@ -113,24 +106,21 @@ fn a_server_retires_once_the_last_move_from_it_is_past_the_timeout(
         );
         assert!(rt; answer == want, "{server} at {at}");
     }
-    Ok(())
 }
 
 #[test]
-fn the_plain_setting_is_made(rt: HostRuntime) -> Result<(), Fail> {
-    let setting = Setting::plain(rt.alloc())?;
-    assert_eq!(rt; setting.timeout, 240_000_000_000);
+fn the_plain_setting_is_made(rt: HostRuntime) {
+    let setting = Setting::plain(rt.alloc()).expect(&rt, "memory");
+    assert!(rt; setting.timeout == 240_000_000_000);
     let service = Vip {
         addr: 0xc000_0201,
         port: 80,
     };
     assert!(rt; setting.vips.items() == [service].as_slice());
-    Ok(())
 }
 
 #[test]
-fn faults_print_their_bucket_or_limit(rt: HostRuntime) -> Result<(), Fail> {
-    let alloc = rt.alloc();
+fn faults_print_their_bucket_or_limit(rt: HostRuntime) {
     let rows = [
         (
             PlanFault::StampFell,
@@ -146,8 +136,6 @@ fn faults_print_their_bucket_or_limit(rt: HostRuntime) -> Result<(), Fail> {
         (PlanFault::Memory, "out of memory"),
     ];
     for (fault, want) in rows {
-        let text = format!(in alloc; "{fault}")?;
-        assert_eq!(rt; text.as_str(), want);
+        assert_prints(&rt, rt.alloc(), &fault, want);
     }
-    Ok(())
 }

@@ -1,12 +1,12 @@
 //! Tests of `bm_encap`: carrier headers, intact and damaged.
 ghost use Rattle.std.specs.Prelude.{◌<◌};
 
+use crate::printing::assert_prints;
 use bm_base::{Hop, Moment, MuxId, Past, ServerId, Tag, Version};
 use bm_encap::EncapFault::{BadLength, BadOption, BadOuter, BadSum, Short};
 use bm_encap::{EncapFault, chain, set_chained, unwrap, wrap};
 use bm_ipv4::header_sum;
 use std::process::Abort;
-use std::test::Fail;
 
 // The carrier header of a packet of 50 octets from mux 0 at version 1, direct to server 2, where
 // server 1 had the bucket until the moment 500.
@@ -38,6 +38,14 @@ const CHAINED: [u8; 56] = [
 const MOVED_TWICE: [u8; 56] = [
     0x4e, 0x00, 0x00, 0x6a, 0x00, 0x00, 0x40, 0x00, 0x40, 0x04, 0xde, 0xc4, 0xac, 0x1f, 0x00, 0x00,
     0xac, 0x10, 0x00, 0x01, 0x9e, 0x24, 0x00, 0x02, 0xac, 0x10, 0x00, 0x03, 0x00, 0x00, 0x00, 0x00,
+    0x00, 0x00, 0x02, 0x58, 0xac, 0x10, 0x00, 0x02, 0x00, 0x00, 0x00, 0x00, 0x00, 0x00, 0x01, 0xf4,
+    0x00, 0x00, 0x00, 0x02, 0x00, 0x00, 0x00, 0x00,
+];
+
+// The header of its first hop, to server 3.
+const MOVED_ONCE: [u8; 56] = [
+    0x4e, 0x00, 0x00, 0x6a, 0x00, 0x00, 0x40, 0x00, 0x40, 0x04, 0xdd, 0xc2, 0xac, 0x1f, 0x00, 0x00,
+    0xac, 0x10, 0x00, 0x03, 0x9e, 0x24, 0x01, 0x02, 0xac, 0x10, 0x00, 0x03, 0x00, 0x00, 0x00, 0x00,
     0x00, 0x00, 0x02, 0x58, 0xac, 0x10, 0x00, 0x02, 0x00, 0x00, 0x00, 0x00, 0x00, 0x00, 0x01, 0xf4,
     0x00, 0x00, 0x00, 0x02, 0x00, 0x00, 0x00, 0x00,
 ];
@@ -111,7 +119,7 @@ fn assert_damaged(rt: &impl Abort, header: &[u8; 56], mended: bool, change: u8, 
             if mended {
                 mend(&mut octets);
             }
-            assert_eq!(rt; unwrap(&octets).err(), *want, "at {place}");
+            assert!(rt; unwrap(&octets).err() == *want, "at {place}");
         }
     }
 }
@@ -283,16 +291,31 @@ fn an_octet_is_changed_and_the_checksum_too(rt: HostRuntime) {
 }
 
 #[test]
-fn a_header_is_read_and_spelled(rt: HostRuntime) -> Result<(), Fail> {
+fn a_header_is_read(rt: HostRuntime) {
+    let rows = [
+        (&DIRECT, tag()),
+        (&MOVED_TWICE, moved_twice()),
+        (
+            &UNMOVED,
+            Tag {
+                prev: None,
+                version: Version(0),
+                ..tag()
+            },
+        ),
+    ];
+    for (header, want) in rows {
+        assert!(rt; unwrap(&packet(header)) == Ok((want, [7; 50].as_slice())));
+    }
+}
+
+#[test]
+fn a_header_is_spelled(rt: HostRuntime) {
     let octets = packet(&DIRECT);
-    let (read, inner) = unwrap(&octets)?;
-    assert!(rt; read == tag());
-    assert!(rt; inner == [7; 50].as_slice());
-    let mut out = vec![in rt.alloc(); 9]?;
-    wrap(&read, inner, &mut out)?;
-    assert_eq!(rt; out.first().copied(), Some(9));
-    assert!(rt; &out[1..] == octets.as_slice());
-    Ok(())
+    let (tag, inner) = unwrap(&octets).expect(&rt, "a header");
+    let mut out = vec![in rt.alloc(); 9].expect(&rt, "memory");
+    assert!(rt; wrap(&tag, inner, &mut out) == Ok(()));
+    assert!(rt; out.first() == Some(&9) && out.get(1..) == Some(octets.as_slice()));
 }
 
 #[test]
@@ -307,64 +330,55 @@ fn the_next_hop_is_written_in_place_and_its_tag_given(rt: HostRuntime) {
     assert!(rt; octets == packet(&CHAINED));
 }
 
+// A packet without a previous server, and one after its last hop, stay as they are.
 #[test]
 fn the_next_hop_is_written_in_place(rt: HostRuntime) {
-    let mut octets = packet(&DIRECT);
-    assert!(rt; set_chained(&mut octets) == Ok(()));
-    assert!(rt; octets == packet(&CHAINED));
-    // There is no server before that.
-    assert!(rt; set_chained(&mut octets) == Err(BadOption(23)));
-    assert!(rt; octets == packet(&CHAINED));
-    // A direct packet without a previous server.
-    let mut alone = packet(&UNMOVED);
-    assert!(rt; unwrap(&alone).is_ok());
-    assert!(rt; set_chained(&mut alone) == Err(BadOption(23)));
-    assert!(rt; alone == packet(&UNMOVED));
+    for (before, want, after) in [
+        (&DIRECT, Ok(()), &CHAINED),
+        (&CHAINED, Err(BadOption(23)), &CHAINED),
+        (&UNMOVED, Err(BadOption(23)), &UNMOVED),
+        (&MOVED_TWICE, Ok(()), &MOVED_ONCE),
+        (&MOVED_ONCE, Ok(()), &TWICE),
+        (&TWICE, Err(BadOption(22)), &TWICE),
+    ] {
+        let mut octets = packet(before);
+        assert!(rt; set_chained(&mut octets) == want);
+        assert!(rt; octets == packet(after));
+    }
 }
 
-#[test]
-fn an_older_server_has_no_previous_one(rt: HostRuntime) {
+/// Places, both ends included, of a packet that moved twice, and the octet that is written there.
+type Written = (usize, usize, u8);
+
+const WRITTEN: [(&'static [Written], EncapFault); 5] = [
+    // An older server has no previous one.
+    (&[(24, 35, 0)], BadOption(24)),
+    (&[(24, 35, 0), (23, 23, 1)], BadOption(24)),
+    (&[(24, 35, 0), (23, 23, 0)], BadOption(36)),
+    // The older server is the previous one.
+    (&[(39, 39, 3)], BadOption(36)),
+    // A chained copy goes to the older server.
+    (&[(22, 22, 1), (19, 19, 2)], BadOption(24)),
+];
+
+fn written(changes: &[Written]) -> [u8; 106] {
     let mut octets = packet(&MOVED_TWICE);
-    for octet in &mut octets[24..36] {
-        *octet = 0;
+    for (first, last, new) in changes {
+        for place in *first..last.saturating_add(1) {
+            if let Some(octet) = octets.get_mut(place) {
+                *octet = *new;
+            }
+        }
     }
     mend(&mut octets);
-    assert_eq!(rt; unwrap(&octets).err(), Some(BadOption(24)));
-    octets[23] = 1;
-    mend(&mut octets);
-    assert_eq!(rt; unwrap(&octets).err(), Some(BadOption(24)));
-    octets[23] = 0;
-    mend(&mut octets);
-    assert_eq!(rt; unwrap(&octets).err(), Some(BadOption(36)));
+    octets
 }
 
 #[test]
-fn servers_before_differ_and_are_where_the_copy_goes(rt: HostRuntime) {
-    // The older server is the previous one.
-    let mut octets = packet(&MOVED_TWICE);
-    octets[39] = 3;
-    mend(&mut octets);
-    assert_eq!(rt; unwrap(&octets).err(), Some(BadOption(36)));
-    // A chained copy goes to the older server.
-    let mut octets = packet(&MOVED_TWICE);
-    octets[22] = 1;
-    octets[19] = 2;
-    mend(&mut octets);
-    assert_eq!(rt; unwrap(&octets).err(), Some(BadOption(24)));
-}
-
-#[test]
-fn a_packet_goes_on_twice(rt: HostRuntime) -> Result<(), Fail> {
-    let mut octets = packet(&MOVED_TWICE);
-    assert!(rt; unwrap(&octets)?.0 == moved_twice());
-    assert!(rt; set_chained(&mut octets) == Ok(()));
-    let [high, low] = [octets[10], octets[11]];
-    assert!(rt; (high, low) == (0xdd, 0xc2));
-    assert!(rt; set_chained(&mut octets) == Ok(()));
-    assert!(rt; octets == packet(&TWICE));
-    assert!(rt; set_chained(&mut octets) == Err(BadOption(22)));
-    assert!(rt; octets == packet(&TWICE));
-    Ok(())
+fn servers_before_are_in_order_differ_and_are_where_the_copy_goes(rt: HostRuntime) {
+    for (changes, want) in &WRITTEN {
+        assert!(rt; unwrap(&written(changes)).err() == Some(*want));
+    }
 }
 
 #[test]
@@ -372,22 +386,21 @@ fn octets_are_cut_or_added(rt: HostRuntime) {
     let octets = packet(&DIRECT);
     for len in 0..106 {
         let want = if len < 56 { Short } else { BadLength };
-        assert_eq!(rt; unwrap(&octets[..len]).err(), Some(want), "at {len}");
+        assert!(rt; unwrap(&octets[..len]).err() == Some(want), "at {len}");
     }
     let mut longer = [7; 107];
     for (octet, given) in longer.iter_mut().zip(&octets) {
         *octet = *given;
     }
-    assert_eq!(rt; unwrap(&longer).err(), Some(BadLength));
+    assert!(rt; unwrap(&longer).err() == Some(BadLength));
 }
 
 #[test]
-fn faults_print_their_place(rt: HostRuntime) -> Result<(), Fail> {
+fn faults_print_their_place(rt: HostRuntime) {
     for (fault, want) in [
         (BadOuter(12), "octet 12 of the outer header isn't right"),
         (BadOption(42), "octet 42 of the option isn't right"),
     ] {
-        assert_eq!(rt; fault.to_string(rt.alloc())?.as_str(), want);
+        assert_prints(&rt, rt.alloc(), &fault, want);
     }
-    Ok(())
 }

@@ -2,13 +2,13 @@
 ghost use Rattle.std.specs.Prelude.{◌≡◌, ◌-◌, ◌%◌};
 
 use crate::controller::assert_change;
+use crate::printing::assert_prints;
 use bm_base::{Memory, Moment, ServerId};
 use bm_controller::{RackController, RackRefusal};
 use bm_policy::Policy;
 use bm_quota::Refusal;
 use bm_table::{Kind, Plan};
 use std::alloc::Global;
-use std::test::Fail;
 
 const SERVERS: [ServerId; 2] = [ServerId(1), ServerId(2)];
 
@@ -31,25 +31,22 @@ fn carried_out(alloc: Global) -> Result<([Result<(), RackRefusal>; 3], Plan), Me
 }
 
 #[test]
-fn rebalancing_stays_within_racks(rt: HostRuntime) -> Result<(), Fail> {
-    let (answers, plan) = carried_out(rt.alloc())?;
+fn rebalancing_stays_within_racks(rt: HostRuntime) {
+    let (answers, plan) = carried_out(rt.alloc()).expect(&rt, "memory");
     let [added, drained, shifted] = answers;
     assert!(rt; added == Ok(()));
     assert!(rt; drained == Err(RackRefusal::LastInRack));
     assert!(rt; shifted == Err(RackRefusal::WrongRack));
     assert_change(&rt, &plan, 0, Kind::Add(ServerId(3)), &[(4, 3), (6, 3)]);
-    Ok(())
 }
 
 #[test]
-fn refusals_of_racks_print_their_names(rt: HostRuntime) -> Result<(), Fail> {
-    let alloc = rt.alloc();
+fn refusals_of_racks_print_their_names(rt: HostRuntime) {
     for (refusal, want) in [
         (RackRefusal::Base(Refusal::LastServer), "last server"),
         (RackRefusal::LastInRack, "last in rack"),
         (RackRefusal::WrongRack, "wrong rack"),
     ] {
-        assert_eq!(rt; refusal.to_string(alloc)?.as_str(), want);
+        assert_prints(&rt, rt.alloc(), &refusal, want);
     }
-    Ok(())
 }

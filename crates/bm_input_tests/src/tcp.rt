@@ -1,8 +1,8 @@
 //! Tests of `bm_tcp`: captured segments, and resets.
+use crate::printing::assert_prints;
 use bm_base::{Flow, Segment};
 use bm_ipv4::read_ipv4;
 use bm_tcp::{InnerFault, TcpFault, read_tcp, reset_for};
-use std::test::Fail;
 
 // Packets of a visit to a web server, as a capture has them, each cut after 52 octets: the first,
 // one with data, and the one that ends the visit.
@@ -28,7 +28,7 @@ const FIN: [u8; 52] = [
 ];
 
 #[test]
-fn captured_segments_have_the_fields_that_tshark_reads(rt: HostRuntime) -> Result<(), Fail> {
+fn captured_segments_have_the_fields_that_tshark_reads(rt: HostRuntime) {
     let flow = Flow {
         src: 0xc633_6401,
         dst: 0xc000_0201,
@@ -49,15 +49,14 @@ fn captured_segments_have_the_fields_that_tshark_reads(rt: HostRuntime) -> Resul
             len,
             flags,
         };
-        let view = read_ipv4(&octets)?;
-        assert_eq!(rt; view.protocol(), 6);
-        assert!(rt; read_tcp(&view)? == want, "at {seq}");
+        let view = read_ipv4(&octets).expect(&rt, "the header is whole");
+        assert!(rt; view.protocol() == 6);
+        assert!(rt; read_tcp(&view) == Ok(want), "at {seq}");
     }
-    Ok(())
 }
 
 #[test]
-fn a_segment_is_answered_by_a_reset(rt: HostRuntime) -> Result<(), Fail> {
+fn a_segment_is_answered_by_a_reset(rt: HostRuntime) {
     let data = Segment {
         flow: Flow {
             src: 0x0a00_0001,
@@ -86,11 +85,10 @@ fn a_segment_is_answered_by_a_reset(rt: HostRuntime) -> Result<(), Fail> {
         let segment = Segment { flags, ..data };
         assert!(rt; reset_for(&segment) == want, "at {flags}");
     }
-    Ok(())
 }
 
 #[test]
-fn faults_print_what_is_wrong(rt: HostRuntime) -> Result<(), Fail> {
+fn faults_print_what_is_wrong(rt: HostRuntime) {
     for (fault, want) in [
         (InnerFault::Fragment, "the packet is a fragment"),
         (
@@ -98,7 +96,6 @@ fn faults_print_what_is_wrong(rt: HostRuntime) -> Result<(), Fail> {
             "the TCP header is cut short",
         ),
     ] {
-        assert_eq!(rt; fault.to_string(rt.alloc())?.as_str(), want);
+        assert_prints(&rt, rt.alloc(), &fault, want);
     }
-    Ok(())
 }

@@ -4,7 +4,6 @@ ghost use Rattle.std.specs.Prelude.{◌*◌};
 use bm_base::{Fate, Hop, Moment, MuxId, ServerId, Tag, Version};
 use bm_fault::{FaultRows, Faults, Flight, Wire};
 use bm_table::FaultRow;
-use std::test::Fail;
 
 fn flight(packet: u32) -> Flight {
     Flight {
@@ -29,7 +28,7 @@ fn row(packet: u32, hop: Hop, copies: u8, delay: u64) -> FaultRow {
 }
 
 #[test]
-fn copies_come_by_due_moment_and_then_as_they_were_put(rt: HostRuntime) -> Result<(), Fail> {
+fn copies_come_by_due_moment_and_then_as_they_were_put(rt: HostRuntime) {
     let mut wire = Wire::new(rt.alloc());
     assert!(rt; wire.least().is_none() && wire.pop().is_none());
     for (due, packet) in [(30, 1), (10, 2), (20, 3), (10, 4), (0, 5), (10, 6)] {
@@ -40,18 +39,17 @@ fn copies_come_by_due_moment_and_then_as_they_were_put(rt: HostRuntime) -> Resul
         assert!(rt; wire.pop() == Some(flight(packet)), "at {due}");
     }
     assert!(rt; wire.pop().is_none());
-    Ok(())
 }
 
 #[test]
-fn the_first_row_of_a_packet_and_hop_counts(rt: HostRuntime) -> Result<(), Fail> {
+fn the_first_row_of_a_packet_and_hop_counts(rt: HostRuntime) {
     let given = [
         row(3, Hop::Direct, 0, 0),
         row(3, Hop::Direct, 2, 5),
         row(3, Hop::Chained, 3, 60_000_000_000),
         row(1, Hop::Chained, 1, 7),
     ];
-    let rows = FaultRows::new(rt.alloc(), given.as_slice())?;
+    let rows = FaultRows::new(rt.alloc(), given.as_slice()).expect(&rt, "memory");
     for (packet, hop, copies, delay) in [
         (3, Hop::Direct, 0, 0),
         (3, Hop::Chained, 3, 60_000_000_000),
@@ -64,7 +62,6 @@ fn the_first_row_of_a_packet_and_hop_counts(rt: HostRuntime) -> Result<(), Fail>
             "at {packet}"
         );
     }
-    Ok(())
 }
 
 #[test]

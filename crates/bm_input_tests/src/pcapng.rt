@@ -6,8 +6,8 @@ use bm_base::{Body, Capture, Octets, Reason};
 use bm_io::{MemSource, Source, SureSource};
 use bm_pcap::CaptureFault;
 use bm_pcapng::{Front, NgItem, NgReader, read_ng};
-use std::alloc::{AllocError, Global};
-use std::test::Fail;
+use std::alloc::Global;
+use std::process::Abort;
 
 // Raw IP: a first segment, and one microsecond later ten octets of data. In both byte orders.
 const LITTLE: [u8; 204] = [
@@ -83,34 +83,33 @@ const MIXED: [u8; 684] = [
 
 // What reading these octets gives, if the source gives at most `step` at a time.
 fn read(
+    rt: &impl Abort,
     alloc: Global,
     octets: &[u8],
     step: usize,
-) -> Result<Result<(Capture, Octets), CaptureFault>, AllocError>
+) -> Result<(Capture, Octets), CaptureFault>
     requires { 1 ≤ step }
 {
-    let src = SureSource::new(octets.to_vec(alloc)?, step);
+    let src = SureSource::new(octets.to_vec(alloc).expect(rt, "memory"), step);
     match NgReader::start(alloc, src) {
-        Ok(mut reader) => Ok(read_ng(alloc, &mut reader, &VIPS)),
-        Err((_, e)) => Ok(Err(e)),
+        Ok(mut reader) => read_ng(alloc, &mut reader, &VIPS),
+        Err((_, e)) => Err(e),
     }
 }
 
 #[test]
-fn orders_and_units_give_the_same_records_however_the_source_cuts(
-    rt: HostRuntime,
-) -> Result<(), Fail> {
+fn orders_and_units_give_the_same_records_however_the_source_cuts(rt: HostRuntime) {
     let want = opened();
     for octets in [LITTLE.as_slice(), &BIG, &NANO] {
         for step in [1, 30] {
-            check(&rt, read(rt.alloc(), octets, step)??, &want, None);
+            let capture = read(&rt, rt.alloc(), octets, step).expect(&rt, "a capture");
+            check(&rt, capture, &want, None);
         }
     }
-    Ok(())
 }
 
 #[test]
-fn sections_and_interfaces_are_kept_apart(rt: HostRuntime) -> Result<(), Fail> {
+fn sections_and_interfaces_are_kept_apart(rt: HostRuntime) {
     let want = [
         record(0, Body::Steerable(SYN)),
         record(5, Body::Steerable(DATA)),
@@ -118,12 +117,12 @@ fn sections_and_interfaces_are_kept_apart(rt: HostRuntime) -> Result<(), Fail> {
         record(5, Body::Steerable(DATA)),
         record(7000, Body::Steerable(DATA)),
     ];
-    check(&rt, read(rt.alloc(), &MIXED, 13)??, &want, None);
-    Ok(())
+    let capture = read(&rt, rt.alloc(), &MIXED, 13).expect(&rt, "a capture");
+    check(&rt, capture, &want, None);
 }
 
 #[test]
-fn captures_are_refused_by_their_first_fault(rt: HostRuntime) -> Result<(), Fail> {
+fn captures_are_refused_by_their_first_fault(rt: HostRuntime) {
     // An octet of the capture that is overwritten, and the fault.
     let rows = [
         (0, 0x0b, CaptureFault::NotACapture),
@@ -143,14 +142,13 @@ fn captures_are_refused_by_their_first_fault(rt: HostRuntime) -> Result<(), Fail
         if let Some(old) = octets.get_mut(place) {
             *old = octet;
         }
-        let answer = read(rt.alloc(), &octets, 100)?;
+        let answer = read(&rt, rt.alloc(), &octets, 100);
         assert!(rt; matches!(answer, Err(e) if e == want), "at {place}");
     }
-    Ok(())
 }
 
 #[test]
-fn a_cut_capture_keeps_the_records_before_the_cut(rt: HostRuntime) -> Result<(), Fail> {
+fn a_cut_capture_keeps_the_records_before_the_cut(rt: HostRuntime) {
     // Where the capture ends, how many records it has, and which one is cut short.
     let rows = [
         (12, 0, Some(1)),
@@ -163,81 +161,81 @@ fn a_cut_capture_keeps_the_records_before_the_cut(rt: HostRuntime) -> Result<(),
     ];
     for row in rows {
         let octets = LITTLE.get(..row.0).unwrap_or(&[]);
-        check_cut(&rt, read(rt.alloc(), octets, 100)??, row);
+        let capture = read(&rt, rt.alloc(), octets, 100).expect(&rt, "a capture");
+        check_cut(&rt, capture, row);
     }
-    let answer = read(rt.alloc(), &LITTLE[..11], 100)?;
+    let answer = read(&rt, rt.alloc(), &LITTLE[..11], 100);
     assert!(rt; matches!(answer, Err(CaptureFault::NotACapture)));
-    Ok(())
 }
 
 #[test]
-fn a_failed_read_is_answered_again(rt: HostRuntime) -> Result<(), Fail> {
+fn a_failed_read_is_answered_again(rt: HostRuntime) {
     let alloc = rt.alloc();
     // The first call reads the whole capture, the second finds its end.
-    let src = MemSource::new(MIXED.to_vec(alloc)?, 1000, vec![in alloc; 2]?);
+    let src = MemSource::new(
+        MIXED.to_vec(alloc).expect(&rt, "memory"),
+        1000,
+        vec![in alloc; 2].expect(&rt, "memory"),
+    );
     let Ok(mut reader) = NgReader::start(alloc, src) else {
-        return Err(Fail::from("the first block is whole"));
+        panic!(rt; "the first block is whole");
     };
     for count in 1..6 {
-        assert!(rt; matches!(reader.next()?, NgItem::Record { number, .. } if number == count));
+        assert!(rt; matches!(reader.next(), Ok(NgItem::Record { number, .. }) if number == count));
     }
     assert!(rt; matches!(reader.next(), Err(CaptureFault::ReadFault)));
     assert!(rt; matches!(reader.next(), Err(CaptureFault::ReadFault)));
     let again = NgReader::start(alloc, reader.into_source());
     assert!(rt; matches!(again, Err((_, CaptureFault::NotACapture))));
-    Ok(())
 }
 
 #[test]
-fn records_have_their_link_types_and_octets(rt: HostRuntime) -> Result<(), Fail> {
+fn records_have_their_link_types_and_octets(rt: HostRuntime) {
     let alloc = rt.alloc();
-    let src = SureSource::new(MIXED.to_vec(alloc)?, 50);
+    let src = SureSource::new(MIXED.to_vec(alloc).expect(&rt, "memory"), 50);
     let Ok(mut reader) = NgReader::start(alloc, src) else {
-        return Err(Fail::from("the first block is whole"));
+        panic!(rt; "the first block is whole");
     };
     for (want, size) in [(1, 54), (101, 50), (147, 40), (101, 40), (101, 50)] {
-        let item = reader.next()?;
+        let item = reader.next();
         assert!(rt;
             matches!(
                 item,
-                NgItem::Record { link, octets, .. } if link == want && octets.len() == size
+                Ok(NgItem::Record { link, octets, .. }) if link == want && octets.len() == size
             )
         );
     }
     assert!(rt; matches!(reader.next(), Ok(NgItem::End)));
     assert!(rt; matches!(reader.next(), Ok(NgItem::End)));
-    Ok(())
 }
 
 #[test]
-fn the_first_time_is_told(rt: HostRuntime) -> Result<(), Fail> {
+fn the_first_time_is_told(rt: HostRuntime) {
     let alloc = rt.alloc();
-    let src = SureSource::new(MIXED.to_vec(alloc)?, 50);
+    let src = SureSource::new(MIXED.to_vec(alloc).expect(&rt, "memory"), 50);
     let Ok(mut reader) = NgReader::start(alloc, src) else {
-        return Err(Fail::from("the first block is whole"));
+        panic!(rt; "the first block is whole");
     };
-    assert_eq!(rt; reader.began(), 0);
-    read_ng(alloc, &mut reader, &VIPS)?;
+    assert!(rt; reader.began() == 0);
+    assert!(rt; read_ng(alloc, &mut reader, &VIPS).is_ok());
     // 2,048 units of 2^-10 s
-    assert_eq!(rt; reader.began(), 2_000_000_000);
-    Ok(())
+    assert!(rt; reader.began() == 2_000_000_000);
 }
 
 #[test]
-fn a_front_gives_its_octets_first(rt: HostRuntime) -> Result<(), Fail> {
+fn a_front_gives_its_octets_first(rt: HostRuntime) {
     let alloc = rt.alloc();
-    let src = SureSource::new([1, 2, 3, 4, 5, 6].to_vec(alloc)?, 2);
+    let src = SureSource::new([1, 2, 3, 4, 5, 6].to_vec(alloc).expect(&rt, "memory"), 2);
     let Ok(mut front) = Front::new(src) else {
-        return Err(Fail::from("the source doesn't fail"));
+        panic!(rt; "the source doesn't fail");
     };
-    assert_eq!(rt; front.magic(), [1, 2, 3, 4].as_slice());
+    assert!(rt; front.magic() == [1, 2, 3, 4].as_slice());
     let mut octets = [0; 3];
-    assert_eq!(rt; front.take(&mut octets)?, 3);
-    assert_eq!(rt; octets, [1, 2, 3]);
-    assert_eq!(rt; front.take(&mut octets)?, 1);
-    assert_eq!(rt; front.take(&mut octets)?, 2);
-    assert_eq!(rt; octets, [5, 6, 3]);
-    assert_eq!(rt; front.take(&mut octets)?, 0);
-    assert_eq!(rt; front.magic(), [1, 2, 3, 4].as_slice());
-    Ok(())
+    assert!(rt; front.take(&mut octets) == Ok(3));
+    assert!(rt; octets == [1, 2, 3]);
+    assert!(rt; front.take(&mut octets) == Ok(1));
+    assert!(rt; front.take(&mut octets) == Ok(2));
+    assert!(rt; octets == [5, 6, 3]);
+    assert!(rt; front.take(&mut octets) == Ok(0));
+    assert!(rt; front.magic() == [1, 2, 3, 4].as_slice());
 }

@@ -3,7 +3,7 @@ use Rattle.std.proofs.lemmas.Bool.{cases_eq, eq-eqb}
 use Rattle.bm_base.specs.declared.ids.ServerId.{ServerId}
 use Rattle.bm_controller.specs.Racks.{EachRackHasMember}
 use Rattle.bm_controller.specs.Controlled.{in_rack, members_of, Controlled}
-use Rattle.bm_table_tests.proofs.racks.carried_out.Goals as goal
+use Rattle.bm_input_tests.proofs.racks.carried_out.Goals as goal
 
 each_has : (first_rack second_rack : ℕ) → first_rack ≡ 0 → second_rack ≡ 1
     → EachRackHasMember 2 (members_of (record { 0 = 1 } ∷ record { 0 = 2 } ∷ []) (1 ∷ 1 ∷ []) (first_rack ∷ second_rack ∷ []))

@@ -1,19 +1,23 @@
 //! Tests of `bm_base`.
+ghost use Rattle.std.specs.Prelude.{◌≡◌, ◌<◌, ◌++◌, ◌∷◌, List, [], length};
+
 use bm_base::flags::{ACK, CWR, ECE, FIN, PSH, RST, SYN, URG};
 use bm_base::{
     Entry, Flow, Hop, LAST, Label, List, Moment, MuxId, Octets, Past, Segment, ServerId, Tag, Text,
     Version, is_opening, mux_addr, mux_at, server_addr, server_of, tag_of,
 };
-use std::test::Fail;
+use std::process::Abort;
 
 #[test]
-fn a_list_and_a_text_give_back_what_they_were_made_of(rt: HostRuntime) -> Result<(), Fail> {
-    let alloc = rt.alloc();
-    let list = List::of(vec![in alloc; 3u32, 1, 2]?);
-    assert_eq!(rt; list.items(), [3, 1, 2].as_slice());
-    let text = Text::of(String::from_str(alloc, "a b")?);
-    assert_eq!(rt; text.as_str(), "a b");
-    Ok(())
+fn a_list_gives_back_what_it_was_made_of(rt: HostRuntime) {
+    let list = List::of(vec![in rt.alloc(); 3u32, 1, 2].expect(&rt, "memory"));
+    assert!(rt; list.items() == [3, 1, 2].as_slice());
+}
+
+#[test]
+fn a_text_gives_back_what_it_was_made_of(rt: HostRuntime) {
+    let text = Text::of(String::from_str(rt.alloc(), "a b").expect(&rt, "memory"));
+    assert!(rt; text.as_str() == "a b");
 }
 
 #[test]
@@ -42,7 +46,7 @@ fn a_segment_opens_with_syn_and_without_ack_rst_and_fin(rt: HostRuntime) {
             len: 1,
             flags,
         };
-        assert_eq!(rt; is_opening(&segment), want, "at {flags}");
+        assert!(rt; is_opening(&segment) == want, "at {flags}");
     }
 }
 
@@ -81,32 +85,35 @@ fn a_tag_has_the_destination_of_its_hop(rt: HostRuntime) {
     }
 }
 
-#[test]
-fn octets_give_back_what_was_pushed(rt: HostRuntime) -> Result<(), Fail> {
-    let mut octets = Octets::new(rt.alloc());
-    assert_eq!(rt; octets.len(), 0);
-    octets.push(&[1, 2])?;
-    octets.push(&[])?;
-    assert_eq!(rt; octets.len(), 2);
-    assert_eq!(rt; octets.get(0), [1, 2].as_slice());
-    assert_eq!(rt; octets.get(1), [].as_slice());
-    Ok(())
+/// The lists are these, in this order.
+fn are(octets: &Octets, want: &[&[u8]]) -> bool {
+    for place in 0..octets.len() {
+        if want.get(place as usize).copied() != Some(octets.get(place)) {
+            return false;
+        }
+    }
+    octets.len() as usize == want.len()
+}
+
+fn push(rt: &impl Abort, octets: &mut Octets, list: &[u8])
+    requires { length octets.old < 4294967295 }
+    ensures { octets.new ≡ octets.old ++ list.now ∷ [] }
+{
+    octets.push(list).expect(rt, "memory");
 }
 
 #[test]
-fn octets_that_are_cleared_are_gone(rt: HostRuntime) -> Result<(), Fail> {
+fn octets_give_back_what_was_pushed_and_not_cleared(rt: HostRuntime) {
     let mut octets = Octets::new(rt.alloc());
-    octets.push(&[1, 2])?;
-    octets.push(&[3])?;
-    octets.push(&[4, 5, 6])?;
-    octets.clear_first(2);
-    assert_eq!(rt; octets.len(), 3);
-    assert_eq!(rt; octets.get(0), [].as_slice());
-    assert_eq!(rt; octets.get(1), [].as_slice());
-    assert_eq!(rt; octets.get(2), [4, 5, 6].as_slice());
-    octets.push(&[7])?;
-    assert_eq!(rt; octets.get(3), [7].as_slice());
-    Ok(())
+    assert!(rt; are(&octets, &[]));
+    push(&rt, &mut octets, &[1, 2]);
+    push(&rt, &mut octets, &[]);
+    push(&rt, &mut octets, &[3]);
+    push(&rt, &mut octets, &[4, 5, 6]);
+    assert!(rt; are(&octets, &[&[1, 2], &[], &[3], &[4, 5, 6]]));
+    octets.clear_first(3);
+    push(&rt, &mut octets, &[7]);
+    assert!(rt; are(&octets, &[&[], &[], &[], &[4, 5, 6], &[7]]));
 }
 
 #[test]
@@ -121,21 +128,16 @@ fn servers_and_muxes_have_addresses(rt: HostRuntime) {
     for (addr, server) in rows {
         assert!(rt; server_of(addr) == server);
     }
-    assert_eq!(rt; server_addr(ServerId(2)), 0xac10_0002);
-    assert_eq!(rt; mux_addr(MuxId(63)), 0xac1f_003f);
+    assert!(rt; server_addr(ServerId(2)) == 0xac10_0002);
+    assert!(rt; mux_addr(MuxId(63)) == 0xac1f_003f);
     assert!(rt; mux_at(0xac1f_003f) == Some(MuxId(63)));
     assert!(rt; mux_at(0xac1f_0040) == None);
 }
 
-// RFC 9293, section 3.1
+// RFC 9293, section 3.1; no clock of a run is above the last.
 #[test]
-fn flags_are_the_bits_of_their_octet(rt: HostRuntime) {
+fn flags_are_the_bits_of_their_octet_and_the_last_clock_is_below_2_to_the_63(rt: HostRuntime) {
     let all = [FIN, SYN, RST, PSH, ACK, URG, ECE, CWR];
-    let bits = [0x01, 0x02, 0x04, 0x08, 0x10, 0x20, 0x40, 0x80];
-    assert_eq!(rt; all, bits);
-}
-
-#[test]
-fn no_clock_of_a_run_is_above_the_last(rt: HostRuntime) {
-    assert_eq!(rt; LAST, 9_000_000_000_000_000_000);
+    assert!(rt; all == [0x01, 0x02, 0x04, 0x08, 0x10, 0x20, 0x40, 0x80]);
+    assert!(rt; LAST == 9_000_000_000_000_000_000);
 }

@@ -1,6 +1,10 @@
 //! Tests of `bm_link`: captured frames.
+ghost use Rattle.std.specs.Prelude.{◌<◌, ◌^◌, length, IsTrue};
+ghost use Rattle.bm_link.specs.Links.{is_link};
+
 use bm_base::{Body, Flow, Reason, Segment, Vip};
 use bm_link::{LinkFault, classify, network_part};
+use std::process::Abort;
 
 // A SYN on Ethernet with a tag, cut after the fixed part of its TCP header.
 const TAGGED: [u8; 58] = [
@@ -85,40 +89,68 @@ fn syn(src: u32, sport: u16, dport: u16, seq: u32) -> Body {
     })
 }
 
-#[test]
-fn captured_frames_hold_what_tshark_reads(rt: HostRuntime) {
-    let tagged = syn(0xc633_6403, 57262, 80, 2_144_339_887);
-    assert!(rt; classify(1, &TAGGED, &VIPS) == (tagged, &TAGGED[18..]));
-    let cooked = syn(0xc633_6401, 39634, 6379, 1_844_306_504);
-    assert!(rt; classify(113, &COOKED, &VIPS) == (cooked, &COOKED[16..]));
-    let raw = syn(0xc633_6401, 44120, 80, 3_830_462_710);
-    assert!(rt; classify(101, &RAW, &VIPS) == (raw, RAW.as_slice()));
-    assert!(rt; classify(228, &RAW, &VIPS) == (raw, RAW.as_slice()));
-    assert!(rt; classify(1, &ARP, &VIPS).0 == Body::Unsteered(Reason::NotIpv4));
-    assert!(rt; classify(1, &IPV6, &VIPS).0 == Body::Unsteered(Reason::NotIpv4));
-    assert!(rt; classify(1, &ICMP, &VIPS).0 == Body::Unsteered(Reason::NotTcp));
-    assert!(rt; classify(1, &FRAGMENT, &VIPS).0 == Body::Unsteered(Reason::Fragment));
-    assert!(rt; classify(1, &ANSWER, &VIPS).0 == Body::Unsteered(Reason::OtherDestination));
+// The frame holds this, and its packet is this part of it.
+fn assert_holds(rt: &impl Abort, link: u16, octets: &[u8], body: Body, packet: &[u8])
+    requires link { IsTrue (is_link link) }
+    requires short { length octets.now < 2 ^ 32 }
+{
+    assert!(rt;
+        classify(link, octets, &VIPS) == (body, packet),
+        "of {link}"
+    );
+}
+
+// The Ethernet frame isn't steered.
+fn assert_unsteered(rt: &impl Abort, octets: &[u8], reason: Reason)
+    requires { length octets.now < 2 ^ 32 }
+{
+    assert!(rt; classify(1, octets, &VIPS).0 == Body::Unsteered(reason));
 }
 
 #[test]
+fn captured_frames_hold_what_tshark_reads(rt: HostRuntime) {
+    let tagged = syn(0xc633_6403, 57262, 80, 2_144_339_887);
+    assert_holds(&rt, 1, &TAGGED, tagged, &TAGGED[18..]);
+    let cooked = syn(0xc633_6401, 39634, 6379, 1_844_306_504);
+    assert_holds(&rt, 113, &COOKED, cooked, &COOKED[16..]);
+    let raw = syn(0xc633_6401, 44120, 80, 3_830_462_710);
+    assert_holds(&rt, 101, &RAW, raw, &RAW);
+    assert_holds(&rt, 228, &RAW, raw, &RAW);
+    assert_unsteered(&rt, &ARP, Reason::NotIpv4);
+    assert_unsteered(&rt, &IPV6, Reason::NotIpv4);
+    assert_unsteered(&rt, &ICMP, Reason::NotTcp);
+    assert_unsteered(&rt, &FRAGMENT, Reason::Fragment);
+    assert_unsteered(&rt, &ANSWER, Reason::OtherDestination);
+}
+
+// The part that the frame carries, or its fault, is this.
+fn assert_part(rt: &impl Abort, link: u16, octets: &[u8], want: Result<&[u8], LinkFault>)
+    requires { IsTrue (is_link link) }
+{
+    assert!(rt; network_part(link, octets) == want, "of {link}");
+}
+
+// A header of Linux cooked version 2: protocol, two octets, interface, kind, way, address.
+const COOKED_2: [u8; 22] = [
+    0x08, 0x00, 0, 0, 0, 0, 0, 2, 0, 1, 0, 6, 0xee, 0xcd, 2, 0x61, 0x55, 0x6a, 0, 0, 0x45, 0,
+];
+
+// Two tags are skipped, and a third isn't.
+const TAGS: [u8; 23] = [
+    0, 0, 0, 0, 0, 0, 0, 0, 0, 0, 0, 0, 0x88, 0xa8, 0, 1, 0x81, 0, 0, 2, 0x08, 0x00, 0x45,
+];
+
+const THIRD: [u8; 26] = [
+    0, 0, 0, 0, 0, 0, 0, 0, 0, 0, 0, 0, 0x81, 0, 0, 1, 0x81, 0, 0, 2, 0x81, 0, 0, 3, 0x08, 0x00,
+];
+
+#[test]
 fn a_part_begins_where_the_link_type_says(rt: HostRuntime) {
-    assert!(rt; network_part(1, &TAGGED) == Ok(&TAGGED[18..]));
-    assert!(rt; network_part(1, &TAGGED[..17]) == Err(LinkFault::Short));
-    assert!(rt; network_part(113, &COOKED) == Ok(&COOKED[16..]));
-    // A header of Linux cooked version 2: protocol, two octets, interface, kind, way, address.
-    let cooked_2 = [
-        0x08, 0x00, 0, 0, 0, 0, 0, 2, 0, 1, 0, 6, 0xee, 0xcd, 2, 0x61, 0x55, 0x6a, 0, 0, 0x45, 0,
-    ];
-    assert!(rt; network_part(276, &cooked_2) == Ok(&cooked_2[20..]));
-    assert!(rt; network_part(276, &cooked_2[..19]) == Err(LinkFault::Short));
-    // Two tags are skipped, and a third isn't.
-    let tags = [
-        0, 0, 0, 0, 0, 0, 0, 0, 0, 0, 0, 0, 0x88, 0xa8, 0, 1, 0x81, 0, 0, 2, 0x08, 0x00, 0x45,
-    ];
-    assert!(rt; network_part(1, &tags) == Ok(&tags[22..]));
-    let third = [
-        0, 0, 0, 0, 0, 0, 0, 0, 0, 0, 0, 0, 0x81, 0, 0, 1, 0x81, 0, 0, 2, 0x81, 0, 0, 3, 0x08, 0x00,
-    ];
-    assert!(rt; network_part(1, &third) == Err(LinkFault::NotIpv4));
+    assert_part(&rt, 1, &TAGGED, Ok(&TAGGED[18..]));
+    assert_part(&rt, 1, &TAGGED[..17], Err(LinkFault::Short));
+    assert_part(&rt, 113, &COOKED, Ok(&COOKED[16..]));
+    assert_part(&rt, 276, &COOKED_2, Ok(&COOKED_2[20..]));
+    assert_part(&rt, 276, &COOKED_2[..19], Err(LinkFault::Short));
+    assert_part(&rt, 1, &TAGS, Ok(&TAGS[22..]));
+    assert_part(&rt, 1, &THIRD, Err(LinkFault::NotIpv4));
 }

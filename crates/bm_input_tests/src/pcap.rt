@@ -1,12 +1,13 @@
 //! Captures of the classic form.
 ghost use Rattle.std.specs.Prelude.{◌≤◌};
 
+use crate::printing::assert_prints;
 use crate::records::{DATA, SYN, VIPS, check, check_cut, opened, record};
 use bm_base::{Body, Capture, Octets, Reason};
 use bm_io::{MemSource, SureSource};
 use bm_pcap::{CaptureFault, Item, PcapReader, read_capture};
-use std::alloc::{AllocError, Global};
-use std::test::Fail;
+use std::alloc::Global;
+use std::process::Abort;
 
 // Raw IP: a first segment, and one microsecond later ten octets of data. In both byte orders.
 const LITTLE: [u8; 146] = [
@@ -53,32 +54,33 @@ const ETHERNET: [u8; 443] = [
 
 // What reading these octets gives, if the source gives at most `step` at a time.
 fn read(
+    rt: &impl Abort,
     alloc: Global,
     octets: &[u8],
     step: usize,
-) -> Result<Result<(Capture, Octets), CaptureFault>, AllocError>
+) -> Result<(Capture, Octets), CaptureFault>
     requires { 1 ≤ step }
 {
-    let src = SureSource::new(octets.to_vec(alloc)?, step);
+    let src = SureSource::new(octets.to_vec(alloc).expect(rt, "memory"), step);
     match PcapReader::start(alloc, src) {
-        Ok(mut reader) => Ok(read_capture(alloc, &mut reader, &VIPS)),
-        Err((_, e)) => Ok(Err(e)),
+        Ok(mut reader) => read_capture(alloc, &mut reader, &VIPS),
+        Err((_, e)) => Err(e),
     }
 }
 
 #[test]
-fn both_orders_give_the_same_records_however_the_source_cuts(rt: HostRuntime) -> Result<(), Fail> {
+fn both_orders_give_the_same_records_however_the_source_cuts(rt: HostRuntime) {
     let want = opened();
     for octets in [&LITTLE, &BIG] {
         for step in 1..50 {
-            check(&rt, read(rt.alloc(), octets, step)??, &want, None);
+            let capture = read(&rt, rt.alloc(), octets, step).expect(&rt, "a capture");
+            check(&rt, capture, &want, None);
         }
     }
-    Ok(())
 }
 
 #[test]
-fn records_have_their_reasons_and_the_last_is_cut_short(rt: HostRuntime) -> Result<(), Fail> {
+fn records_have_their_reasons_and_the_last_is_cut_short(rt: HostRuntime) {
     let want = [
         record(0, Body::Unsteered(Reason::NotIpv4)),
         record(1000, Body::Unsteered(Reason::NotIpv4)),
@@ -87,14 +89,16 @@ fn records_have_their_reasons_and_the_last_is_cut_short(rt: HostRuntime) -> Resu
         record(4000, Body::Steerable(SYN)),
         record(5000, Body::Steerable(DATA)),
     ];
-    check(&rt, read(rt.alloc(), &ETHERNET, 1)??, &want, Some(7));
-    check(&rt, read(rt.alloc(), &ETHERNET, 7)??, &want, Some(7));
-    check(&rt, read(rt.alloc(), &ETHERNET, 262_160)??, &want, Some(7));
-    Ok(())
+    let capture = read(&rt, rt.alloc(), &ETHERNET, 1).expect(&rt, "a capture");
+    check(&rt, capture, &want, Some(7));
+    let capture = read(&rt, rt.alloc(), &ETHERNET, 7).expect(&rt, "a capture");
+    check(&rt, capture, &want, Some(7));
+    let capture = read(&rt, rt.alloc(), &ETHERNET, 262_160).expect(&rt, "a capture");
+    check(&rt, capture, &want, Some(7));
 }
 
 #[test]
-fn captures_are_refused_by_their_first_fault(rt: HostRuntime) -> Result<(), Fail> {
+fn captures_are_refused_by_their_first_fault(rt: HostRuntime) {
     // An octet of the capture that is overwritten, and the fault.
     let rows = [
         (0, 0xd5, CaptureFault::NotACapture),
@@ -109,16 +113,15 @@ fn captures_are_refused_by_their_first_fault(rt: HostRuntime) -> Result<(), Fail
         if let Some(old) = octets.get_mut(place) {
             *old = octet;
         }
-        let answer = read(rt.alloc(), &octets, 100)?;
+        let answer = read(&rt, rt.alloc(), &octets, 100);
         assert!(rt; matches!(answer, Err(e) if e == want), "at {place}");
     }
-    let answer = read(rt.alloc(), &LITTLE[..23], 100)?;
+    let answer = read(&rt, rt.alloc(), &LITTLE[..23], 100);
     assert!(rt; matches!(answer, Err(CaptureFault::NotACapture)));
-    Ok(())
 }
 
 #[test]
-fn a_cut_capture_keeps_the_records_before_the_cut(rt: HostRuntime) -> Result<(), Fail> {
+fn a_cut_capture_keeps_the_records_before_the_cut(rt: HostRuntime) {
     // Where the capture ends, how many records it has, and which one is cut short.
     let rows = [
         (24, 0, None),
@@ -130,45 +133,47 @@ fn a_cut_capture_keeps_the_records_before_the_cut(rt: HostRuntime) -> Result<(),
     ];
     for row in rows {
         let octets = LITTLE.get(..row.0).unwrap_or(&[]);
-        check_cut(&rt, read(rt.alloc(), octets, 100)??, row);
+        let capture = read(&rt, rt.alloc(), octets, 100).expect(&rt, "a capture");
+        check_cut(&rt, capture, row);
     }
-    Ok(())
 }
 
 #[test]
-fn a_failed_read_is_answered_again(rt: HostRuntime) -> Result<(), Fail> {
+fn a_failed_read_is_answered_again(rt: HostRuntime) {
     let alloc = rt.alloc();
     // The calls read the magic number, the rest of the header, both records, and then nothing.
-    let src = MemSource::new(LITTLE.to_vec(alloc)?, 1000, vec![in alloc; 4]?);
+    let src = MemSource::new(
+        LITTLE.to_vec(alloc).expect(&rt, "memory"),
+        1000,
+        vec![in alloc; 4].expect(&rt, "memory"),
+    );
     let Ok(mut reader) = PcapReader::start(alloc, src) else {
-        return Err(Fail::from("the header is whole"));
+        panic!(rt; "the header is whole");
     };
-    assert_eq!(rt; reader.link(), 101);
-    assert!(rt; matches!(reader.next()?, Item::Record { number: 1, .. }));
-    assert!(rt; matches!(reader.next()?, Item::Record { number: 2, .. }));
+    assert!(rt; reader.link() == 101);
+    assert!(rt; matches!(reader.next(), Ok(Item::Record { number: 1, .. })));
+    assert!(rt; matches!(reader.next(), Ok(Item::Record { number: 2, .. })));
     assert!(rt; matches!(reader.next(), Err(CaptureFault::ReadFault)));
     assert!(rt; matches!(reader.next(), Err(CaptureFault::ReadFault)));
     let again = PcapReader::start(alloc, reader.into_source());
     assert!(rt; matches!(again, Err((_, CaptureFault::NotACapture))));
-    Ok(())
 }
 
 #[test]
-fn the_end_is_answered_again(rt: HostRuntime) -> Result<(), Fail> {
+fn the_end_is_answered_again(rt: HostRuntime) {
     let alloc = rt.alloc();
-    let src = SureSource::new(LITTLE.to_vec(alloc)?, 10);
+    let src = SureSource::new(LITTLE.to_vec(alloc).expect(&rt, "memory"), 10);
     let Ok(mut reader) = PcapReader::start(alloc, src) else {
-        return Err(Fail::from("the header is whole"));
+        panic!(rt; "the header is whole");
     };
-    assert!(rt; matches!(reader.next()?, Item::Record { number: 1, .. }));
-    assert!(rt; matches!(reader.next()?, Item::Record { number: 2, .. }));
+    assert!(rt; matches!(reader.next(), Ok(Item::Record { number: 1, .. })));
+    assert!(rt; matches!(reader.next(), Ok(Item::Record { number: 2, .. })));
     assert!(rt; matches!(reader.next(), Ok(Item::End)));
     assert!(rt; matches!(reader.next(), Ok(Item::End)));
-    Ok(())
 }
 
 #[test]
-fn faults_print_their_numbers(rt: HostRuntime) -> Result<(), Fail> {
+fn faults_print_their_numbers(rt: HostRuntime) {
     for (fault, want) in [
         (CaptureFault::BadLink(105), "bad link type 105"),
         (CaptureFault::BadBlock(4), "block 4 is bad"),
@@ -177,7 +182,6 @@ fn faults_print_their_numbers(rt: HostRuntime) -> Result<(), Fail> {
             "record 3 states 262145 octets",
         ),
     ] {
-        assert_eq!(rt; fault.to_string(rt.alloc())?.as_str(), want);
+        assert_prints(&rt, rt.alloc(), &fault, want);
     }
-    Ok(())
 }

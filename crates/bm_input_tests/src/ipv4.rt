@@ -1,6 +1,5 @@
 //! Tests of `bm_ipv4`: captured headers, and checksums.
-use bm_ipv4::{header_sum, read_ipv4};
-use std::test::Fail;
+use bm_ipv4::{Ipv4View, header_sum, read_ipv4};
 
 // The first packet of a visit to a web server, as a capture has it. tshark reads: source
 // 198.51.100.1, destination 192.0.2.1, length 60, header 20, protocol 6, no fragment.
@@ -23,32 +22,39 @@ const LAST: [u8; 20] = [
     0xc0, 0x00, 0x02, 0x01,
 ];
 
+/// The addresses, the length that is stated of the payload, the lengths of the packet and of its
+/// payload, the protocol, and whether the packet is a fragment.
+type Fields = (u32, u32, u32, usize, usize, u8, bool);
+
+fn fields(view: &Ipv4View<'_>) -> Fields {
+    (
+        view.src(),
+        view.dst(),
+        view.stated_payload(),
+        view.packet().len(),
+        view.payload().len(),
+        view.protocol(),
+        view.is_fragment(),
+    )
+}
+
 #[test]
-fn captured_headers_have_the_fields_that_tshark_reads(rt: HostRuntime) -> Result<(), Fail> {
-    let syn = read_ipv4(&SYN)?;
-    assert_eq!(rt; syn.packet().len(), 60);
-    assert_eq!(rt; syn.payload().len(), 40);
-    assert_eq!(rt; syn.stated_payload(), 40);
-    assert_eq!(rt; syn.protocol(), 6);
-    assert_eq!(rt; syn.src(), 0xc633_6401);
-    assert_eq!(rt; syn.dst(), 0xc000_0201);
-    assert!(rt; !syn.is_fragment());
-    let first = read_ipv4(&FIRST)?;
-    assert!(rt; first.is_fragment());
-    assert_eq!(rt; first.stated_payload(), 1480);
-    let last = read_ipv4(&LAST)?;
-    assert!(rt; last.is_fragment());
-    assert_eq!(rt; last.protocol(), 17);
-    assert_eq!(rt; last.stated_payload(), 1048);
-    Ok(())
+fn captured_headers_have_the_fields_that_tshark_reads(rt: HostRuntime) {
+    let [src, dst] = [0xc633_6401, 0xc000_0201];
+    let syn = read_ipv4(&SYN).expect(&rt, "the first packet");
+    assert!(rt; fields(&syn) == (src, dst, 40, 60, 40, 6, false));
+    let first = read_ipv4(&FIRST).expect(&rt, "the first fragment");
+    assert!(rt; fields(&first) == (src, dst, 1480, 20, 0, 17, true));
+    let last = read_ipv4(&LAST).expect(&rt, "the last fragment");
+    assert!(rt; fields(&last) == (src, dst, 1048, 20, 0, 17, true));
 }
 
 #[test]
 fn sums_are_those_of_rfc_1071_and_of_captured_headers(rt: HostRuntime) {
     // RFC 1071, section 3: the sum of these words is ddf2.
     let words = [0x00, 0x01, 0xf2, 0x03, 0xf4, 0xf5, 0xf6, 0xf7];
-    assert_eq!(rt; header_sum(&words), !0xddf2u16);
-    assert_eq!(rt; header_sum(&SYN[..20]), 0);
-    assert_eq!(rt; header_sum(&FIRST), 0);
-    assert_eq!(rt; header_sum(&LAST), 0);
+    assert!(rt; header_sum(&words) == !0xddf2u16);
+    for header in [&SYN[..20], &FIRST, &LAST] {
+        assert!(rt; header_sum(header) == 0);
+    }
 }

@@ -31,6 +31,6 @@ fn a_setting_gives_packets_to_muxes_by_port_or_by_number(rt: HostRuntime) {
     ];
     for (kind, muxes, packet, mux) in rows {
         let got = setting_mux(kind, muxes.max(1), packet, &FLOW);
-        assert_eq!(rt; got, mux, "at {muxes} {packet}");
+        assert!(rt; got == mux, "at {muxes} {packet}");
     }
 }
