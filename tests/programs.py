@@ -41,6 +41,6 @@ def proved_connections():
 
 
 def numbers(*defaults):
-    """The numbers on the command line; those that are missing are the last of the defaults."""
-    given = [int(word) for word in sys.argv[1:]]
-    return (given + list(defaults[len(given) :]))[: len(defaults)]
+    """The numbers that the command line begins with; those that are missing are the last of the defaults."""
+    given = [int(word) for word in sys.argv[1 : 1 + len(defaults)]]
+    return given + list(defaults[len(given) :])
