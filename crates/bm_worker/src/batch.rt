@@ -1,8 +1,9 @@
 //! The packets of a mux, in batches.
-ghost use Rattle.std.specs.Prelude.{◌≡◌, ◌+◌, ◌*◌, ◌^◌, ◌<◌, ◌≤◌, IfOk, All, Some, length};
-ghost use Rattle.std.specs.Prelude.{slice_get, true};
+ghost use Rattle.std.specs.Prelude.{◌≡◌, ℕ, ◌+◌, ◌*◌, ◌^◌, ◌<◌, ◌≤◌, IfOk, All, Some, length};
+ghost use Rattle.std.specs.Prelude.{is_some, slice_get, true};
 ghost use Rattle.std.specs.List.{AllByRecursion};
 ghost use Rattle.bm_fault.specs.Faults.{Gives, IsRule};
+ghost use Rattle.bm_core.specs.Past.{segment_of};
 ghost use Rattle.bm_core.specs.Threads.{record_moment};
 ghost use Rattle.bm_worker.specs.Inside.Batches.{AreCollected, Delivers, IsItemOf, IsSent};
 ghost use Rattle.bm_worker.specs.Environments.{In, IsSetUp};
@@ -40,12 +41,13 @@ fn moment_at(stage: &Stage, at: u32) -> Moment
     }
 }
 
-/// The item of the packet of the record at this place, which is the mux's.
-fn item_at<'a, F, G>(shared: &Shared<'a, F, G>, at: u32, mux: MuxId) -> MuxItem<'a>
+/// The item of the packet of the record at this place, which is steerable, for the packet's mux.
+fn item_at<'a, F, G>(shared: &Shared<'a, F, G>, at: u32) -> MuxItem<'a>
     requires at { at < length shared.now.stage.capture.records }
-    requires assigned { is_mux (assigned_mux shared.now.routes (at + 1)) mux.0 ≡ true }
+    requires steerable { is_some (segment_of shared.now.stage (at + 1)) ≡ true }
     ensures packet { result.packet ≡ at + 1 }
-    ensures item { IsItemOf shared.now.stage shared.now.routes mux.0 result }
+    ensures item { (m : ℕ) → is_mux (assigned_mux shared.now.routes (at + 1)) m ≡ true
+        → IsItemOf shared.now.stage shared.now.routes m result }
 {
     let stage = shared.stage();
     let packet = at + 1;
@@ -89,7 +91,7 @@ pub(crate) fn collect<'a, F: Fn(u32, Hop) -> Fate, G>(
         if !shared.is_assigned_to(at, mux) {
             continue;
         }
-        let item = item_at(shared, at, mux);
+        let item = item_at(shared, at);
         let fate = shared.fate(item.packet, Hop::Direct);
         items.push(item)?;
         fates.push(fate)?;

@@ -1,7 +1,7 @@
-use Rattle.std.proofs.Common.{◌≡◌, ◌<◌, ℕ, length, sym, subst, arith}
+use Rattle.std.proofs.Common.{◌≡◌, ◌+◌, ◌<◌, ℕ, length, sym, subst, arith}
 use Rattle.bm_fault.specs.Faults.{Gives}
 use Rattle.bm_worker.specs.Inside.Batches.{AreCollected}
-use Rattle.bm_worker.proofs.Collecting.{collected_new, collected_push, collected_skip}
+use Rattle.bm_worker.proofs.Collecting.{collected_new, collected_push, collected_skip, mux_is}
 use Rattle.bm_worker.proofs.batch.collect.Goals as goal
 
 pub loop-at-init : goal.loop-at-init
@@ -33,7 +33,7 @@ loop-at-preserved g c =
           c.push-in-loop-at.new.self.items
           c.item_at-item.result c.fate-fate.result c.in_ok-push.ensures.items c.in_ok-push-2.ensures.items i.at few
           c.item_at-item.ensures.packet
-          c.item_at-item.ensures.item c.fate-fate.ensures.gives c.fate-fate.ensures.copies c.fate-fate.ensures.delay
+          (c.item_at-item.ensures.item c.args.mux.0 (sym c.if-not-is_assigned_to.ensures)) c.fate-fate.ensures.gives c.fate-fate.ensures.copies c.fate-fate.ensures.delay
           i.all;
     }
 
@@ -54,8 +54,10 @@ pub item_at-item-requires-clause-at : goal.item_at-item-requires-clause-at
 item_at-item-requires-clause-at g c =
     let until = c.requires.until.1 in let test = c.loop-at-test.true in omega (arith, until, test)
 
-pub item_at-item-requires-clause-assigned : goal.item_at-item-requires-clause-assigned
-item_at-item-requires-clause-assigned g c = sym c.if-not-is_assigned_to.ensures
+pub item_at-item-requires-clause-steerable : goal.item_at-item-requires-clause-steerable
+item_at-item-requires-clause-steerable g c =
+    c.alloc.ensures.steerable (c.loop-at.at + 1) c.args.mux.0
+    (mux_is c.args.mux.0 _ (sym c.if-not-is_assigned_to.ensures))
 
 pub returns-clause-all : goal.returns-clause-all
 returns-clause-all g c =
