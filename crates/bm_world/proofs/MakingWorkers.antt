@@ -1,11 +1,16 @@
 -- Workers are made one by one, and taken apart one by one.
-use Rattle.std.proofs.Common.{◌≡◌, ℕ, zero, suc, ◌+◌, ◌≤◌, List, [], ◌∷◌, ◌++◌, length, map, drop, All}
-use Rattle.std.proofs.Common.{Some, refl, sym, ap, ◌∙◌, subst, arith, append-nil, append_assoc, length-append}
-use Rattle.std.proofs.Common.{⊎_elim}
-use Rattle.std.specs.Prelude.{slice_get}
+use Rattle.std.proofs.Common.{◌≡◌, ℕ, zero, suc, ◌+◌, ◌<◌, ◌≤◌, List, [], ◌∷◌, ◌++◌, length, map, get_or, min, All}
+use Rattle.std.proofs.Common.{Some, refl, sym, ap, ◌∙◌, subst, arith, append-nil, length-append, map-id}
+use Rattle.std.proofs.Common.{⊎_elim, inl, inr}
+use Rattle.std.specs.Prelude.{slice_get, Vec}
+use Rattle.std.specs.List.{zip}
+use Rattle.std.specs.Option.{option_map}
+use Rattle.std.specs.declared.alloc.Global.{Global}
 use Rattle.std.proofs.lemmas.List.{map-append}
-use Rattle.std.proofs.lemmas.Option.{same_Some, slice_get_within, get_or_from_slice_get}
+use Rattle.std.proofs.lemmas.Option.{same_Some, slice_get_within, slice_get-get_or, slice_get-map, get_or_from_slice_get}
+use Rattle.std.proofs.lemmas.Slice.Zip.{get_or-zip, length-zip}
 use mathlib.Core.List.{IsPrefix}
+use Rattle.bm_rows.specs.Rows.{items_of}
 use Rattle.bm_rows.proofs.Places.{last_cases}
 use Rattle.bm_core.specs.declared.events.Event.{Event}
 use Rattle.bm_table.specs.Planned.{Planned}
@@ -14,129 +19,146 @@ use Rattle.bm_server.specs.Seats.{Seated}
 use Rattle.bm_worker.specs.declared.worker.MuxWorker.{MuxWorker}
 use Rattle.bm_world.specs.Inside.RunStates.{rows_of, HasSeenAll, IsNewWorker}
 
+-- A LOOK AND A ROW
+
+module _ {X Y : Type 0} where
+  -- both parts of the pair at a place
+  pub parts_at : (xs : List X) (ys : List Y) (n : ℕ) (x : X) (y : Y)
+      → (n < length (zip xs ys)) × ((x, y) ≡ get_or (zip xs ys) n (x, y))
+      → (slice_get xs n ≡ Some x) × (slice_get ys n ≡ Some y)
+  parts_at xs ys n x y at =
+      let long = length-zip xs ys
+      in let first : n < length xs = omega (arith, long, at.0)
+      in let second : n < length ys = omega (arith, long, at.0)
+      in let both = sym (at.1 ∙ get_or-zip xs ys n (x, y) first second)
+      in (
+        slice_get-get_or xs n x first ∙ ap (λ (p : X × Y). Some p.0) both,
+        slice_get-get_or ys n y second ∙ ap (λ (p : X × Y). Some p.1) both,
+      )
+
+  pair_at : (xs : List X) (ys : List Y) (n : ℕ) (x : X) (y : Y) → slice_get xs n ≡ Some x → slice_get ys n ≡ Some y
+      → slice_get (zip xs ys) n ≡ Some (x, y)
+  pair_at [] ys n x y a b = absurd (cc)
+  pair_at (z ∷ xs) [] n x y a b = absurd (cc)
+  pair_at (z ∷ xs) (t ∷ ys) zero x y a b = λ j. Some (same_Some z x a j, same_Some t y b j)
+  pair_at (z ∷ xs) (t ∷ ys) (suc n) x y a b = pair_at xs ys n x y a b
+
+-- a look and a row of seats
+abbrev pub Pair : Type 0
+Pair = Posted × Vec (List Seated) Global
+
+-- the row whose seats stand at a place
+row_at : (rows : List (Vec (List Seated) Global)) (m : ℕ) (seats : List (List Seated))
+    → slice_get (items_of rows) m ≡ Some seats
+    → (row : Vec (List Seated) Global) × (slice_get rows m ≡ Some row) × (row.items ≡ seats)
+row_at [] m seats at = absurd (cc)
+row_at (row ∷ rows) zero seats at = (row, refl, same_Some row.items seats at)
+row_at (row ∷ rows) (suc m) seats at = row_at rows m seats at
+
+pub row_there : (rows : List (Vec (List Seated) Global)) (m : ℕ) (row : Vec (List Seated) Global)
+    → slice_get rows m ≡ Some row → slice_get (items_of rows) m ≡ Some row.items
+row_there rows m row at =
+    slice_get-map (λ (x : Vec (List Seated) Global). x.items) rows m
+    ∙ ap (option_map (λ (x : Vec (List Seated) Global). x.items)) at
+
 -- MADE
 
--- n workers are made, of the first looks and rows, and these are left
-pub record AreMade (looks : List Posted) (rows : List (List (List Seated))) (n : ℕ) (left : List Posted)
-    (rest : List (List (List Seated))) (workers : List MuxWorker) : Type 0 where
-  pub count : length workers ≡ n
-  pub long : n + length left ≡ length looks
-  pub looks_left : left ≡ drop n looks
-  pub rows_left : rest ≡ drop n rows
-  pub each : (m : ℕ) (look : Posted) (seats : List (List Seated)) (w : MuxWorker) → slice_get looks m ≡ Some look
-      → slice_get rows m ≡ Some seats → slice_get workers m ≡ Some w → IsNewWorker look seats m w
+-- a worker is made of each of these pairs
+pub record AreMade (pairs : List Pair) (workers : List MuxWorker) : Type 0 where
+  pub count : length workers ≡ length pairs
+  pub each : (m : ℕ) (p : Pair) (w : MuxWorker) → slice_get pairs m ≡ Some p → slice_get workers m ≡ Some w
+      → IsNewWorker p.0 p.1.items m w
 
-drop_at : {X : Type 0} (xs : List X) (n : ℕ) (x : X) (rest : List X) → drop n xs ≡ x ∷ rest
-    → (slice_get xs n ≡ Some x) × (rest ≡ drop (suc n) xs)
-drop_at [] zero x rest is = absurd (cc)
-drop_at [] (suc n) x rest is = absurd (cc)
-drop_at (y ∷ xs) zero x rest is =
-    (ap (λ l. slice_get l 0) is, ap (λ l. drop 1 l) (sym is))
-drop_at (y ∷ xs) (suc n) x rest is = drop_at xs n x rest is
-
-pub none_made : (looks : List Posted) (rows : List (List (List Seated))) (workers : List MuxWorker) → workers ≡ []
-    → AreMade looks rows 0 looks rows workers
-none_made looks rows workers none = record {
+pub none_made : (workers : List MuxWorker) → workers ≡ [] → AreMade [] workers
+none_made workers none = record {
   count = ap (λ (l : List MuxWorker). length l) none;
-  long = omega arith;
-  looks_left = refl;
-  rows_left = refl;
-  each = λ m look seats w a b here. absurd (let bad = rw none at here in cc);
+  each = λ m p w pair here. absurd (cc);
 }
 
-pub one_made : (looks : List Posted) (rows : List (List (List Seated))) (n : ℕ) (left more : List Posted)
-    (rest others : List (List (List Seated))) (workers now : List MuxWorker) (look : Posted)
-    (seats : List (List Seated)) (w : MuxWorker) → left ≡ look ∷ more → rest ≡ seats ∷ others
-    → now ≡ workers ++ w ∷ [] → IsNewWorker look seats n w → AreMade looks rows n left rest workers
-    → AreMade looks rows (n + 1) more others now
-one_made looks rows n left more rest others workers now look seats w a b is new made =
-    let l = drop_at looks n look more (sym made.looks_left ∙ a)
-    in let r = drop_at rows n seats others (sym made.rows_left ∙ b)
-    in let size = ap (λ (x : List Posted). length x) a
-    in let long = made.long
-    in let count = made.count
-    in let push = length-append workers (w ∷ [])
+pub one_made : (pairs : List Pair) (workers now : List MuxWorker) (p : Pair) (w : MuxWorker) → now ≡ workers ++ w ∷ []
+    → IsNewWorker p.0 p.1.items (length pairs) w → AreMade pairs workers → AreMade (pairs ++ p ∷ []) now
+one_made pairs workers now p w is new made = record {
+  count =
+      let all = ap (λ (l : List MuxWorker). length l) is
+      in omega (arith, all, made.count, length-append workers (w ∷ []), length-append pairs (p ∷ []));
+  each = λ m q v pair here.
+      let worker = last_cases workers w v m (ap (λ (l : List MuxWorker). slice_get l m) (sym is) ∙ here)
+      in elim (last_cases pairs p q m pair) [
+        | inl old ↦
+            let low = slice_get_within pairs m q old
+            in elim worker [
+              | inl before ↦ made.each m q v old before
+              | inr last ↦ absurd (omega (arith, low, last.0, made.count))
+            ]
+        | inr end ↦ elim worker [
+          | inl before ↦
+              let low = slice_get_within workers m v before in absurd (omega (arith, low, end.0, made.count))
+          | inr last ↦
+              subst (λ (x : MuxWorker). IsNewWorker q.0 q.1.items m x) last.1
+              (subst (λ (x : Pair). IsNewWorker x.0 x.1.items m w) end.1
+              (subst (λ (k : ℕ). IsNewWorker p.0 p.1.items k w) (sym end.0) new))
+        ]
+      ];
+}
+
+-- a worker is made of each look and its row
+pub record AreAllMade (looks : List Posted) (rows : List (Vec (List Seated) Global)) (workers : List MuxWorker)
+    : Type 0 where
+  pub count : length workers ≡ length rows
+  pub each : (m : ℕ) (look : Posted) (seats : List (List Seated)) (w : MuxWorker) → slice_get looks m ≡ Some look
+      → slice_get (items_of rows) m ≡ Some seats → slice_get workers m ≡ Some w → IsNewWorker look seats m w
+
+pub all_made : (looks : List Posted) (rows : List (Vec (List Seated) Global)) (pairs : List Pair)
+    (workers : List MuxWorker) → length looks ≡ length rows → map (λ (p : Pair). p) pairs ≡ zip looks rows
+    → AreMade pairs workers → AreAllMade looks rows workers
+all_made looks rows pairs workers long all made =
+    let same : pairs ≡ zip looks rows = sym (map-id pairs) ∙ all
     in record {
-      count = let all = ap (λ (x : List MuxWorker). length x) is in omega arith;
-      long = omega arith;
-      looks_left = let one : suc n ≡ n + 1 = omega arith in l.1 ∙ ap (λ (k : ℕ). drop k looks) one;
-      rows_left = let one : suc n ≡ n + 1 = omega arith in r.1 ∙ ap (λ (k : ℕ). drop k rows) one;
-      each = λ m x s y p q here. ⊎_elim
-          (λ old. made.each m x s y p q old)
-          (λ last.
-          let at : m ≡ n = last.0 ∙ count
-          in let look_is : look ≡ x = same_Some look x (sym l.0 ∙ ap (λ (k : ℕ). slice_get looks k) (sym at) ∙ p)
-          in let seats_are : seats ≡ s = same_Some seats s (sym r.0 ∙ ap (λ (k : ℕ). slice_get rows k) (sym at) ∙ q)
-          in subst (λ (k : ℕ). IsNewWorker x s k y) (sym at)
-          (subst (λ (z : Posted). IsNewWorker z s n y) look_is
-          (subst (λ (z : List (List Seated)). IsNewWorker look z n y) seats_are
-          (subst (λ (z : MuxWorker). IsNewWorker look seats n z) last.1 new))))
-          (last_cases workers w y m (ap (λ (x : List MuxWorker). slice_get x m) (sym is) ∙ here));
+      count =
+          let count = ap (λ (l : List Pair). length l) same
+          in omega (arith, made.count, count, long, length-zip looks rows);
+      each = λ m look seats w a b here.
+          let row = row_at rows m seats b
+          in subst (λ (x : List (List Seated)). IsNewWorker look x m w) row.2
+          (made.each m (look, row.0) w
+          (ap (λ (l : List Pair). slice_get l m) same ∙ pair_at looks rows m look row.0 a row.1) here);
     }
 
 -- TAKEN APART
 
--- the first workers are taken apart, and these are left
-pub record AreParted (posted : Posted) (log : List Event) (head : List (List Seated)) (workers rest : List MuxWorker)
+-- these workers are taken apart
+pub record AreParted (posted : Posted) (log : List Event) (head : List (List Seated)) (done : List MuxWorker)
     (logs : List (List Event)) (rows : List (List (List Seated))) : Type 0 where
-  pub done : List MuxWorker
-  pub split : workers ≡ done ++ rest
   pub logs_are : logs ≡ log ∷ map (λ (w : MuxWorker). w.mux.log) done
   pub rows_are : rows ≡ rows_of head done
   pub shown : (m : ℕ) (w : MuxWorker) → slice_get done m ≡ Some w → HasSeenAll posted w
 
-pub none_parted : (posted : Posted) (log : List Event) (head : List (List Seated)) (workers : List MuxWorker)
-    (logs : List (List Event)) (rows : List (List (List Seated))) → logs ≡ log ∷ [] → rows ≡ head ∷ []
-    → AreParted posted log head workers workers logs rows
-none_parted posted log head workers logs rows a b = record {
-  done = [];
-  split = refl;
+pub none_parted : (posted : Posted) (log : List Event) (head : List (List Seated)) (logs : List (List Event))
+    (rows : List (List (List Seated))) → logs ≡ log ∷ [] → rows ≡ head ∷ []
+    → AreParted posted log head [] logs rows
+none_parted posted log head logs rows a b = record {
   logs_are = a;
   rows_are = b;
   shown = λ m w here. absurd (cc);
 }
 
-pub one_parted : (posted : Posted) (log : List Event) (head : List (List Seated)) (workers rest others : List MuxWorker)
+pub one_parted : (posted : Posted) (log : List Event) (head : List (List Seated)) (done : List MuxWorker)
     (w : MuxWorker) (logs logs' : List (List Event)) (rows rows' : List (List (List Seated))) (own : List Event)
-    (seats : List (List Seated)) → rest ≡ w ∷ others → own ≡ w.mux.log → seats ≡ w.caller.seats
+    (seats : List (List Seated)) → own ≡ w.mux.log → seats ≡ w.caller.seats
     → logs' ≡ logs ++ own ∷ [] → rows' ≡ rows ++ seats ∷ [] → HasSeenAll posted w
-    → AreParted posted log head workers rest logs rows → AreParted posted log head workers others logs' rows'
-one_parted posted log head workers rest others w logs logs' rows rows' own seats is own_is seats_are a b shown parted =
-    record {
-      done = parted.done ++ w ∷ [];
-      split = parted.split ∙ ap (λ (l : List MuxWorker). parted.done ++ l) is
-          ∙ sym (append_assoc parted.done (w ∷ []) others);
-      logs_are = a ∙ ap (λ (l : List (List Event)). l ++ own ∷ []) parted.logs_are
-          ∙ ap (λ (x : List Event). (log ∷ map (λ (y : MuxWorker). y.mux.log) parted.done) ++ x ∷ []) own_is
-          ∙ ap (λ (l : List (List Event)). log ∷ l)
-          (sym (map-append (λ (y : MuxWorker). y.mux.log) parted.done (w ∷ [])));
-      rows_are = b ∙ ap (λ (l : List (List (List Seated))). l ++ seats ∷ []) parted.rows_are
-          ∙ ap (λ (x : List (List Seated)). rows_of head parted.done ++ x ∷ []) seats_are
-          ∙ ap (λ (l : List (List (List Seated))). head ∷ l)
-          (sym (map-append (λ (y : MuxWorker). y.caller.seats) parted.done (w ∷ [])));
-      shown = λ m y here. ⊎_elim (λ old. parted.shown m y old)
-          (λ last. subst (λ (z : MuxWorker). HasSeenAll posted z) last.1 shown)
-          (last_cases parted.done w y m here);
-    }
-
--- all are taken apart
-pub all_parted : (posted : Posted) (log : List Event) (head : List (List Seated)) (workers rest : List MuxWorker)
-    (logs : List (List Event)) (rows : List (List (List Seated))) → rest ≡ []
-    → (parted : AreParted posted log head workers rest logs rows) → parted.done ≡ workers
-all_parted posted log head workers rest logs rows none parted =
-    sym (parted.split ∙ ap (λ (l : List MuxWorker). parted.done ++ l) none ∙ append-nil parted.done)
-
--- the worker that is left first
-pub first_left : (posted : Posted) (log : List Event) (head : List (List Seated)) (workers rest others : List MuxWorker)
-    (w : MuxWorker) (logs : List (List Event)) (rows : List (List (List Seated))) → rest ≡ w ∷ others
-    → (parted : AreParted posted log head workers rest logs rows)
-    → slice_get workers (length parted.done) ≡ Some w
-first_left posted log head workers rest others w logs rows is parted =
-    ap (λ (l : List MuxWorker). slice_get l (length parted.done))
-    (parted.split ∙ ap (λ (l : List MuxWorker). parted.done ++ l) is) ∙ at parted.done where
-      at : (x : List MuxWorker) → slice_get (x ++ w ∷ others) (length x) ≡ Some w
-      at [] = refl
-      at (y ∷ x) = at x
+    → AreParted posted log head done logs rows → AreParted posted log head (done ++ w ∷ []) logs' rows'
+one_parted posted log head done w logs logs' rows rows' own seats own_is seats_are a b shown parted = record {
+  logs_are = a ∙ ap (λ (l : List (List Event)). l ++ own ∷ []) parted.logs_are
+      ∙ ap (λ (x : List Event). (log ∷ map (λ (y : MuxWorker). y.mux.log) done) ++ x ∷ []) own_is
+      ∙ ap (λ (l : List (List Event)). log ∷ l) (sym (map-append (λ (y : MuxWorker). y.mux.log) done (w ∷ [])));
+  rows_are = b ∙ ap (λ (l : List (List (List Seated))). l ++ seats ∷ []) parted.rows_are
+      ∙ ap (λ (x : List (List Seated)). rows_of head done ++ x ∷ []) seats_are
+      ∙ ap (λ (l : List (List (List Seated))). head ∷ l)
+      (sym (map-append (λ (y : MuxWorker). y.caller.seats) done (w ∷ [])));
+  shown = λ m y here. ⊎_elim (λ old. parted.shown m y old)
+      (λ last. subst (λ (z : MuxWorker). HasSeenAll posted z) last.1 shown)
+      (last_cases done w y m here);
+}
 
 -- WHAT WAS SHOWN
 
@@ -159,19 +181,6 @@ shown_all posted w all has =
     in let same : has.seen.clocks ≡ posted.clocks =
     sym more.1 ∙ ap (λ (l : List ℕ). posted.clocks ++ l) none ∙ append-nil posted.clocks
     in subst (λ (l : List ℕ). IsPrefix w.mux.seen.clocks l) same has.later.posts
-
--- the look and the row that are left first
-pub first_look : (looks : List Posted) (rows : List (List (List Seated))) (n : ℕ) (left : List Posted)
-    (rest : List (List (List Seated))) (workers : List MuxWorker) (more : List Posted) (look : Posted)
-    → left ≡ look ∷ more → AreMade looks rows n left rest workers → slice_get looks n ≡ Some look
-first_look looks rows n left rest workers more look is made = (drop_at looks n look more (sym made.looks_left ∙ is)).0
-
-pub first_row : (looks : List Posted) (rows : List (List (List Seated))) (n : ℕ) (left : List Posted)
-    (rest : List (List (List Seated))) (workers : List MuxWorker) (others : List (List (List Seated)))
-    (seats : List (List Seated)) → rest ≡ seats ∷ others → AreMade looks rows n left rest workers
-    → slice_get rows n ≡ Some seats
-first_row looks rows n left rest workers others seats is made =
-    (drop_at rows n seats others (sym made.rows_left ∙ is)).0
 
 pub all_at : {X : Type 0} (P : X → Type 0) (xs : List X) (i : ℕ) (x : X) → slice_get xs i ≡ Some x → All P xs → P x
 all_at P xs i x here all =

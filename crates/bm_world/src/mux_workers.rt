@@ -12,7 +12,6 @@ use bm_core::Log;
 use bm_lead::Head;
 use bm_mux::Mux;
 use bm_publish::{Look, Poster, Told};
-use bm_rows::front;
 use bm_server::ServerSeat;
 use bm_worker::{Caller, MuxWorker};
 use std::alloc::Global;
@@ -57,15 +56,9 @@ pub(crate) fn make_workers(
         → slice_get workers.items m ≡ Some w → IsNewWorker look seats m w) }
 {
     let mut workers = Vec::new(alloc);
-    let mut left = looks;
-    let mut rest = rows;
-    let mut mux = 0u16;
-    'each: while !left.is_empty() {
-        let (look, more) = front(left);
-        let (seats, others) = front(rest);
+    let mut mux = 0;
+    for (look, seats) in looks.into_iter().zip(rows) {
         workers.push(make_worker(alloc, mux, look, buckets, seats))?;
-        left = more;
-        rest = others;
         mux += 1;
     }
     Ok(workers)
@@ -106,13 +99,10 @@ pub(crate) fn take_apart(
     let mut rows = Vec::new(alloc);
     logs.push(List::of(log))?;
     rows.push(caller.into_seats())?;
-    let mut rest = workers;
-    while !rest.is_empty() {
-        let (worker, others) = front(rest);
+    for worker in workers {
         let (log, seats) = part(worker, poster.tell())?;
         logs.push(log)?;
         rows.push(seats)?;
-        rest = others;
     }
     Ok((logs, rows))
 }

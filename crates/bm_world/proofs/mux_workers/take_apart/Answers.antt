@@ -1,26 +1,47 @@
-use Rattle.std.proofs.Common.{◌∙◌, sym, ap, subst, length}
+use Rattle.std.proofs.Common.{◌≡◌, ◌∷◌, ◌∙◌, List, map, map-id, sym, ap, subst, length}
+use Rattle.std.specs.Prelude.{slice_get, Some}
+use Rattle.std.proofs.lemmas.Iterator.Adapters.{YieldsList-from_vec}
+use Rattle.std.proofs.lemmas.Iterator.Consumers.{YieldsList-end, YieldsList-turn}
 use Rattle.std.proofs.lemmas.List.{map-append}
+use Rattle.std.proofs.lemmas.Option.{slice_get-get_or}
 use Rattle.bm_rows.specs.Rows.{items_of}
 use Rattle.bm_publish.specs.Posts.{Posted}
-use Rattle.bm_world.specs.Inside.RunStates.{HasSeenAll}
-use Rattle.bm_world.proofs.MakingWorkers.{first_left, one_parted}
+use Rattle.bm_worker.specs.declared.worker.MuxWorker.{MuxWorker}
+use Rattle.bm_world.specs.Inside.RunStates.{HasSeenAll, rows_of}
+use Rattle.bm_world.proofs.MakingWorkers.{one_parted}
 use Rattle.bm_world.proofs.mux_workers.take_apart.Goals as goal
 
 pub part-requires : goal.part-requires
 part-requires c =
-    ap (λ (p : Posted). p.board) c.tell.ensures
-    ∙ sym (c.requires.boards (length c.loop-rest.invariant.done) c.front-worker.result.0
-    (first_left c.args.poster.now c.args.head.log.items c.args.head.caller.seats c.args.workers.items
-    c.loop-rest.rest.items c.front-worker.result.1.items c.front-worker.result.0 c.loop-rest.logs.items
-    (items_of c.loop-rest.rows.items) c.front-worker.ensures c.loop-rest.invariant))
+    let workers = c.args.workers.items
+    in let n = length c.loop-worker.yielded
+    in let turn = YieldsList-turn (YieldsList-from_vec workers (cc) (cc)) c.loop-worker.yielded
+    c.loop-worker.worker-iterator c.loop-worker.yielded_by _ c.next.new.self c.in-Some.worker c.in-Some.is
+    c.next.ensures.steps
+    in ap (λ (p : Posted). p.board) c.tell.ensures
+    ∙ sym (c.requires.boards n c.in-Some.worker
+    (slice_get-get_or workers n c.in-Some.worker turn.0 ∙ ap Some (sym turn.1)))
 
-pub loop-rest-preserved : goal.loop-rest-preserved
-loop-rest-preserved c =
-    one_parted c.args.poster.now c.args.head.log.items c.args.head.caller.seats c.args.workers.items
-    c.loop-rest.rest.items c.front-worker.result.1.items c.front-worker.result.0 c.loop-rest.logs.items
-    c.push-in-loop-rest.new.self.items (items_of c.loop-rest.rows.items)
-    (items_of c.push-in-loop-rest-2.new.self.items) c.in_ok-log.log c.in_ok-log.seats.items c.front-worker.ensures
+pub loop-worker-preserved : goal.loop-worker-preserved
+loop-worker-preserved c =
+    one_parted c.args.poster.now c.args.head.log.items c.args.head.caller.seats c.loop-worker.yielded c.in-Some.worker
+    c.loop-worker.logs.items c.push-in-loop-worker.new.self.items (items_of c.loop-worker.rows.items)
+    (items_of c.push-in-loop-worker-2.new.self.items) c.in_ok-log.log c.in_ok-log.seats.items
     c.in_ok-log.ensures.log c.in_ok-log.ensures.seats c.in_ok-push-3.ensures.items
-    (ap items_of c.in_ok-push-4.ensures.items ∙ map-append _ c.loop-rest.rows.items _)
-    (subst (λ (p : Posted). HasSeenAll p c.front-worker.result.0) c.tell.ensures c.in_ok-log.ensures.shown)
-    c.loop-rest.invariant
+    (ap items_of c.in_ok-push-4.ensures.items ∙ map-append _ c.loop-worker.rows.items _)
+    (subst (λ (p : Posted). HasSeenAll p c.in-Some.worker) c.tell.ensures c.in_ok-log.ensures.shown)
+    c.loop-worker.invariant
+
+pub returns : goal.returns
+returns c =
+    let i = c.loop-worker.invariant
+    in let log = c.args.head.log.items
+    in let seats = c.args.head.caller.seats
+    in let end = YieldsList-end (YieldsList-from_vec c.args.workers.items (cc) (cc)) c.loop-worker.yielded
+    c.loop-worker.worker-iterator c.loop-worker.yielded_by _ c.next.new.self c.in-None.is c.next.ensures.steps
+    in let all : c.loop-worker.yielded ≡ c.args.workers.items = sym (map-id c.loop-worker.yielded) ∙ end.0
+    in record {
+      logs = i.logs_are ∙ ap (λ (l : List MuxWorker). log ∷ map (λ (w : MuxWorker). w.mux.log) l) all;
+      rows = i.rows_are ∙ ap (λ (l : List MuxWorker). rows_of seats l) all;
+      shown = λ m w here. i.shown m w (ap (λ (l : List MuxWorker). slice_get l m) all ∙ here);
+    }
