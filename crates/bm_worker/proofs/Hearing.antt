@@ -31,6 +31,7 @@ use Rattle.bm_worker.specs.WorkerNotes.{Hears, Said, Suits, noted, said_of, sayi
 use Rattle.bm_worker.specs.Inside.WorkerNotes.{arrival, closing, retiring}
 use Rattle.bm_worker.specs.SeatCalls.{Gains, Stays, told_there}
 use Rattle.bm_worker.specs.Arrivals.{HasCome}
+use Rattle.bm_worker.proofs.Numbered.{differ}
 
 -- SEVERAL DEEDS
 
@@ -94,7 +95,7 @@ hears_call stage servers place number home server call reply n a b suits at gain
     let here = (s == place) && (h == number) in
     let test : is_home stage (ShardOf server'.id.0 h) n ≡ here =
     homes server'.id.0 h
-    ∙ same_test server'.id server.id s place number home h (suits.differ s place server' server at' at)
+    ∙ same_test server'.id server.id s place number home h (differ servers suits.rise s place server' server at' at)
     (λ e. ap (λ (x : Serving). x.id) (same_Some server' server (sym at' ∙ (ap (slice_get servers) e ∙ at)))) same in
     let said : here ≡ true → said_of about (call, reply) ≡ (n.event, n.due) = λ yes.
     let both = both_true (s == place) (h == number) yes in

@@ -1,3 +1,4 @@
+pub mod Numbered
 pub mod Seating
 pub mod Replying
 pub mod Hearing

@@ -24,7 +24,7 @@ pub suits_one : (stage : Stage) (server : Serving) (capacity timeout seats : ℕ
     → (stage.script.setting.shards ≡ 1) × (stage.script.setting.capacity ≡ capacity)
     × (stage.script.setting.timeout ≡ timeout) → Suits stage (server ∷ [])
 suits_one stage server capacity timeout seats plan made shards setting = record {
-  differ = λ s t a b one two same. both s t a b one two;
+  rise = λ s t a b one two below. absurd (let same = both s t a b one two in omega arith);
   shards = λ s x at. of_one (λ (y : Serving). length y.tables ≡ stage.script.setting.shards) (shards ∙ sym setting.0)
       s x at;
   capacity = λ s x at. of_one (λ (y : Serving). y.capacity ≡ stage.script.setting.capacity)

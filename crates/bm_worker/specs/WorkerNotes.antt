@@ -1,6 +1,6 @@
 -- What a worker does, as notes, and the calls of its seats, each with its reply. Lists of notes
 -- have the newest first.
-use Rattle.std.specs.Prelude.{◌≡◌, ℕ, if◌then◌else◌, true, List, [], ◌∷◌, ◌++◌, length, map}
+use Rattle.std.specs.Prelude.{◌≡◌, ◌<◌, ℕ, if◌then◌else◌, true, List, [], ◌∷◌, ◌++◌, length, map}
 use Rattle.std.specs.Prelude.{slice_get, Some}
 use Rattle.bm_base.specs.declared.fate.Fate.{Fate}
 use Rattle.bm_base.specs.declared.ids.Moment.{Moment}
@@ -38,12 +38,16 @@ abbrev pub HasServer : List Serving → ServerId → Type 0
 HasServer servers id =
     (s : ℕ) × (server : Serving) × (slice_get servers s ≡ Some server) × (server.id ≡ id)
 
--- each server that the script knows at its end is among these, none is there twice, and each is as
--- the setting has it
+-- a server at a lower place has a lower number
+abbrev pub NumbersRise : List Serving → Type 0
+NumbersRise servers =
+    (s t : ℕ) (a b : Serving) → slice_get servers s ≡ Some a → slice_get servers t ≡ Some b → s < t
+    → a.id.0 < b.id.0
+
+-- each server that the script knows at its end is among these, by their numbers, and each is as the
+-- setting has it
 pub record Suits (stage : Stage) (servers : List Serving) : Type 0 where
-  pub differ : (s t : ℕ) (a b : Serving) → slice_get servers s ≡ Some a
-      → slice_get servers t ≡ Some b
-      → a.id ≡ b.id → s ≡ t
+  pub rise : NumbersRise servers
   pub shards : (s : ℕ) (server : Serving) → slice_get servers s ≡ Some server
       → length server.tables ≡ stage.script.setting.shards
   pub capacity : (s : ℕ) (server : Serving) → slice_get servers s ≡ Some server

@@ -333,7 +333,7 @@ ended R F stage servers routes board p phases workers head controller carriers a
       changes = end.changes;
       looked = end.looked;
       kept = books_of_all stage servers (rows_of head workers) controller carriers all done books;
-      own = own_books servers (rows_of head workers) all end.suits.differ books;
+      own = own_books servers (rows_of head workers) all end.suits.rise books;
       booked = each_append booked controller (all_deeds carriers)
           (each_two (λ n. is_command n.event.what ≡ true) (λ n. IsLedAt stage servers n.event.what) booked controller
           (λ n k l. led_booked stage servers (rows_of head workers) all n.event.what end.suits count (omega arith) books

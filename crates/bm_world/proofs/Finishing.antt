@@ -31,7 +31,8 @@ use Rattle.bm_merge.proofs.Keeping.{no_deeds}
 use Rattle.bm_server.specs.Seats.{Answered, Seated, seat_of, telling}
 use Rattle.bm_server.specs.Servings.{Serving, shard_at}
 use Rattle.bm_turnstile.specs.Seen.{AllBelow}
-use Rattle.bm_worker.specs.WorkerNotes.{saying, noted, Suits}
+use Rattle.bm_worker.specs.WorkerNotes.{NumbersRise, saying, noted, Suits}
+use Rattle.bm_worker.proofs.Numbered.{differ}
 use Rattle.bm_worker.specs.Phases.{mux_log, IsCopyCall, AreCopies}
 use Rattle.bm_worker.specs.SeatCalls.{told_there}
 use Rattle.bm_world.specs.Inside.Shards.{entries_by, AreNoted}
@@ -413,11 +414,11 @@ own_more id k (b ∷ books) more each none own =
 
 -- the books of the servers from one place on
 own_from : (servers : List Serving) (rows : List (List (List Seated))) (m : ℕ) (all : List (List Book))
-    → ((s t : ℕ) (a b : Serving) → slice_get servers s ≡ Some a → slice_get servers t ≡ Some b → a.id ≡ b.id → s ≡ t)
+    → NumbersRise servers
     → ((s : ℕ) (books : List Book) → slice_get all s ≡ Some books → AreBooksThere servers rows (m + s) books)
     → HaveOwnBooks (all_books all)
-own_from servers rows m [] differ each = tt
-own_from servers rows m (books ∷ all) differ each =
+own_from servers rows m [] rise each = tt
+own_from servers rows m (books ∷ all) rise each =
     let here = each 0 books refl
     in own_more here.server.id.0 0 books (all_books all)
     (λ i b at. let shard = (here.each i b at).shard
@@ -426,21 +427,21 @@ own_from servers rows m (books ∷ all) differ each =
     let other = each (suc s) b at
     in (
       other.server.id.0,
-      (λ same. absurd (let k = differ (m + suc s) (m + 0) other.server here.server other.server_at here.server_at
-          (id_same other.server.id here.server.id same) in omega arith)),
+      (λ same. absurd (let k = differ servers rise (m + suc s) (m + 0) other.server here.server other.server_at
+          here.server_at (id_same other.server.id here.server.id same) in omega arith)),
       (λ i c there. ap (λ (x : Shard). x.server.0) (other.each i c there).shard),
     )))
-    (own_from servers rows (suc m) all differ (λ s b at. subst (λ (k : ℕ). AreBooksThere servers rows k b) (omega arith)
+    (own_from servers rows (suc m) all rise (λ s b at. subst (λ (k : ℕ). AreBooksThere servers rows k b) (omega arith)
     (each (suc s) b at))) where
       id_same : (a b : ServerId) → a.0 ≡ b.0 → a ≡ b
       id_same a b same = λ i. record { 0 = same i }
 
 pub own_books : (servers : List Serving) (rows : List (List (List Seated))) (all : List (List Book))
-    → ((s t : ℕ) (a b : Serving) → slice_get servers s ≡ Some a → slice_get servers t ≡ Some b → a.id ≡ b.id → s ≡ t)
+    → NumbersRise servers
     → ((s : ℕ) (books : List Book) → slice_get all s ≡ Some books → AreBooksThere servers rows s books)
     → HaveOwnBooks (all_books all)
-own_books servers rows all differ each =
-    own_from servers rows 0 all differ
+own_books servers rows all rise each =
+    own_from servers rows 0 all rise
     (λ s b at. subst (λ (k : ℕ). AreBooksThere servers rows k b) (omega arith) (each s b at))
 
 -- each book is one of all that was done

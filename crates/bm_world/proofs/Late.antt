@@ -402,7 +402,7 @@ over_left F stage servers p q a b workers x all over =
           (subst (λ (l : List ℕ). IsPrefix w.0.mux.seen.clocks l) posts (over.shown m w.0 w.1)) one.left);
       kept = books_of_all stage servers rows (x ++ controller) carriers all
           (over_done F stage servers p q a b workers x all over) over.books;
-      own = own_books servers rows all over.suits.differ over.books;
+      own = own_books servers rows all over.suits.rise over.books;
       booked = over_booked F stage servers p q a b workers x all over;
     }
 

@@ -1,5 +1,5 @@
 -- The servers and the muxes' workers of a run, as they are made.
-use Rattle.std.proofs.Common.{◌≡◌, ℕ, zero, suc, ◌+◌, ◌≤◌, Bool, true, false, List, [], ◌∷◌, All, length, get_or}
+use Rattle.std.proofs.Common.{◌≡◌, ℕ, zero, suc, ◌+◌, ◌<◌, ◌≤◌, Bool, true, false, List, [], ◌∷◌, All, length, get_or}
 use Rattle.std.proofs.Common.{Some, refl, sym, ap, ◌∙◌, subst, arith, ◌||◌}
 use Rattle.std.specs.Prelude.{slice_get}
 use Rattle.std.proofs.lemmas.Bool.{eqb-true}
@@ -30,17 +30,14 @@ low_first low (y ∷ ids) zero x rise here = subst (λ (s : ServerId). low ≤ s
 low_first low (y ∷ ids) (suc i) x rise here =
     let more = low_first (y.0 + 1) ids i x rise.1 here in omega (arith, rise.0, more)
 
-differ : (low : ℕ) (ids : List ServerId) (i j : ℕ) (x y : ServerId) → RiseFrom low ids → slice_get ids i ≡ Some x
-    → slice_get ids j ≡ Some y → x ≡ y → i ≡ j
-differ low [] i j x y rise a b same = absurd (cc)
-differ low (z ∷ ids) zero zero x y rise a b same = refl
-differ low (z ∷ ids) zero (suc j) x y rise a b same =
+rising : (low : ℕ) (ids : List ServerId) (i j : ℕ) (x y : ServerId) → RiseFrom low ids → slice_get ids i ≡ Some x
+    → slice_get ids j ≡ Some y → i < j → x.0 < y.0
+rising low [] i j x y rise a b below = absurd (cc)
+rising low (z ∷ ids) i zero x y rise a b below = absurd (omega arith)
+rising low (z ∷ ids) zero (suc j) x y rise a b below =
     let more = low_first (z.0 + 1) ids j y rise.1 b
-    in let is : z.0 ≡ y.0 = ap (λ (s : ServerId). s.0) (same_Some z x a ∙ same) in absurd (omega arith)
-differ low (z ∷ ids) (suc i) zero x y rise a b same =
-    let more = low_first (z.0 + 1) ids i x rise.1 a
-    in let is : z.0 ≡ x.0 = ap (λ (s : ServerId). s.0) (same_Some z y b ∙ sym same) in absurd (omega arith)
-differ low (z ∷ ids) (suc i) (suc j) x y rise a b same = ap suc (differ (z.0 + 1) ids i j x y rise.1 a b same)
+    in let is : z.0 ≡ x.0 = ap (λ (s : ServerId). s.0) (same_Some z x a) in omega (arith, more, is)
+rising low (z ∷ ids) (suc i) (suc j) x y rise a b below = rising (z.0 + 1) ids i j x y rise.1 a b (omega arith)
 
 among_there : (ids : List ServerId) (s : ServerId) → is_among ids s ≡ true
     → (i : ℕ) × (x : ServerId) × (slice_get ids i ≡ Some x) × (x ≡ s)
@@ -63,7 +60,7 @@ pub suits_made : (stage : Stage) (servers : List Serving) (ids : List ServerId) 
     → IsServerOf stage.script.setting ids workers s server)
     → Suits stage servers
 suits_made stage servers ids workers sound rise known count each = record {
-  differ = λ s t a b p q same. differ 1 ids s t a.id b.id rise (each s a p).id (each t b q).id same;
+  rise = λ s t a b p q below. rising 1 ids s t a.id b.id rise (each s a p).id (each t b q).id below;
   shards = λ s server here. (each s server here).shards;
   capacity = λ s server here. (each s server here).capacity;
   timeout = λ s server here. (each s server here).timeout;

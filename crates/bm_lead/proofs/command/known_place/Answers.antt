@@ -1,7 +1,11 @@
-use Rattle.std.proofs.Common.{◌≡◌, List, Some, ap, ◌∙◌, subst}
+use Rattle.std.proofs.Common.{◌≡◌, List, Some, sym, ap, ◌∙◌, subst}
 use Rattle.std.specs.Prelude.{slice_get}
 use Rattle.bm_server.specs.Servings.{Serving}
+use Rattle.bm_worker.specs.WorkerNotes.{NumbersRise}
 use Rattle.bm_lead.proofs.command.known_place.Goals as goal
+
+pub place_of-requires : goal.place_of-requires
+place_of-requires g c = subst NumbersRise (sym c.servers.ensures.value) c.servers.ensures.set_up.suits.rise
 
 pub unreachable-requires : goal.unreachable-requires
 unreachable-requires g c =

@@ -2,7 +2,7 @@ use Rattle.std.proofs.Common.{◌≡◌, ◌+◌, ◌*◌, ◌<◌, ◌≤◌, �
 use Rattle.std.specs.Prelude.{slice_get}
 use Rattle.bm_fault.specs.Faults.{Gives}
 use Rattle.bm_server.specs.Servings.{Serving}
-use Rattle.bm_worker.specs.WorkerNotes.{Sits}
+use Rattle.bm_worker.specs.WorkerNotes.{NumbersRise, Sits}
 use Rattle.bm_worker.specs.Inside.Pending.{HasCarried, pending}
 use Rattle.bm_worker.proofs.Carrying.{asks_copy, carried_none, carried_whole, carries_late, carries_loss, carries_stop, place_inside}
 use Rattle.bm_worker.proofs.Sent.{can_on, lost_of, sent_call, sent_loss, sent_nothing, sent_on}
@@ -217,6 +217,9 @@ carry_copy-returns-clause-carries g t c =
     c.arrive.ensures.same c.forward.ensures.carries
 
 -- A FORWARD
+
+pub forward-place_of-requires : goal.forward-place_of-requires
+forward-place_of-requires g t c = subst NumbersRise (sym c.servers.ensures.value) c.servers.ensures.set_up.suits.rise
 
 pub forward-unreachable-requires : goal.forward-unreachable-requires
 forward-unreachable-requires g t c =

@@ -8,6 +8,7 @@ use Rattle.bm_fault.specs.Faults.{Gives}
 use Rattle.bm_server.specs.Servings.{Serving}
 use Rattle.bm_worker.specs.Inside.Batches.{IsSent}
 use Rattle.bm_worker.specs.Inside.Pending.{HasSent, IsCopyOf}
+use Rattle.bm_worker.specs.WorkerNotes.{NumbersRise}
 use Rattle.bm_worker.proofs.Sent.{can_on, sent_nothing, sent_on, sent_same_steps}
 use Rattle.bm_worker.proofs.Delivering.{all_at, delivered_more, delivered_none, delivers_all, delivers_stop, each_at}
 use Rattle.bm_worker.proofs.Delivering.{sent_copy, sent_server}
@@ -23,6 +24,9 @@ loop-at-init g c = record {
       c.args.shared.now.servers
       c.args.sents.now c.args.fates.now c.args.self.now;
 }
+
+pub place_of-requires : goal.place_of-requires
+place_of-requires g c = subst NumbersRise (sym c.servers.ensures.value) c.servers.ensures.set_up.suits.rise
 
 pub unreachable-requires : goal.unreachable-requires
 unreachable-requires g c =
