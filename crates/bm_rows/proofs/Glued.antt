@@ -1,8 +1,7 @@
 -- Rows with a column at their ends, by place.
 use Rattle.std.proofs.Common.{◌≡◌, ℕ, zero, suc, ◌+◌, ◌<◌, ◌≤◌, List, [], ◌∷◌, ◌++◌, length, map, take, drop, get_or, set}
-use Rattle.std.proofs.Common.{Some, slice_get, slice_index_or, refl, sym, ap, ◌∙◌, add-one, arith, append-nil}
+use Rattle.std.proofs.Common.{Some, slice_get, refl, sym, ap, ◌∙◌, add-one, arith, append-nil}
 use Rattle.std.proofs.Math.ListN.{get_or-map, drop_of_length-le}
-use Rattle.std.specs.List.{remove}
 use Rattle.std.proofs.lemmas.Option.{same_Some}
 use Rattle.std.proofs.lemmas.List.{length-map, map-set, take_all}
 use Rattle.bm_rows.specs.Rows.{glued}
@@ -16,10 +15,6 @@ lent n now old a b =
     ∙ (ap (take n) (append-nil now) ∙ take_all n now (omega (arith, a, b)))
 
 module _ {S : Type 0} where
-  pub remove_first : (xs : List S) (x : S) → 0 < length xs → x ≡ slice_index_or xs 0 x → xs ≡ x ∷ remove xs 0
-  remove_first [] x h e = absurd (omega arith)
-  remove_first (y ∷ ys) x h e = ap (λ z. z ∷ ys) (sym e)
-
   pub length-glued : (rs : List (List S)) (ss : List S) → length rs ≡ length ss → length (glued rs ss) ≡ length rs
   length-glued [] ss e = refl
   length-glued (r ∷ rs) [] e = absurd (omega arith)

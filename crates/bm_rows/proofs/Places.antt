@@ -1,6 +1,7 @@
 -- A fact on each place of a list, after an item came or went at either end.
 use Rattle.std.proofs.Common.{◌≡◌, ℕ, zero, suc, ◌+◌, ◌<◌, ◌⊎◌, inl, inr, ⊎_elim, List, [], ◌∷◌, ◌++◌, length, map}
-use Rattle.std.proofs.Common.{Some, slice_get, All, refl, sym, ap, ◌∙◌, subst, arith}
+use Rattle.std.proofs.Common.{Some, slice_get, slice_index_or, All, refl, sym, ap, ◌∙◌, subst, arith}
+use Rattle.std.specs.List.{remove}
 use Rattle.std.proofs.lemmas.Option.{same_Some}
 
 pub subst_two : {A B : Type 0} (P : A → B → Type 0) {a a' : A} {b b' : B} → a ≡ a' → b ≡ b' → P a b → P a' b'
@@ -45,6 +46,12 @@ module _ {A : Type 0} where
       → (k : ℕ) (y : A) → slice_get xs' k ≡ Some y → P (m + k) y
   front_more P m x xs xs' e first rest k y at =
       front_one P m x xs first rest k y (ap (λ (l : List A). slice_get l k) (sym e) ∙ at)
+
+  -- the first was removed
+  pub first_removed : (xs rest : List A) (x : A) → 0 < length xs → x ≡ slice_index_or xs 0 x → rest ≡ remove xs 0
+      → xs ≡ x ∷ rest
+  first_removed [] rest x some first left = absurd (omega arith)
+  first_removed (y ∷ xs) rest x some first left = λ i. sym first i ∷ sym left i
 
   pub all_tail : (P : A → Type 0) (l xs : List A) (x : A) → l ≡ x ∷ xs → All P l → All P xs
   all_tail P l xs x e all =

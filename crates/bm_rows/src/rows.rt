@@ -1,19 +1,9 @@
 //! Adding a column at the end, and taking it off.
-ghost use Rattle.std.specs.Prelude.{◌≡◌, ◌<◌, ◌∷◌, length, IfOk, OnOk, All};
+ghost use Rattle.std.specs.Prelude.{◌≡◌, ◌<◌, length, IfOk, OnOk, All};
 ghost use Rattle.bm_rows.specs.Rows.{glued, items_of};
 
 use bm_base::Memory;
 use std::alloc::Global;
-
-/// The first item, and the others. Takes no memory.
-pub fn front<S: Drop>(all: Vec<S>) -> (S, Vec<S>)
-    requires { 0 < length all.items }
-    ensures { all.items ≡ result.0 ∷ result.1.items }
-{
-    let mut rest = all;
-    let first = rest.remove(0);
-    (first, rest)
-}
 
 /// Adds an item of the column to the end of each row. `Memory` where memory was refused; some rows
 /// may then have their item.

@@ -7,7 +7,6 @@ use bm_base::{Hop, Memory, Moment, MuxId, Past, ServerId, Tag, Version};
 use bm_core::{Verdict, Why};
 use bm_encap::{set_chained, wrap};
 use bm_ipv4::Ipv4Fault;
-use bm_rows::front;
 use bm_server::{HandleFault, Server, ServerSeat};
 use bm_shard::ShardReply;
 use bm_tcp::{InnerFault, TcpFault};
@@ -142,8 +141,8 @@ pub(crate) fn ask<R: Wait>(
     (damage, id): Case,
 ) -> Result<(Result<ShardReply, HandleFault>, usize), Memory> {
     let octets = copy_of(alloc, damage)?;
-    let (server, seats) = Server::new(alloc, ServerId(id), 1, 8, 1_000_000_000, 1)?;
-    let (mut seat, _) = front(seats);
+    let (server, mut seats) = Server::new(alloc, ServerId(id), 1, 8, 1_000_000_000, 1)?;
+    let mut seat = seats.remove(0);
     let answer = hand(rt, &server, &mut seat, &octets);
     let back = alone(alloc, seat)?;
     let books = server.finish(alloc, back)?;

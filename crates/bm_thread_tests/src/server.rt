@@ -7,7 +7,6 @@ use crate::packets::{FLOW, syn};
 use crate::vectors::alone;
 use bm_base::{Hop, Memory, Moment, MuxId, Past, ServerId, Tag, Version};
 use bm_encap::wrap;
-use bm_rows::front;
 use bm_server::{HandleFault, Server, ServerSeat};
 use bm_shard::ShardReply;
 use bm_table::Retirement;
@@ -56,8 +55,8 @@ fn ask<R: Wait>(rt: &R, server: &Server, seat: &mut ServerSeat, octets: &[u8]) -
 fn ask_server<R: Wait>(rt: &R, alloc: Global, id: ServerId) -> Result<(Answers, usize), Memory> {
     let mut octets = Vec::new(alloc);
     wrap(&TAG, &syn(1000), &mut octets)?;
-    let (server, seats) = Server::new(alloc, id, 2, 8, 1000, 1)?;
-    let (mut seat, _) = front(seats);
+    let (server, mut seats) = Server::new(alloc, id, 2, 8, 1000, 1)?;
+    let mut seat = seats.remove(0);
     let answers = ask(rt, &server, &mut seat, &octets);
     let back = alone(alloc, seat)?;
     let books = server.finish(alloc, back)?;

@@ -3,7 +3,6 @@ ghost use Rattle.std.specs.Prelude.{◌≡◌, ◌∷◌, [], length, IfSome, If
 ghost use Rattle.bm_turnstile.specs.Sittings.{who};
 
 use bm_base::Memory;
-use bm_rows::front;
 use bm_turnstile::{Booked, TurnSeat, Turnstile};
 use std::alloc::Global;
 use std::sync::Wait;
@@ -71,13 +70,11 @@ fn make_calls<R: Wait>(
 fn three<S: Drop>(all: Vec<S>) -> Option<(S, S, S)>
     ensures { IfSome result (λ t. all.items ≡ t.0 ∷ t.1 ∷ t.2 ∷ []) }
 {
-    if all.len() != 3 {
-        return None;
+    let mut rest = all.into_iter();
+    match (rest.next(), rest.next(), rest.next(), rest.next()) {
+        (Some(first), Some(second), Some(third), None) => Some((first, second, third)),
+        _ => None,
     }
-    let (first, rest) = front(all);
-    let (second, rest) = front(rest);
-    let (third, _) = front(rest);
-    Some((first, second, third))
 }
 
 fn of_three<S: Drop>(alloc: Global, first: S, second: S, third: S) -> Result<Vec<S>, Memory>

@@ -12,7 +12,6 @@ use crate::rule::Place;
 use crate::seat::TurnSeat;
 use crate::tickets::{Tickets, alone};
 use bm_base::Memory;
-use bm_rows::front;
 use std::alloc::Global;
 use std::marker::Model;
 use std::sync::Wait;
@@ -130,7 +129,8 @@ impl<T: Booked + Drop> Turnstile<T> {
         ensures fixed { fixed_of seats.items ≡ Some (T.fixed result) }
     {
         let Turnstile { tickets } = self;
-        let (first, rest) = front(seats);
+        let mut rest = seats;
+        let first = rest.remove(0);
         let TurnSeat {
             mut place,
             number: _,

@@ -29,7 +29,6 @@ use bm_io::Gate;
 use bm_lead::{Head, post_the_rest};
 use bm_publish::{Look, Poster, board};
 use bm_route::Route;
-use bm_rows::front;
 use bm_worker::{Caller, Shared};
 use std::alloc::Global;
 use std::sync::Wait;
@@ -90,7 +89,8 @@ fn run_on_board<W: Threads + Wait + Sync, F: Fn(u32, Hop) -> Fate + Sync, G: Gat
 {
     let alloc = shared.alloc();
     let stage = shared.stage();
-    let (first, others) = front(rows);
+    let mut others = rows;
+    let first = others.remove(0);
     let mut head = Head::new(alloc, Caller::new(0, first));
     let mut workers = make_workers(alloc, stage.script.setting.buckets, looks, others)?;
     let late = run_phases(rt, shared, poster, &mut head, workers.as_mut_slice())?;

@@ -14,6 +14,7 @@ use Rattle.bm_fault.specs.Faults.{Gives}
 use Rattle.bm_mux.specs.Muxes.{HasServers}
 use Rattle.bm_publish.specs.Posts.{Posted}
 use Rattle.bm_rows.specs.Rows.{items_of}
+use Rattle.bm_rows.proofs.Places.{first_removed}
 use Rattle.bm_worker.specs.declared.worker.MuxWorker.{MuxWorker}
 use Rattle.bm_world.specs.Inside.GivenUp.{HasGivenUp}
 use Rattle.bm_world.specs.Inside.RunStates.{IsThrough, rows_of}
@@ -24,8 +25,10 @@ use Rattle.bm_world.proofs.threads.run_on_board.Goals as goal
 
 pub new-requires : goal.new-requires
 new-requires g c =
-    (row_after c.args.shared.now.servers c.front-first.result.0.items (items_of c.front-first.result.1.items)
-    (items_of c.args.rows.items) (ap items_of c.front-first.ensures) c.requires.rows).0.turns
+    let split = first_removed c.args.rows.items c.remove-first.new.self.items c.remove-first.result
+    (omega (arith, c.requires.count)) c.remove-first.ensures.value c.remove-first.ensures.items in
+    (row_after c.args.shared.now.servers c.remove-first.result.items (items_of c.remove-first.new.self.items)
+    (items_of c.args.rows.items) (ap items_of split) c.requires.rows).0.turns
 
 pub make_workers-requires-clause-looks : goal.make_workers-requires-clause-looks
 make_workers-requires-clause-looks g c =
@@ -36,29 +39,33 @@ make_workers-requires-clause-looks g c =
 
 pub make_workers-requires-clause-rows : goal.make_workers-requires-clause-rows
 make_workers-requires-clause-rows g c =
-    no_turns c.args.shared.now.servers (items_of c.front-first.result.1.items)
-    (row_after c.args.shared.now.servers c.front-first.result.0.items (items_of c.front-first.result.1.items)
-    (items_of c.args.rows.items) (ap items_of c.front-first.ensures) c.requires.rows).1
+    let split = first_removed c.args.rows.items c.remove-first.new.self.items c.remove-first.result
+    (omega (arith, c.requires.count)) c.remove-first.ensures.value c.remove-first.ensures.items in
+    no_turns c.args.shared.now.servers (items_of c.remove-first.new.self.items)
+    (row_after c.args.shared.now.servers c.remove-first.result.items (items_of c.remove-first.new.self.items)
+    (items_of c.args.rows.items) (ap items_of split) c.requires.rows).1
 
 pub run_phases-requires-clause-first : goal.run_phases-requires-clause-first
 run_phases-requires-clause-first g c κs within =
+    let split = first_removed c.args.rows.items c.remove-first.new.self.items c.remove-first.result
+    (omega (arith, c.requires.count)) c.remove-first.ensures.value c.remove-first.ensures.items in
     let shared = c.args.shared.now in
     let stage = shared.stage in
     let servers = shared.servers in
     let posted = c.args.poster.now in
     let head = c.new-head.result in
-    let others = items_of c.front-first.result.1.items in
-    let rows = row_after servers c.front-first.result.0.items others (items_of c.args.rows.items)
-    (ap items_of c.front-first.ensures) c.requires.rows in
+    let others = items_of c.remove-first.new.self.items in
+    let rows = row_after servers c.remove-first.result.items others (items_of c.args.rows.items)
+    (ap items_of split) c.requires.rows in
     let workers = c.as_mut_slice.result.now in
     let value : workers ≡ c.in_ok-workers.workers.items = c.as_mut_slice.ensures.value in
     let all = ap (λ (l : List MuxWorker). length l) value in
-    let size = length-map c.front-first.result.1.items (λ row. row.items) in
+    let size = length-map c.remove-first.new.self.items (λ row. row.items) in
     let made = c.in_ok-workers.ensures.count in
     let count = c.requires.count in
-    let split = ap (λ l. length l) c.front-first.ensures in
+    let longer = ap (λ l. length l) split in
     starts_with (Gives g.F.Fn shared.rule) stage servers shared.routes posted c.new.result head
-    c.front-first.result.0.items others c.args.looks.items workers c.stage-stage.ensures.set_up.sound c.requires.board.0
+    c.remove-first.result.items others c.args.looks.items workers c.stage-stage.ensures.set_up.sound c.requires.board.0
     c.requires.board.1 c.new.ensures c.new-head.ensures.caller c.new-head.ensures.next c.new-head.ensures.published.0
     (λ begins. c.new-head.ensures.ready stage servers posted c.stage-stage.ensures.set_up.sound begins)
     (λ begins. c.new-head.ensures.led stage servers posted begins)
