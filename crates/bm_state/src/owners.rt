@@ -1,6 +1,7 @@
 //! Who owns flows and packets after some events.
 ghost use Rattle.std.specs.Prelude.{◌≡◌, [], ◌∷◌, List, IfOk, OnOk, if◌then◌else◌, Some, None};
 ghost use Rattle.std.specs.Prelude.{length, option_map, slice_set};
+ghost use Rattle.bm_base.specs.declared.label.Hop.{Hop};
 ghost use Rattle.bm_base.specs.declared.flow.Flow.{Flow};
 ghost use Rattle.bm_base.specs.declared.ids.MuxId.{MuxId};
 ghost use Rattle.bm_base.specs.Segments.{same_flow};
@@ -13,7 +14,7 @@ ghost use Rattle.bm_state.specs.Inside.Owners.{accept_for};
 
 use crate::flow_key::FlowKey;
 use crate::labels::Labels;
-use bm_base::{Flow, Hop, Segment, ServerId};
+use bm_base::{Flow, Segment, ServerId};
 use bm_core::{Stage, Verdict, What};
 use std::alloc::{AllocError, Global};
 use std::collections::HashMap;
@@ -218,11 +219,10 @@ impl Owners {
         labels: &Labels,
         place: usize,
         packet: u32,
-        hop: Hop,
         server: ServerId,
         verdict: Verdict,
     ) -> Result<(), AllocError>
-        ensures { (past : List Event) (e : Event) → e.what ≡ What.Arrive packet hop server verdict
+        ensures { (past : List Event) (e : Event) (hop : Hop) → e.what ≡ What.Arrive packet hop server verdict
             → place ≡ length past
             → KeepsLabels stage.now past labels.now → KeepsOwners stage.now past self.old
             → OnOk result (KeepsOwners stage.now (e ∷ past) self.new) }
@@ -253,10 +253,10 @@ impl Owners {
             }
             What::Arrive {
                 packet,
-                hop,
                 server,
                 verdict,
-            } => self.note_arrival(stage, labels, place, packet, hop, server, verdict),
+                ..
+            } => self.note_arrival(stage, labels, place, packet, server, verdict),
             _ => Ok(()),
         }
     }

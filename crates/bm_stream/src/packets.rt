@@ -1,6 +1,7 @@
 //! The packets of each Accept.
 ghost use Rattle.std.specs.Prelude.{◌≡◌, ◌==◌, ◌&&◌, if◌then◌else◌, ℕ, List, [], ◌∷◌, ◌++◌, length};
 ghost use Rattle.std.specs.Prelude.{OnOk, Option, Some, None};
+ghost use Rattle.bm_base.specs.declared.label.Hop.{Hop};
 ghost use Rattle.bm_base.specs.declared.flow.Flow.{Flow};
 ghost use Rattle.bm_base.specs.declared.ids.ServerId.{ServerId};
 ghost use Rattle.bm_base.specs.Segments.{same_flow};
@@ -11,7 +12,7 @@ ghost use Rattle.bm_stream.specs.Accepts as accepts;
 ghost use Rattle.bm_stream.specs.Inside.Keys.{key_of};
 ghost use Rattle.bm_table.specs.Tables.{same_server};
 
-use bm_base::{Flow, Hop, Memory, ServerId, Taken};
+use bm_base::{Flow, Memory, ServerId, Taken};
 use bm_core::{Event, Stage, Verdict, What};
 use std::alloc::Global;
 use std::collections::{BTreeMap, HashMap};
@@ -188,11 +189,10 @@ impl Found {
         stage: &Stage,
         place: usize,
         packet: u32,
-        hop: Hop,
         server: ServerId,
         verdict: Verdict,
     ) -> Result<(), Memory>
-        ensures { (past : List Event) (e : Event) → e.what ≡ What.Arrive packet hop server verdict
+        ensures { (past : List Event) (e : Event) (hop : Hop) → e.what ≡ What.Arrive packet hop server verdict
             → place ≡ length past → MayCome stage.now past e.clock.0 e.what
             → HasFound stage.now past self.old
             → OnOk result (HasFound stage.now (e ∷ past) self.new) }
@@ -229,10 +229,10 @@ impl Found {
         match event.what {
             What::Arrive {
                 packet,
-                hop,
                 server,
                 verdict,
-            } => self.note_arrival(alloc, stage, place, packet, hop, server, verdict),
+                ..
+            } => self.note_arrival(alloc, stage, place, packet, server, verdict),
             What::Publish(_)
             | What::Switch { .. }
             | What::Steer { .. }
