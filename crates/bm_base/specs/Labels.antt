@@ -9,6 +9,7 @@ use Rattle.bm_base.specs.declared.label.Label.{Label}
 use Rattle.bm_base.specs.declared.label.Past.{Past}
 use Rattle.bm_base.specs.declared.label.Tag.{Tag}
 
+-- the hops are the same
 abbrev pub same_hop : Hop → Hop → Bool
 same_hop Direct Direct = true
 same_hop Chained Chained = true
@@ -38,7 +39,8 @@ arrives_at e Direct = Some e.cur
 arrives_at e Chained = server_of e.prev
 arrives_at e Twice = server_of e.older
 
--- the server to which a copy of this hop may be passed on, and when the bucket left it
+-- the server to which a copy of this hop may be passed on, and when the bucket left it. (A `Past`
+-- is such a server with its stamp, and no list of events.)
 abbrev pub onward : Entry → Hop → Option Past
 onward e Direct = e.prev
 onward e Chained = e.older

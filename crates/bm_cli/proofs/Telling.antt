@@ -4,7 +4,7 @@ use Rattle.bm_core.specs.declared.events.History.{History}
 use Rattle.bm_core.specs.declared.events.Stage.{Stage}
 use Rattle.bm_core.proofs.Lawful.{cause_law, safety_law}
 use Rattle.bm_io.specs.Written.{WritesPart}
-use Rattle.bm_trace.specs.Inside.Parts.{lines_behind}
+use Rattle.bm_trace.specs.Inside.Parts.{lines_after}
 use Rattle.bm_trace.specs.Report.{event_lines, text}
 use Rattle.bm_trace.proofs.Parted.{behind_events, some_behind}
 use Rattle.bm_cli.specs.declared.mode.Mode.{Mode}
@@ -31,7 +31,7 @@ some_text h =
     omega (
       arith,
       ap length (behind_events h),
-      length-append (event_lines h.stage (reverse h.events)) (lines_behind h),
+      length-append (event_lines h.stage (reverse h.events)) (lines_after h),
       some_behind h,
     )
 

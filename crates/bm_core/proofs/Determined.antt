@@ -33,7 +33,7 @@ use Rattle.bm_core.specs.Schedule.{Underway}
 use Rattle.bm_core.specs.declared.schedule.Call.{Call}
 use Rattle.bm_core.specs.declared.schedule.Due.{Due}
 use Rattle.bm_core.specs.Schedule.{call_of, wire, can_come, due_loss, loss_of_fate, put_sent, after_arrive, least}
-use Rattle.bm_core.specs.Schedule.{IsLeast, ComesNext, IsNextBy, Follows, IsOver}
+use Rattle.bm_core.specs.Schedule.{IsDueCall, ComesNext, IsNextBy, Follows, IsOver}
 
 -- the answer to a wish to retire is determined
 pub same_retirement : (plan : Planned) (timeout n : ℕ) (s : ServerId) (at : ℕ) (a b : Retirement)
@@ -120,7 +120,7 @@ next_step : (dues : List Due) (past : List Event) (a b : Event) (loss : Option C
     → ComesNext loss dues past b → (call_of a.what ≡ call_of b.what) × (a.clock.0 ≡ b.clock.0)
 next_step dues past a b (Some l) p q = (p.0 ∙ sym q.0, p.1 ∙ sym q.1)
 next_step dues past a b None p q = least_step (least dues) p q where
-  least_step : (o : Option Due) → IsLeast past a o → IsLeast past b o → (call_of a.what ≡ call_of b.what)
+  least_step : (o : Option Due) → IsDueCall past a o → IsDueCall past b o → (call_of a.what ≡ call_of b.what)
       × (a.clock.0 ≡ b.clock.0)
   least_step None p q = absurd p
   least_step (Some d) p q = (p.0 ∙ sym q.0, p.1 ∙ sym q.1)

@@ -27,7 +27,7 @@ use Rattle.bm_core.specs.Accounts.{counts, fate_now, before}
 use Rattle.bm_core.specs.Schedule.{call_of, least, put, put_all, put_sent, rest, after_arrive, wire, due_loss}
 use Rattle.bm_core.specs.Schedule.{publish_due, switch_due, switches_due, close_commands, retire_dues, retire_commands}
 use Rattle.bm_core.specs.Schedule.{sync_commands, packets_from, arrival_due, dropped, first_of, closes, retires, syncs}
-use Rattle.bm_core.specs.Schedule.{steers, can_come, ComesNext, IsLeast, Follows}
+use Rattle.bm_core.specs.Schedule.{steers, can_come, ComesNext, IsDueCall, Follows}
 use Rattle.bm_core.specs.Soon.{IsSoon, AreSoon}
 use Rattle.bm_core.proofs.Schedules.{Each, each_append, each_dropped, least_is}
 
@@ -241,7 +241,7 @@ after_by top Sync w all = all
 -- THE CLOCKS
 
 least_clock : (past : List Event) (e : Event) (top : ℕ) (o : Option Due) → last_clock past ≤ top → IfSome o (IsBy top)
-    → IsLeast past e o → e.clock.0 ≤ suc top
+    → IsDueCall past e o → e.clock.0 ≤ suc top
 least_clock past e top None last by is = absurd is
 least_clock past e top (Some d) last by is = let c = is.1 in omega arith
 

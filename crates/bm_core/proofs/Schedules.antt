@@ -27,7 +27,7 @@ use Rattle.bm_core.specs.declared.schedule.Call.TheVariants.{Publishes, Switches
 use Rattle.bm_core.specs.declared.schedule.Call.TheVariants.{Steers, Loses}
 use Rattle.bm_core.specs.declared.schedule.Due.{Due}
 use Rattle.bm_core.specs.Schedule.{call_of, sooner, least, publish_due, switch_due, switches_due, close_commands}
-use Rattle.bm_core.specs.Schedule.{retire_dues, retire_commands, sync_commands, packets_from, IsLeast}
+use Rattle.bm_core.specs.Schedule.{retire_dues, retire_commands, sync_commands, packets_from, IsDueCall}
 use Rattle.bm_core.specs.Accounts.{fate_now, before, sent_copies, copyless_at, AreSent}
 use Rattle.bm_core.specs.Schedule.{put, put_all, put_sent, rest, after_arrive, wire, dropped, first_of, arrival_due}
 use Rattle.bm_core.specs.Schedule.{left, closes, retires, syncs, steers, can_come, loss_of_fate, due_loss, ComesNext}
@@ -210,7 +210,7 @@ pub record IsTaken (w : List Underway) (stage : Stage) (past : List Event) (cloc
   pub clock_is : clock ≡ next_clock (last_clock past) due.moment
 
 taken_least : (w : List Underway) (stage : Stage) (past : List Event) (e : Event) (o : Option Due)
-    → least (can_come w stage past) ≡ o → IfSome o (λ d. IsFrom w stage past d d.call) → IsLeast past e o
+    → least (can_come w stage past) ≡ o → IfSome o (λ d. IsFrom w stage past d d.call) → IsDueCall past e o
     → IsTaken w stage past e.clock.0 (call_of e.what)
 taken_least w stage past e None l from is = absurd is
 taken_least w stage past e (Some d) l from is = record {

@@ -49,7 +49,12 @@ abbrev pub is_late : Stage → Label → Hop → ℕ → Bool
 is_late stage label hop clock =
     option_map_or (λ p. nat_lt (p.stamp.0 + timeout stage) clock) (onward label.entry hop) false
 
--- the first premise that is broken where a packet arrives that isn't opening
+-- The first premise that is broken where a packet arrives that isn't opening. NeverAccepted: its
+-- flow had no Accept before its Steer. NotHeld: the owner's server no longer holds that Accept.
+-- StaleMux: its label is of an older version than the owner's. MovedThrice: between these two the
+-- bucket moved at least three times. ChainLate: it is at another server, and the timeout is over
+-- since the bucket left the server that it would go on to. SynElsewhere: another server holds the
+-- flow.
 abbrev pub first_broken : Stage → List Event → ℕ → Label → Hop → Flow → ServerId → Option Accepted
     → Option Cause
 first_broken stage past clock label hop f server None = Some NeverAccepted
@@ -72,7 +77,8 @@ is_refusal (Reset why) = true
 is_refusal (Drop why) = true
 is_refusal _ = false
 
--- the packet is reset or dropped, or processed by a server other than its owner's
+-- the packet, which isn't opening, is reset or dropped, or it is a stray: processed without an
+-- owner, or by a server other than its owner's. (A fault here is no error, and no impairment.)
 abbrev pub is_fault : Verdict → Option Accepted → ServerId → Bool
 is_fault (Process t) a s = not (option_map_or (λ owner. same_server s owner.server) a false)
 is_fault verdict a s = is_refusal verdict
@@ -92,7 +98,7 @@ cause_at stage past clock hop server verdict a (Some s) (Some label) =
     else None
 cause_at stage past clock hop server verdict a _ _ = None
 
--- the packet is dropped, reset or processed elsewhere
+-- the packet's line names a cause: an opening packet is reset or dropped; for others see `is_fault`
 abbrev pub wants_cause : Verdict → Option Accepted → ServerId → Option Segment → Bool
 wants_cause verdict a server None = false
 wants_cause v a server (Some s) = if is_opening s then is_refusal v else is_fault v a server

@@ -46,7 +46,7 @@ IsServed stage past (Arrive k hop server verdict) = IsSomeAnd (owner stage past 
     × IsSomeAnd (label_of stage past k) (λ l. IsForwardedTo l.entry hop verdict a.server)))
 IsServed stage past _ = ⊥
 
--- a packet is dropped, reset or processed elsewhere
+-- an arrival whose line names a cause: a drop, a reset or a stray
 abbrev pub IsFault : Stage → List Event → What → Type 0
 IsFault stage past (Arrive k hop server verdict) =
     wants_cause verdict (owner stage past k) server (segment_of stage k) ≡ true

@@ -146,7 +146,9 @@ is_sent_at [] k hop clock = false
 is_sent_at (e ∷ past) k hop clock =
     sends e.what k hop && e.clock.0 == clock || is_sent_at past k hop clock
 
--- HELD FLOWS
+-- HELD FLOWS: a server holds a flow from an Accept of it until a segment ends the connection
+-- (`Process Ended`), a Close closes it, or its shard retires. A second Accept replaces what is
+-- held.
 
 -- a connection that a server holds: the place of its Accept, and its receiver
 pub record Holding : Type 0 where
@@ -231,7 +233,8 @@ flows_after stage (Retire server shard at result) s h flows =
     if same_server server s && shard == h && is_done result then [] else flows
 flows_after stage _ s h flows = flows
 
--- the flows of the shard that the server holds
+-- the flows of the shard that the server holds, as a list, since a capacity counts them. They are
+-- those of which `held` has a connection, each once (`laws::held_flows`).
 abbrev pub flows_held : Stage → List Event → ServerId → ℕ → List Flow
 flows_held stage [] s h = []
 flows_held stage (e ∷ past) s h = flows_after stage e.what s h (flows_held stage past s h)

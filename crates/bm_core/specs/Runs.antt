@@ -28,6 +28,7 @@ pub data Actor : Type 0 where
   MuxOf : ℕ → Actor
   ShardOf : ℕ → ℕ → Actor
 
+-- the actors are the same
 abbrev pub same_actor : Actor → Actor → Bool
 same_actor Controller Controller = true
 same_actor (MuxOf m) (MuxOf n) = m == n
@@ -77,8 +78,8 @@ pub record IsArrival (stage : Stage) (past : List Event) (clock k : ℕ) (hop : 
   pub place : arrives_at label.entry hop ≡ Some server
   pub verdict_is : verdict ≡ verdict_at stage past clock label hop server segment
 
--- the event may come after these; a Switch may be to any published version, also to one older than
--- the mux has
+-- the event may come after these. A Switch may be to any published version, also to one older than
+-- the mux has. The moment that a Retire states is its command's, or a later one in threads.
 abbrev pub MayCome : Stage → List Event → ℕ → What → Type 0
 MayCome stage past clock (Publish v) =
     (v.0 ≡ suc (newest past)) × (v.0 ≤ length stage.script.plan.changes)

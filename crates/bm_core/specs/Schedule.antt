@@ -97,12 +97,12 @@ abbrev pub rest : List Underway → List Underway
 rest [] = []
 rest (d ∷ dues) = dues
 
--- the first one arrives
+-- without the first one after an Arrive: only the first copy may arrive next
 abbrev pub after_arrive : What → List Underway → List Underway
 after_arrive (Arrive k hop server verdict) dues = rest dues
 after_arrive _ dues = dues
 
--- the copies under way
+-- the copies that were sent and haven't arrived, in the order in which they come
 abbrev pub wire : List Fate → List Event → List Underway
 wire fates [] = []
 wire fates (e ∷ past) =
@@ -126,7 +126,8 @@ switch_due muxes lag m v None = []
 switch_due muxes lag m v (Some c) =
     due_at (c.moment.0 + lag) (v * muxes + m) (Switches m (suc v)) ∷ []
 
--- the next Switch of each of the first n muxes
+-- the next Switch of each of the first n muxes. In a replay a mux switches to each version in
+-- order, so after v Switches it has version v.
 abbrev pub switches_due : Stage → List Event → ℕ → List Due
 switches_due stage past zero = []
 switches_due stage past (suc m) =
@@ -232,16 +233,17 @@ abbrev pub due_loss : List Fate → List Event → Option Call
 due_loss fates [] = None
 due_loss fates (e ∷ past) = loss_of_fate (fate_now fates) (sending_of e.what)
 
--- the event is this call, with the clock after the newest event and the stated moment
-abbrev pub IsLeast : List Event → Event → Option Due → Type 0
-IsLeast past e None = ⊥
-IsLeast past e (Some d) =
+-- the event is the call that is due, if one is, with the clock after the newest event and the
+-- call's moment
+abbrev pub IsDueCall : List Event → Event → Option Due → Type 0
+IsDueCall past e None = ⊥
+IsDueCall past e (Some d) =
     (call_of e.what ≡ d.call) × (e.clock.0 ≡ next_clock (last_clock past) d.moment)
 
 -- the event is the loss that is due, or else the least that can come
 abbrev pub ComesNext : Option Call → List Due → List Event → Event → Type 0
 ComesNext (Some loss) dues past e = (call_of e.what ≡ loss) × (e.clock.0 ≡ suc (last_clock past))
-ComesNext None dues past e = IsLeast past e (least dues)
+ComesNext None dues past e = IsDueCall past e (least dues)
 
 -- the event comes next after these
 abbrev pub IsNextBy : List Fate → Stage → List Event → Event → Type 0

@@ -156,12 +156,12 @@ packet_of _ = None
 
 -- MUXES
 
--- in this phase the mux has looked at the board
+-- there is a Switch of the mux in this phase: it has looked at the table
 abbrev pub has_looked : List Event → ℕ → Bool
 has_looked [] m = false
 has_looked (e ∷ past) m = not (is_sync e.what) && (is_switch_of e.what m || has_looked past m)
 
--- each mux has looked at the board in this phase
+-- each mux has looked at the table in this phase
 abbrev pub HaveLooked : Stage → List Event → Type 0
 HaveLooked stage past = (m : ℕ) → m < stage.script.setting.muxes → has_looked past m ≡ true
 

@@ -92,7 +92,7 @@ fn a_moved_connection_is_put_together(rt: HostRuntime) {
 }
 
 #[test]
-fn a_loss_may_have_a_later_clock_than_what_stands_behind_it(rt: HostRuntime) {
+fn a_loss_may_have_a_later_clock_than_what_comes_after_it(rt: HostRuntime) {
     let packet = 1;
     let hop = Hop::Chained;
     let lost = event(901, What::Lose { packet, hop });

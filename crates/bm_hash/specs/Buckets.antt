@@ -19,6 +19,7 @@ fnv_step hash octet = bit_xor hash octet * 0x100000001b3 % 2 ^ 64
 unfoldable pub fnv_1a : List ℕ → ℕ
 fnv_1a octets = fold fnv_step 0xcbf29ce484222325 octets
 
+-- the hash of a flow's octets
 unfoldable pub flow_hash : Flow → ℕ
 flow_hash f = fnv_1a (flow_octets f)
 

@@ -14,13 +14,13 @@ use Rattle.bm_merge.specs.Notes.{Note}
 use Rattle.bm_merge.specs.Workers.{is_home}
 use Rattle.bm_server.specs.Servings.{Serving, shard_at}
 use Rattle.bm_server.specs.Seats.{Seated}
-use Rattle.bm_worker.specs.WorkerNotes.{Hears, IsSameCaller, Sits, saying}
+use Rattle.bm_worker.specs.WorkerNotes.{Hears, IsSameCaller, HasSeats, saying}
 use Rattle.bm_worker.specs.Inside.WorkerNotes.{retiring}
 use Rattle.bm_worker.specs.Callers.{CallerState}
-use Rattle.bm_worker.specs.SeatCalls.{told_there}
+use Rattle.bm_worker.specs.SeatCalls.{calls_there}
 use Rattle.bm_worker.proofs.Hearing.{hears_more, hears_none}
 use Rattle.bm_publish.specs.Posts.{Posted}
-use Rattle.bm_lead.specs.declared.head.Head.{Head}
+use Rattle.bm_lead.specs.declared.leader.Leader.{Leader}
 use Rattle.bm_lead.specs.Commands.{control_log}
 use Rattle.bm_lead.specs.Inside.Steps.{AreRetirings, HasCalled, HasDone}
 
@@ -34,14 +34,14 @@ change_early stage v change sound is =
 pub hears_elsewhere : (stage : Stage) (servers : List Serving) (a b : List (List Seated)) (n : Note) → b ≡ a
     → ((s h : ℕ) → is_home stage (ShardOf s h) n ≡ false) → Hears stage servers a b (n ∷ [])
 hears_elsewhere stage servers a b n same away s h server at =
-    rw (same, away server.id.0 h) (sym (append-nil (saying (shard_at server h) (told_there a s h))))
+    rw (same, away server.id.0 h) (sym (append-nil (saying (shard_at server h) (calls_there a s h))))
 
 pub same_caller : (a b d : CallerState) → IsSameCaller a b → IsSameCaller b d → IsSameCaller a d
 same_caller a b d first then =
     record { number = then.number ∙ first.number; who_is = then.who_is ∙ first.who_is }
 
-pub sits_kept : (servers : List Serving) (a b : CallerState) → Sits servers a → IsSameCaller a b → Sits servers b
-sits_kept servers a b sits same = rw same.number (same.who_is ∙ sits)
+pub sits_kept : (servers : List Serving) (a b : CallerState) → HasSeats servers a → IsSameCaller a b → HasSeats servers b
+sits_kept servers a b has_seats same = rw same.number (same.who_is ∙ has_seats)
 
 -- no call yet
 pub none_called : (stage : Stage) (servers : List Serving) (a : CallerState) → HasCalled stage servers 0 a a []
@@ -54,30 +54,30 @@ none_called stage servers a = record {
 
 -- one shard more
 pub retired_more : (stage : Stage) (servers : List Serving) (i k : ℕ) (server : Serving) (at clock : Moment)
-    (outcome : Retirement) (a b d : CallerState) (deeds : List Note) → b.number ≡ 0
-    → AreRetirings i server.id at outcome k deeds → HasCalled stage servers k a b deeds
+    (outcome : Retirement) (a b d : CallerState) (notes : List Note) → b.number ≡ 0
+    → AreRetirings i server.id at outcome k notes → HasCalled stage servers k a b notes
     → Hears stage servers b.seats d.seats (retiring clock server.id k at outcome i b.number ∷ [])
     → IsSameCaller b d → d.tries ≤ b.tries + 1 → d.latest ≡ max b.latest clock.0 → at.0 < clock.0
-    → (deeds : List Note) × AreRetirings i server.id at outcome (k + 1) deeds
-    × HasCalled stage servers (k + 1) a d deeds
-retired_more stage servers i k server at clock outcome a b d deeds zero are called heard same tries latest later =
+    → (notes : List Note) × AreRetirings i server.id at outcome (k + 1) notes
+    × HasCalled stage servers (k + 1) a d notes
+retired_more stage servers i k server at clock outcome a b d notes zero are called heard same tries latest later =
     let n = retiring clock server.id k at outcome i 0 in
     let one : Hears stage servers b.seats d.seats (n ∷ []) =
     subst (λ (w : ℕ). Hears stage servers b.seats d.seats (retiring clock server.id k at outcome i w ∷ [])) zero
     heard in (
-      n ∷ deeds,
+      n ∷ notes,
       (clock, k, omega arith, refl, later, are),
       record {
-        heard = hears_more stage servers a.seats b.seats d.seats deeds (n ∷ []) called.heard one;
+        heard = hears_more stage servers a.seats b.seats d.seats notes (n ∷ []) called.heard one;
         same = same_caller a b d called.same same;
         tries = let t = called.tries in omega arith;
         latest = let l = called.latest in omega arith;
       },
     )
 
-pub called_up_to : (stage : Stage) (servers : List Serving) (n m : ℕ) (a b : CallerState) (deeds : List Note) → n ≤ m
-    → HasCalled stage servers n a b deeds → HasCalled stage servers m a b deeds
-called_up_to stage servers n m a b deeds low called = record {
+pub called_up_to : (stage : Stage) (servers : List Serving) (n m : ℕ) (a b : CallerState) (notes : List Note) → n ≤ m
+    → HasCalled stage servers n a b notes → HasCalled stage servers m a b notes
+called_up_to stage servers n m a b notes low called = record {
   heard = called.heard;
   same = called.same;
   tries = let t = called.tries in omega arith;
@@ -86,18 +86,18 @@ called_up_to stage servers n m a b deeds low called = record {
 
 -- the controller has nothing of it in its log
 pub retirings_elsewhere : (stage : Stage) (i h : ℕ) (server : ServerId) (at : Moment) (outcome : Retirement)
-    (deeds : List Note) → AreRetirings i server at outcome h deeds → control_log stage deeds ≡ []
+    (notes : List Note) → AreRetirings i server at outcome h notes → control_log stage notes ≡ []
 retirings_elsewhere stage i h server at outcome [] are = refl
-retirings_elsewhere stage i h server at outcome (n ∷ deeds) are =
-    subst (λ (n : Note). control_log stage (n ∷ deeds) ≡ []) (sym are.3)
-    (retirings_elsewhere stage i are.1 server at outcome deeds are.5)
+retirings_elsewhere stage i h server at outcome (n ∷ notes) are =
+    subst (λ (n : Note). control_log stage (n ∷ notes) ≡ []) (sym are.3)
+    (retirings_elsewhere stage i are.1 server at outcome notes are.5)
 
 -- calls alone
-pub has_called : (stage : Stage) (servers : List Serving) (p : Posted) (a b : Head) (deeds : List Note)
-    → HasCalled stage servers 64 a.caller b.caller deeds → control_log stage deeds ≡ [] → b.next ≡ a.next
+pub has_called : (stage : Stage) (servers : List Serving) (p : Posted) (a b : Leader) (notes : List Note)
+    → HasCalled stage servers 64 a.caller b.caller notes → control_log stage notes ≡ [] → b.next ≡ a.next
     → b.log.items ≡ a.log.items → b.last_post.0 ≡ a.last_post.0 → b.published.0 ≡ a.published.0
-    → HasDone stage servers p p a b deeds
-has_called stage servers p a b deeds called away next log last published = record {
+    → HasDone stage servers p p a b notes
+has_called stage servers p a b notes called away next log last published = record {
   called = called;
   next = next;
   log = rw away (log ∙ sym (append-nil a.log.items));

@@ -12,9 +12,9 @@ use Rattle.bm_merge.specs.Notes.{Note}
 use Rattle.bm_merge.specs.Workers.{IsController}
 use Rattle.bm_server.specs.Servings.{Serving}
 use Rattle.bm_publish.specs.Posts.{Posted, last_or}
-use Rattle.bm_lead.specs.declared.head.Head.{Head}
+use Rattle.bm_lead.specs.declared.leader.Leader.{Leader}
 use Rattle.bm_lead.specs.Commands.{AreDone, control_log}
-use Rattle.bm_lead.specs.Heads.{Begins, IsReady}
+use Rattle.bm_lead.specs.Leaders.{Begins, IsReady}
 use Rattle.bm_lead.specs.Leads.{IsLed}
 
 drop_all : {X : Type 0} (l : List X) → drop (length l) l ≡ []
@@ -23,10 +23,10 @@ drop_all (x ∷ l) = drop_all l
 
 -- THE BEGIN
 
-pub ready_first : (stage : Stage) (servers : List Serving) (posted : Posted) (head : Head) → IsSound stage
-    → Begins stage servers posted head.caller → head.next ≡ 0 → head.published.0 ≡ 0 → head.last_post.0 ≡ 0
-    → IsReady stage servers posted head
-ready_first stage servers posted head sound begins next published last = record {
+pub ready_first : (stage : Stage) (servers : List Serving) (posted : Posted) (leader : Leader) → IsSound stage
+    → Begins stage servers posted leader.caller → leader.next ≡ 0 → leader.published.0 ≡ 0 → leader.last_post.0 ≡ 0
+    → IsReady stage servers posted leader
+ready_first stage servers posted leader sound begins next published last = record {
   next = omega arith;
   versions = rw (next, published) sound.script.versions;
   posted_is = record {
@@ -39,13 +39,13 @@ ready_first stage servers posted head sound begins next published last = record 
   early = omega arith;
   tries = (let none = begins.tries in omega arith);
   number = begins.number;
-  sits = begins.sits;
+  has_seats = begins.has_seats;
 }
 
-pub led_nothing : (stage : Stage) (servers : List Serving) (posted : Posted) (head : Head)
-    → Begins stage servers posted head.caller → head.next ≡ 0 → head.published.0 ≡ 0 → head.log.items ≡ []
-    → IsLed stage posted head []
-led_nothing stage servers posted head begins next published log = record {
+pub led_nothing : (stage : Stage) (servers : List Serving) (posted : Posted) (leader : Leader)
+    → Begins stage servers posted leader.caller → leader.next ≡ 0 → leader.published.0 ≡ 0 → leader.log.items ≡ []
+    → IsLed stage posted leader []
+led_nothing stage servers posted leader begins next published log = record {
   each = tt;
   done = subst (λ (i : ℕ). AreDone stage i []) (sym next) (record {
     earlier = tt;
@@ -66,10 +66,10 @@ led_nothing stage servers posted head begins next published log = record {
 
 -- THE END
 
-pub all_led : (stage : Stage) (posted : Posted) (head : Head) (deeds : List Note) → IsLed stage posted head deeds
-    → head.next ≡ length stage.script.commands → IsController stage deeds
-all_led stage posted head deeds led end =
-    let all : take head.next stage.script.commands ≡ stage.script.commands =
+pub all_led : (stage : Stage) (posted : Posted) (leader : Leader) (notes : List Note) → IsLed stage posted leader notes
+    → leader.next ≡ length stage.script.commands → IsController stage notes
+all_led stage posted leader notes led end =
+    let all : take leader.next stage.script.commands ≡ stage.script.commands =
     ap (λ (i : ℕ). take i stage.script.commands) end ∙ take-length stage.script.commands in
     record {
       each = led.each;
@@ -80,13 +80,13 @@ all_led stage posted head deeds led end =
       syncs = led.done.syncs ∙ ap (λ l. count_of wants_sync l) all;
     }
 
-pub all_published : (stage : Stage) (servers : List Serving) (posted : Posted) (head : Head) (deeds : List Note)
-    → IsReady stage servers posted head → IsLed stage posted head deeds → head.next ≡ length stage.script.commands
-    → newest (control_log stage deeds) ≡ length stage.script.plan.changes
-all_published stage servers posted head deeds ready led end =
-    let none : drop head.next stage.script.commands ≡ [] =
+pub all_published : (stage : Stage) (servers : List Serving) (posted : Posted) (leader : Leader) (notes : List Note)
+    → IsReady stage servers posted leader → IsLed stage posted leader notes → leader.next ≡ length stage.script.commands
+    → newest (control_log stage notes) ≡ length stage.script.plan.changes
+all_published stage servers posted leader notes ready led end =
+    let none : drop leader.next stage.script.commands ≡ [] =
     ap (λ (i : ℕ). drop i stage.script.commands) end ∙ drop_all stage.script.commands in
-    let last : head.published.0 + 1 ≡ length stage.script.plan.changes + 1 =
-    subst (λ (l : List Command). NamesVersions (head.published.0 + 1) (length stage.script.plan.changes) l) none
+    let last : leader.published.0 + 1 ≡ length stage.script.plan.changes + 1 =
+    subst (λ (l : List Command). NamesVersions (leader.published.0 + 1) (length stage.script.plan.changes) l) none
     ready.versions in
     led.published ∙ omega arith

@@ -12,10 +12,10 @@ use Rattle.bm_merge.specs.Notes.{Note, greatest}
 use Rattle.bm_merge.proofs.Noting.{each_append}
 use Rattle.bm_server.specs.Servings.{Serving}
 use Rattle.bm_publish.specs.Posts.{Posted, last_or, last_post}
-use Rattle.bm_worker.specs.WorkerNotes.{Suits}
-use Rattle.bm_lead.specs.declared.head.Head.{Head}
+use Rattle.bm_worker.specs.WorkerNotes.{AreServersOf}
+use Rattle.bm_lead.specs.declared.leader.Leader.{Leader}
 use Rattle.bm_lead.specs.Commands.{control_log, posted_clocks}
-use Rattle.bm_lead.specs.Heads.{IsReady, IsSyncCommand}
+use Rattle.bm_lead.specs.Leaders.{IsReady, IsSyncCommand}
 use Rattle.bm_lead.specs.Leads.{HasLed, HaveNoSync, Leads}
 use Rattle.bm_lead.specs.Inside.Steps.{AreOf, AreRetirings, HasDone, published_after}
 use Rattle.bm_lead.proofs.Calling.{retirings_elsewhere, sits_kept}
@@ -28,7 +28,7 @@ last_snoc low c [] = refl
 last_snoc low c (x ∷ clocks) = last_snoc x c clocks
 
 -- what was posted; the last post may be new
-record ArePosts (p : Posted) (b : Head) (n : ℕ) : Type 0 where
+record ArePosts (p : Posted) (b : Leader) (n : ℕ) : Type 0 where
   pub count : length p.clocks ≡ b.published.0
   pub last : last_post p ≡ b.last_post.0
   pub below : b.last_post.0 ≤ b.caller.latest
@@ -36,7 +36,7 @@ record ArePosts (p : Posted) (b : Head) (n : ℕ) : Type 0 where
   pub published : b.published.0 ≡ n
 
 -- nothing was posted
-quiet_posts : (stage : Stage) (servers : List Serving) (p q : Posted) (a b : Head) (e : List Note)
+quiet_posts : (stage : Stage) (servers : List Serving) (p q : Posted) (a b : Leader) (e : List Note)
     → IsReady stage servers p a → HasDone stage servers p q a b e → posted_clocks (control_log stage e) ≡ []
     → published_after (control_log stage e) a.published.0 ≡ a.published.0 → ArePosts q b a.published.0
 quiet_posts stage servers p q a b e ready done none same =
@@ -55,7 +55,7 @@ quiet_posts stage servers p q a b e ready done none same =
     }
 
 -- after its command worker 0 is ready for the next one
-ready_from : (stage : Stage) (servers : List Serving) (p q : Posted) (a b : Head) (e : List Note) (c : Command) (n : ℕ)
+ready_from : (stage : Stage) (servers : List Serving) (p q : Posted) (a b : Leader) (e : List Note) (c : Command) (n : ℕ)
     → slice_get stage.script.commands a.next ≡ Some c → IsReady stage servers p a → HasDone stage servers p q a b e
     → NamesVersions (n + 1) (length stage.script.plan.changes) (drop (suc a.next) stage.script.commands)
     → ArePosts q b n → IsReady stage servers q (gone_on b)
@@ -81,10 +81,10 @@ ready_from stage servers p q a b e c n at ready done names posts =
       early = posts.early;
       tries = (let few = ready.tries in let more = done.called.tries in let same = done.next in omega arith);
       number = done.called.same.number ∙ ready.number;
-      sits = sits_kept servers a.caller b.caller ready.sits done.called.same;
+      has_seats = sits_kept servers a.caller b.caller ready.has_seats done.called.same;
     }
 
-pub ready_more : (stage : Stage) (servers : List Serving) (p q : Posted) (a b : Head) (c : Command) (e : List Note)
+pub ready_more : (stage : Stage) (servers : List Serving) (p q : Posted) (a b : Leader) (c : Command) (e : List Note)
     → slice_get stage.script.commands a.next ≡ Some c → IsReady stage servers p a
     → AreOf stage a.caller.latest a.published.0 a.next c e → HasDone stage servers p q a b e
     → IsReady stage servers q (gone_on b)
@@ -133,28 +133,28 @@ ready_more stage servers p q a b c e at ready of done =
 
 -- WHAT A COMMAND DOES
 
-step_of : (stage : Stage) (servers : List Serving) (p : Posted) (a : Head) (c : Command) (e : List Note) → IsSound stage
-    → Suits stage servers → IsReady stage servers p a → slice_get stage.script.commands a.next ≡ Some c
+step_of : (stage : Stage) (servers : List Serving) (p : Posted) (a : Leader) (c : Command) (e : List Note) → IsSound stage
+    → AreServersOf stage servers → IsReady stage servers p a → slice_get stage.script.commands a.next ≡ Some c
     → AreOf stage a.caller.latest a.published.0 a.next c e
     → IsStep stage servers a.caller.latest a.published.0 a.next c e
-step_of stage servers p a (Change v) e sound suits ready at of =
+step_of stage servers p a (Change v) e sound servers_are ready at of =
     let next = next_version a.published.0 (length stage.script.plan.changes) a.next stage.script.commands v at
     ready.versions in change_step stage servers a.caller.latest a.published.0 a.next v e at next.0 next.1 of
-step_of stage servers p a (Close when server flow) e sound suits ready at of =
+step_of stage servers p a (Close when server flow) e sound servers_are ready at of =
     close_step stage servers a.caller.latest a.published.0 a.next when server flow e at
-    (suits.known server (command_known stage a.next (Close when server flow) sound at)) of
-step_of stage servers p a (Retire when server) e sound suits ready at of =
+    (servers_are.known server (command_known stage a.next (Close when server flow) sound at)) of
+step_of stage servers p a (Retire when server) e sound servers_are ready at of =
     retire_step stage servers a.caller.latest a.published.0 a.next when server e at
-    (suits.known server (command_known stage a.next (Retire when server) sound at)) of
-step_of stage servers p a (Sync when) e sound suits ready at of =
+    (servers_are.known server (command_known stage a.next (Retire when server) sound at)) of
+step_of stage servers p a (Sync when) e sound servers_are ready at of =
     sync_step stage servers a.caller.latest a.published.0 a.next when e at of
 
-pub command_leads : (stage : Stage) (servers : List Serving) (p q : Posted) (a b : Head) (c : Command) (e : List Note)
-    → IsSound stage → Suits stage servers → IsReady stage servers p a → slice_get stage.script.commands a.next ≡ Some c
+pub command_leads : (stage : Stage) (servers : List Serving) (p q : Posted) (a b : Leader) (c : Command) (e : List Note)
+    → IsSound stage → AreServersOf stage servers → IsReady stage servers p a → slice_get stage.script.commands a.next ≡ Some c
     → AreOf stage a.caller.latest a.published.0 a.next c e → HasDone stage servers p q a b e
     → Leads stage servers p q a (gone_on b) e
-command_leads stage servers p q a b c e sound suits ready at of done =
-    leads_step stage servers p q a b c e at (step_of stage servers p a c e sound suits ready at of) done
+command_leads stage servers p q a b c e sound servers_are ready at of done =
+    leads_step stage servers p q a b c e at (step_of stage servers p a c e sound servers_are ready at of) done
 
 -- a command that is no sync makes no Sync
 pub no_sync_of : (stage : Stage) (latest published i : ℕ) (c : Command) (e : List Note) → (IsSyncCommand (Some c) → ⊥)
@@ -169,27 +169,27 @@ no_sync_of stage latest published i (Sync at) e not of = absurd (not tt)
 
 -- SEVERAL COMMANDS
 
-pub led_none : (stage : Stage) (servers : List Serving) (p : Posted) (a : Head) → IsReady stage servers p a
+pub led_none : (stage : Stage) (servers : List Serving) (p : Posted) (a : Leader) → IsReady stage servers p a
     → HasLed stage servers p p a a
 led_none stage servers p a ready = (ready, ([], leads_none stage servers p a, tt))
 
-pub led_command : (stage : Stage) (servers : List Serving) (p q : Posted) (a b : Head) (c : Command) → IsSound stage
-    → Suits stage servers → IsReady stage servers p a → slice_get stage.script.commands a.next ≡ Some c
+pub led_command : (stage : Stage) (servers : List Serving) (p q : Posted) (a b : Leader) (c : Command) → IsSound stage
+    → AreServersOf stage servers → IsReady stage servers p a → slice_get stage.script.commands a.next ≡ Some c
     → (IsSyncCommand (slice_get stage.script.commands a.next) → ⊥)
     → ((e : List Note) × AreOf stage a.caller.latest a.published.0 a.next c e × HasDone stage servers p q a b e)
     → HasLed stage servers p q a (gone_on b)
-led_command stage servers p q a b c sound suits ready at not made =
+led_command stage servers p q a b c sound servers_are ready at not made =
     let no_sync : IsSyncCommand (Some c) → ⊥ =
     subst (λ (o : Option Command). IsSyncCommand o → ⊥) at not in (
       ready_more stage servers p q a b c made.0 at ready made.1 made.2,
       (
         made.0,
-        command_leads stage servers p q a b c made.0 sound suits ready at made.1 made.2,
+        command_leads stage servers p q a b c made.0 sound servers_are ready at made.1 made.2,
         no_sync_of stage a.caller.latest a.published.0 a.next c made.0 no_sync made.1,
       ),
     )
 
-pub led_more : (stage : Stage) (servers : List Serving) (p q r : Posted) (a b d : Head) → HasLed stage servers p q a b
+pub led_more : (stage : Stage) (servers : List Serving) (p q r : Posted) (a b d : Leader) → HasLed stage servers p q a b
     → HasLed stage servers q r b d → HasLed stage servers p r a d
 led_more stage servers p q r a b d first then = (
   then.0,

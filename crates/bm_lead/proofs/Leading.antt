@@ -21,12 +21,12 @@ use Rattle.bm_merge.specs.Merges.{newest_until}
 use Rattle.bm_merge.specs.Notes.{Note, events_of, many, size_of, total}
 use Rattle.bm_merge.specs.Workers.{home_part, is_home, is_publish}
 use Rattle.bm_merge.proofs.Commanding.{all_kinds}
-use Rattle.bm_merge.proofs.Owing.{all_under}
+use Rattle.bm_merge.proofs.CopiesLeft.{all_under}
 use Rattle.bm_merge.proofs.Noting.{each_append, each_so, each_two, events_append, greatest_append}
 use Rattle.bm_merge.proofs.Noting.{total_append, total_none}
 use Rattle.bm_server.specs.Servings.{Serving}
 use Rattle.bm_publish.specs.Posts.{Posted}
-use Rattle.bm_lead.specs.declared.head.Head.{Head}
+use Rattle.bm_lead.specs.declared.leader.Leader.{Leader}
 use Rattle.bm_lead.specs.Commands.{AreDone, IsControlStep, IsJudgedBy, control_log, posted_clocks}
 use Rattle.bm_worker.proofs.Hearing.{hears_more, hears_none}
 use Rattle.bm_lead.specs.Leads.{IsLed, IsPlaced, Leads}
@@ -35,7 +35,7 @@ use Rattle.bm_lead.proofs.Calling.{same_caller}
 use Rattle.bm_lead.proofs.Scripted.{count_at}
 use Rattle.bm_lead.proofs.Steps.{IsStep, Stands}
 
--- PARTS OF DEEDS
+-- PARTS OF NOTES
 
 pub home_append : (stage : Stage) (a : Actor) (x y : List Note)
     → home_part stage a (x ++ y) ≡ home_part stage a x ++ home_part stage a y
@@ -147,10 +147,10 @@ done_more stage servers latest published i c e before at step old = record {
 }
 
 -- worker 0, at the next command
-abbrev pub gone_on : Head → Head
+abbrev pub gone_on : Leader → Leader
 gone_on b = record b { next = b.next + 1 }
 
-led_more : (stage : Stage) (servers : List Serving) (p q : Posted) (a b : Head) (c : Command) (e before : List Note)
+led_more : (stage : Stage) (servers : List Serving) (p q : Posted) (a b : Leader) (c : Command) (e before : List Note)
     → slice_get stage.script.commands a.next ≡ Some c
     → IsStep stage servers a.caller.latest a.published.0 a.next c e → HasDone stage servers p q a b e
     → IsLed stage p a before → IsLed stage q (gone_on b) (e ++ before)
@@ -195,7 +195,7 @@ led_more stage servers p q a b c e before at step done old =
     }
 
 -- by the notes of a command
-pub leads_step : (stage : Stage) (servers : List Serving) (p q : Posted) (a b : Head) (c : Command) (e : List Note)
+pub leads_step : (stage : Stage) (servers : List Serving) (p q : Posted) (a b : Leader) (c : Command) (e : List Note)
     → slice_get stage.script.commands a.next ≡ Some c
     → IsStep stage servers a.caller.latest a.published.0 a.next c e → HasDone stage servers p q a b e
     → Leads stage servers p q a (gone_on b) e
@@ -211,7 +211,7 @@ leads_step stage servers p q a b c e at step done = record {
 
 -- SEVERAL COMMANDS
 
-pub leads_none : (stage : Stage) (servers : List Serving) (p : Posted) (a : Head) → Leads stage servers p p a a []
+pub leads_none : (stage : Stage) (servers : List Serving) (p : Posted) (a : Leader) → Leads stage servers p p a a []
 leads_none stage servers p a = record {
   led = λ before old. old;
   board = refl;
@@ -222,7 +222,7 @@ leads_none stage servers p a = record {
   rises = omega arith;
 }
 
-pub leads_more : (stage : Stage) (servers : List Serving) (p q r : Posted) (a b d : Head) (x y : List Note)
+pub leads_more : (stage : Stage) (servers : List Serving) (p q r : Posted) (a b d : Leader) (x y : List Note)
     → Leads stage servers p q a b x → Leads stage servers q r b d y → Leads stage servers p r a d (y ++ x)
 leads_more stage servers p q r a b d x y first then = record {
   led = λ before old. subst (λ (l : List Note). IsLed stage r d l) (sym (append_assoc y x before))

@@ -14,10 +14,10 @@ use Rattle.bm_core.specs.Runs.Actor.{Controller}
 use Rattle.bm_merge.specs.Notes.{Note, events_of, top_clock}
 use Rattle.bm_merge.specs.Workers.{IsCommanded, IsUnderway, home_of, is_home, is_publish}
 use Rattle.bm_publish.specs.Posts.{Posted, last_or, last_post, with_post}
-use Rattle.bm_lead.specs.declared.head.Head.{Head}
+use Rattle.bm_lead.specs.declared.leader.Leader.{Leader}
 use Rattle.bm_lead.specs.Commands.{IsControlStep, control_log, posted_clocks}
 use Rattle.bm_lead.specs.Inside.Commands.{publishing}
-use Rattle.bm_lead.specs.Heads.{HasPosted}
+use Rattle.bm_lead.specs.Leaders.{HasPosted}
 use Rattle.bm_lead.specs.Rests.{Adds}
 use Rattle.bm_lead.specs.Inside.Rests.{HasAdded}
 use Rattle.bm_lead.proofs.Going.{last_snoc}
@@ -111,7 +111,7 @@ top_is stage (n ∷ x) steps = elim (cases_Bool (is_home stage Controller n)) [
 -- MORE POSTS
 
 -- what was posted on the board is what worker 0 has published
-pub posted_more : (stage : Stage) (p q : Posted) (a b : Head) → HasPosted stage p a
+pub posted_more : (stage : Stage) (p q : Posted) (a b : Leader) → HasPosted stage p a
     → a.published.0 < length stage.script.plan.changes → HasAdded p q a b → HasPosted stage q b
 posted_more stage p q a b old left added = record {
   plan = ap (λ (x : Posted). x.plan) added.posted ∙ old.plan;
@@ -129,7 +129,7 @@ under_all stage (n ∷ x) each =
     (record { kind = each.0.kind; meant = inl each.0.meant }, under_all stage x each.1)
 
 -- nothing was added yet
-pub adds_none : (stage : Stage) (p : Posted) (a : Head) → HasPosted stage p a → Adds stage p p a a []
+pub adds_none : (stage : Stage) (p : Posted) (a : Leader) → HasPosted stage p a → Adds stage p p a a []
 adds_none stage p a posted = record {
   underway = λ before led. under_all stage before led.each;
   last = λ before led. top_is stage before led.steps
@@ -141,7 +141,7 @@ adds_none stage p a posted = record {
   caller = refl;
 }
 
-pub adds_more : (stage : Stage) (p q r : Posted) (a b d : Head) → ((x : List Note) × Adds stage p q a b x)
+pub adds_more : (stage : Stage) (p q r : Posted) (a b d : Leader) → ((x : List Note) × Adds stage p q a b x)
     → HasAdded q r b d → (x : List Note) × Adds stage p r a d x
 adds_more stage p q r a b d old added =
     let n = publishing added.clock added.version 0 in

@@ -13,7 +13,7 @@ use Rattle.bm_core.specs.Accounts.{count_of}
 use Rattle.bm_core.specs.Stages.{IsSound}
 use Rattle.bm_core.specs.Threads.{moment_at}
 use Rattle.bm_core.proofs.Moments.{sound_early}
-use Rattle.bm_lead.specs.Heads.{IsSyncCommand}
+use Rattle.bm_lead.specs.Leaders.{IsSyncCommand}
 
 pub drop_at : {X : Type 0} (xs : List X) (i : ℕ) (x : X) → slice_get xs i ≡ Some x → drop i xs ≡ x ∷ drop (suc i) xs
 drop_at xs i x at =

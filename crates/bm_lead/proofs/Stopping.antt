@@ -2,7 +2,7 @@
 use Rattle.std.proofs.Common.{◌≡◌, Result, Ok, Err, IsErrAnd, sym, subst}
 use Rattle.bm_worker.specs.declared.stop.Stop.{Stop}
 use Rattle.bm_worker.specs.declared.stop.Stop.TheVariants.{Late, Memory}
-use Rattle.bm_lead.specs.Heads.{OnLate, UnlessMemory}
+use Rattle.bm_lead.specs.Leaders.{OnLate, UnlessMemory}
 
 -- an answer that was passed on
 pub unless_late : {A : Type 0} (r : Result A Stop) (stop : Stop) (P Q : Type 0) → IsErrAnd r (λ e. e ≡ stop)

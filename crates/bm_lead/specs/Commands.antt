@@ -29,7 +29,7 @@ syncing clock command = note_at clock Sync no_fate command 0 0
 
 -- the events of the notes that are in it
 abbrev pub control_log : Stage → List Note → List Event
-control_log stage deeds = events_of (home_part stage Controller deeds)
+control_log stage notes = events_of (home_part stage Controller notes)
 
 -- the clocks of its Publishes, the oldest first
 abbrev pub posted_clocks : List Event → List ℕ
@@ -51,19 +51,19 @@ IsJudgedBy stage control clock _ = Unit {0}
 -- COUNTS
 
 -- the first i commands, and no others, have all their events
-pub record AreDone (stage : Stage) (i : ℕ) (deeds : List Note) : Type 0 where
-  pub earlier : AllByRecursion (λ n. n.command < i) deeds
+pub record AreDone (stage : Stage) (i : ℕ) (notes : List Note) : Type 0 where
+  pub earlier : AllByRecursion (λ n. n.command < i) notes
   pub complete : (j : ℕ) → j < i
-      → many (λ n. n.command == j) deeds
+      → many (λ n. n.command == j) notes
       ≡ size_of stage.script.setting.shards (slice_get stage.script.commands j)
   -- as many of each kind as these commands ask for
   pub closes : (s : ServerId) (f : Flow)
-      → many (λ n. closes_flow n.event.what s f) deeds
+      → many (λ n. closes_flow n.event.what s f) notes
       ≡ count_of (λ c. wants_close c s f) (take i stage.script.commands)
   pub retires : (s : ServerId) (h : ℕ) → h < stage.script.setting.shards
-      → many (λ n. retires_shard n.event.what s h) deeds
+      → many (λ n. retires_shard n.event.what s h) notes
       ≡ count_of (λ c. wants_retire c s) (take i stage.script.commands)
   pub no_other : (s : ServerId) (h : ℕ) → stage.script.setting.shards ≤ h
-      → many (λ n. retires_shard n.event.what s h) deeds ≡ 0
-  pub syncs : many (λ n. is_sync n.event.what) deeds
+      → many (λ n. retires_shard n.event.what s h) notes ≡ 0
+  pub syncs : many (λ n. is_sync n.event.what) notes
       ≡ count_of wants_sync (take i stage.script.commands)

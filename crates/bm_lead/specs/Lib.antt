@@ -1,5 +1,5 @@
 pub mod Commands
-pub mod Heads
+pub mod Leaders
 pub mod Leads
 pub mod Rests
 pub mod Inside

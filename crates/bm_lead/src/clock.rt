@@ -1,7 +1,7 @@
 //! Clocks, and moments that may be passed to shards.
 ghost use Rattle.std.specs.Prelude.{◌≡◌, ◌*◌, ◌^◌, ◌<◌, ◌≤◌, max, IfErr, IfOk};
 ghost use Rattle.bm_core.specs.Runs.{next_clock};
-ghost use Rattle.bm_lead.specs.Heads.{IsStopFrom};
+ghost use Rattle.bm_lead.specs.Leaders.{IsStopFrom};
 
 use bm_base::{LAST, Moment};
 use bm_core::next_clock;

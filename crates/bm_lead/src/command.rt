@@ -7,10 +7,10 @@ ghost use Rattle.bm_merge.specs.Notes.{Note};
 ghost use Rattle.bm_server.specs.Servings.{Serving};
 ghost use Rattle.bm_publish.specs.Posts.{Posted};
 ghost use Rattle.bm_worker.specs.declared.stop.Stop.TheVariants.{Memory as stopped};
-ghost use Rattle.bm_lead.specs.Heads.{IsReady, IsStopFrom, IsSyncCommand, OnLate};
+ghost use Rattle.bm_lead.specs.Leaders.{IsReady, IsStopFrom, IsSyncCommand, OnLate};
 ghost use Rattle.bm_lead.specs.Inside.Steps.{AreRetirings, CanCall, CarriesOut, HasCalled, IsKnown};
 
-use crate::Head;
+use crate::Leader;
 use crate::clock::{clock_up_to, due_moment};
 use bm_base::{Flow, LAST, Memory, Moment, ServerId, Version};
 use bm_core::{Event, What};
@@ -48,23 +48,23 @@ fn publish<R: Wait, F, G>(
     shared: &Shared<'_, F, G>,
     version: Version,
     poster: &mut Poster,
-    head: &mut Head,
+    leader: &mut Leader,
 ) -> Result<(), Stop>
-    requires ready { IsReady shared.now.stage shared.now.servers poster.old head.old }
-    requires version { version.0 ≡ head.old.published.0 + 1 }
+    requires ready { IsReady shared.now.stage shared.now.servers poster.old leader.old }
+    requires version { version.0 ≡ leader.old.published.0 + 1 }
     requires there { version.0 ≤ length shared.now.stage.script.plan.changes }
     ensures ok { OnOk result (CarriesOut shared.now.stage shared.now.servers poster.old poster.new
-        head.old head.new (Change version)) }
-    ensures late { OnLate result ((head.new ≡ head.old) × (poster.new ≡ poster.old)) }
-    ensures stop { IfErr result (IsStopFrom (9 * 10 ^ 18 - 4096) head.old.caller.latest) }
+        leader.old leader.new (Change version)) }
+    ensures late { OnLate result ((leader.new ≡ leader.old) × (poster.new ≡ poster.old)) }
+    ensures stop { IfErr result (IsStopFrom (9 * 10 ^ 18 - 4096) leader.old.caller.latest) }
 {
     let change = shared.stage().script.plan.copy_change(version)?;
-    let clock = clock_up_to(LAST - MAX_CHANGES, head.caller.latest(), change.moment)?;
+    let clock = clock_up_to(LAST - MAX_CHANGES, leader.caller.latest(), change.moment)?;
     poster.post(rt, change, clock)?;
-    write_down(&mut head.log, clock, What::Publish(version))?;
-    head.caller.see(clock);
-    head.published = version;
-    head.last_post = clock;
+    write_down(&mut leader.log, clock, What::Publish(version))?;
+    leader.caller.see(clock);
+    leader.published = version;
+    leader.last_post = clock;
     Ok(())
 }
 
@@ -75,19 +75,19 @@ fn close<R: Wait, F, G>(
     at: Moment,
     server: ServerId,
     flow: Flow,
-    head: &mut Head,
+    leader: &mut Leader,
 ) -> Result<(), Stop>
     requires at { at.0 ≤ 9 * 10 ^ 18 }
     requires known { IsKnown shared.now.stage server }
-    requires can { CanCall shared.now.servers 1 head.old.caller }
+    requires can { CanCall shared.now.servers 1 leader.old.caller }
     ensures ok { (p : Posted) → OnOk result (CarriesOut shared.now.stage shared.now.servers p p
-        head.old head.new (Close at server flow)) }
-    ensures late { OnLate result (head.new ≡ head.old) }
-    ensures stop { IfErr result (IsStopFrom (9 * 10 ^ 18 - 4096) head.old.caller.latest) }
+        leader.old leader.new (Close at server flow)) }
+    ensures late { OnLate result (leader.new ≡ leader.old) }
+    ensures stop { IfErr result (IsStopFrom (9 * 10 ^ 18 - 4096) leader.old.caller.latest) }
 {
-    let due = due_moment(at, head.caller.latest())?;
+    let due = due_moment(at, leader.caller.latest())?;
     let place = known_place(shared, server);
-    let _closed = head.caller.close(rt, shared.servers(), place, flow, due)?;
+    let _closed = leader.caller.close(rt, shared.servers(), place, flow, due)?;
     Ok(())
 }
 
@@ -104,9 +104,9 @@ fn retire_shards<R: Wait, F, G>(
     requires at { at.0 ≤ 9 * 10 ^ 18 }
     requires can { CanCall shared.now.servers 64 caller.old }
     ensures ok { (i : ℕ) (server : Serving) → slice_get shared.now.servers place ≡ Some server
-        → OnOk result ((deeds : List Note)
-        × AreRetirings i server.id at outcome shared.now.stage.script.setting.shards deeds
-        × HasCalled shared.now.stage shared.now.servers 64 caller.old caller.new deeds) }
+        → OnOk result ((notes : List Note)
+        × AreRetirings i server.id at outcome shared.now.stage.script.setting.shards notes
+        × HasCalled shared.now.stage shared.now.servers 64 caller.old caller.new notes) }
     ensures stop { OnErr result (result ≡ Err stopped) }
 {
     for shard in 0..shared.stage().script.setting.shards {
@@ -122,22 +122,22 @@ fn retire<R: Wait, F, G>(
     shared: &Shared<'_, F, G>,
     at: Moment,
     server: ServerId,
-    head: &mut Head,
+    leader: &mut Leader,
 ) -> Result<(), Stop>
     requires at { at.0 ≤ 9 * 10 ^ 18 }
     requires known { IsKnown shared.now.stage server }
-    requires published { head.old.published.0 ≤ length shared.now.stage.script.plan.changes }
-    requires can { CanCall shared.now.servers 64 head.old.caller }
+    requires published { leader.old.published.0 ≤ length shared.now.stage.script.plan.changes }
+    requires can { CanCall shared.now.servers 64 leader.old.caller }
     ensures ok { (p : Posted) → OnOk result (CarriesOut shared.now.stage shared.now.servers p p
-        head.old head.new (Retire at server)) }
-    ensures late { OnLate result (head.new ≡ head.old) }
-    ensures stop { IfErr result (IsStopFrom (9 * 10 ^ 18 - 4096) head.old.caller.latest) }
+        leader.old leader.new (Retire at server)) }
+    ensures late { OnLate result (leader.new ≡ leader.old) }
+    ensures stop { IfErr result (IsStopFrom (9 * 10 ^ 18 - 4096) leader.old.caller.latest) }
 {
-    let due = due_moment(at, head.caller.latest())?;
+    let due = due_moment(at, leader.caller.latest())?;
     let Script { setting, plan, .. } = &shared.stage().script;
-    let outcome = plan.retirement(head.published, server, due, setting.timeout);
+    let outcome = plan.retirement(leader.published, server, due, setting.timeout);
     let place = known_place(shared, server);
-    retire_shards(rt, shared, place, due, outcome, &mut head.caller)?;
+    retire_shards(rt, shared, place, due, outcome, &mut leader.caller)?;
     Ok(())
 }
 
@@ -147,21 +147,21 @@ pub(crate) fn carry_out<R: Wait, F, G>(
     shared: &Shared<'_, F, G>,
     command: Command,
     poster: &mut Poster,
-    head: &mut Head,
+    leader: &mut Leader,
 ) -> Result<(), Stop>
     requires sound { IsSound shared.now.stage }
-    requires ready { IsReady shared.now.stage shared.now.servers poster.old head.old }
-    requires command { slice_get shared.now.stage.script.commands head.old.next ≡ Some command }
+    requires ready { IsReady shared.now.stage shared.now.servers poster.old leader.old }
+    requires command { slice_get shared.now.stage.script.commands leader.old.next ≡ Some command }
     requires no_sync { IsSyncCommand (Some command) → ⊥ }
     ensures ok { OnOk result (CarriesOut shared.now.stage shared.now.servers poster.old poster.new
-        head.old head.new command) }
-    ensures late { OnLate result ((head.new ≡ head.old) × (poster.new ≡ poster.old)) }
-    ensures stop { IfErr result (IsStopFrom (9 * 10 ^ 18 - 4096) head.old.caller.latest) }
+        leader.old leader.new command) }
+    ensures late { OnLate result ((leader.new ≡ leader.old) × (poster.new ≡ poster.old)) }
+    ensures stop { IfErr result (IsStopFrom (9 * 10 ^ 18 - 4096) leader.old.caller.latest) }
 {
     match command {
-        Command::Change(version) => publish(rt, shared, version, poster, head),
-        Command::Close { at, server, flow } => close(rt, shared, at, server, flow, head),
-        Command::Retire { at, server } => retire(rt, shared, at, server, head),
+        Command::Change(version) => publish(rt, shared, version, poster, leader),
+        Command::Close { at, server, flow } => close(rt, shared, at, server, flow, leader),
+        Command::Retire { at, server } => retire(rt, shared, at, server, leader),
         Command::Sync { .. } => unreachable!(),
     }
 }

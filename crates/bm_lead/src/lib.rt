@@ -3,11 +3,11 @@
 
 mod clock;
 mod command;
-mod head;
 pub mod laws;
 mod lead;
+mod leader;
 mod rest;
 
-pub use head::Head;
 pub use lead::{lead_phase, sync};
+pub use leader::Leader;
 pub use rest::post_the_rest;

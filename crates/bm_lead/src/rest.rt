@@ -1,11 +1,11 @@
 //! The changes that are left once a worker has given up.
 ghost use Rattle.std.specs.Prelude.{◌≡◌, ◌+◌, ◌*◌, ◌^◌, ◌≤◌, ◌<◌, length, List, OnOk};
 ghost use Rattle.bm_merge.specs.Notes.{Note};
-ghost use Rattle.bm_lead.specs.Heads.{HasPosted};
+ghost use Rattle.bm_lead.specs.Leaders.{HasPosted};
 ghost use Rattle.bm_lead.specs.Rests.{Adds};
 ghost use Rattle.bm_lead.specs.Inside.Rests.{HasAdded};
 
-use crate::Head;
+use crate::Leader;
 use crate::command::write_down;
 use bm_base::{Memory, Moment, Version};
 use bm_core::{Stage, What};
@@ -17,21 +17,21 @@ fn post_next<R: Wait>(
     rt: &R,
     stage: &Stage,
     poster: &mut Poster,
-    head: &mut Head,
+    leader: &mut Leader,
 ) -> Result<(), Memory>
-    requires posted { HasPosted stage.now poster.old head.old }
-    requires left { head.old.published.0 < length stage.now.script.plan.changes }
-    requires few { head.old.published.0 < 4096 }
-    requires early { head.old.last_post.0 < 9 * 10 ^ 18 }
-    ensures { OnOk result (HasAdded poster.old poster.new head.old head.new) }
+    requires posted { HasPosted stage.now poster.old leader.old }
+    requires left { leader.old.published.0 < length stage.now.script.plan.changes }
+    requires few { leader.old.published.0 < 4096 }
+    requires early { leader.old.last_post.0 < 9 * 10 ^ 18 }
+    ensures { OnOk result (HasAdded poster.old poster.new leader.old leader.new) }
 {
-    let version = Version(head.published.0 + 1);
+    let version = Version(leader.published.0 + 1);
     let change = stage.script.plan.copy_change(version)?;
-    let clock = Moment(head.last_post.0 + 1);
+    let clock = Moment(leader.last_post.0 + 1);
     poster.post(rt, change, clock)?;
-    write_down(&mut head.log, clock, What::Publish(version))?;
-    head.published = version;
-    head.last_post = clock;
+    write_down(&mut leader.log, clock, What::Publish(version))?;
+    leader.published = version;
+    leader.last_post = clock;
     Ok(())
 }
 
@@ -42,16 +42,16 @@ pub fn post_the_rest<R: Wait>(
     rt: &R,
     stage: &Stage,
     poster: &mut Poster,
-    head: &mut Head,
+    leader: &mut Leader,
 ) -> Result<(), Memory>
-    requires posted { HasPosted stage.now poster.old head.old }
-    requires early { head.old.last_post.0 + 4096 ≤ 9 * 10 ^ 18 }
-    ensures added { OnOk result ((deeds : List Note)
-        × Adds stage.now poster.old poster.new head.old head.new deeds) }
+    requires posted { HasPosted stage.now poster.old leader.old }
+    requires early { leader.old.last_post.0 + 4096 ≤ 9 * 10 ^ 18 }
+    ensures added { OnOk result ((notes : List Note)
+        × Adds stage.now poster.old poster.new leader.old leader.new notes) }
     ensures all { OnOk result (length poster.new.clocks ≡ length stage.now.script.plan.changes) }
 {
-    while head.published.0 < stage.script.plan.versions() {
-        post_next(rt, stage, poster, head)?;
+    while leader.published.0 < stage.script.plan.versions() {
+        post_next(rt, stage, poster, leader)?;
     }
     Ok(())
 }

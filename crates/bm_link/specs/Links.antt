@@ -16,18 +16,18 @@ is_tag kind = kind == 0x8100 || kind == 0x88a8
 
 -- What follows the EtherType at the front, after at most this many tags. A tag is an EtherType of
 -- its own and two octets; the next EtherType follows.
-unfoldable pub behind_tags : ℕ → List ℕ → Result (List ℕ) LinkFault
-behind_tags zero octets =
+unfoldable pub after_tags : ℕ → List ℕ → Result (List ℕ) LinkFault
+after_tags zero octets =
     if nat_lt (length octets) 2 then Err Short
     else if u16_at octets 0 == 0x0800 then Ok (drop 2 octets) else Err NotIpv4
-behind_tags (suc tags) octets =
+after_tags (suc tags) octets =
     if nat_lt (length octets) 2 then Err Short
-    else if is_tag (u16_at octets 0) then behind_tags tags (drop 4 octets)
+    else if is_tag (u16_at octets 0) then after_tags tags (drop 4 octets)
     else if u16_at octets 0 == 0x0800 then Ok (drop 2 octets) else Err NotIpv4
 
 -- Ethernet: the EtherType comes after two addresses of six octets
 unfoldable pub ethernet_part : List ℕ → Result (List ℕ) LinkFault
-ethernet_part octets = behind_tags 2 (drop 12 octets)
+ethernet_part octets = after_tags 2 (drop 12 octets)
 
 -- raw IP: the version is the high half of the first octet
 unfoldable pub raw_part : List ℕ → Result (List ℕ) LinkFault

@@ -1,7 +1,7 @@
 //! Where the network layer's part begins.
 ghost use Rattle.std.specs.Prelude.{◌≡◌, ◌≤◌, ◌<◌, ◌+◌, length, IfOk, IsTrue};
 ghost use Rattle.std.specs.Result.{result_map_both};
-ghost use Rattle.bm_link.specs.Links.{is_link, is_tag, network_of, ethernet_part, behind_tags};
+ghost use Rattle.bm_link.specs.Links.{is_link, is_tag, network_of, ethernet_part, after_tags};
 ghost use Rattle.bm_link.specs.Links.{raw_part, cooked_part};
 
 use crate::LinkFault;
@@ -45,7 +45,7 @@ pub fn network_part(link: u16, octets: &[u8]) -> Result<&[u8], LinkFault>
     }
 }
 
-#[tactic(auto, unfolding(crate::specs::Links::ethernet_part, crate::specs::Links::behind_tags))]
+#[tactic(auto, unfolding(crate::specs::Links::ethernet_part, crate::specs::Links::after_tags))]
 fn ethernet(octets: &[u8]) -> Result<&[u8], LinkFault>
     ensures part { result_map_both (λ part. part.now) (λ e. e) result ≡ ethernet_part octets.now }
     ensures within { IfOk result (λ part. length part.now ≤ length octets.now) }
@@ -53,14 +53,14 @@ fn ethernet(octets: &[u8]) -> Result<&[u8], LinkFault>
     if octets.len() < 12 {
         return Err(LinkFault::Short);
     }
-    behind(2, &octets[12..])
+    after_tags(2, &octets[12..])
 }
 
 /// What follows the EtherType at the front, after at most `tags` tags.
-#[tactic(auto, using(crate::proofs::Tags::cut_in_a_tag), unfolding(crate::specs::Links::behind_tags))]
-fn behind(tags: u8, octets: &[u8]) -> Result<&[u8], LinkFault>
+#[tactic(auto, using(crate::proofs::Tags::cut_in_a_tag), unfolding(crate::specs::Links::after_tags))]
+fn after_tags(tags: u8, octets: &[u8]) -> Result<&[u8], LinkFault>
     ensures part { result_map_both (λ part. part.now) (λ e. e) result
-        ≡ behind_tags tags octets.now }
+        ≡ after_tags tags octets.now }
     ensures within { IfOk result (λ part. length part.now ≤ length octets.now) }
 {
     if octets.len() < 2 {
@@ -71,7 +71,7 @@ fn behind(tags: u8, octets: &[u8]) -> Result<&[u8], LinkFault>
         if octets.len() < 4 {
             return Err(LinkFault::Short);
         }
-        return behind(tags - 1, &octets[4..]);
+        return after_tags(tags - 1, &octets[4..]);
     }
     if kind != IPV4 {
         return Err(LinkFault::NotIpv4);

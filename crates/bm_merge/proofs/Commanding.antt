@@ -22,9 +22,9 @@ abbrev pub clock_if : Note → Bool → ℕ
 clock_if y b = cond b y.event.clock.0 0
 
 -- what is meant of a command's event, among all that worker 0 did
-pub record IsMeantIn (stage : Stage) (deeds : List Note) (n : Note) : Type 0 where
-  pub order : many (λ y. is_earlier n.command y && leb n.event.clock.0 y.event.clock.0) deeds ≡ 0
-  pub meant : IsMeant stage deeds n n.event.what
+pub record IsMeantIn (stage : Stage) (notes : List Note) (n : Note) : Type 0 where
+  pub order : many (λ y. is_earlier n.command y && leb n.event.clock.0 y.event.clock.0) notes ≡ 0
+  pub meant : IsMeant stage notes n n.event.what
   pub kind : is_command n.event.what ≡ true
   pub command : IsOf (slice_get stage.script.commands n.command) [] n.event.what
 
@@ -122,21 +122,21 @@ meant_below stage x (n ∷ rest) each late =
     )
 
 -- all that worker 0 did is meant so
-pub all_meant : (stage : Stage) (deeds : List Note) → AtEach (IsCommanded stage) deeds
-    → AllByRecursion (IsMeantIn stage deeds) deeds
-all_meant stage deeds each = meant_below stage [] deeds each tt
+pub all_meant : (stage : Stage) (notes : List Note) → AtEach (IsCommanded stage) notes
+    → AllByRecursion (IsMeantIn stage notes) notes
+all_meant stage notes each = meant_below stage [] notes each tt
 
-pub all_kinds : (stage : Stage) (deeds : List Note) → AtEach (IsCommanded stage) deeds
-    → AllByRecursion (λ n. is_command n.event.what ≡ true) deeds
+pub all_kinds : (stage : Stage) (notes : List Note) → AtEach (IsCommanded stage) notes
+    → AllByRecursion (λ n. is_command n.event.what ≡ true) notes
 all_kinds stage [] each = tt
-all_kinds stage (n ∷ deeds) each = (each.0.kind, all_kinds stage deeds each.1)
+all_kinds stage (n ∷ notes) each = (each.0.kind, all_kinds stage notes each.1)
 
 -- each shard of a command comes once
-pub once_each : (stage : Stage) (i h : ℕ) (deeds : List Note) → AtEach (IsCommanded stage) deeds
-    → many (λ y. is_part i y && eqb (mark_of y.event.what) h) deeds ≤ 1
+pub once_each : (stage : Stage) (i h : ℕ) (notes : List Note) → AtEach (IsCommanded stage) notes
+    → many (λ y. is_part i y && eqb (mark_of y.event.what) h) notes ≤ 1
 once_each stage i h [] each = omega arith
-once_each stage i h (n ∷ deeds) each =
-    go (is_part i n && eqb (mark_of n.event.what) h) refl (once_each stage i h deeds each.1) where
+once_each stage i h (n ∷ notes) each =
+    go (is_part i n && eqb (mark_of n.event.what) h) refl (once_each stage i h notes each.1) where
       fewer : (a b c : Bool) → one_if ((a && b) && c) ≤ one_if (b && c)
       fewer true b c = omega arith
       fewer false true true = omega arith
@@ -153,16 +153,16 @@ once_each stage i h (n ∷ deeds) each =
           fewer (is_command y.event.what) (eqb y.command i) (eqb (mark_of y.event.what) h) in omega arith
 
       go : (b : Bool) → (is_part i n && eqb (mark_of n.event.what) h) ≡ b
-          → many (λ y. is_part i y && eqb (mark_of y.event.what) h) deeds ≤ 1
-          → one_if b + many (λ y. is_part i y && eqb (mark_of y.event.what) h) deeds ≤ 1
+          → many (λ y. is_part i y && eqb (mark_of y.event.what) h) notes ≤ 1
+          → one_if b + many (λ y. is_part i y && eqb (mark_of y.event.what) h) notes ≤ 1
       go false is old = omega arith
       go true is old =
           let parts = and_parts (is_part i n) _ is
           in let command : n.command ≡ i = eqb-true _ _ ((and_parts (is_command n.event.what) _ parts.0).1)
           in let mark : mark_of n.event.what ≡ h = eqb-true _ _ parts.1
-          in let none : many (λ y. eqb y.command i && eqb (mark_of y.event.what) h) deeds ≡ 0 =
-          subst (λ (j : ℕ). many (λ y. eqb y.command j && eqb (mark_of y.event.what) h) deeds ≡ 0) command
-          (subst (λ (j : ℕ). many (λ y. eqb y.command n.command && eqb (mark_of y.event.what) j) deeds ≡ 0) mark
+          in let none : many (λ y. eqb y.command i && eqb (mark_of y.event.what) h) notes ≡ 0 =
+          subst (λ (j : ℕ). many (λ y. eqb y.command j && eqb (mark_of y.event.what) h) notes ≡ 0) command
+          (subst (λ (j : ℕ). many (λ y. eqb y.command n.command && eqb (mark_of y.event.what) j) notes ≡ 0) mark
           each.0.once)
-          in let under = most deeds
+          in let under = most notes
           in omega arith

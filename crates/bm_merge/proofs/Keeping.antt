@@ -28,7 +28,7 @@ use Rattle.bm_merge.proofs.Placed.{how_many}
 use Rattle.bm_merge.specs.Notes.{Note, NotedLog, events_of, plain, all_notes, total, many, greatest, top_clock}
 use Rattle.bm_merge.specs.Notes.{is_earlier, mark_of, controlled}
 use Rattle.bm_merge.proofs.Promised.{is_part, is_due_by, IsPromised, IsTold, ArePromised}
-use Rattle.bm_merge.specs.Workers.{deeds_of, all_deeds, IsGiven, IsMeant, carries, is_due_at, IsOwed, IsCarrier}
+use Rattle.bm_merge.specs.Workers.{notes_by, notes_of_all, IsGiven, IsMeant, carries, is_due_at, HasSending, IsCarrier}
 use Rattle.bm_merge.specs.Workers.{IsMet, ArePromises}
 use Rattle.bm_merge.proofs.Agreeing.{named_entries}
 use Rattle.bm_merge.proofs.Joined.{gathered_joined}
@@ -39,7 +39,7 @@ use Rattle.bm_merge.proofs.Ordering.{named_fewer}
 use Rattle.bm_merge.proofs.Reaching.{one_if, free}
 use Rattle.bm_merge.proofs.Commanding.{IsMeantIn, all_meant, all_kinds, once_each}
 use Rattle.bm_merge.proofs.Seating.{IsSteeredBy, IsKnown, in_order}
-use Rattle.bm_merge.proofs.Sharing.{shared, seat_total, greatest_shared, deeds_upto, all_by_seat, all_deeds_of}
+use Rattle.bm_merge.proofs.Sharing.{shared, seat_total, greatest_shared, notes_upto, all_by_seat, each_note_of}
 use Rattle.bm_merge.proofs.Sharing.{sum_seats, of_seat}
 use Rattle.bm_merge.proofs.Following.{threaded_law}
 
@@ -126,10 +126,10 @@ no_command_of Sync not = absurd (cc)
 
 -- THE WORKERS' FACTS
 
-pub record IsCarried (R : Routes) (F : Rules) (stage : Stage) (logs : List Log) (m : ℕ) (deeds : List Note)
+pub record IsCarried (R : Routes) (F : Rules) (stage : Stage) (logs : List Log) (m : ℕ) (notes : List Note)
     (n : Note) : Type 0 where
   pub kind : carries m n.event.what ≡ true
-  pub owed : IsOwed deeds n n.event.what
+  pub has_sending : HasSending notes n n.event.what
   pub routed : IsRouted R stage n.event.what
   pub fate : IfSome (sending_of n.event.what) (λ s. F s.packet s.hop n.fate)
   pub phase : IfSome (packet_of n.event.what)
@@ -137,66 +137,66 @@ pub record IsCarried (R : Routes) (F : Rules) (stage : Stage) (logs : List Log) 
 
 abbrev pub IsDone : Routes → Rules → Stage → List NotedLog → List Note → List (List Note) → ℕ → Note → Type 0
 IsDone R F stage logs controller carriers zero n = IsMeantIn stage controller n
-IsDone R F stage logs controller carriers (suc m) n = IsCarried R F stage (plain logs) m (deeds_of carriers m) n
+IsDone R F stage logs controller carriers (suc m) n = IsCarried R F stage (plain logs) m (notes_by carriers m) n
 
-pub no_deeds : (workers : List (List Note)) (w : ℕ) → length workers ≤ w → deeds_of workers w ≡ []
-no_deeds [] w h = refl
-no_deeds (d ∷ workers) zero h = absurd (omega arith)
-no_deeds (d ∷ workers) (suc w) h = no_deeds workers w (omega arith)
+pub no_notes : (workers : List (List Note)) (w : ℕ) → length workers ≤ w → notes_by workers w ≡ []
+no_notes [] w h = refl
+no_notes (d ∷ workers) zero h = absurd (omega arith)
+no_notes (d ∷ workers) (suc w) h = no_notes workers w (omega arith)
 
-carrier_done : (R : Routes) (F : Rules) (stage : Stage) (logs : List Log) (m : ℕ) (whole deeds : List Note)
-    → AllByRecursion (λ n. carries m n.event.what ≡ true) deeds
-    → AllByRecursion (λ n. IsOwed whole n n.event.what) deeds
+carrier_done : (R : Routes) (F : Rules) (stage : Stage) (logs : List Log) (m : ℕ) (whole notes : List Note)
+    → AllByRecursion (λ n. carries m n.event.what ≡ true) notes
+    → AllByRecursion (λ n. HasSending whole n n.event.what) notes
     → AllByRecursion
-    (λ n. IsRouted R stage n.event.what × IfSome (sending_of n.event.what) (λ s. F s.packet s.hop n.fate)) deeds
+    (λ n. IsRouted R stage n.event.what × IfSome (sending_of n.event.what) (λ s. F s.packet s.hop n.fate)) notes
     → AllByRecursion
     (λ n. IfSome (packet_of n.event.what)
-    (λ k. counts (controlled logs n.event.clock.0) is_sync ≡ phase_of stage k)) deeds
-    → AllByRecursion (IsCarried R F stage logs m whole) deeds
+    (λ k. counts (controlled logs n.event.clock.0) is_sync ≡ phase_of stage k)) notes
+    → AllByRecursion (IsCarried R F stage logs m whole) notes
 carrier_done R F stage logs m whole [] a b c d = tt
-carrier_done R F stage logs m whole (n ∷ deeds) a b c d = (
-  record { kind = a.0; owed = b.0; routed = c.0.0; fate = c.0.1; phase = d.0 },
+carrier_done R F stage logs m whole (n ∷ notes) a b c d = (
+  record { kind = a.0; has_sending = b.0; routed = c.0.0; fate = c.0.1; phase = d.0 },
   carrier_done R F stage logs m
-      whole deeds a.1 b.1 c.1 d.1,
+      whole notes a.1 b.1 c.1 d.1,
 )
 
 all_done : (R : Routes) (F : Rules) (stage : Stage) (logs : List NotedLog) (controller : List Note)
     (carriers : List (List Note)) → ArePromises R F stage logs controller carriers
-    → (w : ℕ) → AllByRecursion (IsDone R F stage logs controller carriers w) (deeds_of (controller ∷ carriers) w)
+    → (w : ℕ) → AllByRecursion (IsDone R F stage logs controller carriers w) (notes_by (controller ∷ carriers) w)
 all_done R F stage logs controller carriers p zero = all_meant stage controller p.controls.each
 all_done R F stage logs controller carriers p (suc m) = elim (cases_lt m (length carriers)) [
   | inl low ↦
       let c = p.carried m low
-      in carrier_done R F stage (plain logs) m (deeds_of carriers m) (deeds_of carriers m) c.kinds c.owed c.answers
-      (all_deeds_of
+      in carrier_done R F stage (plain logs) m (notes_by carriers m) (notes_by carriers m) c.kinds c.has_sending c.answers
+      (each_note_of
       (λ n. IfSome (packet_of n.event.what)
       (λ k. counts (controlled (plain logs) n.event.clock.0) is_sync ≡ phase_of stage k)) carriers m p.phases)
-  | inr high ↦ subst (λ (x : List Note). AllByRecursion (IsCarried R F stage (plain logs) m (deeds_of carriers m)) x)
-      (sym (no_deeds carriers m high)) tt
+  | inr high ↦ subst (λ (x : List Note). AllByRecursion (IsCarried R F stage (plain logs) m (notes_by carriers m)) x)
+      (sym (no_notes carriers m high)) tt
 ]
 
 -- SUMS
 
 pub record AreShared (logs : List NotedLog) (controller : List Note) (carriers : List (List Note)) : Type 0 where
-  pub sums : (f : Note → ℕ) → total f (all_notes logs) ≡ total f controller + total f (all_deeds carriers)
+  pub sums : (f : Note → ℕ) → total f (all_notes logs) ≡ total f controller + total f (notes_of_all carriers)
   pub seat : (w : ℕ) (f : Note → ℕ)
-      → total (of_seat w f) (all_notes logs) ≡ total f (deeds_of (controller ∷ carriers) w)
+      → total (of_seat w f) (all_notes logs) ≡ total f (notes_by (controller ∷ carriers) w)
   pub commands : AllByRecursion (λ n. is_command n.event.what ≡ true) controller
-  pub others : AllByRecursion (λ n. is_command n.event.what ≡ false) (all_deeds carriers)
+  pub others : AllByRecursion (λ n. is_command n.event.what ≡ false) (notes_of_all carriers)
 
 all_carried : (R : Routes) (F : Rules) (stage : Stage) (more : ℕ) (carriers : List (List Note))
-    → ((m : ℕ) → m < length carriers → IsCarrier R F stage (more + m) (deeds_of carriers m))
-    → AllByRecursion (λ n. is_command n.event.what ≡ false) (all_deeds carriers)
+    → ((m : ℕ) → m < length carriers → IsCarrier R F stage (more + m) (notes_by carriers m))
+    → AllByRecursion (λ n. is_command n.event.what ≡ false) (notes_of_all carriers)
 all_carried R F stage more [] c = tt
 all_carried R F stage more (d ∷ carriers) c =
-    each_append (λ n. is_command n.event.what ≡ false) d (all_deeds carriers)
+    each_append (λ n. is_command n.event.what ≡ false) d (notes_of_all carriers)
     (each_so (λ n. carries (more + 0) n.event.what ≡ true) (λ n. is_command n.event.what ≡ false) d
     (λ n h. carried_no_command (more + 0) n.event.what h) (c 0 (omega arith)).kinds)
     (all_carried R F stage (suc more) carriers
     (λ m low. let same : more + suc m
     ≡ suc more + m =
     omega arith
-    in subst (λ (k : ℕ). IsCarrier R F stage k (deeds_of carriers m)) same (c (suc m) (omega arith))))
+    in subst (λ (k : ℕ). IsCarrier R F stage k (notes_by carriers m)) same (c (suc m) (omega arith))))
 
 are_shared : (R : Routes) (F : Rules) (stage : Stage) (logs : List NotedLog) (controller : List Note)
     (carriers : List (List Note)) → ArePromises R F stage logs controller carriers
@@ -204,13 +204,13 @@ are_shared : (R : Routes) (F : Rules) (stage : Stage) (logs : List NotedLog) (co
 are_shared R F stage logs controller carriers p = record {
   sums =
       λ f. shared stage logs (controller ∷ carriers) p.agree.actors p.seated p.seats p.homes f
-      ∙ total_append f controller (all_deeds carriers);
+      ∙ total_append f controller (notes_of_all carriers);
   seat = λ w f. seat_total stage logs (controller ∷ carriers) p.agree.actors p.seated p.homes w f;
   commands = all_kinds stage controller p.controls.each;
   others =
       all_carried R F stage 0 carriers
       (λ m low. let same : m
-      ≡ 0 + m = omega arith in subst (λ (k : ℕ). IsCarrier R F stage k (deeds_of carriers m)) same (p.carried m low));
+      ≡ 0 + m = omega arith in subst (λ (k : ℕ). IsCarrier R F stage k (notes_by carriers m)) same (p.carried m low));
 }
 
 -- what only commands have is worker 0's
@@ -218,16 +218,16 @@ by_controller : (logs : List NotedLog) (controller : List Note) (carriers : List
     → AreShared logs controller carriers → (f : Note → ℕ) → ((n : Note) → is_command n.event.what ≡ false → f n ≡ 0)
     → total f (all_notes logs) ≡ total f controller
 by_controller logs controller carriers s f none =
-    let zero_of : total f (all_deeds carriers) ≡ 0 =
-    total_none f (all_deeds carriers)
-    (each_so (λ n. is_command n.event.what ≡ false) (λ n. f n ≡ 0) (all_deeds carriers) none s.others)
+    let zero_of : total f (notes_of_all carriers) ≡ 0 =
+    total_none f (notes_of_all carriers)
+    (each_so (λ n. is_command n.event.what ≡ false) (λ n. f n ≡ 0) (notes_of_all carriers) none s.others)
     in let sum = s.sums f
     in omega arith
 
 -- what no command has is the other workers'
 by_carriers : (logs : List NotedLog) (controller : List Note) (carriers : List (List Note))
     → AreShared logs controller carriers → (f : Note → ℕ) → ((n : Note) → is_command n.event.what ≡ true → f n ≡ 0)
-    → total f (all_notes logs) ≡ total f (all_deeds carriers)
+    → total f (all_notes logs) ≡ total f (notes_of_all carriers)
 by_carriers logs controller carriers s f none =
     let zero_of : total f controller ≡ 0 =
     total_none f controller
@@ -240,14 +240,14 @@ tops_by_controller : (logs : List NotedLog) (controller : List Note) (carriers :
     → top_clock (is_earlier i) (all_notes logs) ≡ top_clock (is_earlier i) controller
 tops_by_controller logs controller carriers s i =
     let f : Note → ℕ = λ n. cond (is_earlier i n) n.event.clock.0 0
-    in let none : greatest f (all_deeds carriers) ≡ 0 =
-    greatest_none f (all_deeds carriers)
-    (each_so (λ n. is_command n.event.what ≡ false) (λ n. f n ≡ 0) (all_deeds carriers) (λ n h. rw h refl)
+    in let none : greatest f (notes_of_all carriers) ≡ 0 =
+    greatest_none f (notes_of_all carriers)
+    (each_so (λ n. is_command n.event.what ≡ false) (λ n. f n ≡ 0) (notes_of_all carriers) (λ n h. rw h refl)
     s.others)
-    in let same : greatest f (all_notes logs) ≡ greatest f (controller ++ all_deeds carriers) =
-    greatest_shared f (all_notes logs) (controller ++ all_deeds carriers)
-    (λ g. s.sums g ∙ sym (total_append g controller (all_deeds carriers)))
-    in let split = greatest_append f controller (all_deeds carriers)
+    in let same : greatest f (all_notes logs) ≡ greatest f (controller ++ notes_of_all carriers) =
+    greatest_shared f (all_notes logs) (controller ++ notes_of_all carriers)
+    (λ g. s.sums g ∙ sym (total_append g controller (notes_of_all carriers)))
+    in let split = greatest_append f controller (notes_of_all carriers)
     in omega arith
 
 seats_equal : (g h : ℕ → ℕ) (n : ℕ) → ((w : ℕ) → w < n → g w ≡ h w) → sum_seats g n ≡ sum_seats h n
@@ -261,19 +261,19 @@ seats_most g h (suc n) most =
     let old = seats_most g h n (λ w low. most w (omega arith)) in let here = most n (omega arith) in omega arith
 
 carriers_equal : (f g : Note → ℕ) (carriers : List (List Note))
-    → ((m : ℕ) → m < length carriers → total f (deeds_of carriers m) ≡ total g (deeds_of carriers m))
-    → total f (all_deeds carriers) ≡ total g (all_deeds carriers)
+    → ((m : ℕ) → m < length carriers → total f (notes_by carriers m) ≡ total g (notes_by carriers m))
+    → total f (notes_of_all carriers) ≡ total g (notes_of_all carriers)
 carriers_equal f g carriers same =
-    deeds_upto f carriers ∙ seats_equal _ _ (length carriers) same ∙ sym (deeds_upto g carriers)
+    notes_upto f carriers ∙ seats_equal _ _ (length carriers) same ∙ sym (notes_upto g carriers)
 
 carriers_most : (f g : Note → ℕ) (carriers : List (List Note))
-    → ((m : ℕ) → m < length carriers → total f (deeds_of carriers m) ≤ total g (deeds_of carriers m))
-    → total f (all_deeds carriers) ≤ total g (all_deeds carriers)
+    → ((m : ℕ) → m < length carriers → total f (notes_by carriers m) ≤ total g (notes_by carriers m))
+    → total f (notes_of_all carriers) ≤ total g (notes_of_all carriers)
 carriers_most f g carriers most =
-    let a = deeds_upto f carriers
-    in let b = deeds_upto g carriers
+    let a = notes_upto f carriers
+    in let b = notes_upto g carriers
     in let c =
-    seats_most (λ m. total f (deeds_of carriers m)) (λ m. total g (deeds_of carriers m)) (length carriers) most
+    seats_most (λ m. total f (notes_by carriers m)) (λ m. total g (notes_by carriers m)) (length carriers) most
     in omega arith
 
 pub within : (b : Bool) (k : ℕ) → cond b k 0 ≤ k
@@ -283,9 +283,9 @@ within false k = omega arith
 -- what one worker has the logs have
 seat_most : (logs : List NotedLog) (controller : List Note) (carriers : List (List Note))
     → AreShared logs controller carriers → (m : ℕ) (f : Note → ℕ)
-    → total f (deeds_of carriers m) ≤ total f (all_notes logs)
+    → total f (notes_by carriers m) ≤ total f (all_notes logs)
 seat_most logs controller carriers s m f =
-    let same : total (of_seat (suc m) f) (all_notes logs) ≡ total f (deeds_of carriers m) = s.seat (suc m) f
+    let same : total (of_seat (suc m) f) (all_notes logs) ≡ total f (notes_by carriers m) = s.seat (suc m) f
     in let most : total (of_seat (suc m) f) (all_notes logs) ≤ total f (all_notes logs) =
     total_most (of_seat (suc m) f) f (all_notes logs)
     (each_always (λ n. of_seat (suc m) f n ≤ f n) (λ n. within (eqb n.seat (suc m)) (f n)) (all_notes logs))
@@ -416,11 +416,11 @@ turned false false = refl
 -- what a worker's own notes steer, it steered
 steered_own : (logs : List NotedLog) (controller : List Note) (carriers : List (List Note))
     → AreShared logs controller carriers → (m k : ℕ)
-    → 1 ≤ many (λ y. steers_packet y.event.what k) (deeds_of carriers m)
+    → 1 ≤ many (λ y. steers_packet y.event.what k) (notes_by carriers m)
     → IsSteeredBy (all_notes logs) k (suc m)
 steered_own logs controller carriers s m k h =
     let f : Note → ℕ = λ y. one_if (steers_packet y.event.what k)
-    in let same : total (of_seat (suc m) f) (all_notes logs) ≡ total f (deeds_of carriers m) = s.seat (suc m) f
+    in let same : total (of_seat (suc m) f) (all_notes logs) ≡ total f (notes_by carriers m) = s.seat (suc m) f
     in let is : total (of_seat (suc m) f) (all_notes logs)
     ≡ many (λ y. steers_packet y.event.what k && eqb y.seat (suc m)) (all_notes logs) =
     total_same (of_seat (suc m) f) (λ y. one_if (steers_packet y.event.what k && eqb y.seat (suc m))) (all_notes logs)
@@ -436,10 +436,10 @@ known_of R F stage logs controller carriers s n zero (Arrive k hop server verdic
     let bad : is_command (Arrive k hop server verdict) ≡ true =
     subst (λ (w : What). is_command w ≡ true) is done.kind in absurd (cc)
 known_of R F stage logs controller carriers s n (suc m) (Arrive k hop server verdict) is at done =
-    let owed : IsOwed (deeds_of carriers m) n (Arrive k hop server verdict) =
-    subst (λ (w : What). IsOwed (deeds_of carriers m) n w) is done.owed
+    let has_sending : HasSending (notes_by carriers m) n (Arrive k hop server verdict) =
+    subst (λ (w : What). HasSending (notes_by carriers m) n w) is done.has_sending
     in subst (λ (w : ℕ). IsSteeredBy (all_notes logs) k w) (sym at)
-    (steered_own logs controller carriers s m k owed.0)
+    (steered_own logs controller carriers s m k has_sending.0)
 known_of R F stage logs controller carriers s n seat (Publish v) is at done = tt
 known_of R F stage logs controller carriers s n seat (Switch m v) is at done = tt
 known_of R F stage logs controller carriers s n seat (Steer k m) is at done = tt
@@ -517,30 +517,30 @@ promised_command R F stage logs controller carriers rest n own (Arrive k hop ser
 promised_carried : (R : Routes) (F : Rules) (stage : Stage) (logs : List NotedLog) (controller : List Note)
     (carriers : List (List Note)) (rest : List Note) (n : Note) (own m : ℕ) (what : What)
     → AreTelling R F stage logs controller carriers → IsGiven stage (plain logs) rest own n what
-    → carries m what ≡ true → IsOwed (deeds_of carriers m) n what → IsKnown (all_notes logs) n what
+    → carries m what ≡ true → HasSending (notes_by carriers m) n what → IsKnown (all_notes logs) n what
     → AllByRecursion (λ y. IsKnown (all_notes logs) y y.event.what) rest
     → IsPromised stage (plain logs) (all_notes logs) (events_of rest) n.command own n.event.clock.0 what
-promised_carried R F stage logs controller carriers rest n own m (Switch k v) t given kind owed known others = given
-promised_carried R F stage logs controller carriers rest n own m (Steer k v) t given kind owed known others = given
-promised_carried R F stage logs controller carriers rest n own m (Lose k hop) t given kind owed known others = tt
-promised_carried R F stage logs controller carriers rest n own m (Arrive k hop server verdict) t given kind owed
+promised_carried R F stage logs controller carriers rest n own m (Switch k v) t given kind has_sending known others = given
+promised_carried R F stage logs controller carriers rest n own m (Steer k v) t given kind has_sending known others = given
+promised_carried R F stage logs controller carriers rest n own m (Lose k hop) t given kind has_sending known others = tt
+promised_carried R F stage logs controller carriers rest n own m (Arrive k hop server verdict) t given kind has_sending
     known others =
-    let due : many (is_due_at k hop n.due) (deeds_of carriers m) ≤ many (is_due_at k hop n.due) (all_notes logs) =
+    let due : many (is_due_at k hop n.due) (notes_by carriers m) ≤ many (is_due_at k hop n.due) (all_notes logs) =
     seat_most logs controller carriers t.shared m (λ y. one_if (is_due_at k hop n.due y))
     in let by : many (is_due_at k hop n.due) (all_notes logs)
     ≤ many (is_due_by k hop own n.event.clock.0) (all_notes logs) =
     due_by k own n.event.clock.0 n.due hop (all_notes logs) given.0
     in (
       in_order stage (plain logs) (all_notes logs) rest k server n.seat t.once t.labelled others known given.1,
-      omega (arith, owed.1),
+      omega (arith, has_sending.1),
     )
-promised_carried R F stage logs controller carriers rest n own m (Publish v) t given kind owed known others =
+promised_carried R F stage logs controller carriers rest n own m (Publish v) t given kind has_sending known others =
     absurd (cc)
-promised_carried R F stage logs controller carriers rest n own m (Close server flow closed) t given kind owed known
+promised_carried R F stage logs controller carriers rest n own m (Close server flow closed) t given kind has_sending known
     others = absurd (cc)
-promised_carried R F stage logs controller carriers rest n own m (Retire server h at result) t given kind owed known
+promised_carried R F stage logs controller carriers rest n own m (Retire server h at result) t given kind has_sending known
     others = absurd (cc)
-promised_carried R F stage logs controller carriers rest n own m Sync t given kind owed known others = absurd (cc)
+promised_carried R F stage logs controller carriers rest n own m Sync t given kind has_sending known others = absurd (cc)
 
 told_done : (R : Routes) (F : Rules) (stage : Stage) (logs : List NotedLog) (controller : List Note)
     (carriers : List (List Note)) (rest : List Note) (n : Note) (seat : ℕ)
@@ -567,7 +567,7 @@ told_done R F stage logs controller carriers rest n (suc m) t b d =
       order = λ is. absurd (let bad : true ≡ false = sym is ∙ not in cc);
       phase = d.phase;
       timed =
-          promised_carried R F stage logs controller carriers rest n _ m n.event.what t b.given d.kind d.owed b.known
+          promised_carried R F stage logs controller carriers rest n _ m n.event.what t b.given d.kind d.has_sending b.known
           b.others;
       routed = d.routed;
       fate = d.fate;

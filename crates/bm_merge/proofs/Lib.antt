@@ -22,7 +22,7 @@ pub mod Seating
 pub mod Keeping
 pub mod Pacing
 pub mod Worked
-pub mod Owing
+pub mod CopiesLeft
 pub mod Paced
 pub mod Underway
 pub mod WorkedSyncs

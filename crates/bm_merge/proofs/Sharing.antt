@@ -8,7 +8,7 @@ use Rattle.bm_core.specs.declared.events.Stage.{Stage}
 use Rattle.bm_core.specs.Runs.{Actor, same_actor, is_by}
 use Rattle.bm_merge.specs.Merges.{has_actor, HaveOwnLogs}
 use Rattle.bm_merge.specs.Notes.{Note, NotedLog, plain, all_notes, total, greatest}
-use Rattle.bm_merge.specs.Workers.{home_of, is_home, deeds_of, all_deeds, seat_part, home_part, AreSeated, HaveSeats}
+use Rattle.bm_merge.specs.Workers.{home_of, is_home, notes_by, notes_of_all, seat_part, home_part, AreSeated, HaveSeats}
 use Rattle.bm_merge.specs.Workers.{HaveHomes, has_log}
 use Rattle.bm_merge.proofs.Agreeing.{same_actor-true}
 use Rattle.bm_merge.proofs.Placing.{same_actor_refl, other_way}
@@ -195,36 +195,36 @@ all_own_seats P (n ∷ x) all = (
       (λ w. seat_below (P w) w n x (eqb n.seat w) (all w)),
 )
 
-pub all_deeds_of : (P : Note → Type 0) (workers : List (List Note)) (w : ℕ) → AllByRecursion P (all_deeds workers)
-    → AllByRecursion P (deeds_of workers w)
-all_deeds_of P [] w all = tt
-all_deeds_of P (d ∷ workers) zero all = first d (all_deeds workers) all where
+pub each_note_of : (P : Note → Type 0) (workers : List (List Note)) (w : ℕ) → AllByRecursion P (notes_of_all workers)
+    → AllByRecursion P (notes_by workers w)
+each_note_of P [] w all = tt
+each_note_of P (d ∷ workers) zero all = first d (notes_of_all workers) all where
   first : (x y : List Note) → AllByRecursion P (x ++ y) → AllByRecursion P x
   first [] y a = tt
   first (n ∷ x) y a = (a.0, first x y a.1)
-all_deeds_of P (d ∷ workers) (suc w) all = all_deeds_of P workers w (each_below P d (all_deeds workers) all)
+each_note_of P (d ∷ workers) (suc w) all = each_note_of P workers w (each_below P d (notes_of_all workers) all)
 
 -- what holds of all that each worker did, by its seat, holds of all notes of each log
 pub all_by_seat : (P : ℕ → Note → Type 0) (stage : Stage) (logs : List NotedLog) (workers : List (List Note))
-    → AreSeated stage logs workers → ((w : ℕ) → AllByRecursion (P w) (deeds_of workers w))
+    → AreSeated stage logs workers → ((w : ℕ) → AllByRecursion (P w) (notes_by workers w))
     → AllByRecursion (λ l. AllByRecursion (λ n. P n.seat n) l.notes) logs
 all_by_seat P stage [] workers seated all = tt
 all_by_seat P stage (l ∷ logs) workers seated all = (
   all_own_seats P l.notes
       (λ w. subst (λ (x : List Note). AllByRecursion (P w) x) (sym (seated.0 w))
-      (all_home (P w) stage l.actor (deeds_of workers w) (all w))),
+      (all_home (P w) stage l.actor (notes_by workers w) (all w))),
   all_by_seat P stage logs workers seated.1 all,
 )
 
 -- what holds of all that the workers did holds of all notes of each log
 pub all_logs : (P : Note → Type 0) (stage : Stage) (logs : List NotedLog) (workers : List (List Note))
-    → AreSeated stage logs workers → AllByRecursion P (all_deeds workers)
+    → AreSeated stage logs workers → AllByRecursion P (notes_of_all workers)
     → AllByRecursion (λ l. AllByRecursion P l.notes) logs
 all_logs P stage [] workers seated all = tt
 all_logs P stage (l ∷ logs) workers seated all = (
   all_seats P l.notes
       (λ w. subst (λ (x : List Note). AllByRecursion P x) (sym (seated.0 w))
-      (all_home P stage l.actor (deeds_of workers w) (all_deeds_of P workers w all))),
+      (all_home P stage l.actor (notes_by workers w) (each_note_of P workers w all))),
   all_logs P stage logs workers seated.1 all,
 )
 
@@ -241,15 +241,15 @@ logs_seats t n (l ∷ logs) =
 by_log_seats : (stage : Stage) (f : Note → ℕ) (workers : List (List Note)) (n : ℕ) (logs : List NotedLog)
     → AreSeated stage logs workers → HaveSeats n logs
     → sum_logs (λ l. total f l.notes) logs
-    ≡ sum_logs (λ l. sum_seats (λ w. total (of_home stage l.actor f) (deeds_of workers w)) n) logs
+    ≡ sum_logs (λ l. sum_seats (λ w. total (of_home stage l.actor f) (notes_by workers w)) n) logs
 by_log_seats stage f workers n [] seated few = refl
 by_log_seats stage f workers n (l ∷ logs) seated few =
     let old = by_log_seats stage f workers n logs seated.1 few.1
     in let here = by_seats f n l.notes few.0
     in let same =
-    seats_same (λ w. total (of_seat w f) l.notes) (λ w. total (of_home stage l.actor f) (deeds_of workers w)) n
+    seats_same (λ w. total (of_seat w f) l.notes) (λ w. total (of_home stage l.actor f) (notes_by workers w)) n
     (λ w. sym (total_seat w f l.notes) ∙ ap (λ (x : List Note). total f x) (seated.0 w)
-    ∙ total_home stage l.actor f (deeds_of workers w))
+    ∙ total_home stage l.actor f (notes_by workers w))
     in omega arith
 
 first_seat : (g : ℕ → ℕ) (n : ℕ) → sum_seats g (suc n) ≡ g 0 + sum_seats (λ w. g (suc w)) n
@@ -257,50 +257,50 @@ first_seat g zero = refl
 first_seat g (suc n) = let old = first_seat g n in omega arith
 
 -- the sum over the workers
-pub deeds_upto : (f : Note → ℕ) (workers : List (List Note))
-    → total f (all_deeds workers) ≡ sum_seats (λ w. total f (deeds_of workers w)) (length workers)
-deeds_upto f [] = refl
-deeds_upto f (d ∷ workers) =
-    let old = deeds_upto f workers
-    in let a = total_append f d (all_deeds workers)
-    in let first = first_seat (λ w. total f (deeds_of (d ∷ workers) w)) (length workers)
+pub notes_upto : (f : Note → ℕ) (workers : List (List Note))
+    → total f (notes_of_all workers) ≡ sum_seats (λ w. total f (notes_by workers w)) (length workers)
+notes_upto f [] = refl
+notes_upto f (d ∷ workers) =
+    let old = notes_upto f workers
+    in let a = total_append f d (notes_of_all workers)
+    in let first = first_seat (λ w. total f (notes_by (d ∷ workers) w)) (length workers)
     in omega arith
 
 -- the logs have just what the workers did
 pub shared : (stage : Stage) (logs : List NotedLog) (workers : List (List Note)) → HaveOwnLogs (plain logs)
     → AreSeated stage logs workers → HaveSeats (length workers) logs
-    → HaveHomes stage logs (all_deeds workers) → (f : Note → ℕ)
-    → total f (all_notes logs) ≡ total f (all_deeds workers)
+    → HaveHomes stage logs (notes_of_all workers) → (f : Note → ℕ)
+    → total f (all_notes logs) ≡ total f (notes_of_all workers)
 shared stage logs workers own seated few homes f =
     logs_sum f logs
     ∙ by_log_seats stage f workers (length workers) logs seated few
-    ∙ logs_seats (λ l w. total (of_home stage l.actor f) (deeds_of workers w)) (length workers) logs
-    ∙ seats_same (λ w. sum_logs (λ l. total (of_home stage l.actor f) (deeds_of workers w)) logs)
-    (λ w. total f (deeds_of workers w)) (length workers)
-    (λ w. by_homes stage f logs (deeds_of workers w) own
-    (all_deeds_of (λ n. has_log (plain logs) (home_of stage n.seat n.event.what) ≡ true) workers w homes))
-    ∙ sym (deeds_upto f workers)
+    ∙ logs_seats (λ l w. total (of_home stage l.actor f) (notes_by workers w)) (length workers) logs
+    ∙ seats_same (λ w. sum_logs (λ l. total (of_home stage l.actor f) (notes_by workers w)) logs)
+    (λ w. total f (notes_by workers w)) (length workers)
+    (λ w. by_homes stage f logs (notes_by workers w) own
+    (each_note_of (λ n. has_log (plain logs) (home_of stage n.seat n.event.what) ≡ true) workers w homes))
+    ∙ sym (notes_upto f workers)
 
 -- a seat's notes are what its worker did
 seat_logs : (stage : Stage) (f : Note → ℕ) (workers : List (List Note)) (w : ℕ) (logs : List NotedLog)
     → AreSeated stage logs workers
-    → total (of_seat w f) (all_notes logs) ≡ sum_logs (λ l. total (of_home stage l.actor f) (deeds_of workers w)) logs
+    → total (of_seat w f) (all_notes logs) ≡ sum_logs (λ l. total (of_home stage l.actor f) (notes_by workers w)) logs
 seat_logs stage f workers w [] seated = refl
 seat_logs stage f workers w (l ∷ logs) seated =
     let a = total_append (of_seat w f) (all_notes logs) l.notes
     in let old = seat_logs stage f workers w logs seated.1
     in let here =
     sym (total_seat w f l.notes) ∙ ap (λ (x : List Note). total f x) (seated.0 w)
-    ∙ total_home stage l.actor f (deeds_of workers w)
+    ∙ total_home stage l.actor f (notes_by workers w)
     in omega arith
 
 pub seat_total : (stage : Stage) (logs : List NotedLog) (workers : List (List Note)) → HaveOwnLogs (plain logs)
-    → AreSeated stage logs workers → HaveHomes stage logs (all_deeds workers) → (w : ℕ) (f : Note → ℕ)
-    → total (of_seat w f) (all_notes logs) ≡ total f (deeds_of workers w)
+    → AreSeated stage logs workers → HaveHomes stage logs (notes_of_all workers) → (w : ℕ) (f : Note → ℕ)
+    → total (of_seat w f) (all_notes logs) ≡ total f (notes_by workers w)
 seat_total stage logs workers own seated homes w f =
     seat_logs stage f workers w logs seated
-    ∙ by_homes stage f logs (deeds_of workers w) own
-    (all_deeds_of (λ n. has_log (plain logs) (home_of stage n.seat n.event.what) ≡ true) workers w homes)
+    ∙ by_homes stage f logs (notes_by workers w) own
+    (each_note_of (λ n. has_log (plain logs) (home_of stage n.seat n.event.what) ≡ true) workers w homes)
 
 -- so the greatest numbers are the same
 greatest_within : (g : Note → ℕ) (c : ℕ) (x : List Note) → total (λ y. cond (ltb c (g y)) 1 0) x ≡ 0

@@ -18,12 +18,12 @@ use Rattle.bm_core.specs.Accounts.{Rules}
 use Rattle.bm_core.specs.Threads.{last_own, is_command, moment_at}
 use Rattle.bm_merge.specs.Merges.{gathered, merged, is_clock, highest}
 use Rattle.bm_merge.specs.Notes.{Note, NotedLog, events_of, plain, all_notes, total, many, top_clock, is_earlier}
-use Rattle.bm_merge.specs.Workers.{deeds_of, IsBefore, IsClocked, IsMeant, is_publish, IsUnderway, carries, IsOwed}
+use Rattle.bm_merge.specs.Workers.{notes_by, IsBefore, IsClocked, IsMeant, is_publish, IsUnderway, carries, HasSending}
 use Rattle.bm_merge.specs.Workers.{AreUnderway}
 use Rattle.bm_merge.proofs.Noting.{total_most, each_always, events_gathered}
 use Rattle.bm_merge.proofs.Reaching.{one_if}
 use Rattle.bm_merge.proofs.Sharing.{seat_total, all_by_seat, of_seat}
-use Rattle.bm_merge.proofs.Keeping.{no_deeds, within}
+use Rattle.bm_merge.proofs.Keeping.{no_notes, within}
 use Rattle.bm_core.proofs.Moments.{sound_early, AreEarly}
 use Rattle.bm_merge.proofs.Pacing.{bounded_logs, IsPacedAmong}
 use Rattle.bm_merge.proofs.Paced.{IsSource, IsCause, paced_from, source_cause, max_cause, some_append, some_first}
@@ -110,30 +110,30 @@ ordered stage events rest n (Steer k v) is early among m = tt
 ordered stage events rest n (Lose k hop) is early among m = tt
 ordered stage events rest n (Arrive k hop server verdict) is early among m = tt
 
-all_ordered : (stage : Stage) (events : List Event) (deeds : List Note) → AreEarly stage
-    → IsAmong (events_of deeds) events → AtEach (IsUnderway stage) deeds → AllByRecursion (IsCaused events zero) deeds
+all_ordered : (stage : Stage) (events : List Event) (notes : List Note) → AreEarly stage
+    → IsAmong (events_of notes) events → AtEach (IsUnderway stage) notes → AllByRecursion (IsCaused events zero) notes
 all_ordered stage events [] early among each = tt
-all_ordered stage events (n ∷ deeds) early among each =
-    let less : IsAmong (events_of deeds) events = λ c h. among c (or_right _ _ h)
+all_ordered stage events (n ∷ notes) early among each =
+    let less : IsAmong (events_of notes) events = λ c h. among c (or_right _ _ h)
     in (
-      (each.0.kind, ordered stage events deeds n n.event.what refl early less each.0.meant),
+      (each.0.kind, ordered stage events notes n n.event.what refl early less each.0.meant),
       all_ordered stage
-          events deeds early less each.1,
+          events notes early less each.1,
     )
 
-sent_note : (F : Rules) (events : List Event) (m : ℕ) (deeds : List Note) (n : Note) (what : What)
+sent_note : (F : Rules) (events : List Event) (m : ℕ) (notes : List Note) (n : Note) (what : What)
     → ((packet : ℕ) (h : Hop) (f : Fate) → F packet h f → f.delay ≤ 60000000000)
-    → AllByRecursion (λ y. IfSome (sending_of y.event.what) (λ s. F s.packet s.hop y.fate)) deeds
-    → IsAmong (events_of deeds) events → carries m what ≡ true → IsOwed deeds n what → IsSent events n what
-sent_note F events m deeds n (Arrive k hop server verdict) short answers among kind owed =
-    λ low. due_cause F events deeds k hop n.due n.event.clock.0 short answers among low owed.1
-sent_note F events m deeds n (Switch k v) short answers among kind owed = tt
-sent_note F events m deeds n (Steer k v) short answers among kind owed = tt
-sent_note F events m deeds n (Lose k hop) short answers among kind owed = tt
-sent_note F events m deeds n (Publish v) short answers among kind owed = absurd (cc)
-sent_note F events m deeds n (Close server flow closed) short answers among kind owed = absurd (cc)
-sent_note F events m deeds n (Retire server h at result) short answers among kind owed = absurd (cc)
-sent_note F events m deeds n Sync short answers among kind owed = tt
+    → AllByRecursion (λ y. IfSome (sending_of y.event.what) (λ s. F s.packet s.hop y.fate)) notes
+    → IsAmong (events_of notes) events → carries m what ≡ true → HasSending notes n what → IsSent events n what
+sent_note F events m notes n (Arrive k hop server verdict) short answers among kind has_sending =
+    λ low. due_cause F events notes k hop n.due n.event.clock.0 short answers among low has_sending.1
+sent_note F events m notes n (Switch k v) short answers among kind has_sending = tt
+sent_note F events m notes n (Steer k v) short answers among kind has_sending = tt
+sent_note F events m notes n (Lose k hop) short answers among kind has_sending = tt
+sent_note F events m notes n (Publish v) short answers among kind has_sending = absurd (cc)
+sent_note F events m notes n (Close server flow closed) short answers among kind has_sending = absurd (cc)
+sent_note F events m notes n (Retire server h at result) short answers among kind has_sending = absurd (cc)
+sent_note F events m notes n Sync short answers among kind has_sending = tt
 
 -- LOG BY LOG
 
@@ -241,14 +241,14 @@ paced_logs stage logs (l ∷ some) early among clocked caused =
     caused.0)
 
 -- what a worker did stands in the logs
-deeds_among : (F : Rules) (stage : Stage) (logs : List NotedLog) (controller : List Note)
+notes_among : (F : Rules) (stage : Stage) (logs : List NotedLog) (controller : List Note)
     (carriers : List (List Note)) → AreUnderway F stage logs controller carriers → (w : ℕ)
-    → IsAmong (events_of (deeds_of (controller ∷ carriers) w)) (gathered (plain logs))
-deeds_among F stage logs controller carriers u w c h =
+    → IsAmong (events_of (notes_by (controller ∷ carriers) w)) (gathered (plain logs))
+notes_among F stage logs controller carriers u w c h =
     let f : Note → ℕ = λ y. one_if (eqb y.event.clock.0 c)
-    in let one : 1 ≤ many (λ y. eqb y.event.clock.0 c) (deeds_of (controller ∷ carriers) w) =
-    some_counts c (deeds_of (controller ∷ carriers) w) h
-    in let same : total (of_seat w f) (all_notes logs) ≡ total f (deeds_of (controller ∷ carriers) w) =
+    in let one : 1 ≤ many (λ y. eqb y.event.clock.0 c) (notes_by (controller ∷ carriers) w) =
+    some_counts c (notes_by (controller ∷ carriers) w) h
+    in let same : total (of_seat w f) (all_notes logs) ≡ total f (notes_by (controller ∷ carriers) w) =
     seat_total stage logs (controller ∷ carriers) u.actors u.seated u.homes w f
     in let most : total (of_seat w f) (all_notes logs) ≤ total f (all_notes logs) =
     total_most (of_seat w f) f (all_notes logs)
@@ -256,32 +256,32 @@ deeds_among F stage logs controller carriers u w c h =
     in subst (λ (l : List Event). is_clock l c ≡ true) (events_gathered logs)
     (counts_some c (all_notes logs) (omega arith))
 
-sent_deeds : (F : Rules) (events : List Event) (m : ℕ) (whole deeds : List Note)
+sent_notes_are : (F : Rules) (events : List Event) (m : ℕ) (whole notes : List Note)
     → ((packet : ℕ) (h : Hop) (f : Fate) → F packet h f → f.delay ≤ 60000000000)
     → AllByRecursion (λ y. IfSome (sending_of y.event.what) (λ s. F s.packet s.hop y.fate)) whole
     → IsAmong (events_of whole) events
-    → AllByRecursion (λ n. (carries m n.event.what ≡ true) × IsOwed whole n n.event.what) deeds
-    → AllByRecursion (IsCaused events (suc m)) deeds
-sent_deeds F events m whole [] short answers among carried = tt
-sent_deeds F events m whole (n ∷ deeds) short answers among carried = (
+    → AllByRecursion (λ n. (carries m n.event.what ≡ true) × HasSending whole n n.event.what) notes
+    → AllByRecursion (IsCaused events (suc m)) notes
+sent_notes_are F events m whole [] short answers among carried = tt
+sent_notes_are F events m whole (n ∷ notes) short answers among carried = (
   sent_note F events m whole n n.event.what short answers among carried.0.0 carried.0.1,
-  sent_deeds F events m
-      whole deeds short answers among carried.1,
+  sent_notes_are F events m
+      whole notes short answers among carried.1,
 )
 
 all_caused : (F : Rules) (stage : Stage) (logs : List NotedLog) (controller : List Note) (carriers : List (List Note))
     → AreUnderway F stage logs controller carriers → AreEarly stage
     → ((packet : ℕ) (h : Hop) (f : Fate) → F packet h f → f.delay ≤ 60000000000) → (w : ℕ)
-    → AllByRecursion (IsCaused (gathered (plain logs)) w) (deeds_of (controller ∷ carriers) w)
+    → AllByRecursion (IsCaused (gathered (plain logs)) w) (notes_by (controller ∷ carriers) w)
 all_caused F stage logs controller carriers u early short zero =
-    all_ordered stage (gathered (plain logs)) controller early (deeds_among F stage logs controller carriers u 0)
+    all_ordered stage (gathered (plain logs)) controller early (notes_among F stage logs controller carriers u 0)
     u.controls
 all_caused F stage logs controller carriers u early short (suc m) = elim (cases_lt m (length carriers)) [
   | inl low ↦
-      sent_deeds F (gathered (plain logs)) m (deeds_of carriers m) (deeds_of carriers m) short (u.answers m low)
-      (deeds_among F stage logs controller carriers u (suc m)) (u.carried m low)
+      sent_notes_are F (gathered (plain logs)) m (notes_by carriers m) (notes_by carriers m) short (u.answers m low)
+      (notes_among F stage logs controller carriers u (suc m)) (u.carried m low)
   | inr high ↦ subst (λ (x : List Note). AllByRecursion (IsCaused (gathered (plain logs)) (suc m)) x)
-      (sym (no_deeds carriers m high)) tt
+      (sym (no_notes carriers m high)) tt
 ]
 
 -- the clocks of logs that are underway are bounded by the number of events

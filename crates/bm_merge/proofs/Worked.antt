@@ -25,7 +25,7 @@ use Rattle.bm_core.proofs.WorkedMoves.{moved}
 use Rattle.bm_core.proofs.WorkedWhole.{moved_sound}
 use Rattle.bm_merge.specs.Merges.{gathered, merged, named, Agree}
 use Rattle.bm_merge.specs.Notes.{Note, NotedLog, plain, all_notes, size_of, many}
-use Rattle.bm_merge.specs.Workers.{deeds_of, seat_part, home_part, IsController, IsCarrier, ArePromises}
+use Rattle.bm_merge.specs.Workers.{notes_by, seat_part, home_part, IsController, IsCarrier, ArePromises}
 use Rattle.bm_merge.proofs.Reaching.{one_if}
 use Rattle.bm_merge.proofs.Standing.{entry_of}
 use Rattle.bm_merge.proofs.Keeping.{workers_law}
@@ -189,7 +189,7 @@ agreed = record {
 -- THE PROMISES
 
 seated_controller : (w : ℕ)
-    → seat_part w controller ≡ home_part moved Controller (deeds_of (controller ∷ carrier ∷ []) w)
+    → seat_part w controller ≡ home_part moved Controller (notes_by (controller ∷ carrier ∷ []) w)
 seated_controller zero = refl
 seated_controller (suc zero) = refl
 seated_controller (suc (suc w)) =
@@ -200,20 +200,20 @@ none_of w = ne_eqb _ _ (λ e. omega arith)
 
 seated_mux : (w : ℕ)
     → seat_part w (second_steer ∷ second_look ∷ first_steer ∷ first_look ∷ [])
-    ≡ home_part moved (MuxOf 0) (deeds_of (controller ∷ carrier ∷ []) w)
+    ≡ home_part moved (MuxOf 0) (notes_by (controller ∷ carrier ∷ []) w)
 seated_mux zero = refl
 seated_mux (suc zero) = refl
 seated_mux (suc (suc w)) = rw (none_of w) refl
 
 seated_first : (w : ℕ)
-    → seat_part w (processed ∷ accepted ∷ []) ≡ home_part moved (ShardOf 1 h) (deeds_of (controller ∷ carrier ∷ []) w)
+    → seat_part w (processed ∷ accepted ∷ []) ≡ home_part moved (ShardOf 1 h) (notes_by (controller ∷ carrier ∷ []) w)
 unfolding flow_octets fnv_step fnv_1a flow_hash
 seated_first zero = refl
 seated_first (suc zero) = refl
 seated_first (suc (suc w)) = rw (none_of w) refl
 
 seated_second : (w : ℕ)
-    → seat_part w (forwarded ∷ []) ≡ home_part moved (ShardOf 2 h) (deeds_of (controller ∷ carrier ∷ []) w)
+    → seat_part w (forwarded ∷ []) ≡ home_part moved (ShardOf 2 h) (notes_by (controller ∷ carrier ∷ []) w)
 unfolding flow_octets fnv_step fnv_1a flow_hash
 seated_second zero = refl
 seated_second (suc zero) = refl
@@ -252,7 +252,7 @@ carrying : IsCarrier (RouteBy (setting_mux moved.script.setting)) (RuleBy (setti
     0 carrier
 carrying = record {
   kinds = (refl, (refl, (refl, (refl, (refl, (refl, (refl, tt)))))));
-  owed = (
+  has_sending = (
     (omega arith, omega arith),
     ((omega arith, omega arith), (tt, (tt, ((omega arith, omega arith), (tt, (tt, tt)))))),
   );
@@ -311,7 +311,7 @@ promises = record {
 } where
   carried : (m : ℕ) → m < 1
       → IsCarrier (RouteBy (setting_mux moved.script.setting)) (RuleBy (setting_fate moved.script.setting)) moved m
-      (deeds_of (carrier ∷ []) m)
+      (notes_by (carrier ∷ []) m)
   carried zero low = carrying
   carried (suc m) low = absurd (omega arith)
 

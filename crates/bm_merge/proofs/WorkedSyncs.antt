@@ -35,7 +35,7 @@ use Rattle.bm_core.proofs.Worked.{server, syn, data_of, flow_from, record_at, st
 use Rattle.bm_core.proofs.Worked.{retire}
 use Rattle.bm_merge.specs.Merges.{gathered, merged, named, Agree}
 use Rattle.bm_merge.specs.Notes.{Note, NotedLog, plain, all_notes, size_of, many}
-use Rattle.bm_merge.specs.Workers.{IsInItsPhase, deeds_of, seat_part, home_part, IsController, IsCarrier, ArePromises}
+use Rattle.bm_merge.specs.Workers.{IsInItsPhase, notes_by, seat_part, home_part, IsController, IsCarrier, ArePromises}
 use Rattle.bm_merge.proofs.Reaching.{one_if}
 use Rattle.bm_merge.proofs.Standing.{entry_of}
 use Rattle.bm_merge.proofs.Keeping.{workers_law}
@@ -239,41 +239,41 @@ zero_not : (w : ℕ) → eqb 0 (suc (suc w)) ≡ false
 zero_not w = ne_eqb _ _ (λ e. absurd (omega arith))
 
 seated_controller : (w : ℕ)
-    → seat_part w (met ∷ []) ≡ home_part stage Controller (deeds_of (controller ∷ carrier ∷ []) w)
+    → seat_part w (met ∷ []) ≡ home_part stage Controller (notes_by (controller ∷ carrier ∷ []) w)
 unfolding flow_octets fnv_step fnv_1a flow_hash
 seated_controller zero = refl
 seated_controller (suc zero) = refl
 seated_controller (suc (suc w)) = rw (zero_not w) refl
 
-seated_mux : (w : ℕ) → seat_part w mux_notes ≡ home_part stage (MuxOf 0) (deeds_of (controller ∷ carrier ∷ []) w)
+seated_mux : (w : ℕ) → seat_part w mux_notes ≡ home_part stage (MuxOf 0) (notes_by (controller ∷ carrier ∷ []) w)
 unfolding flow_octets fnv_step fnv_1a flow_hash
 seated_mux zero = refl
 seated_mux (suc zero) = refl
 seated_mux (suc (suc w)) = rw (none_of w) refl
 
 seated_zero : (w : ℕ)
-    → seat_part w (retired 11 0 ∷ []) ≡ home_part stage (ShardOf 1 0) (deeds_of (controller ∷ carrier ∷ []) w)
+    → seat_part w (retired 11 0 ∷ []) ≡ home_part stage (ShardOf 1 0) (notes_by (controller ∷ carrier ∷ []) w)
 unfolding flow_octets fnv_step fnv_1a flow_hash
 seated_zero zero = refl
 seated_zero (suc zero) = refl
 seated_zero (suc (suc w)) = rw (zero_not w) refl
 
 seated_one : (w : ℕ)
-    → seat_part w (retired 11 1 ∷ []) ≡ home_part stage (ShardOf 1 1) (deeds_of (controller ∷ carrier ∷ []) w)
+    → seat_part w (retired 11 1 ∷ []) ≡ home_part stage (ShardOf 1 1) (notes_by (controller ∷ carrier ∷ []) w)
 unfolding flow_octets fnv_step fnv_1a flow_hash
 seated_one zero = refl
 seated_one (suc zero) = refl
 seated_one (suc (suc w)) = rw (zero_not w) refl
 
 seated_two : (w : ℕ)
-    → seat_part w shard_notes ≡ home_part stage (ShardOf 1 2) (deeds_of (controller ∷ carrier ∷ []) w)
+    → seat_part w shard_notes ≡ home_part stage (ShardOf 1 2) (notes_by (controller ∷ carrier ∷ []) w)
 unfolding flow_octets fnv_step fnv_1a flow_hash
 seated_two zero = refl
 seated_two (suc zero) = refl
 seated_two (suc (suc w)) = rw (zero_not w, none_of w) refl
 
 seated_three : (w : ℕ)
-    → seat_part w (retired 11 3 ∷ []) ≡ home_part stage (ShardOf 1 3) (deeds_of (controller ∷ carrier ∷ []) w)
+    → seat_part w (retired 11 3 ∷ []) ≡ home_part stage (ShardOf 1 3) (notes_by (controller ∷ carrier ∷ []) w)
 unfolding flow_octets fnv_step fnv_1a flow_hash
 seated_three zero = refl
 seated_three (suc zero) = refl
@@ -413,7 +413,7 @@ lost_pair true clock = go (eqb 1001 clock) refl where
 carrying : IsCarrier (RouteBy (setting_mux stage.script.setting)) Losing stage 0 carrier
 carrying = record {
   kinds = (refl, (refl, (refl, (refl, (refl, (refl, tt))))));
-  owed = (tt, (tt, (tt, ((omega arith, omega arith), (tt, (tt, tt))))));
+  has_sending = (tt, (tt, (tt, ((omega arith, omega arith), (tt, (tt, tt))))));
   answers = ((tt, tt), ((refl, refl), ((tt, tt), ((tt, tt), ((refl, refl), ((tt, tt), tt))))));
   lost = λ k hop clock.
       let a = lost_pair (sends second_steer.event.what k hop) clock
@@ -481,7 +481,7 @@ promises = record {
   looked = looked;
 } where
   carried : (m : ℕ) → m < 1
-      → IsCarrier (RouteBy (setting_mux stage.script.setting)) Losing stage m (deeds_of (carrier ∷ []) m)
+      → IsCarrier (RouteBy (setting_mux stage.script.setting)) Losing stage m (notes_by (carrier ∷ []) m)
   carried zero low = carrying
   carried (suc m) low = absurd (omega arith)
 

@@ -44,15 +44,15 @@ own_before stage rest n = last_own stage (events_of rest) (actor_of stage n.even
 -- WHO DID WHAT
 
 -- what worker w did, of all workers
-abbrev pub deeds_of : List (List Note) → ℕ → List Note
-deeds_of [] w = []
-deeds_of (d ∷ workers) zero = d
-deeds_of (d ∷ workers) (suc w) = deeds_of workers w
+abbrev pub notes_by : List (List Note) → ℕ → List Note
+notes_by [] w = []
+notes_by (d ∷ workers) zero = d
+notes_by (d ∷ workers) (suc w) = notes_by workers w
 
 -- all that the workers did
-abbrev pub all_deeds : List (List Note) → List Note
-all_deeds [] = []
-all_deeds (d ∷ workers) = d ++ all_deeds workers
+abbrev pub notes_of_all : List (List Note) → List Note
+notes_of_all [] = []
+notes_of_all (d ∷ workers) = d ++ notes_of_all workers
 
 -- the actor in whose log a worker's event is: its own, and for a Lose the worker's mux
 abbrev pub home_of : Stage → ℕ → What → Option Actor
@@ -82,7 +82,7 @@ home_part stage a (n ∷ notes) =
 -- the log's notes of each seat are what that worker did for this log, in its order
 abbrev pub IsSeated : Stage → NotedLog → List (List Note) → Type 0
 IsSeated stage l workers =
-    (w : ℕ) → seat_part w l.notes ≡ home_part stage l.actor (deeds_of workers w)
+    (w : ℕ) → seat_part w l.notes ≡ home_part stage l.actor (notes_by workers w)
 
 -- the same for all logs
 abbrev pub AreSeated : Stage → List NotedLog → List (List Note) → Type 0
@@ -94,8 +94,8 @@ HaveSeats workers logs = AllByRecursion (λ l. AllByRecursion (λ n. n.seat < wo
 
 -- everything that was done has a log
 abbrev pub HaveHomes : Stage → List NotedLog → List Note → Type 0
-HaveHomes stage logs deeds =
-    AllByRecursion (λ n. has_log (plain logs) (home_of stage n.seat n.event.what) ≡ true) deeds
+HaveHomes stage logs notes =
+    AllByRecursion (λ n. has_log (plain logs) (home_of stage n.seat n.event.what) ≡ true) notes
 
 -- MUXES AND SHARDS: how the actor of an event determines it. A mux does so by its look at the
 -- board, a shard by the turn that the worker took there; own is the actor's last clock.
@@ -174,22 +174,22 @@ pub record IsCommanded (stage : Stage) (rest : List Note) (n : Note) : Type 0 wh
   pub meant : IsMeant stage rest n n.event.what
 
 -- what worker 0 did, to the end
-pub record IsController (stage : Stage) (deeds : List Note) : Type 0 where
-  pub each : AtEach (IsCommanded stage) deeds
+pub record IsController (stage : Stage) (notes : List Note) : Type 0 where
+  pub each : AtEach (IsCommanded stage) notes
   -- each command has all its events
   pub complete : (i : ℕ) → i < length stage.script.commands
-      → many (λ n. n.command == i) deeds
+      → many (λ n. n.command == i) notes
       ≡ size_of stage.script.setting.shards (slice_get stage.script.commands i)
   -- the events of each kind are as many as the account asks for
   pub closes : (s : ServerId) (f : Flow)
-      → many (λ n. closes_flow n.event.what s f) deeds
+      → many (λ n. closes_flow n.event.what s f) notes
       ≡ count_of (λ c. wants_close c s f) stage.script.commands
   pub retires : (s : ServerId) (h : ℕ) → h < stage.script.setting.shards
-      → many (λ n. retires_shard n.event.what s h) deeds
+      → many (λ n. retires_shard n.event.what s h) notes
       ≡ count_of (λ c. wants_retire c s) stage.script.commands
   pub no_other : (s : ServerId) (h : ℕ) → stage.script.setting.shards ≤ h
-      → many (λ n. retires_shard n.event.what s h) deeds ≡ 0
-  pub syncs : many (λ n. is_sync n.event.what) deeds ≡ count_of wants_sync stage.script.commands
+      → many (λ n. retires_shard n.event.what s h) notes ≡ 0
+  pub syncs : many (λ n. is_sync n.event.what) notes ≡ count_of wants_sync stage.script.commands
 
 -- WORKER m + 1: the packets of mux m. It steers a packet, draws its fate, and delivers its copies,
 -- or loses it; the same where a copy is forwarded. So it knows for each sending what became of it.
@@ -207,10 +207,10 @@ abbrev pub is_due_at : ℕ → Hop → ℕ → Note → Bool
 is_due_at k hop due n = sends n.event.what k hop && due == n.event.clock.0 + n.fate.delay
 
 -- an arrival is of a packet that the worker steered, and is due by a sending of the worker
-abbrev pub IsOwed : List Note → Note → What → Type 0
-IsOwed deeds n (Arrive k hop server verdict) =
-    (1 ≤ many (λ y. steers_packet y.event.what k) deeds) × (1 ≤ many (is_due_at k hop n.due) deeds)
-IsOwed deeds n _ = Unit {0}
+abbrev pub HasSending : List Note → Note → What → Type 0
+HasSending notes n (Arrive k hop server verdict) =
+    (1 ≤ many (λ y. steers_packet y.event.what k) notes) × (1 ≤ many (is_due_at k hop n.due) notes)
+HasSending notes n _ = Unit {0}
 
 -- the note is a Lose of the packet and hop at this clock
 abbrev pub is_lost : ℕ → Hop → ℕ → Note → Bool
@@ -244,20 +244,20 @@ IsAnswer R F stage n =
     IsRouted R stage n.event.what × IsDrawn F n
 
 -- what worker m + 1 did, to the end
-pub record IsCarrier (R : Routes) (F : Rules) (stage : Stage) (m : ℕ) (deeds : List Note)
+pub record IsCarrier (R : Routes) (F : Rules) (stage : Stage) (m : ℕ) (notes : List Note)
     : Type 0 where
-  pub kinds : AllByRecursion (λ n. carries m n.event.what ≡ true) deeds
-  pub owed : AllByRecursion (λ n. IsOwed deeds n n.event.what) deeds
-  pub answers : AllByRecursion (IsAnswer R F stage) deeds
+  pub kinds : AllByRecursion (λ n. carries m n.event.what ≡ true) notes
+  pub has_sending : AllByRecursion (λ n. HasSending notes n n.event.what) notes
+  pub answers : AllByRecursion (IsAnswer R F stage) notes
   -- a sending without copies, and no other, has one Lose, at its clock plus one
   pub lost : (k : ℕ) (hop : Hop) (clock : ℕ)
-      → many (is_lost k hop (suc clock)) deeds ≡ many (is_copyless k hop clock) deeds
+      → many (is_lost k hop (suc clock)) notes ≡ many (is_copyless k hop clock) notes
   -- up to each clock at most as many copies arrived as were sent at lower clocks
   pub sent : (k : ℕ) (hop : Hop) (clock : ℕ)
-      → many (has_come k hop clock) deeds ≤ total (copies_below k hop clock) deeds
+      → many (has_come k hop clock) notes ≤ total (copies_below k hop clock) notes
   -- and in the end as many arrived as were sent
   pub arrived : (k : ℕ) (hop : Hop)
-      → many (λ n. arrives n.event.what k hop) deeds ≡ total (copies_in k hop) deeds
+      → many (λ n. arrives n.event.what k hop) notes ≡ total (copies_in k hop) notes
 
 -- TOGETHER: at each Sync all workers have done the phase, and worker 0 learns the greatest clock of
 -- all
@@ -300,18 +300,18 @@ pub record ArePromises (R : Routes) (F : Rules) (stage : Stage) (logs : List Not
   -- the logs have exactly what the workers did
   pub seated : AreSeated stage logs (controller ∷ carriers)
   pub seats : HaveSeats (suc (length carriers)) logs
-  pub homes : HaveHomes stage logs (all_deeds (controller ∷ carriers))
+  pub homes : HaveHomes stage logs (notes_of_all (controller ∷ carriers))
   -- what each mux and each shard determines
   pub given : AtNotes
       (λ rest n. IsGiven stage (plain logs) rest (own_before stage rest n) n n.event.what) logs
   -- what each worker did
   pub controls : IsController stage controller
-  pub carried : (m : ℕ) → m < length carriers → IsCarrier R F stage m (deeds_of carriers m)
+  pub carried : (m : ℕ) → m < length carriers → IsCarrier R F stage m (notes_by carriers m)
   -- each steerable record is steered once, by one of the workers, and no other is
   pub steered : (k : ℕ)
-      → many (λ n. steers_packet n.event.what k) (all_deeds carriers)
+      → many (λ n. steers_packet n.event.what k) (notes_of_all carriers)
       ≡ (if is_some (segment_of stage k) then 1 else 0)
-  pub phases : AllByRecursion (IsInItsPhase stage (plain logs)) (all_deeds carriers)
+  pub phases : AllByRecursion (IsInItsPhase stage (plain logs)) (notes_of_all carriers)
   pub met : AtNotes (λ rest n. IsMet stage (all_notes logs) (events_of rest) n n.event.what) logs
   -- all changes are published
   pub changes : newest (named (plain logs) Controller) ≡ length stage.script.plan.changes
@@ -359,9 +359,9 @@ pub record IsUnderway (stage : Stage) (rest : List Note) (n : Note) : Type 0 whe
   pub kind : is_command n.event.what ≡ true
   pub meant : IsMeant stage rest n n.event.what ⊎ IsAdded rest n n.event.what
 
--- worker m + 1 did this, where `deeds` is all that it did
+-- worker m + 1 did this, where `notes` is all that it did
 abbrev pub IsCarried : ℕ → List Note → Note → Type 0
-IsCarried m deeds n = (carries m n.event.what ≡ true) × IsOwed deeds n n.event.what
+IsCarried m notes n = (carries m n.event.what ≡ true) × HasSending notes n n.event.what
 
 -- what holds of the logs and the workers while the run is in progress. The changes that are
 -- published once a worker has given up may be below Syncs, and below Retires that were judged
@@ -371,10 +371,10 @@ pub record AreUnderway (F : Rules) (stage : Stage) (logs : List NotedLog) (contr
   pub sound : IsSound stage
   pub actors : HaveOwnLogs (plain logs)
   pub seated : AreSeated stage logs (controller ∷ carriers)
-  pub homes : HaveHomes stage logs (all_deeds (controller ∷ carriers))
+  pub homes : HaveHomes stage logs (notes_of_all (controller ∷ carriers))
   pub clocked : AtNotes
       (λ rest n. IsClocked stage (all_notes logs) (own_before stage rest n) n n.event.what) logs
   pub controls : AtEach (IsUnderway stage) controller
   pub carried : (m : ℕ) → m < length carriers
-      → AllByRecursion (IsCarried m (deeds_of carriers m)) (deeds_of carriers m)
-  pub answers : (m : ℕ) → m < length carriers → AllByRecursion (IsDrawn F) (deeds_of carriers m)
+      → AllByRecursion (IsCarried m (notes_by carriers m)) (notes_by carriers m)
+  pub answers : (m : ℕ) → m < length carriers → AllByRecursion (IsDrawn F) (notes_by carriers m)

@@ -8,7 +8,7 @@ use Rattle.bm_pcap.specs.declared.step.Step.TheVariants as step
 use Rattle.bm_pcap.specs.Began.{began, first_time, time_in}
 use Rattle.bm_pcap.specs.Limits.{latest}
 use Rattle.bm_pcap.specs.Reader.{StandsIn, StepGives, found_in}
-use Rattle.bm_pcap.specs.Records.{next_of, first_place, behind_record}
+use Rattle.bm_pcap.specs.Records.{next_of, first_place, after_record}
 
 -- Record 1 is still to come, and its time is this.
 pub record IsToCome (now : Option (List ℕ)) (form : Form) (place : Place) (time : ℕ) : Type 0 where
@@ -42,7 +42,7 @@ first_found now new form place found passed time come gives =
 
 pub began_more : (now new : Option (List ℕ)) (form : Form) (place : Place) (time n : ℕ) (passed : List ℕ) (first : ℕ)
     → BeganAt now form place first → StepGives now new form place (Ok (step.Record time n)) passed
-    → BeganAt new form (behind_record place time n) first
+    → BeganAt new form (after_record place time n) first
 began_more now new form place time n passed first (inl known) gives =
     inl (ap (λ (f : Option ℕ). Some (unwrap_or f time)) known)
 began_more now new form place time n passed first (inr come) gives =

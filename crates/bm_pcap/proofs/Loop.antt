@@ -21,7 +21,7 @@ use Rattle.bm_pcap.specs.Capture.{Captured, after_found, capture, ends, records_
 use Rattle.bm_pcap.specs.Causes.{HasStepCause}
 use Rattle.bm_pcap.specs.Reader.{Reader, Advances, AdvancesFrom, Captures, EndsWith, GivesNext, Keeps, StandsIn}
 use Rattle.bm_pcap.specs.Reader.{StepGives, to_come}
-use Rattle.bm_pcap.specs.Records.{whole, next_of, first_place, moment_at, behind_record}
+use Rattle.bm_pcap.specs.Records.{whole, next_of, first_place, moment_at, after_record}
 
 -- what was read before, and what is still read
 abbrev pub with_front : List Record → List (List ℕ) → Captured → Captured
@@ -166,14 +166,14 @@ pub goes_on : (now new : Option (List ℕ)) (form : Form) (vips : List Vip) (tot
     → StepGives now new form place (Ok (step.Record time (length octets))) octets
     → place.number ≤ most_records → moment ≡ moment_at place time
     → (body, packet) ≡ classified form.link vips octets
-    → SoFar new form vips total (behind_record place time (length octets))
+    → SoFar new form vips total (after_record place time (length octets))
     (records ++ record { moment = moment; body = body } ∷ []) (packets ++ packet ∷ [])
 goes_on now new form vips total place records packets time octets moment body packet so_far gives few is_moment class =
     let t = told now new form vips total place records packets (step.Record time (length octets)) octets so_far gives in
     let found : next_of form place t.0 ≡ Ok (whole time octets) = t.1.1.0 in
     let more : Place → List ℕ → Captured = records_from form vips (most_records + 1 - (place.number + 1)) in
     let rest : List ℕ = drop (16 + length octets) t.0 in
-    let behind : Place = behind_record place time (length octets) in
+    let behind : Place = after_record place time (length octets) in
     let one : with_record (record { moment = moment_at place time; body = (classified form.link vips octets).0 })
     (classified form.link vips octets).1 (more behind rest) ≡ with_record (record { moment = moment; body = body })
     packet (more behind rest) =

@@ -19,7 +19,7 @@ use Rattle.std.specs.Io.KnownBytes.{Keeps, prepend_known}
 use Rattle.bm_pcap.specs.Window.{Ahead}
 use Rattle.bm_pcap.specs.Inside.Parts.{HeadGives, HeadFits, HeadIn, stated}
 use Rattle.bm_pcap.specs.Reader.{StepGives}
-use Rattle.bm_pcap.specs.Records.{IsOpen, whole, cut, end, next_of, behind_header, captured_length, short}
+use Rattle.bm_pcap.specs.Records.{IsOpen, whole, cut, end, next_of, after_header, captured_length, short}
 
 -- the definition at a place, by how many octets are left
 
@@ -45,7 +45,7 @@ next_short form place left some few t =
 
 next_stated : (form : Form) (place : Place) (left : List ℕ) → 16 ≤ length left → place.number ≤ most_records
     → 15 ≤ place.room
-    → next_of form place left ≡ behind_header form place.number place.room (captured_length form (take 16 left)) left
+    → next_of form place left ≡ after_header form place.number place.room (captured_length form (take 16 left)) left
 unfolding next_of
 next_stated form place left long few wide =
     let t : (length left == 0) ≡ false = grind (arith, nat_tests, long) in
@@ -107,11 +107,11 @@ head_cut (Some octets) form place most n ahead is_most is some part fits few =
 
 -- what a header says that isn't read on, and one that is
 refused : (form : Form) (place : Place) (len : ℕ) (left : List ℕ) → longest < len
-    → behind_header form place.number place.room len left ≡ Err (BadLength place.number len)
+    → after_header form place.number place.room len left ≡ Err (BadLength place.number len)
 refused form place len left long = let t : nat_lt longest len ≡ true = grind (arith, nat_tests, long) in rw t
 
 narrow : (form : Form) (place : Place) (len : ℕ) (left : List ℕ) → len ≤ longest → place.room < 16 + len
-    → place.room < length left → behind_header form place.number place.room len left ≡ Err TooLarge
+    → place.room < length left → after_header form place.number place.room len left ≡ Err TooLarge
 narrow form place len left fits less over =
     let t : nat_lt longest len ≡ false = grind (arith, nat_tests, fits) in
     let u : (nat_le (16 + len) (length left) && nat_le (16 + len) place.room) ≡ false =
@@ -119,7 +119,7 @@ narrow form place len left fits less over =
     rw (t, u) (short_large place.room left over)
 
 cut_off : (form : Form) (place : Place) (len : ℕ) (left : List ℕ) → len ≤ longest → length left < 16 + len
-    → length left ≤ place.room → behind_header form place.number place.room len left ≡ Ok cut
+    → length left ≤ place.room → after_header form place.number place.room len left ≡ Ok cut
 cut_off form place len left fits less within =
     let t : nat_lt longest len ≡ false = grind (arith, nat_tests, fits) in
     let u : (nat_le (16 + len) (length left) && nat_le (16 + len) place.room) ≡ false =
@@ -131,7 +131,7 @@ head_told : (form : Form) (place : Place) (octets : List ℕ) → 16 ≤ length 
     → HeadGives (Some octets) form place (stated form place (take 16 octets))
 head_told form place octets long wide few =
     let len : ℕ = captured_length form (take 16 octets) in
-    let at : next_of form place octets ≡ behind_header form place.number place.room len octets =
+    let at : next_of form place octets ≡ after_header form place.number place.room len octets =
     next_stated form place octets long few wide in
     elim (cases_lt longest len) [
       | inl above ↦

@@ -13,7 +13,7 @@ use Rattle.bm_pcap.specs.declared.place.Place.{Place}
 use Rattle.bm_pcap.specs.Limits.{most_records}
 use Rattle.bm_pcap.specs.Header.{form_of}
 use Rattle.bm_pcap.specs.Records.{Found, whole, cut, end, next_of, first_place, moment_at}
-use Rattle.bm_pcap.specs.Records.{behind_record}
+use Rattle.bm_pcap.specs.Records.{after_record}
 
 -- a capture, and the packet of each of its records, or a fault
 abbrev pub Captured : Type 0
@@ -36,7 +36,7 @@ after_found form vips others place left (Ok (whole time octets)) =
     with_record
     (record { moment = moment_at place time; body = (classified form.link vips octets).0 })
     (classified form.link vips octets).1
-    (others (behind_record place time (length octets)) (drop (16 + length octets) left))
+    (others (after_record place time (length octets)) (drop (16 + length octets) left))
 after_found form vips others place left (Ok cut) = ends (Some place.number)
 after_found form vips others place left (Ok end) = ends None
 after_found form vips others place left (Err e) = Err e
@@ -48,10 +48,10 @@ records_from form vips zero place left =
 records_from form vips (suc more) place left =
     after_found form vips (records_from form vips more) place left (next_of form place left)
 
-abbrev pub behind_form : List Vip → List ℕ → Result Form CaptureFault → Captured
-behind_form vips octets (Ok form) = records_from form vips most_records first_place (drop 24 octets)
-behind_form vips octets (Err e) = Err e
+abbrev pub after_form : List Vip → List ℕ → Result Form CaptureFault → Captured
+after_form vips octets (Ok form) = records_from form vips most_records first_place (drop 24 octets)
+after_form vips octets (Err e) = Err e
 
 -- the capture that these octets are, for these services
 unfoldable pub capture : List Vip → List ℕ → Captured
-capture vips octets = behind_form vips octets (form_of octets)
+capture vips octets = after_form vips octets (form_of octets)

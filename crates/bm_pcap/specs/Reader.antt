@@ -18,7 +18,7 @@ use Rattle.bm_pcap.specs.Causes.{HasStepCause}
 use Rattle.bm_pcap.specs.Header.{form_of}
 use Rattle.bm_pcap.specs.Parts.{FormGives, StepFits}
 use Rattle.bm_pcap.specs.Records.{Found, IsOpen, whole, cut, end, next_of, first_place}
-use Rattle.bm_pcap.specs.Records.{behind_record}
+use Rattle.bm_pcap.specs.Records.{after_record}
 use Rattle.bm_pcap.specs.Taken.{FormLeaves}
 
 -- A reader: the source after what was read ahead, what the capture's header says, and the place
@@ -101,7 +101,7 @@ abbrev pub Keeps : {S : Type 0} → Reader S → Reader S → Result Step Captur
 Keeps old new (Ok (step.Record time len)) =
     StepFits old.place (step.Record time len)
     × (new.form ≡ old.form)
-    × (new.place ≡ behind_record old.place time len)
+    × (new.place ≡ after_record old.place time len)
     × (new.ended ≡ None)
 Keeps old new result = (new.form ≡ old.form) × (new.place ≡ old.place) × (new.ended ≡ Some result)
 

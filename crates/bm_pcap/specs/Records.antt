@@ -33,8 +33,8 @@ short room left = if nat_lt room (length left) then Err TooLarge else Ok cut
 
 -- What follows a record's header, which states n octets. A fault of the length is at the header's
 -- last octet, and so comes before an octet that is too many.
-abbrev pub behind_header : Form → ℕ → ℕ → ℕ → List ℕ → Result Found CaptureFault
-behind_header form number room n left =
+abbrev pub after_header : Form → ℕ → ℕ → ℕ → List ℕ → Result Found CaptureFault
+after_header form number room n left =
     if nat_lt longest n then Err (BadLength number n)
     else if nat_le (16 + n) (length left)
     && nat_le (16 + n) room then Ok (whole (time_of form (take 16 left)) (take n (drop 16 left)))
@@ -46,7 +46,7 @@ behind_header form number room n left =
 abbrev pub record_at : Form → ℕ → ℕ → List ℕ → Result Found CaptureFault
 record_at form number room left =
     if nat_lt (length left) 16 || nat_lt room 15 then short room left
-    else behind_header form number room (captured_length form (take 16 left)) left
+    else after_header form number room (captured_length form (take 16 left)) left
 
 -- the same, with the end of the octets, and a fault for a record after the last one that is allowed
 unfoldable pub next_of : Form → Place → List ℕ → Result Found CaptureFault
@@ -65,8 +65,8 @@ abbrev pub moment_at : Place → ℕ → Moment
 moment_at place time = record { 0 = max place.last.0 (time - unwrap_or place.first time) }
 
 -- the place after a record with this captured time and n octets
-abbrev pub behind_record : Place → ℕ → ℕ → Place
-behind_record place time n = record {
+abbrev pub after_record : Place → ℕ → ℕ → Place
+after_record place time n = record {
   number = place.number + 1;
   room = place.room - (16 + n);
   first = Some (unwrap_or place.first time);

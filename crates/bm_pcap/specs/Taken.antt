@@ -9,13 +9,13 @@ use Rattle.bm_pcap.specs.declared.form.Unit.{Unit as Unit_of_time}
 use Rattle.bm_pcap.specs.Header.{magic_of}
 
 -- how much of a capture's header is read: what follows the magic number only if that is known
-abbrev pub behind_magic : Option (Order × Unit_of_time) → ℕ
-behind_magic None = 4
-behind_magic (Some magic) = 24
+abbrev pub after_magic : Option (Order × Unit_of_time) → ℕ
+after_magic None = 4
+after_magic (Some magic) = 24
 
 -- the header of a capture, or its fault
 abbrev pub form_taken : List ℕ → Result Form CaptureFault → ℕ
-form_taken left (Err NotACapture) = behind_magic (magic_of (take 4 left))
+form_taken left (Err NotACapture) = after_magic (magic_of (take 4 left))
 form_taken left other = 24
 
 -- After the header, or its fault, the source has the rest left. A failed read says nothing.

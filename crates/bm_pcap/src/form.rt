@@ -84,7 +84,7 @@ fn magic(octets: &[u8]) -> Option<(Order, Unit)>
 }
 
 /// The rest of the header, after the magic number.
-fn form_behind(order: Order, unit: Unit, header: &[u8]) -> Result<Form, CaptureFault>
+fn form_after_magic(order: Order, unit: Unit, header: &[u8]) -> Result<Form, CaptureFault>
     requires { length header.now ≡ 24 }
     ensures form { result ≡ form_by (Some (order, unit)) header.now }
     ensures link { IfOk result (λ form. IsTrue (is_link form.link)) }
@@ -121,7 +121,7 @@ pub(crate) fn read_form<S: Source>(src: &mut S) -> Result<Form, CaptureFault>
     }
     let mut header = [0u8; 24];
     join(&mut header, &first, &rest);
-    form_behind(order, unit, &header)
+    form_after_magic(order, unit, &header)
 }
 
 /// Writes both parts, one after the other.

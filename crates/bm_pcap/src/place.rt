@@ -1,6 +1,6 @@
 //! A reader's place in a capture.
 ghost use Rattle.std.specs.Prelude.{◌≡◌, ◌≤◌, ◌<◌, ◌+◌, ◌^◌};
-ghost use Rattle.bm_pcap.specs.Records.{first_place, behind_record};
+ghost use Rattle.bm_pcap.specs.Records.{first_place, after_record};
 
 use bm_base::Moment;
 
@@ -46,10 +46,10 @@ impl Place {
     }
 
     /// The place after a record with this captured time and `len` octets.
-    pub(crate) fn behind(&self, time: u64, len: u32) -> Place
+    pub(crate) fn next(&self, time: u64, len: u32) -> Place
         requires few { self.now.number < 2 ^ 31 }
         requires fits { 16 + len ≤ self.now.room }
-        ensures { result ≡ behind_record self.now time len }
+        ensures { result ≡ after_record self.now time len }
     {
         let first = self.first.unwrap_or(time);
         Place {

@@ -70,13 +70,13 @@ impl<S: Source> PcapReader<S> {
         ensures cause { StartsWithCause S.faults src result }
     {
         match read_form(&mut src) {
-            Ok(form) => PcapReader::behind_header(alloc, src, form),
+            Ok(form) => PcapReader::after_header(alloc, src, form),
             Err(e) => Err((src, e)),
         }
     }
 
     /// A reader of a capture whose header was read.
-    fn behind_header(alloc: Global, src: S, form: Form) -> Result<PcapReader<S>, (S, CaptureFault)>
+    fn after_header(alloc: Global, src: S, form: Form) -> Result<PcapReader<S>, (S, CaptureFault)>
         requires { IsTrue (is_link form.link) }
         ensures reader { IfOk result
             (λ reader. (reader.source ≡ src) × (reader.form ≡ form) × IsFresh reader) }
@@ -136,7 +136,7 @@ impl<S: Source> PcapReader<S> {
         }
         let result = read_step(&mut self.window, &self.form, &self.place);
         match result {
-            Ok(Step::Record { time, len }) => self.place = self.place.behind(time, len),
+            Ok(Step::Record { time, len }) => self.place = self.place.next(time, len),
             _ => self.ended = Some(result),
         }
         result

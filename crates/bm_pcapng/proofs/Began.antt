@@ -13,7 +13,7 @@ use Rattle.bm_pcapng.specs.Began.{began, first_of, first_time, time_found, time_
 use Rattle.bm_pcapng.specs.Blocks.{next_of}
 use Rattle.bm_pcapng.specs.Capture.{first_order}
 use Rattle.bm_pcapng.specs.Parts.{BlockGives}
-use Rattle.bm_pcapng.specs.Places.{first_behind, first_place, interfaces_behind, order_behind, place_behind}
+use Rattle.bm_pcapng.specs.Places.{first_after, first_place, interfaces_after, order_after, place_after}
 use Rattle.bm_pcapng.specs.Reader.{StandsIn}
 use Rattle.bm_pcapng.proofs.Loop.{most_left}
 
@@ -58,20 +58,20 @@ first_over : (first one later : Option ℕ) → first_of (first_of first one) la
 first_over None one later = refl
 first_over (Some time) one later = refl
 
-behind_first : (first one : Option ℕ) → first_behind first one ≡ first_of first one
+behind_first : (first one : Option ℕ) → first_after first one ≡ first_of first one
 behind_first None None = refl
 behind_first None (Some time) = refl
 behind_first (Some first) None = refl
 behind_first (Some first) (Some time) = refl
 
 first_passed : (place : Place) (n : ℕ) (content : Content)
-    → (place_behind place n content).first ≡ first_of place.first (time_in content)
+    → (place_after place n content).first ≡ first_of place.first (time_in content)
 first_passed place n (Holds packet) = behind_first place.first packet.time
 first_passed place n (Begins order) = sym (first_none place.first)
 first_passed place n (Describes interface) = sym (first_none place.first)
 first_passed place n Nothing = sym (first_none place.first)
 
-block_passed : (place : Place) (n : ℕ) (content : Content) → (place_behind place n content).block ≡ place.block + 1
+block_passed : (place : Place) (n : ℕ) (content : Content) → (place_after place n content).block ≡ place.block + 1
 block_passed place n (Holds packet) = refl
 block_passed place n (Begins order) = refl
 block_passed place n (Describes interface) = refl
@@ -80,13 +80,13 @@ block_passed place n Nothing = refl
 pub began_more : (now new : Option (List ℕ)) (order : Order) (interfaces : List Interface) (place : Place) (n : ℕ)
     (content : Content) (passed : List ℕ) (time : Option ℕ) → BeganAt now order interfaces place time
     → BlockGives now new order interfaces place (Ok (Block n content)) passed → place.block ≤ most_octets
-    → BeganAt new (order_behind order content) (interfaces_behind interfaces content) (place_behind place n content)
+    → BeganAt new (order_after order content) (interfaces_after interfaces content) (place_after place n content)
     time
 began_more now new order interfaces place n content passed time begins gives few =
     let t = subst (λ m. BlockGives m new order interfaces place (Ok (Block n content)) passed) begins.1.0 gives in
-    let behind : Place = place_behind place n content in
+    let behind : Place = place_after place n content in
     let others : ℕ → Option ℕ =
-    λ most. time_from most (order_behind order content) (interfaces_behind interfaces content) behind
+    λ most. time_from most (order_after order content) (interfaces_after interfaces content) behind
     (drop n begins.0) in
     let found : time_from (most_left place) order interfaces place begins.0
     ≡ first_of (time_in content) (others (most_octets + 1 - (place.block + 1))) =

@@ -21,7 +21,7 @@ use Rattle.bm_pcapng.specs.declared.step.Head.{Head}
 use Rattle.bm_pcapng.specs.declared.step.Head.TheVariants as head
 use Rattle.bm_pcapng.specs.declared.step.Step.{Step}
 use Rattle.bm_pcapng.specs.declared.step.Step.TheVariants as step
-use Rattle.bm_pcapng.specs.Blocks.{behind_head, head_size, is_length, is_packet, kind_in, lacks, least_length}
+use Rattle.bm_pcapng.specs.Blocks.{after_head, head_size, is_length, is_packet, kind_in, lacks, least_length}
 use Rattle.bm_pcapng.specs.Blocks.{next_of, order_of, ordered, short}
 use Rattle.bm_pcapng.specs.Parts.{IsOpen}
 use Rattle.bm_pcapng.specs.Inside.Parts.{Begins, HeadGives, HeadIn, HeadSays, stated, stated_in}
@@ -111,13 +111,13 @@ says kind (Some own) interfaces place left =
     elim (is_length kind n) as (λ v. HeadSays
     (if not v then Err (BadBlock place.block)
     else if is_packet kind && nat_lt most_records place.number then Err TooManyPackets
-    else behind_head kind own interfaces place n left) interfaces place left
+    else after_head kind own interfaces place n left) interfaces place left
     (if not v then Err (BadBlock place.block)
     else if is_packet kind && nat_lt most_records place.number then Err TooManyPackets
     else Ok (head.States kind own n))) [
       | true ↦
           elim (is_packet kind && nat_lt most_records place.number) as (λ v. HeadSays
-          (if v then Err TooManyPackets else behind_head kind own interfaces place n left) interfaces place left
+          (if v then Err TooManyPackets else after_head kind own interfaces place n left) interfaces place left
           (if v then Err TooManyPackets else Ok (head.States kind own n))) [ true ↦ refl | false ↦ refl ]
       | false ↦ refl
     ]

@@ -25,9 +25,9 @@ use Rattle.bm_pcap.specs.Causes.{HasStepCause}
 use Rattle.bm_pcap.specs.Reader.{Captures}
 use Rattle.bm_pcapng.specs.Parts.{BlockGives}
 use Rattle.bm_pcapng.specs.Inside.Parts.{own_octets}
-use Rattle.bm_pcapng.specs.Places.{first_place, interfaces_behind, moment_at, order_behind}
+use Rattle.bm_pcapng.specs.Places.{first_place, interfaces_after, moment_at, order_after}
 use Rattle.bm_pcapng.specs.Inside.Places.{packet_in}
-use Rattle.bm_pcapng.specs.Places.{place_behind}
+use Rattle.bm_pcapng.specs.Places.{place_after}
 use Rattle.bm_pcapng.specs.Reader.{Reader, Advances, AdvancesFrom, EndsWith, Keeps, StandsIn}
 use Rattle.bm_pcapng.specs.Reader.{IsPassedOver}
 use Rattle.bm_pcapng.specs.Reader.{octets_in, to_come}
@@ -174,7 +174,7 @@ pub goes_on : (now new : Option (List ℕ)) (order : Order) (interfaces : List I
     → BlockGives now new order interfaces place (Ok (Block n (Holds packet))) block
     → place.block ≤ most_octets → packet.at + packet.len ≤ n → octets ≡ octets_in packet block
     → moment ≡ moment_at place packet.time → (body, part) ≡ classified_by packet.link vips octets
-    → SoFar new order interfaces vips total (place_behind place n (Holds packet))
+    → SoFar new order interfaces vips total (place_after place n (Holds packet))
     (records ++ record { moment = moment; body = body } ∷ []) (packets ++ part ∷ [])
 goes_on now new order interfaces vips total place records packets n packet octets block moment body part so_far gives
     few within is is_moment class =
@@ -183,7 +183,7 @@ goes_on now new order interfaces vips total place records packets n packet octet
     let own : octets ≡ packet_octets packet t.0 =
     is ∙ ap (octets_in packet) t.1.1.1 ∙ in_block packet n t.0 within in
     let one : Record × List ℕ → Captured → Captured = λ (p : Record × List ℕ) (c : Captured). with_record p.0 p.1 c in
-    let behind : Place = place_behind place n (Holds packet) in
+    let behind : Place = place_after place n (Holds packet) in
     let rest : Captured = records_from vips (most_left behind) order interfaces behind (drop n t.0) in
     let same : (body, part) ≡ classified_by packet.link vips (packet_octets packet t.0) =
     class ∙ ap (classified_by packet.link vips) own in
@@ -211,8 +211,8 @@ unread : (vips : List Vip) (order : Order) (interfaces : List Interface) (place 
     (after_found vips (records_from vips (most_octets + 1 - (place.block + 1))) order interfaces place left
     (Ok (Block n content))) ≡ total → IsPassedOver content
     → with_front records packets
-    (records_from vips (most_left (place_behind place n content)) (order_behind order content)
-    (interfaces_behind interfaces content) (place_behind place n content) (drop n left)) ≡ total
+    (records_from vips (most_left (place_after place n content)) (order_after order content)
+    (interfaces_after interfaces content) (place_after place n content) (drop n left)) ≡ total
 unread vips order interfaces place left records packets total n (Begins new) h over = h
 unread vips order interfaces place left records packets total n (Describes interface) h over = h
 unread vips order interfaces place left records packets total n Nothing h over = h
@@ -223,8 +223,8 @@ pub passes_over : (now new : Option (List ℕ)) (order : Order) (interfaces : Li
     (passed : List ℕ) → SoFar now order interfaces vips total place records packets
     → BlockGives now new order interfaces place (Ok (Block n content)) passed → IsPassedOver content
     → place.block ≤ most_octets
-    → SoFar new (order_behind order content) (interfaces_behind interfaces content) vips total
-    (place_behind place n content) records packets
+    → SoFar new (order_after order content) (interfaces_after interfaces content) vips total
+    (place_after place n content) records packets
 passes_over now new order interfaces vips total place records packets n content passed so_far gives over few =
     let t = told now new order interfaces vips total place records packets (Ok (Block n content)) passed so_far gives in
     let more : Order → List Interface → Place → List ℕ → Captured =
@@ -296,14 +296,14 @@ without_packet Nothing is = tt
 
 -- the place after a block
 pub place_of : (place : Place) (n : ℕ) (content : Content)
-    → ((place_behind place n content).block ≡ place.block + 1) × ((place_behind place n content).room ≡ place.room - n)
+    → ((place_after place n content).block ≡ place.block + 1) × ((place_after place n content).room ≡ place.room - n)
 place_of place n (Holds packet) = (refl, refl)
 place_of place n (Begins order) = (refl, refl)
 place_of place n (Describes interface) = (refl, refl)
 place_of place n Nothing = (refl, refl)
 
 pub place_passed : (place : Place) (n : ℕ) (content : Content) → IsPassedOver content
-    → ((place_behind place n content).number ≡ place.number) × ((place_behind place n content).last ≡ place.last)
+    → ((place_after place n content).number ≡ place.number) × ((place_after place n content).last ≡ place.last)
 place_passed place n (Holds packet) over = absurd over
 place_passed place n (Begins order) over = (refl, refl)
 place_passed place n (Describes interface) over = (refl, refl)

@@ -18,7 +18,7 @@ use Rattle.bm_pcapng.specs.declared.step.Head.{Head}
 use Rattle.bm_pcapng.specs.declared.step.Head.TheVariants as head
 use Rattle.bm_pcapng.specs.declared.step.Step.{Step}
 use Rattle.bm_pcapng.specs.declared.step.Step.TheVariants as step
-use Rattle.bm_pcapng.specs.Blocks.{behind_head, framed, next_of, short}
+use Rattle.bm_pcapng.specs.Blocks.{after_head, framed, next_of, short}
 use Rattle.bm_pcapng.specs.Parts.{BlockGives, IsOpen}
 use Rattle.bm_pcapng.specs.Inside.Parts.{HeadGives, HeadIn, StepGives, last_of, own_octets}
 use Rattle.bm_pcapng.proofs.Heads.{known, short_cut, short_large}
@@ -26,20 +26,20 @@ use Rattle.bm_pcapng.proofs.Heads.{known, short_cut, short_large}
 -- a block that isn't there as a whole, or is longer than it may be
 part : (kind : Kind) (own : Order) (interfaces : List Interface) (place : Place) (n : ℕ) (left : List ℕ)
     → min (length left) place.room < n
-    → behind_head kind own interfaces place n left ≡ short place.room left
+    → after_head kind own interfaces place n left ≡ short place.room left
 part kind own interfaces place n left less =
     let t : (nat_le n (length left) && nat_le n place.room) ≡ false = grind (arith, nat_tests, less) in rw t
 
 whole : (kind : Kind) (own : Order) (interfaces : List Interface) (place : Place) (n : ℕ) (left : List ℕ)
     → n ≤ length left → n ≤ place.room
-    → behind_head kind own interfaces place n left ≡ framed kind own interfaces place n (take n left)
+    → after_head kind own interfaces place n left ≡ framed kind own interfaces place n (take n left)
 whole kind own interfaces place n left long within =
     let t : (nat_le n (length left) && nat_le n place.room) ≡ true = grind (arith, nat_tests, long, within) in rw t
 
 -- what the head gave, where the source's octets are known
 head_gave : (octets : List ℕ) (order : Order) (interfaces : List Interface) (place : Place) (said : Head) (kind : Kind)
     (own : Order) (n : ℕ) → said ≡ head.States kind own n → HeadGives (Some octets) order interfaces place (Ok said)
-    → next_of order interfaces place octets ≡ behind_head kind own interfaces place n octets
+    → next_of order interfaces place octets ≡ after_head kind own interfaces place n octets
 head_gave octets order interfaces place said kind own n is gives =
     let P : Head → Type 0 = λ h. HeadGives (Some octets) order interfaces place (Ok h) in subst P is gives
 
@@ -66,7 +66,7 @@ gives_of octets order interfaces place (Err fault.Memory) is = is
 body_told : (octets : List ℕ) (mid : Option (List ℕ)) (order : Order) (interfaces : List Interface) (place : Place)
     (said : Head) (kind : Kind) (own : Order) (n most m : ℕ) (ahead : List ℕ) → said ≡ head.States kind own n
     → HeadGives (Some octets) order interfaces place (Ok said) → Keeps (Some octets) mid → Ahead mid most m ahead
-    → (next_of order interfaces place octets ≡ behind_head kind own interfaces place n octets)
+    → (next_of order interfaces place octets ≡ after_head kind own interfaces place n octets)
     × (m ≡ min most (length octets)) × (take m ahead ≡ take m octets)
 body_told octets mid order interfaces place said kind own n most m ahead is gives keeps there =
     let a = ahead_told octets mid most m ahead keeps there in

@@ -12,7 +12,7 @@ use Rattle.bm_pcapng.specs.declared.step.Step.{Step}
 use Rattle.bm_pcapng.specs.declared.step.Step.TheVariants.{Block, Cut, End}
 use Rattle.bm_pcapng.specs.Blocks.{next_of}
 use Rattle.bm_pcapng.specs.Capture.{first_order}
-use Rattle.bm_pcapng.specs.Places.{first_place, interfaces_behind, order_behind, place_behind}
+use Rattle.bm_pcapng.specs.Places.{first_place, interfaces_after, order_after, place_after}
 
 -- the time of a packet that has one
 abbrev pub time_in : Content → Option ℕ
@@ -31,8 +31,8 @@ abbrev pub time_found : (Order → List Interface → Place → List ℕ → Opt
     → List Interface → Place → List ℕ → Result Step CaptureFault → Option ℕ
 time_found others order interfaces place left (Ok (Block n content)) =
     first_of (time_in content)
-    (others (order_behind order content) (interfaces_behind interfaces content)
-    (place_behind place n content) (drop n left))
+    (others (order_after order content) (interfaces_after interfaces content)
+    (place_after place n content) (drop n left))
 time_found others order interfaces place left (Ok Cut) = None
 time_found others order interfaces place left (Ok End) = None
 time_found others order interfaces place left (Err e) = None

@@ -86,8 +86,8 @@ framed kind order interfaces place n block =
     else Err (BadBlock place.block)
 
 -- a block that may have the n octets that it states
-abbrev pub behind_head : Kind → Order → List Interface → Place → ℕ → List ℕ → Result Step CaptureFault
-behind_head kind order interfaces place n left =
+abbrev pub after_head : Kind → Order → List Interface → Place → ℕ → List ℕ → Result Step CaptureFault
+after_head kind order interfaces place n left =
     if nat_le n (length left) && nat_le n place.room
     then framed kind order interfaces place n (take n left)
     else short place.room left
@@ -97,7 +97,7 @@ abbrev pub sized : Kind → Order → List Interface → Place → ℕ → List 
 sized kind order interfaces place n left =
     if not (is_length kind n) then Err (BadBlock place.block)
     else if is_packet kind && nat_lt most_records place.number then Err TooManyPackets
-    else behind_head kind order interfaces place n left
+    else after_head kind order interfaces place n left
 
 abbrev pub ordered : Kind → Option Order → List Interface → Place → List ℕ → Result Step CaptureFault
 ordered kind None interfaces place left = Err (BadBlock place.block)

@@ -20,8 +20,8 @@ use Rattle.bm_pcapng.specs.declared.place.Place.{Place}
 use Rattle.bm_pcapng.specs.declared.step.Step.{Step}
 use Rattle.bm_pcapng.specs.declared.step.Step.TheVariants.{Block, Cut, End}
 use Rattle.bm_pcapng.specs.Blocks.{is_section, magic_of, next_of}
-use Rattle.bm_pcapng.specs.Places.{first_place, interfaces_behind, moment_at, order_behind}
-use Rattle.bm_pcapng.specs.Places.{place_behind}
+use Rattle.bm_pcapng.specs.Places.{first_place, interfaces_after, moment_at, order_after}
+use Rattle.bm_pcapng.specs.Places.{place_after}
 
 -- A record of an unsupported link type is not IPv4.
 abbrev pub classified_by : ℕ → List Vip → List ℕ → Body × List ℕ
@@ -44,8 +44,8 @@ abbrev pub after_found : List Vip → (Order → List Interface → Place → Li
     → List Interface → Place → List ℕ → Result Step CaptureFault → Captured
 after_found vips others order interfaces place left (Ok (Block n content)) =
     with_block vips place left content
-    (others (order_behind order content) (interfaces_behind interfaces content)
-    (place_behind place n content) (drop n left))
+    (others (order_after order content) (interfaces_after interfaces content)
+    (place_after place n content) (drop n left))
 after_found vips others order interfaces place left (Ok Cut) = ends (Some place.number)
 after_found vips others order interfaces place left (Ok End) = ends None
 after_found vips others order interfaces place left (Err e) = Err e

@@ -10,16 +10,16 @@ use Rattle.bm_pcapng.specs.declared.interface.Interface.{Interface}
 use Rattle.bm_pcapng.specs.declared.place.Place.{Place}
 
 -- the order of the numbers after a block
-abbrev pub order_behind : Order → Content → Order
-order_behind order (Begins new) = new
-order_behind order other = order
+abbrev pub order_after : Order → Content → Order
+order_after order (Begins new) = new
+order_after order other = order
 
 -- the interfaces after a block: a new section forgets those before it
-abbrev pub interfaces_behind : List Interface → Content → List Interface
-interfaces_behind interfaces (Begins order) = []
-interfaces_behind interfaces (Describes interface) = interfaces ++ interface ∷ []
-interfaces_behind interfaces (Holds packet) = interfaces
-interfaces_behind interfaces Nothing = interfaces
+abbrev pub interfaces_after : List Interface → Content → List Interface
+interfaces_after interfaces (Begins order) = []
+interfaces_after interfaces (Describes interface) = interfaces ++ interface ∷ []
+interfaces_after interfaces (Holds packet) = interfaces
+interfaces_after interfaces Nothing = interfaces
 
 -- the front of a capture
 abbrev pub first_place : Place
@@ -39,20 +39,20 @@ moment_at place None = place.last
 moment_at place (Some time) =
     record { 0 = max place.last.0 (min latest (time - unwrap_or place.first time)) }
 
-abbrev pub first_behind : Option ℕ → Option ℕ → Option ℕ
-first_behind first None = first
-first_behind first (Some time) = Some (unwrap_or first time)
+abbrev pub first_after : Option ℕ → Option ℕ → Option ℕ
+first_after first None = first
+first_after first (Some time) = Some (unwrap_or first time)
 
 -- the place after a block of n octets
-abbrev pub place_behind : Place → ℕ → Content → Place
-place_behind place n (Holds packet) = record {
+abbrev pub place_after : Place → ℕ → Content → Place
+place_after place n (Holds packet) = record {
   block = place.block + 1;
   number = place.number + 1;
   room = place.room - n;
-  first = first_behind place.first packet.time;
+  first = first_after place.first packet.time;
   last = moment_at place packet.time;
 }
-place_behind place n other = record {
+place_after place n other = record {
   block = place.block + 1;
   number = place.number;
   room = place.room - n;

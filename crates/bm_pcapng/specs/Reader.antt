@@ -23,7 +23,7 @@ use Rattle.bm_pcap.specs.Causes.{HasStepCause}
 use Rattle.bm_pcap.specs.Reader.{Captures}
 use Rattle.bm_pcapng.specs.Limits.{longest_block}
 use Rattle.bm_pcapng.specs.Parts.{BlockGives, FailsOpen, StepFits}
-use Rattle.bm_pcapng.specs.Places.{first_place, interfaces_behind, order_behind, place_behind}
+use Rattle.bm_pcapng.specs.Places.{first_place, interfaces_after, order_after, place_after}
 
 -- A reader: the source after what was read ahead, the order of its section's numbers and its
 -- interfaces, and the place after what was taken. `held` is the octets that were read ahead, and
@@ -99,9 +99,9 @@ StartsWithCause {S} faults old (Err refused) =
 abbrev pub Keeps : {S : Type 0} → Reader S → Reader S → Result Step CaptureFault → Type 0
 Keeps old new (Ok (Block n content)) =
     StepFits old.interfaces old.place (Block n content)
-    × (new.order ≡ order_behind old.order content)
-    × (new.interfaces ≡ interfaces_behind old.interfaces content)
-    × (new.place ≡ place_behind old.place n content)
+    × (new.order ≡ order_after old.order content)
+    × (new.interfaces ≡ interfaces_after old.interfaces content)
+    × (new.place ≡ place_after old.place n content)
     × (new.ended ≡ None)
 Keeps old new result =
     (new.order ≡ old.order)

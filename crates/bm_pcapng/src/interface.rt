@@ -39,7 +39,7 @@ fn resolution_in(order: Order, options: &[u8]) -> Resolution
         if is_resolution(order, rest) {
             return Resolution::of(rest[4]);
         }
-        rest = behind(rest, order.read_u16(rest, 2));
+        rest = after_option(rest, order.read_u16(rest, 2));
     }
     Resolution::Decimal(6)
 }
@@ -62,7 +62,7 @@ fn is_resolution(order: Order, octets: &[u8]) -> bool
 }
 
 /// The octets after an option whose value has this length.
-fn behind(octets: &[u8], len: u16) -> &[u8]
+fn after_option(octets: &[u8], len: u16) -> &[u8]
     ensures { result.now ≡ drop (4 + padded len) octets.now }
 {
     let size = 4 + (usize::from(len) + 3) / 4 * 4;

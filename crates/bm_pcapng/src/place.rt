@@ -1,6 +1,6 @@
 //! A reader's place in a capture.
 ghost use Rattle.std.specs.Prelude.{◌≡◌, ◌≤◌, ◌<◌, ◌+◌, ◌^◌};
-ghost use Rattle.bm_pcapng.specs.Places.{first_place, moment_at, place_behind};
+ghost use Rattle.bm_pcapng.specs.Places.{first_place, moment_at, place_after};
 
 use crate::Content;
 use bm_base::Moment;
@@ -56,13 +56,13 @@ impl Place {
     }
 
     /// The place after a block of `size` octets.
-    pub(crate) fn behind(&self, size: u32, content: &Content) -> Place
+    pub(crate) fn next(&self, size: u32, content: &Content) -> Place
         requires blocks { self.now.block < 2 ^ 31 }
         requires few { self.now.number < 2 ^ 31 }
         requires fits { size ≤ self.now.room }
-        ensures { result ≡ place_behind self.now size content.now }
+        ensures { result ≡ place_after self.now size content.now }
     {
-        let mut behind = Place {
+        let mut next = Place {
             block: self.block + 1,
             number: self.number,
             room: self.room - size,
@@ -70,13 +70,13 @@ impl Place {
             last: self.last,
         };
         if let Content::Holds(packet) = content {
-            behind.number = self.number + 1;
-            behind.last = self.moment(packet.time);
-            behind.first = match packet.time {
+            next.number = self.number + 1;
+            next.last = self.moment(packet.time);
+            next.first = match packet.time {
                 Some(time) => Some(self.first.unwrap_or(time)),
                 None => self.first,
             };
         }
-        behind
+        next
     }
 }

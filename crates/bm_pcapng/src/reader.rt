@@ -139,7 +139,7 @@ impl<S: Source> NgReader<S> {
         match result {
             Ok(Step::Block(size, content)) => {
                 self.section.pass(&content);
-                self.place = self.place.behind(size, &content);
+                self.place = self.place.next(size, &content);
             }
             _ => self.ended = Some(result),
         }

@@ -15,7 +15,7 @@ pub(crate) struct Section {
 }
 
 impl Section {
-    ghost use Rattle.bm_pcapng.specs.Places.{interfaces_behind, order_behind};
+    ghost use Rattle.bm_pcapng.specs.Places.{interfaces_after, order_after};
     ghost use Rattle.bm_pcapng.specs.Parts.{IsRoomFor};
 
     /// A section without interfaces.
@@ -38,9 +38,9 @@ impl Section {
     /// Moves past a block. Takes no memory.
     pub(crate) fn pass(&mut self, content: &Content)
         requires { IsRoomFor self.old.interfaces.items content.now }
-        ensures order { self.new.order ≡ order_behind self.old.order content.now }
+        ensures order { self.new.order ≡ order_after self.old.order content.now }
         ensures interfaces { self.new.interfaces.items
-            ≡ interfaces_behind self.old.interfaces.items content.now }
+            ≡ interfaces_after self.old.interfaces.items content.now }
     {
         match content {
             Content::Begins(order) => {

@@ -150,7 +150,7 @@ fn check_late(rt: &impl Abort, alloc: Global, h: &History, text: &str) -> Result
 
 /// The bucket moves at 500 nanoseconds, and the timeout is 240 seconds.
 #[test]
-fn a_moved_connection_breaks_behind_the_timeout(rt: HostRuntime) -> Result<(), Fail> {
+fn a_moved_connection_breaks_after_the_timeout(rt: HostRuntime) -> Result<(), Fail> {
     let alloc = rt.alloc();
     let (capture, packets) = capture(alloc, GAP, &[OPENING, DATA, DATA, DATA])?;
     let stage = moved_stage(alloc, capture)?;

@@ -176,7 +176,7 @@ fn many_events(alloc: Global, count: u16) -> Result<Vec<Event>, Memory> {
 }
 
 #[test]
-fn packets_behind_those_let_go_come(rt: HostRuntime) -> Result<(), Fail> {
+fn packets_after_freed_ones_come(rt: HostRuntime) -> Result<(), Fail> {
     let alloc = rt.alloc();
     let count = 16_400;
     let (capture, packets) = capture(alloc, GAP, &many_rows(alloc, count)?)?;

@@ -50,6 +50,7 @@ taken r s =
     else Outside)
     else if comes_in_turn r s then Advance else Ahead
 
+-- the receiver after it took a segment so
 unfoldable pub after_taken : Taken → Receiver → Segment → Receiver
 after_taken Advance r s =
     record r { next = (s.seq + s.len) % 2 ^ 32; finished = r.finished || has_flag FIN s }

@@ -5,6 +5,7 @@ use Rattle.bm_table.specs.declared.setting.FaultRow.{FaultRow}
 use Rattle.bm_table.specs.declared.setting.RouteKind.TheVariants.{Port}
 use Rattle.bm_table.specs.declared.setting.Setting.{Setting}
 
+-- the number is from low to high
 abbrev pub IsWithin : ℕ → ℕ → ℕ → Type 0
 IsWithin low high n = (low ≤ n) × (n ≤ high)
 

@@ -12,6 +12,7 @@ use Rattle.bm_table.specs.declared.plan.Kind.TheVariants.{Add, Drain}
 use Rattle.bm_table.specs.declared.plan.Retirement.{Retirement}
 use Rattle.bm_table.specs.declared.plan.Retirement.TheVariants.{Done, NotDrained, TooEarly}
 
+-- the servers are the same
 abbrev pub same_server : ServerId → ServerId → Bool
 same_server a b = a.0 == b.0
 
@@ -29,6 +30,7 @@ brings (Some c) b = target c.moves b
 abbrev pub next_change : Planned → ℕ → Option Change
 next_change plan v = slice_get plan.changes v
 
+-- the change after version v moves the bucket
 abbrev pub moves_next : Planned → ℕ → ℕ → Bool
 moves_next plan v b = is_some (brings (next_change plan v) b)
 
@@ -66,10 +68,12 @@ moves plan b w zero = 0
 moves plan b w (suc v) =
     if nat_le w v && moves_next plan v b then suc (moves plan b w v) else moves plan b w v
 
+-- a change of this kind drains the server
 abbrev pub is_drain : Kind → ServerId → Bool
 is_drain (Drain t) s = same_server t s
 is_drain _ s = false
 
+-- there is a change, and it drains the server
 abbrev pub drains : Option Change → ServerId → Bool
 drains None s = false
 drains (Some c) s = is_drain c.kind s
@@ -88,7 +92,8 @@ leaves_late plan timeout (suc n) s at b =
     && nat_le at (change_moment (next_change plan n) + timeout))
     || leaves_late plan timeout n s at b
 
--- the answer to a request to retire the server at this moment, when n changes are published
+-- the answer to a request to retire the server at this moment, when n changes are published.
+-- `TooEarly` names the lowest bucket that left the server too late.
 abbrev pub IsRetirement : Planned → ℕ → ℕ → ServerId → ℕ → Retirement → Type 0
 IsRetirement plan timeout n s at NotDrained = is_drained plan n s ≡ false
 IsRetirement plan timeout n s at (TooEarly b) =
@@ -98,14 +103,17 @@ IsRetirement plan timeout n s at (TooEarly b) =
 IsRetirement plan timeout n s at Done =
     (is_drained plan n s ≡ true) × ((b : ℕ) → leaves_late plan timeout n s at b ≡ false)
 
+-- a change of this kind adds the server
 abbrev pub is_add : Kind → ServerId → Bool
 is_add (Add t) s = same_server t s
 is_add _ s = false
 
+-- there is a change, and it adds the server
 abbrev pub adds : Option Change → ServerId → Bool
 adds None s = false
 adds (Some c) s = is_add c.kind s
 
+-- the server is one of these
 abbrev pub is_among : List ServerId → ServerId → Bool
 is_among [] s = false
 is_among (t ∷ servers) s = same_server t s || is_among servers s

@@ -30,11 +30,11 @@ abbrev pub ReadsAs : List ℕ → Segment → Type 0
 ReadsAs packet s = segment_in packet ≡ Ok (s, packet)
 
 -- the data octets, where there is a header
-abbrev pub data_behind : Result Packet Ipv4Fault → List ℕ
-data_behind (Err e) = []
-data_behind (Ok p) = data_of p
+abbrev pub data_after : Result Packet Ipv4Fault → List ℕ
+data_after (Err e) = []
+data_after (Ok p) = data_of p
 
 -- the data octets of the TCP segment in the packet at the front of these octets, as far as they are
 -- there
 abbrev pub data_in : List ℕ → List ℕ
-data_in octets = data_behind (ipv4_of octets)
+data_in octets = data_after (ipv4_of octets)

@@ -8,7 +8,7 @@ ghost use Rattle.bm_core.specs.Stages.{IsSound};
 ghost use Rattle.bm_link.specs.Fits.{ArePackets, IsPacketOf};
 ghost use Rattle.bm_server.specs.Seats.{IsNewSeat};
 ghost use Rattle.bm_table.specs.Settings.{plain_setting};
-ghost use Rattle.bm_worker.specs.WorkerNotes.{Suits};
+ghost use Rattle.bm_worker.specs.WorkerNotes.{AreServersOf};
 ghost use Rattle.bm_worker.specs.Phases.{CanWork};
 
 use crate::packets::syn;
@@ -154,7 +154,7 @@ fn worker(
         mux,
         caller: Caller::new(number + 1, seats),
         steps: 0,
-        told: Some(poster.tell()),
+        posted: Some(poster.tell()),
         stop: None,
     })
 }
@@ -198,7 +198,7 @@ fn carry<W: Threads + Wait + Sync>(
 )
     requires sound { IsSound stage.now }
     requires packets { ArePackets stage.now.capture.records octets.now }
-    requires suits { Suits stage.now servers.now }
+    requires servers_are { AreServersOf stage.now servers.now }
     requires count { length stage.now.capture.records ≡ 2 }
     requires first { is_some (steerable (slice_get stage.now.capture.records 0)) ≡ true }
     requires second { is_some (steerable (slice_get stage.now.capture.records 1)) ≡ true }
@@ -272,7 +272,7 @@ fn each_mux_carries_its_packet(rt: HostRuntime) -> Result<(), Fail> {
     let mut first = u64::MAX;
     let mut last = 0;
     for worker in workers.iter() {
-        assert!(rt; worker.stop.is_none() && worker.told.is_none());
+        assert!(rt; worker.stop.is_none() && worker.posted.is_none());
         assert_eq!(rt; worker.steps, 1);
         let clock = worker.caller.latest().0;
         first = first.min(clock);

@@ -16,7 +16,7 @@ use Rattle.bm_trace.specs.declared.sums.Totals.{Totals}
 use Rattle.bm_trace.specs.Inside.Ends.{words_of_ends, words_of_record}
 use Rattle.bm_trace.specs.Inside.EndTables.{with_later}
 use Rattle.bm_io.specs.Written.{WritesPart}
-use Rattle.bm_trace.specs.Inside.Parts.{HandsLess, HandsOn, HandsPart, all_lines, last_lines, lines_behind}
+use Rattle.bm_trace.specs.Inside.Parts.{HandsLess, HandsOn, HandsPart, all_lines, last_lines, lines_after}
 use Rattle.bm_trace.specs.Report.{end_words, event_line, event_lines, ends_of, note_line, record_lines}
 use Rattle.bm_trace.specs.Report.{record_words, text, totals_line}
 use Rattle.bm_trace.specs.Totals.{totals_of}
@@ -246,11 +246,11 @@ some_last h =
     let five : length (codes "total") ≡ 5 = refl
     in more_before (note_line h.stage.capture.cut) _ (more_behind (codes "total") _ (omega (arith, five)))
 
-pub some_behind : (h : History) → 0 < length (lines_behind h)
+pub some_behind : (h : History) → 0 < length (lines_after h)
 some_behind h = more_before (record_lines (reverse h.events) 1 h.stage.capture.records) _ (some_last h)
 
 -- the report in two parts, the lines of the events and what comes after them
-pub behind_events : (h : History) → event_lines h.stage (reverse h.events) ++ lines_behind h ≡ text h
+pub behind_events : (h : History) → event_lines h.stage (reverse h.events) ++ lines_after h ≡ text h
 unfolding text
 behind_events h =
     let events = event_lines h.stage (reverse h.events)

@@ -251,8 +251,8 @@ round_of h from to sweeper dealt pieces spare is within all some same = record {
 }
 
 -- a round goes on
-pub place_behind : (n from k : ℕ) → from < n → 0 < k → from < min (from + k * 2 ^ 14) n
-place_behind n from k before some = omega (arith, before, some)
+pub place_after : (n from k : ℕ) → from < n → 0 < k → from < min (from + k * 2 ^ 14) n
+place_after n from k before some = omega (arith, before, some)
 
 pub round_over : (h : History) (round : Round) → IsRound h round → length h.events ≤ round.from
     → HasSwept h (length h.events) round.sweeper

@@ -7,7 +7,7 @@ ghost use Rattle.bm_core.specs.Runs.{IsRun};
 ghost use Rattle.bm_io.specs.Causes.{HasIoCause};
 ghost use Rattle.bm_io.specs.Written.{WritesPart};
 ghost use Rattle.bm_trace.specs.Inside.Parts.{HandsLess, HandsOn, HandsPart, last_lines};
-ghost use Rattle.bm_trace.specs.Inside.Parts.{lines_behind};
+ghost use Rattle.bm_trace.specs.Inside.Parts.{lines_after};
 ghost use Rattle.bm_trace.specs.Ranges.{HasRanges};
 ghost use Rattle.bm_trace.specs.Report as report;
 ghost use Rattle.bm_trace.specs.Swept.{AreCauses};
@@ -123,9 +123,9 @@ fn put_rest<K: Sink>(
     requires ranges { HasRanges h.now.stage }
     requires sums { sums.now ≡ totals.totals_of h.now }
     ensures ok { OnOk result (HandsOn (K.written out.old) (string_bytes lines)
-        (K.written out.new) [] (lines_behind h.now)) }
+        (K.written out.new) [] (lines_after h.now)) }
     ensures err { OnErr result (HandsLess (K.written out.old) (string_bytes lines)
-        (K.written out.new) (lines_behind h.now)) }
+        (K.written out.new) (lines_after h.now)) }
     ensures cause { HasIoCause (K.faults out.old) (K.faults out.new) result }
 {
     put_records(h, &mut lines, out)?;

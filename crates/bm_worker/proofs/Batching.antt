@@ -33,11 +33,11 @@ use Rattle.bm_mux.specs.Muxes.{MuxState}
 use Rattle.bm_mux.specs.Steers.{at_clock, label_by, sent, sent_for, steer_clock, steering_clock, steers, switch_to}
 use Rattle.bm_mux.specs.Steers.{switches, tag_by}
 use Rattle.bm_server.specs.Servings.{Serving}
-use Rattle.bm_worker.specs.Inside.Batches.{AreDrawn, AreOwed, IsItemOf, IsSent, Rise, last_packet}
+use Rattle.bm_worker.specs.Inside.Batches.{AreDrawn, HaveSendings, IsItemOf, IsSent, Rise, last_packet}
 use Rattle.bm_worker.specs.Inside.Batches.{sent_notes, steering, switch_note, switch_notes}
-use Rattle.bm_worker.specs.WorkerNotes.{Suits}
+use Rattle.bm_worker.specs.WorkerNotes.{AreServersOf}
 use Rattle.bm_worker.specs.Inside.Pending.{IsAmong}
-use Rattle.bm_worker.specs.Phases.{IsPhaseNote, Stint, mux_for}
+use Rattle.bm_worker.specs.Phases.{IsPhaseNote, Task, mux_for}
 use Rattle.bm_worker.specs.Assigned.{is_mux, is_assigned, assigned_mux}
 use Rattle.bm_base.proofs.Entries.{tag_valid}
 use Rattle.bm_table.proofs.Tables.{early_entry}
@@ -47,7 +47,7 @@ use Rattle.bm_worker.proofs.Known.{known_cur, numbered_entry}
 use Rattle.bm_worker.proofs.Steering.{label_high}
 use Rattle.bm_worker.proofs.Steering.{steers_above}
 
--- THE DEEDS
+-- THE NOTES
 
 rise_last : (low : ℕ) (items : List MuxItem) → Rise low items → low ≤ last_packet low items
 rise_last low [] rise = omega arith
@@ -60,30 +60,30 @@ is_one_assigned routes m from until k low high is =
     and_from _ _ (and_from _ _ (lt-ltb from k low) (le-leb k until high))
     (ap (λ (o : Option ℕ). is_mux o m) is ∙ eq-eqb m m refl)
 
-pub sent_deeds : (F : Rules) (stage : Stage) (servers : List Serving) (stint : Stint) (seen : Posted) (all : List Note)
+pub sent_notes_are : (F : Rules) (stage : Stage) (servers : List Serving) (task : Task) (seen : Posted) (all : List Note)
     (last low : ℕ)
-    (items : List MuxItem) (fates : List Fate) → stint.after ≤ last → stint.from ≤ low
-    → last_packet low items ≤ stint.until → Rise low items
-    → AllByRecursion (IsItemOf stage stint.routes (mux_for stint).0) items → AreDrawn F items fates
-    → AllByRecursion (IsPhaseNote F stage servers stint all)
-    (sent_notes (mux_for stint) (sent (mux_for stint) seen last items) fates)
-sent_deeds F stage servers stint seen all last low [] fates after from until rise each drawn = tt
-sent_deeds F stage servers stint seen all last low (i ∷ items) [] after from until rise each drawn = absurd drawn
-sent_deeds F stage servers stint seen all last low (i ∷ items) (f ∷ fates) after from until rise each drawn =
-    let m = mux_for stint in let next = steer_clock last i in
-    let above : stint.from < i.packet = (let lt = rise.0 in omega (arith, lt, from)) in
-    let below : i.packet ≤ stint.until = (let le = rise_last i.packet items rise.1 in omega (arith, le, until)) in
-    each_append (IsPhaseNote F stage servers stint all) (sent_notes m (sent m seen next items) fates)
+    (items : List MuxItem) (fates : List Fate) → task.after ≤ last → task.from ≤ low
+    → last_packet low items ≤ task.until → Rise low items
+    → AllByRecursion (IsItemOf stage task.routes (mux_for task).0) items → AreDrawn F items fates
+    → AllByRecursion (IsPhaseNote F stage servers task all)
+    (sent_notes (mux_for task) (sent (mux_for task) seen last items) fates)
+sent_notes_are F stage servers task seen all last low [] fates after from until rise each drawn = tt
+sent_notes_are F stage servers task seen all last low (i ∷ items) [] after from until rise each drawn = absurd drawn
+sent_notes_are F stage servers task seen all last low (i ∷ items) (f ∷ fates) after from until rise each drawn =
+    let m = mux_for task in let next = steer_clock last i in
+    let above : task.from < i.packet = (let lt = rise.0 in omega (arith, lt, from)) in
+    let below : i.packet ≤ task.until = (let le = rise_last i.packet items rise.1 in omega (arith, le, until)) in
+    each_append (IsPhaseNote F stage servers task all) (sent_notes m (sent m seen next items) fates)
     (steering (record { 0 = next }) i.packet m f (m.0 + 1) ∷ [])
-    (sent_deeds F stage servers stint seen all next i.packet items fates (omega (arith, after)) (omega (arith, above))
+    (sent_notes_are F stage servers task seen all next i.packet items fates (omega (arith, after)) (omega (arith, above))
     until rise.1 each.1 drawn.3) (
       record {
         kind = eq-eqb m.0 m.0 refl;
         seat = refl;
         later = omega (arith, after);
         within = (above, below);
-        assigned = is_one_assigned stint.routes m.0 stint.from stint.until i.packet above below each.0.assigned;
-        owed = tt;
+        assigned = is_one_assigned task.routes m.0 task.from task.until i.packet above below each.0.assigned;
+        has_sending = tt;
         lost = tt;
         drawn = drawn.0;
         placed = tt;
@@ -91,23 +91,23 @@ sent_deeds F stage servers stint seen all last low (i ∷ items) (f ∷ fates) a
       tt,
     )
 
-pub switch_deeds : (F : Rules) (stage : Stage) (servers : List Serving) (stint : Stint) (seen : Posted)
+pub switch_notes_are : (F : Rules) (stage : Stage) (servers : List Serving) (task : Task) (seen : Posted)
     (all : List Note) (past : List Event)
-    → stint.after < steering_clock past
-    → AllByRecursion (IsPhaseNote F stage servers stint all) (switch_notes (mux_for stint) seen past)
-switch_deeds F stage servers stint seen all past begun =
-    of_test (ltb (version_at past (mux_for stint)).0 (last_version seen)) where
+    → task.after < steering_clock past
+    → AllByRecursion (IsPhaseNote F stage servers task all) (switch_notes (mux_for task) seen past)
+switch_notes_are F stage servers task seen all past begun =
+    of_test (ltb (version_at past (mux_for task)).0 (last_version seen)) where
       of_test : (b : Bool)
-          → AllByRecursion (IsPhaseNote F stage servers stint all)
-          (cond b (switch_note (mux_for stint) seen past (last_post seen) ∷ []) [])
+          → AllByRecursion (IsPhaseNote F stage servers task all)
+          (cond b (switch_note (mux_for task) seen past (last_post seen) ∷ []) [])
       of_test true = (
         record {
-          kind = eq-eqb (mux_for stint).0 (mux_for stint).0 refl;
+          kind = eq-eqb (mux_for task).0 (mux_for task).0 refl;
           seat = refl;
           later = omega (arith, begun);
           within = tt;
           assigned = tt;
-          owed = tt;
+          has_sending = tt;
           lost = tt;
           drawn = tt;
           placed = tt;
@@ -118,20 +118,20 @@ switch_deeds F stage servers stint seen all past begun =
 
 -- WHAT IS OWED
 
-pub sent_owed : (F : Rules) (stage : Stage) (stint : Stint) (seen : Posted) (all : List Note) (last low : ℕ)
-    (items : List MuxItem) (fates : List Fate) → stint.after ≤ last → stint.from ≤ low
-    → last_packet low items ≤ stint.until → Rise low items
+pub sent_has_sending : (F : Rules) (stage : Stage) (task : Task) (seen : Posted) (all : List Note) (last low : ℕ)
+    (items : List MuxItem) (fates : List Fate) → task.after ≤ last → task.from ≤ low
+    → last_packet low items ≤ task.until → Rise low items
     → AreDrawn F items fates
-    → ((f : Note → ℕ) → total f (sent_notes (mux_for stint) (sent (mux_for stint) seen last items) fates) ≤ total f all)
-    → AreOwed stint all low (sent (mux_for stint) seen last items) fates
-sent_owed F stage stint seen all last low [] fates after from until rise drawn among = tt
-sent_owed F stage stint seen all last low (i ∷ items) [] after from until rise drawn among = absurd drawn
-sent_owed F stage stint seen all last low (i ∷ items) (f ∷ fates) after from until rise drawn among =
-    let m = mux_for stint in let next = steer_clock last i in
+    → ((f : Note → ℕ) → total f (sent_notes (mux_for task) (sent (mux_for task) seen last items) fates) ≤ total f all)
+    → HaveSendings task all low (sent (mux_for task) seen last items) fates
+sent_has_sending F stage task seen all last low [] fates after from until rise drawn among = tt
+sent_has_sending F stage task seen all last low (i ∷ items) [] after from until rise drawn among = absurd drawn
+sent_has_sending F stage task seen all last low (i ∷ items) (f ∷ fates) after from until rise drawn among =
+    let m = mux_for task in let next = steer_clock last i in
     let n = steering (record { 0 = next }) i.packet m f (m.0 + 1) in
     let rest = sent_notes m (sent m seen next items) fates in
-    let above : stint.from < i.packet = (let lt = rise.0 in omega (arith, lt, from)) in
-    let below : i.packet ≤ stint.until = (let le = rise_last i.packet items rise.1 in omega (arith, le, until)) in
+    let above : task.from < i.packet = (let lt = rise.0 in omega (arith, lt, from)) in
+    let below : i.packet ≤ task.until = (let le = rise_last i.packet items rise.1 in omega (arith, le, until)) in
     let here : IsAmong n all = λ g. (let a = among g in let b = total_append g rest (n ∷ []) in omega (arith, a, b)) in
     let self : (i.packet == i.packet) ≡ true = eq-eqb i.packet i.packet refl in (
       rise.0,
@@ -146,7 +146,7 @@ sent_owed F stage stint seen all last low (i ∷ items) (f ∷ fates) after from
         later = omega (arith, after);
         within = (above, below);
       },
-      sent_owed F stage stint seen all next i.packet items fates (omega (arith, after)) (omega (arith, above)) until
+      sent_has_sending F stage task seen all next i.packet items fates (omega (arith, after)) (omega (arith, above)) until
           rise.1 drawn.3
           (λ g. (let a = among g in let b = total_append g rest (n ∷ []) in omega (arith, a, b))),
     )
@@ -213,17 +213,17 @@ now_valid stage m v s sound few =
 
 sent_one : (stage : Stage) (servers : List Serving) (mux : MuxState) (routes : List (Option MuxId)) (seen : Posted)
     (clock : ℕ) (i : MuxItem)
-    → IsSound stage → Suits stage servers → mux.id.0 < 64 → seen.plan ≡ stage.script.plan → last_version seen ≤ 4096
+    → IsSound stage → AreServersOf stage servers → mux.id.0 < 64 → seen.plan ≡ stage.script.plan → last_version seen ≤ 4096
     → IsItemOf stage routes mux.id.0 i
     → label_of stage (reverse mux.log) i.packet ≡ Some (label_now stage mux.id (last_version seen) i.segment)
     → IsSent stage servers mux (sent_for mux.id seen clock i)
-sent_one stage servers mux routes seen clock i sound suits few plan early item labelled_now =
+sent_one stage servers mux routes seen clock i sound servers_are few plan early item labelled_now =
     let v = last_version seen in
     let l = label_now stage mux.id v i.segment in
     let tag = tag_for l Direct l.entry.cur in
     let same : tag ≡ tag_by mux.id seen i.segment =
     ap (λ (x : Label). tag_for x Direct x.entry.cur) (sym (same_label stage mux.id seen i.segment sound plan)) in
-    let has = suits.known l.entry.cur (known_cur stage.script sound.script v (bucket stage i.segment.flow)) in (
+    let has = servers_are.known l.entry.cur (known_cur stage.script sound.script v (bucket stage i.segment.flow)) in (
       has.0,
       record {
         segment = i.segment;
@@ -250,14 +250,14 @@ sent_one stage servers mux routes seen clock i sound suits few plan early item l
 
 pub all_sent : (stage : Stage) (servers : List Serving) (mux : MuxState) (routes : List (Option MuxId)) (seen : Posted)
     (last low : ℕ)
-    (items : List MuxItem) (past : List Event) → IsSound stage → Suits stage servers → mux.id.0 < 64
+    (items : List MuxItem) (past : List Event) → IsSound stage → AreServersOf stage servers → mux.id.0 < 64
     → seen.plan ≡ stage.script.plan → last_version seen ≤ 4096
     → AllByRecursion (IsItemOf stage routes mux.id.0) items → Rise low items
     → (version_at past mux.id).0 ≡ last_version seen
     → reverse mux.log ≡ reverse (steers mux.id last items) ++ past
     → AllByRecursion (IsSent stage servers mux) (sent mux.id seen last items)
-all_sent stage servers mux routes seen last low [] past sound suits few plan early each rise version log = tt
-all_sent stage servers mux routes seen last low (i ∷ items) past sound suits few plan early each rise version log =
+all_sent stage servers mux routes seen last low [] past sound servers_are few plan early each rise version log = tt
+all_sent stage servers mux routes seen last low (i ∷ items) past sound servers_are few plan early each rise version log =
     let m = mux.id in let next = steer_clock last i in
     let e = at_clock next (Steer i.packet m) in let es = steers m next items in
     let log' : reverse mux.log ≡ reverse es ++ (e ∷ past) =
@@ -267,7 +267,7 @@ all_sent stage servers mux routes seen last low (i ∷ items) past sound suits f
     ∙ (label_high stage i.packet i.packet (reverse es) (e ∷ past) (omega arith)
     (steers_above m next i.packet i.packet items (omega arith) rise.1)
     ∙ label_made stage m (last_version seen) next i.packet i.segment past version each.0.segment) in (
-      sent_one stage servers mux routes seen next i sound suits few plan early each.0 here,
-      all_sent stage servers mux routes seen next i.packet items (e ∷ past) sound suits few plan early each.1 rise.1
+      sent_one stage servers mux routes seen next i sound servers_are few plan early each.0 here,
+      all_sent stage servers mux routes seen next i.packet items (e ∷ past) sound servers_are few plan early each.1 rise.1
           version log',
     )

@@ -26,18 +26,18 @@ use Rattle.bm_worker.specs.declared.stop.Stop.{Stop}
 use Rattle.bm_worker.specs.declared.stop.Stop.TheVariants.{Memory, Late}
 use Rattle.bm_worker.specs.declared.worker.MuxWorker.{MuxWorker}
 use Rattle.bm_worker.specs.Arrivals.{HasCome, IsCopy}
-use Rattle.bm_worker.specs.WorkerNotes.{IsSameCaller, Sits, Suits, no_fate}
+use Rattle.bm_worker.specs.WorkerNotes.{IsSameCaller, HasSeats, AreServersOf, no_fate}
 use Rattle.bm_worker.specs.Inside.WorkerNotes.{arrival, loss}
 use Rattle.bm_worker.specs.Inside.Pending.{Carries, Pending, GrowsByLosses, HasCarried, IsCopyOf, IsLateFrom}
-use Rattle.bm_worker.specs.Inside.Pending.{IsSameWorker, Owes, Pays}
+use Rattle.bm_worker.specs.Inside.Pending.{IsSameWorker, AwaitsCopies, Completes}
 use Rattle.bm_worker.specs.Inside.Pending.{with_copies}
 use Rattle.bm_worker.specs.Inside.Lost.{with_loss}
-use Rattle.bm_worker.specs.Phases.{IsStopOf, Kept, Stint, mux_for}
+use Rattle.bm_worker.specs.Phases.{IsStopOf, Kept, Task, mux_for}
 use Rattle.bm_worker.specs.Callers.{CallerState}
 use Rattle.bm_worker.specs.SeatCalls.{Stays}
 use Rattle.bm_worker.proofs.Copying.{copy_reads}
-use Rattle.bm_worker.proofs.Paying.{pays_lost, pays_more, pays_none, pays_one, pays_whole}
-use Rattle.bm_worker.proofs.Steps.{kept_arrival, kept_loss, kept_stays, one_of, owes_more}
+use Rattle.bm_worker.proofs.Completing.{completes_lost, completes_more, completes_none, completes_one, completes_whole}
+use Rattle.bm_worker.proofs.Steps.{kept_arrival, kept_loss, kept_stays, one_of, copies_left_more}
 
 -- ANSWERS
 
@@ -70,10 +70,10 @@ same_worker_on a b c p q = record {
   steps = q.steps ∙ p.steps;
 }
 
-pub sits_on : (servers : List Serving) (a b : CallerState) → IsSameCaller a b → Sits servers a → Sits servers b
-sits_on servers a b same sits =
+pub sits_on : (servers : List Serving) (a b : CallerState) → IsSameCaller a b → HasSeats servers a → HasSeats servers b
+sits_on servers a b same has_seats =
     same.who_is
-    ∙ (sits ∙ ap (λ (n : ℕ). Rattle.std.proofs.Common.map (λ server. row server n) servers) (sym same.number))
+    ∙ (has_seats ∙ ap (λ (n : ℕ). Rattle.std.proofs.Common.map (λ server. row server n) servers) (sym same.number))
 
 pub no_losses : (n : ℕ) (log : List Event) → GrowsByLosses n log log
 no_losses n log = ([], sym (Rattle.std.proofs.Common.append-nil log), tt, omega arith)
@@ -99,14 +99,14 @@ one_loss k clock hop n log some = (at_clock clock (Lose k hop) ∷ [], refl, (re
 -- GIVING UP
 
 -- the moment comes from the sending's clock
-pub late_stop : (stint : Stint) (d : List Note) (pending : Pending) (stop : Stop) → Owes stint d pending
+pub late_stop : (task : Task) (d : List Note) (pending : Pending) (stop : Stop) → AwaitsCopies task d pending
     → IsLateFrom pending.clock stop → IsStopOf d stop
-late_stop stint d pending Memory owes late = absurd late
-late_stop stint d pending (Late moment at) owes late = (
+late_stop task d pending Memory awaits late = absurd late
+late_stop task d pending (Late moment at) awaits late = (
   late.0,
   late.1,
-  one_of owes.note d (λ n. n.event.clock.0 == at.0) owes.among
-      (eq-eqb owes.note.event.clock.0 at.0 (owes.clock ∙ sym late.2)),
+  one_of awaits.note d (λ n. n.event.clock.0 == at.0) awaits.among
+      (eq-eqb awaits.note.event.clock.0 at.0 (awaits.clock ∙ sym late.2)),
 )
 
 pub stop_of_memory : (d : List Note) (stop : Stop) → stop ≡ Memory → IsStopOf d stop
@@ -116,11 +116,11 @@ stop_of_memory d stop is = subst (λ (s : Stop). IsStopOf d s) (sym is) tt
 pub carries_late : (F : Rules) (stage : Stage) (servers : List Serving) (pending : Pending) (most : ℕ) (w : MuxWorker)
     (r : Result (Unit {0}) Stop)
     → (stop : Stop) → IsErrAnd r (λ e. e ≡ stop) → IsLateFrom pending.clock stop → Carries F stage servers pending most w w r
-carries_late F stage servers pending most w r stop is late = λ stint d kept owes. (
+carries_late F stage servers pending most w r stop is late = λ task d kept awaits. (
   [],
   record { kept = kept; packets = tt; few = omega arith },
-  ended (λ _. Pays true pending []) (λ e. e ≡ stop) (λ e. IsStopOf d e) r is
-      (λ e same. subst (λ (x : Stop). IsStopOf d x) (sym same) (late_stop stint d pending stop owes late)),
+  ended (λ _. Completes true pending []) (λ e. e ≡ stop) (λ e. IsStopOf d e) r is
+      (λ e same. subst (λ (x : Stop). IsStopOf d x) (sym same) (late_stop task d pending stop awaits late)),
 )
 
 -- NO COPIES
@@ -130,21 +130,21 @@ pub carries_loss : (F : Rules) (stage : Stage) (servers : List Serving) (pending
     → 1 ≤ most → pending.fate.copies ≡ 0
     → MatchResult r (λ _. next ≡ with_loss pending.packet pending.hop pending.clock w) (λ stop. (stop ≡ Memory) × (next ≡ w))
     → Carries F stage servers pending most w next r
-carries_loss F stage servers pending most w next (Ok u) some none is = λ stint d kept owes.
-    let n = loss (pending.clock + 1) pending.packet pending.hop ((mux_for stint).0 + 1) in (
+carries_loss F stage servers pending most w next (Ok u) some none is = λ task d kept awaits.
+    let n = loss (pending.clock + 1) pending.packet pending.hop ((mux_for task).0 + 1) in (
       n ∷ [],
       record {
-        kept = subst (λ (x : MuxWorker). Kept F stage servers stint x (n ∷ d)) (sym is)
-            (kept_loss F stage servers stint w d pending none owes kept);
+        kept = subst (λ (x : MuxWorker). Kept F stage servers task x (n ∷ d)) (sym is)
+            (kept_loss F stage servers task w d pending none awaits kept);
         packets = (refl, tt);
         few = omega (arith, some);
       },
-      pays_lost ((mux_for stint).0 + 1) pending none (pending.clock + 1) (omega arith),
+      completes_lost ((mux_for task).0 + 1) pending none (pending.clock + 1) (omega arith),
     )
-carries_loss F stage servers pending most w next (Err stop) some none is = λ stint d kept owes. (
+carries_loss F stage servers pending most w next (Err stop) some none is = λ task d kept awaits. (
   [],
   record {
-    kept = subst (λ (x : MuxWorker). Kept F stage servers stint x d) (sym is.1) kept;
+    kept = subst (λ (x : MuxWorker). Kept F stage servers task x d) (sym is.1) kept;
     packets = tt;
     few = omega arith;
   },
@@ -173,13 +173,13 @@ same_by_loss k clock hop w next (Err stop) is =
 
 pub carried_none : (F : Rules) (stage : Stage) (servers : List Serving) (pending : Pending) (w : MuxWorker)
     → HasCarried F stage servers pending 0 0 w w
-carried_none F stage servers pending w = λ stint d kept owes.
-    ([], record { kept = kept; packets = tt; few = omega arith }, pays_none pending)
+carried_none F stage servers pending w = λ task d kept awaits.
+    ([], record { kept = kept; packets = tt; few = omega arith }, completes_none pending)
 
 -- one copy more, which is not forwarded
 pub carried_arrival : (F : Rules) (stage : Stage) (servers : List Serving) (pending : Pending) (i most : ℕ)
     (old now next : MuxWorker)
-    (place : ℕ) (octets : List ℕ) (due : Moment) (r : Moment × Verdict) → Suits stage servers
+    (place : ℕ) (octets : List ℕ) (due : Moment) (r : Moment × Verdict) → AreServersOf stage servers
     → (copy : IsCopyOf stage servers now.mux place pending.packet pending.hop octets)
     → due.0 ≡ pending.clock + pending.fate.delay → due.0 < r.0.0
     → ((server : ServerId) → sending_of (Arrive pending.packet pending.hop server r.1) ≡ None)
@@ -187,22 +187,22 @@ pub carried_arrival : (F : Rules) (stage : Stage) (servers : List Serving) (pend
     → HasCome place server pending.packet read due r now.caller.seats next.caller.seats)
     → next.mux ≡ now.mux → next.caller.latest ≡ max now.caller.latest r.0.0 → IsSameCaller now.caller next.caller
     → HasCarried F stage servers pending i most old now → HasCarried F stage servers pending (i + 1) (most + 1) old next
-carried_arrival F stage servers pending i most old now next place octets due r suits copy is lt none come mux latest caller
-    carried = λ stint d kept owes.
-    let c = carried stint d kept owes in let x = c.0 in let w = (mux_for stint).0 + 1 in
+carried_arrival F stage servers pending i most old now next place octets due r servers_are copy is lt none come mux latest caller
+    carried = λ task d kept awaits.
+    let c = carried task d kept awaits in let x = c.0 in let w = (mux_for task).0 + 1 in
     let n = arrival r.0 pending.packet pending.hop copy.server.id r.1 no_fate due.0 w in (
       n ∷ x,
       record {
-        kept = kept_arrival F stage servers stint now next (x ++ d) pending place octets due r no_fate suits copy is lt
+        kept = kept_arrival F stage servers task now next (x ++ d) pending place octets due r no_fate servers_are copy is lt
             (subst (λ o. IfSome o (λ s. F s.packet s.hop no_fate)) (sym (none copy.server.id)) tt)
             (come copy.server (copy.tag, copy.segment) copy.is_server
             (copy_reads stage servers now.mux place pending.packet pending.hop octets copy))
-            mux latest caller (owes_more stint x d pending c.1.packets owes) c.1.kept;
+            mux latest caller (copies_left_more task x d pending c.1.packets awaits) c.1.kept;
         packets = (refl, c.1.packets);
         few = let f = c.1.few in omega arith;
       },
-      pays_more pending i x (n ∷ []) c.2
-          (pays_one w pending r.0 copy.server.id r.1 no_fate due.0 (none copy.server.id) is lt),
+      completes_more pending i x (n ∷ []) c.2
+          (completes_one w pending r.0 copy.server.id r.1 no_fate due.0 (none copy.server.id) is lt),
     )
 
 -- memory was refused in the loop
@@ -213,15 +213,15 @@ pub carried_stop : (F : Rules) (stage : Stage) (servers : List Serving) (pending
     → IsErrAnd r (λ stop. stop ≡ Memory)
     → HasCarried F stage servers pending i few old now → Carries F stage servers pending most old next r
 carried_stop F stage servers pending i few most old now next r top mux stays latest caller memory carried =
-    λ stint d kept owes.
-    let c = carried stint d kept owes in let x = c.0 in (
+    λ task d kept awaits.
+    let c = carried task d kept awaits in let x = c.0 in (
       x,
       record {
-        kept = kept_stays F stage servers stint now next (x ++ d) mux stays latest caller c.1.kept;
+        kept = kept_stays F stage servers task now next (x ++ d) mux stays latest caller c.1.kept;
         packets = c.1.packets;
         few = let f = c.1.few in omega (arith, f, top);
       },
-      ended (λ _. Pays true pending x) (λ stop. stop ≡ Memory) (λ stop. IsStopOf (x ++ d) stop) r memory
+      ended (λ _. Completes true pending x) (λ stop. stop ≡ Memory) (λ stop. IsStopOf (x ++ d) stop) r memory
           (stop_of_memory (x ++ d)),
     )
 
@@ -230,11 +230,11 @@ pub carried_whole : (F : Rules) (stage : Stage) (servers : List Serving) (pendin
     (old now : MuxWorker)
     → few ≤ most → i ≡ pending.fate.copies → 1 ≤ i → HasCarried F stage servers pending i few old now
     → Carries F stage servers pending most old now (Ok tt)
-carried_whole F stage servers pending i few most old now top all some carried = λ stint d kept owes.
-    let c = carried stint d kept owes in let x = c.0 in (
+carried_whole F stage servers pending i few most old now top all some carried = λ task d kept awaits.
+    let c = carried task d kept awaits in let x = c.0 in (
       x,
       record { kept = c.1.kept; packets = c.1.packets; few = let f = c.1.few in omega (arith, f, top) },
-      pays_whole pending x (omega (arith, some, all)) (subst (λ (j : ℕ). Pays false (with_copies pending j) x) all c.2),
+      completes_whole pending x (omega (arith, some, all)) (subst (λ (j : ℕ). Completes false (with_copies pending j) x) all c.2),
     )
 
 -- the worker after a loss
@@ -288,8 +288,8 @@ place_inside (x ∷ servers) (suc place) server at = let old = place_inside serv
 pub carries_stop : (F : Rules) (stage : Stage) (servers : List Serving) (pending : Pending) (most : ℕ) (w : MuxWorker)
     (r : Result (Unit {0}) Stop)
     → IsErrAnd r (λ stop. stop ≡ Memory) → Carries F stage servers pending most w w r
-carries_stop F stage servers pending most w r memory = λ stint d kept owes. (
+carries_stop F stage servers pending most w r memory = λ task d kept awaits. (
   [],
   record { kept = kept; packets = tt; few = omega arith },
-  ended (λ _. Pays true pending []) (λ stop. stop ≡ Memory) (λ stop. IsStopOf d stop) r memory (stop_of_memory d),
+  ended (λ _. Completes true pending []) (λ stop. stop ≡ Memory) (λ stop. IsStopOf d stop) r memory (stop_of_memory d),
 )

@@ -26,10 +26,10 @@ use Rattle.bm_shard.proofs.Copies.{copy_spelled}
 use Rattle.bm_server.specs.Seats.{Answered, Seated}
 use Rattle.bm_server.specs.Servings.{Serving, shard_for}
 use Rattle.bm_worker.specs.Arrivals.{HasCome, IsCopy}
-use Rattle.bm_worker.specs.WorkerNotes.{Suits}
+use Rattle.bm_worker.specs.WorkerNotes.{AreServersOf}
 use Rattle.bm_worker.specs.Inside.Pending.{IsCopyOf}
 use Rattle.bm_worker.specs.Phases.{AreCopies, IsCopyCall}
-use Rattle.bm_worker.specs.SeatCalls.{Stays, told_there}
+use Rattle.bm_worker.specs.SeatCalls.{Stays, calls_there}
 use Rattle.bm_worker.proofs.Hearing.{same_shard}
 
 -- the hop of a label's tag
@@ -71,11 +71,11 @@ both_true false b e = absurd (cc)
 -- a copy that came is one of the mux's
 pub copies_come : (stage : Stage) (servers : List Serving) (mux : MuxState) (place k : ℕ) (hop : Hop) (octets : List ℕ)
     (due : Moment)
-    (r : Moment × Verdict) (a b : List (List Seated)) → Suits stage servers
+    (r : Moment × Verdict) (a b : List (List Seated)) → AreServersOf stage servers
     → (copy : IsCopyOf stage servers mux place k hop octets)
     → HasCome place copy.server k (copy.tag, copy.segment) due r a b
     → AreCopies stage mux.id servers (reverse mux.log) a → AreCopies stage mux.id servers (reverse mux.log) b
-copies_come stage servers mux place k hop octets due r a b suits copy come are s h server at =
+copies_come stage servers mux place k hop octets due r a b servers_are copy come are s h server at =
     let here = (s == place) && (h == shard_for copy.server copy.segment.flow) in
     let call : Answered = (Arrive k copy.tag copy.segment due, Arrived r.0 r.1 come.reset) in
     let P : Answered → Type 0 = λ x. IsCopyCall stage (reverse mux.log) mux.id server h x.0 in
@@ -85,7 +85,7 @@ copies_come stage servers mux place k hop octets due r a b suits copy come are s
     same_Some server copy.server (sym at ∙ (ap (slice_get servers) (eqb-true s place both.0) ∙ copy.is_server)) in
     let shard_is : shard stage copy.segment.flow ≡ h =
     sym (eqb-true h (shard_for copy.server copy.segment.flow) both.1
-    ∙ same_shard stage servers place copy.server copy.segment.flow suits copy.is_server) in (
+    ∙ same_shard stage servers place copy.server copy.segment.flow servers_are copy.is_server) in (
       copy.is_segment,
       shard_is,
       (
@@ -97,7 +97,7 @@ copies_come stage servers mux place k hop octets due r a b suits copy come are s
       ),
     ) in
     subst (λ (l : List Answered). AllByRecursion P l) (sym (come.gains s h))
-    (each_plus P (told_there a s h) (cond here (call ∷ []) []) (are s h server at) (one_cond P here call mine))
+    (each_plus P (calls_there a s h) (cond here (call ∷ []) []) (are s h server at) (one_cond P here call mine))
 
 pub copies_stay : (stage : Stage) (servers : List Serving) (m : MuxId) (past : List Event) (a b : List (List Seated))
     → Stays a b
@@ -120,5 +120,5 @@ pub copies_as : (stage : Stage) (servers : List Serving) (m : MuxId) (past past'
     → ((k : ℕ) (l : Label) → label_of stage past k ≡ Some l → label_of stage past' k ≡ Some l)
     → AreCopies stage m servers past a → AreCopies stage m servers past' a
 copies_as stage servers m past past' a kept are s h server at =
-    each_as (λ x. IsCopyCall stage past m server h x.0) (λ x. IsCopyCall stage past' m server h x.0) (told_there a s h)
+    each_as (λ x. IsCopyCall stage past m server h x.0) (λ x. IsCopyCall stage past' m server h x.0) (calls_there a s h)
     (call_as stage m server h past past' kept) (are s h server at)

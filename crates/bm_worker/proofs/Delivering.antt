@@ -23,16 +23,16 @@ use Rattle.bm_mux.specs.Muxes.{MuxState}
 use Rattle.bm_server.specs.Servings.{Serving}
 use Rattle.bm_worker.specs.declared.stop.Stop.{Stop}
 use Rattle.bm_worker.specs.declared.worker.MuxWorker.{MuxWorker}
-use Rattle.bm_worker.specs.Inside.Batches.{AreOwed, Delivers, IsDelivery, IsOwed, IsSent, PaysFor, last_sent}
+use Rattle.bm_worker.specs.Inside.Batches.{HaveSendings, Delivers, IsDelivery, HasSending, IsSent, CompletesAll, last_sent}
 use Rattle.bm_worker.specs.Inside.Batches.{sent_notes}
 use Rattle.bm_worker.specs.Inside.Batches.{steering}
 use Rattle.bm_worker.specs.WorkerNotes.{HasServer}
-use Rattle.bm_worker.specs.Inside.Pending.{Carries, Pending, GrowsByLosses, IsCopyOf, IsOf, IsUpTo, Owes, Pays, comes}
+use Rattle.bm_worker.specs.Inside.Pending.{Carries, Pending, GrowsByLosses, IsCopyOf, IsOf, IsUpTo, AwaitsCopies, Completes, comes}
 use Rattle.bm_worker.specs.Inside.Pending.{comes_by}
 use Rattle.bm_worker.specs.Inside.Pending.{copyless_at, pending, gives, gives_by, lost_at}
-use Rattle.bm_worker.specs.Phases.{IsStopOf, Kept, Stint, mux_for}
+use Rattle.bm_worker.specs.Phases.{IsStopOf, Kept, Task, mux_for}
 use Rattle.bm_worker.specs.Callers.{CallerState}
-use Rattle.bm_worker.specs.SeatCalls.{told_there}
+use Rattle.bm_worker.specs.SeatCalls.{calls_there}
 use Rattle.bm_turnstile.specs.Sittings.{who}
 use Rattle.bm_worker.proofs.Carrying.{ended}
 use Rattle.bm_worker.proofs.Keeping.{more_many}
@@ -41,13 +41,13 @@ use Rattle.bm_worker.proofs.Steps.{among_more, kept_stays}
 
 -- SUMS
 
-pub pays_for_none : PaysFor [] []
-pays_for_none = record { lost = λ k hop c. refl; sent = λ k hop c. omega arith; arrived = λ k hop. refl }
+pub completes_all_none : CompletesAll [] []
+completes_all_none = record { lost = λ k hop c. refl; sent = λ k hop c. omega arith; arrived = λ k hop. refl }
 
-pays_for_more : (clock : Moment) (k : ℕ) (m : MuxId) (fate : Fate) (w : ℕ) (s x y : List Note) → PaysFor s x
-    → Pays true (pending k Direct clock.0 fate) y
-    → PaysFor (steering clock k m fate w ∷ s) (y ++ x)
-pays_for_more clock k m fate w s x y p q = record {
+completes_all_more : (clock : Moment) (k : ℕ) (m : MuxId) (fate : Fate) (w : ℕ) (s x y : List Note) → CompletesAll s x
+    → Completes true (pending k Direct clock.0 fate) y
+    → CompletesAll (steering clock k m fate w ∷ s) (y ++ x)
+completes_all_more clock k m fate w s x y p q = record {
   lost = λ j hop c.
       let a = total_append (lost_at j hop c) y x in let b = total_append (copyless_at j hop c) y x in
       let one = p.lost j hop c in let two = q.lost j hop c in omega arith;
@@ -62,25 +62,25 @@ pays_for_more clock k m fate w s x y p q = record {
 -- WHAT IS OWED
 
 -- the packet at a place, and those before it
-owed_at : (stint : Stint) (d : List Note) (low : ℕ) (sents : List Steered) (fates : List Fate) (i : ℕ) (t : Steered)
+has_sending_at : (task : Task) (d : List Note) (low : ℕ) (sents : List Steered) (fates : List Fate) (i : ℕ) (t : Steered)
     (f : Fate)
-    → AreOwed stint d low sents fates → slice_get sents i ≡ Some t → slice_get fates i ≡ Some f
+    → HaveSendings task d low sents fates → slice_get sents i ≡ Some t → slice_get fates i ≡ Some f
     → (low ≤ last_sent low (take i sents)) × (last_sent low (take i sents) < t.packet)
     × (last_sent low (take (suc i) sents) ≡ t.packet)
-    × IsOwed stint d (pending t.packet Direct t.clock.0 f)
-owed_at stint d low [] fates i t f owed at fate = absurd (let bad : None ≡ Some t = at in cc)
-owed_at stint d low (x ∷ sents) [] i t f owed at fate = absurd owed
-owed_at stint d low (x ∷ sents) (g ∷ fates) zero t f owed at fate =
+    × HasSending task d (pending t.packet Direct t.clock.0 f)
+has_sending_at task d low [] fates i t f has_sending at fate = absurd (let bad : None ≡ Some t = at in cc)
+has_sending_at task d low (x ∷ sents) [] i t f has_sending at fate = absurd has_sending
+has_sending_at task d low (x ∷ sents) (g ∷ fates) zero t f has_sending at fate =
     let same : x ≡ t = same_Some x t at in let drawn : g ≡ f = same_Some g f fate in (
       omega arith,
-      subst (λ (z : Steered). low < z.packet) same owed.0,
+      subst (λ (z : Steered). low < z.packet) same has_sending.0,
       ap (λ (z : Steered). z.packet) same,
-      subst (λ (z : Steered). IsOwed stint d (pending z.packet Direct z.clock.0 f)) same
-          (subst (λ (z : Fate). IsOwed stint d (pending x.packet Direct x.clock.0 z)) drawn owed.1),
+      subst (λ (z : Steered). HasSending task d (pending z.packet Direct z.clock.0 f)) same
+          (subst (λ (z : Fate). HasSending task d (pending x.packet Direct x.clock.0 z)) drawn has_sending.1),
     )
-owed_at stint d low (x ∷ sents) (g ∷ fates) (suc i) t f owed at fate =
-    let old = owed_at stint d x.packet sents fates i t f owed.2 at fate in
-    (let a = owed.0 in let b = old.0 in omega arith, old.1, old.2, old.3)
+has_sending_at task d low (x ∷ sents) (g ∷ fates) (suc i) t f has_sending at fate =
+    let old = has_sending_at task d x.packet sents fates i t f has_sending.2 at fate in
+    (let a = has_sending.0 in let b = old.0 in omega arith, old.1, old.2, old.3)
 
 -- the notes of what was steered up to a place
 notes_at : (m : MuxId) (sents : List Steered) (fates : List Fate) (i : ℕ) (t : Steered) (f : Fate)
@@ -129,9 +129,9 @@ of_delivery k (Close server flow closed) is = is
 of_delivery k (Retire server h at result) is = is
 of_delivery k Sync is = is
 
-owes_now : (stint : Stint) (x d : List Note) (e : Pending) → IsOwed stint d e
-    → AllByRecursion (λ y. IsUpTo e.packet y.event.what) (x ++ d) → Owes stint (x ++ d) e
-owes_now stint x d e is first = record {
+awaits_now : (task : Task) (x d : List Note) (e : Pending) → HasSending task d e
+    → AllByRecursion (λ y. IsUpTo e.packet y.event.what) (x ++ d) → AwaitsCopies task (x ++ d) e
+awaits_now task x d e is first = record {
   note = is.note;
   among = among_more is.note x d is.among;
   sending = is.sending;
@@ -148,25 +148,25 @@ owes_now stint x d e is first = record {
 -- the first i packets are delivered
 abbrev pub HasDelivered : Rules → Stage → List Serving → List Steered → List Fate → ℕ → MuxWorker → MuxWorker → Type 0
 HasDelivered F stage servers sents fates i old now =
-    (stint : Stint) (deeds : List Note) (low : ℕ) → Kept F stage servers stint old deeds
-    → AreOwed stint deeds low sents fates → AllByRecursion (λ y. IsUpTo low y.event.what) deeds
-    → (x : List Note) × Kept F stage servers stint now (x ++ deeds) × (length x ≤ 39 * i)
+    (task : Task) (notes : List Note) (low : ℕ) → Kept F stage servers task old notes
+    → HaveSendings task notes low sents fates → AllByRecursion (λ y. IsUpTo low y.event.what) notes
+    → (x : List Note) × Kept F stage servers task now (x ++ notes) × (length x ≤ 39 * i)
     × AllByRecursion (λ y. IsDelivery y.event.what) x
-    × PaysFor (sent_notes (mux_for stint) (take i sents) (take i fates)) x
+    × CompletesAll (sent_notes (mux_for task) (take i sents) (take i fates)) x
     × AllByRecursion (λ y. IsUpTo (last_sent low (take i sents)) y.event.what) x
 
 pub delivered_none : (F : Rules) (stage : Stage) (servers : List Serving) (sents : List Steered) (fates : List Fate)
     (w : MuxWorker)
     → HasDelivered F stage servers sents fates 0 w w
 delivered_none F stage servers sents fates w =
-    λ stint deeds low kept owed first. ([], kept, omega arith, tt, pays_for_none, tt)
+    λ task notes low kept has_sending first. ([], kept, omega arith, tt, completes_all_none, tt)
 
 -- the worker's count of steps is no part of the record
-pub kept_steps : (F : Rules) (stage : Stage) (servers : List Serving) (stint : Stint) (now next : MuxWorker)
-    (d : List Note) → next.mux ≡ now.mux → next.caller ≡ now.caller → Kept F stage servers stint now d
-    → Kept F stage servers stint next d
-kept_steps F stage servers stint now next d mux caller kept =
-    kept_stays F stage servers stint now next d mux (λ s h. ap (λ (p : CallerState). told_there p.seats s h) caller)
+pub kept_steps : (F : Rules) (stage : Stage) (servers : List Serving) (task : Task) (now next : MuxWorker)
+    (d : List Note) → next.mux ≡ now.mux → next.caller ≡ now.caller → Kept F stage servers task now d
+    → Kept F stage servers task next d
+kept_steps F stage servers task now next d mux caller kept =
+    kept_stays F stage servers task now next d mux (λ s h. ap (λ (p : CallerState). calls_there p.seats s h) caller)
     (ap (λ (p : CallerState). p.latest) caller)
     (record {
       number = ap (λ (p : CallerState). p.number) caller;
@@ -182,26 +182,26 @@ pub delivered_more : (F : Rules) (stage : Stage) (servers : List Serving) (sents
     → Carries F stage servers (pending t.packet Direct t.clock.0 f) 39 step next (Ok tt)
     → HasDelivered F stage servers sents fates (i + 1) old next
 delivered_more F stage servers sents fates i t f old now step next at fate mux caller done carries =
-    λ stint deeds low kept owed first.
-    let o = done stint deeds low kept owed first in let x = o.0 in
-    let here = owed_at stint deeds low sents fates i t f owed at fate in
-    let m = mux_for stint in
-    let ups = each_append (λ y. IsUpTo t.packet y.event.what) x deeds
+    λ task notes low kept has_sending first.
+    let o = done task notes low kept has_sending first in let x = o.0 in
+    let here = has_sending_at task notes low sents fates i t f has_sending at fate in
+    let m = mux_for task in
+    let ups = each_append (λ y. IsUpTo t.packet y.event.what) x notes
     (ups_to_more (last_sent low (take i sents)) t.packet x (let lt = here.1 in omega (arith, lt)) o.5)
-    (ups_to_more low t.packet deeds (let le = here.0 in let lt = here.1 in omega (arith, le, lt)) first) in
-    let c = carries stint (x ++ deeds) (kept_steps F stage servers stint now step (x ++ deeds) mux caller o.1)
-    (owes_now stint x deeds (pending t.packet Direct t.clock.0 f) here.3 ups) in
+    (ups_to_more low t.packet notes (let le = here.0 in let lt = here.1 in omega (arith, le, lt)) first) in
+    let c = carries task (x ++ notes) (kept_steps F stage servers task now step (x ++ notes) mux caller o.1)
+    (awaits_now task x notes (pending t.packet Direct t.clock.0 f) here.3 ups) in
     let y = c.0 in
     let next_place : i + 1 ≡ suc i = omega arith in (
       y ++ x,
-      subst (λ (l : List Note). Kept F stage servers stint next l) (sym (append_assoc y x deeds)) c.1.kept,
+      subst (λ (l : List Note). Kept F stage servers task next l) (sym (append_assoc y x notes)) c.1.kept,
       (let e = length-append y x in let a = c.1.few in let b = o.2 in omega arith),
       each_append (λ n. IsDelivery n.event.what) y x
           (each_so (λ n. IsOf t.packet n.event.what) (λ n. IsDelivery n.event.what) y
           (λ n is. of_delivery t.packet n.event.what is) c.1.packets) o.3,
-      subst (λ (j : ℕ). PaysFor (sent_notes m (take j sents) (take j fates)) (y ++ x)) (sym next_place)
-          (subst (λ (l : List Note). PaysFor l (y ++ x)) (sym (notes_at m sents fates i t f at fate))
-          (pays_for_more t.clock t.packet m f (m.0 + 1) (sent_notes m (take i sents) (take i fates)) x y o.4 c.2)),
+      subst (λ (j : ℕ). CompletesAll (sent_notes m (take j sents) (take j fates)) (y ++ x)) (sym next_place)
+          (subst (λ (l : List Note). CompletesAll l (y ++ x)) (sym (notes_at m sents fates i t f at fate))
+          (completes_all_more t.clock t.packet m f (m.0 + 1) (sent_notes m (take i sents) (take i fates)) x y o.4 c.2)),
       subst (λ (j : ℕ). AllByRecursion (λ n. IsUpTo (last_sent low (take j sents)) n.event.what) (y ++ x))
           (sym next_place)
           (subst (λ (k : ℕ). AllByRecursion (λ n. IsUpTo k n.event.what) (y ++ x)) (sym here.2)
@@ -221,27 +221,27 @@ pub delivers_stop : (F : Rules) (stage : Stage) (servers : List Serving) (sents 
     → Carries F stage servers (pending t.packet Direct t.clock.0 f) 39 step next (Err stop)
     → Delivers F stage servers sents fates old next r
 delivers_stop F stage servers sents fates i t f old now step next stop r inside at fate mux caller is done carries =
-    λ stint deeds low kept owed first.
-    let o = done stint deeds low kept owed first in let x = o.0 in
-    let here = owed_at stint deeds low sents fates i t f owed at fate in
-    let m = mux_for stint in
-    let ups = each_append (λ y. IsUpTo t.packet y.event.what) x deeds
+    λ task notes low kept has_sending first.
+    let o = done task notes low kept has_sending first in let x = o.0 in
+    let here = has_sending_at task notes low sents fates i t f has_sending at fate in
+    let m = mux_for task in
+    let ups = each_append (λ y. IsUpTo t.packet y.event.what) x notes
     (ups_to_more (last_sent low (take i sents)) t.packet x (let lt = here.1 in omega (arith, lt)) o.5)
-    (ups_to_more low t.packet deeds (let le = here.0 in let lt = here.1 in omega (arith, le, lt)) first) in
-    let c = carries stint (x ++ deeds) (kept_steps F stage servers stint now step (x ++ deeds) mux caller o.1)
-    (owes_now stint x deeds (pending t.packet Direct t.clock.0 f) here.3 ups) in
+    (ups_to_more low t.packet notes (let le = here.0 in let lt = here.1 in omega (arith, le, lt)) first) in
+    let c = carries task (x ++ notes) (kept_steps F stage servers task now step (x ++ notes) mux caller o.1)
+    (awaits_now task x notes (pending t.packet Direct t.clock.0 f) here.3 ups) in
     let y = c.0 in
-    let all : (y ++ x) ++ deeds ≡ y ++ (x ++ deeds) = append_assoc y x deeds in (
+    let all : (y ++ x) ++ notes ≡ y ++ (x ++ notes) = append_assoc y x notes in (
       y ++ x,
-      subst (λ (l : List Note). Kept F stage servers stint next l) (sym all) c.1.kept,
+      subst (λ (l : List Note). Kept F stage servers task next l) (sym all) c.1.kept,
       (let e = length-append y x in let a = c.1.few in let b = o.2 in omega (arith, e, a, b, inside)),
       each_append (λ n. IsDelivery n.event.what) y x
           (each_so (λ n. IsOf t.packet n.event.what) (λ n. IsDelivery n.event.what) y
           (λ n is. of_delivery t.packet n.event.what is) c.1.packets) o.3,
-      ended (λ _. PaysFor (sent_notes m sents fates) (y ++ x)
+      ended (λ _. CompletesAll (sent_notes m sents fates) (y ++ x)
           × AllByRecursion (λ n. IsUpTo (last_sent low sents) n.event.what) (y ++ x))
-          (λ e. e ≡ stop) (λ e. IsStopOf ((y ++ x) ++ deeds) e) r is
-          (λ e same. subst (λ (z : Stop). IsStopOf ((y ++ x) ++ deeds) z) (sym same)
+          (λ e. e ≡ stop) (λ e. IsStopOf ((y ++ x) ++ notes) e) r is
+          (λ e same. subst (λ (z : Stop). IsStopOf ((y ++ x) ++ notes) z) (sym same)
           (subst (λ (l : List Note). IsStopOf l stop) (sym all) c.2)),
     )
 
@@ -254,8 +254,8 @@ pub delivers_all : (F : Rules) (stage : Stage) (servers : List Serving) (sents :
     (i : ℕ) (old now : MuxWorker)
     → i ≡ length sents → length fates ≡ length sents → HasDelivered F stage servers sents fates i old now
     → Delivers F stage servers sents fates old now (Ok tt)
-delivers_all F stage servers sents fates i old now all long done = λ stint deeds low kept owed first.
-    let o = done stint deeds low kept owed first in let x = o.0 in
+delivers_all F stage servers sents fates i old now all long done = λ task notes low kept has_sending first.
+    let o = done task notes low kept has_sending first in let x = o.0 in
     let every : take i sents ≡ sents = ap (λ (n : ℕ). take n sents) all ∙ take_all sents in
     let each : take i fates ≡ fates = ap (λ (n : ℕ). take n fates) (all ∙ sym long) ∙ take_all fates in (
       x,
@@ -263,8 +263,8 @@ delivers_all F stage servers sents fates i old now all long done = λ stint deed
       (let b = o.2 in omega (arith, b, all)),
       o.3,
       (
-        subst (λ (l : List Steered). PaysFor (sent_notes (mux_for stint) l fates) x) every
-            (subst (λ (l : List Fate). PaysFor (sent_notes (mux_for stint) (take i sents) l) x) each o.4),
+        subst (λ (l : List Steered). CompletesAll (sent_notes (mux_for task) l fates) x) every
+            (subst (λ (l : List Fate). CompletesAll (sent_notes (mux_for task) (take i sents) l) x) each o.4),
         subst (λ (l : List Steered). AllByRecursion (λ n. IsUpTo (last_sent low l) n.event.what) x) every o.5,
       ),
     )

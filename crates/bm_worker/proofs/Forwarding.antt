@@ -36,20 +36,20 @@ use Rattle.bm_worker.specs.declared.stop.Stop.{Stop}
 use Rattle.bm_worker.specs.declared.stop.Stop.TheVariants.{Memory}
 use Rattle.bm_worker.specs.declared.worker.MuxWorker.{MuxWorker}
 use Rattle.bm_worker.specs.Arrivals.{HasCome, IsCopy}
-use Rattle.bm_worker.specs.WorkerNotes.{HasServer, IsSameCaller, Suits, no_fate}
+use Rattle.bm_worker.specs.WorkerNotes.{HasServer, IsSameCaller, AreServersOf, no_fate}
 use Rattle.bm_worker.specs.Inside.WorkerNotes.{arrival}
 use Rattle.bm_worker.specs.Inside.Pending.{Carries, CarriesOne, Pending, HasCarried, IsCopyOf, IsForwarded, IsOf}
-use Rattle.bm_worker.specs.Inside.Pending.{Owes, Pays}
+use Rattle.bm_worker.specs.Inside.Pending.{AwaitsCopies, Completes}
 use Rattle.bm_worker.specs.Inside.Pending.{pending, most_tries, with_copies}
-use Rattle.bm_worker.specs.Phases.{IsStopOf, Kept, Stint, mux_for}
+use Rattle.bm_worker.specs.Phases.{IsStopOf, Kept, Task, mux_for}
 use Rattle.bm_worker.specs.SeatCalls.{Stays}
 use Rattle.bm_worker.proofs.Carrying.{answered, ended, stop_of_memory}
 use Rattle.bm_worker.proofs.Copying.{copy_reads, tag_hop}
 use Rattle.bm_worker.proofs.Keeping.{more_many}
 use Rattle.bm_worker.proofs.Known.{known_stop}
 use Rattle.bm_worker.proofs.Labels.{label_entry}
-use Rattle.bm_worker.proofs.Paying.{pays_forward, pays_more, pays_one}
-use Rattle.bm_worker.proofs.Steps.{kept_arrival, kept_stays, owes_more}
+use Rattle.bm_worker.proofs.Completing.{completes_forward, completes_more, completes_one}
+use Rattle.bm_worker.proofs.Steps.{kept_arrival, kept_stays, copies_left_more}
 
 -- THE OCTETS
 
@@ -129,13 +129,13 @@ turned_copy stage servers mux place k hop next octets turned to where_to after p
 -- the server that it goes to is one of the run's
 pub has_onward : (stage : Stage) (servers : List Serving) (mux : MuxState) (place k : ℕ) (hop next : Hop)
     (octets : List ℕ) (to : ServerId) → IsSound stage
-    → Suits stage servers → hop_after hop ≡ Some next → IsForwarded stage servers mux place k hop octets to
+    → AreServersOf stage servers → hop_after hop ≡ Some next → IsForwarded stage servers mux place k hop octets to
     → HasServer servers to
-has_onward stage servers mux place k hop next octets to sound suits after passed =
+has_onward stage servers mux place k hop next octets to sound servers_are after passed =
     let copy = passed.0 in
     let l = label_entry stage (reverse mux.log) k copy.label copy.is_label in
     let stop = stop_of_label stage servers mux place k hop next octets to copy after passed.1 in
-    suits.known to
+    servers_are.known to
     (known_stop stage.script sound.script l.version l.bucket next to
     (ap (λ (e : Entry). arrives_at e next) (sym l.entry) ∙ stop))
 
@@ -166,7 +166,7 @@ not_forward (Drop w) no_to = refl
 
 -- a copy that is not forwarded
 pub carries_one : (F : Rules) (stage : Stage) (servers : List Serving) (d : Pending) (most : ℕ) (now next : MuxWorker)
-    (place : ℕ) (octets : List ℕ) (due : Moment) (r : Moment × Verdict) → 1 ≤ most → Suits stage servers
+    (place : ℕ) (octets : List ℕ) (due : Moment) (r : Moment × Verdict) → 1 ≤ most → AreServersOf stage servers
     → (copy : IsCopyOf stage servers now.mux place d.packet d.hop octets)
     → due.0 ≡ d.clock + d.fate.delay → due.0 < r.0.0
     → ((server : ServerId) → sending_of (Arrive d.packet d.hop server r.1) ≡ None)
@@ -174,21 +174,21 @@ pub carries_one : (F : Rules) (stage : Stage) (servers : List Serving) (d : Pend
     → HasCome place server d.packet read due r now.caller.seats next.caller.seats)
     → next.mux ≡ now.mux → next.caller.latest ≡ max now.caller.latest r.0.0 → IsSameCaller now.caller next.caller
     → CarriesOne F stage servers d most now next (Ok tt)
-carries_one F stage servers d most now next place octets due r some suits copy is lt none come mux latest caller =
-    λ stint deeds kept owes.
-    let w = (mux_for stint).0 + 1 in
+carries_one F stage servers d most now next place octets due r some servers_are copy is lt none come mux latest caller =
+    λ task notes kept awaits.
+    let w = (mux_for task).0 + 1 in
     let n = arrival r.0 d.packet d.hop copy.server.id r.1 no_fate due.0 w in (
       n ∷ [],
       record {
-        kept = kept_arrival F stage servers stint now next deeds d place octets due r no_fate suits copy is lt
+        kept = kept_arrival F stage servers task now next notes d place octets due r no_fate servers_are copy is lt
             (subst (λ o. IfSome o (λ s. F s.packet s.hop no_fate)) (sym (none copy.server.id)) tt)
             (come copy.server (copy.tag, copy.segment) copy.is_server
             (copy_reads stage servers now.mux place d.packet d.hop octets copy))
-            mux latest caller owes kept;
+            mux latest caller awaits kept;
         packets = (refl, tt);
         few = omega (arith, some);
       },
-      pays_one w d r.0 copy.server.id r.1 no_fate due.0 (none copy.server.id) is lt,
+      completes_one w d r.0 copy.server.id r.1 no_fate due.0 (none copy.server.id) is lt,
     )
 
 -- a copy that didn't come for want of memory
@@ -196,16 +196,16 @@ pub carries_one_stop : (F : Rules) (stage : Stage) (servers : List Serving) (d :
     (r : Result (Unit {0}) Stop) → next.mux ≡ now.mux → Stays now.caller.seats next.caller.seats
     → next.caller.latest ≡ now.caller.latest → IsSameCaller now.caller next.caller
     → IsErrAnd r (λ stop. stop ≡ Memory) → CarriesOne F stage servers d most now next r
-carries_one_stop F stage servers d most now next r mux stays latest caller memory = λ stint deeds kept owes. (
+carries_one_stop F stage servers d most now next r mux stays latest caller memory = λ task notes kept awaits. (
   [],
   record {
     kept =
-        kept_stays F stage servers stint now next deeds mux stays latest caller kept;
+        kept_stays F stage servers task now next notes mux stays latest caller kept;
     packets = tt;
     few = omega arith;
   },
-  ended (λ _. Pays false (with_copies d 1) []) (λ stop. stop ≡ Memory) (λ stop. IsStopOf deeds stop) r memory
-      (stop_of_memory deeds),
+  ended (λ _. Completes false (with_copies d 1) []) (λ stop. stop ≡ Memory) (λ stop. IsStopOf notes stop) r memory
+      (stop_of_memory notes),
 )
 
 -- a copy of a hop weighs what a sending of the next one does, and one more
@@ -213,11 +213,11 @@ pub weight_of : (hop next : Hop) → hop_after hop ≡ Some next → hop_weight 
 weight_of hop next after = grind arith
 
 -- the forward is to be completed once it was made
-owes_forward : (stint : Stint) (d : List Note) (k : ℕ) (hop next : Hop) (at : ℕ) (before fate : Fate) (clock : Moment)
+awaits_forward : (task : Task) (d : List Note) (k : ℕ) (hop next : Hop) (at : ℕ) (before fate : Fate) (clock : Moment)
     (server to : ServerId) (due w : ℕ)
-    → hop_after hop ≡ Some next → at < clock.0 → Owes stint d (pending k hop at before)
-    → Owes stint (arrival clock k hop server (Forward to) fate due w ∷ d) (pending k next clock.0 fate)
-owes_forward stint d k hop next at before fate clock server to due w after lt owes =
+    → hop_after hop ≡ Some next → at < clock.0 → AwaitsCopies task d (pending k hop at before)
+    → AwaitsCopies task (arrival clock k hop server (Forward to) fate due w ∷ d) (pending k next clock.0 fate)
+awaits_forward task d k hop next at before fate clock server to due w after lt awaits =
     let n = arrival clock k hop server (Forward to) fate due w in
     record {
       note = n;
@@ -227,17 +227,17 @@ owes_forward stint d k hop next at before fate clock server to due w after lt ow
       clock = refl;
       fate = refl;
       steered =
-          let a = owes.steered in let le = more_many (λ y. steers_packet y.event.what k) (n ∷ []) d in omega arith;
-      later = let a = owes.later in omega (arith, a, lt);
-      within = owes.within;
-      first = (omega arith, owes.first);
+          let a = awaits.steered in let le = more_many (λ y. steers_packet y.event.what k) (n ∷ []) d in omega arith;
+      later = let a = awaits.later in omega (arith, a, lt);
+      within = awaits.within;
+      first = (omega arith, awaits.first);
     }
 
 -- a copy that is forwarded, and what came of the forward
 pub carries_forward : (F : Rules) (stage : Stage) (servers : List Serving) (k at : ℕ) (hop onto : Hop) (before fate : Fate)
     (now next last : MuxWorker)
     (place : ℕ) (octets : List ℕ) (due : Moment) (r : Moment × Verdict) (to : ServerId)
-    (result : Result (Unit {0}) Stop) → hop_after hop ≡ Some onto → Suits stage servers
+    (result : Result (Unit {0}) Stop) → hop_after hop ≡ Some onto → AreServersOf stage servers
     → (copy : IsCopyOf stage servers now.mux place k hop octets)
     → due.0 ≡ at + before.delay → due.0 < r.0.0 → r.1 ≡ Forward to → F k onto fate
     → ((server : Serving) (read : _) → slice_get servers place ≡ Some server → IsCopy server octets read
@@ -245,10 +245,10 @@ pub carries_forward : (F : Rules) (stage : Stage) (servers : List Serving) (k at
     → next.mux ≡ now.mux → next.caller.latest ≡ max now.caller.latest r.0.0 → IsSameCaller now.caller next.caller
     → Carries F stage servers (pending k onto r.0.0 fate) (most_tries onto) next last result
     → CarriesOne F stage servers (pending k hop at before) (hop_weight hop) now last result
-carries_forward F stage servers k at hop onto before fate now next last place octets due r to result after suits
+carries_forward F stage servers k at hop onto before fate now next last place octets due r to result after servers_are
     copy is lt forward drawn come mux latest caller carries =
-    λ stint deeds kept owes.
-    let w = (mux_for stint).0 + 1 in
+    λ task notes kept awaits.
+    let w = (mux_for task).0 + 1 in
     let d = pending k hop at before in
     let n = arrival r.0 k hop copy.server.id (Forward to) fate due.0 w in
     let came =
@@ -260,21 +260,21 @@ carries_forward F stage servers k at hop onto before fate now next last place oc
     subst (λ (o : Option Hop). IfSome {T = Sending} (option_map (λ x. record { packet = k; hop = x }) o) (λ s. F s.packet s.hop fate))
     (sym after) drawn in
     let one =
-    kept_arrival F stage servers stint now next deeds d place octets due (r.0, Forward to) fate suits copy is lt
-    sent came mux latest caller owes kept in
-    let c = carries stint (n ∷ deeds) one
-    (owes_forward stint deeds k hop onto at before fate r.0 copy.server.id to due.0 w after (omega (arith, is, lt)) owes) in
+    kept_arrival F stage servers task now next notes d place octets due (r.0, Forward to) fate servers_are copy is lt
+    sent came mux latest caller awaits kept in
+    let c = carries task (n ∷ notes) one
+    (awaits_forward task notes k hop onto at before fate r.0 copy.server.id to due.0 w after (omega (arith, is, lt)) awaits) in
     let y = c.0 in
-    let all : (y ++ n ∷ []) ++ deeds ≡ y ++ n ∷ deeds = append_assoc y (n ∷ []) deeds in (
+    let all : (y ++ n ∷ []) ++ notes ≡ y ++ n ∷ notes = append_assoc y (n ∷ []) notes in (
       y ++ n ∷ [],
       record {
-        kept = subst (λ (l : List Note). Kept F stage servers stint last l) (sym all) c.1.kept;
+        kept = subst (λ (l : List Note). Kept F stage servers task last l) (sym all) c.1.kept;
         packets = each_append (λ x. IsOf k x.event.what) y (n ∷ []) c.1.packets (refl, tt);
         few = let e = length-append y (n ∷ []) in let f = c.1.few in let w = weight_of hop onto after in omega arith;
       },
-      answered (λ _. Pays true (pending k onto r.0.0 fate) y) (λ _. Pays false (with_copies d 1) (y ++ n ∷ []))
-          (λ stop. IsStopOf (y ++ n ∷ deeds) stop) (λ stop. IsStopOf ((y ++ n ∷ []) ++ deeds) stop) result
-          (λ _ paid. pays_forward w d onto r.0 copy.server.id to fate due.0 y after is lt paid)
+      answered (λ _. Completes true (pending k onto r.0.0 fate) y) (λ _. Completes false (with_copies d 1) (y ++ n ∷ []))
+          (λ stop. IsStopOf (y ++ n ∷ notes) stop) (λ stop. IsStopOf ((y ++ n ∷ []) ++ notes) stop) result
+          (λ _ is_completed. completes_forward w d onto r.0 copy.server.id to fate due.0 y after is lt is_completed)
           (λ stop is. subst (λ (l : List Note). IsStopOf l stop) (sym all) is) c.2,
     )
 
@@ -284,16 +284,16 @@ pub carried_copy : (F : Rules) (stage : Stage) (servers : List Serving) (d : Pen
     (old now next : MuxWorker)
     → HasCarried F stage servers d i few old now → CarriesOne F stage servers d most now next (Ok tt)
     → HasCarried F stage servers d (i + 1) (few + most) old next
-carried_copy F stage servers d i few most old now next carried one = λ stint deeds kept owes.
-    let c = carried stint deeds kept owes in let x = c.0 in
-    let o = one stint (x ++ deeds) c.1.kept (owes_more stint x deeds d c.1.packets owes) in let y = o.0 in (
+carried_copy F stage servers d i few most old now next carried one = λ task notes kept awaits.
+    let c = carried task notes kept awaits in let x = c.0 in
+    let o = one task (x ++ notes) c.1.kept (copies_left_more task x notes d c.1.packets awaits) in let y = o.0 in (
       y ++ x,
       record {
-        kept = subst (λ (l : List Note). Kept F stage servers stint next l) (sym (append_assoc y x deeds)) o.1.kept;
+        kept = subst (λ (l : List Note). Kept F stage servers task next l) (sym (append_assoc y x notes)) o.1.kept;
         packets = each_append (λ n. IsOf d.packet n.event.what) y x o.1.packets c.1.packets;
         few = let e = length-append y x in let a = c.1.few in let b = o.1.few in omega arith;
       },
-      pays_more d i x y c.2 o.2,
+      completes_more d i x y c.2 o.2,
     )
 
 pub carried_copy_stop : (F : Rules) (stage : Stage) (servers : List Serving) (d : Pending) (i few more most : ℕ)
@@ -301,17 +301,17 @@ pub carried_copy_stop : (F : Rules) (stage : Stage) (servers : List Serving) (d 
     (stop : Stop) (r : Result (Unit {0}) Stop) → few + more ≤ most → IsErrAnd r (λ e. e ≡ stop)
     → HasCarried F stage servers d i few old now → CarriesOne F stage servers d more now next (Err stop)
     → Carries F stage servers d most old next r
-carried_copy_stop F stage servers d i few more most old now next stop r top is carried one = λ stint deeds kept owes.
-    let c = carried stint deeds kept owes in let x = c.0 in
-    let o = one stint (x ++ deeds) c.1.kept (owes_more stint x deeds d c.1.packets owes) in let y = o.0 in
-    let all : (y ++ x) ++ deeds ≡ y ++ (x ++ deeds) = append_assoc y x deeds in (
+carried_copy_stop F stage servers d i few more most old now next stop r top is carried one = λ task notes kept awaits.
+    let c = carried task notes kept awaits in let x = c.0 in
+    let o = one task (x ++ notes) c.1.kept (copies_left_more task x notes d c.1.packets awaits) in let y = o.0 in
+    let all : (y ++ x) ++ notes ≡ y ++ (x ++ notes) = append_assoc y x notes in (
       y ++ x,
       record {
-        kept = subst (λ (l : List Note). Kept F stage servers stint next l) (sym all) o.1.kept;
+        kept = subst (λ (l : List Note). Kept F stage servers task next l) (sym all) o.1.kept;
         packets = each_append (λ n. IsOf d.packet n.event.what) y x o.1.packets c.1.packets;
         few = let e = length-append y x in let a = c.1.few in let b = o.1.few in omega (arith, e, a, b, top);
       },
-      ended (λ _. Pays true d (y ++ x)) (λ e. e ≡ stop) (λ e. IsStopOf ((y ++ x) ++ deeds) e) r is
-          (λ e same. subst (λ (z : Stop). IsStopOf ((y ++ x) ++ deeds) z) (sym same)
+      ended (λ _. Completes true d (y ++ x)) (λ e. e ≡ stop) (λ e. IsStopOf ((y ++ x) ++ notes) e) r is
+          (λ e same. subst (λ (z : Stop). IsStopOf ((y ++ x) ++ notes) z) (sym same)
           (subst (λ (l : List Note). IsStopOf l stop) (sym all) o.2)),
     )

@@ -32,17 +32,17 @@ use Rattle.bm_turnstile.specs.Sittings.{who}
 use Rattle.bm_worker.specs.declared.stop.Stop.{Stop}
 use Rattle.bm_worker.specs.declared.stop.Stop.TheVariants.{Memory}
 use Rattle.bm_worker.specs.declared.worker.MuxWorker.{MuxWorker}
-use Rattle.bm_worker.specs.Inside.Batches.{AreCollected, AreDrawn, AreOwed, AreSettled, CarriesTo, Delivers, GrowsBy}
+use Rattle.bm_worker.specs.Inside.Batches.{AreCollected, AreDrawn, HaveSendings, AreSettled, CarriesTo, Delivers, GrowsBy}
 use Rattle.bm_worker.specs.Inside.Batches.{HasOnlyLooked, HasSeen}
-use Rattle.bm_worker.specs.Inside.Batches.{IsDelivery, IsDoneTo, IsItemOf, IsLogged, IsSent, PaysFor}
+use Rattle.bm_worker.specs.Inside.Batches.{IsDelivery, IsDoneTo, IsItemOf, IsLogged, IsSent, CompletesAll}
 use Rattle.bm_worker.specs.Inside.Batches.{last_packet, last_sent, sent_notes, switch_note, switch_notes}
-use Rattle.bm_worker.specs.WorkerNotes.{Suits}
+use Rattle.bm_worker.specs.WorkerNotes.{AreServersOf}
 use Rattle.bm_worker.specs.Inside.Pending.{GrowsByLosses, IsUpTo, comes, comes_by, copyless_at, gives, gives_by, lost_at}
-use Rattle.bm_worker.specs.Phases.{AreCopies, AreFew, HasEnded, IsStopOf, Kept, Stint, is_steer, mux_for}
+use Rattle.bm_worker.specs.Phases.{AreCopies, AreFew, HasEnded, IsStopOf, Kept, Task, is_steer, mux_for}
 use Rattle.bm_worker.specs.Callers.{CallerState}
-use Rattle.bm_worker.specs.SeatCalls.{told_there}
+use Rattle.bm_worker.specs.SeatCalls.{calls_there}
 use Rattle.bm_worker.specs.Assigned.{is_assigned}
-use Rattle.bm_worker.proofs.Batching.{all_sent, batch_version, sent_owed}
+use Rattle.bm_worker.proofs.Batching.{all_sent, batch_version, sent_has_sending}
 use Rattle.bm_worker.proofs.Carrying.{ended}
 use Rattle.bm_worker.proofs.Copying.{copies_stay}
 use Rattle.bm_worker.proofs.Delivering.{ups_to_more}
@@ -95,8 +95,8 @@ switch_few m seen past = of_test (ltb (version_at past m).0 (last_version seen))
 -- what was steered is completed, and so is all that was before
 batch_settled : (m : MuxId) (seen : Posted) (past : List Event) (s d y : List Note)
     → AreSteerings m (s ++ switch_notes m seen past)
-    → PaysFor s y → AreSettled d → AreSettled (y ++ ((s ++ switch_notes m seen past) ++ d))
-batch_settled m seen past s d y kinds pays old =
+    → CompletesAll s y → AreSettled d → AreSettled (y ++ ((s ++ switch_notes m seen past) ++ d))
+batch_settled m seen past s d y kinds completes old =
     let sw = switch_notes m seen past in
     record {
       lost = λ k hop c.
@@ -111,7 +111,7 @@ batch_settled m seen past s d y kinds pays old =
           let no : total (copyless_at k hop c) sw ≡ 0 =
           switch_none m seen past
           (λ w n. cond (sends w k hop && (n.fate.copies == 0 && n.event.clock.0 == c)) 1 0) (λ x v n. refl) in
-          let one = pays.lost k hop c in let two = old.lost k hop c in
+          let one = completes.lost k hop c in let two = old.lost k hop c in
           omega (arith, a, b, e, f, g, none, no, one, two);
       sent = λ k hop c.
           let a = total_append (comes_by k hop c) y ((s ++ sw) ++ d) in
@@ -125,7 +125,7 @@ batch_settled m seen past s d y kinds pays old =
           let no : total (gives_by k hop c) sw ≡ 0 =
           switch_none m seen past (λ w n. cond (sends w k hop && ltb n.event.clock.0 c) n.fate.copies 0)
           (λ x v n. refl) in
-          let one = pays.sent k hop c in let two = old.sent k hop c in
+          let one = completes.sent k hop c in let two = old.sent k hop c in
           omega (arith, a, b, e, f, g, none, no, one, two);
       arrived = λ k hop.
           let a = total_append (comes k hop) y ((s ++ sw) ++ d) in
@@ -137,7 +137,7 @@ batch_settled m seen past s d y kinds pays old =
           steering_none m (λ w n. cond (arrives w k hop) 1 0) (λ j x n. refl) (λ x v n. refl) (s ++ sw) kinds in
           let no : total (gives k hop) sw ≡ 0 =
           switch_none m seen past (λ w n. cond (sends w k hop) n.fate.copies 0) (λ x v n. refl) in
-          let one = pays.arrived k hop in let two = old.arrived k hop in
+          let one = completes.arrived k hop in let two = old.arrived k hop in
           omega (arith, a, b, e, f, g, none, no, one, two);
     }
 
@@ -207,22 +207,22 @@ clock_of_batch now mid m = steering_clock (switches m mid.mux.seen (reverse now.
 abbrev with_batch : MuxWorker → MuxWorker → MuxId → List MuxItem → List Fate → List Note → List Note
 with_batch now mid m items fates d = batch_notes m mid.mux.seen (reverse now.mux.log) items fates ++ d
 
-delivered_in : (F : Rules) (stage : Stage) (servers : List Serving) (stint : Stint) (now mid next : MuxWorker)
+delivered_in : (F : Rules) (stage : Stage) (servers : List Serving) (task : Task) (now mid next : MuxWorker)
     (d : List Note) (low end : ℕ) (i : MuxItem) (items : List MuxItem) (fates : List Fate) (sents : List Steered)
-    (r : Result (Unit {0}) Stop) → IsDoneTo F stage servers stint now low d
-    → AreCollected F stage stint.routes (mux_for stint).0 low end (i ∷ items) fates → end ≤ stint.until
+    (r : Result (Unit {0}) Stop) → IsDoneTo F stage servers task now low d
+    → AreCollected F stage task.routes (mux_for task).0 low end (i ∷ items) fates → end ≤ task.until
     → HasSteered now.mux (i ∷ items) mid.mux [] sents → HasSeen now mid
     → Delivers F stage servers sents fates mid next r
-    → (y : List Note) × Kept F stage servers stint next (y ++ with_batch now mid (mux_for stint) (i ∷ items) fates d)
+    → (y : List Note) × Kept F stage servers task next (y ++ with_batch now mid (mux_for task) (i ∷ items) fates d)
     × (length y ≤ 39 * length (i ∷ items)) × AllByRecursion (λ n. IsDelivery n.event.what) y
     × MatchResult r
-    (λ _. PaysFor (sent_notes (mux_for stint) (sent (mux_for stint) mid.mux.seen
-    (clock_of_batch now mid (mux_for stint)) (i ∷ items)) fates) y
+    (λ _. CompletesAll (sent_notes (mux_for task) (sent (mux_for task) mid.mux.seen
+    (clock_of_batch now mid (mux_for task)) (i ∷ items)) fates) y
     × AllByRecursion (λ n. IsUpTo (last_packet low (i ∷ items)) n.event.what) y)
-    (λ stop. IsStopOf (y ++ with_batch now mid (mux_for stint) (i ∷ items) fates d) stop)
-delivered_in F stage servers stint now mid next d low end i items fates sents r done got until steered seen_it
+    (λ stop. IsStopOf (y ++ with_batch now mid (mux_for task) (i ∷ items) fates d) stop)
+delivered_in F stage servers task now mid next d low end i items fates sents r done got until steered seen_it
     delivers =
-    let m = mux_for stint in let past = reverse now.mux.log in let seen = mid.mux.seen in
+    let m = mux_for task in let past = reverse now.mux.log in let seen = mid.mux.seen in
     let all = i ∷ items in
     let c = steering_clock (switches m seen past ++ past) in
     let s = sent_notes m (sent m seen c all) fates in let sw = switch_notes m seen past in
@@ -230,72 +230,72 @@ delivered_in F stage servers stint now mid next d low end i items fates sents r 
     let id : now.mux.id ≡ m = done.kept.mux.id in
     let batch : IsBatch m seen all now.mux.log mid.mux.log [] sents =
     subst (λ (j : MuxId). IsBatch j seen all now.mux.log mid.mux.log [] sents) id steered.batch in
-    let top : last_packet low all ≤ stint.until = (let u = got.under in omega (arith, u, until)) in
-    let step = batch_step F stage servers stint now mid d low i items fates [] sents id steered.looked.same batch
+    let top : last_packet low all ≤ task.until = (let u = got.under in omega (arith, u, until)) in
+    let step = batch_step F stage servers task now mid d low i items fates [] sents id steered.looked.same batch
     seen_it done.from top got.rise got.each got.drawn done.logged done.switched done.begun in
-    let kept = kept_more F stage servers stint now mid d x done.kept step in
+    let kept = kept_more F stage servers task now mid d x done.kept step in
     let same : sents ≡ sent m seen c all = batch.out_is in
-    let after : stint.after ≤ c = (let a = done.begun in let b = switch_begun m seen past in omega (arith, a, b)) in
-    let owed : AreOwed stint (x ++ d) low (sent m seen c all) fates =
-    sent_owed F stage stint seen (x ++ d) c low all fates after done.from top got.rise got.drawn
+    let after : task.after ≤ c = (let a = done.begun in let b = switch_begun m seen past in omega (arith, a, b)) in
+    let has_sending : HaveSendings task (x ++ d) low (sent m seen c all) fates =
+    sent_has_sending F stage task seen (x ++ d) c low all fates after done.from top got.rise got.drawn
     (λ f. (let a = total_append f x d in let b = total_append f s sw in omega (arith, a, b))) in
     let ups : AllByRecursion (λ n. IsUpTo low n.event.what) (x ++ d) =
     each_append (λ n. IsUpTo low n.event.what) x d
     (each_so (λ n. IsSteeringOf m n.event.what) (λ n. IsUpTo low n.event.what) x
     (λ n is. steering_up_to low m n.event.what is) (batch_kinds m seen past all fates)) done.first in
-    let o = delivers stint (x ++ d) low kept
-    (subst (λ (l : List Steered). AreOwed stint (x ++ d) low l fates) (sym same) owed) ups in (
+    let o = delivers task (x ++ d) low kept
+    (subst (λ (l : List Steered). HaveSendings task (x ++ d) low l fates) (sym same) has_sending) ups in (
       o.0,
       o.1,
       (let a = o.2 in let e : length sents ≡ length (sent m seen c all) = ap (λ (l : List Steered). length l) same in
           let f = sent_length m seen c all in omega (arith, a, e, f)),
       o.3,
       subst (λ (k : ℕ). MatchResult r
-          (λ _. PaysFor s o.0 × AllByRecursion (λ n. IsUpTo k n.event.what) o.0)
+          (λ _. CompletesAll s o.0 × AllByRecursion (λ n. IsUpTo k n.event.what) o.0)
           (λ stop. IsStopOf (o.0 ++ (x ++ d)) stop)) (last_of_sent m seen c low all)
           (subst (λ (l : List Steered). MatchResult r
-          (λ _. PaysFor (sent_notes m l fates) o.0 × AllByRecursion (λ n. IsUpTo (last_sent low l) n.event.what) o.0)
+          (λ _. CompletesAll (sent_notes m l fates) o.0 × AllByRecursion (λ n. IsUpTo (last_sent low l) n.event.what) o.0)
           (λ stop. IsStopOf (o.0 ++ (x ++ d)) stop)) same o.4),
     )
 
 -- the worker gave up in the batch
-stopped_in : (F : Rules) (stage : Stage) (servers : List Serving) (stint : Stint) (now mid next : MuxWorker)
+stopped_in : (F : Rules) (stage : Stage) (servers : List Serving) (task : Task) (now mid next : MuxWorker)
     (d : List Note) (low end : ℕ) (i : MuxItem) (items : List MuxItem) (fates : List Fate) (sents : List Steered)
-    (stop : Stop) → IsDoneTo F stage servers stint now low d
-    → AreCollected F stage stint.routes (mux_for stint).0 low end (i ∷ items) fates → end ≤ stint.until
+    (stop : Stop) → IsDoneTo F stage servers task now low d
+    → AreCollected F stage task.routes (mux_for task).0 low end (i ∷ items) fates → end ≤ task.until
     → HasSteered now.mux (i ∷ items) mid.mux [] sents → HasSeen now mid
     → Delivers F stage servers sents fates mid next (Err stop)
-    → HasEnded F stage servers stint next (Some stop)
-stopped_in F stage servers stint now mid next d low end i items fates sents stop done got until steered seen_it
+    → HasEnded F stage servers task next (Some stop)
+stopped_in F stage servers task now mid next d low end i items fates sents stop done got until steered seen_it
     delivers =
-    let o = delivered_in F stage servers stint now mid next d low end i items fates sents (Err stop) done got until
+    let o = delivered_in F stage servers task now mid next d low end i items fates sents (Err stop) done got until
     steered seen_it delivers in (
-      o.0 ++ with_batch now mid (mux_for stint) (i ∷ items) fates d,
+      o.0 ++ with_batch now mid (mux_for task) (i ∷ items) fates d,
       o.1,
       o.4,
-      batch_few F (mux_for stint) mid.mux.seen (reverse now.mux.log) (i ∷ items) fates o.0 d got.drawn (omega arith) o.2
+      batch_few F (mux_for task) mid.mux.seen (reverse now.mux.log) (i ∷ items) fates o.0 d got.drawn (omega arith) o.2
           o.3 done.few,
     )
 
 -- the batch is done
-done_in : (F : Rules) (stage : Stage) (servers : List Serving) (stint : Stint) (now mid next : MuxWorker)
+done_in : (F : Rules) (stage : Stage) (servers : List Serving) (task : Task) (now mid next : MuxWorker)
     (d : List Note) (low end most : ℕ) (i : MuxItem) (items : List MuxItem) (fates : List Fate) (sents : List Steered)
-    → IsDoneTo F stage servers stint now low d
-    → AreCollected F stage stint.routes (mux_for stint).0 low end (i ∷ items) fates → low ≤ end → end ≤ stint.until
+    → IsDoneTo F stage servers task now low d
+    → AreCollected F stage task.routes (mux_for task).0 low end (i ∷ items) fates → low ≤ end → end ≤ task.until
     → HasSteered now.mux (i ∷ items) mid.mux [] sents → HasSeen now mid
     → GrowsByLosses most mid.mux.log next.mux.log → next.mux.seen ≡ mid.mux.seen
     → Delivers F stage servers sents fates mid next (Ok tt)
-    → (e : List Note) × IsDoneTo F stage servers stint next end e
-done_in F stage servers stint now mid next d low end most i items fates sents done got le until steered seen_it grows
+    → (e : List Note) × IsDoneTo F stage servers task next end e
+done_in F stage servers task now mid next d low end most i items fates sents done got le until steered seen_it grows
     seen_is delivers =
-    let m = mux_for stint in let past = reverse now.mux.log in let seen = mid.mux.seen in
+    let m = mux_for task in let past = reverse now.mux.log in let seen = mid.mux.seen in
     let all = i ∷ items in
     let sw = switches m seen past in
     let c = steering_clock (sw ++ past) in
     let st = steers m c all in
     let s = sent_notes m (sent m seen c all) fates in
     let x = batch_notes m seen past all fates in
-    let o = delivered_in F stage servers stint now mid next d low end i items fates sents (Ok tt) done got until
+    let o = delivered_in F stage servers task now mid next d low end i items fates sents (Ok tt) done got until
     steered seen_it delivers in
     let y = o.0 in
     let batch : IsBatch m seen all now.mux.log mid.mux.log [] sents =
@@ -311,14 +311,14 @@ done_in F stage servers stint now mid next d low end most i items fates sents do
         from = let a = done.from in omega (arith, a, le);
         kept = o.1;
         settled = batch_settled m seen past s d y kinds o.4.0 done.settled;
-        steered = λ k. batch_steered F stint.routes m seen past stint.from low end all fates y d k got.drawn done.from
+        steered = λ k. batch_steered F task.routes m seen past task.from low end all fates y d k got.drawn done.from
             le (got.once k) (done.steered k) o.3;
         looked =
             let a = done.looked in
             let b = more_many (λ n. is_switch_of n.event.what m.0) x d in
             let e = more_many (λ n. is_switch_of n.event.what m.0) y (x ++ d) in omega (arith, a, b, e);
-        heard = subst (λ (p : Posted). Continues stint.told p) (sym seen_is)
-            (continues_on stint.told now.mux.seen mid.mux.seen done.heard steered.looked.same.later);
+        heard = subst (λ (p : Posted). Continues task.posted p) (sym seen_is)
+            (continues_on task.posted now.mux.seen mid.mux.seen done.heard steered.looked.same.later);
         few = batch_few F m seen past all fates y d got.drawn (omega arith) o.2 o.3 done.few;
         first = each_append (λ n. IsUpTo end n.event.what) y (x ++ d)
             (ups_to_more (last_packet low all) end y under o.4.1)
@@ -331,10 +331,10 @@ done_in F stage servers stint now mid next d low end most i items fates sents do
             (event_plus (IsLogged m end) (reverse st) (sw ++ past)
             (steers_logged m c low end all got.rise under)
             (logged_more m low end (sw ++ past) le (switch_logged m low seen past done.logged))));
-        switched = subst (λ (l : List Event). switched_since stint.after m.0 l ≡ true) (sym turned)
-            (switched_more stint.after m.0 (reverse grows.0) (reverse st ++ (sw ++ past))
-            (switched_more stint.after m.0 (reverse st) (sw ++ past)
-            (switched_more stint.after m.0 sw past done.switched)));
+        switched = subst (λ (l : List Event). switched_since task.after m.0 l ≡ true) (sym turned)
+            (switched_more task.after m.0 (reverse grows.0) (reverse st ++ (sw ++ past))
+            (switched_more task.after m.0 (reverse st) (sw ++ past)
+            (switched_more task.after m.0 sw past done.switched)));
         begun =
             let clock : steering_clock (reverse next.mux.log) ≡ final c all =
             ap (λ (l : List Event). steering_clock l) turned
@@ -349,35 +349,35 @@ done_in F stage servers stint now mid next d low end most i items fates sents do
 -- BY THE ITEMS
 
 -- the items lie before the end, so there is a first one
-pub batch_stopped : (F : Rules) (stage : Stage) (servers : List Serving) (stint : Stint) (now mid next : MuxWorker)
+pub batch_stopped : (F : Rules) (stage : Stage) (servers : List Serving) (task : Task) (now mid next : MuxWorker)
     (d : List Note) (low end : ℕ) (items : List MuxItem) (fates : List Fate) (sents : List Steered)
-    (stop : Stop) → 0 < length items → IsDoneTo F stage servers stint now low d
-    → AreCollected F stage stint.routes (mux_for stint).0 low end items fates → end ≤ stint.until
+    (stop : Stop) → 0 < length items → IsDoneTo F stage servers task now low d
+    → AreCollected F stage task.routes (mux_for task).0 low end items fates → end ≤ task.until
     → HasSteered now.mux items mid.mux [] sents → HasSeen now mid
     → Delivers F stage servers sents fates mid next (Err stop)
-    → HasEnded F stage servers stint next (Some stop)
-batch_stopped F stage servers stint now mid next d low end [] fates sents stop some done got until steered seen_it
+    → HasEnded F stage servers task next (Some stop)
+batch_stopped F stage servers task now mid next d low end [] fates sents stop some done got until steered seen_it
     delivers =
     absurd (omega (arith, some))
-batch_stopped F stage servers stint now mid next d low end (i ∷ items) fates sents stop some done got until steered
+batch_stopped F stage servers task now mid next d low end (i ∷ items) fates sents stop some done got until steered
     seen_it delivers =
-    stopped_in F stage servers stint now mid next d low end i items fates sents stop done got until steered seen_it
+    stopped_in F stage servers task now mid next d low end i items fates sents stop done got until steered seen_it
     delivers
 
-pub batch_done : (F : Rules) (stage : Stage) (servers : List Serving) (stint : Stint) (now mid next : MuxWorker)
+pub batch_done : (F : Rules) (stage : Stage) (servers : List Serving) (task : Task) (now mid next : MuxWorker)
     (d : List Note) (low end most : ℕ) (items : List MuxItem) (fates : List Fate) (sents : List Steered)
-    → 0 < length items → IsDoneTo F stage servers stint now low d
-    → AreCollected F stage stint.routes (mux_for stint).0 low end items fates → low ≤ end → end ≤ stint.until
+    → 0 < length items → IsDoneTo F stage servers task now low d
+    → AreCollected F stage task.routes (mux_for task).0 low end items fates → low ≤ end → end ≤ task.until
     → HasSteered now.mux items mid.mux [] sents → HasSeen now mid
     → GrowsByLosses most mid.mux.log next.mux.log → next.mux.seen ≡ mid.mux.seen
     → Delivers F stage servers sents fates mid next (Ok tt)
-    → (e : List Note) × IsDoneTo F stage servers stint next end e
-batch_done F stage servers stint now mid next d low end most [] fates sents some done got le until steered seen_it grows
+    → (e : List Note) × IsDoneTo F stage servers task next end e
+batch_done F stage servers task now mid next d low end most [] fates sents some done got le until steered seen_it grows
     seen_is delivers =
     absurd (omega (arith, some))
-batch_done F stage servers stint now mid next d low end most (i ∷ items) fates sents some done got le until steered
+batch_done F stage servers task now mid next d low end most (i ∷ items) fates sents some done got le until steered
     seen_it grows seen_is delivers =
-    done_in F stage servers stint now mid next d low end most i items fates sents done got le until steered seen_it
+    done_in F stage servers task now mid next d low end most i items fates sents done got le until steered seen_it
     grows seen_is delivers
 
 -- NO ITEM
@@ -385,44 +385,44 @@ batch_done F stage servers stint now mid next d low end most (i ∷ items) fates
 no_count : (k : ℕ) (items : List MuxItem) → items ≡ [] → count_of (λ (i : MuxItem). i.packet == k) items ≡ 0
 no_count k items none = ap (λ (l : List MuxItem). count_of (λ (i : MuxItem). i.packet == k) l) none
 
-pub batch_empty : (F : Rules) (stage : Stage) (servers : List Serving) (stint : Stint) (now : MuxWorker)
+pub batch_empty : (F : Rules) (stage : Stage) (servers : List Serving) (task : Task) (now : MuxWorker)
     (d : List Note) (low end : ℕ) (items : List MuxItem) (fates : List Fate) → items ≡ [] → low ≤ end
-    → IsDoneTo F stage servers stint now low d
-    → AreCollected F stage stint.routes (mux_for stint).0 low end items fates
-    → IsDoneTo F stage servers stint now end d
-batch_empty F stage servers stint now d low end items fates none le done got = record {
+    → IsDoneTo F stage servers task now low d
+    → AreCollected F stage task.routes (mux_for task).0 low end items fates
+    → IsDoneTo F stage servers task now end d
+batch_empty F stage servers task now d low end items fates none le done got = record {
   from = let a = done.from in omega (arith, a, le);
   kept = done.kept;
   settled = done.settled;
   steered = λ k.
       let a = done.steered k in let b = got.once k in let e = no_count k items none in
-      let split = assigned_split stint.routes (mux_for stint).0 stint.from low end k done.from le in
+      let split = assigned_split task.routes (mux_for task).0 task.from low end k done.from le in
       omega (arith, a, b, e, split);
   looked = done.looked;
   heard = done.heard;
   few = done.few;
   first = ups_to_more low end d le done.first;
-  logged = logged_more (mux_for stint) low end (reverse now.mux.log) le done.logged;
+  logged = logged_more (mux_for task) low end (reverse now.mux.log) le done.logged;
   switched = done.switched;
   begun = done.begun;
 }
 
 -- NOTHING DONE
 
-pub kept_looked : (F : Rules) (stage : Stage) (servers : List Serving) (stint : Stint) (now next : MuxWorker)
-    (d : List Note) → HasOnlyLooked now next → Kept F stage servers stint now d → Kept F stage servers stint next d
-kept_looked F stage servers stint now next d looked kept =
-    kept_more F stage servers stint now next d [] kept (record {
+pub kept_looked : (F : Rules) (stage : Stage) (servers : List Serving) (task : Task) (now next : MuxWorker)
+    (d : List Note) → HasOnlyLooked now next → Kept F stage servers task now d → Kept F stage servers task next d
+kept_looked F stage servers task now next d looked kept =
+    kept_more F stage servers task now next d [] kept (record {
       each = tt;
       ordered = tt;
       logged = ap (λ (l : List Event). reverse l) looked.log;
       gives = tt;
       hears = hears_stays stage servers now.caller.seats next.caller.seats
-          (λ s h. ap (λ (p : CallerState). told_there p.seats s h) looked.caller);
-      copies = λ are. subst (λ (l : List Event). AreCopies stage (mux_for stint) servers (reverse l) next.caller.seats)
+          (λ s h. ap (λ (p : CallerState). calls_there p.seats s h) looked.caller);
+      copies = λ are. subst (λ (l : List Event). AreCopies stage (mux_for task) servers (reverse l) next.caller.seats)
           (sym looked.log)
-          (copies_stay stage servers (mux_for stint) (reverse now.mux.log) now.caller.seats next.caller.seats
-          (λ s h. ap (λ (p : CallerState). told_there p.seats s h) looked.caller) are);
+          (copies_stay stage servers (mux_for task) (reverse now.mux.log) now.caller.seats next.caller.seats
+          (λ s h. ap (λ (p : CallerState). calls_there p.seats s h) looked.caller) are);
       latest = let e : next.caller.latest ≡ now.caller.latest = ap (λ (p : CallerState). p.latest) looked.caller in
           omega (arith, e);
       mux = looked.mux;
@@ -433,12 +433,12 @@ kept_looked F stage servers stint now next d looked kept =
     })
 
 -- memory was refused before the batch was steered
-pub batch_refused : (F : Rules) (stage : Stage) (servers : List Serving) (stint : Stint) (now next : MuxWorker)
+pub batch_refused : (F : Rules) (stage : Stage) (servers : List Serving) (task : Task) (now next : MuxWorker)
     (d : List Note) (low : ℕ) (stop : Stop) → stop ≡ Memory → HasOnlyLooked now next
-    → IsDoneTo F stage servers stint now low d → HasEnded F stage servers stint next (Some stop)
-batch_refused F stage servers stint now next d low stop memory looked done = (
+    → IsDoneTo F stage servers task now low d → HasEnded F stage servers task next (Some stop)
+batch_refused F stage servers task now next d low stop memory looked done = (
   d,
-  kept_looked F stage servers stint now next d looked done.kept,
+  kept_looked F stage servers task now next d looked done.kept,
   subst (λ (s : Stop). IsStopOf d s) (sym memory) tt,
   done.few,
 )
@@ -448,10 +448,10 @@ batch_refused F stage servers stint now next d low stop memory looked done = (
 -- a copy of each packet, for the server of its tag
 pub batch_sent : (F : Rules) (stage : Stage) (servers : List Serving) (routes : List _) (now mid : MuxState)
     (low end : ℕ) (items : List MuxItem) (fates : List Fate) (sents : List Steered)
-    → IsSound stage → Suits stage servers → now.id.0 < 64 → now.seen.plan ≡ stage.script.plan
+    → IsSound stage → AreServersOf stage servers → now.id.0 < 64 → now.seen.plan ≡ stage.script.plan
     → AreCollected F stage routes now.id.0 low end items fates → HasSteered now items mid [] sents
     → AllByRecursion (IsSent stage servers mid) sents
-batch_sent F stage servers routes now mid low end items fates sents sound suits few plan got steered =
+batch_sent F stage servers routes now mid low end items fates sents sound servers_are few plan got steered =
     let past = reverse now.log in let seen = mid.seen in
     let same = steered.looked.same in
     let c = steering_clock (switches now.id seen past ++ past) in
@@ -460,7 +460,7 @@ batch_sent F stage servers routes now mid low end items fates sents sound suits 
     (let a = steered.looked.posted.few in let b = steered.looked.posted.plan.count in omega (arith, a, b)) in
     subst (λ (l : List Steered). AllByRecursion (IsSent stage servers mid) l) (sym steered.batch.out_is)
     (subst (λ (j : MuxId). AllByRecursion (IsSent stage servers mid) (sent j seen c items)) same.id
-    (all_sent stage servers mid routes seen c low items (switches now.id seen past ++ past) sound suits
+    (all_sent stage servers mid routes seen c low items (switches now.id seen past ++ past) sound servers_are
     (subst (λ (j : MuxId). j.0 < 64) (sym same.id) few) plan' early
     (subst (λ (j : MuxId). AllByRecursion (IsItemOf stage routes j.0) items) (sym same.id) got.each) got.rise
     (subst (λ (j : MuxId). (version_at (switches now.id seen past ++ past) j).0 ≡ last_version seen) (sym same.id)
@@ -517,12 +517,12 @@ steered_as old new items items' out out' same none steered =
     subst (λ (l : List Steered). HasSteered old items new l out') none
     (subst (λ (l : List MuxItem). HasSteered old l new out out') same steered)
 
-collected_in : (F : Rules) (stage : Stage) (stint : Stint) (routes : List (Option MuxId)) (id : MuxId)
-    (from end : ℕ) (items : List MuxItem) (fates : List Fate) → stint.routes ≡ routes → id ≡ mux_for stint
+collected_in : (F : Rules) (stage : Stage) (task : Task) (routes : List (Option MuxId)) (id : MuxId)
+    (from end : ℕ) (items : List MuxItem) (fates : List Fate) → task.routes ≡ routes → id ≡ mux_for task
     → AreCollected F stage routes id.0 from end items fates
-    → AreCollected F stage stint.routes (mux_for stint).0 from end items fates
-collected_in F stage stint routes id from end items fates same is got =
-    subst (λ (r : List (Option MuxId)). AreCollected F stage r (mux_for stint).0 from end items fates) (sym same)
+    → AreCollected F stage task.routes (mux_for task).0 from end items fates
+collected_in F stage task routes id from end items fates same is got =
+    subst (λ (r : List (Option MuxId)). AreCollected F stage r (mux_for task).0 from end items fates) (sym same)
     (subst (λ (j : MuxId). AreCollected F stage routes j.0 from end items fates) is got)
 
 -- no packet in it
@@ -530,20 +530,20 @@ pub carries_none : (F : Rules) (stage : Stage) (servers : List Serving) (routes 
     (from end until : ℕ) (w : MuxWorker) (items : List MuxItem) (fates : List Fate) → items ≡ [] → from ≤ end
     → AreCollected F stage routes w.mux.id.0 from end items fates
     → CarriesTo F stage servers routes from until w w (Ok end)
-carries_none F stage servers routes from end until w items fates none le got = λ stint deeds same top done. (
-  deeds,
-  batch_empty F stage servers stint w deeds from end items fates none le done
-      (collected_in F stage stint routes w.mux.id from end items fates same done.kept.mux.id got),
+carries_none F stage servers routes from end until w items fates none le got = λ task notes same top done. (
+  notes,
+  batch_empty F stage servers task w notes from end items fates none le done
+      (collected_in F stage task routes w.mux.id from end items fates same done.kept.mux.id got),
 )
 
 -- memory was refused before it was steered
 pub carries_refused : (F : Rules) (stage : Stage) (servers : List Serving) (routes : List (Option MuxId))
     (from until : ℕ) (w next : MuxWorker) (r : Result ℕ Stop) → IsErrAnd r (λ stop. stop ≡ Memory)
     → HasOnlyLooked w next → CarriesTo F stage servers routes from until w next r
-carries_refused F stage servers routes from until w next r memory looked = λ stint deeds same top done.
-    ended (λ end. (d : List Note) × IsDoneTo F stage servers stint next end d) (λ stop. stop ≡ Memory)
-    (λ stop. HasEnded F stage servers stint next (Some stop)) r memory
-    (λ stop is. batch_refused F stage servers stint w next deeds from stop is looked done)
+carries_refused F stage servers routes from until w next r memory looked = λ task notes same top done.
+    ended (λ end. (d : List Note) × IsDoneTo F stage servers task next end d) (λ stop. stop ≡ Memory)
+    (λ stop. HasEnded F stage servers task next (Some stop)) r memory
+    (λ stop is. batch_refused F stage servers task w next notes from stop is looked done)
 
 -- the worker gave up while it was delivered
 pub carries_stopped : (F : Rules) (stage : Stage) (servers : List Serving) (routes : List (Option MuxId))
@@ -553,12 +553,12 @@ pub carries_stopped : (F : Rules) (stage : Stage) (servers : List Serving) (rout
     → HasSeen w mid → Delivers F stage servers sents fates mid next (Err stop)
     → CarriesTo F stage servers routes from until w next r
 carries_stopped F stage servers routes from end until w mid next items fates sents stop r is some le got steered seen_it
-    delivers = λ stint deeds same top done.
-    ended (λ end. (d : List Note) × IsDoneTo F stage servers stint next end d) (λ e. e ≡ stop)
-    (λ e. HasEnded F stage servers stint next (Some e)) r is
-    (λ e e_is. subst (λ (x : Stop). HasEnded F stage servers stint next (Some x)) (sym e_is)
-    (batch_stopped F stage servers stint w mid next deeds from end items fates sents stop some done
-    (collected_in F stage stint routes w.mux.id from end items fates same done.kept.mux.id got)
+    delivers = λ task notes same top done.
+    ended (λ end. (d : List Note) × IsDoneTo F stage servers task next end d) (λ e. e ≡ stop)
+    (λ e. HasEnded F stage servers task next (Some e)) r is
+    (λ e e_is. subst (λ (x : Stop). HasEnded F stage servers task next (Some x)) (sym e_is)
+    (batch_stopped F stage servers task w mid next notes from end items fates sents stop some done
+    (collected_in F stage task routes w.mux.id from end items fates same done.kept.mux.id got)
     (omega (arith, le, top)) steered seen_it delivers))
 
 -- it is carried
@@ -570,9 +570,9 @@ pub carries_batch : (F : Rules) (stage : Stage) (servers : List Serving) (routes
     → Delivers F stage servers sents fates mid next (Ok tt)
     → CarriesTo F stage servers routes from until w next (Ok end)
 carries_batch F stage servers routes from end until most w mid next items fates sents some le up got steered seen_it
-    grows seen_is delivers = λ stint deeds same top done.
-    batch_done F stage servers stint w mid next deeds from end most items fates sents some done
-    (collected_in F stage stint routes w.mux.id from end items fates same done.kept.mux.id got) le
+    grows seen_is delivers = λ task notes same top done.
+    batch_done F stage servers task w mid next notes from end most items fates sents some done
+    (collected_in F stage task routes w.mux.id from end items fates same done.kept.mux.id got) le
     (omega (arith, up, top)) steered seen_it grows seen_is delivers
 
 -- HOW FAR THE COUNTS RISE

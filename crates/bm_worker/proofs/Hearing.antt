@@ -27,13 +27,13 @@ use Rattle.bm_shard.specs.declared.calls.ShardReply.TheVariants.{Arrived, Closed
 use Rattle.bm_server.specs.Servings.{Serving}
 use Rattle.bm_server.specs.Seats.{Answered, Seated}
 use Rattle.bm_server.specs.Servings.{shard_at, shard_for}
-use Rattle.bm_worker.specs.WorkerNotes.{Hears, Said, Suits, noted, said_of, saying}
+use Rattle.bm_worker.specs.WorkerNotes.{Hears, Said, AreServersOf, noted, said_of, saying}
 use Rattle.bm_worker.specs.Inside.WorkerNotes.{arrival, closing, retiring}
-use Rattle.bm_worker.specs.SeatCalls.{Gains, Stays, told_there}
+use Rattle.bm_worker.specs.SeatCalls.{Gains, Stays, calls_there}
 use Rattle.bm_worker.specs.Arrivals.{HasCome}
 use Rattle.bm_worker.proofs.Numbered.{differ}
 
--- SEVERAL DEEDS
+-- SEVERAL NOTES
 
 pub noted-append : (stage : Stage) (a : Actor) (y x : List Note) → noted stage a (y ++ x) ≡ noted stage a x
     ++ noted stage a y
@@ -43,20 +43,20 @@ noted-append stage a (n ∷ y) x =
     ap (λ (l : List Said). l ++ last) (noted-append stage a y x) ∙ append_assoc (noted stage a x) (noted stage a y) last
 
 pub hears_none : (stage : Stage) (servers : List Serving) (a : List (List Seated)) → Hears stage servers a a []
-hears_none stage servers a s h server at = sym (append-nil (saying (shard_at server h) (told_there a s h)))
+hears_none stage servers a s h server at = sym (append-nil (saying (shard_at server h) (calls_there a s h)))
 
 pub hears_more : (stage : Stage) (servers : List Serving) (a b d : List (List Seated)) (x y : List Note)
     → Hears stage servers a b x → Hears stage servers b d y → Hears stage servers a d (y ++ x)
 hears_more stage servers a b d x y first then s h server at =
     let actor = ShardOf server.id.0 h in
     then s h server at ∙ (ap (λ (l : List Said). l ++ noted stage actor y) (first s h server at)
-    ∙ (append_assoc (saying (shard_at server h) (told_there a s h)) (noted stage actor x) (noted stage actor y)
-    ∙ ap (λ (l : List Said). saying (shard_at server h) (told_there a s h) ++ l) (sym (noted-append stage actor y x))))
+    ∙ (append_assoc (saying (shard_at server h) (calls_there a s h)) (noted stage actor x) (noted stage actor y)
+    ∙ ap (λ (l : List Said). saying (shard_at server h) (calls_there a s h) ++ l) (sym (noted-append stage actor y x))))
 
 pub hears_stays : (stage : Stage) (servers : List Serving) (a b : List (List Seated)) → Stays a b
     → Hears stage servers a b []
 hears_stays stage servers a b same s h server at =
-    ap (saying (shard_at server h)) (same s h) ∙ sym (append-nil (saying (shard_at server h) (told_there a s h)))
+    ap (saying (shard_at server h)) (same s h) ∙ sym (append-nil (saying (shard_at server h) (calls_there a s h)))
 
 -- ONE DEED
 
@@ -86,65 +86,65 @@ both_true false b e = absurd (cc)
 -- in the log there
 hears_call : (stage : Stage) (servers : List Serving) (place number home : ℕ) (server : Serving) (call : ShardCall)
     (reply : ShardReply)
-    (n : Note) (a b : List (List Seated)) → Suits stage servers → slice_get servers place ≡ Some server
+    (n : Note) (a b : List (List Seated)) → AreServersOf stage servers → slice_get servers place ≡ Some server
     → Gains place number call reply a b → number ≡ home
     → said_of (shard_at server number) (call, reply) ≡ (n.event, n.due)
     → ((i h : ℕ) → is_home stage (ShardOf i h) n ≡ (server.id.0 == i) && (home == h)) → Hears stage servers a b (n ∷ [])
-hears_call stage servers place number home server call reply n a b suits at gains same says homes s h server' at' =
+hears_call stage servers place number home server call reply n a b servers_are at gains same says homes s h server' at' =
     let about = shard_at server' h in
     let here = (s == place) && (h == number) in
     let test : is_home stage (ShardOf server'.id.0 h) n ≡ here =
     homes server'.id.0 h
-    ∙ same_test server'.id server.id s place number home h (differ servers suits.rise s place server' server at' at)
+    ∙ same_test server'.id server.id s place number home h (differ servers servers_are.rise s place server' server at' at)
     (λ e. ap (λ (x : Serving). x.id) (same_Some server' server (sym at' ∙ (ap (slice_get servers) e ∙ at)))) same in
     let said : here ≡ true → said_of about (call, reply) ≡ (n.event, n.due) = λ yes.
     let both = both_true (s == place) (h == number) yes in
     let e : s ≡ place = eqb-true s place both.0 in
     let one : server' ≡ server = same_Some server' server (sym at' ∙ (ap (slice_get servers) e ∙ at)) in
     (λ i. said_of (shard_at (one i) (eqb-true h number both.1 i)) (call, reply)) ∙ says in
-    ap (saying about) (gains s h) ∙ (map-append (said_of about) (told_there a s h) (cond here ((call, reply) ∷ []) [])
-    ∙ (ap (λ (l : List Said). saying about (told_there a s h) ++ l)
+    ap (saying about) (gains s h) ∙ (map-append (said_of about) (calls_there a s h) (cond here ((call, reply) ∷ []) [])
+    ∙ (ap (λ (l : List Said). saying about (calls_there a s h) ++ l)
     (said_cond (said_of about) here (call, reply) (n.event, n.due) said)
-    ∙ ap (λ (x : Bool). saying about (told_there a s h) ++ cond x ((n.event, n.due) ∷ []) []) (sym test)))
+    ∙ ap (λ (x : Bool). saying about (calls_there a s h) ++ cond x ((n.event, n.due) ∷ []) []) (sym test)))
 
 -- the shard of a flow at a server of the stage
 pub same_shard : (stage : Stage) (servers : List Serving) (place : ℕ) (server : Serving) (flow : Flow)
-    → Suits stage servers
+    → AreServersOf stage servers
     → slice_get servers place ≡ Some server → shard_for server flow ≡ shard stage flow
-same_shard stage servers place server flow suits at = ap (λ (x : ℕ). shard_of x flow) (suits.shards place server at)
+same_shard stage servers place server flow servers_are at = ap (λ (x : ℕ). shard_of x flow) (servers_are.shards place server at)
 
 -- a copy of the packet, with this tag and segment
 pub hears_arrival : (stage : Stage) (servers : List Serving) (place k w : ℕ) (server : Serving) (read : Tag × Segment)
     (due : Moment)
-    (r : Moment × Verdict) (fate : Fate) (a b : List (List Seated)) → Suits stage servers
+    (r : Moment × Verdict) (fate : Fate) (a b : List (List Seated)) → AreServersOf stage servers
     → slice_get servers place ≡ Some server
     → HasCome place server k read due r a b → segment_of stage k ≡ Some read.1
     → Hears stage servers a b (arrival r.0 k read.0.hop server.id r.1 fate due.0 w ∷ [])
-hears_arrival stage servers place k w server read due r fate a b suits at come here =
+hears_arrival stage servers place k w server read due r fate a b servers_are at come here =
     hears_call stage servers place (shard_for server read.1.flow) (shard stage read.1.flow) server
     (Arrive k read.0 read.1 due)
-    (Arrived r.0 r.1 come.reset) (arrival r.0 k read.0.hop server.id r.1 fate due.0 w) a b suits at come.gains
-    (same_shard stage servers place server read.1.flow suits at) refl
+    (Arrived r.0 r.1 come.reset) (arrival r.0 k read.0.hop server.id r.1 fate due.0 w) a b servers_are at come.gains
+    (same_shard stage servers place server read.1.flow servers_are at) refl
     (λ i h. ap
     (λ (o : Option Segment). is_by (option_map (λ (x : Segment). ShardOf server.id.0 (shard stage x.flow)) o)
     (ShardOf i h)) here)
 
 pub hears_close : (stage : Stage) (servers : List Serving) (place i w : ℕ) (server : Serving) (flow : Flow)
     (at clock : Moment) (closed : Bool)
-    (a b : List (List Seated)) → Suits stage servers → slice_get servers place ≡ Some server
+    (a b : List (List Seated)) → AreServersOf stage servers → slice_get servers place ≡ Some server
     → Gains place (shard_for server flow) (Close flow at) (Closed clock closed) a b
     → Hears stage servers a b (closing clock server.id flow closed i at.0 w ∷ [])
-hears_close stage servers place i w server flow at clock closed a b suits is gains =
+hears_close stage servers place i w server flow at clock closed a b servers_are is gains =
     hears_call stage servers place (shard_for server flow) (shard stage flow) server (Close flow at)
     (Closed clock closed)
-    (closing clock server.id flow closed i at.0 w) a b suits is gains
-    (same_shard stage servers place server flow suits is) refl (λ i h. refl)
+    (closing clock server.id flow closed i at.0 w) a b servers_are is gains
+    (same_shard stage servers place server flow servers_are is) refl (λ i h. refl)
 
 pub hears_retire : (stage : Stage) (servers : List Serving) (place shard i w : ℕ) (server : Serving) (at clock : Moment)
     (outcome : Retirement)
-    (a b : List (List Seated)) → Suits stage servers → slice_get servers place ≡ Some server
+    (a b : List (List Seated)) → AreServersOf stage servers → slice_get servers place ≡ Some server
     → Gains place shard (Retire at outcome) (Retired clock) a b
     → Hears stage servers a b (retiring clock server.id shard at outcome i w ∷ [])
-hears_retire stage servers place shard i w server at clock outcome a b suits is gains =
+hears_retire stage servers place shard i w server at clock outcome a b servers_are is gains =
     hears_call stage servers place shard shard server (Retire at outcome) (Retired clock)
-    (retiring clock server.id shard at outcome i w) a b suits is gains refl refl (λ i h. refl)
+    (retiring clock server.id shard at outcome i w) a b servers_are is gains refl refl (λ i h. refl)

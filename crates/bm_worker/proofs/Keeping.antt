@@ -13,34 +13,34 @@ use Rattle.bm_core.specs.Accounts.{Rules, steers_packet}
 use Rattle.bm_core.specs.Runs.{Actor, AtEach}
 use Rattle.bm_core.specs.Runs.Actor.{MuxOf}
 use Rattle.bm_merge.specs.Notes.{Note, events_of, greatest, many}
-use Rattle.bm_merge.specs.Workers.{IsOwed, home_part, is_copyless, is_due_at, is_home}
+use Rattle.bm_merge.specs.Workers.{HasSending, home_part, is_copyless, is_due_at, is_home}
 use Rattle.bm_merge.proofs.Noting.{each_append, each_so, events_append, greatest_append, total_append}
 use Rattle.bm_publish.specs.Posts.{last_version}
 use Rattle.bm_mux.specs.Muxes.{IsSameMux, post_clock}
 use Rattle.bm_server.specs.Servings.{Serving}
 use Rattle.bm_worker.specs.declared.worker.MuxWorker.{MuxWorker}
 use Rattle.bm_worker.specs.WorkerNotes.{Hears, IsSameCaller, clock_of}
-use Rattle.bm_worker.specs.Phases.{AreCopies, IsPhaseNote, IsInOrder, IsLossOf, IsMuxGiven, Kept, Stint, mux_log}
+use Rattle.bm_worker.specs.Phases.{AreCopies, IsPhaseNote, IsInOrder, IsLossOf, IsMuxGiven, Kept, Task, mux_log}
 use Rattle.bm_worker.specs.Phases.{mux_for}
 use Rattle.bm_worker.proofs.Hearing.{hears_more}
 
--- MORE DEEDS
+-- MORE NOTES
 
 pub more_many : (test : Note → Bool) (x d : List Note) → many test d ≤ many test (x ++ d)
 more_many test x d = let a = total_append (λ n. cond (test n) 1 0) x d in omega arith
 
-owed_more : (x d : List Note) (n : Note) (what : What) → IsOwed d n what → IsOwed (x ++ d) n what
-owed_more x d n (Arrive k hop server verdict) is = (
+has_sending_more : (x d : List Note) (n : Note) (what : What) → HasSending d n what → HasSending (x ++ d) n what
+has_sending_more x d n (Arrive k hop server verdict) is = (
   let a = is.0 in let le = more_many (λ y. steers_packet y.event.what k) x d in omega arith,
   let a = is.1 in let le = more_many (is_due_at k hop n.due) x d in omega arith,
 )
-owed_more x d n (Lose k hop) is = tt
-owed_more x d n (Publish v) is = tt
-owed_more x d n (Switch m v) is = tt
-owed_more x d n (Steer k m) is = tt
-owed_more x d n (Close server flow closed) is = tt
-owed_more x d n (Retire server h at result) is = tt
-owed_more x d n Sync is = tt
+has_sending_more x d n (Lose k hop) is = tt
+has_sending_more x d n (Publish v) is = tt
+has_sending_more x d n (Switch m v) is = tt
+has_sending_more x d n (Steer k m) is = tt
+has_sending_more x d n (Close server flow closed) is = tt
+has_sending_more x d n (Retire server h at result) is = tt
+has_sending_more x d n Sync is = tt
 
 lost_more : (x d : List Note) (clock : ℕ) (what : What) → IsLossOf d clock what → IsLossOf (x ++ d) clock what
 lost_more x d clock (Lose k hop) is =
@@ -53,15 +53,15 @@ lost_more x d clock (Close server flow closed) is = tt
 lost_more x d clock (Retire server h at result) is = tt
 lost_more x d clock Sync is = tt
 
-deed_more : (F : Rules) (stage : Stage) (servers : List Serving) (stint : Stint) (x d : List Note) (n : Note)
-    → IsPhaseNote F stage servers stint d n → IsPhaseNote F stage servers stint (x ++ d) n
-deed_more F stage servers stint x d n is = record {
+note_more : (F : Rules) (stage : Stage) (servers : List Serving) (task : Task) (x d : List Note) (n : Note)
+    → IsPhaseNote F stage servers task d n → IsPhaseNote F stage servers task (x ++ d) n
+note_more F stage servers task x d n is = record {
   kind = is.kind;
   seat = is.seat;
   later = is.later;
   within = is.within;
   assigned = is.assigned;
-  owed = owed_more x d n n.event.what is.owed;
+  has_sending = has_sending_more x d n n.event.what is.has_sending;
   lost = lost_more x d n.event.clock.0 n.event.what is.lost;
   drawn = is.drawn;
   placed = is.placed;
@@ -125,28 +125,28 @@ given_later stage after first xs ys rest clock Sync before is = tt
 
 -- ONE STEP
 
-pub record Step (F : Rules) (stage : Stage) (servers : List Serving) (stint : Stint) (now next : MuxWorker)
+pub record Step (F : Rules) (stage : Stage) (servers : List Serving) (task : Task) (now next : MuxWorker)
     (d x : List Note) : Type 0 where
-  pub each : AllByRecursion (IsPhaseNote F stage servers stint (x ++ d)) x
+  pub each : AllByRecursion (IsPhaseNote F stage servers task (x ++ d)) x
   pub ordered : AtEach (λ rest n. IsInOrder (rest ++ d) n.event.what) x
-  pub logged : reverse next.mux.log ≡ mux_log stage (mux_for stint).0 x ++ reverse now.mux.log
-  pub gives : AtEach (λ rest e. IsMuxGiven stage stint.after (last_version stint.told) next.mux.seen.clocks
-      (rest ++ reverse now.mux.log) e.clock.0 e.what) (mux_log stage (mux_for stint).0 x)
+  pub logged : reverse next.mux.log ≡ mux_log stage (mux_for task).0 x ++ reverse now.mux.log
+  pub gives : AtEach (λ rest e. IsMuxGiven stage task.after (last_version task.posted) next.mux.seen.clocks
+      (rest ++ reverse now.mux.log) e.clock.0 e.what) (mux_log stage (mux_for task).0 x)
   pub hears : Hears stage servers now.caller.seats next.caller.seats x
-  pub copies : AreCopies stage (mux_for stint) servers (reverse now.mux.log) now.caller.seats
-      → AreCopies stage (mux_for stint) servers (reverse next.mux.log) next.caller.seats
+  pub copies : AreCopies stage (mux_for task) servers (reverse now.mux.log) now.caller.seats
+      → AreCopies stage (mux_for task) servers (reverse next.mux.log) next.caller.seats
   pub latest : next.caller.latest ≡ max now.caller.latest (greatest clock_of x)
   pub mux : IsSameMux now.mux next.mux
   pub caller : IsSameCaller now.caller next.caller
 
-same_mux_on : (stint : Stint) (now next : MuxWorker) → IsSameMux stint.start.mux now.mux → IsSameMux now.mux next.mux
-    → IsSameMux stint.start.mux next.mux
-same_mux_on stint now next a b = record {
+same_mux_on : (task : Task) (now next : MuxWorker) → IsSameMux task.start.mux now.mux → IsSameMux now.mux next.mux
+    → IsSameMux task.start.mux next.mux
+same_mux_on task now next a b = record {
   id = b.id ∙ a.id;
   later = record {
     board = b.later.board ∙ a.later.board;
     plan = b.later.plan ∙ a.later.plan;
-    posts = prefix_on stint.start.mux.seen.clocks now.mux.seen.clocks next.mux.seen.clocks a.later.posts b.later.posts;
+    posts = prefix_on task.start.mux.seen.clocks now.mux.seen.clocks next.mux.seen.clocks a.later.posts b.later.posts;
   };
 } where
   prefix_on : (xs ys zs : List ℕ) → IsPrefix xs ys → IsPrefix ys zs → IsPrefix xs zs
@@ -155,45 +155,45 @@ same_mux_on stint now next a b = record {
     sym (append_assoc xs p.0 q.0) ∙ (ap (λ (l : List ℕ). l ++ q.0) p.1 ∙ q.1),
   )
 
-pub kept_more : (F : Rules) (stage : Stage) (servers : List Serving) (stint : Stint) (now next : MuxWorker)
+pub kept_more : (F : Rules) (stage : Stage) (servers : List Serving) (task : Task) (now next : MuxWorker)
     (d x : List Note)
-    → Kept F stage servers stint now d → Step F stage servers stint now next d x
-    → Kept F stage servers stint next (x ++ d)
-kept_more F stage servers stint now next d x old step =
-    let m = (mux_for stint).0 in let past = reverse stint.start.mux.log in let first = last_version stint.told in
+    → Kept F stage servers task now d → Step F stage servers task now next d x
+    → Kept F stage servers task next (x ++ d)
+kept_more F stage servers task now next d x old step =
+    let m = (mux_for task).0 in let past = reverse task.start.mux.log in let first = last_version task.posted in
     record {
-      each = each_append (IsPhaseNote F stage servers stint (x ++ d)) x d step.each
-          (each_so (IsPhaseNote F stage servers stint d) (IsPhaseNote F stage servers stint (x ++ d)) d
-          (λ n is. deed_more F stage servers stint x d n is) old.each);
+      each = each_append (IsPhaseNote F stage servers task (x ++ d)) x d step.each
+          (each_so (IsPhaseNote F stage servers task d) (IsPhaseNote F stage servers task (x ++ d)) d
+          (λ n is. note_more F stage servers task x d n is) old.each);
       ordered = at_append (λ rest n. IsInOrder rest n.event.what) x d step.ordered old.ordered;
       logged = step.logged ∙ (ap (λ (l : List Event). mux_log stage m x ++ l) old.logged
           ∙ (sym (append_assoc (mux_log stage m x) (mux_log stage m d) past)
           ∙ ap (λ (l : List Event). l ++ past) (sym (log_append stage m x d))));
       gives = subst
           (λ (l : List Event). AtEach
-          (λ rest e. IsMuxGiven stage stint.after first next.mux.seen.clocks (rest ++ past) e.clock.0 e.what) l)
+          (λ rest e. IsMuxGiven stage task.after first next.mux.seen.clocks (rest ++ past) e.clock.0 e.what) l)
           (sym (log_append stage m x d))
-          (at_append (λ rest e. IsMuxGiven stage stint.after first next.mux.seen.clocks (rest ++ past) e.clock.0 e.what)
+          (at_append (λ rest e. IsMuxGiven stage task.after first next.mux.seen.clocks (rest ++ past) e.clock.0 e.what)
           (mux_log stage m x) (mux_log stage m d)
-          (at_so (λ rest e. IsMuxGiven stage stint.after first next.mux.seen.clocks (rest ++ reverse now.mux.log)
+          (at_so (λ rest e. IsMuxGiven stage task.after first next.mux.seen.clocks (rest ++ reverse now.mux.log)
           e.clock.0 e.what)
-          (λ rest e. IsMuxGiven stage stint.after first next.mux.seen.clocks ((rest ++ mux_log stage m d) ++ past)
+          (λ rest e. IsMuxGiven stage task.after first next.mux.seen.clocks ((rest ++ mux_log stage m d) ++ past)
           e.clock.0 e.what) (mux_log stage m x)
           (λ rest e is. subst
-          (λ (l : List Event). IsMuxGiven stage stint.after first next.mux.seen.clocks l e.clock.0 e.what)
+          (λ (l : List Event). IsMuxGiven stage task.after first next.mux.seen.clocks l e.clock.0 e.what)
           (ap (λ (l : List Event). rest ++ l) old.logged ∙ sym (append_assoc rest (mux_log stage m d) past)) is)
           step.gives)
-          (at_so (λ rest e. IsMuxGiven stage stint.after first now.mux.seen.clocks (rest ++ past) e.clock.0 e.what)
-          (λ rest e. IsMuxGiven stage stint.after first next.mux.seen.clocks (rest ++ past) e.clock.0 e.what)
+          (at_so (λ rest e. IsMuxGiven stage task.after first now.mux.seen.clocks (rest ++ past) e.clock.0 e.what)
+          (λ rest e. IsMuxGiven stage task.after first next.mux.seen.clocks (rest ++ past) e.clock.0 e.what)
           (mux_log stage m d)
-          (λ rest e is. given_later stage stint.after first now.mux.seen.clocks next.mux.seen.clocks (rest ++ past)
+          (λ rest e is. given_later stage task.after first now.mux.seen.clocks next.mux.seen.clocks (rest ++ past)
           e.clock.0 e.what
           step.mux.later.posts is) old.gives));
-      hears = hears_more stage servers stint.start.caller.seats now.caller.seats next.caller.seats d x old.hears
+      hears = hears_more stage servers task.start.caller.seats now.caller.seats next.caller.seats d x old.hears
           step.hears;
       copies = λ are. step.copies (old.copies are);
       latest = let one = old.latest in let two = step.latest in let g = greatest_append clock_of x d in omega arith;
-      mux = same_mux_on stint now next old.mux step.mux;
+      mux = same_mux_on task now next old.mux step.mux;
       caller = record {
         number = step.caller.number ∙ old.caller.number;
         who_is = step.caller.who_is ∙ old.caller.who_is;

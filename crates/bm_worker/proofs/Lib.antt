@@ -2,7 +2,7 @@ pub mod Numbered
 pub mod Seating
 pub mod Replying
 pub mod Hearing
-pub mod Paying
+pub mod Completing
 pub mod Keeping
 mod Weighing
 pub mod Copying

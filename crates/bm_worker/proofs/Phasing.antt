@@ -31,12 +31,12 @@ use Rattle.bm_worker.specs.Inside.Batches.{AreDrawn, HasSeen, IsDelivery, IsItem
 use Rattle.bm_worker.specs.Inside.Batches.{IsLogged, Rise}
 use Rattle.bm_worker.specs.Inside.Batches.{last_packet, last_sent, sent_notes, steering, switch_note, switch_notes}
 use Rattle.bm_worker.specs.WorkerNotes.{Hears, Said, clock_of, saying}
-use Rattle.bm_worker.specs.SeatCalls.{told_there}
+use Rattle.bm_worker.specs.SeatCalls.{calls_there}
 use Rattle.bm_worker.specs.Inside.Pending.{GrowsByLosses}
 use Rattle.bm_worker.specs.Phases.{AreCopies, IsPhaseNote, IsMuxGiven}
-use Rattle.bm_worker.specs.Phases.{Stint, is_steer, mux_log, mux_for}
+use Rattle.bm_worker.specs.Phases.{Task, is_steer, mux_log, mux_for}
 use Rattle.bm_worker.specs.Assigned.{is_mux, is_assigned, assigned_mux}
-use Rattle.bm_worker.proofs.Batching.{sent_deeds, switch_deeds}
+use Rattle.bm_worker.proofs.Batching.{sent_notes_are, switch_notes_are}
 use Rattle.bm_worker.proofs.Copying.{copies_as}
 use Rattle.bm_worker.proofs.Keeping.{Step, at_append, at_so}
 use Rattle.bm_worker.proofs.Steering.{AreSteerings, Given, IsSteeringOf, final, final_above, gives_steers}
@@ -132,8 +132,8 @@ pub steerings_heard : (stage : Stage) (servers : List Serving) (m : MuxId) (x : 
     → b ≡ a → AreSteerings m x
     → Hears stage servers a b x
 steerings_heard stage servers m x a b same kinds p h server at =
-    let said = saying (shard_at server h) (told_there a p h) in
-    ap (λ (l : List (List Seated)). saying (shard_at server h) (told_there l p h)) same
+    let said = saying (shard_at server h) (calls_there a p h) in
+    ap (λ (l : List (List Seated)). saying (shard_at server h) (calls_there l p h)) same
     ∙ (sym (append-nil said) ∙ ap (λ (l : List Said). said ++ l) (sym (steerings_noted stage m server.id.0 h x kinds)))
 
 -- THE STEP OF A BATCH
@@ -141,21 +141,21 @@ steerings_heard stage servers m x a b same kinds p h server at =
 final_more : (last : ℕ) (i : MuxItem) (items : List MuxItem) → last < final last (i ∷ items)
 final_more last i items = let le = final_above (steer_clock last i) items in omega (arith, le)
 
-pub batch_step : (F : Rules) (stage : Stage) (servers : List Serving) (stint : Stint) (now next : MuxWorker)
+pub batch_step : (F : Rules) (stage : Stage) (servers : List Serving) (task : Task) (now next : MuxWorker)
     (d : List Note) (low : ℕ)
     (i : MuxItem) (items : List MuxItem) (fates : List Fate) (out out' : List Steered)
-    → now.mux.id ≡ mux_for stint → IsSameMux now.mux next.mux
-    → IsBatch (mux_for stint) next.mux.seen (i ∷ items) now.mux.log next.mux.log out out'
-    → HasSeen now next → stint.from ≤ low → last_packet low (i ∷ items) ≤ stint.until → Rise low (i ∷ items)
-    → AllByRecursion (IsItemOf stage stint.routes (mux_for stint).0) (i ∷ items) → AreDrawn F (i ∷ items) fates
-    → AllByRecursion (IsLogged (mux_for stint) low) (reverse now.mux.log)
-    → switched_since stint.after (mux_for stint).0 (reverse now.mux.log) ≡ true
-    → stint.after < steering_clock (reverse now.mux.log)
-    → Step F stage servers stint now next d
-    (batch_notes (mux_for stint) next.mux.seen (reverse now.mux.log) (i ∷ items) fates)
-batch_step F stage servers stint now next d low i items fates out out' id same batch seen_it from until rise each drawn
+    → now.mux.id ≡ mux_for task → IsSameMux now.mux next.mux
+    → IsBatch (mux_for task) next.mux.seen (i ∷ items) now.mux.log next.mux.log out out'
+    → HasSeen now next → task.from ≤ low → last_packet low (i ∷ items) ≤ task.until → Rise low (i ∷ items)
+    → AllByRecursion (IsItemOf stage task.routes (mux_for task).0) (i ∷ items) → AreDrawn F (i ∷ items) fates
+    → AllByRecursion (IsLogged (mux_for task) low) (reverse now.mux.log)
+    → switched_since task.after (mux_for task).0 (reverse now.mux.log) ≡ true
+    → task.after < steering_clock (reverse now.mux.log)
+    → Step F stage servers task now next d
+    (batch_notes (mux_for task) next.mux.seen (reverse now.mux.log) (i ∷ items) fates)
+batch_step F stage servers task now next d low i items fates out out' id same batch seen_it from until rise each drawn
     logged switched begun =
-    let m = mux_for stint in let past = reverse now.mux.log in let seen = next.mux.seen in
+    let m = mux_for task in let past = reverse now.mux.log in let seen = next.mux.seen in
     let sw = switches m seen past in let c = steering_clock (sw ++ past) in
     let all_items = i ∷ items in
     let st = steers m c all_items in
@@ -164,25 +164,25 @@ batch_step F stage servers stint now next d low i items fates out out' id same b
     let turned = batch_turned m seen all_items now.mux.log next.mux.log out out' batch in
     let log = batch_log F stage m seen past all_items fates drawn in
     let kinds = batch_kinds m seen past all_items fates in
-    let posts = next.mux.seen.clocks in let first = last_version stint.told in
+    let posts = next.mux.seen.clocks in let first = last_version task.posted in
     let le_c = switch_begun m seen past in
     record {
-      each = each_append (IsPhaseNote F stage servers stint (x ++ d)) s (switch_notes m seen past)
-          (sent_deeds F stage servers stint seen (x ++ d) c low all_items fates (omega (arith, begun, le_c)) from until
+      each = each_append (IsPhaseNote F stage servers task (x ++ d)) s (switch_notes m seen past)
+          (sent_notes_are F stage servers task seen (x ++ d) c low all_items fates (omega (arith, begun, le_c)) from until
           rise each drawn)
-          (switch_deeds F stage servers stint seen (x ++ d) past begun);
+          (switch_notes_are F stage servers task seen (x ++ d) past begun);
       ordered = steerings_order m x d kinds;
       logged = turned ∙ (sym (append_assoc (reverse st) sw past) ∙ ap (λ (l : List Event). l ++ past) (sym log));
-      gives = subst (λ (l : List Event). AtEach (Given stage stint.after first posts past) l) (sym log)
-          (at_append (Given stage stint.after first posts past) (reverse st) sw
-          (at_so (Given stage stint.after first posts (sw ++ past))
-          (λ rest e. Given stage stint.after first posts past (rest ++ sw) e) (reverse st)
-          (λ rest e is. subst (λ (l : List Event). IsMuxGiven stage stint.after first posts l e.clock.0 e.what)
+      gives = subst (λ (l : List Event). AtEach (Given stage task.after first posts past) l) (sym log)
+          (at_append (Given stage task.after first posts past) (reverse st) sw
+          (at_so (Given stage task.after first posts (sw ++ past))
+          (λ rest e. Given stage task.after first posts past (rest ++ sw) e) (reverse st)
+          (λ rest e is. subst (λ (l : List Event). IsMuxGiven stage task.after first posts l e.clock.0 e.what)
           (sym (append_assoc rest sw past)) is)
-          (gives_steers stage stint.routes m stint.after first posts c low all_items (sw ++ past) rise each
+          (gives_steers stage task.routes m task.after first posts c low all_items (sw ++ past) rise each
           (switch_logged m low seen past logged)
-          (switched_more stint.after m.0 sw past switched) refl))
-          (gives_switch stage m stint.after first low seen past logged switched begun));
+          (switched_more task.after m.0 sw past switched) refl))
+          (gives_switch stage m task.after first low seen past logged switched begun));
       hears = steerings_heard stage servers m x now.caller.seats next.caller.seats seen_it.seats kinds;
       copies = λ are. subst (λ (l : List (List Seated)). AreCopies stage m servers (reverse next.mux.log) l)
           (sym seen_it.seats)

@@ -16,21 +16,21 @@ use Rattle.bm_turnstile.specs.Sittings.{Who, who}
 use Rattle.bm_server.specs.Servings.{Serving}
 use Rattle.bm_server.specs.Seats.{Seated, Answered, row, row_from, said, Tells, most_turns}
 use Rattle.bm_server.specs.Servings.{shard_at}
-use Rattle.bm_worker.specs.SeatCalls.{Gains, Stays, told_in, told_there}
-use Rattle.bm_worker.specs.WorkerNotes.{Sits}
+use Rattle.bm_worker.specs.SeatCalls.{Gains, Stays, calls_in, calls_there}
+use Rattle.bm_worker.specs.WorkerNotes.{HasSeats}
 use Rattle.bm_worker.specs.Callers.{CallerState}
 
-pub sits_as : (c a : CallerState) (servers : List Serving) → a ≡ c → Sits servers c → Sits servers a
-sits_as c a servers e h = subst (λ (x : CallerState). Sits servers x) (sym e) h
+pub sits_as : (c a : CallerState) (servers : List Serving) → a ≡ c → HasSeats servers c → HasSeats servers a
+sits_as c a servers e h = subst (λ (x : CallerState). HasSeats servers x) (sym e) h
 
 as_many : (servers : List Serving) (seats : List (List Seated)) (n : ℕ)
     → map (map who) seats ≡ map (λ server. row server n) servers
     → length seats ≡ length servers
-as_many servers seats n sits =
-    sym (length-map seats (map who)) ∙ (ap (λ l. length l) sits ∙ length-map servers (λ server. row server n))
+as_many servers seats n has_seats =
+    sym (length-map seats (map who)) ∙ (ap (λ l. length l) has_seats ∙ length-map servers (λ server. row server n))
 
 -- there is a seat at the place of each server
-pub seat_there : (c a : CallerState) (servers : List Serving) (place : ℕ) → a ≡ c → Sits servers c → place < length servers
+pub seat_there : (c a : CallerState) (servers : List Serving) (place : ℕ) → a ≡ c → HasSeats servers c → place < length servers
     → place < length a.seats
 seat_there c a servers place e h lt =
     let long = as_many servers a.seats a.number (sits_as c a servers e h) in omega (arith, lt, long)
@@ -63,17 +63,17 @@ row_tables seat server n e =
 row_at : (servers : List Serving) (seats : List (List Seated)) (n place : ℕ) (seat : List Seated) (server : Serving)
     → map (map who) seats ≡ map (λ server. row server n) servers
     → slice_get seats place ≡ Some seat → slice_get servers place ≡ Some server → map who seat ≡ row server n
-row_at servers seats n place seat server sits a b =
+row_at servers seats n place seat server has_seats a b =
     let left : slice_get (map (map who) seats) place ≡ Some (map who seat) =
     slice_get-map (map who) seats place ∙ ap (λ (o : Option (List Seated)). option_map (map who) o) a in
     let right : slice_get (map (λ server. row server n) servers) place ≡ Some (row server n) =
     slice_get-map (λ server. row server n) servers place
     ∙ ap (λ (o : Option Serving). option_map (λ server. row server n) o) b in
-    same_Some (map who seat) (row server n) (sym left ∙ (ap (λ l. slice_get l place) sits ∙ right))
+    same_Some (map who seat) (row server n) (sym left ∙ (ap (λ l. slice_get l place) has_seats ∙ right))
 
 -- the seat at the place is one of the server there
 pub mine_there : (c a : CallerState) (servers : List Serving) (place : ℕ) (seat : List Seated) (server : Serving) → a ≡ c
-    → Sits servers c
+    → HasSeats servers c
     → place < length servers → seat ≡ get_or a.seats place seat → server ≡ get_or servers place server
     → map (λ (s : Seated). s.table) seat ≡ server.tables
 mine_there c a servers place seat server e h lt is at =
@@ -82,7 +82,7 @@ mine_there c a servers place seat server e h lt is at =
 
 -- TURNS
 
-pub few_there : (c a : CallerState) (servers : List Serving) (place : ℕ) (seat : List Seated) → a ≡ c → Sits servers c
+pub few_there : (c a : CallerState) (servers : List Serving) (place : ℕ) (seat : List Seated) → a ≡ c → HasSeats servers c
     → place < length servers
     → seat ≡ get_or a.seats place seat → c.tries < 4294967295
     → ((s : ℕ) (seat : List Seated) → slice_get a.seats s ≡ Some seat → most_turns seat ≤ a.tries)
@@ -121,7 +121,7 @@ whos_kept seats place a b is same =
 told_grows : {M : Type 0} (seats : List (List Seated)) (place shard : ℕ) (a b : List Seated) (call : ShardCall)
     (r : Result ShardReply M)
     → place < length seats → a ≡ get_or seats place a → Tells shard call r a b
-    → (s h : ℕ) → told_there (set seats place b) s h ≡ told_there seats s h
+    → (s h : ℕ) → calls_there (set seats place b) s h ≡ calls_there seats s h
     ++ cond (s == place) (said shard call r h) []
 told_grows seats place shard a b call r lt is tells s h = elim (cases_Bool (s == place)) [
   | inl here ↦
@@ -131,13 +131,13 @@ told_grows seats place shard a b call r lt is tells s h = elim (cases_Bool (s ==
       ap (slice_get (set seats place b)) e ∙ slice_get-set_same seats place b lt in
       let more : said shard call r h ≡ cond (s == place) (said shard call r h) [] =
       ap (λ (x : Bool). cond x (said shard call r h) []) (sym here) in
-      ap (λ (o : Option (List Seated)). told_in o h) new ∙ (tells h ∙ (λ i. told_in (sym old i) h ++ more i))
+      ap (λ (o : Option (List Seated)). calls_in o h) new ∙ (tells h ∙ (λ i. calls_in (sym old i) h ++ more i))
   | inr other ↦
       let none : [] ≡ cond (s == place) (said shard call r h) [] =
       ap (λ (x : Bool). cond x (said shard call r h) []) (sym other) in
-      ap (λ (o : Option (List Seated)). told_in o h)
+      ap (λ (o : Option (List Seated)). calls_in o h)
       (slice_get-set_other seats place s b (λ e. eqb-false s place other (sym e)))
-      ∙ (sym (append-nil (told_there seats s h)) ∙ ap (λ (l : List Answered). told_there seats s h ++ l) none)
+      ∙ (sym (append-nil (calls_there seats s h)) ∙ ap (λ (l : List Answered). calls_there seats s h ++ l) none)
 ]
 
 both_conds : (a b : Bool) (x : Answered) → cond a (cond b (x ∷ []) []) [] ≡ cond (a && b) (x ∷ []) []
@@ -147,13 +147,13 @@ both_conds false b x = refl
 -- a call that was answered is gained
 pub gains : {M : Type 0} (c a : CallerState) (servers : List Serving) (place shard : ℕ) (old new : List Seated)
     (call : ShardCall)
-    (r : Result ShardReply M) (reply : ShardReply) → a ≡ c → Sits servers c → place < length servers
+    (r : Result ShardReply M) (reply : ShardReply) → a ≡ c → HasSeats servers c → place < length servers
     → old ≡ get_or a.seats place old
     → Tells shard call r old new → r ≡ Ok reply → Gains place shard call reply c.seats (set a.seats place new)
 gains c a servers place shard old new call r reply e h lt is tells ok s k =
     told_grows a.seats place shard old new call r (seat_there c a servers place e h lt) is tells s k
-    ∙ (λ i. told_there ((e i).seats) s k ++ cond (s == place) (said shard call (ok i) k) [])
-    ∙ ap (λ (l : List Answered). told_there c.seats s k ++ l) (both_conds (s == place) (k == shard) (call, reply))
+    ∙ (λ i. calls_there ((e i).seats) s k ++ cond (s == place) (said shard call (ok i) k) [])
+    ∙ ap (λ (l : List Answered). calls_there c.seats s k ++ l) (both_conds (s == place) (k == shard) (call, reply))
 
 none_said : (a b : Bool) → ◌≡◌ {A = List Answered} (cond a (cond b [] []) []) []
 none_said true true = refl
@@ -163,11 +163,11 @@ none_said false b = refl
 -- one that was not leaves all as it was
 pub stays : {M : Type 0} (c a : CallerState) (servers : List Serving) (place shard : ℕ) (old new : List Seated)
     (call : ShardCall)
-    (r : Result ShardReply M) (why : M) → a ≡ c → Sits servers c → place < length servers
+    (r : Result ShardReply M) (why : M) → a ≡ c → HasSeats servers c → place < length servers
     → old ≡ get_or a.seats place old
     → Tells shard call r old new → r ≡ Err why → Stays c.seats (set a.seats place new)
 stays c a servers place shard old new call r why e h lt is tells err s k =
     told_grows a.seats place shard old new call r (seat_there c a servers place e h lt) is tells s k
-    ∙ (λ i. told_there ((e i).seats) s k ++ cond (s == place) (said shard call (err i) k) [])
-    ∙ (ap (λ (l : List Answered). told_there c.seats s k ++ l) (none_said (s == place) (k == shard))
-    ∙ append-nil (told_there c.seats s k))
+    ∙ (λ i. calls_there ((e i).seats) s k ++ cond (s == place) (said shard call (err i) k) [])
+    ∙ (ap (λ (l : List Answered). calls_there c.seats s k ++ l) (none_said (s == place) (k == shard))
+    ∙ append-nil (calls_there c.seats s k))

@@ -58,7 +58,7 @@ lost_of hop next after = grind arith
 pub can_on : (servers : List Serving) (losses used need all : ℕ) (a b : MuxWorker) → used + need ≤ all
     → CanSend servers all a → HasSent losses used a b → CanSend servers need b
 can_on servers losses used need all a b most can sent = record {
-  sits = sits_on servers a.caller b.caller sent.same.caller can.sits;
+  has_seats = sits_on servers a.caller b.caller sent.same.caller can.has_seats;
   number = sent.same.caller.number ∙ (can.number ∙ ap (λ (m : MuxId). m.0 + 1) (sym sent.same.id));
   few = let x = can.few in let y = sent.tries in omega arith;
 }

@@ -11,7 +11,7 @@ use Rattle.bm_core.specs.declared.events.Stage.{Stage}
 use Rattle.bm_core.specs.Stages.{IsSound}
 use Rattle.bm_mux.specs.Muxes.{HasServers}
 use Rattle.bm_server.specs.Servings.{Serving, serving}
-use Rattle.bm_worker.specs.WorkerNotes.{Suits}
+use Rattle.bm_worker.specs.WorkerNotes.{AreServersOf}
 use Rattle.bm_worker.proofs.Known.{known_cur, known_server}
 
 abbrev small_plan : Planned
@@ -19,11 +19,11 @@ small_plan = record { buckets = 8; servers = record { 0 = 1 } ∷ []; changes = 
 
 -- THE SERVER
 
-pub suits_one : (stage : Stage) (server : Serving) (capacity timeout seats : ℕ) → stage.script.plan ≡ small_plan
+pub one_server_made : (stage : Stage) (server : Serving) (capacity timeout seats : ℕ) → stage.script.plan ≡ small_plan
     → server ≡ serving (record { 0 = 1 }) capacity timeout seats server.tables → length server.tables ≡ 1
     → (stage.script.setting.shards ≡ 1) × (stage.script.setting.capacity ≡ capacity)
-    × (stage.script.setting.timeout ≡ timeout) → Suits stage (server ∷ [])
-suits_one stage server capacity timeout seats plan made shards setting = record {
+    × (stage.script.setting.timeout ≡ timeout) → AreServersOf stage (server ∷ [])
+one_server_made stage server capacity timeout seats plan made shards setting = record {
   rise = λ s t a b one two below. absurd (let same = both s t a b one two in omega arith);
   shards = λ s x at. of_one (λ (y : Serving). length y.tables ≡ stage.script.setting.shards) (shards ∙ sym setting.0)
       s x at;

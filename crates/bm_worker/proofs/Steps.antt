@@ -30,20 +30,20 @@ use Rattle.bm_mux.specs.Steers.{at_clock}
 use Rattle.bm_server.specs.Servings.{Serving}
 use Rattle.bm_worker.specs.declared.worker.MuxWorker.{MuxWorker}
 use Rattle.bm_worker.specs.Arrivals.{HasCome}
-use Rattle.bm_worker.specs.WorkerNotes.{Hears, IsSameCaller, Suits}
+use Rattle.bm_worker.specs.WorkerNotes.{Hears, IsSameCaller, AreServersOf}
 use Rattle.bm_worker.specs.Inside.WorkerNotes.{arrival, loss}
-use Rattle.bm_worker.specs.Inside.Pending.{Pending, IsAmong, IsCopyOf, IsOf, IsUpTo, Owes}
+use Rattle.bm_worker.specs.Inside.Pending.{Pending, IsAmong, IsCopyOf, IsOf, IsUpTo, AwaitsCopies}
 use Rattle.bm_worker.specs.Inside.Lost.{with_loss}
-use Rattle.bm_worker.specs.Phases.{AreCopies, IsMuxGiven, Kept, Stint, mux_log, mux_for}
+use Rattle.bm_worker.specs.Phases.{AreCopies, IsMuxGiven, Kept, Task, mux_log, mux_for}
 use Rattle.bm_worker.specs.SeatCalls.{Stays}
 use Rattle.bm_worker.proofs.Copying.{copies_as, copies_come, copies_stay, tag_hop}
 use Rattle.bm_worker.proofs.Hearing.{hears_arrival, hears_none, hears_stays}
 use Rattle.bm_worker.proofs.Keeping.{kept_more, more_many}
 
 -- what the mux gives beyond its log
-abbrev GivenNow : Stage → Stint → MuxWorker → MuxWorker → List Event → Event → Type 0
-GivenNow stage stint now next rest e =
-    IsMuxGiven stage stint.after (last_version stint.told) next.mux.seen.clocks (rest ++ reverse now.mux.log) e.clock.0
+abbrev GivenNow : Stage → Task → MuxWorker → MuxWorker → List Event → Event → Type 0
+GivenNow stage task now next rest e =
+    IsMuxGiven stage task.after (last_version task.posted) next.mux.seen.clocks (rest ++ reverse now.mux.log) e.clock.0
     e.what
 
 -- the mux is the same
@@ -57,21 +57,21 @@ same_posts now next id seen = record {
 
 -- NOTHING DONE
 
-pub kept_stays : (F : Rules) (stage : Stage) (servers : List Serving) (stint : Stint) (now next : MuxWorker)
+pub kept_stays : (F : Rules) (stage : Stage) (servers : List Serving) (task : Task) (now next : MuxWorker)
     (d : List Note)
     → next.mux ≡ now.mux → Stays now.caller.seats next.caller.seats → next.caller.latest ≡ now.caller.latest
-    → IsSameCaller now.caller next.caller → Kept F stage servers stint now d → Kept F stage servers stint next d
-kept_stays F stage servers stint now next d mux same latest caller kept =
-    kept_more F stage servers stint now next d [] kept (record {
+    → IsSameCaller now.caller next.caller → Kept F stage servers task now d → Kept F stage servers task next d
+kept_stays F stage servers task now next d mux same latest caller kept =
+    kept_more F stage servers task now next d [] kept (record {
       each = tt;
       ordered = tt;
       logged = ap (λ (x : MuxState). reverse x.log) mux;
       gives = tt;
       hears = hears_stays stage servers now.caller.seats next.caller.seats same;
       copies = λ are.
-          subst (λ (x : MuxState). AreCopies stage (mux_for stint) servers (reverse x.log) next.caller.seats)
+          subst (λ (x : MuxState). AreCopies stage (mux_for task) servers (reverse x.log) next.caller.seats)
           (sym mux)
-          (copies_stay stage servers (mux_for stint) (reverse now.mux.log) now.caller.seats next.caller.seats same are);
+          (copies_stay stage servers (mux_for task) (reverse now.mux.log) now.caller.seats next.caller.seats same are);
       latest = omega (arith, latest);
       mux = same_posts now next (ap (λ (x : MuxState). x.id) mux) (ap (λ (x : MuxState). x.seen) mux);
       caller = caller;
@@ -92,20 +92,20 @@ of_packet_up_to k (Close server flow closed) is = tt
 of_packet_up_to k (Retire server h at result) is = tt
 of_packet_up_to k Sync is = tt
 
-pub owes_more : (stint : Stint) (x d : List Note) (pending : Pending) → AllByRecursion (λ n. IsOf pending.packet n.event.what) x
-    → Owes stint d pending → Owes stint (x ++ d) pending
-owes_more stint x d pending packets owes = record {
-  note = owes.note;
-  among = among_more owes.note x d owes.among;
-  sending = owes.sending;
-  clock = owes.clock;
-  fate = owes.fate;
-  steered = let a = owes.steered in let le = more_many (λ y. steers_packet y.event.what pending.packet) x d in omega arith;
-  later = owes.later;
-  within = owes.within;
+pub copies_left_more : (task : Task) (x d : List Note) (pending : Pending) → AllByRecursion (λ n. IsOf pending.packet n.event.what) x
+    → AwaitsCopies task d pending → AwaitsCopies task (x ++ d) pending
+copies_left_more task x d pending packets awaits = record {
+  note = awaits.note;
+  among = among_more awaits.note x d awaits.among;
+  sending = awaits.sending;
+  clock = awaits.clock;
+  fate = awaits.fate;
+  steered = let a = awaits.steered in let le = more_many (λ y. steers_packet y.event.what pending.packet) x d in omega arith;
+  later = awaits.later;
+  within = awaits.within;
   first = each_append (λ y. IsUpTo pending.packet y.event.what) x d
       (each_so (λ n. IsOf pending.packet n.event.what) (λ y. IsUpTo pending.packet y.event.what) x
-      (λ n is. of_packet_up_to pending.packet n.event.what is) packets) owes.first;
+      (λ n is. of_packet_up_to pending.packet n.event.what is) packets) awaits.first;
 }
 
 -- A COPY ARRIVES
@@ -114,13 +114,13 @@ pub one_of : (n : Note) (d : List Note) (test : Note → Bool) → IsAmong n d �
 one_of n d test among is =
     let a = among (λ y. cond (test y) 1 0) in let one : ◌≡◌ {A = ℕ} (cond (test n) 1 0) 1 = rw is refl in omega arith
 
-due_among : (stint : Stint) (d : List Note) (pending : Pending) (due : ℕ) → Owes stint d pending
+due_among : (task : Task) (d : List Note) (pending : Pending) (due : ℕ) → AwaitsCopies task d pending
     → due ≡ pending.clock + pending.fate.delay
     → 1 ≤ many (is_due_at pending.packet pending.hop due) d
-due_among stint d pending due owes is =
-    one_of owes.note d (is_due_at pending.packet pending.hop due) owes.among
-    (and_from _ _ owes.sending (eq-eqb due (owes.note.event.clock.0 + owes.note.fate.delay)
-    (is ∙ (λ i. sym owes.clock i + (sym owes.fate i).delay))))
+due_among task d pending due awaits is =
+    one_of awaits.note d (is_due_at pending.packet pending.hop due) awaits.among
+    (and_from _ _ awaits.sending (eq-eqb due (awaits.note.event.clock.0 + awaits.note.fate.delay)
+    (is ∙ (λ i. sym awaits.clock i + (sym awaits.fate i).delay))))
 
 up_to_not_after : (k : ℕ) (what : What) → IsUpTo k what → ◌≡◌ {A = ℕ} (cond (arrives_after k what) 1 0) 0
 up_to_not_after k (Arrive j hop server verdict) is = rw (le-ltb k j (omega (arith, is))) refl
@@ -139,38 +139,38 @@ none_after k d all =
     (each_so (λ y. IsUpTo k y.event.what) (λ y. ◌≡◌ {A = ℕ} (cond (arrives_after k y.event.what) 1 0) 0) d
     (λ y is. up_to_not_after k y.event.what is) all)
 
-pub kept_arrival : (F : Rules) (stage : Stage) (servers : List Serving) (stint : Stint) (now next : MuxWorker)
+pub kept_arrival : (F : Rules) (stage : Stage) (servers : List Serving) (task : Task) (now next : MuxWorker)
     (d : List Note) (pending : Pending)
-    (place : ℕ) (octets : List ℕ) (due : Moment) (r : Moment × Verdict) (fate : Fate) → Suits stage servers
+    (place : ℕ) (octets : List ℕ) (due : Moment) (r : Moment × Verdict) (fate : Fate) → AreServersOf stage servers
     → (copy : IsCopyOf stage servers now.mux place pending.packet pending.hop octets)
     → due.0 ≡ pending.clock + pending.fate.delay → due.0 < r.0.0
-    → IsDrawn F (arrival r.0 pending.packet pending.hop copy.server.id r.1 fate due.0 ((mux_for stint).0 + 1))
+    → IsDrawn F (arrival r.0 pending.packet pending.hop copy.server.id r.1 fate due.0 ((mux_for task).0 + 1))
     → HasCome place copy.server pending.packet (copy.tag, copy.segment) due r now.caller.seats next.caller.seats
     → next.mux ≡ now.mux → next.caller.latest ≡ max now.caller.latest r.0.0 → IsSameCaller now.caller next.caller
-    → Owes stint d pending → Kept F stage servers stint now d
-    → Kept F stage servers stint next
-    (arrival r.0 pending.packet pending.hop copy.server.id r.1 fate due.0 ((mux_for stint).0 + 1) ∷ d)
-kept_arrival F stage servers stint now next d pending place octets due r fate suits copy is lt drawn come mux latest caller
-    owes kept =
-    let m = (mux_for stint).0 in
+    → AwaitsCopies task d pending → Kept F stage servers task now d
+    → Kept F stage servers task next
+    (arrival r.0 pending.packet pending.hop copy.server.id r.1 fate due.0 ((mux_for task).0 + 1) ∷ d)
+kept_arrival F stage servers task now next d pending place octets due r fate servers_are copy is lt drawn come mux latest caller
+    awaits kept =
+    let m = (mux_for task).0 in
     let n = arrival r.0 pending.packet pending.hop copy.server.id r.1 fate due.0 (m + 1) in
     let hop_is : copy.tag.hop ≡ pending.hop = tag_hop copy.label pending.hop copy.tag copy.tagged in
     let not_mine : is_home stage (MuxOf m) n ≡ false =
     ap (λ (o : Option Segment). is_by (option_map (λ (x : Segment). ShardOf copy.server.id.0 (shard stage x.flow)) o)
     (MuxOf m)) copy.is_segment in
     let none : mux_log stage m (n ∷ []) ≡ [] = ap (λ (b : Bool). events_of (cond b (n ∷ []) [])) not_mine in
-    kept_more F stage servers stint now next d (n ∷ []) kept (record {
+    kept_more F stage servers task now next d (n ∷ []) kept (record {
       each = (
         record {
           kind = refl;
           seat = refl;
-          later = let a = owes.later in omega (arith, is, lt);
-          within = owes.within;
+          later = let a = awaits.later in omega (arith, is, lt);
+          within = awaits.within;
           assigned = tt;
-          owed = (
-            let a = owes.steered in let le =
+          has_sending = (
+            let a = awaits.steered in let le =
                 more_many (λ y. steers_packet y.event.what pending.packet) (n ∷ []) d in omega arith,
-            let a = due_among stint d pending due.0 owes is in let le =
+            let a = due_among task d pending due.0 awaits is in let le =
                 more_many (is_due_at pending.packet pending.hop due.0) (n ∷ []) d in omega arith,
           );
           lost = tt;
@@ -179,20 +179,20 @@ kept_arrival F stage servers stint now next d pending place octets due r fate su
         },
         tt,
       );
-      ordered = (none_after pending.packet d owes.first, tt);
+      ordered = (none_after pending.packet d awaits.first, tt);
       logged = ap (λ (x : MuxState). reverse x.log) mux ∙ ap (λ (l : List Event). l ++ reverse now.mux.log) (sym none);
-      gives = subst (λ (l : List Event). AtEach (GivenNow stage stint now next) l) (sym none) tt;
+      gives = subst (λ (l : List Event). AtEach (GivenNow stage task now next) l) (sym none) tt;
       hears = subst (λ (h : Hop). Hears stage servers now.caller.seats next.caller.seats
           (arrival r.0 pending.packet h copy.server.id r.1 fate due.0 (m + 1) ∷ [])) hop_is
           (hears_arrival stage servers place pending.packet (m + 1) copy.server (copy.tag, copy.segment) due r fate
           now.caller.seats next.caller.seats
-          suits copy.is_server come copy.is_segment);
+          servers_are copy.is_server come copy.is_segment);
       copies = λ are.
-          subst (λ (x : MuxState). AreCopies stage (mux_for stint) servers (reverse x.log) next.caller.seats)
+          subst (λ (x : MuxState). AreCopies stage (mux_for task) servers (reverse x.log) next.caller.seats)
           (sym mux)
           (subst (λ (y : MuxId). AreCopies stage y servers (reverse now.mux.log) next.caller.seats) kept.mux.id
           (copies_come stage servers now.mux place pending.packet pending.hop octets due r now.caller.seats next.caller.seats
-          suits copy come
+          servers_are copy come
           (subst (λ (y : MuxId). AreCopies stage y servers (reverse now.mux.log) now.caller.seats) (sym kept.mux.id)
           are)));
       latest = omega (arith, latest);
@@ -202,35 +202,35 @@ kept_arrival F stage servers stint now next d pending place octets due r fate su
 
 -- A SENDING IS LOST
 
-pub kept_loss : (F : Rules) (stage : Stage) (servers : List Serving) (stint : Stint) (now : MuxWorker) (d : List Note)
+pub kept_loss : (F : Rules) (stage : Stage) (servers : List Serving) (task : Task) (now : MuxWorker) (d : List Note)
     (pending : Pending)
-    → pending.fate.copies ≡ 0 → Owes stint d pending → Kept F stage servers stint now d
-    → Kept F stage servers stint (with_loss pending.packet pending.hop pending.clock now)
-    (loss (pending.clock + 1) pending.packet pending.hop ((mux_for stint).0 + 1) ∷ d)
-kept_loss F stage servers stint now d pending none owes kept =
-    let m = (mux_for stint).0 in
+    → pending.fate.copies ≡ 0 → AwaitsCopies task d pending → Kept F stage servers task now d
+    → Kept F stage servers task (with_loss pending.packet pending.hop pending.clock now)
+    (loss (pending.clock + 1) pending.packet pending.hop ((mux_for task).0 + 1) ∷ d)
+kept_loss F stage servers task now d pending none awaits kept =
+    let m = (mux_for task).0 in
     let n = loss (pending.clock + 1) pending.packet pending.hop (m + 1) in
     let next = with_loss pending.packet pending.hop pending.clock now in
     let e = at_clock (pending.clock + 1) (Lose pending.packet pending.hop) in
     let mine : is_home stage (MuxOf m) n ≡ true = eq-eqb ((m + 1) - 1) m (omega arith) in
     let one : mux_log stage m (n ∷ []) ≡ e ∷ [] = ap (λ (b : Bool). events_of (cond b (n ∷ []) [])) mine in
     let turned : reverse next.mux.log ≡ e ∷ reverse now.mux.log = reverse-append now.mux.log (e ∷ []) in
-    kept_more F stage servers stint now next d (n ∷ []) kept (record {
+    kept_more F stage servers task now next d (n ∷ []) kept (record {
       each = (
         record {
           kind = refl;
           seat = refl;
-          later = let a = owes.later in omega arith;
-          within = owes.within;
+          later = let a = awaits.later in omega arith;
+          within = awaits.within;
           assigned = tt;
-          owed = tt;
+          has_sending = tt;
           lost = (
             pending.clock,
             omega arith,
-            let a = one_of owes.note d (is_copyless pending.packet pending.hop pending.clock) owes.among
-                (and_from _ _ owes.sending
-                (and_from _ _ (eq-eqb owes.note.fate.copies 0 (ap (λ (x : Fate). x.copies) owes.fate ∙ none))
-                (eq-eqb owes.note.event.clock.0 pending.clock owes.clock))) in
+            let a = one_of awaits.note d (is_copyless pending.packet pending.hop pending.clock) awaits.among
+                (and_from _ _ awaits.sending
+                (and_from _ _ (eq-eqb awaits.note.fate.copies 0 (ap (λ (x : Fate). x.copies) awaits.fate ∙ none))
+                (eq-eqb awaits.note.event.clock.0 pending.clock awaits.clock))) in
                 let le = more_many (is_copyless pending.packet pending.hop pending.clock) (n ∷ []) d in omega arith,
           );
           drawn = tt;
@@ -240,9 +240,9 @@ kept_loss F stage servers stint now d pending none owes kept =
       );
       ordered = (tt, tt);
       logged = turned ∙ ap (λ (l : List Event). l ++ reverse now.mux.log) (sym one);
-      gives = subst (λ (l : List Event). AtEach (GivenNow stage stint now next) l) (sym one) (tt, tt);
+      gives = subst (λ (l : List Event). AtEach (GivenNow stage task now next) l) (sym one) (tt, tt);
       hears = hears_none stage servers now.caller.seats;
-      copies = λ are. copies_as stage servers (mux_for stint) (reverse now.mux.log) (reverse next.mux.log)
+      copies = λ are. copies_as stage servers (mux_for task) (reverse now.mux.log) (reverse next.mux.log)
           now.caller.seats
           (λ k l is. subst (λ (past : List Event). label_of stage past k ≡ Some l) (sym turned) is) are;
       latest = omega arith;

@@ -12,7 +12,7 @@ use Rattle.bm_core.specs.Past.{segment_of}
 use Rattle.bm_core.specs.Stages.{IsSound}
 use Rattle.bm_server.specs.Servings.{Serving}
 use Rattle.bm_worker.specs.Assigned.{assigned_mux}
-use Rattle.bm_worker.specs.WorkerNotes.{Suits}
+use Rattle.bm_worker.specs.WorkerNotes.{AreServersOf}
 
 pub record Environment (F : Type 0) : Type 0 where
   pub stage : Stage
@@ -28,7 +28,7 @@ pub record IsRunnable (stage : Stage) (octets : List (List ℕ)) (routes : List 
     : Type 0 where
   pub sound : IsSound stage
   pub packets : ArePackets stage.capture.records octets
-  pub suits : Suits stage servers
+  pub servers_are : AreServersOf stage servers
   pub count : length routes ≡ length stage.capture.records
   -- a packet that has a mux is steerable
   pub steerable : (k m : ℕ) → assigned_mux routes k ≡ Some m → is_some (segment_of stage k) ≡ true
@@ -36,7 +36,7 @@ pub record IsRunnable (stage : Stage) (octets : List (List ℕ)) (routes : List 
 -- what is true of each environment
 pub record IsSetUp {F : Type 0} (x : Environment F) : Type 0 where
   pub sound : IsSound x.stage
-  pub suits : Suits x.stage x.servers
+  pub servers_are : AreServersOf x.stage x.servers
   pub steerable : (k m : ℕ) → assigned_mux x.routes k ≡ Some m
       → is_some (segment_of x.stage k) ≡ true
 

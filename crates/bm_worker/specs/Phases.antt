@@ -18,7 +18,7 @@ use Rattle.bm_core.specs.Runs.{AtEach, next_clock}
 use Rattle.bm_core.specs.Runs.Actor.{MuxOf}
 use Rattle.bm_core.specs.Threads.{last_own, packet_of, record_moment, steers_later}
 use Rattle.bm_merge.specs.Notes.{Note, events_of, greatest, many, switched_since}
-use Rattle.bm_merge.specs.Workers.{IsCarrier, IsDrawn, IsOwed, arrives_after, carries, home_part}
+use Rattle.bm_merge.specs.Workers.{IsCarrier, IsDrawn, HasSending, arrives_after, carries, home_part}
 use Rattle.bm_merge.specs.Workers.{is_copyless}
 use Rattle.bm_shard.specs.declared.calls.ShardCall.{ShardCall}
 use Rattle.bm_shard.specs.declared.calls.ShardCall.TheVariants.{Arrive as Arrives}
@@ -30,8 +30,8 @@ use Rattle.bm_worker.specs.declared.span.Span.{Span}
 use Rattle.bm_worker.specs.declared.stop.Stop.{Stop}
 use Rattle.bm_worker.specs.declared.stop.Stop.TheVariants.{Memory, Late}
 use Rattle.bm_worker.specs.declared.worker.MuxWorker.{MuxWorker}
-use Rattle.bm_worker.specs.WorkerNotes.{HasServer, Hears, IsSameCaller, Sits, clock_of}
-use Rattle.bm_worker.specs.SeatCalls.{told_there}
+use Rattle.bm_worker.specs.WorkerNotes.{HasServer, Hears, IsSameCaller, HasSeats, clock_of}
+use Rattle.bm_worker.specs.SeatCalls.{calls_there}
 use Rattle.bm_worker.specs.Assigned.{RoutedBy, is_assigned}
 
 -- HOW MUCH A PACKET MAY LEAD TO
@@ -49,7 +49,7 @@ abbrev pub notes_per_packet : ℕ
 notes_per_packet = 41
 
 -- one worker's part of a phase
-pub record Stint : Type 0 where
+pub record Task : Type 0 where
   -- the mux of each packet
   pub routes : List (Option MuxId)
   -- the phase's packets are those of the records at the places from..until
@@ -58,28 +58,28 @@ pub record Stint : Type 0 where
   -- the clock of the Sync before it, or 0
   pub after : ℕ
   -- what was posted before it
-  pub told : Posted
+  pub posted : Posted
   -- the worker before it
   pub start : MuxWorker
 
-abbrev pub stint_of : List (Option MuxId) → Span → Posted → MuxWorker → Stint
-stint_of routes span told start = record {
+abbrev pub task_of : List (Option MuxId) → Span → Posted → MuxWorker → Task
+task_of routes span posted start = record {
   routes = routes;
   from = span.from;
   until = span.until;
   after = span.after.0;
-  told = told;
+  posted = posted;
   start = start;
 }
 
-abbrev pub mux_for : Stint → MuxId
-mux_for stint = stint.start.mux.id
+abbrev pub mux_for : Task → MuxId
+mux_for task = task.start.mux.id
 
 -- WHAT THE MUX LOGS
 
 -- what these notes say about the log of the mux m
 abbrev pub mux_log : Stage → ℕ → List Note → List Event
-mux_log stage m deeds = events_of (home_part stage (MuxOf m) deeds)
+mux_log stage m notes = events_of (home_part stage (MuxOf m) notes)
 
 -- an event of a mux, after the rest of its log, in a phase that begins at the clock after and with
 -- the version first, where the mux was shown these posts: the first Switch of the phase is to a
@@ -112,7 +112,7 @@ IsCopyCall stage past m server h _ = ⊥
 abbrev pub AreCopies : Stage → MuxId → List Serving → List Event → List (List Seated) → Type 0
 AreCopies stage m servers past seats =
     (s h : ℕ) (server : Serving) → slice_get servers s ≡ Some server
-    → AllByRecursion (λ (a : Answered). IsCopyCall stage past m server h a.0) (told_there seats s h)
+    → AllByRecursion (λ (a : Answered). IsCopyCall stage past m server h a.0) (calls_there seats s h)
 
 -- EACH NOTE
 
@@ -126,85 +126,85 @@ is_steer (Steer k m) = true
 is_steer _ = false
 
 -- a Steer is of one of the mux's packets
-abbrev pub IsAssigned : Stint → What → Type 0
-IsAssigned stint (Steer k m) =
-    is_assigned stint.routes (mux_for stint).0 stint.from stint.until k ≡ true
-IsAssigned stint _ = Unit {0}
+abbrev pub IsAssigned : Task → What → Type 0
+IsAssigned task (Steer k m) =
+    is_assigned task.routes (mux_for task).0 task.from task.until k ≡ true
+IsAssigned task _ = Unit {0}
 
 -- a Lose has its sending, without copies, at the clock before
 abbrev pub IsLossOf : List Note → ℕ → What → Type 0
-IsLossOf deeds clock (Lose k hop) =
-    (sending : ℕ) × (clock ≡ suc sending) × (1 ≤ many (is_copyless k hop sending) deeds)
-IsLossOf deeds clock _ = Unit {0}
+IsLossOf notes clock (Lose k hop) =
+    (sending : ℕ) × (clock ≡ suc sending) × (1 ≤ many (is_copyless k hop sending) notes)
+IsLossOf notes clock _ = Unit {0}
 
 -- an arrival is at one of the servers
 abbrev pub IsPlaced : List Serving → What → Type 0
 IsPlaced servers (Arrive k hop server verdict) = HasServer servers server
 IsPlaced servers _ = Unit {0}
 
--- one of the notes of the phase, where `deeds` is all of them
-pub record IsPhaseNote (F : Rules) (stage : Stage) (servers : List Serving) (stint : Stint)
-    (deeds : List Note) (n : Note) : Type 0 where
-  pub kind : carries (mux_for stint).0 n.event.what ≡ true
-  pub seat : n.seat ≡ (mux_for stint).0 + 1
+-- one of the notes of the phase, where `notes` is all of them
+pub record IsPhaseNote (F : Rules) (stage : Stage) (servers : List Serving) (task : Task)
+    (notes : List Note) (n : Note) : Type 0 where
+  pub kind : carries (mux_for task).0 n.event.what ≡ true
+  pub seat : n.seat ≡ (mux_for task).0 + 1
   -- its clock is above that of the Sync
-  pub later : stint.after < n.event.clock.0
-  pub within : IfSome (packet_of n.event.what) (λ k. (stint.from < k) × (k ≤ stint.until))
-  pub assigned : IsAssigned stint n.event.what
-  pub owed : IsOwed deeds n n.event.what
-  pub lost : IsLossOf deeds n.event.clock.0 n.event.what
+  pub later : task.after < n.event.clock.0
+  pub within : IfSome (packet_of n.event.what) (λ k. (task.from < k) × (k ≤ task.until))
+  pub assigned : IsAssigned task n.event.what
+  pub has_sending : HasSending notes n n.event.what
+  pub lost : IsLossOf notes n.event.clock.0 n.event.what
   pub drawn : IsDrawn F n
   pub placed : IsPlaced servers n.event.what
 
 -- THE PHASE
 
 -- what holds at every moment of a phase, and of what was done if a worker gives up
-pub record Kept (F : Rules) (stage : Stage) (servers : List Serving) (stint : Stint)
-    (now : MuxWorker) (deeds : List Note) : Type 0 where
-  pub each : AllByRecursion (IsPhaseNote F stage servers stint deeds) deeds
-  pub ordered : AtEach (λ rest n. IsInOrder rest n.event.what) deeds
+pub record Kept (F : Rules) (stage : Stage) (servers : List Serving) (task : Task)
+    (now : MuxWorker) (notes : List Note) : Type 0 where
+  pub each : AllByRecursion (IsPhaseNote F stage servers task notes) notes
+  pub ordered : AtEach (λ rest n. IsInOrder rest n.event.what) notes
   -- the mux's log grew by exactly these notes' events
   pub logged : reverse now.mux.log
-      ≡ mux_log stage (mux_for stint).0 deeds ++ reverse stint.start.mux.log
+      ≡ mux_log stage (mux_for task).0 notes ++ reverse task.start.mux.log
   pub gives : AtEach
-      (λ rest e. IsMuxGiven stage stint.after (last_version stint.told) now.mux.seen.clocks
-      (rest ++ reverse stint.start.mux.log) e.clock.0 e.what)
-      (mux_log stage (mux_for stint).0 deeds)
+      (λ rest e. IsMuxGiven stage task.after (last_version task.posted) now.mux.seen.clocks
+      (rest ++ reverse task.start.mux.log) e.clock.0 e.what)
+      (mux_log stage (mux_for task).0 notes)
   -- the seats' calls and replies grew likewise
-  pub hears : Hears stage servers stint.start.caller.seats now.caller.seats deeds
-  pub copies : AreCopies stage (mux_for stint) servers (reverse stint.start.mux.log)
-      stint.start.caller.seats
-      → AreCopies stage (mux_for stint) servers (reverse now.mux.log) now.caller.seats
+  pub hears : Hears stage servers task.start.caller.seats now.caller.seats notes
+  pub copies : AreCopies stage (mux_for task) servers (reverse task.start.mux.log)
+      task.start.caller.seats
+      → AreCopies stage (mux_for task) servers (reverse now.mux.log) now.caller.seats
   -- the greatest clock exactly
-  pub latest : now.caller.latest ≡ max stint.start.caller.latest (greatest clock_of deeds)
-  pub mux : IsSameMux stint.start.mux now.mux
-  pub caller : IsSameCaller stint.start.caller now.caller
+  pub latest : now.caller.latest ≡ max task.start.caller.latest (greatest clock_of notes)
+  pub mux : IsSameMux task.start.mux now.mux
+  pub caller : IsSameCaller task.start.caller now.caller
 
 -- besides the first Switch, at most as many notes as the packets may lead to
 abbrev pub AreFew : List Note → Type 0
-AreFew deeds = length deeds ≤ notes_per_packet * many (λ n. is_steer n.event.what) deeds + 1
+AreFew notes = length notes ≤ notes_per_packet * many (λ n. is_steer n.event.what) notes + 1
 
 -- what a worker did in a phase, to its end
-pub record Phase (F : Rules) (stage : Stage) (servers : List Serving) (stint : Stint)
-    (now : MuxWorker) (deeds : List Note) : Type 0 where
-  pub kept : Kept F stage servers stint now deeds
+pub record Phase (F : Rules) (stage : Stage) (servers : List Serving) (task : Task)
+    (now : MuxWorker) (notes : List Note) : Type 0 where
+  pub kept : Kept F stage servers task now notes
   -- every sending has its copies, or its Lose
-  pub carrier : IsCarrier (RoutedBy stint.routes) F stage (mux_for stint).0 deeds
+  pub carrier : IsCarrier (RoutedBy task.routes) F stage (mux_for task).0 notes
   -- the mux looked at what was posted before the phase, or later
-  pub looked : 1 ≤ many (λ n. is_switch_of n.event.what (mux_for stint).0) deeds
-  pub heard : Continues stint.told now.mux.seen
+  pub looked : 1 ≤ many (λ n. is_switch_of n.event.what (mux_for task).0) notes
+  pub heard : Continues task.posted now.mux.seen
   -- each of the mux's packets is steered once, and no other packet is
-  pub steered : (k : ℕ) → many (λ n. steers_packet n.event.what k) deeds
-      ≡ (if is_assigned stint.routes (mux_for stint).0 stint.from stint.until k then 1 else 0)
-  pub few : AreFew deeds
+  pub steered : (k : ℕ) → many (λ n. steers_packet n.event.what k) notes
+      ≡ (if is_assigned task.routes (mux_for task).0 task.from task.until k then 1 else 0)
+  pub few : AreFew notes
 
 -- why the worker gave up: memory, or a moment that was too large, which came from the clock of one
 -- of its notes
 abbrev pub IsStopOf : List Note → Stop → Type 0
-IsStopOf deeds Memory = Unit {0}
-IsStopOf deeds (Late moment clock) =
+IsStopOf notes Memory = Unit {0}
+IsStopOf notes (Late moment clock) =
     (9 * 10 ^ 18 < moment.0) × (moment.0 ≤ clock.0 + 60 * 10 ^ 9)
-    × (1 ≤ many (λ n. n.event.clock.0 == clock.0) deeds)
+    × (1 ≤ many (λ n. n.event.clock.0 == clock.0) notes)
 
 -- THE WORKER
 
@@ -215,44 +215,44 @@ pub record IsOlder (m : MuxId) (from after : ℕ) (e : Event) : Type 0 where
   pub clock : e.clock.0 < after
 
 -- the worker may begin its part of the phase
-pub record IsReady (stage : Stage) (servers : List Serving) (stint : Stint) : Type 0 where
-  pub until : (stint.from ≤ stint.until) × (stint.until ≤ length stage.capture.records)
-  pub after : stint.after ≤ 9 * 10 ^ 18
-  pub sits : Sits servers stint.start.caller
-  pub mux : (mux_for stint).0 < 64
-  pub number : stint.start.caller.number ≡ (mux_for stint).0 + 1
-  pub told : stint.told.board ≡ stint.start.mux.seen.board
-  pub plan : stint.start.mux.seen.plan ≡ stage.script.plan
-  pub older : AllByRecursion (IsOlder (mux_for stint) stint.from stint.after) stint.start.mux.log
-  pub tries : stint.start.caller.tries + tries_per_packet * (stint.until - stint.from) ≤ 4294967295
-  pub steps : stint.start.steps + (stint.until - stint.from) ≤ 4294967295
-  pub room : length stint.start.mux.log + entries_per_packet * (stint.until - stint.from) + 1 < 2 ^ 48
+pub record IsReady (stage : Stage) (servers : List Serving) (task : Task) : Type 0 where
+  pub until : (task.from ≤ task.until) × (task.until ≤ length stage.capture.records)
+  pub after : task.after ≤ 9 * 10 ^ 18
+  pub has_seats : HasSeats servers task.start.caller
+  pub mux : (mux_for task).0 < 64
+  pub number : task.start.caller.number ≡ (mux_for task).0 + 1
+  pub posted : task.posted.board ≡ task.start.mux.seen.board
+  pub plan : task.start.mux.seen.plan ≡ stage.script.plan
+  pub older : AllByRecursion (IsOlder (mux_for task) task.from task.after) task.start.mux.log
+  pub tries : task.start.caller.tries + tries_per_packet * (task.until - task.from) ≤ 4294967295
+  pub steps : task.start.steps + (task.until - task.from) ≤ 4294967295
+  pub room : length task.start.mux.log + entries_per_packet * (task.until - task.from) + 1 < 2 ^ 48
 
 -- how much the worker's counts may rise in the phase
-pub record HasGrown (stint : Stint) (now : MuxWorker) : Type 0 where
-  pub tries : now.caller.tries ≤ stint.start.caller.tries + tries_per_packet * (stint.until - stint.from)
-  pub steps : now.steps ≤ stint.start.steps + (stint.until - stint.from)
-  pub log : length now.mux.log ≤ length stint.start.mux.log + entries_per_packet * (stint.until - stint.from) + 1
+pub record HasGrown (task : Task) (now : MuxWorker) : Type 0 where
+  pub tries : now.caller.tries ≤ task.start.caller.tries + tries_per_packet * (task.until - task.from)
+  pub steps : now.steps ≤ task.start.steps + (task.until - task.from)
+  pub log : length now.mux.log ≤ length task.start.mux.log + entries_per_packet * (task.until - task.from) + 1
 
 -- the phase is done, or the worker gave up in it
-abbrev pub HasEnded : Rules → Stage → List Serving → Stint → MuxWorker → Option Stop → Type 0
-HasEnded F stage servers stint now None =
-    (deeds : List Note) × Phase F stage servers stint now deeds
-HasEnded F stage servers stint now (Some stop) =
-    (deeds : List Note) × Kept F stage servers stint now deeds × IsStopOf deeds stop × AreFew deeds
+abbrev pub HasEnded : Rules → Stage → List Serving → Task → MuxWorker → Option Stop → Type 0
+HasEnded F stage servers task now None =
+    (notes : List Note) × Phase F stage servers task now notes
+HasEnded F stage servers task now (Some stop) =
+    (notes : List Note) × Kept F stage servers task now notes × IsStopOf notes stop × AreFew notes
 
 -- unless it has given up, the worker knows what is posted, and may begin
 abbrev pub CanWork : Stage → List Serving → List (Option MuxId) → Span → MuxWorker → Type 0
 CanWork stage servers routes span w =
-    w.stop ≡ None → (told : Posted) × (w.told ≡ Some told)
-    × IsReady stage servers (stint_of routes span told w)
+    w.stop ≡ None → (posted : Posted) × (w.posted ≡ Some posted)
+    × IsReady stage servers (task_of routes span posted w)
 
 -- it did its part of the phase; a worker that had given up did nothing
 pub record HasWorked (F : Rules) (stage : Stage) (servers : List Serving)
     (routes : List (Option MuxId)) (span : Span)
     (old new : MuxWorker) : Type 0 where
   pub idle : (stop : Stop) → old.stop ≡ Some stop → new ≡ old
-  pub ended : (told : Posted) → old.stop ≡ None → old.told ≡ Some told
-      → HasEnded F stage servers (stint_of routes span told old) new new.stop
-  pub grown : (told : Posted) → old.stop ≡ None → old.told ≡ Some told
-      → HasGrown (stint_of routes span told old) new
+  pub ended : (posted : Posted) → old.stop ≡ None → old.posted ≡ Some posted
+      → HasEnded F stage servers (task_of routes span posted old) new new.stop
+  pub grown : (posted : Posted) → old.stop ≡ None → old.posted ≡ Some posted
+      → HasGrown (task_of routes span posted old) new

@@ -12,29 +12,29 @@ use Rattle.bm_shard.specs.declared.calls.ShardReply.{ShardReply}
 use Rattle.bm_shard.specs.declared.calls.ShardReply.TheVariants.{Arrived, Closed, Retired}
 use Rattle.bm_server.specs.Seats.{Seated, Answered, told_at}
 
-abbrev pub told_in : Option (List Seated) → ℕ → List Answered
-told_in None h = []
-told_in (Some seat) h = told_at seat h
+abbrev pub calls_in : Option (List Seated) → ℕ → List Answered
+calls_in None h = []
+calls_in (Some seat) h = told_at seat h
 
 -- the seats' calls to the shard h of the server at the place s, each with its reply, in order
-abbrev pub told_there : List (List Seated) → ℕ → ℕ → List Answered
-told_there seats s h = told_in (slice_get seats s) h
+abbrev pub calls_there : List (List Seated) → ℕ → ℕ → List Answered
+calls_there seats s h = calls_in (slice_get seats s) h
 
 -- one more call at this place and shard, and at no other
 abbrev pub Gains : ℕ → ℕ → ShardCall → ShardReply → List (List Seated) → List (List Seated) → Type 0
-Gains place shard call reply a b = (s h : ℕ) → told_there b s h
-    ≡ told_there a s h ++ (if s == place && h == shard then (call, reply) ∷ [] else [])
+Gains place shard call reply a b = (s h : ℕ) → calls_there b s h
+    ≡ calls_there a s h ++ (if s == place && h == shard then (call, reply) ∷ [] else [])
 
 -- no call was added
 abbrev pub Stays : List (List Seated) → List (List Seated) → Type 0
-Stays a b = (s h : ℕ) → told_there b s h ≡ told_there a s h
+Stays a b = (s h : ℕ) → calls_there b s h ≡ calls_there a s h
 
 -- the event of a call with this reply
-abbrev pub event_told : Shard → ShardCall → ShardReply → Event
-event_told shard (Arrive packet tag segment due) (Arrived clock verdict answer) =
+abbrev pub event_of_call : Shard → ShardCall → ShardReply → Event
+event_of_call shard (Arrive packet tag segment due) (Arrived clock verdict answer) =
     record { clock = clock; what = Arrives packet tag.hop shard.server verdict }
-event_told shard (Close flow at) (Closed clock closed) =
+event_of_call shard (Close flow at) (Closed clock closed) =
     record { clock = clock; what = Closes shard.server flow closed }
-event_told shard (Retire at result) (Retired clock) =
+event_of_call shard (Retire at result) (Retired clock) =
     record { clock = clock; what = Retires shard.server shard.number at result }
-event_told shard call reply = record { clock = record { 0 = 0 }; what = Sync }
+event_of_call shard call reply = record { clock = record { 0 = 0 }; what = Sync }

@@ -20,13 +20,13 @@ use Rattle.bm_server.specs.Servings.{Serving}
 use Rattle.bm_server.specs.Seats.{Answered, Seated, row}
 use Rattle.bm_server.specs.Servings.{shard_at}
 use Rattle.bm_worker.specs.Callers.{CallerState}
-use Rattle.bm_worker.specs.SeatCalls.{event_told, told_there}
+use Rattle.bm_worker.specs.SeatCalls.{event_of_call, calls_there}
 
 -- SEATS
 
 -- the worker has the seat of its number at each of these servers
-abbrev pub Sits : List Serving → CallerState → Type 0
-Sits servers p = map (map who) p.seats ≡ map (λ server. row server p.number) servers
+abbrev pub HasSeats : List Serving → CallerState → Type 0
+HasSeats servers p = map (map who) p.seats ≡ map (λ server. row server p.number) servers
 
 -- what no call of a worker's seats changes
 pub record IsSameCaller (old new : CallerState) : Type 0 where
@@ -46,7 +46,7 @@ NumbersRise servers =
 
 -- each server that the script knows at its end is among these, by their numbers, and each is as the
 -- setting has it
-pub record Suits (stage : Stage) (servers : List Serving) : Type 0 where
+pub record AreServersOf (stage : Stage) (servers : List Serving) : Type 0 where
   pub rise : NumbersRise servers
   pub shards : (s : ℕ) (server : Serving) → slice_get servers s ≡ Some server
       → length server.tables ≡ stage.script.setting.shards
@@ -65,24 +65,24 @@ abbrev pub Said : Type 0
 Said = Event × ℕ
 
 abbrev pub said_of : Shard → Answered → Said
-said_of shard a = (event_told shard a.0 a.1, (call_moment a.0).0)
+said_of shard a = (event_of_call shard a.0 a.1, (call_moment a.0).0)
 
 -- what these calls with their replies say, in order
 abbrev pub saying : Shard → List Answered → List Said
-saying shard told = map (said_of shard) told
+saying shard calls = map (said_of shard) calls
 
 -- what the notes say about one actor's log, the oldest first
 abbrev pub noted : Stage → Actor → List Note → List Said
 noted stage a [] = []
-noted stage a (n ∷ deeds) =
-    noted stage a deeds ++ (if is_home stage a n then (n.event, n.due) ∷ [] else [])
+noted stage a (n ∷ notes) =
+    noted stage a notes ++ (if is_home stage a n then (n.event, n.due) ∷ [] else [])
 
 -- the seats' calls and replies grew by exactly these notes, at each shard in their order
 abbrev pub Hears : Stage → List Serving → List (List Seated) → List (List Seated) → List Note
     → Type 0
-Hears stage servers a b deeds = (s h : ℕ) (server : Serving) → slice_get servers s ≡ Some server
-    → saying (shard_at server h) (told_there b s h)
-    ≡ saying (shard_at server h) (told_there a s h) ++ noted stage (ShardOf server.id.0 h) deeds
+Hears stage servers a b notes = (s h : ℕ) (server : Serving) → slice_get servers s ≡ Some server
+    → saying (shard_at server h) (calls_there b s h)
+    ≡ saying (shard_at server h) (calls_there a s h) ++ noted stage (ShardOf server.id.0 h) notes
 
 -- NOTES
 

@@ -9,7 +9,7 @@ ghost use Rattle.bm_server.specs.Copies.{IsMemory};
 ghost use Rattle.bm_server.specs.Seats.{most_turns};
 ghost use Rattle.bm_worker.specs.Inside.Answers.{IsArrived, IsClosed, IsRetired};
 ghost use Rattle.bm_worker.specs.Arrivals.{HasCome, IsCopy};
-ghost use Rattle.bm_worker.specs.WorkerNotes.{IsSameCaller, Sits};
+ghost use Rattle.bm_worker.specs.WorkerNotes.{IsSameCaller, HasSeats};
 ghost use Rattle.bm_worker.specs.SeatCalls.{Gains, Stays};
 
 use bm_base::{Flow, Memory, Moment};
@@ -106,14 +106,14 @@ impl Caller {
         due: Moment,
     ) -> Result<(Moment, Verdict), Memory>
         requires place { place < length servers.now }
-        requires sits { Sits servers.now self.old }
+        requires has_seats { HasSeats servers.now self.old }
         requires few { self.old.tries < 4294967295 }
         requires due { due.0 ≤ 9 * 10 ^ 18 }
         requires copy { (server : Serving) → slice_get servers.now place ≡ Some server → (read : _)
             × IsCopy server octets.now read }
         ensures same { IsSameCaller self.old self.new }
         ensures tries { self.new.tries ≤ self.old.tries + 1 }
-        ensures told { IfOk result
+        ensures call { IfOk result
             (λ r. (server : Serving) (read : _) → slice_get servers.now place ≡ Some server
             → IsCopy server octets.now read
             → HasCome place server packet read due r self.old.seats self.new.seats) }
@@ -141,12 +141,12 @@ impl Caller {
         at: Moment,
     ) -> Result<(Moment, bool), Memory>
         requires place { place < length servers.now }
-        requires sits { Sits servers.now self.old }
+        requires has_seats { HasSeats servers.now self.old }
         requires few { self.old.tries < 4294967295 }
         requires moment { at.0 ≤ 9 * 10 ^ 18 }
         ensures same { IsSameCaller self.old self.new }
         ensures tries { self.new.tries ≤ self.old.tries + 1 }
-        ensures told { IfOk result
+        ensures call { IfOk result
             (λ r. (server : Serving) → slice_get servers.now place ≡ Some server
             → Gains place (shard_for server flow) (Close flow at) (Closed r.0 r.1) self.old.seats
             self.new.seats) }
@@ -177,12 +177,12 @@ impl Caller {
         requires place { place < length servers.now }
         requires shard { (server : Serving) → slice_get servers.now place ≡ Some server
             → shard < length server.tables }
-        requires sits { Sits servers.now self.old }
+        requires has_seats { HasSeats servers.now self.old }
         requires few { self.old.tries < 4294967295 }
         requires moment { at.0 ≤ 9 * 10 ^ 18 }
         ensures same { IsSameCaller self.old self.new }
         ensures tries { self.new.tries ≤ self.old.tries + 1 }
-        ensures told { IfOk result
+        ensures call { IfOk result
             (λ clock. Gains place shard (Retire at outcome) (Retired clock) self.old.seats
             self.new.seats) }
         ensures stays { OnErr result (Stays self.old.seats self.new.seats) }

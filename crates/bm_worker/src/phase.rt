@@ -7,7 +7,7 @@ ghost use Rattle.bm_mux.specs.Muxes.{IsSameMux};
 ghost use Rattle.bm_worker.specs.Environments.{In};
 ghost use Rattle.bm_worker.specs.Inside.Batches.{CanCarry, CarriesTo, EndsAs, GrowsBy};
 ghost use Rattle.bm_worker.specs.WorkerNotes.{IsSameCaller};
-ghost use Rattle.bm_worker.specs.Phases.{HasGrown, IsReady, stint_of};
+ghost use Rattle.bm_worker.specs.Phases.{HasGrown, IsReady, task_of};
 
 use crate::batch::collect;
 use crate::{MuxWorker, Shared, Span, Stop};
@@ -67,20 +67,20 @@ impl MuxWorker {
         span: Span,
     ) -> Result<(), Stop>
         requires rule { IsRule F.Fn shared.now.rule }
-        requires told { IsSome self.old.told }
-        requires ready { (told : Posted) → self.old.told ≡ Some told
+        requires posted { IsSome self.old.posted }
+        requires ready { (posted : Posted) → self.old.posted ≡ Some posted
             → IsReady shared.now.stage shared.now.servers
-            (stint_of shared.now.routes span told self.old) }
-        ensures grown { (told : Posted) → self.old.told ≡ Some told
-            → HasGrown (stint_of shared.now.routes span told self.old) self.new }
-        ensures ended { (told : Posted) → self.old.told ≡ Some told
-            → In F.Fn shared.now EndsAs (stint_of shared.now.routes span told self.old) self.new
+            (task_of shared.now.routes span posted self.old) }
+        ensures grown { (posted : Posted) → self.old.posted ≡ Some posted
+            → HasGrown (task_of shared.now.routes span posted self.old) self.new }
+        ensures ended { (posted : Posted) → self.old.posted ≡ Some posted
+            → In F.Fn shared.now EndsAs (task_of shared.now.routes span posted self.old) self.new
             result }
     {
-        let Some(told) = self.told.take() else {
+        let Some(posted) = self.posted.take() else {
             unreachable!();
         };
-        self.mux.begin(told, span.after)?;
+        self.mux.begin(posted, span.after)?;
         self.caller.see(self.mux.clock());
         let mut sents = Vec::new(shared.alloc());
         let mut next = span.from;

@@ -11,7 +11,7 @@ pub struct MuxWorker {
     /// How many packets it delivered, in all phases.
     pub steps: u32,
     /// What was posted before the next phase.
-    pub told: Option<Told>,
+    pub posted: Option<Told>,
     /// Why it gave up, if it did. Then it does nothing any more.
     pub stop: Option<Stop>,
 }

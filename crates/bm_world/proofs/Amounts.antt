@@ -20,10 +20,10 @@ use Rattle.bm_core.specs.Runs.Actor.{Controller, MuxOf}
 use Rattle.bm_core.specs.Stages.{IsSound}
 use Rattle.bm_core.specs.Threads.{steers_later}
 use Rattle.bm_merge.specs.Notes.{Note, events_of, many, size_of, total}
-use Rattle.bm_merge.specs.Workers.{all_deeds, carries, deeds_of, home_of, home_part, is_home}
+use Rattle.bm_merge.specs.Workers.{notes_of_all, carries, notes_by, home_of, home_part, is_home}
 use Rattle.bm_merge.proofs.Noting.{counts_notes, each_so, total_append, total_none}
 use Rattle.bm_merge.proofs.Reaching.{one_if}
-use Rattle.bm_merge.proofs.Sharing.{deeds_upto, sum_seats}
+use Rattle.bm_merge.proofs.Sharing.{notes_upto, sum_seats}
 use Rattle.bm_worker.specs.Phases.{IsMuxGiven, is_steer, mux_log}
 use Rattle.bm_worker.specs.Assigned.{is_mux, is_assigned, assigned_mux}
 use Rattle.bm_lead.specs.Commands.{AreDone, control_log}
@@ -126,34 +126,34 @@ steers_few x n few =
       one_most a true h = omega arith
       one_most a false h = omega arith
 
--- ALL WORKERS' DEEDS
+-- ALL WORKERS' NOTES
 
 lengths_few : (carriers : List (List Note)) (c : ℕ)
     → ((m : ℕ) → m < length carriers
-    → length (deeds_of carriers m) ≤ 41 * many (λ n. is_steer n.event.what) (deeds_of carriers m) + 65538)
-    → length (all_deeds carriers) ≤ 41 * many (λ n. is_steer n.event.what) (all_deeds carriers)
+    → length (notes_by carriers m) ≤ 41 * many (λ n. is_steer n.event.what) (notes_by carriers m) + 65538)
+    → length (notes_of_all carriers) ≤ 41 * many (λ n. is_steer n.event.what) (notes_of_all carriers)
     + 65538 * length carriers
 lengths_few [] c few = omega arith
 lengths_few (d ∷ carriers) c few =
     let old = lengths_few carriers c (λ m low. few (suc m) (omega arith))
     in let here = few 0 (omega arith)
-    in let a = length-append d (all_deeds carriers)
-    in let b = total_append (λ n. one_if (is_steer n.event.what)) d (all_deeds carriers)
+    in let a = length-append d (notes_of_all carriers)
+    in let b = total_append (λ n. one_if (is_steer n.event.what)) d (notes_of_all carriers)
     in omega arith
 
 -- a bound on the notes of the muxes' workers
 pub carried_few : (stage : Stage) (routes : List (Option MuxId)) (until : ℕ) (carriers : List (List Note))
     → until ≤ 200000 → length carriers ≤ 64
     → ((m : ℕ) → m < length carriers
-    → length (deeds_of carriers m) ≤ 41 * many (λ n. is_steer n.event.what) (deeds_of carriers m) + 65538)
+    → length (notes_by carriers m) ≤ 41 * many (λ n. is_steer n.event.what) (notes_by carriers m) + 65538)
     → ((m : ℕ) → m < length carriers → (k : ℕ)
-    → many (λ n. steers_packet n.event.what k) (deeds_of carriers m) ≤ one_if (is_assigned routes m 0 until k))
-    → length (all_deeds carriers) ≤ 12400000
+    → many (λ n. steers_packet n.event.what k) (notes_by carriers m) ≤ one_if (is_assigned routes m 0 until k))
+    → length (notes_of_all carriers) ≤ 12400000
 carried_few stage routes until carriers low muxes few steered =
     let all = lengths_few carriers 0 few
-    in let steers = steers_few (all_deeds carriers) until (λ k.
-    let sum = deeds_upto (λ n. one_if (steers_packet n.event.what k)) carriers
-    in let most = sum_most (λ w. many (λ n. steers_packet n.event.what k) (deeds_of carriers w))
+    in let steers = steers_few (notes_of_all carriers) until (λ k.
+    let sum = notes_upto (λ n. one_if (steers_packet n.event.what k)) carriers
+    in let most = sum_most (λ w. many (λ n. steers_packet n.event.what k) (notes_by carriers w))
     (λ w. one_if ((ltb 0 k && leb k until) && is_mux (assigned_mux routes k) w)) (length carriers)
     (λ m here. steered m here k)
     in let one = one_mux (ltb 0 k && leb k until) (assigned_mux routes k) (length carriers)
@@ -165,7 +165,7 @@ carried_few stage routes until carriers low muxes few steered =
       less true false = omega arith
       less false b = omega arith
 
--- WORKER 0'S DEEDS
+-- WORKER 0'S NOTES
 
 size_few : (shards : ℕ) (o : Option Command) → 1 ≤ shards → shards ≤ 64 → size_of shards o ≤ 64
 size_few shards None some few = omega arith

@@ -23,7 +23,7 @@ use Rattle.bm_core.specs.Threads.{is_publish_of, publish_clock, sync_clock, last
 use Rattle.bm_shard.specs.Books.{Book}
 use Rattle.bm_merge.specs.Merges.{Log, named, IsEntry, Agree}
 use Rattle.bm_merge.specs.Notes.{Note, NotedLog, events_of, plain, all_notes, until}
-use Rattle.bm_merge.specs.Workers.{home_of, is_home, home_part, deeds_of, all_deeds, own_before, looks_since}
+use Rattle.bm_merge.specs.Workers.{home_of, is_home, home_part, notes_by, notes_of_all, own_before, looks_since}
 use Rattle.bm_merge.specs.Workers.{IsGiven, IsMet, IsInItsPhase, ArePromises}
 use Rattle.bm_merge.proofs.Phasing.{met_shared}
 use Rattle.bm_merge.proofs.Reaching.{one_if}
@@ -41,18 +41,18 @@ use Rattle.bm_world.proofs.Booked.{book_entries, book_given, book_actors}
 
 -- each mux's log, and each shard's
 muxes_each : (P : NotedLog → Type 0) (stage : Stage) (carriers some : List (List Note)) (m : ℕ)
-    → ((i : ℕ) → deeds_of carriers (m + i) ≡ deeds_of some i) → (m + length some ≡ length carriers)
+    → ((i : ℕ) → notes_by carriers (m + i) ≡ notes_by some i) → (m + length some ≡ length carriers)
     → ((p : ℕ) → p < length carriers
-    → P (record { actor = MuxOf p; notes = home_part stage (MuxOf p) (deeds_of carriers p) }))
+    → P (record { actor = MuxOf p; notes = home_part stage (MuxOf p) (notes_by carriers p) }))
     → AllByRecursion P (mux_logs stage m some)
 muxes_each P stage carriers [] m is count each = tt
 muxes_each P stage carriers (d ∷ some) m is count each =
-    let here : deeds_of carriers m ≡ d = ap (λ (k : ℕ). deeds_of carriers k) (omega arith) ∙ is 0
+    let here : notes_by carriers m ≡ d = ap (λ (k : ℕ). notes_by carriers k) (omega arith) ∙ is 0
     in (
       subst (λ (x : List Note). P (record { actor = MuxOf m; notes = home_part stage (MuxOf m) x })) here
           (each m (omega arith)),
       muxes_each P stage carriers some (suc m)
-          (λ i. ap (λ (k : ℕ). deeds_of carriers k) (omega arith) ∙ is (suc i)) (omega arith) each,
+          (λ i. ap (λ (k : ℕ). notes_by carriers k) (omega arith) ∙ is (suc i)) (omega arith) each,
     )
 
 shards_each : (P : NotedLog → Type 0) (stage : Stage) (controller : List Note) (carriers : List (List Note))
@@ -82,7 +82,7 @@ pub each_log : (P : NotedLog → Type 0) (stage : Stage) (controller : List Note
     (books : List Book) (all : AllByRecursion (IsBookOfAll stage controller carriers) books)
     → P (record { actor = Controller; notes = home_part stage Controller controller })
     → ((p : ℕ) → p < length carriers
-    → P (record { actor = MuxOf p; notes = home_part stage (MuxOf p) (deeds_of carriers p) }))
+    → P (record { actor = MuxOf p; notes = home_part stage (MuxOf p) (notes_by carriers p) }))
     → ((b : Book) (is : IsBookOfAll stage controller carriers b)
     → P (record {
       actor = ShardOf b.shard.server.0 b.shard.number;
@@ -92,7 +92,7 @@ pub each_log : (P : NotedLog → Type 0) (stage : Stage) (controller : List Note
 each_log P stage controller carriers books all control muxes shards = (
   control,
   all_append P (mux_logs stage 0 carriers) (shard_logs stage controller carriers books all)
-      (muxes_each P stage carriers carriers 0 (λ i. ap (λ (k : ℕ). deeds_of carriers k) (omega arith)) (omega arith)
+      (muxes_each P stage carriers carriers 0 (λ i. ap (λ (k : ℕ). notes_by carriers k) (omega arith)) (omega arith)
       muxes)
       (shards_each P stage controller carriers books all shards),
 )
@@ -211,16 +211,16 @@ mux_given_one stage logs control rest n (Retire server h moment result) is at st
 mux_given : (R : Routes) (F : Rules) (stage : Stage) (controller : List Note) (carriers : List (List Note))
     (books : List Book) (back : AreHandedBack R F stage controller carriers books) (m : ℕ) → m < length carriers
     → AtEach (λ rest n. IsGiven stage (plain (logs_of stage controller carriers books back.kept)) rest
-    (own_before stage rest n) n n.event.what) (home_part stage (MuxOf m) (deeds_of carriers m))
+    (own_before stage rest n) n n.event.what) (home_part stage (MuxOf m) (notes_by carriers m))
 mux_given R F stage controller carriers books back m low =
     let logs = plain (logs_of stage controller carriers books back.kept)
-    in let home = home_part stage (MuxOf m) (deeds_of carriers m)
+    in let home = home_part stage (MuxOf m) (notes_by carriers m)
     in let control = control_log stage controller
     in at_so (λ n. is_home stage (MuxOf m) n ≡ true)
     (λ rest n. IsMuxGivenBy stage control (posted_clocks control) (events_of rest) n.event)
     (λ rest n. IsGiven stage logs rest (own_before stage rest n) n n.event.what) home
     (λ rest n h gives. mux_given_one stage logs control rest n n.event.what refl refl back.control.steps m h gives)
-    (home_is stage (MuxOf m) (deeds_of carriers m))
+    (home_is stage (MuxOf m) (notes_by carriers m))
     (at_notes (IsMuxGivenBy stage control (posted_clocks control)) home (back.carried m low).gives)
 
 -- THE CONTROLLER'S LOG
@@ -302,13 +302,13 @@ handed_back R F stage controller carriers books back =
       steered = back.steered;
       phases = all_carried (IsInItsPhase stage (plain logs)) carriers (λ m low. (back.carried m low).phases);
       met = each_log (λ l. AtEach met l.notes) stage controller carriers books back.kept
-          (at_change (λ rest n. IsMet stage (controller ++ all_deeds carriers) (events_of rest) n n.event.what) met
+          (at_change (λ rest n. IsMet stage (controller ++ notes_of_all carriers) (events_of rest) n n.event.what) met
           (home_part stage Controller controller)
-          (λ rest n h. met_shared stage (controller ++ all_deeds carriers) (all_notes logs) (events_of rest) n
+          (λ rest n h. met_shared stage (controller ++ notes_of_all carriers) (all_notes logs) (events_of rest) n
           n.event.what (λ f. sym (shared f)) h) back.met)
-          (λ p low. at_any (λ n. is_home stage (MuxOf p) n ≡ true) met (home_part stage (MuxOf p) (deeds_of carriers p))
+          (λ p low. at_any (λ n. is_home stage (MuxOf p) n ≡ true) met (home_part stage (MuxOf p) (notes_by carriers p))
           (λ rest n h. unmet_mux stage (all_notes logs) (events_of rest) n n.event.what n.seat p h)
-          (home_is stage (MuxOf p) (deeds_of carriers p)))
+          (home_is stage (MuxOf p) (notes_by carriers p)))
           (λ b is. at_any (λ n. is_by (actor_of stage n.event.what) (ShardOf b.shard.server.0 b.shard.number) ≡ true)
           met
           (notes_of (book_notes stage controller carriers b is).kept)

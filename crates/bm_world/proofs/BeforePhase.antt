@@ -23,7 +23,7 @@ use Rattle.bm_core.specs.Runs.Actor.{MuxOf, ShardOf}
 use Rattle.bm_core.specs.Stages.{IsSound}
 use Rattle.bm_core.specs.Threads.{packet_of}
 use Rattle.bm_merge.specs.Notes.{Note, events_of}
-use Rattle.bm_merge.specs.Workers.{home_of, home_part, is_home, carries, deeds_of}
+use Rattle.bm_merge.specs.Workers.{home_of, home_part, is_home, carries, notes_by}
 use Rattle.bm_mux.specs.Muxes.{IsOwn}
 use Rattle.bm_publish.specs.Posts.{Posted}
 use Rattle.bm_server.specs.Servings.{Serving}
@@ -31,25 +31,25 @@ use Rattle.bm_worker.specs.WorkerNotes.{clock_of}
 use Rattle.bm_worker.specs.Phases.{mux_log, CanWork, IsOlder}
 use Rattle.bm_worker.specs.declared.span.Span.{Span}
 use Rattle.bm_worker.specs.declared.worker.MuxWorker.{MuxWorker}
-use Rattle.bm_lead.specs.declared.head.Head.{Head}
-use Rattle.bm_world.specs.Inside.RunStates.{told_what, IsBetween}
+use Rattle.bm_lead.specs.declared.leader.Leader.{Leader}
+use Rattle.bm_world.specs.Inside.RunStates.{with_posts, IsBetween}
 use Rattle.bm_world.specs.Inside.Returned.{control_log}
 use Rattle.bm_world.specs.Inside.Running.{IsAtWork, AreAtWork}
 
 -- WHAT IS TOLD CHANGES NOTHING ELSE
 
 pub told_at : (posted : Posted) (workers : List MuxWorker) (m : ℕ) (y : MuxWorker)
-    → slice_get (map (told_what posted) workers) m ≡ Some y
-    → (w : MuxWorker) × (slice_get workers m ≡ Some w) × (told_what posted w ≡ y)
+    → slice_get (map (with_posts posted) workers) m ≡ Some y
+    → (w : MuxWorker) × (slice_get workers m ≡ Some w) × (with_posts posted w ≡ y)
 told_at posted [] m y here = absurd (cc)
 told_at posted (w ∷ workers) zero y here = (w, refl, same_Some _ _ here)
 told_at posted (w ∷ workers) (suc m) y here = told_at posted workers m y here
 
 at_work_told : (R : Routes) (F : Rules) (stage : Stage) (servers : List Serving) (routes : List (Option MuxId))
-    (control : List Event) (board : Book) (phases until m : ℕ) (posted : Posted) (w : MuxWorker) (deeds : List Note)
-    → IsAtWork R F stage servers routes control board phases until m w deeds
-    → IsAtWork R F stage servers routes control board phases until m (told_what posted w) deeds
-at_work_told R F stage servers routes control board phases until m posted w deeds at = record {
+    (control : List Event) (board : Book) (phases until m : ℕ) (posted : Posted) (w : MuxWorker) (notes : List Note)
+    → IsAtWork R F stage servers routes control board phases until m w notes
+    → IsAtWork R F stage servers routes control board phases until m (with_posts posted w) notes
+at_work_told R F stage servers routes control board phases until m posted w notes at = record {
   carriage = at.carriage;
   id = at.id;
   logged = at.logged;
@@ -60,7 +60,7 @@ at_work_told R F stage servers routes control board phases until m posted w deed
   steered = at.steered;
   within = at.within;
   number = at.number;
-  sits = at.sits;
+  has_seats = at.has_seats;
   board_is = at.board_is;
   plan = at.plan;
   tries = at.tries;
@@ -74,15 +74,15 @@ pub all_told : (R : Routes) (F : Rules) (stage : Stage) (servers : List Serving)
     (board : Book) (p phases until : ℕ) (posted : Posted) (workers : List MuxWorker) (controller : List Note)
     (carriers : List (List Note))
     → AreAtWork R F stage servers routes board p phases until workers controller carriers
-    → AreAtWork R F stage servers routes board p phases until (map (told_what posted) workers) controller carriers
+    → AreAtWork R F stage servers routes board p phases until (map (with_posts posted) workers) controller carriers
 all_told R F stage servers routes board p phases until posted workers controller carriers at = record {
-  count = at.count ∙ sym (length-map workers (told_what posted));
+  count = at.count ∙ sym (length-map workers (with_posts posted));
   each = λ m y here.
       let w = told_at posted workers m y here
       in subst (λ (x : MuxWorker). IsAtWork R F stage servers routes (control_log stage controller) board phases until
-      m x (deeds_of carriers m)) w.2
+      m x (notes_by carriers m)) w.2
       (at_work_told R F stage servers routes (control_log stage controller) board phases until m posted w.0
-      (deeds_of carriers m)
+      (notes_by carriers m)
       (at.each m w.0 w.1));
   all = at.all;
   same = at.same;
@@ -168,41 +168,41 @@ each_back P (e ∷ x) all =
 
 -- the worker of mux m may begin
 can_one : (F : Rules) (stage : Stage) (servers : List Serving) (routes : List (Option MuxId)) (posted : Posted)
-    (head : Head) (workers : List MuxWorker) (span : Span) (m : ℕ) (w : MuxWorker) → IsSound stage
-    → IsBetween F stage servers routes posted head workers span.from → span.after.0 ≡ head.caller.latest
+    (leader : Leader) (workers : List MuxWorker) (span : Span) (m : ℕ) (w : MuxWorker) → IsSound stage
+    → IsBetween F stage servers routes posted leader workers span.from → span.after.0 ≡ leader.caller.latest
     → span.from ≤ span.until → span.until ≤ length stage.capture.records → slice_get workers m ≡ Some w
-    → CanWork stage servers routes span (told_what posted w)
-can_one F stage servers routes posted head workers span m w sound between after order within here stop =
+    → CanWork stage servers routes span (with_posts posted w)
+can_one F stage servers routes posted leader workers span m w sound between after order within here stop =
     let at = between.standing.at_work.each m w here
     in let low = slice_get_within workers m w here
     in let muxes = between.standing.muxes
     in let most = sound.script.setting.muxes.1
     in let id : w.mux.id.0 ≡ m = at.id
-    in let deeds = deeds_of between.carriers m
+    in let notes = notes_by between.carriers m
     in let records = sound.capture.few
-    in let phases = few_syncs stage head.next between.p sound between.at_phase.syncs
-    in let kinds : AllByRecursion (λ n. carries w.mux.id.0 n.event.what ≡ true) deeds =
-    subst (λ (k : ℕ). AllByRecursion (λ n. carries k n.event.what ≡ true) deeds) (sym id) at.carriage.carrier.kinds
-    in let below : AllByRecursion (λ n. clock_of n < span.after.0) deeds =
-    subst (λ (k : ℕ). AllByRecursion (λ n. clock_of n < k) deeds) (sym after) (between.apart.below m)
-    in let log : mux_log stage w.mux.id.0 deeds ≡ reverse w.mux.log =
-    ap (λ (k : ℕ). mux_log stage k deeds) id ∙ sym at.logged
+    in let phases = few_syncs stage leader.next between.p sound between.at_phase.syncs
+    in let kinds : AllByRecursion (λ n. carries w.mux.id.0 n.event.what ≡ true) notes =
+    subst (λ (k : ℕ). AllByRecursion (λ n. carries k n.event.what ≡ true) notes) (sym id) at.carriage.carrier.kinds
+    in let below : AllByRecursion (λ n. clock_of n < span.after.0) notes =
+    subst (λ (k : ℕ). AllByRecursion (λ n. clock_of n < k) notes) (sym after) (between.apart.below m)
+    in let log : mux_log stage w.mux.id.0 notes ≡ reverse w.mux.log =
+    ap (λ (k : ℕ). mux_log stage k notes) id ∙ sym at.logged
     in (
       posted,
       refl,
       record {
         until = (order, within);
         after = let early = between.early in omega arith;
-        sits = at.sits;
+        has_seats = at.has_seats;
         mux = omega arith;
         number = let number = at.number in omega arith;
-        told = sym at.board_is;
+        posted = sym at.board_is;
         plan = at.plan;
         older = subst (λ (l : List Event). AllByRecursion (IsOlder w.mux.id span.from span.after.0) l)
             (reverse-reverse w.mux.log)
             (each_back (IsOlder w.mux.id span.from span.after.0) (reverse w.mux.log)
             (subst (λ (l : List Event). AllByRecursion (IsOlder w.mux.id span.from span.after.0) l) log
-            (older_log stage w.mux.id span.from span.after.0 deeds kinds at.within below)));
+            (older_log stage w.mux.id span.from span.after.0 notes kinds at.within below)));
         tries = let tries = at.tries in omega arith;
         steps = let steps = at.steps in omega arith;
         room = let room = at.room in omega arith;
@@ -210,12 +210,12 @@ can_one F stage servers routes posted head workers span m w sound between after 
     )
 
 pub can_work : (F : Rules) (stage : Stage) (servers : List Serving) (routes : List (Option MuxId)) (posted : Posted)
-    (head : Head) (workers : List MuxWorker) (span : Span) → IsSound stage
-    → IsBetween F stage servers routes posted head workers span.from → span.after.0 ≡ head.caller.latest
+    (leader : Leader) (workers : List MuxWorker) (span : Span) → IsSound stage
+    → IsBetween F stage servers routes posted leader workers span.from → span.after.0 ≡ leader.caller.latest
     → span.from ≤ span.until → span.until ≤ length stage.capture.records
-    → All (CanWork stage servers routes span) (map (told_what posted) workers)
-can_work F stage servers routes posted head workers span sound between after order within k d low =
-    let told = map (told_what posted) workers
+    → All (CanWork stage servers routes span) (map (with_posts posted) workers)
+can_work F stage servers routes posted leader workers span sound between after order within k d low =
+    let told = map (with_posts posted) workers
     in let w = told_at posted workers k (get_or told k d) (slice_get-get_or told k d low)
     in subst (λ (x : MuxWorker). CanWork stage servers routes span x) w.2
-    (can_one F stage servers routes posted head workers span k w.0 sound between after order within w.1)
+    (can_one F stage servers routes posted leader workers span k w.0 sound between after order within w.1)

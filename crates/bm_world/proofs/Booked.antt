@@ -28,11 +28,11 @@ use Rattle.bm_shard.specs.declared.calls.ShardCall.TheVariants.{Arrive, Close, R
 use Rattle.bm_shard.specs.declared.calls.ShardEntry.{ShardEntry}
 use Rattle.bm_merge.specs.Merges.{Log, named, IsEntry, IsSentBefore}
 use Rattle.bm_merge.specs.Notes.{Note, events_of, plain, total, many}
-use Rattle.bm_merge.specs.Workers.{home_of, is_home, home_part, seat_part, deeds_of, carries, arrives_after, IsGiven}
+use Rattle.bm_merge.specs.Workers.{home_of, is_home, home_part, seat_part, notes_by, carries, arrives_after, IsGiven}
 use Rattle.bm_merge.specs.Workers.{own_before}
 use Rattle.bm_merge.proofs.Agreeing.{same_actor-true}
 use Rattle.bm_table.specs.declared.plan.Retirement.{Retirement}
-use Rattle.bm_merge.proofs.Keeping.{no_deeds}
+use Rattle.bm_merge.proofs.Keeping.{no_notes}
 use Rattle.bm_merge.proofs.Reaching.{one_if}
 use Rattle.bm_world.specs.Inside.Shards.{Kept, entries_of, note_of, notes_of, IsAsked, AreAsked}
 use Rattle.bm_worker.specs.Phases.{mux_log, IsInOrder}
@@ -79,7 +79,7 @@ three P Q S (n ∷ x) a b c = ((a.0, b.0, c.0), three P Q S x a.1 b.1 c.1)
 done_by : (R : Routes) (F : Rules) (stage : Stage) (controller : List Note) (carriers : List (List Note))
     (books : List Book) (back : AreHandedBack R F stage controller carriers books) (a : Actor) (w : ℕ)
     → AllByRecursion (IsDoneBy stage (plain (logs_of stage controller carriers books back.kept))
-    (control_log stage controller) a w) (home_part stage a (deeds_of (controller ∷ carriers) w))
+    (control_log stage controller) a w) (home_part stage a (notes_by (controller ∷ carriers) w))
 done_by R F stage controller carriers books back a zero =
     let are = are_workers R F stage controller carriers books back
     in three (λ n. is_home stage a n ≡ true) (λ n. is_command n.event.what ≡ true)
@@ -92,21 +92,21 @@ done_by R F stage controller carriers books back a (suc m) =
     in let logs = plain (logs_of stage controller carriers books back.kept)
     in elim (cases_lt m (length carriers)) [
       | inl low ↦ three (λ n. is_home stage a n ≡ true) (λ n. carries m n.event.what ≡ true)
-          (λ n. IsSentBefore logs n.event.clock.0 n.event.what) (home_part stage a (deeds_of carriers m))
-          (home_is stage a (deeds_of carriers m))
-          (home_each (λ n. carries m n.event.what ≡ true) stage a (deeds_of carriers m) (are.kinds m))
-          (home_each (λ n. IsSentBefore logs n.event.clock.0 n.event.what) stage a (deeds_of carriers m)
+          (λ n. IsSentBefore logs n.event.clock.0 n.event.what) (home_part stage a (notes_by carriers m))
+          (home_is stage a (notes_by carriers m))
+          (home_each (λ n. carries m n.event.what ≡ true) stage a (notes_by carriers m) (are.kinds m))
+          (home_each (λ n. IsSentBefore logs n.event.clock.0 n.event.what) stage a (notes_by carriers m)
           (all_sent R F stage controller carriers books back m low))
       | inr high ↦ subst (λ (x : List Note).
           AllByRecursion (IsDoneBy stage logs (control_log stage controller) a (suc m)) (home_part stage a x))
-          (sym (no_deeds carriers m high)) tt
+          (sym (no_notes carriers m high)) tt
     ]
 
 -- WHAT THE CALLERS GIVE
 
 labelled_named : (R : Routes) (F : Rules) (stage : Stage) (controller : List Note) (carriers : List (List Note))
     (books : List Book) (back : AreHandedBack R F stage controller carriers books) (packet : ℕ) (label : Label)
-    → label_of stage (mux_log stage label.mux.0 (deeds_of carriers label.mux.0)) packet ≡ Some label
+    → label_of stage (mux_log stage label.mux.0 (notes_by carriers label.mux.0)) packet ≡ Some label
     → label_of stage (named (plain (logs_of stage controller carriers books back.kept)) (MuxOf label.mux.0)) packet
     ≡ Some label
 labelled_named R F stage controller carriers books back packet label is =
@@ -116,7 +116,7 @@ labelled_named R F stage controller carriers books back packet label is =
       | inr high ↦
           let none : label_of stage (mux_log stage label.mux.0 []) packet ≡ Some label =
           subst (λ (x : List Note). label_of stage (mux_log stage label.mux.0 x) packet ≡ Some label)
-          (no_deeds carriers label.mux.0 high) is
+          (no_notes carriers label.mux.0 high) is
           in absurd (cc)
     ]
 
@@ -302,13 +302,13 @@ commands_order (n ∷ x) all = (command_order x n.event.what all.0, commands_ord
 
 worker_order : (R : Routes) (F : Rules) (stage : Stage) (controller : List Note) (carriers : List (List Note))
     (books : List Book) (back : AreHandedBack R F stage controller carriers books) (w : ℕ)
-    → AtEach (λ rest n. IsInOrder rest n.event.what) (deeds_of (controller ∷ carriers) w)
+    → AtEach (λ rest n. IsInOrder rest n.event.what) (notes_by (controller ∷ carriers) w)
 worker_order R F stage controller carriers books back zero =
     commands_order controller (are_workers R F stage controller carriers books back).commands
 worker_order R F stage controller carriers books back (suc m) = elim (cases_lt m (length carriers)) [
   | inl low ↦ (back.carried m low).ordered
   | inr high ↦ subst (λ (x : List Note). AtEach (λ rest n. IsInOrder rest n.event.what) x)
-      (sym (no_deeds carriers m high)) tt
+      (sym (no_notes carriers m high)) tt
 ]
 
 -- what a shard gives
@@ -401,9 +401,9 @@ book_actors stage controller carriers b is =
     in let P : Note → Type 0 = λ n. is_by (actor_of stage n.event.what) a ≡ true
     in own_seats (λ w n. P n) (notes_of notes.kept) (λ w. subst (λ (x : List Note). AllByRecursion P x)
     (sym (notes.seats w))
-    (all_more (λ n. is_home stage a n ≡ true) P (home_part stage a (deeds_of (controller ∷ carriers) w))
+    (all_more (λ n. is_home stage a n ≡ true) P (home_part stage a (notes_by (controller ∷ carriers) w))
     (λ n h. home_actor stage n.seat b.shard.server.0 b.shard.number n.event.what h)
-    (home_is stage a (deeds_of (controller ∷ carriers) w))))
+    (home_is stage a (notes_by (controller ∷ carriers) w))))
 
 pub book_given : (R : Routes) (F : Rules) (stage : Stage) (controller : List Note) (carriers : List (List Note))
     (books : List Book) (back : AreHandedBack R F stage controller carriers books) (b : Book)
@@ -420,5 +420,5 @@ book_given R F stage controller carriers books back b is =
     (book_actors stage controller carriers b is)
     (seats_order (notes_of notes.kept) (λ w. subst (λ (x : List Note). AtEach (λ rest n. IsInOrder rest n.event.what) x)
     (sym (notes.seats w))
-    (home_order stage a (deeds_of (controller ∷ carriers) w)
+    (home_order stage a (notes_by (controller ∷ carriers) w)
     (worker_order R F stage controller carriers books back w))))

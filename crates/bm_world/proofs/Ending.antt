@@ -27,16 +27,16 @@ use Rattle.bm_core.specs.Stages.{IsSound}
 use Rattle.bm_core.specs.Threads.{is_command}
 use Rattle.bm_shard.specs.Books.{Book}
 use Rattle.bm_merge.specs.Notes.{Note, events_of, many, total}
-use Rattle.bm_merge.specs.Workers.{home_part, deeds_of, all_deeds, IsController, IsMet, carries}
+use Rattle.bm_merge.specs.Workers.{home_part, notes_by, notes_of_all, IsController, IsMet, carries}
 use Rattle.bm_merge.proofs.Commanding.{all_kinds}
-use Rattle.bm_merge.proofs.Keeping.{no_deeds}
+use Rattle.bm_merge.proofs.Keeping.{no_notes}
 use Rattle.bm_merge.proofs.Noting.{each_append, each_so}
 use Rattle.bm_merge.proofs.Phasing.{met_shared}
 use Rattle.bm_merge.proofs.Reaching.{one_if}
-use Rattle.bm_merge.proofs.Sharing.{deeds_upto, sum_seats}
+use Rattle.bm_merge.proofs.Sharing.{notes_upto, sum_seats}
 use Rattle.bm_server.specs.Seats.{Seated}
 use Rattle.bm_server.specs.Servings.{Serving}
-use Rattle.bm_worker.specs.WorkerNotes.{HasServer, Suits}
+use Rattle.bm_worker.specs.WorkerNotes.{HasServer, AreServersOf}
 use Rattle.bm_worker.specs.Phases.{mux_log, IsPlaced, AreCopies}
 use Rattle.bm_worker.specs.Assigned.{is_mux, assigned_mux}
 use Rattle.bm_worker.specs.declared.worker.MuxWorker.{MuxWorker}
@@ -137,65 +137,65 @@ packet_once stage routes (suc i) routed = elim (cases_lt (length stage.capture.r
 
 server_booked : (stage : Stage) (servers : List Serving) (rows : List (List (List Seated))) (all : List (List Book))
     (id : ServerId)
-    (h : ℕ) → Suits stage servers → length all ≡ length servers
+    (h : ℕ) → AreServersOf stage servers → length all ≡ length servers
     → ((s : ℕ) (books : List Book) → slice_get all s ≡ Some books → AreBooksThere servers rows s books)
     → HasServer servers id → h < stage.script.setting.shards → has_book (all_books all) id.0 h ≡ true
-server_booked stage servers rows all id h suits count books has low =
+server_booked stage servers rows all id h servers_are count books has low =
     let server = has.1
-    in let shards = suits.shards has.0 server has.2
+    in let shards = servers_are.shards has.0 server has.2
     in subst (λ (i : ServerId). has_book (all_books all) i.0 h ≡ true) has.3
     (has_shard servers rows all has.0 h server count books has.2 (omega arith))
 
 pub led_booked : (stage : Stage) (servers : List Serving) (rows : List (List (List Seated))) (all : List (List Book))
     (what : What)
-    → Suits stage servers → length all ≡ length servers → 0 < stage.script.setting.shards
+    → AreServersOf stage servers → length all ≡ length servers → 0 < stage.script.setting.shards
     → ((s : ℕ) (books : List Book) → slice_get all s ≡ Some books → AreBooksThere servers rows s books)
     → is_command what ≡ true → IsLedAt stage servers what → IsBooked stage (all_books all) what
-led_booked stage servers rows all (Close server flow closed) suits count some books is at =
-    server_booked stage servers rows all server (shard stage flow) suits count books at
+led_booked stage servers rows all (Close server flow closed) servers_are count some books is at =
+    server_booked stage servers rows all server (shard stage flow) servers_are count books at
     (mod_below _ stage.script.setting.shards some)
-led_booked stage servers rows all (Retire server h moment result) suits count some books is at =
-    server_booked stage servers rows all server h suits count books at.0 at.1
-led_booked stage servers rows all (Publish v) suits count some books is at = tt
-led_booked stage servers rows all Sync suits count some books is at = tt
-led_booked stage servers rows all (Switch m v) suits count some books is at = absurd (cc)
-led_booked stage servers rows all (Steer k m) suits count some books is at = absurd (cc)
-led_booked stage servers rows all (Lose k hop) suits count some books is at = absurd (cc)
-led_booked stage servers rows all (Arrive k hop server verdict) suits count some books is at = absurd (cc)
+led_booked stage servers rows all (Retire server h moment result) servers_are count some books is at =
+    server_booked stage servers rows all server h servers_are count books at.0 at.1
+led_booked stage servers rows all (Publish v) servers_are count some books is at = tt
+led_booked stage servers rows all Sync servers_are count some books is at = tt
+led_booked stage servers rows all (Switch m v) servers_are count some books is at = absurd (cc)
+led_booked stage servers rows all (Steer k m) servers_are count some books is at = absurd (cc)
+led_booked stage servers rows all (Lose k hop) servers_are count some books is at = absurd (cc)
+led_booked stage servers rows all (Arrive k hop server verdict) servers_are count some books is at = absurd (cc)
 
 pub carried_booked : (stage : Stage) (servers : List Serving) (rows : List (List (List Seated)))
     (all : List (List Book)) (what : What)
-    → Suits stage servers → length all ≡ length servers → 0 < stage.script.setting.shards
+    → AreServersOf stage servers → length all ≡ length servers → 0 < stage.script.setting.shards
     → ((s : ℕ) (books : List Book) → slice_get all s ≡ Some books → AreBooksThere servers rows s books)
     → is_command what ≡ false → IsPlaced servers what → IsBooked stage (all_books all) what
-carried_booked stage servers rows all (Arrive k hop server verdict) suits count some books is at =
+carried_booked stage servers rows all (Arrive k hop server verdict) servers_are count some books is at =
     go (segment_of stage k) where
       go : (o : Option Segment) → IfSome o (λ s. has_book (all_books all) server.0 (shard stage s.flow) ≡ true)
       go None = tt
-      go (Some s) = server_booked stage servers rows all server (shard stage s.flow) suits count books at
+      go (Some s) = server_booked stage servers rows all server (shard stage s.flow) servers_are count books at
           (mod_below _ stage.script.setting.shards some)
-carried_booked stage servers rows all (Switch m v) suits count some books is at = tt
-carried_booked stage servers rows all (Steer k m) suits count some books is at = tt
-carried_booked stage servers rows all (Lose k hop) suits count some books is at = tt
-carried_booked stage servers rows all (Publish v) suits count some books is at = tt
-carried_booked stage servers rows all Sync suits count some books is at = tt
-carried_booked stage servers rows all (Close server flow closed) suits count some books is at = absurd (cc)
-carried_booked stage servers rows all (Retire server h moment result) suits count some books is at = absurd (cc)
+carried_booked stage servers rows all (Switch m v) servers_are count some books is at = tt
+carried_booked stage servers rows all (Steer k m) servers_are count some books is at = tt
+carried_booked stage servers rows all (Lose k hop) servers_are count some books is at = tt
+carried_booked stage servers rows all (Publish v) servers_are count some books is at = tt
+carried_booked stage servers rows all Sync servers_are count some books is at = tt
+carried_booked stage servers rows all (Close server flow closed) servers_are count some books is at = absurd (cc)
+carried_booked stage servers rows all (Retire server h moment result) servers_are count some books is at = absurd (cc)
 
 -- TOGETHER
 
 pub record IsEnded (R : Routes) (F : Rules) (stage : Stage) (servers : List Serving) (routes : List (Option MuxId))
-    (board : Board) (p phases : ℕ) (workers : List MuxWorker) (head : List (List Seated)) (controller : List Note)
+    (board : Board) (p phases : ℕ) (workers : List MuxWorker) (leader : List (List Seated)) (controller : List Note)
     (carriers : List (List Note)) : Type 0 where
   pub sound : IsSound stage
-  pub suits : Suits stage servers
+  pub servers_are : AreServersOf stage servers
   pub seats : (s : ℕ) (server : Serving) → slice_get servers s ≡ Some server → server.seats ≡ suc (length workers)
   pub routed : AreRouted stage routes
   pub muxes : length workers ≡ stage.script.setting.muxes
   pub controls : IsController stage controller
   pub control : IsControl stage controller
   pub changes : newest (control_log stage controller) ≡ length stage.script.plan.changes
-  pub heard : HaveHeard stage servers head controller
+  pub heard : HaveHeard stage servers leader controller
   pub led_at : AllByRecursion (λ n. IsLedAt stage servers n.event.what) controller
   pub at_work : AreAtWork R F stage servers routes board p phases (length stage.capture.records) workers controller
       carriers
@@ -211,43 +211,43 @@ row_of [] m seats here = absurd (cc)
 row_of (w ∷ workers) zero seats here = (w, refl, same_Some _ _ here)
 row_of (w ∷ workers) (suc m) seats here = row_of workers m seats here
 
-deeds_each : (P : ℕ → Note → Type 0) (carriers : List (List Note))
-    → ((m : ℕ) → m < length carriers → AllByRecursion (P m) (deeds_of carriers m))
-    → (m : ℕ) → AllByRecursion (P m) (deeds_of carriers m)
-deeds_each P carriers each m = elim (cases_lt m (length carriers)) [
+notes_each : (P : ℕ → Note → Type 0) (carriers : List (List Note))
+    → ((m : ℕ) → m < length carriers → AllByRecursion (P m) (notes_by carriers m))
+    → (m : ℕ) → AllByRecursion (P m) (notes_by carriers m)
+notes_each P carriers each m = elim (cases_lt m (length carriers)) [
   | inl low ↦ each m low
-  | inr high ↦ subst (λ (x : List Note). AllByRecursion (P m) x) (sym (no_deeds carriers m high)) tt
+  | inr high ↦ subst (λ (x : List Note). AllByRecursion (P m) x) (sym (no_notes carriers m high)) tt
 ]
 
 heard_of : (R : Routes) (F : Rules) (stage : Stage) (servers : List Serving) (routes : List (Option MuxId))
-    (board : Board) (p phases : ℕ) (workers : List MuxWorker) (head : List (List Seated)) (controller : List Note)
-    (carriers : List (List Note)) → IsEnded R F stage servers routes board p phases workers head controller carriers
-    → (w : ℕ) (seats : List (List Seated)) → slice_get (rows_of head workers) w ≡ Some seats
-    → HaveHeard stage servers seats (deeds_of (controller ∷ carriers) w)
-heard_of R F stage servers routes board p phases workers head controller carriers end zero seats here =
-    subst (λ (x : List (List Seated)). HaveHeard stage servers x controller) (same_Some head seats here) end.heard
-heard_of R F stage servers routes board p phases workers head controller carriers end (suc m) seats here =
+    (board : Board) (p phases : ℕ) (workers : List MuxWorker) (leader : List (List Seated)) (controller : List Note)
+    (carriers : List (List Note)) → IsEnded R F stage servers routes board p phases workers leader controller carriers
+    → (w : ℕ) (seats : List (List Seated)) → slice_get (rows_of leader workers) w ≡ Some seats
+    → HaveHeard stage servers seats (notes_by (controller ∷ carriers) w)
+heard_of R F stage servers routes board p phases workers leader controller carriers end zero seats here =
+    subst (λ (x : List (List Seated)). HaveHeard stage servers x controller) (same_Some leader seats here) end.heard
+heard_of R F stage servers routes board p phases workers leader controller carriers end (suc m) seats here =
     let w = row_of workers m seats here
-    in subst (λ (x : List (List Seated)). HaveHeard stage servers x (deeds_of carriers m)) w.2
+    in subst (λ (x : List (List Seated)). HaveHeard stage servers x (notes_by carriers m)) w.2
     (end.at_work.each m w.0 w.1).heard
 
 are_done : (R : Routes) (F : Rules) (stage : Stage) (servers : List Serving) (routes : List (Option MuxId))
-    (board : Board) (p phases : ℕ) (workers : List MuxWorker) (head : List (List Seated)) (controller : List Note)
-    (carriers : List (List Note)) → IsEnded R F stage servers routes board p phases workers head controller carriers
-    → AreDone stage servers (rows_of head workers) controller carriers
-are_done R F stage servers routes board p phases workers head controller carriers end =
+    (board : Board) (p phases : ℕ) (workers : List MuxWorker) (leader : List (List Seated)) (controller : List Note)
+    (carriers : List (List Note)) → IsEnded R F stage servers routes board p phases workers leader controller carriers
+    → AreDone stage servers (rows_of leader workers) controller carriers
+are_done R F stage servers routes board p phases workers leader controller carriers end =
     let count = end.at_work.count
     in let lines : length (map (λ (w : MuxWorker). w.caller.seats) workers) ≡ length workers =
     length-map workers (λ (w : MuxWorker). w.caller.seats)
     in record {
-      suits = end.suits;
+      servers_are = end.servers_are;
       lines = omega arith;
       seats = λ s server here. let n = end.seats s server here in omega arith;
       commands = all_kinds stage controller end.controls.each;
       first = end.control.seats;
-      others = deeds_each (λ m n. n.seat ≡ suc m) carriers (λ m low.
+      others = notes_each (λ m n. n.seat ≡ suc m) carriers (λ m low.
           let w = there workers m (omega arith) in (end.at_work.each m w.0 w.1).carriage.seats);
-      heard = heard_of R F stage servers routes board p phases workers head controller carriers end;
+      heard = heard_of R F stage servers routes board p phases workers leader controller carriers end;
       copies = λ m seats here.
           let w = row_of workers m seats here
           in let at = end.at_work.each m w.0 w.1
@@ -255,21 +255,21 @@ are_done R F stage servers routes board p phases workers head controller carrier
             w.0.mux.id,
             at.id,
             subst (λ (x : List (List Seated)). AreCopies stage w.0.mux.id servers
-                (mux_log stage m (deeds_of carriers m)) x) w.2
+                (mux_log stage m (notes_by carriers m)) x) w.2
                 (subst (λ (l : List Event). AreCopies stage w.0.mux.id servers l w.0.caller.seats) at.logged at.copies),
           );
     }
 
 all_steered : (R : Routes) (F : Rules) (stage : Stage) (servers : List Serving) (routes : List (Option MuxId))
-    (board : Board) (p phases : ℕ) (workers : List MuxWorker) (head : List (List Seated)) (controller : List Note)
-    (carriers : List (List Note)) → IsEnded R F stage servers routes board p phases workers head controller carriers
-    → (k : ℕ) → many (λ n. steers_packet n.event.what k) (all_deeds carriers) ≡ one_if (is_some (segment_of stage k))
-all_steered R F stage servers routes board p phases workers head controller carriers end k =
+    (board : Board) (p phases : ℕ) (workers : List MuxWorker) (leader : List (List Seated)) (controller : List Note)
+    (carriers : List (List Note)) → IsEnded R F stage servers routes board p phases workers leader controller carriers
+    → (k : ℕ) → many (λ n. steers_packet n.event.what k) (notes_of_all carriers) ≡ one_if (is_some (segment_of stage k))
+all_steered R F stage servers routes board p phases workers leader controller carriers end k =
     let count = end.at_work.count
     in let muxes = end.muxes
     in let records = length stage.capture.records
-    in let sum = deeds_upto (λ n. one_if (steers_packet n.event.what k)) carriers
-    in let each = seats_same (λ w. total (λ n. one_if (steers_packet n.event.what k)) (deeds_of carriers w))
+    in let sum = notes_upto (λ n. one_if (steers_packet n.event.what k)) carriers
+    in let each = seats_same (λ w. total (λ n. one_if (steers_packet n.event.what k)) (notes_by carriers w))
     (λ w. one_if ((ltb 0 k && leb k records) && is_mux (assigned_mux routes k) w)) (length carriers) (λ m low.
     let w = there workers m (omega arith) in (end.at_work.each m w.0 w.1).steered k)
     in let one = one_mux (ltb 0 k && leb k records) (assigned_mux routes k) (length carriers)
@@ -298,17 +298,17 @@ carried_no_command m Sync h = absurd (cc)
 
 -- what the workers and the books have given back
 pub ended : (R : Routes) (F : Rules) (stage : Stage) (servers : List Serving) (routes : List (Option MuxId))
-    (board : Board) (p phases : ℕ) (workers : List MuxWorker) (head : List (List Seated)) (controller : List Note)
+    (board : Board) (p phases : ℕ) (workers : List MuxWorker) (leader : List (List Seated)) (controller : List Note)
     (carriers : List (List Note)) (all : List (List Book))
-    → IsEnded R F stage servers routes board p phases workers head controller carriers → length all ≡ length servers
+    → IsEnded R F stage servers routes board p phases workers leader controller carriers → length all ≡ length servers
     → ((s : ℕ) (books : List Book) → slice_get all s ≡ Some books
-    → AreBooksThere servers (rows_of head workers) s books)
+    → AreBooksThere servers (rows_of leader workers) s books)
     → AreHandedBack R F stage controller carriers (all_books all)
-ended R F stage servers routes board p phases workers head controller carriers all end count books =
+ended R F stage servers routes board p phases workers leader controller carriers all end count books =
     let at = end.at_work
     in let long = at.count
     in let muxes = end.muxes
-    in let done = are_done R F stage servers routes board p phases workers head controller carriers end
+    in let done = are_done R F stage servers routes board p phases workers leader controller carriers end
     in let shards = end.sound.script.setting.shards.0
     in let control = control_log stage controller
     in let booked : Note → Type 0 = λ n. IsBooked stage (all_books all) n.event.what
@@ -319,32 +319,32 @@ ended R F stage servers routes board p phases workers head controller carriers a
       control = end.control;
       carried = λ m low.
           let w = there workers m (omega arith)
-          in carriage_later R F stage control [] w.0.mux.seen.clocks (posted_clocks control) m (deeds_of carriers m)
+          in carriage_later R F stage control [] w.0.mux.seen.clocks (posted_clocks control) m (notes_by carriers m)
           (each_so (λ n. Unit {0}) (λ n. AllByRecursion (λ (z : Event). n.event.clock.0 < z.clock.0) [])
-          (deeds_of carriers m)
-          (λ n t. tt) (all_tt (deeds_of carriers m))) (end.shown m w.0 w.1) (at.each m w.0 w.1).carriage;
-      steered = all_steered R F stage servers routes board p phases workers head controller carriers end;
+          (notes_by carriers m)
+          (λ n t. tt) (all_tt (notes_by carriers m))) (end.shown m w.0 w.1) (at.each m w.0 w.1).carriage;
+      steered = all_steered R F stage servers routes board p phases workers leader controller carriers end;
       met = at_change (λ rest n. IsMet stage at.all (events_of rest) n n.event.what)
-          (λ rest n. IsMet stage (controller ++ all_deeds carriers) (events_of rest) n n.event.what)
+          (λ rest n. IsMet stage (controller ++ notes_of_all carriers) (events_of rest) n n.event.what)
           (home_part stage Controller controller)
-          (λ rest n h. met_shared stage at.all (controller ++ all_deeds carriers) (events_of rest) n n.event.what
+          (λ rest n h. met_shared stage at.all (controller ++ notes_of_all carriers) (events_of rest) n n.event.what
           at.same h)
           at.phased.met;
       changes = end.changes;
       looked = end.looked;
-      kept = books_of_all stage servers (rows_of head workers) controller carriers all done books;
-      own = own_books servers (rows_of head workers) all end.suits.rise books;
-      booked = each_append booked controller (all_deeds carriers)
+      kept = books_of_all stage servers (rows_of leader workers) controller carriers all done books;
+      own = own_books servers (rows_of leader workers) all end.servers_are.rise books;
+      booked = each_append booked controller (notes_of_all carriers)
           (each_two (λ n. is_command n.event.what ≡ true) (λ n. IsLedAt stage servers n.event.what) booked controller
-          (λ n k l. led_booked stage servers (rows_of head workers) all n.event.what end.suits count (omega arith) books
+          (λ n k l. led_booked stage servers (rows_of leader workers) all n.event.what end.servers_are count (omega arith) books
           k l)
           done.commands end.led_at)
           (all_carried booked carriers (λ m low.
           let w = there workers m (omega arith)
           in let one = at.each m w.0 w.1
           in each_two (λ n. carries m n.event.what ≡ true) (λ n. IsPlaced servers n.event.what) booked
-          (deeds_of carriers m)
-          (λ n k l. carried_booked stage servers (rows_of head workers) all n.event.what end.suits count (omega arith)
+          (notes_by carriers m)
+          (λ n k l. carried_booked stage servers (rows_of leader workers) all n.event.what end.servers_are count (omega arith)
           books
           (carried_no_command m n.event.what k) l) one.carriage.carrier.kinds one.placed));
     }

@@ -23,7 +23,7 @@ use Rattle.bm_shard.specs.Books.{Book}
 use Rattle.bm_merge.specs.Merges.{Log, gathered, some_event, named, stands_in, IsEntry, IsSentBefore}
 use Rattle.bm_merge.specs.Merges.{IsNextVersion}
 use Rattle.bm_merge.specs.Notes.{Note, NotedLog, events_of, plain, many}
-use Rattle.bm_merge.specs.Workers.{home_of, is_home, home_part, deeds_of, carries}
+use Rattle.bm_merge.specs.Workers.{home_of, is_home, home_part, notes_by, carries}
 use Rattle.bm_merge.proofs.Merging.{some_weaker}
 use Rattle.bm_merge.proofs.Paced.{some_append}
 use Rattle.bm_base.specs.declared.flow.Segment.{Segment}
@@ -197,20 +197,20 @@ published stage logs control (suc v) clock post steps is among found low =
     (posted_at stage control v post steps found)))
 
 -- what a note of a mux's worker has
-pub record IsOfMuxWork (stage : Stage) (logs : List Log) (m : ℕ) (deeds : List Note) (n : Note) : Type 0 where
+pub record IsOfMuxWork (stage : Stage) (logs : List Log) (m : ℕ) (notes : List Note) (n : Note) : Type 0 where
   pub home : is_home stage (MuxOf m) n ≡ true
   pub kind : carries m n.event.what ≡ true
-  pub among : IsAmong deeds n
+  pub among : IsAmong notes n
   pub sent : IsSentBefore logs n.event.clock.0 n.event.what
 
-mux_entry : (stage : Stage) (logs : List Log) (control : List Event) (m : ℕ) (deeds : List Note) (rest : List Event)
+mux_entry : (stage : Stage) (logs : List Log) (control : List Event) (m : ℕ) (notes : List Note) (rest : List Event)
     (n : Note) (what : What) → n.event.what ≡ what → m < stage.script.setting.muxes
     → AtEach (IsControlStep stage) control → named logs Controller ≡ control
     → ((g : Event → Bool) → some_event g control ≡ true → some_event g (gathered logs) ≡ true)
-    → ((k : ℕ) → 1 ≤ many (λ y. steers_packet y.event.what k) deeds → is_some (segment_of stage k) ≡ true)
-    → IsOfMuxWork stage logs m deeds n → IsMuxGivenBy stage control (posted_clocks control) rest n.event
+    → ((k : ℕ) → 1 ≤ many (λ y. steers_packet y.event.what k) notes → is_some (segment_of stage k) ≡ true)
+    → IsOfMuxWork stage logs m notes n → IsMuxGivenBy stage control (posted_clocks control) rest n.event
     → IsEntry stage logs (MuxOf m) rest n.event
-mux_entry stage logs control m deeds rest n (Switch x v) is within steps at among known work gives =
+mux_entry stage logs control m notes rest n (Switch x v) is within steps at among known work gives =
     let given = rw is at gives
     in let mine : x.0 ≡ m = eqb-true _ _ (rw is at work.kind)
     in let stands : stands_in stage n.event.what (MuxOf m) ≡ true =
@@ -220,7 +220,7 @@ mux_entry stage logs control m deeds rest n (Switch x v) is within steps at amon
     in entry_of stage logs (MuxOf m) rest n.event stands
     (rw is (lower (own_clock stage rest (MuxOf x.0)) n.event.clock.0 (omega arith)))
     (rw is (omega arith, published stage logs control v.0 n.event.clock.0 post steps at among given.1.1 (omega arith)))
-mux_entry stage logs control m deeds rest n (Steer k x) is within steps at among known work gives =
+mux_entry stage logs control m notes rest n (Steer k x) is within steps at among known work gives =
     let given = rw is at gives
     in let mine : x.0 ≡ m = eqb-true _ _ (rw is at work.kind)
     in let stands : stands_in stage n.event.what (MuxOf m) ≡ true =
@@ -231,31 +231,31 @@ mux_entry stage logs control m deeds rest n (Steer k x) is within steps at among
     in entry_of stage logs (MuxOf m) rest n.event stands
     (rw is (lower (own_clock stage rest (MuxOf x.0)) n.event.clock.0 (omega arith)))
     (rw is (omega arith, here))
-mux_entry stage logs control m deeds rest n (Lose k hop) is within steps at among known work gives =
+mux_entry stage logs control m notes rest n (Lose k hop) is within steps at among known work gives =
     entry_of stage logs (MuxOf m) rest n.event (rw is refl) (rw is tt) (rw is (rw is at work.sent))
-mux_entry stage logs control m deeds rest n (Arrives k hop server verdict) is within steps at among known work gives =
+mux_entry stage logs control m notes rest n (Arrives k hop server verdict) is within steps at among known work gives =
     absurd (no (segment_of stage k) (rw is at work.home)) where
       no : (o : Option Segment)
           → is_by (option_map (λ (s : Segment). ShardOf server.0 (shard stage s.flow)) o) (MuxOf m) ≡ true → ⊥
       no None h = absurd (cc)
       no (Some s) h = absurd (cc)
-mux_entry stage logs control m deeds rest n (Publish v) is within steps at among known work gives =
+mux_entry stage logs control m notes rest n (Publish v) is within steps at among known work gives =
     absurd (let kind = rw is at work.kind in cc)
-mux_entry stage logs control m deeds rest n (Closes server flow closed) is within steps at among known work gives =
+mux_entry stage logs control m notes rest n (Closes server flow closed) is within steps at among known work gives =
     absurd (let kind = rw is at work.kind in cc)
-mux_entry stage logs control m deeds rest n (Retires server h moment result) is within steps at among known work gives =
+mux_entry stage logs control m notes rest n (Retires server h moment result) is within steps at among known work gives =
     absurd (let kind = rw is at work.kind in cc)
-mux_entry stage logs control m deeds rest n Sync is within steps at among known work gives =
+mux_entry stage logs control m notes rest n Sync is within steps at among known work gives =
     absurd (let kind = rw is at work.kind in cc)
 
-works : (stage : Stage) (logs : List Log) (m : ℕ) (deeds x : List Note)
+works : (stage : Stage) (logs : List Log) (m : ℕ) (notes x : List Note)
     → AllByRecursion (λ n. is_home stage (MuxOf m) n ≡ true) x → AllByRecursion (λ n. carries m n.event.what ≡ true) x
-    → AllByRecursion (IsAmong deeds) x → AllByRecursion (λ n. IsSentBefore logs n.event.clock.0 n.event.what) x
-    → AllByRecursion (IsOfMuxWork stage logs m deeds) x
-works stage logs m deeds [] a b c d = tt
-works stage logs m deeds (n ∷ x) a b c d = (
+    → AllByRecursion (IsAmong notes) x → AllByRecursion (λ n. IsSentBefore logs n.event.clock.0 n.event.what) x
+    → AllByRecursion (IsOfMuxWork stage logs m notes) x
+works stage logs m notes [] a b c d = tt
+works stage logs m notes (n ∷ x) a b c d = (
   record { home = a.0; kind = b.0; among = c.0; sent = d.0 },
-  works stage logs m deeds x a.1 b.1 c.1 d.1,
+  works stage logs m notes x a.1 b.1 c.1 d.1,
 )
 
 -- what is in the controller's log is in all logs
@@ -267,26 +267,26 @@ control_among stage logs control g some = some_append g (gathered (plain logs)) 
 pub mux_entries : (R : Routes) (F : Rules) (stage : Stage) (controller : List Note) (carriers : List (List Note))
     (books : List Book) (back : AreHandedBack R F stage controller carriers books) (m : ℕ) → m < length carriers
     → AtEach (IsEntry stage (plain (logs_of stage controller carriers books back.kept)) (MuxOf m))
-    (mux_log stage m (deeds_of carriers m))
+    (mux_log stage m (notes_by carriers m))
 mux_entries R F stage controller carriers books back m low =
     let logs = plain (logs_of stage controller carriers books back.kept)
-    in let deeds = deeds_of carriers m
+    in let notes = notes_by carriers m
     in let c = back.carried m low
     in let control = control_log stage controller
     in let muxes = back.muxes
-    in let home = home_part stage (MuxOf m) deeds
+    in let home = home_part stage (MuxOf m) notes
     in at_events (IsEntry stage logs (MuxOf m)) home
-    (at_so (IsOfMuxWork stage logs m deeds)
+    (at_so (IsOfMuxWork stage logs m notes)
     (λ rest n. IsMuxGivenBy stage control (posted_clocks control) (events_of rest) n.event)
     (λ rest n. IsEntry stage logs (MuxOf m) (events_of rest) n.event) home
-    (λ rest n work gives. mux_entry stage logs control m deeds (events_of rest) n n.event.what refl (omega arith)
+    (λ rest n work gives. mux_entry stage logs control m notes (events_of rest) n n.event.what refl (omega arith)
     back.control.steps refl
     (λ g some. control_among stage (mux_logs stage 0 carriers ++ shard_logs stage controller carriers books back.kept)
     (home_part stage Controller controller) g some)
     (steered_known stage carriers back.steered m) work gives)
-    (works stage logs m deeds home (home_is stage (MuxOf m) deeds)
-    (home_each (λ n. carries m n.event.what ≡ true) stage (MuxOf m) deeds c.carrier.kinds)
-    (home_each (IsAmong deeds) stage (MuxOf m) deeds (all_among deeds))
-    (home_each (λ n. IsSentBefore logs n.event.clock.0 n.event.what) stage (MuxOf m) deeds
+    (works stage logs m notes home (home_is stage (MuxOf m) notes)
+    (home_each (λ n. carries m n.event.what ≡ true) stage (MuxOf m) notes c.carrier.kinds)
+    (home_each (IsAmong notes) stage (MuxOf m) notes (all_among notes))
+    (home_each (λ n. IsSentBefore logs n.event.clock.0 n.event.what) stage (MuxOf m) notes
     (all_sent R F stage controller carriers books back m low)))
     (at_notes (IsMuxGivenBy stage control (posted_clocks control)) home c.gives))

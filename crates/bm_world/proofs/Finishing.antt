@@ -26,15 +26,15 @@ use Rattle.bm_shard.specs.declared.calls.ShardCall.{ShardCall}
 use Rattle.bm_shard.specs.declared.calls.ShardCall.TheVariants.{Arrive, Close, Retire}
 use Rattle.bm_shard.specs.declared.calls.ShardEntry.{ShardEntry}
 use Rattle.bm_merge.specs.Notes.{Note}
-use Rattle.bm_merge.specs.Workers.{home_part, deeds_of}
-use Rattle.bm_merge.proofs.Keeping.{no_deeds}
+use Rattle.bm_merge.specs.Workers.{home_part, notes_by}
+use Rattle.bm_merge.proofs.Keeping.{no_notes}
 use Rattle.bm_server.specs.Seats.{Answered, Seated, seat_of, telling}
 use Rattle.bm_server.specs.Servings.{Serving, shard_at}
 use Rattle.bm_turnstile.specs.Seen.{AllBelow}
-use Rattle.bm_worker.specs.WorkerNotes.{NumbersRise, saying, noted, Suits}
+use Rattle.bm_worker.specs.WorkerNotes.{NumbersRise, saying, noted, AreServersOf}
 use Rattle.bm_worker.proofs.Numbered.{differ}
 use Rattle.bm_worker.specs.Phases.{mux_log, IsCopyCall, AreCopies}
-use Rattle.bm_worker.specs.SeatCalls.{told_there}
+use Rattle.bm_worker.specs.SeatCalls.{calls_there}
 use Rattle.bm_world.specs.Inside.Shards.{entries_by, AreNoted}
 use Rattle.bm_world.specs.Inside.Returned.{IsCopied, IsBookOfAll, has_book, HaveOwnBooks}
 use Rattle.bm_world.specs.Inside.Running.{HaveHeard}
@@ -154,7 +154,7 @@ no_copies stage carriers about (e ∷ es) (n ∷ ns) noted commands said = (
 
 copied_of : (stage : Stage) (carriers : List (List Note)) (server : Serving) (h : ℕ) (i : MuxId) (m : ℕ)
     (call : ShardCall)
-    → i.0 ≡ m → IsCopyCall stage (mux_log stage m (deeds_of carriers m)) i server h call
+    → i.0 ≡ m → IsCopyCall stage (mux_log stage m (notes_by carriers m)) i server h call
     → IsCopied stage carriers (shard_at server h) call
 copied_of stage carriers server h i m (Arrive packet tag segment due) id is =
     let label = is.2.0
@@ -164,7 +164,7 @@ copied_of stage carriers server h i m (Arrive packet tag segment due) id is =
       is.1,
       (
         label,
-        subst (λ (k : ℕ). label_of stage (mux_log stage k (deeds_of carriers k)) packet ≡ Some label)
+        subst (λ (k : ℕ). label_of stage (mux_log stage k (notes_by carriers k)) packet ≡ Some label)
             (sym mux) is.2.2,
         is.2.3,
         is.2.4,
@@ -176,45 +176,45 @@ copied_of stage carriers server h i m (Retire moment result) id is = absurd is
 -- what is known of the workers at the end of a run
 pub record AreDone (stage : Stage) (servers : List Serving) (rows : List (List (List Seated)))
     (controller : List Note) (carriers : List (List Note)) : Type 0 where
-  pub suits : Suits stage servers
+  pub servers_are : AreServersOf stage servers
   pub lines : length rows ≡ suc (length carriers)
   pub seats : (s : ℕ) (server : Serving) → slice_get servers s ≡ Some server → server.seats ≡ length rows
   pub commands : AllByRecursion (λ n. is_command n.event.what ≡ true) controller
   pub first : AllByRecursion (λ n. n.seat ≡ 0) controller
-  pub others : (m : ℕ) → AllByRecursion (λ n. n.seat ≡ suc m) (deeds_of carriers m)
+  pub others : (m : ℕ) → AllByRecursion (λ n. n.seat ≡ suc m) (notes_by carriers m)
   -- the calls and replies of each worker's seats are what it did
   pub heard : (w : ℕ) (seats : List (List Seated)) → slice_get rows w ≡ Some seats
-      → HaveHeard stage servers seats (deeds_of (controller ∷ carriers) w)
+      → HaveHeard stage servers seats (notes_by (controller ∷ carriers) w)
   -- and the copies have the labels of the mux's log
   pub copies : (m : ℕ) (seats : List (List Seated)) → slice_get rows (suc m) ≡ Some seats
-      → (id : MuxId) × (id.0 ≡ m) × AreCopies stage id servers (mux_log stage m (deeds_of carriers m)) seats
+      → (id : MuxId) × (id.0 ≡ m) × AreCopies stage id servers (mux_log stage m (notes_by carriers m)) seats
 
-seat_deeds : (stage : Stage) (servers : List Serving) (rows : List (List (List Seated))) (controller : List Note)
+seat_notes : (stage : Stage) (servers : List Serving) (rows : List (List (List Seated))) (controller : List Note)
     (carriers : List (List Note)) → AreDone stage servers rows controller carriers → (w : ℕ)
-    → AllByRecursion (λ n. n.seat ≡ w) (deeds_of (controller ∷ carriers) w)
-seat_deeds stage servers rows controller carriers done zero = done.first
-seat_deeds stage servers rows controller carriers done (suc m) = done.others m
+    → AllByRecursion (λ n. n.seat ≡ w) (notes_by (controller ∷ carriers) w)
+seat_notes stage servers rows controller carriers done zero = done.first
+seat_notes stage servers rows controller carriers done (suc m) = done.others m
 
 told_of_book : (stage : Stage) (servers : List Serving) (rows : List (List (List Seated))) (controller : List Note)
     (carriers : List (List Note)) (s h : ℕ) (server : Serving) (entries : List ShardEntry)
     → AreDone stage servers rows controller carriers → slice_get servers s ≡ Some server
     → Replays (shard_at server h) (reverse entries) → AllBelow seat_of server.seats entries
     → ((i : ℕ) (seats : List (List Seated)) → slice_get rows i ≡ Some seats
-    → telling (Some (shard_at server h)) i entries ≡ told_there seats s h) → (w : ℕ)
+    → telling (Some (shard_at server h)) i entries ≡ calls_there seats s h) → (w : ℕ)
     → AreNoted (entries_by w (reverse entries))
-    (home_part stage (ShardOf server.id.0 h) (deeds_of (controller ∷ carriers) w))
+    (home_part stage (ShardOf server.id.0 h) (notes_by (controller ∷ carriers) w))
 told_of_book stage servers rows controller carriers s h server entries done here replays below told w =
     elim (cases_lt w (length rows)) [
       | inl low ↦
           let seats = there rows w low
-          in told_noted stage (ShardOf server.id.0 h) (shard_at server h) w entries (deeds_of (controller ∷ carriers) w)
+          in told_noted stage (ShardOf server.id.0 h) (shard_at server h) w entries (notes_by (controller ∷ carriers) w)
           replays
-          (home_each (λ n. n.seat ≡ w) stage (ShardOf server.id.0 h) (deeds_of (controller ∷ carriers) w)
-          (seat_deeds stage servers rows controller carriers done w))
+          (home_each (λ n. n.seat ≡ w) stage (ShardOf server.id.0 h) (notes_by (controller ∷ carriers) w)
+          (seat_notes stage servers rows controller carriers done w))
           (ap (λ (l : List Answered). saying (shard_at server h) l) (told w seats.0 seats.1)
           ∙ done.heard w seats.0 seats.1 s h server here)
       | inr high ↦
-          let none : deeds_of (controller ∷ carriers) w ≡ [] = no_deeds (controller ∷ carriers) w
+          let none : notes_by (controller ∷ carriers) w ≡ [] = no_notes (controller ∷ carriers) w
           (let l = done.lines in omega arith)
           in let count = done.seats s server here
           in let empty : entries_by w (reverse entries) ≡ [] = none_above w (length rows) (reverse entries) high
@@ -222,7 +222,7 @@ told_of_book stage servers rows controller carriers s h server entries done here
           (subst (λ (n : ℕ). AllByRecursion (λ (e : ShardEntry). e.seat < n) entries) count
           (below_each server.seats entries below)))
           in subst (λ (l : List ShardEntry). AreNoted l (home_part stage (ShardOf server.id.0 h)
-          (deeds_of (controller ∷ carriers) w))) (sym empty)
+          (notes_by (controller ∷ carriers) w))) (sym empty)
           (subst (λ (d : List Note). AreNoted [] (home_part stage (ShardOf server.id.0 h) d)) (sym none) tt)
     ]
 
@@ -236,7 +236,7 @@ copied_of_book : (stage : Stage) (servers : List Serving) (rows : List (List (Li
     → AreDone stage servers rows controller carriers → slice_get servers s ≡ Some server
     → Replays (shard_at server h) (reverse entries) → AllBelow seat_of server.seats entries
     → ((i : ℕ) (seats : List (List Seated)) → slice_get rows i ≡ Some seats
-    → telling (Some (shard_at server h)) i entries ≡ told_there seats s h) → (w : ℕ)
+    → telling (Some (shard_at server h)) i entries ≡ calls_there seats s h) → (w : ℕ)
     → AllByRecursion (λ (e : ShardEntry). IsCopied stage carriers (shard_at server h) e.call)
     (entries_by w (reverse entries))
 copied_of_book stage servers rows controller carriers s h server entries done here replays below told zero =
@@ -253,17 +253,17 @@ copied_of_book stage servers rows controller carriers s h server entries done he
           in let c = done.copies m seats.0 seats.1
           in let calls = c.2 s h server here
           in let same : telling (Some (shard_at server h)) (suc m) (reverse (reverse entries))
-          ≡ told_there seats.0 s h =
+          ≡ calls_there seats.0 s h =
           ap (λ (l : List ShardEntry). telling (Some (shard_at server h)) (suc m) l) (reverse_twice entries)
           ∙ told (suc m) seats.0 seats.1
           in calls_each (λ call. IsCopied stage carriers (shard_at server h) call) (shard_at server h) (suc m)
           (reverse entries)
-          (answered_so (λ (a : Answered). IsCopyCall stage (mux_log stage m (deeds_of carriers m)) c.0 server h a.0)
+          (answered_so (λ (a : Answered). IsCopyCall stage (mux_log stage m (notes_by carriers m)) c.0 server h a.0)
           (λ (a : Answered). IsCopied stage carriers (shard_at server h) a.0)
           (telling (Some (shard_at server h)) (suc m) (reverse (reverse entries)))
           (λ a k. copied_of stage carriers server h c.0 m a.0 c.1 k)
           (subst (λ (l : List Answered). AllByRecursion
-          (λ (a : Answered). IsCopyCall stage (mux_log stage m (deeds_of carriers m)) c.0 server h a.0) l) (sym same)
+          (λ (a : Answered). IsCopyCall stage (mux_log stage m (notes_by carriers m)) c.0 server h a.0) l) (sym same)
           calls))
       | inr high ↦
           let count = done.seats s server here
@@ -286,10 +286,10 @@ book_of_all stage servers rows controller carriers s h server book done here is 
     subst (λ (a : Shard). Replays a (reverse book.entries)) is.shard is.replays
     in record {
       of = subst (λ (a : Shard). IsOf stage a) (sym is.shard)
-          (record { capacity = done.suits.capacity s server here; timeout_is = done.suits.timeout s server here });
+          (record { capacity = done.servers_are.capacity s server here; timeout_is = done.servers_are.timeout s server here });
       replays = is.replays;
       told = λ w. subst (λ (a : Shard). AreNoted (entries_by w (reverse book.entries))
-          (home_part stage (ShardOf a.server.0 a.number) (deeds_of (controller ∷ carriers) w))) (sym is.shard)
+          (home_part stage (ShardOf a.server.0 a.number) (notes_by (controller ∷ carriers) w))) (sym is.shard)
           (told_of_book stage servers rows controller carriers s h server book.entries done here replays is.below
           is.told w);
       copied = subst (λ (a : Shard). AllByRecursion (λ (e : ShardEntry). IsCopied stage carriers a e.call)

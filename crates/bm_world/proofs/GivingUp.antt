@@ -20,7 +20,7 @@ use Rattle.bm_core.specs.Runs.Actor.{Controller}
 use Rattle.bm_core.specs.Threads.{sync_clock, newest_before}
 use Rattle.bm_merge.specs.Notes.{Note, events_of, total, many, until, top_clock}
 use Rattle.bm_merge.specs.Workers.{home_of, home_part, is_home, carries, is_below, is_lost, is_copyless, IsAnswer}
-use Rattle.bm_merge.specs.Workers.{IsBefore, IsCarrier, IsDrawn, IsMet, IsOwed}
+use Rattle.bm_merge.specs.Workers.{IsBefore, IsCarrier, IsDrawn, IsMet, HasSending}
 use Rattle.bm_merge.proofs.Noting.{total_append, each_append, each_so}
 use Rattle.bm_merge.proofs.Reaching.{one_if}
 use Rattle.bm_worker.specs.Phases.{mux_log, IsLossOf, IsMuxGiven}
@@ -28,7 +28,7 @@ use Rattle.bm_worker.specs.Assigned.{assigned_mux, is_mux, is_assigned}
 use Rattle.bm_world.specs.Inside.Returned.{IsCarriage, IsMuxGivenBy}
 use Rattle.bm_world.specs.Inside.Left.{IsSyncIn, IsMuxClocked, IsSteerable, IsLeft, IsSynced}
 use Rattle.bm_world.proofs.InLogs.{IsAmong, all_among}
-use Rattle.bm_world.proofs.Growing.{post_more, log_append, owed_more}
+use Rattle.bm_world.proofs.Growing.{post_more, log_append, has_sending_more}
 
 -- SYNCS THAT THERE ARE
 
@@ -99,24 +99,24 @@ clocked_now stage after first control posts posts' (e ∷ new) old more sync giv
 
 -- WHAT WAS DONE BEFORE
 
-loss_of : (R : Routes) (F : Rules) (stage : Stage) (m : ℕ) (deeds : List Note) → IsCarrier R F stage m deeds
+loss_of : (R : Routes) (F : Rules) (stage : Stage) (m : ℕ) (notes : List Note) → IsCarrier R F stage m notes
     → (n : Note)
-    → IsAmong deeds n → 0 < n.event.clock.0 → (what : What) → n.event.what ≡ what → IsLossOf deeds n.event.clock.0 what
-loss_of R F stage m deeds c n among low (Lose k hop) is =
+    → IsAmong notes n → 0 < n.event.clock.0 → (what : What) → n.event.what ≡ what → IsLossOf notes n.event.clock.0 what
+loss_of R F stage m notes c n among low (Lose k hop) is =
     let mine : loses n.event.what k hop ≡ true = rw is (and_from _ _ (eq-eqb _ _ refl) (same_hop_refl hop))
     in let clock = n.event.clock.0 - 1
     in let next : n.event.clock.0 ≡ suc clock = omega arith
-    in let lost : 1 ≤ many (is_lost k hop (suc clock)) deeds =
+    in let lost : 1 ≤ many (is_lost k hop (suc clock)) notes =
     among (is_lost k hop (suc clock)) (and_from _ _ mine (eq-eqb _ _ next))
     in let same = c.lost k hop clock
     in (clock, next, omega arith)
-loss_of R F stage m deeds c n among low (Publish v) is = tt
-loss_of R F stage m deeds c n among low (Switch x v) is = tt
-loss_of R F stage m deeds c n among low (Steer k x) is = tt
-loss_of R F stage m deeds c n among low (Arrive k hop server verdict) is = tt
-loss_of R F stage m deeds c n among low (Close server flow closed) is = tt
-loss_of R F stage m deeds c n among low (Retire server h moment result) is = tt
-loss_of R F stage m deeds c n among low Sync is = tt
+loss_of R F stage m notes c n among low (Publish v) is = tt
+loss_of R F stage m notes c n among low (Switch x v) is = tt
+loss_of R F stage m notes c n among low (Steer k x) is = tt
+loss_of R F stage m notes c n among low (Arrive k hop server verdict) is = tt
+loss_of R F stage m notes c n among low (Close server flow closed) is = tt
+loss_of R F stage m notes c n among low (Retire server h moment result) is = tt
+loss_of R F stage m notes c n among low Sync is = tt
 
 loss_more : (x y : List Note) (clock : ℕ) (what : What) → ((f : Note → ℕ) → total f y ≤ total f x)
     → IsLossOf y clock what → IsLossOf x clock what
@@ -143,22 +143,22 @@ assigned_known stage routes m from until k steerable is =
       go None at h = absurd (cc)
       go (Some i) at h = steerable k i at
 
-steerable_of : (stage : Stage) (routes : List (Option MuxId)) (m until : ℕ) (deeds : List Note)
+steerable_of : (stage : Stage) (routes : List (Option MuxId)) (m until : ℕ) (notes : List Note)
     → ((k m : ℕ) → assigned_mux routes k ≡ Some m → is_some (segment_of stage k) ≡ true)
-    → ((k : ℕ) → many (λ n. steers_packet n.event.what k) deeds ≡ one_if (is_assigned routes m 0 until k))
-    → (n : Note) → IsAmong deeds n → (what : What) → n.event.what ≡ what → IsSteerable stage what
-steerable_of stage routes m until deeds known steered n among (Steer k x) is =
+    → ((k : ℕ) → many (λ n. steers_packet n.event.what k) notes ≡ one_if (is_assigned routes m 0 until k))
+    → (n : Note) → IsAmong notes n → (what : What) → n.event.what ≡ what → IsSteerable stage what
+steerable_of stage routes m until notes known steered n among (Steer k x) is =
     let mine : steers_packet n.event.what k ≡ true = rw is (eq-eqb _ _ refl)
-    in let one : 1 ≤ many (λ y. steers_packet y.event.what k) deeds = among (λ y. steers_packet y.event.what k) mine
+    in let one : 1 ≤ many (λ y. steers_packet y.event.what k) notes = among (λ y. steers_packet y.event.what k) mine
     in let assigned = steered k
     in assigned_known stage routes m 0 until k known (is_one (is_assigned routes m 0 until k) (omega arith))
-steerable_of stage routes m until deeds known steered n among (Publish v) is = tt
-steerable_of stage routes m until deeds known steered n among (Switch x v) is = tt
-steerable_of stage routes m until deeds known steered n among (Lose k hop) is = tt
-steerable_of stage routes m until deeds known steered n among (Arrive k hop server verdict) is = tt
-steerable_of stage routes m until deeds known steered n among (Close server flow closed) is = tt
-steerable_of stage routes m until deeds known steered n among (Retire server h moment result) is = tt
-steerable_of stage routes m until deeds known steered n among Sync is = tt
+steerable_of stage routes m until notes known steered n among (Publish v) is = tt
+steerable_of stage routes m until notes known steered n among (Switch x v) is = tt
+steerable_of stage routes m until notes known steered n among (Lose k hop) is = tt
+steerable_of stage routes m until notes known steered n among (Arrive k hop server verdict) is = tt
+steerable_of stage routes m until notes known steered n among (Close server flow closed) is = tt
+steerable_of stage routes m until notes known steered n among (Retire server h moment result) is = tt
+steerable_of stage routes m until notes known steered n among Sync is = tt
 
 two : (P Q S : Note → Type 0) (x : List Note) → ((n : Note) → P n → Q n → S n) → AllByRecursion P x
     → AllByRecursion Q x → AllByRecursion S x
@@ -167,21 +167,21 @@ two P Q S (n ∷ x) f ps qs = (f n ps.0 qs.0, two P Q S x f ps.1 qs.1)
 
 -- a worker that did whole phases leaves this, with a log of the controller that has gone on
 pub left_of : (R : Routes) (F : Rules) (stage : Stage) (routes : List (Option MuxId)) (control y : List Event)
-    (posts posts' : List ℕ) (m until : ℕ) (deeds : List Note)
+    (posts posts' : List ℕ) (m until : ℕ) (notes : List Note)
     → ((k m : ℕ) → assigned_mux routes k ≡ Some m → is_some (segment_of stage k) ≡ true)
-    → ((k : ℕ) → many (λ n. steers_packet n.event.what k) deeds ≡ one_if (is_assigned routes m 0 until k))
-    → IsPrefix posts posts' → IsCarriage R F stage control posts m deeds
-    → IsLeft F stage (y ++ control) posts' m deeds
-left_of R F stage routes control y posts posts' m until deeds known steered more c = record {
+    → ((k : ℕ) → many (λ n. steers_packet n.event.what k) notes ≡ one_if (is_assigned routes m 0 until k))
+    → IsPrefix posts posts' → IsCarriage R F stage control posts m notes
+    → IsLeft F stage (y ++ control) posts' m notes
+left_of R F stage routes control y posts posts' m until notes known steered more c = record {
   kinds = c.carrier.kinds;
   seats = c.seats;
-  owed = c.carrier.owed;
-  drawn = each_so (IsAnswer R F stage) (IsDrawn F) deeds (λ n a. a.1) c.carrier.answers;
-  losses = two (IsAmong deeds) (λ n. 0 < n.event.clock.0) (λ n. IsLossOf deeds n.event.clock.0 n.event.what) deeds
-      (λ n a p. loss_of R F stage m deeds c.carrier n a p n.event.what refl) (all_among deeds) c.positive;
-  steerable = each_so (IsAmong deeds) (λ n. IsSteerable stage n.event.what) deeds
-      (λ n a. steerable_of stage routes m until deeds known steered n a n.event.what refl) (all_among deeds);
-  gives = clocked_before stage control y posts posts' (mux_log stage m deeds) more c.gives;
+  has_sending = c.carrier.has_sending;
+  drawn = each_so (IsAnswer R F stage) (IsDrawn F) notes (λ n a. a.1) c.carrier.answers;
+  losses = two (IsAmong notes) (λ n. 0 < n.event.clock.0) (λ n. IsLossOf notes n.event.clock.0 n.event.what) notes
+      (λ n a p. loss_of R F stage m notes c.carrier n a p n.event.what refl) (all_among notes) c.positive;
+  steerable = each_so (IsAmong notes) (λ n. IsSteerable stage n.event.what) notes
+      (λ n a. steerable_of stage routes m until notes known steered n a n.event.what refl) (all_among notes);
+  gives = clocked_before stage control y posts posts' (mux_log stage m notes) more c.gives;
 }
 
 pub assigned_steerable : (stage : Stage) (routes : List (Option MuxId)) (m from until : ℕ) (what : What)
@@ -199,38 +199,38 @@ assigned_steerable stage routes m from until Sync known assigned = tt
 
 -- with a part of a phase more
 pub left_more : (F : Rules) (stage : Stage) (control : List Event) (after first : ℕ) (posts posts' : List ℕ) (m : ℕ)
-    (x deeds : List Note) → IsPrefix posts posts' → IsSyncIn control after
+    (x notes : List Note) → IsPrefix posts posts' → IsSyncIn control after
     → AllByRecursion (λ n. carries m n.event.what ≡ true) x → AllByRecursion (λ n. n.seat ≡ suc m) x
-    → AllByRecursion (λ n. IsOwed x n n.event.what) x → AllByRecursion (IsDrawn F) x
+    → AllByRecursion (λ n. HasSending x n n.event.what) x → AllByRecursion (IsDrawn F) x
     → AllByRecursion (λ n. IsLossOf x n.event.clock.0 n.event.what) x
     → AllByRecursion (λ n. IsSteerable stage n.event.what) x
-    → AtEach (λ rest e. IsMuxGiven stage after first posts (rest ++ mux_log stage m deeds) e.clock.0 e.what)
+    → AtEach (λ rest e. IsMuxGiven stage after first posts (rest ++ mux_log stage m notes) e.clock.0 e.what)
     (mux_log stage m x)
-    → IsLeft F stage control posts' m deeds → IsLeft F stage control posts' m (x ++ deeds)
-left_more F stage control after first posts posts' m x deeds more sync kinds seats owed drawn losses steerable gives
+    → IsLeft F stage control posts' m notes → IsLeft F stage control posts' m (x ++ notes)
+left_more F stage control after first posts posts' m x notes more sync kinds seats has_sending drawn losses steerable gives
     left = record {
-      kinds = each_append (λ n. carries m n.event.what ≡ true) x deeds kinds left.kinds;
-      seats = each_append (λ n. n.seat ≡ suc m) x deeds seats left.seats;
-      owed = each_append (λ n. IsOwed (x ++ deeds) n n.event.what) x deeds
-          (each_so (λ n. IsOwed x n n.event.what) (λ n. IsOwed (x ++ deeds) n n.event.what) x
-          (λ n h. owed_more (x ++ deeds) x n n.event.what (λ f. let s = total_append f x deeds in omega arith) h) owed)
-          (each_so (λ n. IsOwed deeds n n.event.what) (λ n. IsOwed (x ++ deeds) n n.event.what) deeds
-          (λ n h. owed_more (x ++ deeds) deeds n n.event.what (λ f. let s = total_append f x deeds in omega arith) h)
-          left.owed);
-      drawn = each_append (IsDrawn F) x deeds drawn left.drawn;
-      losses = each_append (λ n. IsLossOf (x ++ deeds) n.event.clock.0 n.event.what) x deeds
+      kinds = each_append (λ n. carries m n.event.what ≡ true) x notes kinds left.kinds;
+      seats = each_append (λ n. n.seat ≡ suc m) x notes seats left.seats;
+      has_sending = each_append (λ n. HasSending (x ++ notes) n n.event.what) x notes
+          (each_so (λ n. HasSending x n n.event.what) (λ n. HasSending (x ++ notes) n n.event.what) x
+          (λ n h. has_sending_more (x ++ notes) x n n.event.what (λ f. let s = total_append f x notes in omega arith) h) has_sending)
+          (each_so (λ n. HasSending notes n n.event.what) (λ n. HasSending (x ++ notes) n n.event.what) notes
+          (λ n h. has_sending_more (x ++ notes) notes n n.event.what (λ f. let s = total_append f x notes in omega arith) h)
+          left.has_sending);
+      drawn = each_append (IsDrawn F) x notes drawn left.drawn;
+      losses = each_append (λ n. IsLossOf (x ++ notes) n.event.clock.0 n.event.what) x notes
           (each_so (λ n. IsLossOf x n.event.clock.0 n.event.what)
-          (λ n. IsLossOf (x ++ deeds) n.event.clock.0 n.event.what) x
-          (λ n h. loss_more (x ++ deeds) x n.event.clock.0 n.event.what
-          (λ f. let s = total_append f x deeds in omega arith) h) losses)
-          (each_so (λ n. IsLossOf deeds n.event.clock.0 n.event.what)
-          (λ n. IsLossOf (x ++ deeds) n.event.clock.0 n.event.what) deeds
-          (λ n h. loss_more (x ++ deeds) deeds n.event.clock.0 n.event.what
-          (λ f. let s = total_append f x deeds in omega arith) h) left.losses);
-      steerable = each_append (λ n. IsSteerable stage n.event.what) x deeds steerable left.steerable;
+          (λ n. IsLossOf (x ++ notes) n.event.clock.0 n.event.what) x
+          (λ n h. loss_more (x ++ notes) x n.event.clock.0 n.event.what
+          (λ f. let s = total_append f x notes in omega arith) h) losses)
+          (each_so (λ n. IsLossOf notes n.event.clock.0 n.event.what)
+          (λ n. IsLossOf (x ++ notes) n.event.clock.0 n.event.what) notes
+          (λ n h. loss_more (x ++ notes) notes n.event.clock.0 n.event.what
+          (λ f. let s = total_append f x notes in omega arith) h) left.losses);
+      steerable = each_append (λ n. IsSteerable stage n.event.what) x notes steerable left.steerable;
       gives = subst (λ (l : List Event). AtEach (λ rest e. IsMuxClocked stage control posts' rest e.clock.0 e.what) l)
-          (sym (log_append stage m x deeds))
-          (clocked_now stage after first control posts posts' (mux_log stage m x) (mux_log stage m deeds) more sync
+          (sym (log_append stage m x notes))
+          (clocked_now stage after first control posts posts' (mux_log stage m x) (mux_log stage m notes) more sync
           gives left.gives);
     }
 

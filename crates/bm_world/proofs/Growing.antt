@@ -19,12 +19,12 @@ use Rattle.bm_core.specs.Past.{segment_of, newest}
 use Rattle.bm_core.specs.Runs.{AtEach}
 use Rattle.bm_core.specs.Threads.{sync_clock, newest_before, packet_of, phase_of}
 use Rattle.bm_merge.specs.Notes.{Note, events_of, total, until}
-use Rattle.bm_merge.specs.Workers.{home_part, IsCarrier, IsOwed, is_lost, is_copyless, has_come, copies_below}
+use Rattle.bm_merge.specs.Workers.{home_part, IsCarrier, HasSending, is_lost, is_copyless, has_come, copies_below}
 use Rattle.bm_merge.specs.Workers.{copies_in, is_due_at, arrives_after, is_home, carries}
 use Rattle.bm_core.specs.Runs.Actor.{MuxOf}
 use Rattle.bm_merge.specs.Workers.{IsAnswer}
 use Rattle.bm_merge.proofs.Noting.{total_append, total_none, each_append, each_so, events_append}
-use Rattle.bm_merge.proofs.Owing.{now_in_phase}
+use Rattle.bm_merge.proofs.CopiesLeft.{now_in_phase}
 use Rattle.bm_merge.proofs.Reaching.{one_if}
 use Rattle.bm_mux.specs.Muxes.{post_clock}
 use Rattle.bm_worker.specs.Phases.{mux_log, IsInOrder, IsMuxGiven}
@@ -144,47 +144,47 @@ each_two P Q S (n ∷ x) f ps qs = (f n ps.0 qs.0, each_two P Q S x f ps.1 qs.1)
 
 -- while the controller goes on, and the mux is shown more
 pub carriage_later : (R : Routes) (F : Rules) (stage : Stage) (control y : List Event) (posts posts' : List ℕ) (m : ℕ)
-    (deeds : List Note) → AllByRecursion (λ n. AllByRecursion (λ z. n.event.clock.0 < z.clock.0) y) deeds
-    → IsPrefix posts posts' → IsCarriage R F stage control posts m deeds
-    → IsCarriage R F stage (y ++ control) posts' m deeds
-carriage_later R F stage control y posts posts' m deeds later more c = record {
+    (notes : List Note) → AllByRecursion (λ n. AllByRecursion (λ z. n.event.clock.0 < z.clock.0) y) notes
+    → IsPrefix posts posts' → IsCarriage R F stage control posts m notes
+    → IsCarriage R F stage (y ++ control) posts' m notes
+carriage_later R F stage control y posts posts' m notes later more c = record {
   carrier = c.carrier;
   seats = c.seats;
   positive = c.positive;
   ordered = c.ordered;
-  gives = all_given_later stage control y posts posts' (mux_log stage m deeds)
-      (log_each (λ e. AllByRecursion (λ z. e.clock.0 < z.clock.0) y) stage m deeds later) more c.gives;
+  gives = all_given_later stage control y posts posts' (mux_log stage m notes)
+      (log_each (λ e. AllByRecursion (λ z. e.clock.0 < z.clock.0) y) stage m notes later) more c.gives;
   phases = each_two (λ n. AllByRecursion (λ z. n.event.clock.0 < z.clock.0) y) (IsPhasedBy stage control)
-      (IsPhasedBy stage (y ++ control)) deeds (λ n l h. phased_later stage control y n l h) later c.phases;
+      (IsPhasedBy stage (y ++ control)) notes (λ n l h. phased_later stage control y n l h) later c.phases;
 }
 
 -- CARRIERS TOGETHER
 
-pub owed_more : (x y : List Note) (n : Note) (what : What) → ((f : Note → ℕ) → total f y ≤ total f x)
-    → IsOwed y n what → IsOwed x n what
-owed_more x y n (Arrive k hop server verdict) more owed =
+pub has_sending_more : (x y : List Note) (n : Note) (what : What) → ((f : Note → ℕ) → total f y ≤ total f x)
+    → HasSending y n what → HasSending x n what
+has_sending_more x y n (Arrive k hop server verdict) more has_sending =
     let a = more (λ z. one_if (steers_packet z.event.what k))
     in let b = more (λ z. one_if (is_due_at k hop n.due z))
-    in let p = owed.0
-    in let q = owed.1
+    in let p = has_sending.0
+    in let q = has_sending.1
     in (omega arith, omega arith)
-owed_more x y n (Publish v) more owed = tt
-owed_more x y n (Switch m v) more owed = tt
-owed_more x y n (Steer k m) more owed = tt
-owed_more x y n (Lose k hop) more owed = tt
-owed_more x y n (Close server flow closed) more owed = tt
-owed_more x y n (Retire server h moment result) more owed = tt
-owed_more x y n Sync more owed = tt
+has_sending_more x y n (Publish v) more has_sending = tt
+has_sending_more x y n (Switch m v) more has_sending = tt
+has_sending_more x y n (Steer k m) more has_sending = tt
+has_sending_more x y n (Lose k hop) more has_sending = tt
+has_sending_more x y n (Close server flow closed) more has_sending = tt
+has_sending_more x y n (Retire server h moment result) more has_sending = tt
+has_sending_more x y n Sync more has_sending = tt
 
 pub carrier_append : (R : Routes) (F : Rules) (stage : Stage) (m : ℕ) (x y : List Note) → IsCarrier R F stage m x
     → IsCarrier R F stage m y → IsCarrier R F stage m (x ++ y)
 carrier_append R F stage m x y a b = record {
   kinds = each_append (λ n. carries m n.event.what ≡ true) x y a.kinds b.kinds;
-  owed = each_append (λ n. IsOwed (x ++ y) n n.event.what) x y
-      (each_so (λ n. IsOwed x n n.event.what) (λ n. IsOwed (x ++ y) n n.event.what) x
-      (λ n h. owed_more (x ++ y) x n n.event.what (λ f. let s = total_append f x y in omega arith) h) a.owed)
-      (each_so (λ n. IsOwed y n n.event.what) (λ n. IsOwed (x ++ y) n n.event.what) y
-      (λ n h. owed_more (x ++ y) y n n.event.what (λ f. let s = total_append f x y in omega arith) h) b.owed);
+  has_sending = each_append (λ n. HasSending (x ++ y) n n.event.what) x y
+      (each_so (λ n. HasSending x n n.event.what) (λ n. HasSending (x ++ y) n n.event.what) x
+      (λ n h. has_sending_more (x ++ y) x n n.event.what (λ f. let s = total_append f x y in omega arith) h) a.has_sending)
+      (each_so (λ n. HasSending y n n.event.what) (λ n. HasSending (x ++ y) n n.event.what) y
+      (λ n h. has_sending_more (x ++ y) y n n.event.what (λ f. let s = total_append f x y in omega arith) h) b.has_sending);
   answers = each_append (IsAnswer R F stage) x y a.answers b.answers;
   lost = λ k hop clock.
       let s = total_append (λ n. one_if (is_lost k hop (suc clock) n)) x y
@@ -228,7 +228,7 @@ pub carrier_routed : (R : Routes) (F : Rules) (routes : List (Option MuxId)) (st
     → IsCarrier (RoutedBy routes) F stage m x → IsCarrier R F stage m x
 carrier_routed R F routes stage m x route c = record {
   kinds = c.kinds;
-  owed = c.owed;
+  has_sending = c.has_sending;
   answers = each_so (IsAnswer (RoutedBy routes) F stage) (IsAnswer R F stage) x
       (λ n h. (routed_one R routes stage route n.event.what h.0, h.1)) c.answers;
   lost = c.lost;
@@ -311,28 +311,28 @@ all_ordered before (n ∷ x) y later older a b = (
 
 -- what a worker does in a phase, after what it did before
 pub carriage_more : (R : Routes) (F : Rules) (stage : Stage) (control : List Event) (posts : List ℕ) (m p before : ℕ)
-    (x deeds : List Note) → counts control is_sync ≡ p → IsCarrier R F stage m x
+    (x notes : List Note) → counts control is_sync ≡ p → IsCarrier R F stage m x
     → AllByRecursion (λ n. n.seat ≡ suc m) x → AllByRecursion (λ n. sync_clock control < n.event.clock.0) x
     → AllByRecursion (λ n. IfSome (packet_of n.event.what) (λ k. before < k)) x
     → AllByRecursion (λ n. IfSome (packet_of n.event.what) (λ k. phase_of stage k ≡ p)) x
     → AtEach (λ rest n. IsInOrder rest n.event.what) x
     → AtEach (λ rest e. IsMuxGiven stage (sync_clock control) (newest_before control) posts
-    (rest ++ mux_log stage m deeds)
+    (rest ++ mux_log stage m notes)
     e.clock.0 e.what) (mux_log stage m x)
-    → AllByRecursion (λ n. IfSome (packet_of n.event.what) (λ k. k ≤ before)) deeds
-    → IsCarriage R F stage control posts m deeds → IsCarriage R F stage control posts m (x ++ deeds)
-carriage_more R F stage control posts m p before x deeds syncs carrier seats later after own ordered gives older c =
+    → AllByRecursion (λ n. IfSome (packet_of n.event.what) (λ k. k ≤ before)) notes
+    → IsCarriage R F stage control posts m notes → IsCarriage R F stage control posts m (x ++ notes)
+carriage_more R F stage control posts m p before x notes syncs carrier seats later after own ordered gives older c =
     record {
-      carrier = carrier_append R F stage m x deeds carrier c.carrier;
-      seats = each_append (λ n. n.seat ≡ suc m) x deeds seats c.seats;
-      positive = each_append (λ n. 0 < n.event.clock.0) x deeds
+      carrier = carrier_append R F stage m x notes carrier c.carrier;
+      seats = each_append (λ n. n.seat ≡ suc m) x notes seats c.seats;
+      positive = each_append (λ n. 0 < n.event.clock.0) x notes
           (each_so (λ n. sync_clock control < n.event.clock.0) (λ n. 0 < n.event.clock.0) x (λ n h. omega arith) later)
           c.positive;
-      ordered = all_ordered before x deeds after older ordered c.ordered;
-      gives = subst (λ (l : List Event). AtEach (IsMuxGivenBy stage control posts) l) (sym (log_append stage m x deeds))
-          (all_given stage control posts (mux_log stage m x) (mux_log stage m deeds)
+      ordered = all_ordered before x notes after older ordered c.ordered;
+      gives = subst (λ (l : List Event). AtEach (IsMuxGivenBy stage control posts) l) (sym (log_append stage m x notes))
+          (all_given stage control posts (mux_log stage m x) (mux_log stage m notes)
           (log_each (λ e. sync_clock control < e.clock.0) stage m x later) gives c.gives);
-      phases = each_append (IsPhasedBy stage control) x deeds
+      phases = each_append (IsPhasedBy stage control) x notes
           (each_two (λ n. sync_clock control < n.event.clock.0)
           (λ n. IfSome (packet_of n.event.what) (λ k. phase_of stage k ≡ p)) (IsPhasedBy stage control) x
           (λ n l o. phased_here stage control p n syncs l o) later own) c.phases;

@@ -19,11 +19,11 @@ use Rattle.bm_core.specs.Threads.{is_command}
 use Rattle.bm_shard.specs.Books.{Book}
 use Rattle.bm_merge.specs.Merges.{Log, gathered, some_event, has_actor, IsSentBefore}
 use Rattle.bm_merge.specs.Notes.{Note, events_of, plain, all_notes, total, many}
-use Rattle.bm_merge.specs.Workers.{home_of, has_log, deeds_of, all_deeds, carries, HaveHomes, HaveSeats}
-use Rattle.bm_merge.specs.Workers.{IsOwed}
+use Rattle.bm_merge.specs.Workers.{home_of, has_log, notes_by, notes_of_all, carries, HaveHomes, HaveSeats}
+use Rattle.bm_merge.specs.Workers.{HasSending}
 use Rattle.bm_merge.specs.Workers.{IsCarrier, is_lost, is_copyless, has_come, copies_below}
 use Rattle.bm_merge.proofs.Commanding.{all_kinds}
-use Rattle.bm_merge.proofs.Keeping.{no_deeds}
+use Rattle.bm_merge.proofs.Keeping.{no_notes}
 use Rattle.bm_merge.proofs.Noting.{total_append, total_none, total_most, events_gathered, counts_notes, each_append}
 use Rattle.bm_merge.proofs.Noting.{each_always}
 use Rattle.bm_merge.proofs.Reaching.{one_if}
@@ -33,12 +33,12 @@ use Rattle.bm_world.proofs.Logs.{logs_of, AreWorkers, are_seated, own_logs, has_
 
 -- THE WORKERS
 
-pub deeds_each : (P : ℕ → Note → Type 0) (carriers : List (List Note))
-    → ((m : ℕ) → m < length carriers → AllByRecursion (P m) (deeds_of carriers m))
-    → (m : ℕ) → AllByRecursion (P m) (deeds_of carriers m)
-deeds_each P carriers each m = elim (cases_lt m (length carriers)) [
+pub notes_each : (P : ℕ → Note → Type 0) (carriers : List (List Note))
+    → ((m : ℕ) → m < length carriers → AllByRecursion (P m) (notes_by carriers m))
+    → (m : ℕ) → AllByRecursion (P m) (notes_by carriers m)
+notes_each P carriers each m = elim (cases_lt m (length carriers)) [
   | inl low ↦ each m low
-  | inr high ↦ subst (λ (x : List Note). AllByRecursion (P m) x) (sym (no_deeds carriers m high)) tt
+  | inr high ↦ subst (λ (x : List Note). AllByRecursion (P m) x) (sym (no_notes carriers m high)) tt
 ]
 
 pub are_workers : (R : Routes) (F : Rules) (stage : Stage) (controller : List Note) (carriers : List (List Note))
@@ -46,16 +46,16 @@ pub are_workers : (R : Routes) (F : Rules) (stage : Stage) (controller : List No
 are_workers R F stage controller carriers books back = record {
   commands = all_kinds stage controller back.controls.each;
   first = back.control.seats;
-  kinds = deeds_each (λ m n. carries m n.event.what ≡ true) carriers (λ m low. (back.carried m low).carrier.kinds);
-  seats = deeds_each (λ m n. n.seat ≡ suc m) carriers (λ m low. (back.carried m low).seats);
+  kinds = notes_each (λ m n. carries m n.event.what ≡ true) carriers (λ m low. (back.carried m low).carrier.kinds);
+  seats = notes_each (λ m n. n.seat ≡ suc m) carriers (λ m low. (back.carried m low).seats);
 }
 
 -- what holds of what each mux's worker did holds of all
 pub all_carried : (P : Note → Type 0) (carriers : List (List Note))
-    → ((m : ℕ) → m < length carriers → AllByRecursion P (deeds_of carriers m)) → AllByRecursion P (all_deeds carriers)
+    → ((m : ℕ) → m < length carriers → AllByRecursion P (notes_by carriers m)) → AllByRecursion P (notes_of_all carriers)
 all_carried P [] each = tt
 all_carried P (d ∷ carriers) each =
-    each_append P d (all_deeds carriers) (each 0 (omega arith))
+    each_append P d (notes_of_all carriers) (each 0 (omega arith))
     (all_carried P carriers (λ m low. each (suc m) (omega arith)))
 
 -- what each of them is
@@ -72,19 +72,19 @@ all_rest : (P : Note → Type 0) (x y : List Note) → AllByRecursion P (x ++ y)
 all_rest P [] y all = all
 all_rest P (n ∷ x) y all = all_rest P x y all.1
 
-pub all_of_worker : (P : Note → Type 0) (carriers : List (List Note)) (m : ℕ) → AllByRecursion P (all_deeds carriers)
-    → AllByRecursion P (deeds_of carriers m)
+pub all_of_worker : (P : Note → Type 0) (carriers : List (List Note)) (m : ℕ) → AllByRecursion P (notes_of_all carriers)
+    → AllByRecursion P (notes_by carriers m)
 all_of_worker P [] m all = tt
-all_of_worker P (d ∷ carriers) zero all = all_first P d (all_deeds carriers) all
-all_of_worker P (d ∷ carriers) (suc m) all = all_of_worker P carriers m (all_rest P d (all_deeds carriers) all)
+all_of_worker P (d ∷ carriers) zero all = all_first P d (notes_of_all carriers) all
+all_of_worker P (d ∷ carriers) (suc m) all = all_of_worker P carriers m (all_rest P d (notes_of_all carriers) all)
 
 -- a part of the sum
 pub total_of_worker : (f : Note → ℕ) (carriers : List (List Note)) (m : ℕ)
-    → total f (deeds_of carriers m) ≤ total f (all_deeds carriers)
+    → total f (notes_by carriers m) ≤ total f (notes_of_all carriers)
 total_of_worker f [] m = omega arith
-total_of_worker f (d ∷ carriers) zero = let a = total_append f d (all_deeds carriers) in omega arith
+total_of_worker f (d ∷ carriers) zero = let a = total_append f d (notes_of_all carriers) in omega arith
 total_of_worker f (d ∷ carriers) (suc m) =
-    let a = total_append f d (all_deeds carriers) in let old = total_of_worker f carriers m in omega arith
+    let a = total_append f d (notes_of_all carriers) in let old = total_of_worker f carriers m in omega arith
 
 -- HOMES
 
@@ -121,38 +121,38 @@ if_some P Q (Some x) f h = f x h
 pub carried_home : (stage : Stage) (controller : List Note) (carriers : List (List Note)) (books : List Book)
     (all : AllByRecursion (IsBookOfAll stage controller carriers) books) (m seat : ℕ) (what : What)
     → m < length carriers → carries m what ≡ true → seat ≡ suc m → IsBooked stage books what
-    → ((k : ℕ) → 1 ≤ many (λ n. steers_packet n.event.what k) (deeds_of carriers m)
+    → ((k : ℕ) → 1 ≤ many (λ n. steers_packet n.event.what k) (notes_by carriers m)
     → is_some (segment_of stage k) ≡ true)
     → ((k : ℕ) (hop : Hop) → arrives what k hop ≡ true
-    → 1 ≤ many (λ n. steers_packet n.event.what k) (deeds_of carriers m))
+    → 1 ≤ many (λ n. steers_packet n.event.what k) (notes_by carriers m))
     → has_log (plain (logs_of stage controller carriers books all)) (home_of stage seat what) ≡ true
-carried_home stage controller carriers books all m seat (Switch x v) low is at booked known owed =
+carried_home stage controller carriers books all m seat (Switch x v) low is at booked known has_sending =
     subst (λ (p : ℕ). has_actor (plain (logs_of stage controller carriers books all)) (MuxOf p) ≡ true)
     (sym (eqb-true _ _ is)) (has_mux stage controller carriers books all m low)
-carried_home stage controller carriers books all m seat (Steer k x) low is at booked known owed =
+carried_home stage controller carriers books all m seat (Steer k x) low is at booked known has_sending =
     subst (λ (p : ℕ). has_actor (plain (logs_of stage controller carriers books all)) (MuxOf p) ≡ true)
     (sym (eqb-true _ _ is)) (has_mux stage controller carriers books all m low)
-carried_home stage controller carriers books all m seat (Lose k hop) low is at booked known owed =
+carried_home stage controller carriers books all m seat (Lose k hop) low is at booked known has_sending =
     let here : m ≡ seat - 1 = omega arith
     in subst (λ (p : ℕ). has_actor (plain (logs_of stage controller carriers books all)) (MuxOf p) ≡ true) here
     (has_mux stage controller carriers books all m low)
-carried_home stage controller carriers books all m seat (Arrive k hop server verdict) low is at booked known owed =
+carried_home stage controller carriers books all m seat (Arrive k hop server verdict) low is at booked known has_sending =
     let mine : arrives (Arrive k hop server verdict) k hop ≡ true = and_from _ _ (eq-eqb _ _ refl) (same_hop_refl hop)
     in arrival_home stage (plain (logs_of stage controller carriers books all)) server.0 (segment_of stage k)
-    (known k (owed k hop mine))
+    (known k (has_sending k hop mine))
     (if_some (λ s. has_book books server.0 (shard stage s.flow) ≡ true)
     (λ s. has_actor (plain (logs_of stage controller carriers books all)) (ShardOf server.0 (shard stage s.flow))
     ≡ true)
     (segment_of stage k)
     (λ s has. has_book_log stage controller carriers books all server.0 (shard stage s.flow) has) booked)
-carried_home stage controller carriers books all m seat (Publish v) low is at booked known owed = absurd (cc)
-carried_home stage controller carriers books all m seat (Close server flow closed) low is at booked known owed =
+carried_home stage controller carriers books all m seat (Publish v) low is at booked known has_sending = absurd (cc)
+carried_home stage controller carriers books all m seat (Close server flow closed) low is at booked known has_sending =
     absurd (cc)
-carried_home stage controller carriers books all m seat (Retire server h moment result) low is at booked known owed =
+carried_home stage controller carriers books all m seat (Retire server h moment result) low is at booked known has_sending =
     absurd (cc)
-carried_home stage controller carriers books all m seat Sync low is at booked known owed = absurd (cc)
+carried_home stage controller carriers books all m seat Sync low is at booked known has_sending = absurd (cc)
 
--- AMONG THE DEEDS
+-- AMONG THE NOTES
 
 among_more : (f : Note → Bool) (x : List Note) (n : Note) → 1 ≤ many f x → 1 ≤ many f (n ∷ x)
 among_more f x n one = omega arith
@@ -171,18 +171,18 @@ all_among (n ∷ x) = (
   each_more (IsAmong x) (IsAmong (n ∷ x)) x (λ y h f is. among_more f x n (h f is)) (all_among x),
 )
 
-pub arrives_owed : (deeds : List Note) (n : Note) (what : What) (k : ℕ) (hop : Hop) → IsOwed deeds n what
-    → arrives what k hop ≡ true → 1 ≤ many (λ y. steers_packet y.event.what k) deeds
-arrives_owed deeds n (Arrive packet h server verdict) k hop owed is =
+pub arrives_has_sending : (notes : List Note) (n : Note) (what : What) (k : ℕ) (hop : Hop) → HasSending notes n what
+    → arrives what k hop ≡ true → 1 ≤ many (λ y. steers_packet y.event.what k) notes
+arrives_has_sending notes n (Arrive packet h server verdict) k hop has_sending is =
     let same : packet ≡ k = eqb-true _ _ (and_parts (eqb packet k) (same_hop h hop) is).0
-    in subst (λ (p : ℕ). 1 ≤ many (λ y. steers_packet y.event.what p) deeds) same owed.0
-arrives_owed deeds n (Publish v) k hop owed is = absurd (cc)
-arrives_owed deeds n (Switch m v) k hop owed is = absurd (cc)
-arrives_owed deeds n (Steer j m) k hop owed is = absurd (cc)
-arrives_owed deeds n (Lose j h) k hop owed is = absurd (cc)
-arrives_owed deeds n (Close server flow closed) k hop owed is = absurd (cc)
-arrives_owed deeds n (Retire server h moment result) k hop owed is = absurd (cc)
-arrives_owed deeds n Sync k hop owed is = absurd (cc)
+    in subst (λ (p : ℕ). 1 ≤ many (λ y. steers_packet y.event.what p) notes) same has_sending.0
+arrives_has_sending notes n (Publish v) k hop has_sending is = absurd (cc)
+arrives_has_sending notes n (Switch m v) k hop has_sending is = absurd (cc)
+arrives_has_sending notes n (Steer j m) k hop has_sending is = absurd (cc)
+arrives_has_sending notes n (Lose j h) k hop has_sending is = absurd (cc)
+arrives_has_sending notes n (Close server flow closed) k hop has_sending is = absurd (cc)
+arrives_has_sending notes n (Retire server h moment result) k hop has_sending is = absurd (cc)
+arrives_has_sending notes n Sync k hop has_sending is = absurd (cc)
 
 is_one : (b : Bool) → 1 ≤ cond b 1 0 → b ≡ true
 is_one true one = refl
@@ -190,9 +190,9 @@ is_one false one = absurd (omega arith)
 
 -- what a worker steers is steerable
 pub steered_known : (stage : Stage) (carriers : List (List Note))
-    → ((k : ℕ) → many (λ n. steers_packet n.event.what k) (all_deeds carriers)
+    → ((k : ℕ) → many (λ n. steers_packet n.event.what k) (notes_of_all carriers)
     ≡ cond (is_some (segment_of stage k)) 1 0) → (m k : ℕ)
-    → 1 ≤ many (λ n. steers_packet n.event.what k) (deeds_of carriers m) → is_some (segment_of stage k) ≡ true
+    → 1 ≤ many (λ n. steers_packet n.event.what k) (notes_by carriers m) → is_some (segment_of stage k) ≡ true
 steered_known stage carriers steered m k one =
     let part = total_of_worker (λ n. one_if (steers_packet n.event.what k)) carriers m
     in let whole = steered k
@@ -206,38 +206,38 @@ all_four A B C D S (n ∷ x) f a b c d = (f n a.0 b.0 c.0 d.0, all_four A B C D 
 -- each note has its log
 pub have_homes : (R : Routes) (F : Rules) (stage : Stage) (controller : List Note) (carriers : List (List Note))
     (books : List Book) (back : AreHandedBack R F stage controller carriers books)
-    → HaveHomes stage (logs_of stage controller carriers books back.kept) (all_deeds (controller ∷ carriers))
+    → HaveHomes stage (logs_of stage controller carriers books back.kept) (notes_of_all (controller ∷ carriers))
 have_homes R F stage controller carriers books back =
     let logs = logs_of stage controller carriers books back.kept
     in let P : Note → Type 0 = λ n. has_log (plain logs) (home_of stage n.seat n.event.what) ≡ true
     in let are = are_workers R F stage controller carriers books back
     in let Q : Note → Type 0 = λ n. IsBooked stage books n.event.what
-    in each_append P controller (all_deeds carriers)
+    in each_append P controller (notes_of_all carriers)
     (all_together (λ n. is_command n.event.what ≡ true) Q P controller
     (λ n is booked. command_home stage controller carriers books back.kept n.seat n.event.what is booked)
-    are.commands (all_first Q controller (all_deeds carriers) back.booked))
+    are.commands (all_first Q controller (notes_of_all carriers) back.booked))
     (all_carried P carriers (λ m low.
     all_four (λ n. carries m n.event.what ≡ true) (λ n. n.seat ≡ suc m) Q
-    (λ n. IsOwed (deeds_of carriers m) n n.event.what) P (deeds_of carriers m)
-    (λ n is at booked owed.
+    (λ n. HasSending (notes_by carriers m) n n.event.what) P (notes_by carriers m)
+    (λ n is at booked has_sending.
     carried_home stage controller carriers books back.kept m n.seat n.event.what low is at booked
     (steered_known stage carriers back.steered m)
-    (λ k hop h. arrives_owed (deeds_of carriers m) n n.event.what k hop owed h))
+    (λ k hop h. arrives_has_sending (notes_by carriers m) n n.event.what k hop has_sending h))
     (are.kinds m) (are.seats m)
-    (all_of_worker Q carriers m (all_rest Q controller (all_deeds carriers) back.booked))
-    (back.carried m low).carrier.owed))
+    (all_of_worker Q carriers m (all_rest Q controller (notes_of_all carriers) back.booked))
+    (back.carried m low).carrier.has_sending))
 
 below_all : (w n : ℕ) (x : List Note) → w < n → AllByRecursion (λ y. y.seat ≡ w) x → AllByRecursion (λ y. y.seat < n) x
 below_all w n x low all = each_more (λ y. y.seat ≡ w) (λ y. y.seat < n) x (λ y h. omega arith) all
 
 seats_below : (controller : List Note) (carriers : List (List Note)) → AreWorkers controller carriers → (w : ℕ)
-    → AllByRecursion (λ y. y.seat < suc (length carriers)) (deeds_of (controller ∷ carriers) w)
+    → AllByRecursion (λ y. y.seat < suc (length carriers)) (notes_by (controller ∷ carriers) w)
 seats_below controller carriers are zero =
     below_all 0 (suc (length carriers)) controller (omega arith) are.first
 seats_below controller carriers are (suc m) = elim (cases_lt m (length carriers)) [
-  | inl low ↦ below_all (suc m) (suc (length carriers)) (deeds_of carriers m) (omega arith) (are.seats m)
+  | inl low ↦ below_all (suc m) (suc (length carriers)) (notes_by carriers m) (omega arith) (are.seats m)
   | inr high ↦ subst (λ (x : List Note). AllByRecursion (λ y. y.seat < suc (length carriers)) x)
-      (sym (no_deeds carriers m high)) tt
+      (sym (no_notes carriers m high)) tt
 ]
 
 pub have_seats : (stage : Stage) (controller : List Note) (carriers : List (List Note)) (books : List Book)
@@ -251,7 +251,7 @@ have_seats stage controller carriers books all are =
 pub all_shared : (R : Routes) (F : Rules) (stage : Stage) (controller : List Note) (carriers : List (List Note))
     (books : List Book) (back : AreHandedBack R F stage controller carriers books) (f : Note → ℕ)
     → total f (all_notes (logs_of stage controller carriers books back.kept))
-    ≡ total f (controller ++ all_deeds carriers)
+    ≡ total f (controller ++ notes_of_all carriers)
 all_shared R F stage controller carriers books back f =
     let are = are_workers R F stage controller carriers books back
     in shared stage (logs_of stage controller carriers books back.kept) (controller ∷ carriers)
@@ -284,7 +284,7 @@ steered_once R F stage controller carriers books back k =
     in let f : Note → ℕ = λ n. one_if (steers_packet n.event.what k)
     in let same = counts_notes (λ what. steers_packet what k) (all_notes logs)
     in let sum = all_shared R F stage controller carriers books back f
-    in let parts = total_append f controller (all_deeds carriers)
+    in let parts = total_append f controller (notes_of_all carriers)
     in let none : total f controller ≡ 0 = total_none f controller
     (each_more (λ n. is_command n.event.what ≡ true) (λ n. f n ≡ 0) controller
     (λ n is. let not = no_steer n.event.what k is in rw not refl)
@@ -306,15 +306,15 @@ some_of_many g (n ∷ x) one = go (g n.event) one (some_of_many g x) where
   go false h old = old (omega arith)
 
 -- what one worker did is in the logs
-pub deed_logged : (R : Routes) (F : Rules) (stage : Stage) (controller : List Note) (carriers : List (List Note))
+pub note_logged : (R : Routes) (F : Rules) (stage : Stage) (controller : List Note) (carriers : List (List Note))
     (books : List Book) (back : AreHandedBack R F stage controller carriers books) (m : ℕ) (g : Event → Bool)
-    → 1 ≤ many (λ n. g n.event) (deeds_of carriers m)
+    → 1 ≤ many (λ n. g n.event) (notes_by carriers m)
     → some_event g (gathered (plain (logs_of stage controller carriers books back.kept))) ≡ true
-deed_logged R F stage controller carriers books back m g one =
+note_logged R F stage controller carriers books back m g one =
     let logs = logs_of stage controller carriers books back.kept
     in let f : Note → ℕ = λ n. one_if (g n.event)
     in let sum = all_shared R F stage controller carriers books back f
-    in let parts = total_append f controller (all_deeds carriers)
+    in let parts = total_append f controller (notes_of_all carriers)
     in let part = total_of_worker f carriers m
     in subst (λ (l : List Event). some_event g l ≡ true) (events_gathered logs)
     (some_of_many g (all_notes logs) (omega arith))
@@ -348,29 +348,29 @@ copyless_some k hop clock x one =
 -- a copy has its sending at a lower clock in the logs, and a loss has its own
 sent_one : (R : Routes) (F : Rules) (stage : Stage) (controller : List Note) (carriers : List (List Note))
     (books : List Book) (back : AreHandedBack R F stage controller carriers books) (m : ℕ)
-    → IsCarrier R F stage m (deeds_of carriers m) → (n : Note) → IsAmong (deeds_of carriers m) n
+    → IsCarrier R F stage m (notes_by carriers m) → (n : Note) → IsAmong (notes_by carriers m) n
     → 0 < n.event.clock.0 → (what : What) → n.event.what ≡ what
     → IsSentBefore (plain (logs_of stage controller carriers books back.kept)) n.event.clock.0 what
 sent_one R F stage controller carriers books back m c n among low (Arrive k hop server verdict) is =
     let mine : arrives n.event.what k hop ≡ true = rw is (and_from _ _ (eq-eqb _ _ refl) (same_hop_refl hop))
-    in let come : 1 ≤ many (has_come k hop n.event.clock.0) (deeds_of carriers m) =
+    in let come : 1 ≤ many (has_come k hop n.event.clock.0) (notes_by carriers m) =
     among (has_come k hop n.event.clock.0) (and_from _ _ mine (le-leb _ _ (omega arith)))
     in let sent = c.sent k hop n.event.clock.0
-    in deed_logged R F stage controller carriers books back m
+    in note_logged R F stage controller carriers books back m
     (λ e. sends e.what k hop && ltb e.clock.0 n.event.clock.0)
-    (copies_some k hop n.event.clock.0 (deeds_of carriers m) (omega arith))
+    (copies_some k hop n.event.clock.0 (notes_by carriers m) (omega arith))
 sent_one R F stage controller carriers books back m c n among low (Lose k hop) is =
     let mine : loses n.event.what k hop ≡ true = rw is (and_from _ _ (eq-eqb _ _ refl) (same_hop_refl hop))
     in let clock = n.event.clock.0 - 1
     in let next : n.event.clock.0 ≡ suc clock = omega arith
-    in let lost : 1 ≤ many (is_lost k hop (suc clock)) (deeds_of carriers m) =
+    in let lost : 1 ≤ many (is_lost k hop (suc clock)) (notes_by carriers m) =
     among (is_lost k hop (suc clock)) (and_from _ _ mine (eq-eqb _ _ next))
     in let same = c.lost k hop clock
     in (
       clock,
       omega arith,
-      deed_logged R F stage controller carriers books back m (λ e. sends e.what k hop && eqb e.clock.0 clock)
-          (copyless_some k hop clock (deeds_of carriers m) (omega arith)),
+      note_logged R F stage controller carriers books back m (λ e. sends e.what k hop && eqb e.clock.0 clock)
+          (copyless_some k hop clock (notes_by carriers m) (omega arith)),
     )
 sent_one R F stage controller carriers books back m c n among low (Publish v) is = tt
 sent_one R F stage controller carriers books back m c n among low (Switch x v) is = tt
@@ -382,10 +382,10 @@ sent_one R F stage controller carriers books back m c n among low Sync is = tt
 pub all_sent : (R : Routes) (F : Rules) (stage : Stage) (controller : List Note) (carriers : List (List Note))
     (books : List Book) (back : AreHandedBack R F stage controller carriers books) (m : ℕ) → m < length carriers
     → AllByRecursion (λ n. IsSentBefore (plain (logs_of stage controller carriers books back.kept)) n.event.clock.0
-    n.event.what) (deeds_of carriers m)
+    n.event.what) (notes_by carriers m)
 all_sent R F stage controller carriers books back m low =
-    all_together (IsAmong (deeds_of carriers m)) (λ n. 0 < n.event.clock.0)
+    all_together (IsAmong (notes_by carriers m)) (λ n. 0 < n.event.clock.0)
     (λ n. IsSentBefore (plain (logs_of stage controller carriers books back.kept)) n.event.clock.0 n.event.what)
-    (deeds_of carriers m)
+    (notes_by carriers m)
     (λ n among positive. sent_one R F stage controller carriers books back m (back.carried m low).carrier n among
-    positive n.event.what refl) (all_among (deeds_of carriers m)) (back.carried m low).positive
+    positive n.event.what refl) (all_among (notes_by carriers m)) (back.carried m low).positive

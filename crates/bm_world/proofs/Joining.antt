@@ -20,14 +20,14 @@ use Rattle.std.proofs.Common.{append-nil as append_nil}
 use Rattle.bm_core.specs.Runs.Actor.{Controller, ShardOf}
 use Rattle.bm_core.specs.Threads.{sync_clock, newest_before, packet_of, phase_of, is_command}
 use Rattle.bm_merge.specs.Notes.{Note, events_of, total}
-use Rattle.bm_merge.specs.Workers.{home_part, is_home, deeds_of, all_deeds, IsCarrier}
+use Rattle.bm_merge.specs.Workers.{home_part, is_home, notes_by, notes_of_all, IsCarrier}
 use Rattle.bm_merge.proofs.Noting.{total_append, each_append, each_so, events_append, greatest_append}
 use Rattle.bm_merge.proofs.Phasing.{IsPhased, phased_more, phased_publish}
 use Rattle.bm_merge.proofs.Reaching.{one_if}
 use Rattle.bm_server.specs.Seats.{Seated}
 use Rattle.bm_server.specs.Servings.{Serving}
-use Rattle.bm_worker.specs.WorkerNotes.{clock_of, noted, Sits, Hears, IsSameCaller}
-use Rattle.bm_worker.specs.Phases.{mux_log, AreCopies, IsPlaced, IsPhaseNote, IsMuxGiven, Phase, stint_of}
+use Rattle.bm_worker.specs.WorkerNotes.{clock_of, noted, HasSeats, Hears, IsSameCaller}
+use Rattle.bm_worker.specs.Phases.{mux_log, AreCopies, IsPlaced, IsPhaseNote, IsMuxGiven, Phase, task_of}
 use Rattle.bm_worker.specs.Phases.{HasGrown, is_steer}
 use Rattle.bm_worker.specs.Callers.{CallerState}
 use Rattle.bm_worker.specs.declared.span.Span.{Span}
@@ -38,14 +38,14 @@ use Rattle.std.proofs.lemmas.Bool.{le-leb, lt-leb, lt-ltb, le-ltb}
 use Rattle.bm_worker.specs.Assigned.{is_mux, is_assigned, assigned_mux, RoutedBy}
 use Rattle.bm_worker.specs.declared.worker.MuxWorker.{MuxWorker}
 use Rattle.bm_world.specs.Inside.Returned.{control_log}
-use Rattle.bm_world.specs.Inside.Running.{HaveHeard, IsAtWork, add_deeds}
+use Rattle.bm_world.specs.Inside.Running.{HaveHeard, IsAtWork, add_notes}
 use Rattle.bm_world.proofs.Homes.{home_append, home_each}
 use Rattle.bm_world.proofs.Growing.{carriage_later, carriage_more, carrier_routed, log_append}
 
--- LISTS OF DEEDS
+-- LISTS OF NOTES
 
 pub added_of : (more carriers : List (List Note)) (m : ℕ) → length more ≡ length carriers
-    → deeds_of (add_deeds more carriers) m ≡ deeds_of more m ++ deeds_of carriers m
+    → notes_by (add_notes more carriers) m ≡ notes_by more m ++ notes_by carriers m
 added_of [] [] m count = refl
 added_of [] (d ∷ carriers) m count = absurd (omega arith)
 added_of (x ∷ more) [] m count = absurd (omega arith)
@@ -53,23 +53,23 @@ added_of (x ∷ more) (d ∷ carriers) zero count = refl
 added_of (x ∷ more) (d ∷ carriers) (suc m) count = added_of more carriers m (omega arith)
 
 pub added_count : (more carriers : List (List Note)) → length more ≡ length carriers
-    → length (add_deeds more carriers) ≡ length carriers
+    → length (add_notes more carriers) ≡ length carriers
 added_count [] [] count = refl
 added_count [] (d ∷ carriers) count = absurd (omega arith)
 added_count (x ∷ more) [] count = absurd (omega arith)
 added_count (x ∷ more) (d ∷ carriers) count = let old = added_count more carriers (omega arith) in omega arith
 
 pub added_total : (f : Note → ℕ) (more carriers : List (List Note)) → length more ≡ length carriers
-    → total f (all_deeds (add_deeds more carriers)) ≡ total f (all_deeds more) + total f (all_deeds carriers)
+    → total f (notes_of_all (add_notes more carriers)) ≡ total f (notes_of_all more) + total f (notes_of_all carriers)
 added_total f [] [] count = refl
 added_total f [] (d ∷ carriers) count = absurd (omega arith)
 added_total f (x ∷ more) [] count = absurd (omega arith)
 added_total f (x ∷ more) (d ∷ carriers) count =
     let old = added_total f more carriers (omega arith)
-    in let a = total_append f (x ++ d) (all_deeds (add_deeds more carriers))
+    in let a = total_append f (x ++ d) (notes_of_all (add_notes more carriers))
     in let b = total_append f x d
-    in let c = total_append f x (all_deeds more)
-    in let e = total_append f d (all_deeds carriers)
+    in let c = total_append f x (notes_of_all more)
+    in let e = total_append f d (notes_of_all carriers)
     in omega arith
 
 -- WORKER 0'S PART
@@ -136,12 +136,12 @@ noted_append stage a (n ∷ x) y =
     ap (λ (l : List (Event × ℕ)). l ++ cond (is_home stage a n) ((n.event, n.due) ∷ []) []) (noted_append stage a x y)
     ∙ append_assoc (noted stage a y) (noted stage a x) (cond (is_home stage a n) ((n.event, n.due) ∷ []) [])
 
-pub heard_more : (stage : Stage) (servers : List Serving) (a b : List (List Seated)) (x deeds : List Note)
-    → Hears stage servers a b x → HaveHeard stage servers a deeds → HaveHeard stage servers b (x ++ deeds)
-heard_more stage servers a b x deeds more old s h server at =
+pub heard_more : (stage : Stage) (servers : List Serving) (a b : List (List Seated)) (x notes : List Note)
+    → Hears stage servers a b x → HaveHeard stage servers a notes → HaveHeard stage servers b (x ++ notes)
+heard_more stage servers a b x notes more old s h server at =
     more s h server at
     ∙ ap (λ (l : List (Event × ℕ)). l ++ noted stage (ShardOf server.id.0 h) x) (old s h server at)
-    ∙ sym (noted_append stage (ShardOf server.id.0 h) x deeds)
+    ∙ sym (noted_append stage (ShardOf server.id.0 h) x notes)
 
 -- A MUX'S WORKER
 
@@ -192,9 +192,9 @@ assigned_sum routes m before until k low =
       go : (x y : Bool) → one_if ((true && x) && y) + one_if ((true && false) && y) ≡ one_if ((true && x) && y)
       go x y = omega arith
 
-pub sits_still : (servers : List Serving) (a b : CallerState) → IsSameCaller a b → Sits servers a → Sits servers b
-sits_still servers a b same sits =
-    same.who_is ∙ sits ∙ ap (λ (n : ℕ). map (λ server. row server n) servers) (sym same.number)
+pub sits_still : (servers : List Serving) (a b : CallerState) → IsSameCaller a b → HasSeats servers a → HasSeats servers b
+sits_still servers a b same has_seats =
+    same.who_is ∙ has_seats ∙ ap (λ (n : ℕ). map (λ server. row server n) servers) (sym same.number)
 
 pub given_same : (stage : Stage) (x : List Note) (posts : List ℕ) (a a' f f' m m' : ℕ) (old old' : List Event) → a ≡ a'
     → f ≡ f'
@@ -216,43 +216,43 @@ given_same stage x posts a a' f f' m m' old old' ea ef em eo given =
 -- what a mux's worker did in a phase
 pub record HasDone (F : Rules) (stage : Stage) (servers : List Serving) (routes : List (Option MuxId)) (span : Span)
     (told : Posted) (old now : MuxWorker) (x : List Note) : Type 0 where
-  pub phase : Phase F stage servers (stint_of routes span told old) now x
-  pub grown : HasGrown (stint_of routes span told old) now
+  pub phase : Phase F stage servers (task_of routes span told old) now x
+  pub grown : HasGrown (task_of routes span told old) now
   pub stop : now.stop ≡ None
 
 pub at_work_more : (R : Routes) (F : Rules) (stage : Stage) (servers : List Serving) (routes : List (Option MuxId))
     (control y : List Event) (board : Book) (p phases m : ℕ) (span : Span) (told : Posted) (old now : MuxWorker)
-    (deeds x : List Note)
+    (notes x : List Note)
     → ((k m : ℕ) (s : Segment) → assigned_mux routes k ≡ Some m → segment_of stage k ≡ Some s → R k s.flow m)
     → ((k : ℕ) → span.from < k → k ≤ span.until → phase_of stage k ≡ p)
     → span.from ≤ span.until → sync_clock (y ++ control) ≡ span.after.0
     → newest_before (y ++ control) ≡ last_version told → counts (y ++ control) is_sync ≡ p
-    → AllByRecursion (λ e. span.after.0 < e.clock.0) y → AllByRecursion (λ n. clock_of n < span.after.0) deeds
+    → AllByRecursion (λ e. span.after.0 < e.clock.0) y → AllByRecursion (λ n. clock_of n < span.after.0) notes
     → HasDone F stage servers routes span told old now x
-    → IsAtWork R F stage servers routes control board phases span.from m old deeds
-    → IsAtWork R F stage servers routes (y ++ control) board (phases + 1) span.until m now (x ++ deeds)
-at_work_more R F stage servers routes control y board p phases m span told old now deeds x route numbers order sync
+    → IsAtWork R F stage servers routes control board phases span.from m old notes
+    → IsAtWork R F stage servers routes (y ++ control) board (phases + 1) span.until m now (x ++ notes)
+at_work_more R F stage servers routes control y board p phases m span told old now notes x route numbers order sync
     first
     syncs later below done at =
     let phase = done.phase
     in let kept = phase.kept
-    in let stint = stint_of routes span told old
+    in let task = task_of routes span told old
     in let id : old.mux.id.0 ≡ m = at.id
     in let posts = kept.mux.later.posts
-    in let log : mux_log stage m x ++ mux_log stage m deeds ≡ mux_log stage m (x ++ deeds) =
-    sym (log_append stage m x deeds)
-    in let D : Note → Type 0 = IsPhaseNote F stage servers stint x
+    in let log : mux_log stage m x ++ mux_log stage m notes ≡ mux_log stage m (x ++ notes) =
+    sym (log_append stage m x notes)
+    in let D : Note → Type 0 = IsPhaseNote F stage servers task x
     in let within : AllByRecursion (λ n. IfSome (packet_of n.event.what) (λ k. (span.from < k) × (k ≤ span.until))) x =
     each_so D (λ n. IfSome (packet_of n.event.what) (λ k. (span.from < k) × (k ≤ span.until))) x (λ n d. d.within)
     kept.each
     in let given : AtEach (λ rest e. IsMuxGiven stage (sync_clock (y ++ control)) (newest_before (y ++ control))
-    now.mux.seen.clocks (rest ++ mux_log stage m deeds) e.clock.0 e.what) (mux_log stage m x) =
+    now.mux.seen.clocks (rest ++ mux_log stage m notes) e.clock.0 e.what) (mux_log stage m x) =
     given_same stage x now.mux.seen.clocks span.after.0 (sync_clock (y ++ control)) (last_version told)
-    (newest_before (y ++ control)) old.mux.id.0 m (reverse old.mux.log) (mux_log stage m deeds) (sym sync) (sym first)
+    (newest_before (y ++ control)) old.mux.id.0 m (reverse old.mux.log) (mux_log stage m notes) (sym sync) (sym first)
     id
     at.logged kept.gives
     in record {
-      carriage = carriage_more R F stage (y ++ control) now.mux.seen.clocks m p span.from x deeds syncs
+      carriage = carriage_more R F stage (y ++ control) now.mux.seen.clocks m p span.from x notes syncs
           (carrier_routed R F routes stage m x route
           (subst (λ (k : ℕ). IsCarrier (RoutedBy routes) F stage k x) id phase.carrier))
           (each_so D (λ n. n.seat ≡ suc m) x (λ n d. let s = d.seat in omega arith) kept.each)
@@ -267,23 +267,23 @@ at_work_more R F stage servers routes control y board p phases m span told old n
           (λ n w. if_some (λ k. (span.from < k) × (k ≤ span.until)) (λ k. phase_of stage k ≡ p) (packet_of n.event.what)
           (λ k h. numbers k h.0 h.1) w) within)
           kept.ordered given at.within
-          (carriage_later R F stage control y old.mux.seen.clocks now.mux.seen.clocks m deeds
-          (all_above span.after.0 y deeds later below) posts at.carriage);
+          (carriage_later R F stage control y old.mux.seen.clocks now.mux.seen.clocks m notes
+          (all_above span.after.0 y notes later below) posts at.carriage);
       id = ap (λ (i : MuxId). i.0) kept.mux.id ∙ id;
       logged = kept.logged ∙ ap (λ (k : ℕ). mux_log stage k x ++ reverse old.mux.log) id
           ∙ ap (λ (l : List Event). mux_log stage m x ++ l) at.logged ∙ log;
-      heard = heard_more stage servers old.caller.seats now.caller.seats x deeds kept.hears at.heard;
+      heard = heard_more stage servers old.caller.seats now.caller.seats x notes kept.hears at.heard;
       copies = subst (λ (i : MuxId). AreCopies stage i servers (reverse now.mux.log) now.caller.seats) (sym kept.mux.id)
           (kept.copies at.copies);
-      placed = each_append (λ n. IsPlaced servers n.event.what) x deeds
+      placed = each_append (λ n. IsPlaced servers n.event.what) x notes
           (each_so D (λ n. IsPlaced servers n.event.what) x (λ n d. d.placed) kept.each) at.placed;
       latest =
-          let sum = greatest_append clock_of x deeds
+          let sum = greatest_append clock_of x notes
           in let a = kept.latest
           in let b = at.latest
           in omega arith;
       steered = λ k.
-          let sum = total_append (λ n. one_if (steers_packet n.event.what k)) x deeds
+          let sum = total_append (λ n. one_if (steers_packet n.event.what k)) x notes
           in let a = phase.steered k
           in let b = at.steered k
           in let c = assigned_sum routes m span.from span.until k order
@@ -292,17 +292,17 @@ at_work_more R F stage servers routes control y board p phases m span told old n
           ap (λ (i : ℕ). is_assigned routes i span.from span.until k) id
           in let e = ap (λ (t : Bool). one_if t) d
           in omega arith;
-      within = each_append (λ n. IfSome (packet_of n.event.what) (λ k. k ≤ span.until)) x deeds
+      within = each_append (λ n. IfSome (packet_of n.event.what) (λ k. k ≤ span.until)) x notes
           (each_so (λ n. IfSome (packet_of n.event.what) (λ k. (span.from < k) × (k ≤ span.until)))
           (λ n. IfSome (packet_of n.event.what) (λ k. k ≤ span.until)) x
           (λ n w. if_some (λ k. (span.from < k) × (k ≤ span.until)) (λ k. k ≤ span.until) (packet_of n.event.what)
           (λ k h. h.1) w) within)
           (each_so (λ n. IfSome (packet_of n.event.what) (λ k. k ≤ span.from))
-          (λ n. IfSome (packet_of n.event.what) (λ k. k ≤ span.until)) deeds
+          (λ n. IfSome (packet_of n.event.what) (λ k. k ≤ span.until)) notes
           (λ n w. if_some (λ k. k ≤ span.from) (λ k. k ≤ span.until) (packet_of n.event.what) (λ k h. omega arith) w)
           at.within);
       number = kept.caller.number ∙ at.number;
-      sits = sits_still servers old.caller now.caller kept.caller at.sits;
+      has_seats = sits_still servers old.caller now.caller kept.caller at.has_seats;
       board_is = kept.mux.later.board ∙ at.board_is;
       plan = kept.mux.later.plan ∙ at.plan;
       tries = let a = done.grown.tries in let b = at.tries in omega arith;
@@ -311,8 +311,8 @@ at_work_more R F stage servers routes control y board p phases m span told old n
       few =
           let a = phase.few
           in let b = at.few
-          in let c = length-append x deeds
-          in let d = total_append (λ n. one_if (is_steer n.event.what)) x deeds
+          in let c = length-append x notes
+          in let d = total_append (λ n. one_if (is_steer n.event.what)) x notes
           in omega arith;
       stop = done.stop;
     }

@@ -23,7 +23,7 @@ use Rattle.bm_core.specs.Threads.{is_command}
 use Rattle.bm_shard.specs.Books.{Book}
 use Rattle.bm_merge.specs.Merges.{by_clock, highest, merged}
 use Rattle.bm_merge.specs.Notes.{Note, all_notes, events_of, greatest, plain, total}
-use Rattle.bm_merge.specs.Workers.{IsBefore, all_deeds, carries, deeds_of, home_of, home_part, is_home, is_publish}
+use Rattle.bm_merge.specs.Workers.{IsBefore, notes_of_all, carries, notes_by, home_of, home_part, is_home, is_publish}
 use Rattle.bm_merge.proofs.Noting.{each_append, each_event, each_so, each_two, events_by_clock, events_gathered}
 use Rattle.bm_merge.proofs.Noting.{greatest_append, total_append, total_by_clock}
 use Rattle.bm_merge.proofs.Promised.{notes_by_clock}
@@ -33,13 +33,13 @@ use Rattle.bm_merge.proofs.Underway.{underway_bounded}
 use Rattle.bm_publish.specs.Posts.{Posted}
 use Rattle.bm_server.specs.Seats.{Seated}
 use Rattle.bm_server.specs.Servings.{Serving, shard_at}
-use Rattle.bm_worker.specs.WorkerNotes.{Hears, Said, Suits, clock_of, noted, saying}
+use Rattle.bm_worker.specs.WorkerNotes.{Hears, Said, AreServersOf, clock_of, noted, saying}
 use Rattle.bm_worker.specs.Phases.{AreCopies, mux_log}
 use Rattle.bm_worker.specs.Phases.{IsPlaced as IsCarriedAt}
 use Rattle.bm_worker.specs.Callers.{CallerState}
-use Rattle.bm_worker.specs.SeatCalls.{told_there}
+use Rattle.bm_worker.specs.SeatCalls.{calls_there}
 use Rattle.bm_worker.specs.declared.worker.MuxWorker.{MuxWorker}
-use Rattle.bm_lead.specs.declared.head.Head.{Head}
+use Rattle.bm_lead.specs.declared.leader.Leader.{Leader}
 use Rattle.bm_lead.specs.Commands.{control_log, posted_clocks}
 use Rattle.bm_lead.specs.Leads.{IsLed, IsPlaced}
 use Rattle.bm_lead.specs.Rests.{Adds}
@@ -50,7 +50,7 @@ use Rattle.bm_world.specs.Inside.Left.{AreLeft, IsLeft, IsMuxClocked, IsSynced}
 use Rattle.bm_world.specs.Inside.Running.{HaveHeard}
 use Rattle.bm_world.specs.Inside.Served.{AreBooksThere}
 use Rattle.bm_world.proofs.Amounts.{changes_few, total_ones}
-use Rattle.bm_world.proofs.InLogs.{all_carried, deeds_each}
+use Rattle.bm_world.proofs.InLogs.{all_carried, notes_each}
 use Rattle.bm_world.proofs.Ending.{carried_booked, carried_no_command, led_booked, row_of}
 use Rattle.bm_world.proofs.Finishing.{AreDone, all_books, books_of_all, own_books}
 use Rattle.bm_world.proofs.GivingUp.{sync_append, unsynced}
@@ -154,16 +154,16 @@ clocks_later stage control y posts posts' (e ∷ log) more each = (
 )
 
 -- the controller's log and the posts go on
-left_later : (F : Rules) (stage : Stage) (control y : List Event) (posts posts' : List ℕ) (m : ℕ) (deeds : List Note)
-    → IsPrefix posts posts' → IsLeft F stage control posts m deeds → IsLeft F stage (y ++ control) posts' m deeds
-left_later F stage control y posts posts' m deeds more left = record {
+left_later : (F : Rules) (stage : Stage) (control y : List Event) (posts posts' : List ℕ) (m : ℕ) (notes : List Note)
+    → IsPrefix posts posts' → IsLeft F stage control posts m notes → IsLeft F stage (y ++ control) posts' m notes
+left_later F stage control y posts posts' m notes more left = record {
   kinds = left.kinds;
   seats = left.seats;
-  owed = left.owed;
+  has_sending = left.has_sending;
   drawn = left.drawn;
   losses = left.losses;
   steerable = left.steerable;
-  gives = clocks_later stage control y posts posts' (mux_log stage m deeds) more left.gives;
+  gives = clocks_later stage control y posts posts' (mux_log stage m notes) more left.gives;
 }
 
 before_more : (x y : List Note) (clock c : ℕ) → ((f : Note → ℕ) → total f x ≤ total f y) → IsBefore x clock c
@@ -225,10 +225,10 @@ events_length (n ∷ x) = ap suc (events_length x)
 left_bounded : (F : Rules) (stage : Stage) (controller : List Note) (carriers : List (List Note)) (books : List Book)
     → AreLeft F stage controller carriers books
     → ((packet : ℕ) (hop : Hop) (f : Fate) → F packet hop f → f.delay ≤ 60000000000)
-    → greatest clock_of (controller ++ all_deeds carriers) ≤ highest (length (controller ++ all_deeds carriers))
+    → greatest clock_of (controller ++ notes_of_all carriers) ≤ highest (length (controller ++ notes_of_all carriers))
 left_bounded F stage controller carriers books left short =
     let logs = logs_of stage controller carriers books left.kept
-    in let all = controller ++ all_deeds carriers
+    in let all = controller ++ notes_of_all carriers
     in let ns = notes_by_clock (all_notes logs)
     in let same : (f : Note → ℕ) → total f ns ≡ total f all =
     λ f. total_by_clock f (all_notes logs) ∙ left_shared F stage controller carriers books left f
@@ -251,29 +251,29 @@ left_bounded F stage controller carriers books left short =
 
 -- TOGETHER
 
-rows_heard : (stage : Stage) (servers : List Serving) (head : List (List Seated)) (workers : List MuxWorker)
-    (controller : List Note) (carriers : List (List Note)) → HaveHeard stage servers head controller
+rows_heard : (stage : Stage) (servers : List Serving) (leader : List (List Seated)) (workers : List MuxWorker)
+    (controller : List Note) (carriers : List (List Note)) → HaveHeard stage servers leader controller
     → ((m : ℕ) (w : MuxWorker) → slice_get workers m ≡ Some w
-    → HaveHeard stage servers w.caller.seats (deeds_of carriers m))
-    → (w : ℕ) (seats : List (List Seated)) → slice_get (rows_of head workers) w ≡ Some seats
-    → HaveHeard stage servers seats (deeds_of (controller ∷ carriers) w)
-rows_heard stage servers head workers controller carriers first others zero seats here =
-    subst (λ (x : List (List Seated)). HaveHeard stage servers x controller) (same_Some head seats here) first
-rows_heard stage servers head workers controller carriers first others (suc m) seats here =
+    → HaveHeard stage servers w.caller.seats (notes_by carriers m))
+    → (w : ℕ) (seats : List (List Seated)) → slice_get (rows_of leader workers) w ≡ Some seats
+    → HaveHeard stage servers seats (notes_by (controller ∷ carriers) w)
+rows_heard stage servers leader workers controller carriers first others zero seats here =
+    subst (λ (x : List (List Seated)). HaveHeard stage servers x controller) (same_Some leader seats here) first
+rows_heard stage servers leader workers controller carriers first others (suc m) seats here =
     let w = row_of workers m seats here
-    in subst (λ (x : List (List Seated)). HaveHeard stage servers x (deeds_of carriers m)) w.2 (others m w.0 w.1)
+    in subst (λ (x : List (List Seated)). HaveHeard stage servers x (notes_by carriers m)) w.2 (others m w.0 w.1)
 
 -- the changes that are posted later add no call of worker 0's seats
 none_heard : (stage : Stage) (servers : List Serving) (a b : CallerState) (x : List Note)
     → AllByRecursion (λ n. is_publish n.event.what ≡ true) x → b ≡ a → Hears stage servers a.seats b.seats x
 none_heard stage servers a b x kinds same =
     subst (λ (z : CallerState). Hears stage servers a.seats z.seats x) (sym same) (λ s h server at.
-    sym (append-nil (saying (shard_at server h) (told_there a.seats s h)))
-    ∙ ap (λ (l : List Said). saying (shard_at server h) (told_there a.seats s h) ++ l)
+    sym (append-nil (saying (shard_at server h) (calls_there a.seats s h)))
+    ∙ ap (λ (l : List Said). saying (shard_at server h) (calls_there a.seats s h) ++ l)
     (sym (none_noted stage server.id.0 h x kinds)))
 
 -- what was posted, at last
-posts_are : (stage : Stage) (p q : Posted) (a b : Head) (x controller : List Note) → Adds stage p q a b x
+posts_are : (stage : Stage) (p q : Posted) (a b : Leader) (x controller : List Note) → Adds stage p q a b x
     → IsLed stage p a controller → q.clocks ≡ posted_clocks (control_log stage (x ++ controller))
 posts_are stage p q a b x controller added led =
     let control = control_log stage controller
@@ -284,10 +284,10 @@ posts_are stage p q a b x controller added led =
     ∙ ap (λ (l : List Event). posted_clocks l) (sym (control_append stage x controller))
 
 -- what the code has once all changes are posted, all logs are taken and all seats are back
-record IsOver (F : Rules) (stage : Stage) (servers : List Serving) (p q : Posted) (a b : Head)
+record IsOver (F : Rules) (stage : Stage) (servers : List Serving) (p q : Posted) (a b : Leader)
     (workers : List MuxWorker) (x : List Note) (all : List (List Book)) : Type 0 where
   sound : IsSound stage
-  suits : Suits stage servers
+  servers_are : AreServersOf stage servers
   seats : (s : ℕ) (server : Serving) → slice_get servers s ≡ Some server → server.seats ≡ suc (length workers)
   given_up : HasGivenUp F stage servers p a workers
   added : Adds stage p q a b x
@@ -297,7 +297,7 @@ record IsOver (F : Rules) (stage : Stage) (servers : List Serving) (p q : Posted
   books : (s : ℕ) (books : List Book) → slice_get all s ≡ Some books
       → AreBooksThere servers (rows_of b.caller.seats workers) s books
 
-over_done : (F : Rules) (stage : Stage) (servers : List Serving) (p q : Posted) (a b : Head)
+over_done : (F : Rules) (stage : Stage) (servers : List Serving) (p q : Posted) (a b : Leader)
     (workers : List MuxWorker) (x : List Note) (all : List (List Book))
     (over : IsOver F stage servers p q a b workers x all)
     → AreDone stage servers (rows_of b.caller.seats workers) (x ++ over.given_up.controller) over.given_up.carriers
@@ -309,12 +309,12 @@ over_done F stage servers p q a b workers x all over =
     in let lines : length (map (λ (w : MuxWorker). w.caller.seats) workers) ≡ length workers =
     length-map workers (λ (w : MuxWorker). w.caller.seats)
     in record {
-      suits = over.suits;
+      servers_are = over.servers_are;
       lines = omega arith;
       seats = λ s server here. (let n = over.seats s server here in omega arith);
       commands = all_kinds stage (x ++ controller) (over.added.underway controller given.led);
       first = each_append (λ n. n.seat ≡ 0) x controller over.added.seats given.led.seats;
-      others = deeds_each (λ m n. n.seat ≡ suc m) carriers (λ m low.
+      others = notes_each (λ m n. n.seat ≡ suc m) carriers (λ m low.
           let w = there workers m (omega arith) in (given.each m w.0 w.1).left.seats);
       heard = rows_heard stage servers b.caller.seats workers (x ++ controller) carriers
           (heard_more stage servers a.caller.seats b.caller.seats x controller
@@ -327,16 +327,16 @@ over_done F stage servers p q a b workers x all over =
             w.0.mux.id,
             at.id,
             subst (λ (y : List (List Seated)). AreCopies stage w.0.mux.id servers
-                (mux_log stage m (deeds_of carriers m)) y) w.2
+                (mux_log stage m (notes_by carriers m)) y) w.2
                 (subst (λ (l : List Event). AreCopies stage w.0.mux.id servers l w.0.caller.seats) at.logged at.copies),
           );
     }
 
-over_booked : (F : Rules) (stage : Stage) (servers : List Serving) (p q : Posted) (a b : Head)
+over_booked : (F : Rules) (stage : Stage) (servers : List Serving) (p q : Posted) (a b : Leader)
     (workers : List MuxWorker) (x : List Note) (all : List (List Book))
     (over : IsOver F stage servers p q a b workers x all)
     → AllByRecursion (λ n. IsBooked stage (all_books all) n.event.what)
-    ((x ++ over.given_up.controller) ++ all_deeds over.given_up.carriers)
+    ((x ++ over.given_up.controller) ++ notes_of_all over.given_up.carriers)
 over_booked F stage servers p q a b workers x all over =
     let given = over.given_up
     in let controller = given.controller
@@ -346,25 +346,25 @@ over_booked F stage servers p q a b workers x all over =
     in let rows = rows_of b.caller.seats workers
     in let B : Note → Type 0 = λ n. IsBooked stage (all_books all) n.event.what
     in let commands = all_kinds stage (x ++ controller) (over.added.underway controller given.led)
-    in each_append B (x ++ controller) (all_deeds carriers)
+    in each_append B (x ++ controller) (notes_of_all carriers)
     (each_append B x controller
     (each_so (λ n. is_publish n.event.what ≡ true) B x (λ n is. publish_booked stage (all_books all) n.event.what is)
     over.added.kinds)
     (each_two (λ n. is_command n.event.what ≡ true) (λ n. IsPlaced stage servers n.event.what) B controller
-    (λ n is at. led_booked stage servers rows all n.event.what over.suits over.count (omega arith) over.books is
+    (λ n is at. led_booked stage servers rows all n.event.what over.servers_are over.count (omega arith) over.books is
     at) (each_rest x controller commands) given.placed))
     (all_carried B carriers (λ m low.
     let w = there workers m (omega arith)
     in let one = given.each m w.0 w.1
-    in each_two (λ n. carries m n.event.what ≡ true) (λ n. IsCarriedAt servers n.event.what) B (deeds_of carriers m)
-    (λ n is at. carried_booked stage servers rows all n.event.what over.suits over.count (omega arith) over.books
+    in each_two (λ n. carries m n.event.what ≡ true) (λ n. IsCarriedAt servers n.event.what) B (notes_by carriers m)
+    (λ n is at. carried_booked stage servers rows all n.event.what over.servers_are over.count (omega arith) over.books
     (carried_no_command m n.event.what is) at) one.left.kinds one.placed)) where
       each_rest : (y z : List Note) → AllByRecursion (λ n. is_command n.event.what ≡ true) (y ++ z)
           → AllByRecursion (λ n. is_command n.event.what ≡ true) z
       each_rest [] z each = each
       each_rest (n ∷ y) z each = each_rest y z each.1
 
-over_left : (F : Rules) (stage : Stage) (servers : List Serving) (p q : Posted) (a b : Head)
+over_left : (F : Rules) (stage : Stage) (servers : List Serving) (p q : Posted) (a b : Leader)
     (workers : List MuxWorker) (x : List Note) (all : List (List Book))
     (over : IsOver F stage servers p q a b workers x all)
     → AreLeft F stage (x ++ over.given_up.controller) over.given_up.carriers (all_books all)
@@ -375,40 +375,40 @@ over_left F stage servers p q a b workers x all over =
     in let count = given.count
     in let added = over.added
     in let rows = rows_of b.caller.seats workers
-    in let deeds = (x ++ controller) ++ all_deeds carriers
+    in let notes = (x ++ controller) ++ notes_of_all carriers
     in let control = control_log stage (x ++ controller)
     in let log = control_append stage x controller
     in let posts = posts_are stage p q a b x controller added given.led
-    in let S : Note → Type 0 = λ n. IsSynced stage deeds n n.event.what
+    in let S : Note → Type 0 = λ n. IsSynced stage notes n n.event.what
     in record {
       sound = over.sound;
       controls = added.underway controller given.led;
       seats = each_append (λ n. n.seat ≡ 0) x controller added.seats given.led.seats;
       synced = each_append S x controller
           (each_so (λ n. is_publish n.event.what ≡ true) S x
-          (λ n is. unsynced stage deeds n n.event.what (publish_sync n.event.what is)) added.kinds)
-          (each_so (λ n. IsSynced stage (controller ++ all_deeds carriers) n n.event.what) S controller
-          (λ n s. synced_more stage (controller ++ all_deeds carriers) deeds n n.event.what (λ f.
-          let c = total_append f (x ++ controller) (all_deeds carriers)
+          (λ n is. unsynced stage notes n n.event.what (publish_sync n.event.what is)) added.kinds)
+          (each_so (λ n. IsSynced stage (controller ++ notes_of_all carriers) n n.event.what) S controller
+          (λ n s. synced_more stage (controller ++ notes_of_all carriers) notes n n.event.what (λ f.
+          let c = total_append f (x ++ controller) (notes_of_all carriers)
           in let d = total_append f x controller
-          in let e = total_append f controller (all_deeds carriers)
+          in let e = total_append f controller (notes_of_all carriers)
           in omega arith) s) given.synced);
       each = λ m low.
           let w = there workers m (omega arith)
           in let one = given.each m w.0 w.1
-          in subst (λ (l : List Event). IsLeft F stage l (posted_clocks control) m (deeds_of carriers m)) (sym log)
+          in subst (λ (l : List Event). IsLeft F stage l (posted_clocks control) m (notes_by carriers m)) (sym log)
           (left_later F stage (control_log stage controller) (control_log stage x) w.0.mux.seen.clocks
-          (posted_clocks control) m (deeds_of carriers m)
+          (posted_clocks control) m (notes_by carriers m)
           (subst (λ (l : List ℕ). IsPrefix w.0.mux.seen.clocks l) posts (over.shown m w.0 w.1)) one.left);
       kept = books_of_all stage servers rows (x ++ controller) carriers all
           (over_done F stage servers p q a b workers x all over) over.books;
-      own = own_books servers rows all over.suits.rise over.books;
+      own = own_books servers rows all over.servers_are.rise over.books;
       booked = over_booked F stage servers p q a b workers x all over;
     }
 
 -- it can't be that a worker has given up for such a moment
-pub none_late : (F : Rules) (stage : Stage) (servers : List Serving) (p q : Posted) (a b : Head)
-    (workers : List MuxWorker) (x : List Note) (all : List (List Book)) → IsSound stage → Suits stage servers
+pub none_late : (F : Rules) (stage : Stage) (servers : List Serving) (p q : Posted) (a b : Leader)
+    (workers : List MuxWorker) (x : List Note) (all : List (List Book)) → IsSound stage → AreServersOf stage servers
     → ((s : ℕ) (server : Serving) → slice_get servers s ≡ Some server → server.seats ≡ suc (length workers))
     → ((packet : ℕ) (hop : Hop) (f : Fate) → F packet hop f → f.delay ≤ 60 * 10 ^ 9)
     → HasGivenUp F stage servers p a workers → Adds stage p q a b x
@@ -417,10 +417,10 @@ pub none_late : (F : Rules) (stage : Stage) (servers : List Serving) (p q : Post
     → length all ≡ length servers
     → ((s : ℕ) (books : List Book) → slice_get all s ≡ Some books
     → AreBooksThere servers (rows_of b.caller.seats workers) s books) → ⊥
-none_late F stage servers p q a b workers x all sound suits seats short given added posts shown count books =
+none_late F stage servers p q a b workers x all sound servers_are seats short given added posts shown count books =
     let over : IsOver F stage servers p q a b workers x all = record {
       sound = sound;
-      suits = suits;
+      servers_are = servers_are;
       seats = seats;
       given_up = given;
       added = added;
@@ -442,10 +442,10 @@ none_late F stage servers p q a b workers x all sound suits seats short given ad
     in let sum = length-append p.clocks (posted_clocks (events_of x))
     in let few = given.few
     in let large = given.large
-    in let c = length-append (x ++ controller) (all_deeds carriers)
+    in let c = length-append (x ++ controller) (notes_of_all carriers)
     in let d = length-append x controller
-    in let e = length-append controller (all_deeds carriers)
-    in let f = greatest_append clock_of (x ++ controller) (all_deeds carriers)
+    in let e = length-append controller (notes_of_all carriers)
+    in let f = greatest_append clock_of (x ++ controller) (notes_of_all carriers)
     in let g = greatest_append clock_of x controller
-    in let h = greatest_append clock_of controller (all_deeds carriers)
+    in let h = greatest_append clock_of controller (notes_of_all carriers)
     in absurd (omega arith)

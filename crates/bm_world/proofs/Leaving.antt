@@ -30,9 +30,9 @@ use Rattle.bm_shard.specs.declared.calls.ShardCall.TheVariants.{Arrive, Close, R
 use Rattle.bm_shard.specs.declared.calls.ShardEntry.{ShardEntry}
 use Rattle.bm_merge.specs.Merges.{some_event}
 use Rattle.bm_merge.specs.Notes.{Note, events_of, plain, all_notes, total, many}
-use Rattle.bm_merge.specs.Workers.{home_of, is_home, home_part, has_log, deeds_of, all_deeds, carries, own_before}
+use Rattle.bm_merge.specs.Workers.{home_of, is_home, home_part, has_log, notes_by, notes_of_all, carries, own_before}
 use Rattle.bm_merge.specs.Workers.{AreUnderway, HaveHomes, IsBefore, IsCarried, IsClocked}
-use Rattle.bm_merge.specs.Workers.{IsOwed, IsUnderway, is_copyless, is_publish}
+use Rattle.bm_merge.specs.Workers.{HasSending, IsUnderway, is_copyless, is_publish}
 use Rattle.bm_merge.proofs.Noting.{total_append, total_most, each_append, each_always}
 use Rattle.bm_merge.proofs.Reaching.{one_if}
 use Rattle.bm_merge.proofs.Sharing.{shared}
@@ -44,7 +44,7 @@ use Rattle.bm_world.specs.Inside.Left.{IsSyncIn, IsMuxClocked, IsSteerable, IsSy
 use Rattle.bm_world.proofs.Homes.{home_is, home_each, carried_not_control}
 use Rattle.bm_world.proofs.Logs.{logs_of, book_notes, are_seated, own_logs, AreWorkers}
 use Rattle.bm_world.proofs.InLogs.{all_carried, all_of_worker, command_home, carried_home}
-use Rattle.bm_world.proofs.InLogs.{arrives_owed, deeds_each, total_of_worker, have_seats}
+use Rattle.bm_world.proofs.InLogs.{arrives_has_sending, notes_each, total_of_worker, have_seats}
 use Rattle.bm_world.proofs.Entries.{at_notes, at_so, both}
 use Rattle.bm_world.proofs.Booked.{its_actor, book_actors, retire_due}
 use Rattle.bm_world.proofs.Assembled.{each_log, at_any}
@@ -62,8 +62,8 @@ left_workers : (F : Rules) (stage : Stage) (controller : List Note) (carriers : 
 left_workers F stage controller carriers books left = record {
   commands = all_kinds stage controller left.controls;
   first = left.seats;
-  kinds = deeds_each (λ m n. carries m n.event.what ≡ true) carriers (λ m low. (left.each m low).kinds);
-  seats = deeds_each (λ m n. n.seat ≡ suc m) carriers (λ m low. (left.each m low).seats);
+  kinds = notes_each (λ m n. carries m n.event.what ≡ true) carriers (λ m low. (left.each m low).kinds);
+  seats = notes_each (λ m n. n.seat ≡ suc m) carriers (λ m low. (left.each m low).seats);
 }
 
 steers_one : (stage : Stage) (what : What) (k : ℕ) → IsSteerable stage what → steers_packet what k ≡ true
@@ -109,30 +109,30 @@ four A B C D S (n ∷ x) f a b c d = (f n a.0 b.0 c.0 d.0, four A B C D S x f a.
 
 left_homes : (F : Rules) (stage : Stage) (controller : List Note) (carriers : List (List Note)) (books : List Book)
     (left : AreLeft F stage controller carriers books)
-    → HaveHomes stage (logs_of stage controller carriers books left.kept) (all_deeds (controller ∷ carriers))
+    → HaveHomes stage (logs_of stage controller carriers books left.kept) (notes_of_all (controller ∷ carriers))
 left_homes F stage controller carriers books left =
     let logs = logs_of stage controller carriers books left.kept
     in let P : Note → Type 0 = λ n. has_log (plain logs) (home_of stage n.seat n.event.what) ≡ true
     in let are = left_workers F stage controller carriers books left
     in let Q : Note → Type 0 = λ n. IsBooked stage books n.event.what
-    in each_append P controller (all_deeds carriers)
+    in each_append P controller (notes_of_all carriers)
     (two (λ n. is_command n.event.what ≡ true) Q P controller
     (λ n is booked. command_home stage controller carriers books left.kept n.seat n.event.what is booked)
-    are.commands (all_first Q controller (all_deeds carriers) left.booked))
+    are.commands (all_first Q controller (notes_of_all carriers) left.booked))
     (all_carried P carriers (λ m low.
     let one = left.each m low
     in four (λ n. carries m n.event.what ≡ true) (λ n. n.seat ≡ suc m) Q
-    (λ n. IsOwed (deeds_of carriers m) n n.event.what) P (deeds_of carriers m)
-    (λ n is at booked owed.
+    (λ n. HasSending (notes_by carriers m) n n.event.what) P (notes_by carriers m)
+    (λ n is at booked has_sending.
     carried_home stage controller carriers books left.kept m n.seat n.event.what low is at booked
-    (λ k h. steered_known stage (deeds_of carriers m) k one.steerable h)
-    (λ k hop h. arrives_owed (deeds_of carriers m) n n.event.what k hop owed h))
-    one.kinds one.seats (all_of_worker Q carriers m (all_rest Q controller (all_deeds carriers) left.booked)) one.owed))
+    (λ k h. steered_known stage (notes_by carriers m) k one.steerable h)
+    (λ k hop h. arrives_has_sending (notes_by carriers m) n n.event.what k hop has_sending h))
+    one.kinds one.seats (all_of_worker Q carriers m (all_rest Q controller (notes_of_all carriers) left.booked)) one.has_sending))
 
 pub left_shared : (F : Rules) (stage : Stage) (controller : List Note) (carriers : List (List Note)) (books : List Book)
     (left : AreLeft F stage controller carriers books) (f : Note → ℕ)
     → total f (all_notes (logs_of stage controller carriers books left.kept))
-    ≡ total f (controller ++ all_deeds carriers)
+    ≡ total f (controller ++ notes_of_all carriers)
 left_shared F stage controller carriers books left f =
     let are = left_workers F stage controller carriers books left
     in shared stage (logs_of stage controller carriers books left.kept) (controller ∷ carriers)
@@ -166,12 +166,12 @@ home_fewer f stage a (n ∷ x) = go (is_home stage a n) (home_fewer f stage a x)
 -- what stands in the controller's log was done
 control_at : (stage : Stage) (controller : List Note) (carriers : List (List Note)) (c : ℕ)
     → some_event (λ e. eqb e.clock.0 c) (control_log stage controller) ≡ true
-    → 1 ≤ many (at_clock c) (controller ++ all_deeds carriers)
+    → 1 ≤ many (at_clock c) (controller ++ notes_of_all carriers)
 control_at stage controller carriers c is =
     let f : Note → ℕ = λ n. one_if (at_clock c n)
     in let one = some_at c (home_part stage Controller controller) is
     in let less = home_fewer f stage Controller controller
-    in let sum = total_append f controller (all_deeds carriers)
+    in let sum = total_append f controller (notes_of_all carriers)
     in omega arith
 
 some_weaker : (f g : Event → Bool) (x : List Event) → ((e : Event) → f e ≡ true → g e ≡ true)
@@ -198,14 +198,14 @@ posted_some (e ∷ past) v post found = go (is_publish e.what) found (λ h. post
 
 post_before : (stage : Stage) (controller : List Note) (carriers : List (List Note)) (clock v post : ℕ)
     → post_clock (posted_clocks (control_log stage controller)) v ≡ Some post → post < clock
-    → IsBefore (controller ++ all_deeds carriers) clock post
+    → IsBefore (controller ++ notes_of_all carriers) clock post
 post_before stage controller carriers clock zero post found low = inl (sym (same_Some _ _ found))
 post_before stage controller carriers clock (suc v) post found low =
     inr (low, control_at stage controller carriers post (posted_some (control_log stage controller) v post found))
 
 sync_before : (stage : Stage) (controller : List Note) (carriers : List (List Note)) (clock sync : ℕ)
     → IsSyncIn (control_log stage controller) sync → sync < clock
-    → IsBefore (controller ++ all_deeds carriers) clock sync
+    → IsBefore (controller ++ notes_of_all carriers) clock sync
 sync_before stage controller carriers clock sync (inl none) low = inl none
 sync_before stage controller carriers clock sync (inr some) low =
     inr (
@@ -223,20 +223,20 @@ before_shared x y clock c same (inr some) =
 
 -- THE CONTROLLER'S LOG
 
-control_clocked : (stage : Stage) (all deeds : List Note) (own : ℕ) (n : Note) (what : What)
-    → ((f : Note → ℕ) → total f all ≡ total f deeds) → is_by (home_of stage n.seat what) Controller ≡ true
-    → IsSynced stage deeds n what → IsClocked stage all own n what
-control_clocked stage all deeds own n Sync same home synced =
-    (synced.0, before_shared all deeds n.event.clock.0 synced.0 same synced.1, synced.2)
-control_clocked stage all deeds own n (Publish v) same home synced = tt
-control_clocked stage all deeds own n (Switch m v) same home synced = absurd (cc)
-control_clocked stage all deeds own n (Steer k m) same home synced = absurd (cc)
-control_clocked stage all deeds own n (Lose k hop) same home synced = absurd (cc)
-control_clocked stage all deeds own n (Arrives k hop server verdict) same home synced =
+control_clocked : (stage : Stage) (all notes : List Note) (own : ℕ) (n : Note) (what : What)
+    → ((f : Note → ℕ) → total f all ≡ total f notes) → is_by (home_of stage n.seat what) Controller ≡ true
+    → IsSynced stage notes n what → IsClocked stage all own n what
+control_clocked stage all notes own n Sync same home synced =
+    (synced.0, before_shared all notes n.event.clock.0 synced.0 same synced.1, synced.2)
+control_clocked stage all notes own n (Publish v) same home synced = tt
+control_clocked stage all notes own n (Switch m v) same home synced = absurd (cc)
+control_clocked stage all notes own n (Steer k m) same home synced = absurd (cc)
+control_clocked stage all notes own n (Lose k hop) same home synced = absurd (cc)
+control_clocked stage all notes own n (Arrives k hop server verdict) same home synced =
     let not = carried_not_control stage 0 n.seat (Arrives k hop server verdict) refl
     in absurd (let bad : true ≡ false = sym home ∙ not in cc)
-control_clocked stage all deeds own n (Closes server flow closed) same home synced = absurd (cc)
-control_clocked stage all deeds own n (Retires server h moment result) same home synced = absurd (cc)
+control_clocked stage all notes own n (Closes server flow closed) same home synced = absurd (cc)
+control_clocked stage all notes own n (Retires server h moment result) same home synced = absurd (cc)
 
 -- THE MUXES' LOGS
 
@@ -256,11 +256,11 @@ copyless_some k hop clock x one =
 
 mux_clocked : (stage : Stage) (all controller : List Note) (carriers : List (List Note)) (m : ℕ) (rest : List Event)
     (n : Note) (what : What) → n.event.what ≡ what
-    → ((f : Note → ℕ) → total f all ≡ total f (controller ++ all_deeds carriers))
+    → ((f : Note → ℕ) → total f all ≡ total f (controller ++ notes_of_all carriers))
     → is_by (home_of stage n.seat what) (MuxOf m) ≡ true
     → IsMuxClocked stage (control_log stage controller) (posted_clocks (control_log stage controller)) rest
     n.event.clock.0 what
-    → IsLossOf (deeds_of carriers m) n.event.clock.0 what
+    → IsLossOf (notes_by carriers m) n.event.clock.0 what
     → IsClocked stage all (last_own stage rest (actor_of stage what)) n what
 mux_clocked stage all controller carriers m rest n (Switch x v) is same home clocked loss =
     let post = clocked.0
@@ -269,9 +269,9 @@ mux_clocked stage all controller carriers m rest n (Switch x v) is same home clo
     in (
       post,
       sync,
-      before_shared all (controller ++ all_deeds carriers) n.event.clock.0 post same
+      before_shared all (controller ++ notes_of_all carriers) n.event.clock.0 post same
           (post_before stage controller carriers n.event.clock.0 v.0 post clocked.2 (omega arith)),
-      before_shared all (controller ++ all_deeds carriers) n.event.clock.0 sync same
+      before_shared all (controller ++ notes_of_all carriers) n.event.clock.0 sync same
           (sync_before stage controller carriers n.event.clock.0 sync clocked.3 (omega arith)),
       clock,
     )
@@ -279,9 +279,9 @@ mux_clocked stage all controller carriers m rest n (Steer k x) is same home cloc
 mux_clocked stage all controller carriers m rest n (Lose k hop) is same home clocked loss =
     let sending = loss.0
     in let clock = loss.1
-    in let here = copyless_some k hop sending (deeds_of carriers m) loss.2
+    in let here = copyless_some k hop sending (notes_by carriers m) loss.2
     in let part = total_of_worker (λ y. one_if (at_clock sending y)) carriers m
-    in let sum = total_append (λ y. one_if (at_clock sending y)) controller (all_deeds carriers)
+    in let sum = total_append (λ y. one_if (at_clock sending y)) controller (notes_of_all carriers)
     in let whole = same (λ y. one_if (at_clock sending y))
     in (sending, inr (omega arith, omega arith), omega arith)
 mux_clocked stage all controller carriers m rest n (Publish v) is same home clocked loss = tt
@@ -378,20 +378,20 @@ book_clocked stage all controller carriers b is =
 mux_all : (F : Rules) (stage : Stage) (controller : List Note) (carriers : List (List Note)) (books : List Book)
     (left : AreLeft F stage controller carriers books) (m : ℕ) → m < length carriers
     → AtEach (λ rest n. IsClocked stage (all_notes (logs_of stage controller carriers books left.kept))
-    (own_before stage rest n) n n.event.what) (home_part stage (MuxOf m) (deeds_of carriers m))
+    (own_before stage rest n) n n.event.what) (home_part stage (MuxOf m) (notes_by carriers m))
 mux_all F stage controller carriers books left m low =
     let all = all_notes (logs_of stage controller carriers books left.kept)
     in let one = left.each m low
     in let control = control_log stage controller
-    in let home = home_part stage (MuxOf m) (deeds_of carriers m)
-    in let L : Note → Type 0 = λ n. IsLossOf (deeds_of carriers m) n.event.clock.0 n.event.what
+    in let home = home_part stage (MuxOf m) (notes_by carriers m)
+    in let L : Note → Type 0 = λ n. IsLossOf (notes_by carriers m) n.event.clock.0 n.event.what
     in at_so (λ n. (is_home stage (MuxOf m) n ≡ true) × L n)
     (λ rest n. IsMuxClocked stage control (posted_clocks control) (events_of rest) n.event.clock.0 n.event.what)
     (λ rest n. IsClocked stage all (own_before stage rest n) n n.event.what) home
     (λ rest n h gives. mux_clocked stage all controller carriers m (events_of rest) n n.event.what refl
     (left_shared F stage controller carriers books left) h.0 gives h.1)
-    (both (λ n. is_home stage (MuxOf m) n ≡ true) L home (home_is stage (MuxOf m) (deeds_of carriers m))
-    (home_each L stage (MuxOf m) (deeds_of carriers m) one.losses))
+    (both (λ n. is_home stage (MuxOf m) n ≡ true) L home (home_is stage (MuxOf m) (notes_by carriers m))
+    (home_each L stage (MuxOf m) (notes_by carriers m) one.losses))
     (at_notes (λ rest e. IsMuxClocked stage control (posted_clocks control) rest e.clock.0 e.what) home one.gives)
 
 pub left_underway : (F : Rules) (stage : Stage) (controller : List Note) (carriers : List (List Note))
@@ -403,7 +403,7 @@ left_underway F stage controller carriers books left =
     in let all = all_notes logs
     in let are = left_workers F stage controller carriers books left
     in let C : List Note → Note → Type 0 = λ rest n. IsClocked stage all (own_before stage rest n) n n.event.what
-    in let S : Note → Type 0 = λ n. IsSynced stage (controller ++ all_deeds carriers) n n.event.what
+    in let S : Note → Type 0 = λ n. IsSynced stage (controller ++ notes_of_all carriers) n n.event.what
     in record {
       sound = left.sound;
       actors = own_logs stage controller carriers books left.kept left.own;
@@ -411,7 +411,7 @@ left_underway F stage controller carriers books left =
       homes = left_homes F stage controller carriers books left;
       clocked = each_log (λ l. AtEach C l.notes) stage controller carriers books left.kept
           (at_any (λ n. (is_home stage Controller n ≡ true) × S n) C (home_part stage Controller controller)
-          (λ rest n h. control_clocked stage all (controller ++ all_deeds carriers) (own_before stage rest n) n
+          (λ rest n h. control_clocked stage all (controller ++ notes_of_all carriers) (own_before stage rest n) n
           n.event.what
           (left_shared F stage controller carriers books left) h.0 h.1)
           (both (λ n. is_home stage Controller n ≡ true) S (home_part stage Controller controller)
@@ -420,7 +420,7 @@ left_underway F stage controller carriers books left =
           (book_clocked stage all controller carriers);
       controls = left.controls;
       carried = λ m low. let one = left.each m low
-          in two (λ n. carries m n.event.what ≡ true) (λ n. IsOwed (deeds_of carriers m) n n.event.what)
-          (IsCarried m (deeds_of carriers m)) (deeds_of carriers m) (λ n k o. (k, o)) one.kinds one.owed;
+          in two (λ n. carries m n.event.what ≡ true) (λ n. HasSending (notes_by carriers m) n n.event.what)
+          (IsCarried m (notes_by carriers m)) (notes_by carriers m) (λ n k o. (k, o)) one.kinds one.has_sending;
       answers = λ m low. (left.each m low).drawn;
     }

@@ -14,7 +14,7 @@ use Rattle.bm_core.specs.Threads.{is_command}
 use Rattle.bm_shard.specs.Books.{Book}
 use Rattle.bm_merge.specs.Merges.{has_actor, HaveOwnLogs, named}
 use Rattle.bm_merge.specs.Notes.{Note, NotedLog, events_of, plain}
-use Rattle.bm_merge.specs.Workers.{is_home, home_part, seat_part, deeds_of, carries, IsSeated, AreSeated}
+use Rattle.bm_merge.specs.Workers.{is_home, home_part, seat_part, notes_by, carries, IsSeated, AreSeated}
 use Rattle.bm_world.specs.Inside.Shards.{notes_of}
 use Rattle.bm_world.specs.Inside.Returned.{IsBookOfAll, has_book, HaveOwnBooks}
 use Rattle.bm_world.proofs.Homes.{seat_all, seat_none, home_none, home_each, command_not_mux, carried_not_control}
@@ -43,7 +43,7 @@ no_note = record {
 pub book_notes : (stage : Stage) (controller : List Note) (carriers : List (List Note)) (b : Book)
     → IsBookOfAll stage controller carriers b
     → AreSeatedNotes (reverse b.entries)
-    (λ w. home_part stage (ShardOf b.shard.server.0 b.shard.number) (deeds_of (controller ∷ carriers) w))
+    (λ w. home_part stage (ShardOf b.shard.server.0 b.shard.number) (notes_by (controller ∷ carriers) w))
 book_notes stage controller carriers b is = seated_notes no_note (reverse b.entries) _ is.told
 
 -- the shards' logs
@@ -70,8 +70,8 @@ logs_of stage controller carriers books all =
 pub record AreWorkers (controller : List Note) (carriers : List (List Note)) : Type 0 where
   pub commands : AllByRecursion (λ n. is_command n.event.what ≡ true) controller
   pub first : AllByRecursion (λ n. n.seat ≡ 0) controller
-  pub kinds : (m : ℕ) → AllByRecursion (λ n. carries m n.event.what ≡ true) (deeds_of carriers m)
-  pub seats : (m : ℕ) → AllByRecursion (λ n. n.seat ≡ suc m) (deeds_of carriers m)
+  pub kinds : (m : ℕ) → AllByRecursion (λ n. carries m n.event.what ≡ true) (notes_by carriers m)
+  pub seats : (m : ℕ) → AllByRecursion (λ n. n.seat ≡ suc m) (notes_by carriers m)
 
 all_two : (P Q S : Note → Type 0) (x : List Note) → ((n : Note) → P n → Q n → S n) → AllByRecursion P x
     → AllByRecursion Q x → AllByRecursion S x
@@ -92,46 +92,46 @@ controller_seated stage controller carriers are zero =
 controller_seated stage controller carriers are (suc m) =
     seat_none (suc m) 0 (home_part stage Controller controller)
     (home_each (λ n. n.seat ≡ 0) stage Controller controller are.first) (λ e. absurd (omega arith))
-    ∙ sym (home_none stage Controller (deeds_of carriers m)
-    (all_one (λ n. carries m n.event.what ≡ true) (λ n. is_home stage Controller n ≡ false) (deeds_of carriers m)
+    ∙ sym (home_none stage Controller (notes_by carriers m)
+    (all_one (λ n. carries m n.event.what ≡ true) (λ n. is_home stage Controller n ≡ false) (notes_by carriers m)
     (λ n k. carried_not_control stage m n.seat n.event.what k) (are.kinds m)))
 
 mux_seated : (stage : Stage) (controller : List Note) (carriers : List (List Note)) (p : ℕ)
     → AreWorkers controller carriers
-    → IsSeated stage (record { actor = MuxOf p; notes = home_part stage (MuxOf p) (deeds_of carriers p) })
+    → IsSeated stage (record { actor = MuxOf p; notes = home_part stage (MuxOf p) (notes_by carriers p) })
     (controller ∷ carriers)
 mux_seated stage controller carriers p are zero =
-    seat_none 0 (suc p) (home_part stage (MuxOf p) (deeds_of carriers p))
-    (home_each (λ n. n.seat ≡ suc p) stage (MuxOf p) (deeds_of carriers p) (are.seats p)) (λ e. absurd (omega arith))
+    seat_none 0 (suc p) (home_part stage (MuxOf p) (notes_by carriers p))
+    (home_each (λ n. n.seat ≡ suc p) stage (MuxOf p) (notes_by carriers p) (are.seats p)) (λ e. absurd (omega arith))
     ∙ sym (home_none stage (MuxOf p) controller
     (all_one (λ n. is_command n.event.what ≡ true) (λ n. is_home stage (MuxOf p) n ≡ false) controller
     (λ n k. command_not_mux stage p n.seat n.event.what k) are.commands))
 mux_seated stage controller carriers p are (suc m) = elim (cases_eq m p) [
-  | inl same ↦ subst (λ (q : ℕ). seat_part (suc q) (home_part stage (MuxOf p) (deeds_of carriers p))
-      ≡ home_part stage (MuxOf p) (deeds_of carriers q)) (sym same)
-      (seat_all (suc p) (home_part stage (MuxOf p) (deeds_of carriers p))
-      (home_each (λ n. n.seat ≡ suc p) stage (MuxOf p) (deeds_of carriers p) (are.seats p)))
+  | inl same ↦ subst (λ (q : ℕ). seat_part (suc q) (home_part stage (MuxOf p) (notes_by carriers p))
+      ≡ home_part stage (MuxOf p) (notes_by carriers q)) (sym same)
+      (seat_all (suc p) (home_part stage (MuxOf p) (notes_by carriers p))
+      (home_each (λ n. n.seat ≡ suc p) stage (MuxOf p) (notes_by carriers p) (are.seats p)))
   | inr apart ↦
-      seat_none (suc m) (suc p) (home_part stage (MuxOf p) (deeds_of carriers p))
-      (home_each (λ n. n.seat ≡ suc p) stage (MuxOf p) (deeds_of carriers p) (are.seats p))
+      seat_none (suc m) (suc p) (home_part stage (MuxOf p) (notes_by carriers p))
+      (home_each (λ n. n.seat ≡ suc p) stage (MuxOf p) (notes_by carriers p) (are.seats p))
       (λ e. apart (omega arith))
-      ∙ sym (home_none stage (MuxOf p) (deeds_of carriers m)
+      ∙ sym (home_none stage (MuxOf p) (notes_by carriers m)
       (all_two (λ n. carries m n.event.what ≡ true) (λ n. n.seat ≡ suc m) (λ n. is_home stage (MuxOf p) n ≡ false)
-      (deeds_of carriers m) (λ n k s. carried_not_other stage m p n.seat n.event.what k s apart) (are.kinds m)
+      (notes_by carriers m) (λ n k s. carried_not_other stage m p n.seat n.event.what k s apart) (are.kinds m)
       (are.seats m)))
 ]
 
 -- the carriers from one on
 abbrev IsTail : List (List Note) → ℕ → List (List Note) → Type 0
-IsTail carriers m some = (i : ℕ) → deeds_of carriers (m + i) ≡ deeds_of some i
+IsTail carriers m some = (i : ℕ) → notes_by carriers (m + i) ≡ notes_by some i
 
 tail_next : (carriers : List (List Note)) (m : ℕ) (d : List Note) (some : List (List Note))
     → IsTail carriers m (d ∷ some) → IsTail carriers (suc m) some
-tail_next carriers m d some is i = ap (λ (k : ℕ). deeds_of carriers k) (omega arith) ∙ is (suc i)
+tail_next carriers m d some is i = ap (λ (k : ℕ). notes_by carriers k) (omega arith) ∙ is (suc i)
 
 tail_here : (carriers : List (List Note)) (m : ℕ) (d : List Note) (some : List (List Note))
-    → IsTail carriers m (d ∷ some) → deeds_of carriers m ≡ d
-tail_here carriers m d some is = ap (λ (k : ℕ). deeds_of carriers k) (omega arith) ∙ is 0
+    → IsTail carriers m (d ∷ some) → notes_by carriers m ≡ d
+tail_here carriers m d some is = ap (λ (k : ℕ). notes_by carriers k) (omega arith) ∙ is 0
 
 muxes_seated : (stage : Stage) (controller : List Note) (carriers some : List (List Note)) (m : ℕ)
     → AreWorkers controller carriers → IsTail carriers m some
@@ -164,7 +164,7 @@ are_seated stage controller carriers books all are = (
   controller_seated stage controller carriers are,
   seated_append stage (mux_logs stage 0 carriers) (shard_logs stage controller carriers books all)
       (controller ∷ carriers)
-      (muxes_seated stage controller carriers carriers 0 are (λ i. ap (λ (k : ℕ). deeds_of carriers k) (omega arith)))
+      (muxes_seated stage controller carriers carriers 0 are (λ i. ap (λ (k : ℕ). notes_by carriers k) (omega arith)))
       (shards_seated stage controller carriers books all),
 )
 
@@ -241,18 +241,18 @@ own_logs stage controller carriers books all own = (
 
 named_step : (stage : Stage) (m i : ℕ) (d : List Note) (carriers : List (List Note)) (y : List NotedLog)
     → named (plain (mux_logs stage (suc m) carriers ++ y)) (MuxOf (suc m + i))
-    ≡ events_of (home_part stage (MuxOf (suc m + i)) (deeds_of carriers i))
+    ≡ events_of (home_part stage (MuxOf (suc m + i)) (notes_by carriers i))
     → named (plain (mux_logs stage m (d ∷ carriers) ++ y)) (MuxOf (m + suc i))
-    ≡ events_of (home_part stage (MuxOf (m + suc i)) (deeds_of carriers i))
+    ≡ events_of (home_part stage (MuxOf (m + suc i)) (notes_by carriers i))
 named_step stage m i d carriers y old =
     let not : eqb m (m + suc i) ≡ false = ne_eqb _ _ (λ e. absurd (omega arith))
     in let same : suc m + i ≡ m + suc i = omega arith
     in rw not (subst (λ (k : ℕ). named (plain (mux_logs stage (suc m) carriers ++ y)) (MuxOf k)
-    ≡ events_of (home_part stage (MuxOf k) (deeds_of carriers i))) same old)
+    ≡ events_of (home_part stage (MuxOf k) (notes_by carriers i))) same old)
 
 named_from : (stage : Stage) (m i : ℕ) (carriers : List (List Note)) (y : List NotedLog) → i < length carriers
     → named (plain (mux_logs stage m carriers ++ y)) (MuxOf (m + i))
-    ≡ events_of (home_part stage (MuxOf (m + i)) (deeds_of carriers i))
+    ≡ events_of (home_part stage (MuxOf (m + i)) (notes_by carriers i))
 named_from stage m i [] y low = absurd (omega arith)
 named_from stage m zero (d ∷ carriers) y low =
     let at : m + 0 ≡ m = omega arith
@@ -265,11 +265,11 @@ named_from stage m (suc i) (d ∷ carriers) y low =
 pub named_mux : (stage : Stage) (controller : List Note) (carriers : List (List Note)) (books : List Book)
     (all : AllByRecursion (IsBookOfAll stage controller carriers) books) (m : ℕ) → m < length carriers
     → named (plain (logs_of stage controller carriers books all)) (MuxOf m)
-    ≡ events_of (home_part stage (MuxOf m) (deeds_of carriers m))
+    ≡ events_of (home_part stage (MuxOf m) (notes_by carriers m))
 named_mux stage controller carriers books all m low =
     let at : 0 + m ≡ m = omega arith
     in subst (λ (k : ℕ). named (plain (logs_of stage controller carriers books all)) (MuxOf k)
-    ≡ events_of (home_part stage (MuxOf k) (deeds_of carriers m))) at
+    ≡ events_of (home_part stage (MuxOf k) (notes_by carriers m))) at
     (named_from stage 0 m carriers (shard_logs stage controller carriers books all) low)
 
 has_first : (x y : List NotedLog) (a : Actor) → has_actor (plain x) a ≡ true → has_actor (plain (x ++ y)) a ≡ true

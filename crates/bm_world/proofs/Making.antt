@@ -15,7 +15,7 @@ use Rattle.bm_mux.specs.Muxes.{HasServers}
 use Rattle.bm_publish.specs.Posts.{Posted}
 use Rattle.bm_server.specs.Seats.{Seated}
 use Rattle.bm_server.specs.Servings.{Serving}
-use Rattle.bm_worker.specs.WorkerNotes.{Suits}
+use Rattle.bm_worker.specs.WorkerNotes.{AreServersOf}
 use Rattle.bm_worker.proofs.Known.{known_cur}
 use Rattle.bm_world.specs.Inside.RunStates.{HaveNoTurns}
 use Rattle.bm_world.specs.Inside.Served.{IsNewRow, IsServerOf}
@@ -51,15 +51,15 @@ among_there (x ∷ ids) s is = go (same_server x s) refl is (λ h. among_there i
 
 -- THE SERVERS
 
-pub suits_made : (stage : Stage) (servers : List Serving) (ids : List ServerId) (workers : ℕ) → IsSound stage
+pub servers_made : (stage : Stage) (servers : List Serving) (ids : List ServerId) (workers : ℕ) → IsSound stage
     → RiseFrom 1 ids
     → ((id : ServerId) → IsWithin 1 1024 id.0
     → is_known stage.script.plan (length stage.script.plan.changes) id ≡ true → is_among ids id ≡ true)
     → length servers ≡ length ids
     → ((s : ℕ) (server : Serving) → slice_get servers s ≡ Some server
     → IsServerOf stage.script.setting ids workers s server)
-    → Suits stage servers
-suits_made stage servers ids workers sound rise known count each = record {
+    → AreServersOf stage servers
+servers_made stage servers ids workers sound rise known count each = record {
   rise = λ s t a b p q below. rising 1 ids s t a.id b.id rise (each s a p).id (each t b q).id below;
   shards = λ s server here. (each s server here).shards;
   capacity = λ s server here. (each s server here).capacity;

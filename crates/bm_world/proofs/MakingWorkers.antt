@@ -127,33 +127,33 @@ all_made looks rows pairs workers long all made =
 -- TAKEN APART
 
 -- these workers are taken apart
-pub record AreParted (posted : Posted) (log : List Event) (head : List (List Seated)) (done : List MuxWorker)
+pub record AreParted (posted : Posted) (log : List Event) (leader : List (List Seated)) (done : List MuxWorker)
     (logs : List (List Event)) (rows : List (List (List Seated))) : Type 0 where
   pub logs_are : logs ≡ log ∷ map (λ (w : MuxWorker). w.mux.log) done
-  pub rows_are : rows ≡ rows_of head done
+  pub rows_are : rows ≡ rows_of leader done
   pub shown : (m : ℕ) (w : MuxWorker) → slice_get done m ≡ Some w → HasSeenAll posted w
 
-pub none_parted : (posted : Posted) (log : List Event) (head : List (List Seated)) (logs : List (List Event))
-    (rows : List (List (List Seated))) → logs ≡ log ∷ [] → rows ≡ head ∷ []
-    → AreParted posted log head [] logs rows
-none_parted posted log head logs rows a b = record {
+pub none_parted : (posted : Posted) (log : List Event) (leader : List (List Seated)) (logs : List (List Event))
+    (rows : List (List (List Seated))) → logs ≡ log ∷ [] → rows ≡ leader ∷ []
+    → AreParted posted log leader [] logs rows
+none_parted posted log leader logs rows a b = record {
   logs_are = a;
   rows_are = b;
   shown = λ m w here. absurd (cc);
 }
 
-pub one_parted : (posted : Posted) (log : List Event) (head : List (List Seated)) (done : List MuxWorker)
+pub one_parted : (posted : Posted) (log : List Event) (leader : List (List Seated)) (done : List MuxWorker)
     (w : MuxWorker) (logs logs' : List (List Event)) (rows rows' : List (List (List Seated))) (own : List Event)
     (seats : List (List Seated)) → own ≡ w.mux.log → seats ≡ w.caller.seats
     → logs' ≡ logs ++ own ∷ [] → rows' ≡ rows ++ seats ∷ [] → HasSeenAll posted w
-    → AreParted posted log head done logs rows → AreParted posted log head (done ++ w ∷ []) logs' rows'
-one_parted posted log head done w logs logs' rows rows' own seats own_is seats_are a b shown parted = record {
+    → AreParted posted log leader done logs rows → AreParted posted log leader (done ++ w ∷ []) logs' rows'
+one_parted posted log leader done w logs logs' rows rows' own seats own_is seats_are a b shown parted = record {
   logs_are = a ∙ ap (λ (l : List (List Event)). l ++ own ∷ []) parted.logs_are
       ∙ ap (λ (x : List Event). (log ∷ map (λ (y : MuxWorker). y.mux.log) done) ++ x ∷ []) own_is
       ∙ ap (λ (l : List (List Event)). log ∷ l) (sym (map-append (λ (y : MuxWorker). y.mux.log) done (w ∷ [])));
   rows_are = b ∙ ap (λ (l : List (List (List Seated))). l ++ seats ∷ []) parted.rows_are
-      ∙ ap (λ (x : List (List Seated)). rows_of head done ++ x ∷ []) seats_are
-      ∙ ap (λ (l : List (List (List Seated))). head ∷ l)
+      ∙ ap (λ (x : List (List Seated)). rows_of leader done ++ x ∷ []) seats_are
+      ∙ ap (λ (l : List (List (List Seated))). leader ∷ l)
       (sym (map-append (λ (y : MuxWorker). y.caller.seats) done (w ∷ [])));
   shown = λ m y here. ⊎_elim (λ old. parted.shown m y old)
       (λ last. subst (λ (z : MuxWorker). HasSeenAll posted z) last.1 shown)

@@ -20,21 +20,21 @@ use Rattle.bm_core.specs.Runs.{next_clock}
 use Rattle.bm_core.specs.Runs.Actor.{Controller}
 use Rattle.bm_core.specs.Threads.{sync_clock, newest_before, packet_of, phase_of, moment_at}
 use Rattle.bm_merge.specs.Notes.{Note, events_of, many, total, greatest}
-use Rattle.bm_merge.specs.Workers.{home_part, is_home, deeds_of, all_deeds, looks_since}
+use Rattle.bm_merge.specs.Workers.{home_part, is_home, notes_by, notes_of_all, looks_since}
 use Rattle.bm_merge.proofs.Noting.{total_append, total_most, each_so, greatest_append}
-use Rattle.bm_merge.proofs.Owing.{all_under}
+use Rattle.bm_merge.proofs.CopiesLeft.{all_under}
 use Rattle.bm_merge.proofs.Phasing.{IsPhased, phased_more, phased_sync}
 use Rattle.bm_merge.proofs.Reaching.{one_if}
 use Rattle.bm_merge.proofs.Sharing.{greatest_shared}
 use Rattle.bm_publish.specs.Posts.{Posted, last_version}
 use Rattle.bm_server.specs.Servings.{Serving}
 use Rattle.bm_worker.specs.WorkerNotes.{clock_of}
-use Rattle.bm_worker.specs.Phases.{IsPhaseNote, stint_of}
+use Rattle.bm_worker.specs.Phases.{IsPhaseNote, task_of}
 use Rattle.bm_worker.specs.Assigned.{assigned_mux}
 use Rattle.bm_worker.specs.declared.span.Span.{Span}
 use Rattle.bm_worker.specs.declared.worker.MuxWorker.{MuxWorker}
 use Rattle.bm_world.specs.Inside.Returned.{control_log}
-use Rattle.bm_world.specs.Inside.Running.{IsAtWork, AreAtWork, AreApart, HaveLooked, add_deeds}
+use Rattle.bm_world.specs.Inside.Running.{IsAtWork, AreAtWork, AreApart, HaveLooked, add_notes}
 use Rattle.bm_world.proofs.InLogs.{all_carried}
 use Rattle.bm_world.proofs.Growing.{carriage_later}
 use Rattle.bm_world.proofs.Homes.{home_each}
@@ -52,14 +52,14 @@ pub record HaveDone (F : Rules) (stage : Stage) (servers : List Serving) (routes
   pub workers : length now ≡ length old
   pub count : length more ≡ length old
   pub each : (m : ℕ) (a b : MuxWorker) → slice_get old m ≡ Some a → slice_get now m ≡ Some b
-      → HasDone F stage servers routes span told a b (deeds_of more m)
+      → HasDone F stage servers routes span told a b (notes_by more m)
 
 part_of : (f : Note → ℕ) (carriers : List (List Note)) (m : ℕ)
-    → total f (deeds_of carriers m) ≤ total f (all_deeds carriers)
+    → total f (notes_by carriers m) ≤ total f (notes_of_all carriers)
 part_of f [] m = omega arith
-part_of f (d ∷ carriers) zero = let a = total_append f d (all_deeds carriers) in omega arith
+part_of f (d ∷ carriers) zero = let a = total_append f d (notes_of_all carriers) in omega arith
 part_of f (d ∷ carriers) (suc m) =
-    let a = total_append f d (all_deeds carriers) in let old = part_of f carriers m in omega arith
+    let a = total_append f d (notes_of_all carriers) in let old = part_of f carriers m in omega arith
 
 worker_at : (l : List MuxWorker) (m : ℕ) → m < length l → (w : MuxWorker) × (slice_get l m ≡ Some w)
 worker_at l m low = there l m low
@@ -73,7 +73,7 @@ pub all_at_work_more : (R : Routes) (F : Rules) (stage : Stage) (servers : List 
     → AreApart stage span.after.0 (last_version told) controller carriers → AreOfPhase span.after.0 x
     → HaveDone F stage servers routes span told old now more
     → AreAtWork R F stage servers routes board p phases span.from old controller carriers
-    → AreAtWork R F stage servers routes board p (phases + 1) span.until now (x ++ controller) (add_deeds more carriers)
+    → AreAtWork R F stage servers routes board p (phases + 1) span.until now (x ++ controller) (add_notes more carriers)
 all_at_work_more R F stage servers routes board p phases span told old now controller x carriers more route numbers
     order
     apart phase done at =
@@ -86,11 +86,11 @@ all_at_work_more R F stage servers routes board p phases span told old now contr
     in let sync : sync_clock (control_log stage (x ++ controller)) ≡ span.after.0 = same.0 ∙ apart.sync
     in let D : Note → Type 0 =
     λ n. (span.after.0 < clock_of n) × IfSome (packet_of n.event.what) (λ k. phase_of stage k ≡ p)
-    in let each_done : AllByRecursion D (all_deeds more) = all_carried D more (λ m low.
+    in let each_done : AllByRecursion D (notes_of_all more) = all_carried D more (λ m low.
     let a = worker_at old m (omega arith)
     in let b = worker_at now m (omega arith)
     in let kept = (done.each m a.0 b.0 a.1 b.1).phase.kept
-    in each_so (IsPhaseNote F stage servers (stint_of routes span told a.0) (deeds_of more m)) D (deeds_of more m)
+    in each_so (IsPhaseNote F stage servers (task_of routes span told a.0) (notes_by more m)) D (notes_by more m)
     (λ n d. (
       d.later,
       if_some (λ k. (span.from < k) × (k ≤ span.until)) (λ k. phase_of stage k ≡ p)
@@ -104,31 +104,31 @@ all_at_work_more R F stage servers routes board p phases span told old now contr
           in let a = worker_at old m (omega arith)
           in let one =
           at_work_more R F stage servers routes (control_log stage controller) (control_log stage x) board p
-          phases m span told a.0 w (deeds_of carriers m) (deeds_of more m) route numbers order
+          phases m span told a.0 w (notes_by carriers m) (notes_by more m) route numbers order
           (ap sync_clock (sym log) ∙ sync) (ap newest_before (sym log) ∙ same.1 ∙ apart.first_is)
           (ap (λ (l : List Event). counts l is_sync) (sym log) ∙ same.2 ∙ syncs)
           (control_each (λ e. span.after.0 < e.clock.0) stage x phase.later) (apart.below m)
           (done.each m a.0 w a.1 here) (at.each m a.0 a.1)
           in subst (λ (l : List Event). IsAtWork R F stage servers routes l board (phases + 1) span.until m w
-          (deeds_of (add_deeds more carriers) m)) (sym log)
+          (notes_by (add_notes more carriers) m)) (sym log)
           (subst (λ (d : List Note). IsAtWork R F stage servers routes
           (control_log stage x ++ control_log stage controller)
           board (phases + 1) span.until m w d) (sym (added_of more carriers m (omega arith))) one);
-      all = all_deeds more ++ (x ++ at.all);
+      all = notes_of_all more ++ (x ++ at.all);
       same = λ f.
-          let a = total_append f (all_deeds more) (x ++ at.all)
+          let a = total_append f (notes_of_all more) (x ++ at.all)
           in let b = total_append f x at.all
           in let c = at.same f
-          in let d = total_append f controller (all_deeds carriers)
-          in let e = total_append f (x ++ controller) (all_deeds (add_deeds more carriers))
+          in let d = total_append f controller (notes_of_all carriers)
+          in let e = total_append f (x ++ controller) (notes_of_all (add_notes more carriers))
           in let g = total_append f x controller
           in let h = added_total f more carriers (omega arith)
           in omega arith;
-      phased = phased_more stage p (home_part stage Controller (x ++ controller)) (x ++ at.all) (all_deeds more)
+      phased = phased_more stage p (home_part stage Controller (x ++ controller)) (x ++ at.all) (notes_of_all more)
           (phased_led stage p span.after.0 x controller at.all phase apart.sync at.phased)
-          (each_so D (λ y. sync_clock (control_log stage (x ++ controller)) ≤ y.event.clock.0) (all_deeds more)
+          (each_so D (λ y. sync_clock (control_log stage (x ++ controller)) ≤ y.event.clock.0) (notes_of_all more)
           (λ n d. let l = d.0 in omega arith) each_done)
-          (each_so D (λ y. IfSome (packet_of y.event.what) (λ k. phase_of stage k ≡ p)) (all_deeds more) (λ n d. d.1)
+          (each_so D (λ y. IfSome (packet_of y.event.what) (λ k. phase_of stage k ≡ p)) (notes_of_all more) (λ n d. d.1)
           each_done);
     }
 
@@ -143,7 +143,7 @@ pub all_looked : (F : Rules) (stage : Stage) (servers : List Serving) (routes : 
     → ((m : ℕ) (w : MuxWorker) → slice_get old m ≡ Some w → w.mux.id.0 ≡ m)
     → sync_clock (control_log stage controller) ≡ span.after.0 → AreOfPhase span.after.0 x
     → HaveDone F stage servers routes span told old now more
-    → HaveLooked stage (x ++ controller) (add_deeds more carriers)
+    → HaveLooked stage (x ++ controller) (add_notes more carriers)
 all_looked F stage servers routes span told old now controller x carriers more muxes count ids after phase done m low =
     let same = control_same stage x controller phase.no_sync
     in let sync : sync_clock (control_log stage (x ++ controller)) ≡ span.after.0 = same.0 ∙ after
@@ -154,29 +154,29 @@ all_looked F stage servers routes span told old now controller x carriers more m
     in let d = done.each m a.0 b.0 a.1 b.1
     in let f : Note → ℕ = λ n. one_if (looks_since m (sync_clock (control_log stage (x ++ controller))) n)
     in let id : a.0.mux.id.0 ≡ m = ids m a.0 a.1
-    in let looked : 1 ≤ many (λ n. is_switch_of n.event.what m) (deeds_of more m) =
-    subst (λ (k : ℕ). 1 ≤ many (λ n. is_switch_of n.event.what k) (deeds_of more m)) id d.phase.looked
-    in let most : many (λ n. is_switch_of n.event.what m) (deeds_of more m) ≤ total f (deeds_of more m) =
-    total_most (λ n. one_if (is_switch_of n.event.what m)) f (deeds_of more m)
-    (each_so (IsPhaseNote F stage servers (stint_of routes span told a.0) (deeds_of more m))
-    (λ n. one_if (is_switch_of n.event.what m) ≤ f n) (deeds_of more m)
+    in let looked : 1 ≤ many (λ n. is_switch_of n.event.what m) (notes_by more m) =
+    subst (λ (k : ℕ). 1 ≤ many (λ n. is_switch_of n.event.what k) (notes_by more m)) id d.phase.looked
+    in let most : many (λ n. is_switch_of n.event.what m) (notes_by more m) ≤ total f (notes_by more m) =
+    total_most (λ n. one_if (is_switch_of n.event.what m)) f (notes_by more m)
+    (each_so (IsPhaseNote F stage servers (task_of routes span told a.0) (notes_by more m))
+    (λ n. one_if (is_switch_of n.event.what m) ≤ f n) (notes_by more m)
     (λ n k. look_one (is_switch_of n.event.what m) _ (λ is. le-leb _ _ (let l = k.later in omega arith)))
     d.phase.kept.each)
     in let part = part_of f more m
     in let sum = added_total f more carriers (omega arith)
-    in let whole = total_append f (x ++ controller) (all_deeds (add_deeds more carriers))
+    in let whole = total_append f (x ++ controller) (notes_of_all (add_notes more carriers))
     in omega arith
 
 -- THE SYNC
 
 at_work_later : (R : Routes) (F : Rules) (stage : Stage) (servers : List Serving) (routes : List (Option MuxId))
-    (control : List Event) (e : Event) (board : Book) (phases until m : ℕ) (w : MuxWorker) (deeds : List Note)
-    → AllByRecursion (λ n. clock_of n < e.clock.0) deeds
-    → IsAtWork R F stage servers routes control board phases until m w deeds
-    → IsAtWork R F stage servers routes (e ∷ control) board phases until m w deeds
-at_work_later R F stage servers routes control e board phases until m w deeds below at = record {
-  carriage = carriage_later R F stage control (e ∷ []) w.mux.seen.clocks w.mux.seen.clocks m deeds
-      (each_so (λ n. clock_of n < e.clock.0) (λ n. AllByRecursion (λ z. n.event.clock.0 < z.clock.0) (e ∷ [])) deeds
+    (control : List Event) (e : Event) (board : Book) (phases until m : ℕ) (w : MuxWorker) (notes : List Note)
+    → AllByRecursion (λ n. clock_of n < e.clock.0) notes
+    → IsAtWork R F stage servers routes control board phases until m w notes
+    → IsAtWork R F stage servers routes (e ∷ control) board phases until m w notes
+at_work_later R F stage servers routes control e board phases until m w notes below at = record {
+  carriage = carriage_later R F stage control (e ∷ []) w.mux.seen.clocks w.mux.seen.clocks m notes
+      (each_so (λ n. clock_of n < e.clock.0) (λ n. AllByRecursion (λ z. n.event.clock.0 < z.clock.0) (e ∷ [])) notes
       (λ n h. (h, tt)) below) ([], append-nil w.mux.seen.clocks) at.carriage;
   id = at.id;
   logged = at.logged;
@@ -187,7 +187,7 @@ at_work_later R F stage servers routes control e board phases until m w deeds be
   steered = at.steered;
   within = at.within;
   number = at.number;
-  sits = at.sits;
+  has_seats = at.has_seats;
   board_is = at.board_is;
   plan = at.plan;
   tries = at.tries;
@@ -202,11 +202,11 @@ all_over x clock low =
     each_so (λ y. clock_of y ≤ greatest clock_of x) (λ n. clock_of n < clock) x (λ n h. omega arith) (all_under x)
 
 pub worker_under : (carriers : List (List Note)) (m : ℕ)
-    → greatest clock_of (deeds_of carriers m) ≤ greatest clock_of (all_deeds carriers)
+    → greatest clock_of (notes_by carriers m) ≤ greatest clock_of (notes_of_all carriers)
 worker_under [] m = omega arith
-worker_under (d ∷ carriers) zero = let a = greatest_append clock_of d (all_deeds carriers) in omega arith
+worker_under (d ∷ carriers) zero = let a = greatest_append clock_of d (notes_of_all carriers) in omega arith
 worker_under (d ∷ carriers) (suc m) =
-    let a = greatest_append clock_of d (all_deeds carriers) in let old = worker_under carriers m in omega arith
+    let a = greatest_append clock_of d (notes_of_all carriers) in let old = worker_under carriers m in omega arith
 
 sync_under : (top : ℕ) (h : List Note) → AllByRecursion (λ n. clock_of n ≤ top) h → sync_clock (events_of h) ≤ top
 sync_under top [] all = omega arith
@@ -224,7 +224,7 @@ pub sync_met : (R : Routes) (F : Rules) (stage : Stage) (servers : List Serving)
     (board : Book) (p phases until : ℕ) (workers : List MuxWorker) (controller : List Note)
     (carriers : List (List Note))
     (n : Note) → n.event.what ≡ Sync
-    → clock_of n ≡ next_clock (greatest clock_of (controller ++ all_deeds carriers))
+    → clock_of n ≡ next_clock (greatest clock_of (controller ++ notes_of_all carriers))
     (moment_at (slice_get stage.script.commands n.command))
     → HaveLooked stage controller carriers
     → AreAtWork R F stage servers routes board p phases until workers controller carriers
@@ -236,12 +236,12 @@ sync_met R F stage servers routes board p phases until workers controller carrie
     rw home refl
     in let log : control_log stage (n ∷ controller) ≡ n.event ∷ control_log stage controller = ap events_of control
     in let sync : is_sync n.event.what ≡ true = ap is_sync is
-    in let parts = greatest_append clock_of controller (all_deeds carriers)
-    in let over : greatest clock_of (controller ++ all_deeds carriers) < clock_of n = omega arith
-    in let below : (m : ℕ) → AllByRecursion (λ y. clock_of y < clock_of n) (deeds_of carriers m) =
-    λ m. all_over (deeds_of carriers m) (clock_of n) (let u = worker_under carriers m in omega arith)
-    in let top : greatest clock_of at.all ≡ greatest clock_of (controller ++ all_deeds carriers) =
-    greatest_shared clock_of at.all (controller ++ all_deeds carriers) at.same
+    in let parts = greatest_append clock_of controller (notes_of_all carriers)
+    in let over : greatest clock_of (controller ++ notes_of_all carriers) < clock_of n = omega arith
+    in let below : (m : ℕ) → AllByRecursion (λ y. clock_of y < clock_of n) (notes_by carriers m) =
+    λ m. all_over (notes_by carriers m) (clock_of n) (let u = worker_under carriers m in omega arith)
+    in let top : greatest clock_of at.all ≡ greatest clock_of (controller ++ notes_of_all carriers) =
+    greatest_shared clock_of at.all (controller ++ notes_of_all carriers) at.same
     in let under = all_under controller
     in let first : sync_clock (control_log stage controller) ≤ greatest clock_of controller =
     control_sync stage controller
@@ -250,9 +250,9 @@ sync_met R F stage servers routes board p phases until workers controller carrie
       record {
         count = at.count;
         each = λ m w here. subst (λ (l : List Event). IsAtWork R F stage servers routes l board phases until m w
-            (deeds_of carriers m)) (sym log)
+            (notes_by carriers m)) (sym log)
             (at_work_later R F stage servers routes (control_log stage controller) n.event board phases until m w
-            (deeds_of carriers m) (below m) (at.each m w here));
+            (notes_by carriers m) (below m) (at.each m w here));
         all = n ∷ at.all;
         same = λ f. let s = at.same f in omega arith;
         phased = subst (λ (l : List Note). IsPhased stage (suc p) l (n ∷ at.all)) (sym control)
@@ -283,13 +283,13 @@ unfolding idle
 idle_count zero = refl
 idle_count (suc n) = ap suc (idle_count n)
 
-pub idle_deeds : (n m : ℕ) → deeds_of (idle n) m ≡ []
+pub idle_notes : (n m : ℕ) → notes_by (idle n) m ≡ []
 unfolding idle
-idle_deeds zero m = refl
-idle_deeds (suc n) zero = refl
-idle_deeds (suc n) (suc m) = idle_deeds n m
+idle_notes zero m = refl
+idle_notes (suc n) zero = refl
+idle_notes (suc n) (suc m) = idle_notes n m
 
-pub idle_all : (n : ℕ) → all_deeds (idle n) ≡ []
+pub idle_all : (n : ℕ) → notes_of_all (idle n) ≡ []
 unfolding idle
 idle_all zero = refl
 idle_all (suc n) = idle_all n
@@ -298,6 +298,6 @@ pub nothing_apart : (stage : Stage) (n : ℕ) → AreApart stage 0 0 [] (idle n)
 nothing_apart stage n = record {
   sync = refl;
   first_is = refl;
-  below = λ m. subst (λ (d : List Note). AllByRecursion (λ y. clock_of y < 0) d) (sym (idle_deeds n m)) tt;
+  below = λ m. subst (λ (d : List Note). AllByRecursion (λ y. clock_of y < 0) d) (sym (idle_notes n m)) tt;
   top = refl;
 }

@@ -14,7 +14,7 @@ use Rattle.bm_core.specs.declared.events.Stage.{Stage}
 use Rattle.bm_core.specs.Accounts.{wants_sync}
 use Rattle.bm_core.specs.Stages.{IsSound}
 use Rattle.bm_core.specs.Threads.{moment_in, phase_of, record_moment}
-use Rattle.bm_lead.specs.Heads.{IsPhase, IsSyncCommand}
+use Rattle.bm_lead.specs.Leaders.{IsPhase, IsSyncCommand}
 use Rattle.bm_world.specs.Inside.Running.{IsAtPhase}
 use Rattle.bm_world.proofs.Scripting.{HaveNoSync, phase_before, phase_last, phase_next}
 

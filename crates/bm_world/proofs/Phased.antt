@@ -16,29 +16,29 @@ use Rattle.bm_core.specs.Stages.{IsSound}
 use Rattle.bm_core.specs.Threads.{phase_of, is_command, moment_at}
 use Rattle.bm_core.specs.Runs.{next_clock}
 use Rattle.bm_merge.specs.Notes.{Note, greatest}
-use Rattle.bm_merge.specs.Workers.{deeds_of, all_deeds}
+use Rattle.bm_merge.specs.Workers.{notes_by, notes_of_all}
 use Rattle.bm_merge.proofs.Commanding.{all_kinds}
 use Rattle.bm_merge.proofs.Noting.{each_append, greatest_append}
 use Rattle.bm_publish.specs.Posts.{Posted, last_version}
 use Rattle.bm_server.specs.Servings.{Serving}
-use Rattle.bm_worker.specs.WorkerNotes.{clock_of, Suits}
-use Rattle.bm_worker.specs.Phases.{HasEnded, HasWorked, stint_of}
+use Rattle.bm_worker.specs.WorkerNotes.{clock_of, AreServersOf}
+use Rattle.bm_worker.specs.Phases.{HasEnded, HasWorked, task_of}
 use Rattle.bm_worker.specs.Assigned.{RoutedBy, assigned_mux}
 use Rattle.bm_worker.specs.declared.span.Span.{Span}
 use Rattle.bm_worker.specs.declared.stop.Stop.{Stop}
 use Rattle.bm_worker.specs.declared.worker.MuxWorker.{MuxWorker}
-use Rattle.bm_lead.specs.declared.head.Head.{Head}
+use Rattle.bm_lead.specs.declared.leader.Leader.{Leader}
 use Rattle.bm_lead.specs.Commands.{syncing}
-use Rattle.bm_lead.specs.Heads.{UnlessMemory}
+use Rattle.bm_lead.specs.Leaders.{UnlessMemory}
 use Rattle.bm_lead.specs.Leads.{HasLed, HasSynced, IsLed, IsPlaced, Leads}
 use Rattle.bm_world.specs.declared.phase.Next.{Next}
 use Rattle.bm_world.specs.declared.phase.Next.TheVariants.{Phase as Coming, End, Late as TooLate}
 use Rattle.bm_world.specs.Inside.GivenUp.{HasGivenUp}
 use Rattle.bm_world.specs.Inside.RunStates.{left_of, HasMet, IsNext}
-use Rattle.bm_world.specs.Inside.RunStates.{told_what, latest_in, HaveNotStopped, HaveWorked, IsBetween, IsStanding}
+use Rattle.bm_world.specs.Inside.RunStates.{with_posts, latest_in, HaveNotStopped, HaveWorked, IsBetween, IsStanding}
 use Rattle.bm_world.specs.Inside.RunStates.{IsThrough}
 use Rattle.bm_world.specs.Inside.Returned.{control_log}
-use Rattle.bm_world.specs.Inside.Running.{AreAtWork, AreApart, HaveLooked, IsAtPhase, add_deeds}
+use Rattle.bm_world.specs.Inside.Running.{AreAtWork, AreApart, HaveLooked, IsAtPhase, add_notes}
 use Rattle.bm_world.proofs.Joining.{AreOfPhase, HasDone, heard_more}
 use Rattle.bm_world.proofs.Meeting.{HaveDone, all_at_work_more, all_looked, sync_met}
 use Rattle.bm_world.proofs.Stopping.{too_late_to_sync}
@@ -48,14 +48,14 @@ use Rattle.bm_world.proofs.BeforePhase.{all_told, told_at}
 
 -- for each place some notes: a list of them
 gather : (P : ℕ → List Note → Type 0) (n : ℕ) → ((m : ℕ) → m < n → (d : List Note) × P m d)
-    → (more : List (List Note)) × (length more ≡ n) × ((m : ℕ) → m < n → P m (deeds_of more m))
+    → (more : List (List Note)) × (length more ≡ n) × ((m : ℕ) → m < n → P m (notes_by more m))
 gather P zero each = ([], refl, λ m low. absurd (omega arith))
 gather P (suc n) each =
     let first = each 0 (omega arith)
     in let rest = gather (λ m d. P (suc m) d) n (λ m low. each (suc m) (omega arith))
     in (first.0 ∷ rest.0, ap suc rest.1, at first.0 rest.0 first.1 rest.2) where
-      at : (d : List Note) (more : List (List Note)) → P 0 d → ((m : ℕ) → m < n → P (suc m) (deeds_of more m))
-          → (m : ℕ) → m < suc n → P m (deeds_of (d ∷ more) m)
+      at : (d : List Note) (more : List (List Note)) → P 0 d → ((m : ℕ) → m < n → P (suc m) (notes_by more m))
+          → (m : ℕ) → m < suc n → P m (notes_by (d ∷ more) m)
       at d more p each zero low = p
       at d more p each (suc m) low = each m (omega arith)
 
@@ -64,23 +64,23 @@ abbrev pub Worked : Rules → Stage → List Serving → List (Option MuxId) →
     → List MuxWorker → Type 0
 Worked F stage servers routes span posted old now =
     (m : ℕ) (x y : MuxWorker) → slice_get old m ≡ Some x → slice_get now m ≡ Some y
-    → HasWorked F stage servers routes span (told_what posted x) y
+    → HasWorked F stage servers routes span (with_posts posted x) y
 
 -- where the call says so of the workers that know what is posted
 pub worked_at : (F : Rules) (stage : Stage) (servers : List Serving) (routes : List (Option MuxId)) (span : Span)
-    (posted : Posted) (old told now : List MuxWorker) → told ≡ map (told_what posted) old
+    (posted : Posted) (old told now : List MuxWorker) → told ≡ map (with_posts posted) old
     → HaveWorked F stage servers routes span told now → Worked F stage servers routes span posted old now
 worked_at F stage servers routes span posted old told now is each m x y a b =
-    each m (told_what posted x) y
-    (ap (λ (l : List MuxWorker). slice_get l m) is ∙ slice_get-map (told_what posted) old m
-    ∙ ap (option_map (told_what posted)) a) b
+    each m (with_posts posted x) y
+    (ap (λ (l : List MuxWorker). slice_get l m) is ∙ slice_get-map (with_posts posted) old m
+    ∙ ap (option_map (with_posts posted)) a) b
 
 done_one : (F : Rules) (stage : Stage) (servers : List Serving) (routes : List (Option MuxId)) (span : Span)
     (posted : Posted) (x y : MuxWorker) → x.stop ≡ None → y.stop ≡ None
-    → HasWorked F stage servers routes span (told_what posted x) y
-    → (d : List Note) × HasDone F stage servers routes span posted (told_what posted x) y d
+    → HasWorked F stage servers routes span (with_posts posted x) y
+    → (d : List Note) × HasDone F stage servers routes span posted (with_posts posted x) y d
 done_one F stage servers routes span posted x y before after worked =
-    let done = subst (λ (s : Option Stop). HasEnded F stage servers (stint_of routes span posted (told_what posted x))
+    let done = subst (λ (s : Option Stop). HasEnded F stage servers (task_of routes span posted (with_posts posted x))
     y s) after (worked.ended posted before refl)
     in (
       done.0,
@@ -91,13 +91,13 @@ pub have_done : (F : Rules) (stage : Stage) (servers : List Serving) (routes : L
     (posted : Posted) (old now : List MuxWorker) → length now ≡ length old
     → ((m : ℕ) (x : MuxWorker) → slice_get old m ≡ Some x → x.stop ≡ None) → HaveNotStopped now
     → Worked F stage servers routes span posted old now
-    → (more : List (List Note)) × HaveDone F stage servers routes span posted (map (told_what posted) old) now more
+    → (more : List (List Note)) × HaveDone F stage servers routes span posted (map (with_posts posted) old) now more
 have_done F stage servers routes span posted old now long before after worked =
-    let told = map (told_what posted) old
-    in let size : length told ≡ length old = length-map old (told_what posted)
+    let told = map (with_posts posted) old
+    in let size : length told ≡ length old = length-map old (with_posts posted)
     in let P : ℕ → List Note → Type 0 =
     λ m d. (x y : MuxWorker) → slice_get old m ≡ Some x → slice_get now m ≡ Some y
-    → HasDone F stage servers routes span posted (told_what posted x) y d
+    → HasDone F stage servers routes span posted (with_posts posted x) y d
     in let all = gather P (length old) (λ m low.
     let a = there old m low
     in let b = there now m (omega arith)
@@ -106,9 +106,9 @@ have_done F stage servers routes span posted old now long before after worked =
     in (
       one.0,
       λ x y p q.
-          subst (λ (z : MuxWorker). HasDone F stage servers routes span posted (told_what posted z) y one.0)
+          subst (λ (z : MuxWorker). HasDone F stage servers routes span posted (with_posts posted z) y one.0)
           (same_Some a.0 x (sym a.1 ∙ p))
-          (subst (λ (z : MuxWorker). HasDone F stage servers routes span posted (told_what posted a.0) z one.0)
+          (subst (λ (z : MuxWorker). HasDone F stage servers routes span posted (with_posts posted a.0) z one.0)
           (same_Some b.0 y (sym b.1 ∙ q)) one.1),
     ))
     in (
@@ -118,7 +118,7 @@ have_done F stage servers routes span posted old now long before after worked =
         count = all.1 ∙ sym size;
         each = λ m a b p q.
             let x = told_at posted old m a p
-            in subst (λ (z : MuxWorker). HasDone F stage servers routes span posted z b (deeds_of all.0 m)) x.2
+            in subst (λ (z : MuxWorker). HasDone F stage servers routes span posted z b (notes_by all.0 m)) x.2
             (all.2 m (slice_get_within old m x.0 x.1) x.0 b x.1 q);
       },
     )
@@ -126,11 +126,11 @@ have_done F stage servers routes span posted old now long before after worked =
 -- THE PHASE
 
 -- what worker 0 did is of the phase
-of_phase : (stage : Stage) (servers : List Serving) (posted q : Posted) (head b : Head) (after : ℕ)
-    (x controller : List Note) → IsLed stage posted head controller → after ≡ head.caller.latest
-    → Leads stage servers posted q head b x → AllByRecursion (λ n. is_sync n.event.what ≡ false) x
+of_phase : (stage : Stage) (servers : List Serving) (posted q : Posted) (leader b : Leader) (after : ℕ)
+    (x controller : List Note) → IsLed stage posted leader controller → after ≡ leader.caller.latest
+    → Leads stage servers posted q leader b x → AllByRecursion (λ n. is_sync n.event.what ≡ false) x
     → AreOfPhase after x
-of_phase stage servers posted q head b after x controller led is leads none = record {
+of_phase stage servers posted q leader b after x controller led is leads none = record {
   kinds = commands_of x controller (all_kinds stage (x ++ controller) (leads.led controller led).each);
   no_sync = none;
   later = subst (λ (k : ℕ). AllByRecursion (λ n. k < clock_of n) x) (sym is) leads.since;
@@ -141,20 +141,20 @@ of_phase stage servers posted q head b after x controller led is leads none = re
   commands_of (n ∷ x) y all = (all.0, commands_of x y all.1)
 
 pub phase_stands : (F : Rules) (stage : Stage) (servers : List Serving) (routes : List (Option MuxId))
-    (posted q : Posted) (head b : Head) (old now : List MuxWorker) (span : Span)
-    (between : IsBetween F stage servers routes posted head old span.from)
-    → span.after.0 ≡ head.caller.latest → span.from ≤ span.until
+    (posted q : Posted) (leader b : Leader) (old now : List MuxWorker) (span : Span)
+    (between : IsBetween F stage servers routes posted leader old span.from)
+    → span.after.0 ≡ leader.caller.latest → span.from ≤ span.until
     → ((k : ℕ) → span.from < k → k ≤ span.until → phase_of stage k ≡ between.p)
-    → HasLed stage servers posted q head b → length now ≡ length old → HaveNotStopped now
+    → HasLed stage servers posted q leader b → length now ≡ length old → HaveNotStopped now
     → Worked F stage servers routes span posted old now
     → (controller : List Note) × (carriers : List (List Note))
     × IsStanding F stage servers routes q b now between.p (between.p + 1) span.until controller carriers
     × HaveLooked stage controller carriers
-phase_stands F stage servers routes posted q head b old now span between after order numbers led long none worked =
+phase_stands F stage servers routes posted q leader b old now span between after order numbers led long none worked =
     let standing = between.standing
     in let controller = between.controller
     in let carriers = between.carriers
-    in let told = map (told_what posted) old
+    in let told = map (with_posts posted) old
     in let R : Routes = RoutedBy routes
     in let x = led.1.0
     in let leads = led.1.1
@@ -162,26 +162,26 @@ phase_stands F stage servers routes posted q head b old now span between after o
     carriers standing.at_work
     in let done = have_done F stage servers routes span posted old now long
     (λ m w here. (standing.at_work.each m w here).stop) none worked
-    in let version : last_version posted ≡ head.published.0 = standing.ready.posted_is.count
+    in let version : last_version posted ≡ leader.published.0 = standing.ready.posted_is.count
     in let apart : AreApart stage span.after.0 (last_version posted) controller carriers =
     subst (λ (k : ℕ). AreApart stage k (last_version posted) controller carriers) (sym after)
-    (subst (λ (k : ℕ). AreApart stage head.caller.latest k controller carriers) (sym version) between.apart)
-    in let phase = of_phase stage servers posted q head b span.after.0 x controller standing.led after leads led.1.2
+    (subst (λ (k : ℕ). AreApart stage leader.caller.latest k controller carriers) (sym version) between.apart)
+    in let phase = of_phase stage servers posted q leader b span.after.0 x controller standing.led after leads led.1.2
     in let one = all_at_work_more R F stage servers routes posted.board between.p between.p span posted told now
     controller x carriers done.0 (λ k m s is seg. is) numbers order apart phase done.1 at
-    in let size : length told ≡ length old = length-map old (told_what posted)
+    in let size : length told ≡ length old = length-map old (with_posts posted)
     in let muxes = standing.muxes
     in (
       x ++ controller,
-      add_deeds done.0 carriers,
+      add_notes done.0 carriers,
       record {
         muxes = long ∙ muxes;
         ready = led.0;
         led = leads.led controller standing.led;
-        heard = heard_more stage servers head.caller.seats b.caller.seats x controller leads.heard standing.heard;
+        heard = heard_more stage servers leader.caller.seats b.caller.seats x controller leads.heard standing.heard;
         placed = each_append (λ n. IsPlaced stage servers n.event.what) x controller leads.placed standing.placed;
         at_work = subst (λ (k : Book). AreAtWork R F stage servers routes k between.p (between.p + 1) span.until now
-            (x ++ controller) (add_deeds done.0 carriers)) (sym leads.board) one;
+            (x ++ controller) (add_notes done.0 carriers)) (sym leads.board) one;
       },
       all_looked F stage servers routes span posted told now controller x carriers done.0 (size ∙ muxes)
           (at.count)
@@ -193,46 +193,46 @@ phase_stands F stage servers routes posted q head b old now span between after o
 -- the greatest clock of all workers
 latest_all : (g : Note → ℕ) (carriers : List (List Note)) (workers : List MuxWorker) → length carriers ≡ length workers
     → ((m : ℕ) (w : MuxWorker) → slice_get workers m ≡ Some w
-    → w.caller.latest ≡ greatest clock_of (deeds_of carriers m))
-    → latest_in workers ≡ greatest clock_of (all_deeds carriers)
+    → w.caller.latest ≡ greatest clock_of (notes_by carriers m))
+    → latest_in workers ≡ greatest clock_of (notes_of_all carriers)
 latest_all g [] [] count each = refl
 latest_all g [] (w ∷ workers) count each = absurd (omega arith)
 latest_all g (d ∷ carriers) [] count each = absurd (omega arith)
 latest_all g (d ∷ carriers) (w ∷ workers) count each =
     let first = each 0 w refl
     in let rest = latest_all g carriers workers (omega arith) (λ m y at. each (suc m) y at)
-    in let sum = greatest_append clock_of d (all_deeds carriers)
+    in let sum = greatest_append clock_of d (notes_of_all carriers)
     in omega arith
 
 pub latest_is : (F : Rules) (stage : Stage) (servers : List Serving) (routes : List (Option MuxId)) (posted : Posted)
-    (head : Head) (workers : List MuxWorker) (p phases until : ℕ) (controller : List Note) (carriers : List (List Note))
-    → IsStanding F stage servers routes posted head workers p phases until controller carriers
-    → max head.caller.latest (latest_in workers) ≡ greatest clock_of (controller ++ all_deeds carriers)
-latest_is F stage servers routes posted head workers p phases until controller carriers standing =
+    (leader : Leader) (workers : List MuxWorker) (p phases until : ℕ) (controller : List Note) (carriers : List (List Note))
+    → IsStanding F stage servers routes posted leader workers p phases until controller carriers
+    → max leader.caller.latest (latest_in workers) ≡ greatest clock_of (controller ++ notes_of_all carriers)
+latest_is F stage servers routes posted leader workers p phases until controller carriers standing =
     let all = latest_all clock_of carriers workers standing.at_work.count
     (λ m w here. (standing.at_work.each m w here).latest)
     in let first = standing.led.latest
-    in let sum = greatest_append clock_of controller (all_deeds carriers)
+    in let sum = greatest_append clock_of controller (notes_of_all carriers)
     in omega arith
 
 pub sync_stands : (F : Rules) (stage : Stage) (servers : List Serving) (routes : List (Option MuxId)) (posted : Posted)
-    (head b : Head) (workers : List MuxWorker) (p start : ℕ) (controller : List Note) (carriers : List (List Note))
-    → IsStanding F stage servers routes posted head workers p (p + 1) start controller carriers
+    (leader b : Leader) (workers : List MuxWorker) (p start : ℕ) (controller : List Note) (carriers : List (List Note))
+    → IsStanding F stage servers routes posted leader workers p (p + 1) start controller carriers
     → HaveLooked stage controller carriers
-    → HasSynced stage servers posted (max head.caller.latest (latest_in workers)) head b
-    → IsAtPhase stage (head.next + 1) (p + 1) start → start ≤ length stage.capture.records
+    → HasSynced stage servers posted (max leader.caller.latest (latest_in workers)) leader b
+    → IsAtPhase stage (leader.next + 1) (p + 1) start → start ≤ length stage.capture.records
     → IsBetween F stage servers routes posted b workers start
-sync_stands F stage servers routes posted head b workers p start controller carriers standing looked synced at within =
+sync_stands F stage servers routes posted leader b workers p start controller carriers standing looked synced at within =
     let R : Routes = RoutedBy routes
-    in let n : Note = syncing synced.clock head.next
-    in let top = latest_is F stage servers routes posted head workers p (p + 1) start controller carriers standing
-    in let clock : clock_of n ≡ next_clock (greatest clock_of (controller ++ all_deeds carriers))
+    in let n : Note = syncing synced.clock leader.next
+    in let top = latest_is F stage servers routes posted leader workers p (p + 1) start controller carriers standing
+    in let clock : clock_of n ≡ next_clock (greatest clock_of (controller ++ notes_of_all carriers))
     (moment_at (slice_get stage.script.commands n.command)) =
-    synced.is_next ∙ ap (λ (k : ℕ). next_clock k (moment_at (slice_get stage.script.commands head.next))) top
+    synced.is_next ∙ ap (λ (k : ℕ). next_clock k (moment_at (slice_get stage.script.commands leader.next))) top
     in let met = sync_met R F stage servers routes posted.board p (p + 1) start workers controller carriers n refl clock
     looked standing.at_work
     in let led = synced.leads.led controller standing.led
-    in let next : b.next ≡ head.next + 1 = synced.next
+    in let next : b.next ≡ leader.next + 1 = synced.next
     in let one : suc p ≡ p + 1 = omega arith
     in let published : newest (control_log stage controller) ≡ b.published.0 =
     led.published
@@ -244,7 +244,7 @@ sync_stands F stage servers routes posted head b workers p start controller carr
         muxes = standing.muxes;
         ready = synced.ready;
         led = led;
-        heard = heard_more stage servers head.caller.seats b.caller.seats (n ∷ []) controller synced.leads.heard
+        heard = heard_more stage servers leader.caller.seats b.caller.seats (n ∷ []) controller synced.leads.heard
             standing.heard;
         placed = (synced.leads.placed.0, standing.placed);
         at_work = subst (λ (k : ℕ). AreAtWork R F stage servers routes posted.board k (p + 1) start workers
@@ -260,19 +260,19 @@ sync_stands F stage servers routes posted head b workers p start controller carr
 -- THE END
 
 pub end_stands : (F : Rules) (stage : Stage) (servers : List Serving) (routes : List (Option MuxId)) (posted : Posted)
-    (head b : Head) (workers : List MuxWorker) (p phases until : ℕ) (controller : List Note)
+    (leader b : Leader) (workers : List MuxWorker) (p phases until : ℕ) (controller : List Note)
     (carriers : List (List Note))
-    → IsStanding F stage servers routes posted head workers p phases until controller carriers
+    → IsStanding F stage servers routes posted leader workers p phases until controller carriers
     → HaveLooked stage controller carriers → until ≡ length stage.capture.records
-    → length stage.script.commands ≤ head.next → b ≡ head
+    → length stage.script.commands ≤ leader.next → b ≡ leader
     → IsThrough F stage servers routes posted b workers
-end_stands F stage servers routes posted head b workers p phases until controller carriers standing looked whole all
-    same = subst (λ (h : Head). IsThrough F stage servers routes posted h workers) (sym same) (record {
+end_stands F stage servers routes posted leader b workers p phases until controller carriers standing looked whole all
+    same = subst (λ (h : Leader). IsThrough F stage servers routes posted h workers) (sym same) (record {
       p = p;
       phases = phases;
       controller = controller;
       carriers = carriers;
-      standing = subst (λ (k : ℕ). IsStanding F stage servers routes posted head workers p phases k controller carriers)
+      standing = subst (λ (k : ℕ). IsStanding F stage servers routes posted leader workers p phases k controller carriers)
           whole standing;
       looked = looked;
       done = let next = standing.ready.next in omega arith;
@@ -282,72 +282,72 @@ end_stands F stage servers routes posted head b workers p phases until controlle
 
 -- after a phase that all have done
 pub record IsMeeting (F : Rules) (stage : Stage) (servers : List Serving) (routes : List (Option MuxId))
-    (posted : Posted) (head : Head) (workers : List MuxWorker) (until : ℕ) : Type 0 where
+    (posted : Posted) (leader : Leader) (workers : List MuxWorker) (until : ℕ) : Type 0 where
   pub sound : IsSound stage
-  pub suits : Suits stage servers
+  pub servers_are : AreServersOf stage servers
   pub steerable : (k m : ℕ) → assigned_mux routes k ≡ Some m → is_some (segment_of stage k) ≡ true
   pub p : ℕ
   pub controller : List Note
   pub carriers : List (List Note)
-  pub standing : IsStanding F stage servers routes posted head workers p (p + 1) until controller carriers
+  pub standing : IsStanding F stage servers routes posted leader workers p (p + 1) until controller carriers
   pub looked : HaveLooked stage controller carriers
   pub within : until ≤ length stage.capture.records
-  pub last : length stage.script.commands ≤ head.next → until ≡ length stage.capture.records
-  pub next : head.next < length stage.script.commands → IsAtPhase stage (head.next + 1) (p + 1) until
+  pub last : length stage.script.commands ≤ leader.next → until ≡ length stage.capture.records
+  pub next : leader.next < length stage.script.commands → IsAtPhase stage (leader.next + 1) (p + 1) until
 
 pub met_next : (F : Rules) (stage : Stage) (servers : List Serving) (routes : List (Option MuxId)) (posted : Posted)
-    (head b : Head) (workers : List MuxWorker) (until : ℕ) (next : Next)
-    → IsMeeting F stage servers routes posted head workers until → HasMet stage head b workers until next
+    (leader b : Leader) (workers : List MuxWorker) (until : ℕ) (next : Next)
+    → IsMeeting F stage servers routes posted leader workers until → HasMet stage leader b workers until next
     → IsNext F stage servers routes posted b workers next
-met_next F stage servers routes posted head b workers until (Coming s) is met =
-    let synced = met.1 servers posted is.suits is.standing.ready
+met_next F stage servers routes posted leader b workers until (Coming s) is met =
+    let synced = met.1 servers posted is.servers_are is.standing.ready
     in let after = synced.next
     in let room = synced.ready.next
     in subst (λ (k : ℕ). IsBetween F stage servers routes posted b workers k) (sym met.0)
-    (sync_stands F stage servers routes posted head b workers is.p until is.controller is.carriers is.standing is.looked
+    (sync_stands F stage servers routes posted leader b workers is.p until is.controller is.carriers is.standing is.looked
     synced (is.next (omega arith)) is.within)
-met_next F stage servers routes posted head b workers until End is met =
-    end_stands F stage servers routes posted head b workers is.p (is.p + 1) until is.controller is.carriers is.standing
+met_next F stage servers routes posted leader b workers until End is met =
+    end_stands F stage servers routes posted leader b workers is.p (is.p + 1) until is.controller is.carriers is.standing
     is.looked (is.last met.0) met.0 met.1
-met_next F stage servers routes posted head b workers until TooLate is met =
-    subst (λ (h : Head). HasGivenUp F stage servers posted h workers) (sym met.0)
-    (too_late_to_sync F stage servers routes posted head workers is.p (is.p + 1) until is.controller is.carriers
+met_next F stage servers routes posted leader b workers until TooLate is met =
+    subst (λ (h : Leader). HasGivenUp F stage servers posted h workers) (sym met.0)
+    (too_late_to_sync F stage servers routes posted leader workers is.p (is.p + 1) until is.controller is.carriers
     met.1.0 met.1.1 is.sound is.steerable is.within (omega arith) is.standing met.1.2)
 
 pub met_fewer : (F : Rules) (stage : Stage) (servers : List Serving) (routes : List (Option MuxId)) (posted : Posted)
-    (head b : Head) (workers : List MuxWorker) (until start : ℕ) (next : Next)
-    → IsMeeting F stage servers routes posted head workers until → HasMet stage head b workers until next
-    → start ≤ head.next
+    (leader b : Leader) (workers : List MuxWorker) (until start : ℕ) (next : Next)
+    → IsMeeting F stage servers routes posted leader workers until → HasMet stage leader b workers until next
+    → start ≤ leader.next
     → left_of next b.next (length stage.script.commands) < suc (length stage.script.commands - start)
-met_fewer F stage servers routes posted head b workers until start (Coming s) is met low =
-    let synced = met.1 servers posted is.suits is.standing.ready
+met_fewer F stage servers routes posted leader b workers until start (Coming s) is met low =
+    let synced = met.1 servers posted is.servers_are is.standing.ready
     in let after = synced.next
     in let room = synced.ready.next
     in omega arith
-met_fewer F stage servers routes posted head b workers until start End is met low = omega arith
-met_fewer F stage servers routes posted head b workers until start TooLate is met low = omega arith
+met_fewer F stage servers routes posted leader b workers until start End is met low = omega arith
+met_fewer F stage servers routes posted leader b workers until start TooLate is met low = omega arith
 
 -- a phase that all have done
 pub phase_meets : (F : Rules) (stage : Stage) (servers : List Serving) (routes : List (Option MuxId))
-    (posted q : Posted) (head b : Head) (old now : List MuxWorker) (span : Span) (place : ℕ)
-    → IsSound stage → Suits stage servers
+    (posted q : Posted) (leader b : Leader) (old now : List MuxWorker) (span : Span) (place : ℕ)
+    → IsSound stage → AreServersOf stage servers
     → ((k m : ℕ) → assigned_mux routes k ≡ Some m → is_some (segment_of stage k) ≡ true)
-    → (between : IsBetween F stage servers routes posted head old span.from)
-    → span.after.0 ≡ head.caller.latest → span.from ≤ span.until → span.until ≤ length stage.capture.records
+    → (between : IsBetween F stage servers routes posted leader old span.from)
+    → span.after.0 ≡ leader.caller.latest → span.from ≤ span.until → span.until ≤ length stage.capture.records
     → ((k : ℕ) → span.from < k → k ≤ span.until → phase_of stage k ≡ between.p)
     → (length stage.script.commands ≤ place → span.until ≡ length stage.capture.records)
     → (place < length stage.script.commands → IsAtPhase stage (place + 1) (between.p + 1) span.until)
-    → HasLed stage servers posted q head b → b.next ≡ place → length now ≡ length old → HaveNotStopped now
+    → HasLed stage servers posted q leader b → b.next ≡ place → length now ≡ length old → HaveNotStopped now
     → Worked F stage servers routes span posted old now
     → IsMeeting F stage servers routes q b now span.until
-phase_meets F stage servers routes posted q head b old now span place sound suits steerable between after order within
+phase_meets F stage servers routes posted q leader b old now span place sound servers_are steerable between after order within
     numbers
     last next led at long none worked =
-    let stands = phase_stands F stage servers routes posted q head b old now span between after order numbers led long
+    let stands = phase_stands F stage servers routes posted q leader b old now span between after order numbers led long
     none worked
     in record {
       sound = sound;
-      suits = suits;
+      servers_are = servers_are;
       steerable = steerable;
       p = between.p;
       controller = stands.0;

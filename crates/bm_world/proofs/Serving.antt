@@ -12,13 +12,13 @@ use Rattle.bm_turnstile.specs.Sittings.{who}
 use Rattle.bm_server.specs.Books.{IsBookOf}
 use Rattle.bm_server.specs.Seats.{Seated, IsNewSeat, row, told_at, most_turns}
 use Rattle.bm_server.specs.Servings.{Serving}
-use Rattle.bm_worker.specs.SeatCalls.{told_in, told_there}
+use Rattle.bm_worker.specs.SeatCalls.{calls_in, calls_there}
 use Rattle.bm_world.specs.Inside.Served.{IsBookThere, IsNewRow}
 
 -- A SERVER MORE
 
 row_told : (seats : List (List Seated)) (seat : List Seated) → ((h : ℕ) → told_at seat h ≡ [])
-    → ((s h : ℕ) → told_there seats s h ≡ []) → (s h : ℕ) → told_there (seats ++ seat ∷ []) s h ≡ []
+    → ((s h : ℕ) → calls_there seats s h ≡ []) → (s h : ℕ) → calls_there (seats ++ seat ∷ []) s h ≡ []
 row_told [] seat new none zero h = new h
 row_told [] seat new none (suc s) h = refl
 row_told (x ∷ seats) seat new none zero h = none 0 h
@@ -44,19 +44,19 @@ empty_row w seats e =
 -- as many seats as servers
 pub as_many : (servers : List Serving) (seats : List (List Seated)) (w : ℕ)
     → map (map who) seats ≡ map (λ server. row server w) servers → length seats ≡ length servers
-as_many servers seats w sits =
-    sym (length-map seats (map who)) ∙ ap (λ l. length l) sits ∙ length-map servers (λ server. row server w)
+as_many servers seats w has_seats =
+    sym (length-map seats (map who)) ∙ ap (λ l. length l) has_seats ∙ length-map servers (λ server. row server w)
 
 row_at : (servers : List Serving) (seats : List (List Seated)) (w s : ℕ) (seat : List Seated) (server : Serving)
     → map (map who) seats ≡ map (λ server. row server w) servers → slice_get seats s ≡ Some seat
     → slice_get servers s ≡ Some server → map who seat ≡ row server w
-row_at [] [] w s seat server sits a b = absurd (cc)
-row_at [] (x ∷ seats) w s seat server sits a b = absurd (cc)
-row_at (t ∷ servers) [] w s seat server sits a b = absurd (cc)
-row_at (t ∷ servers) (x ∷ seats) w zero seat server sits a b =
-    ap (map who) (sym (same_Some x seat a)) ∙ heads _ _ _ _ sits ∙ ap (λ (z : Serving). row z w) (same_Some t server b)
-row_at (t ∷ servers) (x ∷ seats) w (suc s) seat server sits a b =
-    row_at servers seats w s seat server (tails _ _ _ _ sits) a b
+row_at [] [] w s seat server has_seats a b = absurd (cc)
+row_at [] (x ∷ seats) w s seat server has_seats a b = absurd (cc)
+row_at (t ∷ servers) [] w s seat server has_seats a b = absurd (cc)
+row_at (t ∷ servers) (x ∷ seats) w zero seat server has_seats a b =
+    ap (map who) (sym (same_Some x seat a)) ∙ heads _ _ _ _ has_seats ∙ ap (λ (z : Serving). row z w) (same_Some t server b)
+row_at (t ∷ servers) (x ∷ seats) w (suc s) seat server has_seats a b =
+    row_at servers seats w s seat server (tails _ _ _ _ has_seats) a b
 
 pub record IsLastServer (servers : List Serving) (rows : List (List (List Seated))) (left : List Serving) (t : Serving)
     (others : List (List (List Seated))) (column : List (List Seated)) : Type 0 where
@@ -114,5 +114,5 @@ book_there servers rows left t others column last h book of = record {
       in let same : l.row ≡ seats = same_Some l.row seats (sym l.row_at ∙ at)
       in let seat : slice_get seats (length left) ≡ Some s.0 =
       ap (λ (x : List (List Seated)). slice_get x (length left)) (sym same) ∙ l.item_at
-      in of.told w s.0 s.1 ∙ sym (ap (λ (o : Option (List Seated)). told_in o h) seat);
+      in of.told w s.0 s.1 ∙ sym (ap (λ (o : Option (List Seated)). calls_in o h) seat);
 }

@@ -20,29 +20,29 @@ use Rattle.bm_mux.specs.Muxes.{MuxState}
 use Rattle.bm_publish.specs.Posts.{Posted}
 use Rattle.bm_server.specs.Seats.{Answered, Seated, row}
 use Rattle.bm_server.specs.Servings.{Serving, shard_at}
-use Rattle.bm_worker.specs.WorkerNotes.{saying, Sits}
+use Rattle.bm_worker.specs.WorkerNotes.{saying, HasSeats}
 use Rattle.bm_worker.specs.Phases.{AreCopies, IsCopyCall}
 use Rattle.bm_worker.specs.Callers.{CallerState}
-use Rattle.bm_worker.specs.SeatCalls.{told_there}
+use Rattle.bm_worker.specs.SeatCalls.{calls_there}
 use Rattle.bm_worker.specs.Assigned.{RoutedBy, is_assigned}
 use Rattle.bm_worker.specs.declared.worker.MuxWorker.{MuxWorker}
-use Rattle.bm_lead.specs.declared.head.Head.{Head}
-use Rattle.bm_lead.specs.Heads.{Begins, IsReady}
+use Rattle.bm_lead.specs.declared.leader.Leader.{Leader}
+use Rattle.bm_lead.specs.Leaders.{Begins, IsReady}
 use Rattle.bm_lead.specs.Leads.{IsLed}
 use Rattle.bm_world.specs.Inside.RunStates.{IsBetween, IsNewWorker}
 use Rattle.bm_world.specs.Inside.Returned.{IsCarriage}
 use Rattle.bm_world.specs.Inside.Running.{HaveHeard, IsAtWork, AreApart, IsAtPhase}
 use Rattle.bm_world.specs.Inside.Served.{IsNewRow}
-use Rattle.bm_world.proofs.Meeting.{idle, idle_all, idle_count, idle_deeds, nothing_apart}
+use Rattle.bm_world.proofs.Meeting.{idle, idle_all, idle_count, idle_notes, nothing_apart}
 use Rattle.bm_world.proofs.Scripting.{phase_first}
 use Rattle.bm_world.proofs.MakingWorkers.{all_at}
 
 no_heard : (stage : Stage) (servers : List Serving) (seats : List (List Seated))
-    → ((s h : ℕ) → told_there seats s h ≡ []) → HaveHeard stage servers seats []
+    → ((s h : ℕ) → calls_there seats s h ≡ []) → HaveHeard stage servers seats []
 no_heard stage servers seats none s h server at = ap (λ (l : List Answered). saying (shard_at server h) l) (none s h)
 
 no_copies : (stage : Stage) (m : MuxId) (servers : List Serving) (past : List Event) (seats : List (List Seated))
-    → ((s h : ℕ) → told_there seats s h ≡ []) → AreCopies stage m servers past seats
+    → ((s h : ℕ) → calls_there seats s h ≡ []) → AreCopies stage m servers past seats
 no_copies stage m servers past seats none s h server at =
     subst (λ (l : List Answered). AllByRecursion (λ a. IsCopyCall stage past m server h a.0) l) (sym (none s h)) tt
 
@@ -56,7 +56,7 @@ no_carriage : (R : Routes) (F : Rules) (stage : Stage) (posts : List ℕ) (m : �
 no_carriage R F stage posts m = record {
   carrier = record {
     kinds = tt;
-    owed = tt;
+    has_sending = tt;
     answers = tt;
     lost = λ k hop clock. refl;
     sent = λ k hop clock. omega arith;
@@ -78,8 +78,8 @@ new_at_work R F stage servers routes posted seats m w plan new is =
     in let seen : w.mux.seen ≡ posted = ap (λ (x : MuxState). x.seen) is.mux
     in let own : w.caller.seats ≡ seats = ap (λ (x : CallerState). x.seats) is.caller
     in let number : w.caller.number ≡ m + 1 = ap (λ (x : CallerState). x.number) is.caller
-    in let none : (s h : ℕ) → told_there w.caller.seats s h ≡ [] =
-    λ s h. ap (λ (x : List (List Seated)). told_there x s h) own ∙ new.told s h
+    in let none : (s h : ℕ) → calls_there w.caller.seats s h ≡ [] =
+    λ s h. ap (λ (x : List (List Seated)). calls_there x s h) own ∙ new.told s h
     in record {
       carriage = no_carriage R F stage w.mux.seen.clocks m;
       id = ap (λ (x : MuxState). x.id.0) is.mux;
@@ -91,7 +91,7 @@ new_at_work R F stage servers routes posted seats m w plan new is =
       steered = λ k. sym (ap (λ (b : Bool). one_if b) (none_assigned routes m k));
       within = tt;
       number = number;
-      sits = subst (λ (p : CallerState). Sits servers p) (sym is.caller) new.«is»;
+      has_seats = subst (λ (p : CallerState). HasSeats servers p) (sym is.caller) new.«is»;
       board_is = ap (λ (x : Posted). x.board) seen;
       plan = ap (λ (x : Posted). x.plan) seen ∙ plan;
       tries = let t : w.caller.tries ≡ 0 = ap (λ (x : CallerState). x.tries) is.caller in omega arith;
@@ -103,14 +103,14 @@ new_at_work R F stage servers routes posted seats m w plan new is =
 
 -- between no phase and the first one
 pub starts : (F : Rules) (stage : Stage) (servers : List Serving) (routes : List (Option MuxId)) (posted : Posted)
-    (head : Head) (workers : List MuxWorker) → IsSound stage
-    → length workers ≡ stage.script.setting.muxes → Begins stage servers posted head.caller
-    → ((s h : ℕ) → told_there head.caller.seats s h ≡ [])
-    → IsReady stage servers posted head → IsLed stage posted head [] → head.next ≡ 0 → head.published.0 ≡ 0
+    (leader : Leader) (workers : List MuxWorker) → IsSound stage
+    → length workers ≡ stage.script.setting.muxes → Begins stage servers posted leader.caller
+    → ((s h : ℕ) → calls_there leader.caller.seats s h ≡ [])
+    → IsReady stage servers posted leader → IsLed stage posted leader [] → leader.next ≡ 0 → leader.published.0 ≡ 0
     → ((m : ℕ) (w : MuxWorker) → slice_get workers m ≡ Some w
     → (seats : List (List Seated)) × IsNewRow servers (m + 1) seats × IsNewWorker posted seats m w)
-    → IsBetween F stage servers routes posted head workers 0
-starts F stage servers routes posted head workers sound muxes begins none ready led next published each =
+    → IsBetween F stage servers routes posted leader workers 0
+starts F stage servers routes posted leader workers sound muxes begins none ready led next published each =
     let n = length workers
     in let R : Routes = RoutedBy routes
     in let latest = begins.latest
@@ -122,21 +122,21 @@ starts F stage servers routes posted head workers sound muxes begins none ready 
         muxes = muxes;
         ready = ready;
         led = led;
-        heard = no_heard stage servers head.caller.seats none;
+        heard = no_heard stage servers leader.caller.seats none;
         placed = tt;
         at_work = record {
           count = idle_count n;
           each = λ m w here.
               let one = each m w here
               in subst (λ (d : List Note). IsAtWork R F stage servers routes [] posted.board 0 0 m w d)
-              (sym (idle_deeds n m))
+              (sym (idle_notes n m))
               (new_at_work R F stage servers routes posted one.0 m w begins.plan one.1 one.2);
           all = [];
           same = λ f. ap (λ (d : List Note). total f d) (sym (idle_all n));
           phased = nothing_phased stage;
         };
       };
-      apart = subst (λ (a : ℕ). AreApart stage a head.published.0 [] (idle n)) (sym latest)
+      apart = subst (λ (a : ℕ). AreApart stage a leader.published.0 [] (idle n)) (sym latest)
           (subst (λ (f : ℕ). AreApart stage 0 f [] (idle n)) (sym published) (nothing_apart stage n));
       at_phase = subst (λ (i : ℕ). IsAtPhase stage i 0 0) (sym next) (phase_first stage);
       within = omega arith;
@@ -145,31 +145,31 @@ starts F stage servers routes posted head workers sound muxes begins none ready 
 
 -- so a run starts with what was made for it
 pub starts_with : (F : Rules) (stage : Stage) (servers : List Serving) (routes : List (Option MuxId)) (posted : Posted)
-    (caller : CallerState) (head : Head) (first : List (List Seated)) (others : List (List (List Seated)))
+    (caller : CallerState) (leader : Leader) (first : List (List Seated)) (others : List (List (List Seated)))
     (looks : List Posted) (workers : List MuxWorker) → IsSound stage → posted.plan ≡ stage.script.plan
     → posted.clocks ≡ [] → caller ≡ record { number = 0; seats = first; tries = 0; latest = 0 }
-    → head.caller ≡ caller → head.next ≡ 0 → head.published.0 ≡ 0
-    → (Begins stage servers posted caller → IsReady stage servers posted head)
-    → (Begins stage servers posted caller → IsLed stage posted head []) → IsNewRow servers 0 first
+    → leader.caller ≡ caller → leader.next ≡ 0 → leader.published.0 ≡ 0
+    → (Begins stage servers posted caller → IsReady stage servers posted leader)
+    → (Begins stage servers posted caller → IsLed stage posted leader []) → IsNewRow servers 0 first
     → ((m : ℕ) (seats : List (List Seated)) → slice_get others m ≡ Some seats → IsNewRow servers (m + 1) seats)
     → All (λ (look : Posted). look ≡ posted) looks → length looks ≡ stage.script.setting.muxes
     → length others ≡ length looks → length workers ≡ length others
     → ((m : ℕ) (look : Posted) (seats : List (List Seated)) (w : MuxWorker) → slice_get looks m ≡ Some look
     → slice_get others m ≡ Some seats → slice_get workers m ≡ Some w → IsNewWorker look seats m w)
-    → IsBetween F stage servers routes posted head workers 0
-starts_with F stage servers routes posted caller head first others looks workers sound plan clocks is same next
+    → IsBetween F stage servers routes posted leader workers 0
+starts_with F stage servers routes posted caller leader first others looks workers sound plan clocks is same next
     published ready led row rows all muxes long many each =
     let begins : Begins stage servers posted caller = record {
       plan = plan;
       clocks = clocks;
       number = ap (λ (p : CallerState). p.number) is;
-      sits = subst (λ (p : CallerState). Sits servers p) (sym is) row.«is»;
+      has_seats = subst (λ (p : CallerState). HasSeats servers p) (sym is) row.«is»;
       tries = ap (λ (p : CallerState). p.tries) is;
       latest = ap (λ (p : CallerState). p.latest) is;
     }
-    in starts F stage servers routes posted head workers sound (many ∙ long ∙ muxes)
+    in starts F stage servers routes posted leader workers sound (many ∙ long ∙ muxes)
     (subst (λ (p : CallerState). Begins stage servers posted p) (sym same) begins)
-    (λ s h. ap (λ (p : CallerState). told_there p.seats s h) (same ∙ is) ∙ row.told s h)
+    (λ s h. ap (λ (p : CallerState). calls_there p.seats s h) (same ∙ is) ∙ row.told s h)
     (ready begins) (led begins) next published
     (λ m w here.
     let low = slice_get_within workers m w here

@@ -20,7 +20,7 @@ use Rattle.bm_core.specs.Past.{segment_of}
 use Rattle.bm_core.specs.Stages.{IsSound}
 use Rattle.bm_core.specs.Threads.{sync_clock}
 use Rattle.bm_merge.specs.Notes.{Note, greatest, many}
-use Rattle.bm_merge.specs.Workers.{IsDrawn, IsOwed, all_deeds, carries, deeds_of}
+use Rattle.bm_merge.specs.Workers.{IsDrawn, HasSending, notes_of_all, carries, notes_by}
 use Rattle.bm_merge.proofs.Noting.{each_append, each_so, greatest_append, total_append}
 use Rattle.bm_merge.proofs.Reaching.{one_if}
 use Rattle.bm_publish.specs.Posts.{Posted, last_version}
@@ -28,20 +28,20 @@ use Rattle.bm_server.specs.Servings.{Serving}
 use Rattle.bm_worker.specs.WorkerNotes.{clock_of}
 use Rattle.bm_worker.specs.Phases.{AreCopies, AreFew, HasEnded, HasWorked, IsPhaseNote, IsLossOf}
 use Rattle.bm_worker.specs.Phases.{IsPlaced as IsCarriedAt}
-use Rattle.bm_worker.specs.Phases.{IsStopOf, IsAssigned, Kept, Stint, is_steer, mux_log, mux_for, stint_of}
+use Rattle.bm_worker.specs.Phases.{IsStopOf, IsAssigned, Kept, Task, is_steer, mux_log, mux_for, task_of}
 use Rattle.bm_worker.specs.Assigned.{RoutedBy, is_assigned, assigned_mux}
 use Rattle.bm_worker.specs.declared.span.Span.{Span}
 use Rattle.bm_worker.specs.declared.stop.Stop.{Stop}
 use Rattle.bm_worker.specs.declared.stop.Stop.TheVariants.{Late, Memory}
 use Rattle.bm_worker.specs.declared.worker.MuxWorker.{MuxWorker}
-use Rattle.bm_lead.specs.declared.head.Head.{Head}
+use Rattle.bm_lead.specs.declared.leader.Leader.{Leader}
 use Rattle.bm_lead.specs.Commands.{AreDone, control_log}
-use Rattle.bm_lead.specs.Heads.{IsStopFrom, UnlessMemory}
+use Rattle.bm_lead.specs.Leaders.{IsStopFrom, UnlessMemory}
 use Rattle.bm_lead.specs.Leads.{HasLed, HaveNoSync, IsLed, IsPlaced, Leads}
-use Rattle.bm_world.specs.Inside.RunStates.{IsBetween, IsLate, IsStanding, IsTooLate, latest_in, told_what}
+use Rattle.bm_world.specs.Inside.RunStates.{IsBetween, IsLate, IsStanding, IsTooLate, latest_in, with_posts}
 use Rattle.bm_world.specs.Inside.GivenUp.{HasGivenUp, HasLeft}
 use Rattle.bm_world.specs.Inside.Left.{IsSteerable, IsSyncIn, IsSynced}
-use Rattle.bm_world.specs.Inside.Running.{IsAtWork, add_deeds}
+use Rattle.bm_world.specs.Inside.Running.{IsAtWork, add_notes}
 use Rattle.bm_world.proofs.Amounts.{carried_few, led_few, steered_part, syncs_few}
 use Rattle.bm_world.proofs.GivingUp.{all_synced, assigned_steerable, left_more, left_of, sync_append, sync_some}
 use Rattle.bm_world.proofs.GivingUp.{unsynced}
@@ -66,11 +66,11 @@ abbrev IsStoppedBy : List Note → Option Stop → Type 0
 IsStoppedBy x None = Unit {0}
 IsStoppedBy x (Some stop) = IsStopOf x stop
 
-ended_kept : (F : Rules) (stage : Stage) (servers : List Serving) (stint : Stint) (now : MuxWorker) (o : Option Stop)
-    → HasEnded F stage servers stint now o
-    → (x : List Note) × Kept F stage servers stint now x × AreFew x × IsStoppedBy x o
-ended_kept F stage servers stint now None ended = (ended.0, ended.1.kept, ended.1.few, tt)
-ended_kept F stage servers stint now (Some stop) ended = (ended.0, ended.1, ended.3, ended.2)
+ended_kept : (F : Rules) (stage : Stage) (servers : List Serving) (task : Task) (now : MuxWorker) (o : Option Stop)
+    → HasEnded F stage servers task now o
+    → (x : List Note) × Kept F stage servers task now x × AreFew x × IsStoppedBy x o
+ended_kept F stage servers task now None ended = (ended.0, ended.1.kept, ended.1.few, tt)
+ended_kept F stage servers task now (Some stop) ended = (ended.0, ended.1, ended.3, ended.2)
 
 -- a clock near the last one
 abbrev IsLarge : List Note → Type 0
@@ -86,20 +86,20 @@ large_stop x (Some (Late moment clock)) stopped late =
 
 -- what the worker of mux m did of a run, in at most this many phases, with packets up to a number
 record IsPart (F : Rules) (stage : Stage) (servers : List Serving) (routes : List (Option MuxId))
-    (control : List Event) (board : Board) (phases until m : ℕ) (w : MuxWorker) (deeds : List Note) : Type 0 where
-  left : HasLeft F stage servers control board m w deeds
-  few : length deeds ≤ 41 * many (λ n. is_steer n.event.what) deeds + phases
-  steered : (k : ℕ) → many (λ n. steers_packet n.event.what k) deeds ≤ one_if (is_assigned routes m 0 until k)
-  large : IsTooLate w.stop → IsLarge deeds
+    (control : List Event) (board : Board) (phases until m : ℕ) (w : MuxWorker) (notes : List Note) : Type 0 where
+  left : HasLeft F stage servers control board m w notes
+  few : length notes ≤ 41 * many (λ n. is_steer n.event.what) notes + phases
+  steered : (k : ℕ) → many (λ n. steers_packet n.event.what k) notes ≤ one_if (is_assigned routes m 0 until k)
+  large : IsTooLate w.stop → IsLarge notes
 
 at_part : (F : Rules) (stage : Stage) (servers : List Serving) (routes : List (Option MuxId)) (control : List Event)
-    (board : Board) (phases until m : ℕ) (w : MuxWorker) (deeds : List Note)
+    (board : Board) (phases until m : ℕ) (w : MuxWorker) (notes : List Note)
     → ((k m : ℕ) → assigned_mux routes k ≡ Some m → is_some (segment_of stage k) ≡ true)
-    → IsAtWork (RoutedBy routes) F stage servers routes control board phases until m w deeds
-    → IsPart F stage servers routes control board phases until m w deeds
-at_part F stage servers routes control board phases until m w deeds known at = record {
+    → IsAtWork (RoutedBy routes) F stage servers routes control board phases until m w notes
+    → IsPart F stage servers routes control board phases until m w notes
+at_part F stage servers routes control board phases until m w notes known at = record {
   left = record {
-    left = left_of (RoutedBy routes) F stage routes control [] w.mux.seen.clocks w.mux.seen.clocks m until deeds known
+    left = left_of (RoutedBy routes) F stage routes control [] w.mux.seen.clocks w.mux.seen.clocks m until notes known
         at.steered ([], append-nil w.mux.seen.clocks) at.carriage;
     id = at.id;
     logged = at.logged;
@@ -107,7 +107,7 @@ at_part F stage servers routes control board phases until m w deeds known at = r
     copies = at.copies;
     placed = at.placed;
     number = at.number;
-    sits = at.sits;
+    has_seats = at.has_seats;
     board_is = at.board_is;
   };
   few = at.few;
@@ -115,65 +115,65 @@ at_part F stage servers routes control board phases until m w deeds known at = r
   large = λ late. absurd (subst (λ (o : Option Stop). IsTooLate o) at.stop late);
 }
 
-assigned_at : (stint : Stint) (what : What) (k : ℕ) (i : MuxId) → what ≡ Steer k i → IsAssigned stint what
-    → is_assigned stint.routes (mux_for stint).0 stint.from stint.until k ≡ true
-assigned_at stint what k i is assigned = subst (λ (w : What). IsAssigned stint w) is assigned
+assigned_at : (task : Task) (what : What) (k : ℕ) (i : MuxId) → what ≡ Steer k i → IsAssigned task what
+    → is_assigned task.routes (mux_for task).0 task.from task.until k ≡ true
+assigned_at task what k i is assigned = subst (λ (w : What). IsAssigned task w) is assigned
 
 kept_left : (F : Rules) (stage : Stage) (servers : List Serving) (routes : List (Option MuxId))
     (control y : List Event) (board : Board) (phases m : ℕ) (span : Span) (posted : Posted) (old now : MuxWorker)
-    (x deeds : List Note)
+    (x notes : List Note)
     → ((k m : ℕ) → assigned_mux routes k ≡ Some m → is_some (segment_of stage k) ≡ true)
     → sync_clock control ≡ span.after.0
-    → Kept F stage servers (stint_of routes span posted (told_what posted old)) now x
-    → IsAtWork (RoutedBy routes) F stage servers routes control board phases span.from m old deeds
-    → HasLeft F stage servers (y ++ control) board m now (x ++ deeds)
-kept_left F stage servers routes control y board phases m span posted old now x deeds known sync kept at =
-    let stint = stint_of routes span posted (told_what posted old)
-    in let D : Note → Type 0 = IsPhaseNote F stage servers stint x
+    → Kept F stage servers (task_of routes span posted (with_posts posted old)) now x
+    → IsAtWork (RoutedBy routes) F stage servers routes control board phases span.from m old notes
+    → HasLeft F stage servers (y ++ control) board m now (x ++ notes)
+kept_left F stage servers routes control y board phases m span posted old now x notes known sync kept at =
+    let task = task_of routes span posted (with_posts posted old)
+    in let D : Note → Type 0 = IsPhaseNote F stage servers task x
     in let id : old.mux.id.0 ≡ m = at.id
     in let seen = now.mux.seen.clocks
     in let here : IsSyncIn (y ++ control) span.after.0 =
     sync_append y control span.after.0 (subst (λ (c : ℕ). IsSyncIn control c) sync (sync_some control))
     in record {
-      left = left_more F stage (y ++ control) span.after.0 (last_version posted) seen seen m x deeds
+      left = left_more F stage (y ++ control) span.after.0 (last_version posted) seen seen m x notes
           ([], append-nil seen) here
           (each_so D (λ n. carries m n.event.what ≡ true) x
           (λ n d. subst (λ (i : ℕ). carries i n.event.what ≡ true) id d.kind) kept.each)
           (each_so D (λ n. n.seat ≡ suc m) x (λ n d. let s = d.seat in omega arith) kept.each)
-          (each_so D (λ n. IsOwed x n n.event.what) x (λ n d. d.owed) kept.each)
+          (each_so D (λ n. HasSending x n n.event.what) x (λ n d. d.has_sending) kept.each)
           (each_so D (IsDrawn F) x (λ n d. d.drawn) kept.each)
           (each_so D (λ n. IsLossOf x n.event.clock.0 n.event.what) x (λ n d. d.lost) kept.each)
           (each_so D (λ n. IsSteerable stage n.event.what) x
           (λ n d. assigned_steerable stage routes old.mux.id.0 span.from span.until n.event.what known
-          (λ k i is. assigned_at stint n.event.what k i is d.assigned)) kept.each)
+          (λ k i is. assigned_at task n.event.what k i is d.assigned)) kept.each)
           (given_same stage x seen span.after.0 span.after.0 (last_version posted) (last_version posted) old.mux.id.0 m
-          (reverse old.mux.log) (mux_log stage m deeds) refl refl id at.logged kept.gives)
-          (left_of (RoutedBy routes) F stage routes control y old.mux.seen.clocks seen m span.from deeds known
+          (reverse old.mux.log) (mux_log stage m notes) refl refl id at.logged kept.gives)
+          (left_of (RoutedBy routes) F stage routes control y old.mux.seen.clocks seen m span.from notes known
           at.steered kept.mux.later.posts at.carriage);
       id = ap (λ (i : MuxId). i.0) kept.mux.id ∙ id;
       logged = kept.logged ∙ ap (λ (k : ℕ). mux_log stage k x ++ reverse old.mux.log) id
-          ∙ ap (λ (l : List Event). mux_log stage m x ++ l) at.logged ∙ sym (log_append stage m x deeds);
-      heard = heard_more stage servers old.caller.seats now.caller.seats x deeds kept.hears at.heard;
+          ∙ ap (λ (l : List Event). mux_log stage m x ++ l) at.logged ∙ sym (log_append stage m x notes);
+      heard = heard_more stage servers old.caller.seats now.caller.seats x notes kept.hears at.heard;
       copies = subst (λ (i : MuxId). AreCopies stage i servers (reverse now.mux.log) now.caller.seats) (sym kept.mux.id)
           (kept.copies at.copies);
-      placed = each_append (λ n. IsCarriedAt servers n.event.what) x deeds
+      placed = each_append (λ n. IsCarriedAt servers n.event.what) x notes
           (each_so D (λ n. IsCarriedAt servers n.event.what) x (λ n d. d.placed) kept.each) at.placed;
       number = kept.caller.number ∙ at.number;
-      sits = sits_still servers old.caller now.caller kept.caller at.sits;
+      has_seats = sits_still servers old.caller now.caller kept.caller at.has_seats;
       board_is = kept.mux.later.board ∙ at.board_is;
     }
 
 kept_steered : (F : Rules) (stage : Stage) (servers : List Serving) (routes : List (Option MuxId))
     (control : List Event) (board : Board) (phases m : ℕ) (span : Span) (posted : Posted) (old now : MuxWorker)
-    (x deeds : List Note) → span.from ≤ span.until
-    → Kept F stage servers (stint_of routes span posted (told_what posted old)) now x
-    → IsAtWork (RoutedBy routes) F stage servers routes control board phases span.from m old deeds
-    → (k : ℕ) → many (λ n. steers_packet n.event.what k) (x ++ deeds) ≤ one_if (is_assigned routes m 0 span.until k)
-kept_steered F stage servers routes control board phases m span posted old now x deeds order kept at k =
-    let stint = stint_of routes span posted (told_what posted old)
-    in let D : Note → Type 0 = IsPhaseNote F stage servers stint x
+    (x notes : List Note) → span.from ≤ span.until
+    → Kept F stage servers (task_of routes span posted (with_posts posted old)) now x
+    → IsAtWork (RoutedBy routes) F stage servers routes control board phases span.from m old notes
+    → (k : ℕ) → many (λ n. steers_packet n.event.what k) (x ++ notes) ≤ one_if (is_assigned routes m 0 span.until k)
+kept_steered F stage servers routes control board phases m span posted old now x notes order kept at k =
+    let task = task_of routes span posted (with_posts posted old)
+    in let D : Note → Type 0 = IsPhaseNote F stage servers task x
     in let id : old.mux.id.0 ≡ m = at.id
-    in let a = total_append (λ n. one_if (steers_packet n.event.what k)) x deeds
+    in let a = total_append (λ n. one_if (steers_packet n.event.what k)) x notes
     in let b = at.steered k
     in let c = assigned_sum routes m span.from span.until k order
     in let d = steered_part stage routes span.after.0 (last_version posted) old.mux.id.0 span.from span.until
@@ -181,7 +181,7 @@ kept_steered F stage servers routes control board phases m span posted old now x
     (each_so D (λ n. carries old.mux.id.0 n.event.what ≡ true) x (λ n e. e.kind) kept.each)
     (each_so D (λ n. (j : ℕ) (i : MuxId) → n.event.what ≡ Steer j i
     → is_assigned routes old.mux.id.0 span.from span.until j ≡ true) x
-    (λ n e j i is. assigned_at stint n.event.what j i is e.assigned) kept.each) kept.gives k
+    (λ n e j i is. assigned_at task n.event.what j i is e.assigned) kept.each) kept.gives k
     in let same : is_assigned routes old.mux.id.0 span.from span.until k ≡ is_assigned routes m span.from span.until k =
     ap (λ (i : ℕ). is_assigned routes i span.from span.until k) id
     in let e = ap (λ (t : Bool). one_if t) same
@@ -190,31 +190,31 @@ kept_steered F stage servers routes control board phases m span posted old now x
 -- with its part of a phase, whether it came to the end or not
 worked_part : (F : Rules) (stage : Stage) (servers : List Serving) (routes : List (Option MuxId))
     (control y : List Event) (board : Board) (phases m : ℕ) (span : Span) (posted : Posted) (old now : MuxWorker)
-    (deeds : List Note)
+    (notes : List Note)
     → ((k m : ℕ) → assigned_mux routes k ≡ Some m → is_some (segment_of stage k) ≡ true)
     → span.from ≤ span.until → sync_clock control ≡ span.after.0
-    → HasWorked F stage servers routes span (told_what posted old) now
-    → IsAtWork (RoutedBy routes) F stage servers routes control board phases span.from m old deeds
-    → (x : List Note) × IsPart F stage servers routes (y ++ control) board (phases + 1) span.until m now (x ++ deeds)
-worked_part F stage servers routes control y board phases m span posted old now deeds known order sync worked at =
-    let ended = ended_kept F stage servers (stint_of routes span posted (told_what posted old)) now now.stop
+    → HasWorked F stage servers routes span (with_posts posted old) now
+    → IsAtWork (RoutedBy routes) F stage servers routes control board phases span.from m old notes
+    → (x : List Note) × IsPart F stage servers routes (y ++ control) board (phases + 1) span.until m now (x ++ notes)
+worked_part F stage servers routes control y board phases m span posted old now notes known order sync worked at =
+    let ended = ended_kept F stage servers (task_of routes span posted (with_posts posted old)) now now.stop
     (worked.ended posted at.stop refl)
     in let x = ended.0
     in let kept = ended.1
     in (
       x,
       record {
-        left = kept_left F stage servers routes control y board phases m span posted old now x deeds known sync kept at;
+        left = kept_left F stage servers routes control y board phases m span posted old now x notes known sync kept at;
         few =
             let a = ended.2
             in let b = at.few
-            in let c = length-append x deeds
-            in let d = total_append (λ n. one_if (is_steer n.event.what)) x deeds
+            in let c = length-append x notes
+            in let d = total_append (λ n. one_if (is_steer n.event.what)) x notes
             in omega arith;
-        steered = kept_steered F stage servers routes control board phases m span posted old now x deeds order kept at;
+        steered = kept_steered F stage servers routes control board phases m span posted old now x notes order kept at;
         large = λ late.
             let a = large_stop x now.stop ended.3 late
-            in let b = greatest_append clock_of x deeds
+            in let b = greatest_append clock_of x notes
             in omega arith;
       },
     )
@@ -222,13 +222,13 @@ worked_part F stage servers routes control y board phases m span posted old now 
 -- ALL WORKERS
 
 choose_at : (P : ℕ → List Note → Type 0) (n : ℕ) (d : List Note) (rest : List (List Note)) → P 0 d
-    → ((m : ℕ) → m < n → P (suc m) (deeds_of rest m)) → (m : ℕ) → m < suc n → P m (deeds_of (d ∷ rest) m)
+    → ((m : ℕ) → m < n → P (suc m) (notes_by rest m)) → (m : ℕ) → m < suc n → P m (notes_by (d ∷ rest) m)
 choose_at P n d rest p q zero low = p
 choose_at P n d rest p q (suc m) low = q m (omega arith)
 
 -- what each worker did, as one list
 choose : (P : ℕ → List Note → Type 0) (n : ℕ) → ((m : ℕ) → m < n → (x : List Note) × P m x)
-    → (more : List (List Note)) × (length more ≡ n) × ((m : ℕ) → m < n → P m (deeds_of more m))
+    → (more : List (List Note)) × (length more ≡ n) × ((m : ℕ) → m < n → P m (notes_by more m))
 choose P zero each = ([], refl, λ m low. absurd (omega arith))
 choose P (suc n) each =
     let first = each 0 (omega arith)
@@ -241,14 +241,14 @@ parts_few : (F : Rules) (stage : Stage) (servers : List Serving) (routes : List 
     → length carriers ≡ length workers → length workers ≡ stage.script.setting.muxes
     → next ≤ length stage.script.commands → AreDone stage next controller
     → ((m : ℕ) (w : MuxWorker) → slice_get workers m ≡ Some w
-    → IsPart F stage servers routes control board phases until m w (deeds_of carriers m))
-    → length (controller ++ all_deeds carriers) ≤ 25000000
+    → IsPart F stage servers routes control board phases until m w (notes_by carriers m))
+    → length (controller ++ notes_of_all carriers) ≤ 25000000
 parts_few F stage servers routes control board phases until next workers controller carriers sound few within count
     muxes low done each =
     let most = sound.script.setting.muxes.1
     in let records = sound.capture.few
     in let commands = sound.script.few_commands
-    in let a = length-append controller (all_deeds carriers)
+    in let a = length-append controller (notes_of_all carriers)
     in let b = led_few stage next controller sound done
     in let c = carried_few stage routes until carriers (omega arith) (omega arith)
     (λ m here. let w = there workers m (omega arith) in let f = (each m w.0 w.1).few in omega arith)
@@ -280,26 +280,26 @@ led_large led latest (Late moment clock) not is from =
 
 -- worker 0 or a mux's worker gave up in a phase
 pub gives_up : (F : Rules) (stage : Stage) (servers : List Serving) (routes : List (Option MuxId)) (posted q : Posted)
-    (head b : Head) (old now : List MuxWorker) (span : Span) (led : Result (Unit {0}) Stop)
+    (leader b : Leader) (old now : List MuxWorker) (span : Span) (led : Result (Unit {0}) Stop)
     → IsSound stage
     → ((k m : ℕ) → assigned_mux routes k ≡ Some m → is_some (segment_of stage k) ≡ true)
-    → IsBetween F stage servers routes posted head old span.from
-    → span.after.0 ≡ head.caller.latest → span.from ≤ span.until → span.until ≤ length stage.capture.records
-    → UnlessMemory led (HasLed stage servers posted q head b)
+    → IsBetween F stage servers routes posted leader old span.from
+    → span.after.0 ≡ leader.caller.latest → span.from ≤ span.until → span.until ≤ length stage.capture.records
+    → UnlessMemory led (HasLed stage servers posted q leader b)
     → IfErr led (IsStopFrom (9 * 10 ^ 18 - 4096) b.caller.latest)
     → length now ≡ length old
     → ((m : ℕ) (x y : MuxWorker) → slice_get old m ≡ Some x → slice_get now m ≡ Some y
-    → HasWorked F stage servers routes span (told_what posted x) y)
+    → HasWorked F stage servers routes span (with_posts posted x) y)
     → IsLate led now → HasGivenUp F stage servers q b now
-gives_up F stage servers routes posted q head b old now span led sound known between after order within has from lines
+gives_up F stage servers routes posted q leader b old now span led sound known between after order within has from lines
     worked late =
     let standing = between.standing
     in let at = standing.at_work
     in let before = between.controller
     in let carriers = between.carriers
-    in let went = unless_memory led (HasLed stage servers posted q head b) late.first has
+    in let went = unless_memory led (HasLed stage servers posted q leader b) late.first has
     in let d = went.1.0
-    in let leads : Leads stage servers posted q head b d = went.1.1
+    in let leads : Leads stage servers posted q leader b d = went.1.1
     in let none : HaveNoSync d = went.1.2
     in let is_led : IsLed stage q b (d ++ before) = leads.led before standing.led
     in let count = at.count
@@ -308,61 +308,61 @@ gives_up F stage servers routes posted q head b old now span led sound known bet
     in let log = control_append stage d before
     in let P : ℕ → List Note → Type 0 = λ m x. (w : MuxWorker) → slice_get now m ≡ Some w
     → IsPart F stage servers routes (control_log stage (d ++ before)) q.board (between.p + 1) span.until m w
-    (x ++ deeds_of carriers m)
+    (x ++ notes_by carriers m)
     in let part : (m : ℕ) → m < length now → (x : List Note) × P m x = λ m low.
     let a = there old m (omega arith)
     in let w = there now m low
     in let one = worked_part F stage servers routes (control_log stage before) (control_log stage d) posted.board
-    between.p m span posted a.0 w.0 (deeds_of carriers m) known order sync (worked m a.0 w.0 a.1 w.1)
+    between.p m span posted a.0 w.0 (notes_by carriers m) known order sync (worked m a.0 w.0 a.1 w.1)
     (at.each m a.0 a.1)
     in (
       one.0,
       λ y here.
           subst (λ (z : MuxWorker). IsPart F stage servers routes (control_log stage (d ++ before)) q.board
-          (between.p + 1) span.until m z (one.0 ++ deeds_of carriers m)) (same_Some w.0 y (sym w.1 ∙ here))
+          (between.p + 1) span.until m z (one.0 ++ notes_by carriers m)) (same_Some w.0 y (sym w.1 ∙ here))
           (subst (λ (l : List Event). IsPart F stage servers routes l q.board (between.p + 1) span.until m w.0
-          (one.0 ++ deeds_of carriers m)) (sym log)
+          (one.0 ++ notes_by carriers m)) (sym log)
           (subst (λ (o : Board). IsPart F stage servers routes (control_log stage d ++ control_log stage before) o
-          (between.p + 1) span.until m w.0 (one.0 ++ deeds_of carriers m)) (sym board) one.1)),
+          (between.p + 1) span.until m w.0 (one.0 ++ notes_by carriers m)) (sym board) one.1)),
     )
     in let chosen = choose P (length now) part
     in let more = chosen.0
     in let long : length more ≡ length carriers = chosen.1 ∙ lines ∙ sym count
     in let each : (m : ℕ) (w : MuxWorker) → slice_get now m ≡ Some w
     → IsPart F stage servers routes (control_log stage (d ++ before)) q.board (between.p + 1) span.until m w
-    (deeds_of (add_deeds more carriers) m) = λ m w here.
+    (notes_by (add_notes more carriers) m) = λ m w here.
     subst (λ (l : List Note). IsPart F stage servers routes (control_log stage (d ++ before)) q.board (between.p + 1)
     span.until m w l) (sym (added_of more carriers m long))
     (chosen.2 m (slice_get_within now m w here) w here)
     in let muxes : length now ≡ stage.script.setting.muxes = lines ∙ standing.muxes
-    in let total_carriers : length (add_deeds more carriers) ≡ length now = added_count more carriers long ∙ count
+    in let total_carriers : length (add_notes more carriers) ≡ length now = added_count more carriers long ∙ count
     ∙ sym lines
-    in let all = (d ++ before) ++ all_deeds (add_deeds more carriers)
-    in let syncs = syncs_few stage head.next before sound standing.led.done
+    in let all = (d ++ before) ++ notes_of_all (add_notes more carriers)
+    in let syncs = syncs_few stage leader.next before sound standing.led.done
     in let phases = at.phased.syncs
     in record {
       controller = d ++ before;
-      carriers = add_deeds more carriers;
+      carriers = add_notes more carriers;
       muxes = muxes;
       ready = went.0;
       led = is_led;
-      heard = heard_more stage servers head.caller.seats b.caller.seats d before leads.heard standing.heard;
+      heard = heard_more stage servers leader.caller.seats b.caller.seats d before leads.heard standing.heard;
       placed = each_append (λ n. IsPlaced stage servers n.event.what) d before leads.placed standing.placed;
       count = total_carriers;
       each = λ m w here. (each m w here).left;
       synced = each_append (λ n. IsSynced stage all n n.event.what) d before (no_sync_synced stage all d none)
           (all_synced stage at.all all before (λ f.
           let s = at.same f
-          in let t = total_append f before (all_deeds carriers)
-          in let u = total_append f (d ++ before) (all_deeds (add_deeds more carriers))
+          in let t = total_append f before (notes_of_all carriers)
+          in let u = total_append f (d ++ before) (notes_of_all (add_notes more carriers))
           in let v = total_append f d before
           in let w = added_total f more carriers long
           in omega arith) at.phased.met);
       few = parts_few F stage servers routes (control_log stage (d ++ before)) q.board (between.p + 1) span.until b.next
-          now (d ++ before) (add_deeds more carriers) sound (omega arith) within total_carriers muxes went.0.next
+          now (d ++ before) (add_notes more carriers) sound (omega arith) within total_carriers muxes went.0.next
           is_led.done each;
       large =
-          let sum = greatest_append clock_of (d ++ before) (all_deeds (add_deeds more carriers))
+          let sum = greatest_append clock_of (d ++ before) (notes_of_all (add_notes more carriers))
           in elim late.some [
             | inl first ↦
                 let c = led_large led b.caller.latest first.0 late.first first.1 from
@@ -370,7 +370,7 @@ gives_up F stage servers routes posted q head b old now span led sound known bet
                 in omega arith
             | inr worker ↦
                 let c = (each worker.0 worker.1 worker.2).large worker.3
-                in let u = worker_under (add_deeds more carriers) worker.0
+                in let u = worker_under (add_notes more carriers) worker.0
                 in omega arith
           ];
     }
@@ -385,23 +385,23 @@ latest_under (w ∷ workers) top each =
 
 -- all have done a phase, and the Sync after it would be too late
 pub too_late_to_sync : (F : Rules) (stage : Stage) (servers : List Serving) (routes : List (Option MuxId))
-    (posted : Posted) (head : Head) (workers : List MuxWorker) (p phases until : ℕ) (controller : List Note)
+    (posted : Posted) (leader : Leader) (workers : List MuxWorker) (p phases until : ℕ) (controller : List Note)
     (carriers : List (List Note)) (moment clock : Moment) → IsSound stage
     → ((k m : ℕ) → assigned_mux routes k ≡ Some m → is_some (segment_of stage k) ≡ true)
     → until ≤ length stage.capture.records → phases ≤ suc p
-    → IsStanding F stage servers routes posted head workers p phases until controller carriers
-    → IsStopFrom (9 * 10 ^ 18) (max head.caller.latest (latest_in workers)) (Late moment clock)
-    → HasGivenUp F stage servers posted head workers
-too_late_to_sync F stage servers routes posted head workers p phases until controller carriers moment clock sound known
+    → IsStanding F stage servers routes posted leader workers p phases until controller carriers
+    → IsStopFrom (9 * 10 ^ 18) (max leader.caller.latest (latest_in workers)) (Late moment clock)
+    → HasGivenUp F stage servers posted leader workers
+too_late_to_sync F stage servers routes posted leader workers p phases until controller carriers moment clock sound known
     within few standing from =
     let at = standing.at_work
     in let each : (m : ℕ) (w : MuxWorker) → slice_get workers m ≡ Some w
-    → IsPart F stage servers routes (control_log stage controller) posted.board phases until m w (deeds_of carriers m) =
+    → IsPart F stage servers routes (control_log stage controller) posted.board phases until m w (notes_by carriers m) =
     λ m w here.
-    at_part F stage servers routes (control_log stage controller) posted.board phases until m w (deeds_of carriers m)
+    at_part F stage servers routes (control_log stage controller) posted.board phases until m w (notes_by carriers m)
     known (at.each m w here)
-    in let all = controller ++ all_deeds carriers
-    in let syncs = syncs_few stage head.next controller sound standing.led.done
+    in let all = controller ++ notes_of_all carriers
+    in let syncs = syncs_few stage leader.next controller sound standing.led.done
     in let count = at.phased.syncs
     in record {
       controller = controller;
@@ -414,13 +414,13 @@ too_late_to_sync F stage servers routes posted head workers p phases until contr
       count = at.count;
       each = λ m w here. (each m w here).left;
       synced = all_synced stage at.all all controller (λ f. let s = at.same f in omega arith) at.phased.met;
-      few = parts_few F stage servers routes (control_log stage controller) posted.board phases until head.next workers
+      few = parts_few F stage servers routes (control_log stage controller) posted.board phases until leader.next workers
           controller carriers sound (omega arith) within at.count standing.muxes standing.ready.next standing.led.done
           each;
       large =
-          let sum = greatest_append clock_of controller (all_deeds carriers)
+          let sum = greatest_append clock_of controller (notes_of_all carriers)
           in let first = standing.led.latest
-          in let others = latest_under workers (greatest clock_of (all_deeds carriers)) (λ m w here.
+          in let others = latest_under workers (greatest clock_of (notes_of_all carriers)) (λ m w here.
           let l = (at.each m w here).latest in let u = worker_under carriers m in omega arith)
           in let a = from.1
           in let b = from.2

@@ -23,7 +23,7 @@ use Rattle.bm_merge.specs.Workers.{home_part, is_home}
 use Rattle.bm_server.specs.Seats.{Answered, seat_of, call_of, reply_of, telling}
 use Rattle.bm_turnstile.specs.Told.{told_after}
 use Rattle.bm_worker.specs.WorkerNotes.{Said, said_of, saying, noted}
-use Rattle.bm_worker.specs.SeatCalls.{event_told}
+use Rattle.bm_worker.specs.SeatCalls.{event_of_call}
 use Rattle.bm_world.specs.Inside.Shards.{entries_by, AreNoted}
 
 -- ONE MORE ENTRY
@@ -80,7 +80,7 @@ back [] = []
 back (x ∷ xs) = back xs ++ x ∷ []
 
 one_event : (shard : Shard) (past : List ShardEntry) (call : ShardCall)
-    → event_told shard call (reply_after shard past call) ≡ event_after shard past call
+    → event_of_call shard call (reply_after shard past call) ≡ event_after shard past call
 one_event shard past (Arrive packet tag segment due) = refl
 one_event shard past (Close flow at) = refl
 one_event shard past (Retire at result) = refl
@@ -100,8 +100,8 @@ pub entries_say : (about : Shard) (w : ℕ) (past : List ShardEntry) → Replays
 entries_say about w [] replays = refl
 entries_say about w (e ∷ past) replays =
     let old = entries_say about w past replays.1
-    in let event : event_told about e.call (reply_of about (reverse past) w e.call) ≡ e.event =
-    ap (λ (l : List ShardEntry). event_told about e.call (reply_after about l e.call)) (reverse_twice past)
+    in let event : event_of_call about e.call (reply_of about (reverse past) w e.call) ≡ e.event =
+    ap (λ (l : List ShardEntry). event_of_call about e.call (reply_after about l e.call)) (reverse_twice past)
     ∙ one_event about past e.call ∙ sym replays.0
     in ap (λ (l : List ShardEntry). saying about (telling (Some about) w l)) (reverse_more e past)
     ∙ ap (λ (l : List Answered). saying about l) (told_last about w [] (reverse past) e)
@@ -109,7 +109,7 @@ entries_say about w (e ∷ past) replays =
     (told_one about w (reverse past) e (eqb e.seat w))
     ∙ ap (λ (l : List Said). l ++ saying about (told_one about w (reverse past) e (eqb e.seat w)))
     old ∙ go (eqb e.seat w) event where
-      go : (b : Bool) → event_told about e.call (reply_of about (reverse past) w e.call) ≡ e.event
+      go : (b : Bool) → event_of_call about e.call (reply_of about (reverse past) w e.call) ≡ e.event
           → back (map say_entry (entries_by w past))
           ++ saying about (told_one about w (reverse past) e b)
           ≡ back (map say_entry (cond b (e ∷ entries_by w past) (entries_by w past)))

@@ -14,15 +14,15 @@ use Rattle.bm_shard.specs.Books.{Book}
 use Rattle.bm_shard.specs.declared.calls.ShardEntry.{ShardEntry}
 use Rattle.bm_merge.specs.Merges.{AreLogs}
 use Rattle.bm_merge.specs.Notes.{Note, NotedLog, events_of, plain}
-use Rattle.bm_merge.specs.Workers.{deeds_of, ArePromises}
+use Rattle.bm_merge.specs.Workers.{notes_by, ArePromises}
 use Rattle.bm_merge.proofs.Keeping.{joined_run}
 use Rattle.bm_server.specs.Servings.{Serving}
 use Rattle.bm_publish.specs.Posts.{Posted}
-use Rattle.bm_worker.specs.WorkerNotes.{Suits}
+use Rattle.bm_worker.specs.WorkerNotes.{AreServersOf}
 use Rattle.bm_worker.specs.Phases.{mux_log}
 use Rattle.bm_worker.specs.Assigned.{RoutedBy}
 use Rattle.bm_worker.specs.declared.worker.MuxWorker.{MuxWorker}
-use Rattle.bm_lead.specs.declared.head.Head.{Head}
+use Rattle.bm_lead.specs.declared.leader.Leader.{Leader}
 use Rattle.bm_lead.proofs.Ending.{all_led, all_published}
 use Rattle.bm_world.specs.Inside.RunStates.{rows_of, IsThrough, MergeToRun}
 use Rattle.bm_world.specs.Inside.Returned.{IsBookOfAll}
@@ -47,7 +47,7 @@ are_append (n ∷ x) y (l ∷ a) b p q = (p.0, are_append x y a b p.1 q)
 muxes_are : (stage : Stage) (m : ℕ) (carriers : List (List Note)) (workers : List MuxWorker)
     → length carriers ≡ length workers
     → ((i : ℕ) (w : MuxWorker) → slice_get workers i ≡ Some w
-    → reverse w.mux.log ≡ mux_log stage (m + i) (deeds_of carriers i))
+    → reverse w.mux.log ≡ mux_log stage (m + i) (notes_by carriers i))
     → AreLogs (plain (mux_logs stage m carriers)) (map (λ (w : MuxWorker). w.mux.log) workers)
 muxes_are stage m [] [] count each = tt
 muxes_are stage m [] (w ∷ workers) count each = absurd (omega arith)
@@ -55,7 +55,7 @@ muxes_are stage m (d ∷ carriers) [] count each = absurd (omega arith)
 muxes_are stage m (d ∷ carriers) (w ∷ workers) count each = (
   ap (λ (k : ℕ). mux_log stage k d) (omega arith) ∙ sym (each 0 w refl),
   muxes_are stage (suc m) carriers workers (omega arith)
-      (λ i y at. each (suc i) y at ∙ ap (λ (k : ℕ). mux_log stage k (deeds_of carriers i)) (omega arith)),
+      (λ i y at. each (suc i) y at ∙ ap (λ (k : ℕ). mux_log stage k (notes_by carriers i)) (omega arith)),
 )
 
 abbrev entry_event : ShardEntry → Event
@@ -100,25 +100,25 @@ books_append (books ∷ x) y =
 -- THE RUN
 
 is_ended : (F : Rules) (stage : Stage) (servers : List Serving) (routes : List (Option MuxId)) (posted : Posted)
-    (head : Head) (workers : List MuxWorker) → IsSound stage → Suits stage servers
+    (leader : Leader) (workers : List MuxWorker) → IsSound stage → AreServersOf stage servers
     → ((s : ℕ) (server : Serving) → slice_get servers s ≡ Some server → server.seats ≡ suc (length workers))
     → AreRouted stage routes
     → ((m : ℕ) (w : MuxWorker) → slice_get workers m ≡ Some w → IsPrefix w.mux.seen.clocks posted.clocks)
-    → (end : IsThrough F stage servers routes posted head workers)
-    → IsEnded (RoutedBy routes) F stage servers routes posted.board end.p end.phases workers head.caller.seats
+    → (end : IsThrough F stage servers routes posted leader workers)
+    → IsEnded (RoutedBy routes) F stage servers routes posted.board end.p end.phases workers leader.caller.seats
     end.controller end.carriers
-is_ended F stage servers routes posted head workers sound suits seats routed shown end =
+is_ended F stage servers routes posted leader workers sound servers_are seats routed shown end =
     let standing = end.standing
     in let led = standing.led
     in record {
       sound = sound;
-      suits = suits;
+      servers_are = servers_are;
       seats = seats;
       routed = routed;
       muxes = standing.muxes;
-      controls = all_led stage posted head end.controller led end.done;
+      controls = all_led stage posted leader end.controller led end.done;
       control = record { seats = led.seats; steps = led.steps; judged = led.judged };
-      changes = all_published stage servers posted head end.controller standing.ready led end.done;
+      changes = all_published stage servers posted leader end.controller standing.ready led end.done;
       heard = standing.heard;
       led_at = standing.placed;
       at_work = standing.at_work;
@@ -127,20 +127,20 @@ is_ended F stage servers routes posted head workers sound suits seats routed sho
     }
 
 pub merge_to_run : (F : Rules) (stage : Stage) (servers : List Serving) (routes : List (Option MuxId)) (posted : Posted)
-    (head : Head) (workers : List MuxWorker) (all : List (List Book)) (logs : List (List Event))
-    → IsSound stage → Suits stage servers
+    (leader : Leader) (workers : List MuxWorker) (all : List (List Book)) (logs : List (List Event))
+    → IsSound stage → AreServersOf stage servers
     → ((s : ℕ) (server : Serving) → slice_get servers s ≡ Some server → server.seats ≡ suc (length workers))
     → AreRouted stage routes
     → ((m : ℕ) (w : MuxWorker) → slice_get workers m ≡ Some w → IsPrefix w.mux.seen.clocks posted.clocks)
-    → IsThrough F stage servers routes posted head workers → length all ≡ length servers
+    → IsThrough F stage servers routes posted leader workers → length all ≡ length servers
     → ((s : ℕ) (books : List Book) → slice_get all s ≡ Some books
-    → AreBooksThere servers (rows_of head.caller.seats workers) s books)
-    → logs ≡ (head.log.items ∷ map (λ (w : MuxWorker). w.mux.log) workers) ++ books_logs all
+    → AreBooksThere servers (rows_of leader.caller.seats workers) s books)
+    → logs ≡ (leader.log.items ∷ map (λ (w : MuxWorker). w.mux.log) workers) ++ books_logs all
     → MergeToRun (RoutedBy routes) F stage logs
-merge_to_run F stage servers routes posted head workers all logs sound suits seats routed shown end count books are h is
+merge_to_run F stage servers routes posted leader workers all logs sound servers_are seats routed shown end count books are h is
     events =
-    let fin = is_ended F stage servers routes posted head workers sound suits seats routed shown end
-    in let back = ended (RoutedBy routes) F stage servers routes posted.board end.p end.phases workers head.caller.seats
+    let fin = is_ended F stage servers routes posted leader workers sound servers_are seats routed shown end
+    in let back = ended (RoutedBy routes) F stage servers routes posted.board end.p end.phases workers leader.caller.seats
     end.controller end.carriers all fin count books
     in let promises = handed_back (RoutedBy routes) F stage end.controller end.carriers (all_books all) back
     in let named = logs_of stage end.controller end.carriers (all_books all) back.kept
@@ -148,14 +148,14 @@ merge_to_run F stage servers routes posted head workers all logs sound suits sea
     (shard_logs stage end.controller end.carriers (all_books all) back.kept)
     (map (λ (w : MuxWorker). w.mux.log) workers) (map book_log (all_books all))
     (muxes_are stage 0 end.carriers workers end.standing.at_work.count
-    (λ i w here. (end.standing.at_work.each i w here).logged ∙ ap (λ (k : ℕ). mux_log stage k (deeds_of end.carriers i))
+    (λ i w here. (end.standing.at_work.each i w here).logged ∙ ap (λ (k : ℕ). mux_log stage k (notes_by end.carriers i))
     (omega arith)))
     (shards_are stage end.controller end.carriers (all_books all) back.kept)
-    in let whole : AreLogs (plain named) ((head.log.items ∷ map (λ (w : MuxWorker). w.mux.log) workers)
+    in let whole : AreLogs (plain named) ((leader.log.items ∷ map (λ (w : MuxWorker). w.mux.log) workers)
     ++ map book_log (all_books all)) = (sym end.standing.led.log, parts)
-    in let lists : (head.log.items ∷ map (λ (w : MuxWorker). w.mux.log) workers) ++ map book_log (all_books all)
+    in let lists : (leader.log.items ∷ map (λ (w : MuxWorker). w.mux.log) workers) ++ map book_log (all_books all)
     ≡ logs =
-    ap (λ (l : List (List Event)). (head.log.items ∷ map (λ (w : MuxWorker). w.mux.log) workers) ++ l)
+    ap (λ (l : List (List Event)). (leader.log.items ∷ map (λ (w : MuxWorker). w.mux.log) workers) ++ l)
     (sym (books_logged all)) ∙ sym are
     in joined_run (RoutedBy routes) F h named logs end.controller end.carriers
     (subst (λ (s : Stage). ArePromises (RoutedBy routes) F s named end.controller end.carriers) (sym is) promises)

@@ -9,7 +9,7 @@ ghost use Rattle.bm_world.specs.Inside.RunStates.{HasSeenAll, HaveNoTurns, IsNew
 use crate::servers::Rows;
 use bm_base::{List, Memory, MuxId};
 use bm_core::Log;
-use bm_lead::Head;
+use bm_lead::Leader;
 use bm_mux::Mux;
 use bm_publish::{Look, Poster, Told};
 use bm_server::ServerSeat;
@@ -33,7 +33,7 @@ fn make_worker(
         mux: Mux::new(alloc, MuxId(mux), look, buckets),
         caller: Caller::new(mux + 1, seats),
         steps: 0,
-        told: None,
+        posted: None,
         stop: None,
     }
 }
@@ -82,19 +82,19 @@ fn part(worker: MuxWorker, told: Told) -> Result<(Log, Vec<ServerSeat>), Memory>
 pub(crate) fn take_apart(
     alloc: Global,
     poster: &Poster,
-    head: Head,
+    leader: Leader,
     workers: Vec<MuxWorker>,
 ) -> Result<(Vec<Log>, Rows), Memory>
     requires boards { (m : ℕ) (w : _) → slice_get workers.items m ≡ Some w
         → w.mux.seen.board ≡ poster.now.board }
     ensures logs { IfOk result
-        (λ back. back.0.items ≡ head.log.items ∷ map (λ w. w.mux.log) workers.items) }
+        (λ back. back.0.items ≡ leader.log.items ∷ map (λ w. w.mux.log) workers.items) }
     ensures rows { IfOk result
-        (λ back. items_of back.1.items ≡ rows_of head.caller.seats workers.items) }
+        (λ back. items_of back.1.items ≡ rows_of leader.caller.seats workers.items) }
     ensures shown { OnOk result ((m : ℕ) (w : _) → slice_get workers.items m ≡ Some w
         → HasSeenAll poster.now w) }
 {
-    let Head { caller, log, .. } = head;
+    let Leader { caller, log, .. } = leader;
     let mut logs = Vec::new(alloc);
     let mut rows = Vec::new(alloc);
     logs.push(List::of(log))?;

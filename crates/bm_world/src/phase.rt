@@ -8,13 +8,13 @@ ghost use Rattle.bm_core.specs.Threads.{phase_of};
 ghost use Rattle.bm_fault.specs.Faults.{IsRule};
 ghost use Rattle.bm_worker.specs.Environments.{In};
 ghost use Rattle.bm_worker.specs.Phases.{CanWork};
-ghost use Rattle.bm_lead.specs.Heads.{IsPhase, IsReady, IsStopFrom, IsSyncCommand, UnlessMemory};
+ghost use Rattle.bm_lead.specs.Leaders.{IsPhase, IsReady, IsStopFrom, IsSyncCommand, UnlessMemory};
 ghost use Rattle.bm_lead.specs.Leads.{HasLed};
 ghost use Rattle.bm_world.specs.Inside.RunStates.{HasMet, HaveNotStopped, HaveWorked, IsBetween};
 ghost use Rattle.bm_world.specs.Inside.RunStates.{IsLate};
 ghost use Rattle.bm_world.specs.Inside.RunStates.{IsNext, IsThrough, latest_in, left_of, one_stopped};
 ghost use Rattle.bm_world.specs.Inside.RunStates.{stop_in};
-ghost use Rattle.bm_world.specs.Inside.RunStates.{told_what, wants_memory};
+ghost use Rattle.bm_world.specs.Inside.RunStates.{with_posts, wants_memory};
 ghost use Rattle.bm_world.specs.Inside.GivenUp.{HasGivenUp};
 ghost use Rattle.bm_world.specs.Inside.Running.{IsAtPhase};
 
@@ -22,7 +22,7 @@ use crate::places::{record_place, sync_at, sync_place};
 use bm_base::{Fate, Hop, Memory, Moment};
 use bm_core::Stage;
 use bm_io::Gate;
-use bm_lead::{Head, lead_phase, sync};
+use bm_lead::{Leader, lead_phase, sync};
 use bm_publish::Poster;
 use bm_worker::{MuxWorker, Shared, Span, Stop, work_all};
 use std::sync::Wait;
@@ -63,10 +63,10 @@ fn records_end(stage: &Stage, place: usize, from: u32) -> u32
 
 /// Lets each worker know what is posted. Takes no memory.
 fn tell_all(poster: &Poster, workers: &mut [MuxWorker])
-    ensures { workers.new ≡ map (told_what poster.now) workers.old }
+    ensures { workers.new ≡ map (with_posts poster.now) workers.old }
 {
     for place in 0..workers.len() {
-        workers[place].told = Some(poster.tell());
+        workers[place].posted = Some(poster.tell());
     }
 }
 
@@ -75,20 +75,20 @@ fn work_beside<W: Threads + Wait + Sync, F: Fn(u32, Hop) -> Fate + Sync, G: Gate
     rt: &W,
     shared: &Shared<'_, F, G>,
     poster: &mut Poster,
-    head: &mut Head,
+    leader: &mut Leader,
     workers: &mut [MuxWorker],
     span: Span,
     until: usize,
 ) -> Result<(), Stop>
     requires rule { IsRule F.Fn shared.now.rule }
-    requires ready { IsReady shared.now.stage shared.now.servers poster.old head.old }
-    requires phase { IsPhase shared.now.stage.script.commands head.old.next until }
+    requires ready { IsReady shared.now.stage shared.now.servers poster.old leader.old }
+    requires phase { IsPhase shared.now.stage.script.commands leader.old.next until }
     requires can { All (CanWork shared.now.stage shared.now.servers shared.now.routes span)
         workers.old }
     ensures led { UnlessMemory result (HasLed shared.now.stage shared.now.servers poster.old
-        poster.new head.old head.new) }
-    ensures next { OnOk result (head.new.next ≡ until) }
-    ensures stop { IfErr result (IsStopFrom (9 * 10 ^ 18 - 4096) head.new.caller.latest) }
+        poster.new leader.old leader.new) }
+    ensures next { OnOk result (leader.new.next ≡ until) }
+    ensures stop { IfErr result (IsStopFrom (9 * 10 ^ 18 - 4096) leader.new.caller.latest) }
     ensures count { length workers.new ≡ length workers.old }
     ensures worked { In F.Fn shared.now HaveWorked shared.now.routes span workers.old workers.new }
 {
@@ -105,13 +105,13 @@ fn work_beside<W: Threads + Wait + Sync, F: Fn(u32, Hop) -> Fate + Sync, G: Gate
         { work_all(rt, shared, span, workers) },
         &mut || -> Result<(), Stop>
             requires { IsSync F.row × IsSync G.row
-                × IsReady shared.now.stage shared.now.servers poster.now head.now
-                × IsPhase shared.now.stage.script.commands head.now.next until }
+                × IsReady shared.now.stage shared.now.servers poster.now leader.now
+                × IsPhase shared.now.stage.script.commands leader.now.next until }
             ensures { UnlessMemory result (HasLed shared.entry.now.stage shared.entry.now.servers
-                poster.entry.now poster.exit.now head.entry.now head.exit.now)
-                × OnOk result (head.exit.now.next ≡ until)
-                × IfErr result (IsStopFrom (9 * 10 ^ 18 - 4096) head.exit.now.caller.latest) }
-        { lead_phase(rt, shared, poster, head, until) },
+                poster.entry.now poster.exit.now leader.entry.now leader.exit.now)
+                × OnOk result (leader.exit.now.next ≡ until)
+                × IfErr result (IsStopFrom (9 * 10 ^ 18 - 4096) leader.exit.now.caller.latest) }
+        { lead_phase(rt, shared, poster, leader, until) },
     );
     led
 }
@@ -161,10 +161,10 @@ fn is_late(led: Result<(), Stop>, workers: &[MuxWorker]) -> Result<bool, Memory>
 }
 
 /// The greatest clock of what all workers did.
-fn latest_of(head: &Head, workers: &[MuxWorker]) -> Moment
-    ensures { result.0 ≡ max head.now.caller.latest (latest_in workers.now) }
+fn latest_of(leader: &Leader, workers: &[MuxWorker]) -> Moment
+    ensures { result.0 ≡ max leader.now.caller.latest (latest_in workers.now) }
 {
-    let mut latest = head.caller.latest();
+    let mut latest = leader.caller.latest();
     for worker in workers {
         latest = latest.max(worker.caller.latest());
     }
@@ -173,16 +173,21 @@ fn latest_of(head: &Head, workers: &[MuxWorker]) -> Moment
 
 /// Logs the Sync after a phase, once all workers have done the phase. Returns what comes next;
 /// `start` is the place of the first record after the phase.
-fn meet(stage: &Stage, head: &mut Head, workers: &[MuxWorker], start: u32) -> Result<Next, Memory>
+fn meet(
+    stage: &Stage,
+    leader: &mut Leader,
+    workers: &[MuxWorker],
+    start: u32,
+) -> Result<Next, Memory>
     requires sound { IsSound stage.now }
-    requires sync { head.old.next < length stage.now.script.commands
-        → IsSyncCommand (slice_get stage.now.script.commands head.old.next) }
-    ensures { IfOk result (HasMet stage.now head.old head.new workers.now start) }
+    requires sync { leader.old.next < length stage.now.script.commands
+        → IsSyncCommand (slice_get stage.now.script.commands leader.old.next) }
+    ensures { IfOk result (HasMet stage.now leader.old leader.new workers.now start) }
 {
-    if head.next >= stage.script.commands.items().len() {
+    if leader.next >= stage.script.commands.items().len() {
         return Ok(Next::End);
     }
-    match sync(stage, head, latest_of(head, workers)) {
+    match sync(stage, leader, latest_of(leader, workers)) {
         Ok(()) => Ok(Next::Phase(start)),
         Err(Stop::Late { .. }) => Ok(Next::Late),
         Err(Stop::Memory) => Err(Memory),
@@ -194,33 +199,33 @@ pub(crate) fn run_phase<W: Threads + Wait + Sync, F: Fn(u32, Hop) -> Fate + Sync
     rt: &W,
     shared: &Shared<'_, F, G>,
     poster: &mut Poster,
-    head: &mut Head,
+    leader: &mut Leader,
     workers: &mut [MuxWorker],
     start: u32,
 ) -> Result<Next, Memory>
     requires rule { IsRule F.Fn shared.now.rule }
-    requires between { In F.Fn shared.now IsBetween shared.now.routes poster.old head.old
+    requires between { In F.Fn shared.now IsBetween shared.now.routes poster.old leader.old
         workers.old start }
     ensures next { IfOk result
-        (In F.Fn shared.now IsNext shared.now.routes poster.new head.new workers.new) }
+        (In F.Fn shared.now IsNext shared.now.routes poster.new leader.new workers.new) }
     ensures fewer { IfOk result (λ next. let all = length shared.now.stage.script.commands in
-        left_of next head.new.next all < suc (all - head.old.next)) }
+        left_of next leader.new.next all < suc (all - leader.old.next)) }
     ensures count { length workers.new ≡ length workers.old }
 {
     let stage = shared.stage();
-    let place = sync_place(stage.script.commands.items(), head.next);
+    let place = sync_place(stage.script.commands.items(), leader.next);
     let until = records_end(stage, place, start);
     let span = Span {
         from: start,
         until,
-        after: head.caller.latest(),
+        after: leader.caller.latest(),
     };
     tell_all(poster, workers);
-    let led = work_beside(rt, shared, poster, head, workers, span, place);
+    let led = work_beside(rt, shared, poster, leader, workers, span, place);
     if is_late(led, workers)? {
         return Ok(Next::Late);
     }
-    meet(stage, head, workers, until)
+    meet(stage, leader, workers, until)
 }
 
 /// All phases. Returns whether a worker gave up for a moment that was too large.
@@ -228,20 +233,20 @@ pub(crate) fn run_phases<W: Threads + Wait + Sync, F: Fn(u32, Hop) -> Fate + Syn
     rt: &W,
     shared: &Shared<'_, F, G>,
     poster: &mut Poster,
-    head: &mut Head,
+    leader: &mut Leader,
     workers: &mut [MuxWorker],
 ) -> Result<bool, Memory>
     requires rule { IsRule F.Fn shared.now.rule }
-    requires first { In F.Fn shared.now IsBetween shared.now.routes poster.old head.old
+    requires first { In F.Fn shared.now IsBetween shared.now.routes poster.old leader.old
         workers.old 0 }
     ensures late { IfOk result (λ late. MatchBool late
-        (In F.Fn shared.now HasGivenUp poster.new head.new workers.new)
-        (In F.Fn shared.now IsThrough shared.now.routes poster.new head.new workers.new)) }
+        (In F.Fn shared.now HasGivenUp poster.new leader.new workers.new)
+        (In F.Fn shared.now IsThrough shared.now.routes poster.new leader.new workers.new)) }
     ensures count { length workers.new ≡ length workers.old }
 {
     let mut next = Next::Phase(0);
     while let Next::Phase(start) = next {
-        next = run_phase(rt, shared, poster, head, workers, start)?;
+        next = run_phase(rt, shared, poster, leader, workers, start)?;
     }
     Ok(next == Next::Late)
 }

@@ -3,7 +3,7 @@ ghost use Rattle.std.specs.Prelude.{◌≡◌, ℕ, ◌<◌, ◌≤◌, length, 
 ghost use Rattle.bm_base.specs.declared.capture.Record.{Record as Recorded};
 ghost use Rattle.bm_core.specs.Accounts.{wants_sync};
 ghost use Rattle.bm_table.specs.declared.script.Command.TheVariants.{Sync};
-ghost use Rattle.bm_lead.specs.Heads.{IsPhase, IsSyncCommand};
+ghost use Rattle.bm_lead.specs.Leaders.{IsPhase, IsSyncCommand};
 
 use bm_base::{Moment, Record};
 use bm_table::Command;

@@ -4,10 +4,10 @@ use Rattle.bm_base.specs.declared.ids.Moment.{Moment}
 use Rattle.bm_base.specs.declared.ids.Version.{Version}
 use Rattle.bm_core.specs.declared.events.What.TheVariants.{Publish}
 use Rattle.bm_publish.specs.Posts.{Posted, with_post}
-use Rattle.bm_lead.specs.declared.head.Head.{Head}
+use Rattle.bm_lead.specs.declared.leader.Leader.{Leader}
 
 -- one more change
-pub record HasAdded (p q : Posted) (a b : Head) : Type 0 where
+pub record HasAdded (p q : Posted) (a b : Leader) : Type 0 where
   pub version : Version
   pub clock : Moment
   pub next : version.0 ≡ a.published.0 + 1

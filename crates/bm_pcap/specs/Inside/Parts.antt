@@ -9,7 +9,7 @@ use Rattle.bm_pcap.specs.declared.place.Place.{Place}
 use Rattle.bm_pcap.specs.Limits.{latest, longest, most_records}
 use Rattle.bm_pcap.specs.declared.step.Head.{Head}
 use Rattle.bm_pcap.specs.declared.step.Head.TheVariants as head
-use Rattle.bm_pcap.specs.Records.{cut, end, next_of, behind_header, time_of, captured_length}
+use Rattle.bm_pcap.specs.Records.{cut, end, next_of, after_header, time_of, captured_length}
 
 -- If a record's header states a time and a length, what follows the header decides; otherwise the
 -- header decides alone. A failed read says nothing.
@@ -18,7 +18,7 @@ HeadGives None form place result = Unit {0}
 HeadGives (Some octets) form place (Ok head.End) = next_of form place octets ≡ Ok end
 HeadGives (Some octets) form place (Ok head.Cut) = next_of form place octets ≡ Ok cut
 HeadGives (Some octets) form place (Ok (head.States time len)) =
-    (next_of form place octets ≡ behind_header form place.number place.room len octets)
+    (next_of form place octets ≡ after_header form place.number place.room len octets)
     × (time ≡ time_of form (take 16 octets))
     × (16 ≤ length octets)
 HeadGives (Some octets) form place (Err ReadFault) = Unit {0}

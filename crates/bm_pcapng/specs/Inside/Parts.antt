@@ -18,7 +18,7 @@ use Rattle.bm_pcapng.specs.declared.step.Head.{Head}
 use Rattle.bm_pcapng.specs.declared.step.Head.TheVariants as head
 use Rattle.bm_pcapng.specs.declared.step.Step.{Step}
 use Rattle.bm_pcapng.specs.declared.step.Step.TheVariants as step
-use Rattle.bm_pcapng.specs.Blocks.{behind_head, is_length, is_packet, is_section, least_length}
+use Rattle.bm_pcapng.specs.Blocks.{after_head, is_length, is_packet, is_section, least_length}
 use Rattle.bm_pcapng.specs.Blocks.{next_of}
 use Rattle.bm_pcapng.specs.Blocks.{order_of}
 use Rattle.bm_pcapng.specs.Capture.{first_order}
@@ -45,7 +45,7 @@ abbrev pub HeadSays : Result Step CaptureFault → List Interface → Place → 
 HeadSays found interfaces place octets (Ok head.End) = found ≡ Ok step.End
 HeadSays found interfaces place octets (Ok head.Cut) = found ≡ Ok step.Cut
 HeadSays found interfaces place octets (Ok (head.States kind own n)) =
-    found ≡ behind_head kind own interfaces place n octets
+    found ≡ after_head kind own interfaces place n octets
 HeadSays found interfaces place octets (Err ReadFault) = Unit {0}
 HeadSays found interfaces place octets (Err e) = found ≡ Err e
 
@@ -59,7 +59,7 @@ HeadGives (Some octets) order interfaces place result =
 abbrev pub HeadIn : Order → List Interface → Place → List ℕ → Head → Type 0
 HeadIn order interfaces place ahead (head.States kind own n) =
     (octets : List ℕ) → Begins ahead octets
-    → next_of order interfaces place octets ≡ behind_head kind own interfaces place n octets
+    → next_of order interfaces place octets ≡ after_head kind own interfaces place n octets
 HeadIn order interfaces place ahead other = Unit {0}
 
 -- A head after which reading goes on has a length that its kind may have, and fits its place.

@@ -35,5 +35,5 @@ abbrev pub last_lines : History → List ℕ
 last_lines h = note_line h.stage.capture.cut ++ totals_line (totals_of h)
 
 -- what comes after the lines of the events: the lines of the records, the note and the totals
-abbrev pub lines_behind : History → List ℕ
-lines_behind h = record_lines (reverse h.events) 1 h.stage.capture.records ++ last_lines h
+abbrev pub lines_after : History → List ℕ
+lines_after h = record_lines (reverse h.events) 1 h.stage.capture.records ++ last_lines h

@@ -31,7 +31,7 @@ use Rattle.bm_worker.specs.WorkerNotes.{IsSameCaller, note_at, no_fate}
 use Rattle.bm_worker.specs.Inside.Pending.{CanSend, Pending, IsAmong, IsCopyOf, IsUpTo, comes, comes_by}
 use Rattle.bm_worker.specs.Inside.Pending.{copyless_at}
 use Rattle.bm_worker.specs.Inside.Pending.{pending, gives, gives_by, lost_at}
-use Rattle.bm_worker.specs.Phases.{AreFew, HasEnded, IsStopOf, Kept, Stint, mux_for}
+use Rattle.bm_worker.specs.Phases.{AreFew, HasEnded, IsStopOf, Kept, Task, mux_for}
 use Rattle.bm_worker.specs.Phases.{entries_per_packet, tries_per_packet}
 use Rattle.bm_worker.specs.Assigned.{is_assigned, assigned_mux}
 
@@ -104,7 +104,7 @@ switch_notes m seen past =
 -- DELIVERED
 
 -- the notes x complete the sendings in s, and those in x
-pub record PaysFor (s x : List Note) : Type 0 where
+pub record CompletesAll (s x : List Note) : Type 0 where
   pub lost : (k : ℕ) (hop : Hop) (clock : ℕ) → total (lost_at k hop clock) x
       ≡ total (copyless_at k hop clock) s + total (copyless_at k hop clock) x
   pub sent : (k : ℕ) (hop : Hop) (clock : ℕ) → total (comes_by k hop clock) x
@@ -113,23 +113,23 @@ pub record PaysFor (s x : List Note) : Type 0 where
       ≡ total (gives k hop) s + total (gives k hop) x
 
 -- a steered packet among the notes of a phase
-pub record IsOwed (stint : Stint) (deeds : List Note) (d : Pending) : Type 0 where
+pub record HasSending (task : Task) (notes : List Note) (d : Pending) : Type 0 where
   pub note : Note
-  pub among : IsAmong note deeds
+  pub among : IsAmong note notes
   pub sending : sends note.event.what d.packet d.hop ≡ true
   pub clock : note.event.clock.0 ≡ d.clock
   pub fate : note.fate ≡ d.fate
-  pub steered : 1 ≤ many (λ y. steers_packet y.event.what d.packet) deeds
-  pub later : stint.after < d.clock
-  pub within : (stint.from < d.packet) × (d.packet ≤ stint.until)
+  pub steered : 1 ≤ many (λ y. steers_packet y.event.what d.packet) notes
+  pub later : task.after < d.clock
+  pub within : (task.from < d.packet) × (d.packet ≤ task.until)
 
 -- each of these is, with its fate, and their numbers rise
-abbrev pub AreOwed : Stint → List Note → ℕ → List Steered → List Fate → Type 0
-AreOwed stint deeds low [] fates = Unit {0}
-AreOwed stint deeds low (t ∷ sents) [] = ⊥
-AreOwed stint deeds low (t ∷ sents) (f ∷ fates) =
-    (low < t.packet) × IsOwed stint deeds (pending t.packet Direct t.clock.0 f)
-    × AreOwed stint deeds t.packet sents fates
+abbrev pub HaveSendings : Task → List Note → ℕ → List Steered → List Fate → Type 0
+HaveSendings task notes low [] fates = Unit {0}
+HaveSendings task notes low (t ∷ sents) [] = ⊥
+HaveSendings task notes low (t ∷ sents) (f ∷ fates) =
+    (low < t.packet) × HasSending task notes (pending t.packet Direct t.clock.0 f)
+    × HaveSendings task notes t.packet sents fates
 
 -- a copy of the packet for the server of its tag
 abbrev pub IsSent : Stage → List Serving → MuxState → Steered → Type 0
@@ -153,24 +153,24 @@ abbrev pub Delivers : Rules → Stage → List Serving → List Steered → List
     → MuxWorker
     → Result (Unit {0}) Stop → Type 0
 Delivers F stage servers sents fates old new result =
-    (stint : Stint) (deeds : List Note) (low : ℕ) → Kept F stage servers stint old deeds
-    → AreOwed stint deeds low sents fates → AllByRecursion (λ y. IsUpTo low y.event.what) deeds
-    → (x : List Note) × Kept F stage servers stint new (x ++ deeds) × (length x ≤ tries_per_packet * length sents)
+    (task : Task) (notes : List Note) (low : ℕ) → Kept F stage servers task old notes
+    → HaveSendings task notes low sents fates → AllByRecursion (λ y. IsUpTo low y.event.what) notes
+    → (x : List Note) × Kept F stage servers task new (x ++ notes) × (length x ≤ tries_per_packet * length sents)
     × AllByRecursion (λ y. IsDelivery y.event.what) x
     × MatchResult result
-    (λ _. PaysFor (sent_notes (mux_for stint) sents fates) x
+    (λ _. CompletesAll (sent_notes (mux_for task) sents fates) x
     × AllByRecursion (λ y. IsUpTo (last_sent low sents) y.event.what) x)
-    (λ stop. IsStopOf (x ++ deeds) stop)
+    (λ stop. IsStopOf (x ++ notes) stop)
 
 -- HOW FAR A PHASE IS
 
 -- every sending among the notes is completed
-pub record AreSettled (deeds : List Note) : Type 0 where
-  pub lost : (k : ℕ) (hop : Hop) (clock : ℕ) → total (lost_at k hop clock) deeds
-      ≡ total (copyless_at k hop clock) deeds
-  pub sent : (k : ℕ) (hop : Hop) (clock : ℕ) → total (comes_by k hop clock) deeds
-      ≤ total (gives_by k hop clock) deeds
-  pub arrived : (k : ℕ) (hop : Hop) → total (comes k hop) deeds ≡ total (gives k hop) deeds
+pub record AreSettled (notes : List Note) : Type 0 where
+  pub lost : (k : ℕ) (hop : Hop) (clock : ℕ) → total (lost_at k hop clock) notes
+      ≡ total (copyless_at k hop clock) notes
+  pub sent : (k : ℕ) (hop : Hop) (clock : ℕ) → total (comes_by k hop clock) notes
+      ≤ total (gives_by k hop clock) notes
+  pub arrived : (k : ℕ) (hop : Hop) → total (comes k hop) notes ≡ total (gives k hop) notes
 
 -- a Steer is of this packet or an earlier one
 abbrev pub IsSteerTo : ℕ → What → Type 0
@@ -183,21 +183,21 @@ pub record IsLogged (m : MuxId) (next : ℕ) (e : Event) : Type 0 where
   pub packet : IsSteerTo next e.what
 
 -- the phase is done up to the place next
-pub record IsDoneTo (F : Rules) (stage : Stage) (servers : List Serving) (stint : Stint)
+pub record IsDoneTo (F : Rules) (stage : Stage) (servers : List Serving) (task : Task)
     (now : MuxWorker) (next : ℕ)
-    (deeds : List Note) : Type 0 where
-  pub from : stint.from ≤ next
-  pub kept : Kept F stage servers stint now deeds
-  pub settled : AreSettled deeds
-  pub steered : (k : ℕ) → many (λ n. steers_packet n.event.what k) deeds
-      ≡ (if is_assigned stint.routes (mux_for stint).0 stint.from next k then 1 else 0)
-  pub looked : 1 ≤ many (λ n. is_switch_of n.event.what (mux_for stint).0) deeds
-  pub heard : Continues stint.told now.mux.seen
-  pub few : AreFew deeds
-  pub first : AllByRecursion (λ y. IsUpTo next y.event.what) deeds
-  pub logged : AllByRecursion (IsLogged (mux_for stint) next) (reverse now.mux.log)
-  pub switched : switched_since stint.after (mux_for stint).0 (reverse now.mux.log) ≡ true
-  pub begun : stint.after < steering_clock (reverse now.mux.log)
+    (notes : List Note) : Type 0 where
+  pub from : task.from ≤ next
+  pub kept : Kept F stage servers task now notes
+  pub settled : AreSettled notes
+  pub steered : (k : ℕ) → many (λ n. steers_packet n.event.what k) notes
+      ≡ (if is_assigned task.routes (mux_for task).0 task.from next k then 1 else 0)
+  pub looked : 1 ≤ many (λ n. is_switch_of n.event.what (mux_for task).0) notes
+  pub heard : Continues task.posted now.mux.seen
+  pub few : AreFew notes
+  pub first : AllByRecursion (λ y. IsUpTo next y.event.what) notes
+  pub logged : AllByRecursion (IsLogged (mux_for task) next) (reverse now.mux.log)
+  pub switched : switched_since task.after (mux_for task).0 (reverse now.mux.log) ≡ true
+  pub begun : task.after < steering_clock (reverse now.mux.log)
 
 -- what the worker did is recorded: the caller has the mux's clock, and nothing else changed
 pub record HasSeen (old new : MuxWorker) : Type 0 where
@@ -218,10 +218,10 @@ pub record HasOnlyLooked (old new : MuxWorker) : Type 0 where
 abbrev pub CarriesTo : Rules → Stage → List Serving → List (Option MuxId) → ℕ → ℕ → MuxWorker
     → MuxWorker → Result ℕ Stop → Type 0
 CarriesTo F stage servers routes from until old new result =
-    (stint : Stint) (deeds : List Note) → stint.routes ≡ routes → until ≤ stint.until
-    → IsDoneTo F stage servers stint old from deeds
-    → MatchResult result (λ end. (d : List Note) × IsDoneTo F stage servers stint new end d)
-    (λ stop. HasEnded F stage servers stint new (Some stop))
+    (task : Task) (notes : List Note) → task.routes ≡ routes → until ≤ task.until
+    → IsDoneTo F stage servers task old from notes
+    → MatchResult result (λ end. (d : List Note) × IsDoneTo F stage servers task new end d)
+    (λ stop. HasEnded F stage servers task new (Some stop))
 
 -- the worker may carry its mux's packets of this many places
 pub record CanCarry (stage : Stage) (servers : List Serving) (places : ℕ) (w : MuxWorker) : Type
@@ -239,8 +239,8 @@ pub record GrowsBy (places : ℕ) (old new : MuxWorker) : Type 0 where
   pub log : length new.mux.log ≤ length old.mux.log + entries_per_packet * places
 
 -- the phase is done, or the worker gave up in it and returns why
-abbrev pub EndsAs : Rules → Stage → List Serving → Stint → MuxWorker → Result (Unit {0}) Stop
+abbrev pub EndsAs : Rules → Stage → List Serving → Task → MuxWorker → Result (Unit {0}) Stop
     → Type 0
-EndsAs F stage servers stint now result =
-    MatchResult result (λ _. HasEnded F stage servers stint now None)
-    (λ stop. HasEnded F stage servers stint now (Some stop))
+EndsAs F stage servers task now result =
+    MatchResult result (λ _. HasEnded F stage servers task now None)
+    (λ stop. HasEnded F stage servers task now (Some stop))

@@ -31,8 +31,8 @@ use Rattle.bm_server.specs.Servings.{Serving}
 use Rattle.bm_worker.specs.declared.stop.Stop.{Stop}
 use Rattle.bm_worker.specs.declared.stop.Stop.TheVariants.{Late}
 use Rattle.bm_worker.specs.declared.worker.MuxWorker.{MuxWorker}
-use Rattle.bm_worker.specs.WorkerNotes.{IsSameCaller, Sits}
-use Rattle.bm_worker.specs.Phases.{IsStopOf, Kept, Stint}
+use Rattle.bm_worker.specs.WorkerNotes.{IsSameCaller, HasSeats}
+use Rattle.bm_worker.specs.Phases.{IsStopOf, Kept, Task}
 
 -- a sending, with what has to come of it
 pub record Pending : Type 0 where
@@ -85,7 +85,7 @@ pending_copyless d k hop clock =
 
 -- the notes x complete the copies of the sending, and all sendings in x; with `whole`, a sending
 -- without copies has its Lose in x
-pub record Pays (whole : Bool) (d : Pending) (x : List Note) : Type 0 where
+pub record Completes (whole : Bool) (d : Pending) (x : List Note) : Type 0 where
   pub lost : (k : ℕ) (hop : Hop) (clock : ℕ) → total (lost_at k hop clock) x
       ≡ (if whole then pending_copyless d k hop clock else 0) + total (copyless_at k hop clock) x
   pub sent : (k : ℕ) (hop : Hop) (clock : ℕ) → total (comes_by k hop clock) x
@@ -97,7 +97,7 @@ pub record Pays (whole : Bool) (d : Pending) (x : List Note) : Type 0 where
 
 -- each sum over the notes has the note's part, so it is one of them
 abbrev pub IsAmong : Note → List Note → Type 0
-IsAmong n deeds = (f : Note → ℕ) → f n ≤ total f deeds
+IsAmong n notes = (f : Note → ℕ) → f n ≤ total f notes
 
 -- an arrival is of this packet or an earlier one
 abbrev pub IsUpTo : ℕ → What → Type 0
@@ -105,16 +105,16 @@ IsUpTo k (Arrive j hop server verdict) = j ≤ k
 IsUpTo k _ = Unit {0}
 
 -- one of the notes is this sending, of a packet of the phase, and no later packet has arrived
-pub record Owes (stint : Stint) (deeds : List Note) (d : Pending) : Type 0 where
+pub record AwaitsCopies (task : Task) (notes : List Note) (d : Pending) : Type 0 where
   pub note : Note
-  pub among : IsAmong note deeds
+  pub among : IsAmong note notes
   pub sending : sends note.event.what d.packet d.hop ≡ true
   pub clock : note.event.clock.0 ≡ d.clock
   pub fate : note.fate ≡ d.fate
-  pub steered : 1 ≤ many (λ y. steers_packet y.event.what d.packet) deeds
-  pub later : stint.after < d.clock
-  pub within : (stint.from < d.packet) × (d.packet ≤ stint.until)
-  pub first : AllByRecursion (λ y. IsUpTo d.packet y.event.what) deeds
+  pub steered : 1 ≤ many (λ y. steers_packet y.event.what d.packet) notes
+  pub later : task.after < d.clock
+  pub within : (task.from < d.packet) × (d.packet ≤ task.until)
+  pub first : AllByRecursion (λ y. IsUpTo d.packet y.event.what) notes
 
 -- a copy of the packet arrives, or a sending of it is lost
 abbrev pub IsOf : ℕ → What → Type 0
@@ -123,41 +123,41 @@ IsOf k (Lose j hop) = j ≡ k
 IsOf k _ = ⊥
 
 -- the worker went on with these notes, all of the packet
-pub record GoesOn (F : Rules) (stage : Stage) (servers : List Serving) (stint : Stint)
+pub record GoesOn (F : Rules) (stage : Stage) (servers : List Serving) (task : Task)
     (packet most : ℕ)
-    (now : MuxWorker) (deeds x : List Note) : Type 0 where
-  pub kept : Kept F stage servers stint now (x ++ deeds)
+    (now : MuxWorker) (notes x : List Note) : Type 0 where
+  pub kept : Kept F stage servers task now (x ++ notes)
   pub packets : AllByRecursion (λ n. IsOf packet n.event.what) x
   pub few : length x ≤ most
 
 -- the copies of the sending are completed, with `whole` its Lose too, or the worker gave up
-abbrev pub IsPaid : Bool → Pending → List Note → List Note → Result (Unit {0}) Stop → Type 0
-IsPaid whole d deeds x result =
-    MatchResult result (λ _. Pays whole d x) (λ stop. IsStopOf (x ++ deeds) stop)
+abbrev pub IsCompleted : Bool → Pending → List Note → List Note → Result (Unit {0}) Stop → Type 0
+IsCompleted whole d notes x result =
+    MatchResult result (λ _. Completes whole d x) (λ stop. IsStopOf (x ++ notes) stop)
 
 -- in every phase that has this sending, it is completed with at most this many notes, or the worker
 -- gave up
 abbrev pub Carries : Rules → Stage → List Serving → Pending → ℕ → MuxWorker → MuxWorker
     → Result (Unit {0}) Stop → Type 0
 Carries F stage servers d most old new result =
-    (stint : Stint) (deeds : List Note) → Kept F stage servers stint old deeds → Owes stint deeds d
-    → (x : List Note) × GoesOn F stage servers stint d.packet most new deeds x
-    × IsPaid true d deeds x result
+    (task : Task) (notes : List Note) → Kept F stage servers task old notes → AwaitsCopies task notes d
+    → (x : List Note) × GoesOn F stage servers task d.packet most new notes x
+    × IsCompleted true d notes x result
 
 -- the same for one copy of it
 abbrev pub CarriesOne : Rules → Stage → List Serving → Pending → ℕ → MuxWorker → MuxWorker
     → Result (Unit {0}) Stop → Type 0
 CarriesOne F stage servers d most old new result =
-    (stint : Stint) (deeds : List Note) → Kept F stage servers stint old deeds → Owes stint deeds d
-    → (x : List Note) × GoesOn F stage servers stint d.packet most new deeds x
-    × IsPaid false (with_copies d 1) deeds x result
+    (task : Task) (notes : List Note) → Kept F stage servers task old notes → AwaitsCopies task notes d
+    → (x : List Note) × GoesOn F stage servers task d.packet most new notes x
+    × IsCompleted false (with_copies d 1) notes x result
 
 -- i copies of it are completed
 abbrev pub HasCarried : Rules → Stage → List Serving → Pending → ℕ → ℕ → MuxWorker → MuxWorker → Type 0
 HasCarried F stage servers d i most old now =
-    (stint : Stint) (deeds : List Note) → Kept F stage servers stint old deeds → Owes stint deeds d
-    → (x : List Note) × GoesOn F stage servers stint d.packet most now deeds x
-    × Pays false (with_copies d i) x
+    (task : Task) (notes : List Note) → Kept F stage servers task old notes → AwaitsCopies task notes d
+    → (x : List Note) × GoesOn F stage servers task d.packet most now notes x
+    × Completes false (with_copies d i) x
 
 -- THE WORKER
 
@@ -176,7 +176,7 @@ GrowsByLosses most old new =
 
 -- the worker has its seats at the servers, and may make this many calls
 pub record CanSend (servers : List Serving) (calls : ℕ) (w : MuxWorker) : Type 0 where
-  pub sits : Sits servers w.caller
+  pub has_seats : HasSeats servers w.caller
   pub number : w.caller.number ≡ w.mux.id.0 + 1
   pub few : w.caller.tries + calls ≤ 4294967295
 

@@ -17,8 +17,8 @@ use Rattle.bm_core.specs.Threads.{last_own, moment_at, record_moment}
 use Rattle.bm_shard.specs.Books.{Book}
 use Rattle.bm_merge.specs.Merges.{some_event}
 use Rattle.bm_merge.specs.Notes.{Note}
-use Rattle.bm_merge.specs.Workers.{IsBefore, IsDrawn, IsOwed, IsUnderway, carries, command_of}
-use Rattle.bm_merge.specs.Workers.{deeds_of, all_deeds}
+use Rattle.bm_merge.specs.Workers.{IsBefore, IsDrawn, HasSending, IsUnderway, carries, command_of}
+use Rattle.bm_merge.specs.Workers.{notes_by, notes_of_all}
 use Rattle.bm_mux.specs.Muxes.{post_clock}
 use Rattle.bm_worker.specs.Phases.{mux_log, IsLossOf}
 use Rattle.bm_world.specs.Inside.Returned.{HaveOwnBooks, IsBooked, IsBookOfAll, control_log}
@@ -44,16 +44,16 @@ IsSteerable stage _ = Unit {0}
 
 -- what worker m + 1 did, whether it gave up or not
 pub record IsLeft (F : Rules) (stage : Stage) (control : List Event) (posts : List ℕ) (m : ℕ)
-    (deeds : List Note)
+    (notes : List Note)
     : Type 0 where
-  pub kinds : AllByRecursion (λ n. carries m n.event.what ≡ true) deeds
-  pub seats : AllByRecursion (λ n. n.seat ≡ suc m) deeds
-  pub owed : AllByRecursion (λ n. IsOwed deeds n n.event.what) deeds
-  pub drawn : AllByRecursion (IsDrawn F) deeds
-  pub losses : AllByRecursion (λ n. IsLossOf deeds n.event.clock.0 n.event.what) deeds
-  pub steerable : AllByRecursion (λ n. IsSteerable stage n.event.what) deeds
+  pub kinds : AllByRecursion (λ n. carries m n.event.what ≡ true) notes
+  pub seats : AllByRecursion (λ n. n.seat ≡ suc m) notes
+  pub has_sending : AllByRecursion (λ n. HasSending notes n n.event.what) notes
+  pub drawn : AllByRecursion (IsDrawn F) notes
+  pub losses : AllByRecursion (λ n. IsLossOf notes n.event.clock.0 n.event.what) notes
+  pub steerable : AllByRecursion (λ n. IsSteerable stage n.event.what) notes
   pub gives : AtEach (λ rest e. IsMuxClocked stage control posts rest e.clock.0 e.what)
-      (mux_log stage m deeds)
+      (mux_log stage m notes)
 
 -- a Sync is at the clock after both its command's moment and 0 or a lower clock of what was done
 abbrev pub IsSynced : Stage → List Note → Note → What → Type 0
@@ -69,11 +69,11 @@ pub record AreLeft (F : Rules) (stage : Stage) (controller : List Note)
   pub controls : AtEach (IsUnderway stage) controller
   pub seats : AllByRecursion (λ n. n.seat ≡ 0) controller
   pub synced : AllByRecursion
-      (λ n. IsSynced stage (controller ++ all_deeds carriers) n n.event.what) controller
+      (λ n. IsSynced stage (controller ++ notes_of_all carriers) n n.event.what) controller
   pub each : (m : ℕ) → m < length carriers
       → IsLeft F stage (control_log stage controller) (posted_clocks (control_log stage controller))
-      m (deeds_of carriers m)
+      m (notes_by carriers m)
   pub kept : AllByRecursion (IsBookOfAll stage controller carriers) books
   pub own : HaveOwnBooks books
   pub booked : AllByRecursion (λ n. IsBooked stage books n.event.what)
-      (controller ++ all_deeds carriers)
+      (controller ++ notes_of_all carriers)

@@ -27,7 +27,7 @@ use Rattle.bm_shard.specs.declared.calls.ShardCall.TheVariants.{Arrive}
 use Rattle.bm_shard.specs.Books.{Book, Replays}
 use Rattle.bm_shard.specs.Laws.{IsOf}
 use Rattle.bm_merge.specs.Notes.{Note, events_of, many, until}
-use Rattle.bm_merge.specs.Workers.{deeds_of, all_deeds, home_part}
+use Rattle.bm_merge.specs.Workers.{notes_by, notes_of_all, home_part}
 use Rattle.bm_merge.specs.Workers.{looks_since, IsCarrier, IsController, IsMet}
 use Rattle.bm_worker.specs.Phases.{mux_log, IsInOrder, IsMuxGiven}
 pub use Rattle.bm_lead.specs.Commands.{control_log, posted_clocks, IsControlStep, IsJudgedBy}
@@ -53,13 +53,13 @@ IsPhasedBy stage control n =
 -- what worker m + 1 did, given the controller's log and the posts
 pub record IsCarriage (R : Routes) (F : Rules) (stage : Stage) (control : List Event)
     (posts : List ℕ) (m : ℕ)
-    (deeds : List Note) : Type 0 where
-  pub carrier : IsCarrier R F stage m deeds
-  pub seats : AllByRecursion (λ n. n.seat ≡ suc m) deeds
-  pub positive : AllByRecursion (λ n. 0 < n.event.clock.0) deeds
-  pub ordered : AtEach (λ rest n. IsInOrder rest n.event.what) deeds
-  pub gives : AtEach (IsMuxGivenBy stage control posts) (mux_log stage m deeds)
-  pub phases : AllByRecursion (IsPhasedBy stage control) deeds
+    (notes : List Note) : Type 0 where
+  pub carrier : IsCarrier R F stage m notes
+  pub seats : AllByRecursion (λ n. n.seat ≡ suc m) notes
+  pub positive : AllByRecursion (λ n. 0 < n.event.clock.0) notes
+  pub ordered : AtEach (λ rest n. IsInOrder rest n.event.what) notes
+  pub gives : AtEach (IsMuxGivenBy stage control posts) (mux_log stage m notes)
+  pub phases : AllByRecursion (IsPhasedBy stage control) notes
 
 -- WORKER 0
 
@@ -77,7 +77,7 @@ abbrev pub IsCopied : Stage → List (List Note) → Shard → ShardCall → Typ
 IsCopied stage carriers about (Arrive packet tag segment due) =
     (segment_of stage packet ≡ Some segment) × (shard stage segment.flow ≡ about.number)
     × ((label : Label)
-    × (label_of stage (mux_log stage label.mux.0 (deeds_of carriers label.mux.0)) packet
+    × (label_of stage (mux_log stage label.mux.0 (notes_by carriers label.mux.0)) packet
     ≡ Some label)
     × (tag_of label tag.hop ≡ Some tag) × (tag.dest ≡ about.server))
 IsCopied stage carriers about _ = Unit {0}
@@ -90,7 +90,7 @@ pub record IsBookOfAll (stage : Stage) (controller : List Note) (carriers : List
   pub replays : Replays book.shard (reverse book.entries)
   pub told : (w : ℕ) → AreNoted (entries_by w (reverse book.entries))
       (home_part stage (ShardOf book.shard.server.0 book.shard.number)
-      (deeds_of (controller ∷ carriers) w))
+      (notes_by (controller ∷ carriers) w))
   pub copied : AllByRecursion (λ e. IsCopied stage carriers book.shard e.call)
       (reverse book.entries)
 
@@ -125,21 +125,21 @@ pub record AreHandedBack (R : Routes) (F : Rules) (stage : Stage) (controller : 
   pub carried : (m : ℕ) → m < length carriers
       → IsCarriage R F stage (control_log stage controller)
       (posted_clocks (control_log stage controller)) m
-      (deeds_of carriers m)
+      (notes_by carriers m)
   -- each steerable record is steered once, by one of the workers, and no other is
   pub steered : (k : ℕ)
-      → many (λ n. steers_packet n.event.what k) (all_deeds carriers)
+      → many (λ n. steers_packet n.event.what k) (notes_of_all carriers)
       ≡ (if is_some (segment_of stage k) then 1 else 0)
   -- each Sync comes after what all workers did of its phase
   pub met : AtEach
-      (λ rest n. IsMet stage (controller ++ all_deeds carriers) (events_of rest) n n.event.what)
+      (λ rest n. IsMet stage (controller ++ notes_of_all carriers) (events_of rest) n n.event.what)
       (home_part stage Controller controller)
   pub changes : newest (control_log stage controller) ≡ length stage.script.plan.changes
   -- each mux has looked in the last phase too
   pub looked : (m : ℕ) → m < stage.script.setting.muxes
       → 1 ≤ many (looks_since m (sync_clock (control_log stage controller)))
-      (controller ++ all_deeds carriers)
+      (controller ++ notes_of_all carriers)
   pub kept : AllByRecursion (IsBookOfAll stage controller carriers) books
   pub own : HaveOwnBooks books
   pub booked : AllByRecursion (λ n. IsBooked stage books n.event.what)
-      (controller ++ all_deeds carriers)
+      (controller ++ notes_of_all carriers)

@@ -18,15 +18,15 @@ use Rattle.bm_merge.specs.Notes.{Note}
 use Rattle.bm_server.specs.Seats.{Seated, most_turns}
 use Rattle.bm_server.specs.Servings.{Serving}
 use Rattle.bm_publish.specs.Posts.{Continues, IsPosted, Posted}
-use Rattle.bm_worker.specs.WorkerNotes.{Suits}
+use Rattle.bm_worker.specs.WorkerNotes.{AreServersOf}
 use Rattle.bm_worker.specs.Phases.{HasWorked}
 use Rattle.bm_worker.specs.Assigned.{RoutedBy}
 use Rattle.bm_worker.specs.declared.span.Span.{Span}
 use Rattle.bm_worker.specs.declared.stop.Stop.{Stop}
 use Rattle.bm_worker.specs.declared.stop.Stop.TheVariants.{Late, Memory}
 use Rattle.bm_worker.specs.declared.worker.MuxWorker.{MuxWorker}
-use Rattle.bm_lead.specs.declared.head.Head.{Head}
-use Rattle.bm_lead.specs.Heads.{IsReady, IsStopFrom}
+use Rattle.bm_lead.specs.declared.leader.Leader.{Leader}
+use Rattle.bm_lead.specs.Leaders.{IsReady, IsStopFrom}
 use Rattle.bm_lead.specs.Leads.{HasSynced, IsLed, IsPlaced}
 use Rattle.bm_lead.specs.Rests.{Adds}
 use Rattle.bm_world.specs.declared.phase.Next.{Next}
@@ -50,12 +50,12 @@ pub record IsNewWorker (look : Posted) (seats : List (List Seated)) (m : ℕ) (w
   pub stop : w.stop ≡ None
 
 -- the worker, once it knows what is posted
-abbrev pub told_what : Posted → MuxWorker → MuxWorker
-told_what posted w = record w { told = Some posted }
+abbrev pub with_posts : Posted → MuxWorker → MuxWorker
+with_posts posted w = record w { posted = Some posted }
 
 -- each worker's seats
 abbrev pub rows_of : List (List Seated) → List MuxWorker → List (List (List Seated))
-rows_of head workers = head ∷ map (λ w. w.caller.seats) workers
+rows_of leader workers = leader ∷ map (λ w. w.caller.seats) workers
 
 -- the greatest clock of what these workers did
 abbrev pub latest_in : List MuxWorker → ℕ
@@ -66,41 +66,41 @@ latest_in (w ∷ workers) = max w.caller.latest (latest_in workers)
 
 -- what the workers did, after p Syncs, with the records before the place `until` carried
 pub record IsStanding (F : Rules) (stage : Stage) (servers : List Serving)
-    (routes : List (Option MuxId)) (posted : Posted) (head : Head) (workers : List MuxWorker)
+    (routes : List (Option MuxId)) (posted : Posted) (leader : Leader) (workers : List MuxWorker)
     (p phases until : ℕ) (controller : List Note) (carriers : List (List Note)) : Type 0 where
   pub muxes : length workers ≡ stage.script.setting.muxes
-  pub ready : IsReady stage servers posted head
-  pub led : IsLed stage posted head controller
-  pub heard : HaveHeard stage servers head.caller.seats controller
+  pub ready : IsReady stage servers posted leader
+  pub led : IsLed stage posted leader controller
+  pub heard : HaveHeard stage servers leader.caller.seats controller
   pub placed : AllByRecursion (λ n. IsPlaced stage servers n.event.what) controller
   pub at_work : AreAtWork (RoutedBy routes) F stage servers routes posted.board p phases until
       workers controller carriers
 
 -- between two phases: the next one's records are at the places from here on
 pub record IsBetween (F : Rules) (stage : Stage) (servers : List Serving)
-    (routes : List (Option MuxId)) (posted : Posted) (head : Head) (workers : List MuxWorker)
+    (routes : List (Option MuxId)) (posted : Posted) (leader : Leader) (workers : List MuxWorker)
     (start : ℕ) : Type 0 where
   pub p : ℕ
   pub controller : List Note
   pub carriers : List (List Note)
-  pub standing : IsStanding F stage servers routes posted head workers p p start controller carriers
-  pub apart : AreApart stage head.caller.latest head.published.0 controller carriers
-  pub at_phase : IsAtPhase stage head.next p start
+  pub standing : IsStanding F stage servers routes posted leader workers p p start controller carriers
+  pub apart : AreApart stage leader.caller.latest leader.published.0 controller carriers
+  pub at_phase : IsAtPhase stage leader.next p start
   pub within : start ≤ length stage.capture.records
-  pub early : head.caller.latest ≤ 9 * 10 ^ 18
+  pub early : leader.caller.latest ≤ 9 * 10 ^ 18
 
 -- after the last phase
 pub record IsThrough (F : Rules) (stage : Stage) (servers : List Serving)
-    (routes : List (Option MuxId)) (posted : Posted) (head : Head) (workers : List MuxWorker) : Type
+    (routes : List (Option MuxId)) (posted : Posted) (leader : Leader) (workers : List MuxWorker) : Type
     0 where
   pub p : ℕ
   pub phases : ℕ
   pub controller : List Note
   pub carriers : List (List Note)
-  pub standing : IsStanding F stage servers routes posted head workers p phases
+  pub standing : IsStanding F stage servers routes posted leader workers p phases
       (length stage.capture.records) controller carriers
   pub looked : HaveLooked stage controller carriers
-  pub done : head.next ≡ length stage.script.commands
+  pub done : leader.next ≡ length stage.script.commands
 
 -- A PHASE
 
@@ -146,9 +146,9 @@ pub record IsLate (led : Result (Unit {0}) Stop) (workers : List MuxWorker) : Ty
 -- WHAT COMES NEXT
 
 -- how worker 0 went on after a phase that all have done, where the next one's records begin here
-abbrev pub HasMet : Stage → Head → Head → List MuxWorker → ℕ → Next → Type 0
+abbrev pub HasMet : Stage → Leader → Leader → List MuxWorker → ℕ → Next → Type 0
 HasMet stage a b workers start (Phase s) =
-    (s ≡ start) × ((servers : List Serving) (posted : Posted) → Suits stage servers
+    (s ≡ start) × ((servers : List Serving) (posted : Posted) → AreServersOf stage servers
     → IsReady stage servers posted a
     → HasSynced stage servers posted (max a.caller.latest (latest_in workers)) a b)
 HasMet stage a b workers start End = (length stage.script.commands ≤ a.next) × (b ≡ a)
@@ -157,14 +157,14 @@ HasMet stage a b workers start TooLate =
     × IsStopFrom (9 * 10 ^ 18) (max a.caller.latest (latest_in workers)) (Late moment clock))
 
 -- which of these a phase leads to
-abbrev pub IsNext : Rules → Stage → List Serving → List (Option MuxId) → Posted → Head
+abbrev pub IsNext : Rules → Stage → List Serving → List (Option MuxId) → Posted → Leader
     → List MuxWorker → Next → Type 0
-IsNext F stage servers routes posted head workers (Phase start) =
-    IsBetween F stage servers routes posted head workers start
-IsNext F stage servers routes posted head workers End =
-    IsThrough F stage servers routes posted head workers
-IsNext F stage servers routes posted head workers TooLate =
-    HasGivenUp F stage servers posted head workers
+IsNext F stage servers routes posted leader workers (Phase start) =
+    IsBetween F stage servers routes posted leader workers start
+IsNext F stage servers routes posted leader workers End =
+    IsThrough F stage servers routes posted leader workers
+IsNext F stage servers routes posted leader workers TooLate =
+    HasGivenUp F stage servers posted leader workers
 
 -- if a phase comes next, one more than the commands that are left; otherwise 0
 abbrev pub left_of : Next → ℕ → ℕ → ℕ
@@ -182,12 +182,12 @@ pub record HasSeenAll (posted : Posted) (w : MuxWorker) : Type 0 where
 
 -- if a worker gave up, all changes that were left are posted too
 pub record HasPostedRest (F : Rules) (stage : Stage) (servers : List Serving) (posted : Posted)
-    (head : Head) (workers : List MuxWorker) : Type 0 where
+    (leader : Leader) (workers : List MuxWorker) : Type 0 where
   pub before : Posted
-  pub start : Head
+  pub start : Leader
   pub rest : List Note
   pub given_up : HasGivenUp F stage servers before start workers
-  pub added : Adds stage before posted start head rest
+  pub added : Adds stage before posted start leader rest
   pub all : length posted.clocks ≡ length stage.script.plan.changes
 
 -- what the workers give back: the logs of the controller and of the muxes, and their seats
@@ -195,12 +195,12 @@ pub record IsBack (F : Rules) (stage : Stage) (servers : List Serving)
     (routes : List (Option MuxId)) (late : Bool) (logs : List (List Event))
     (rows : List (List (List Seated))) : Type 0 where
   pub posted : Posted
-  pub head : Head
+  pub leader : Leader
   pub workers : List MuxWorker
-  pub stood : MatchBool late (HasPostedRest F stage servers posted head workers)
-      (IsThrough F stage servers routes posted head workers)
-  pub logs_are : logs ≡ head.log.items ∷ map (λ w. w.mux.log) workers
-  pub rows_are : rows ≡ rows_of head.caller.seats workers
+  pub stood : MatchBool late (HasPostedRest F stage servers posted leader workers)
+      (IsThrough F stage servers routes posted leader workers)
+  pub logs_are : logs ≡ leader.log.items ∷ map (λ w. w.mux.log) workers
+  pub rows_are : rows ≡ rows_of leader.caller.seats workers
   -- the muxes were shown what was posted, and nothing else
   pub shown : (m : ℕ) (w : MuxWorker) → slice_get workers m ≡ Some w
       → IsPrefix w.mux.seen.clocks posted.clocks

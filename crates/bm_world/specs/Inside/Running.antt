@@ -13,54 +13,54 @@ use Rattle.bm_core.specs.Accounts.{wants_sync}
 use Rattle.bm_core.specs.Runs.Actor.{Controller, ShardOf}
 use Rattle.bm_core.specs.Threads.{sync_clock, newest_before, packet_of, is_sync_by, record_moment}
 use Rattle.bm_merge.specs.Notes.{Note, many, total, greatest}
-use Rattle.bm_merge.specs.Workers.{home_part, deeds_of, all_deeds, looks_since}
+use Rattle.bm_merge.specs.Workers.{home_part, notes_by, notes_of_all, looks_since}
 use Rattle.bm_merge.proofs.Phasing.{IsPhased}
 use Rattle.bm_server.specs.Seats.{Seated}
 use Rattle.bm_server.specs.Servings.{Serving, shard_at}
-use Rattle.bm_worker.specs.WorkerNotes.{clock_of, noted, saying, Sits}
+use Rattle.bm_worker.specs.WorkerNotes.{clock_of, noted, saying, HasSeats}
 use Rattle.bm_worker.specs.Phases.{mux_log, AreCopies, IsPlaced, is_steer}
 use Rattle.bm_worker.specs.Phases.{notes_per_packet, entries_per_packet, tries_per_packet}
-use Rattle.bm_worker.specs.SeatCalls.{told_there}
+use Rattle.bm_worker.specs.SeatCalls.{calls_there}
 use Rattle.bm_worker.specs.Assigned.{is_assigned}
 use Rattle.bm_worker.specs.declared.worker.MuxWorker.{MuxWorker}
 use Rattle.bm_world.specs.Inside.Returned.{control_log, IsCarriage}
 
 -- these seats' calls and replies are exactly what was done at each shard, in its order
 abbrev pub HaveHeard : Stage → List Serving → List (List Seated) → List Note → Type 0
-HaveHeard stage servers seats deeds =
+HaveHeard stage servers seats notes =
     (s h : ℕ) (server : Serving) → slice_get servers s ≡ Some server
-    → saying (shard_at server h) (told_there seats s h) ≡ noted stage (ShardOf server.id.0 h) deeds
+    → saying (shard_at server h) (calls_there seats s h) ≡ noted stage (ShardOf server.id.0 h) notes
 
 -- the worker of mux m, after this many phases, in which the records before this place were carried
 pub record IsAtWork (R : Routes) (F : Rules) (stage : Stage) (servers : List Serving)
     (routes : List (Option MuxId))
-    (control : List Event) (board : Book) (phases until m : ℕ) (w : MuxWorker) (deeds : List Note) :
+    (control : List Event) (board : Book) (phases until m : ℕ) (w : MuxWorker) (notes : List Note) :
     Type 0 where
-  pub carriage : IsCarriage R F stage control w.mux.seen.clocks m deeds
+  pub carriage : IsCarriage R F stage control w.mux.seen.clocks m notes
   pub id : w.mux.id.0 ≡ m
-  pub logged : reverse w.mux.log ≡ mux_log stage m deeds
-  pub heard : HaveHeard stage servers w.caller.seats deeds
+  pub logged : reverse w.mux.log ≡ mux_log stage m notes
+  pub heard : HaveHeard stage servers w.caller.seats notes
   pub copies : AreCopies stage w.mux.id servers (reverse w.mux.log) w.caller.seats
-  pub placed : AllByRecursion (λ n. IsPlaced servers n.event.what) deeds
-  pub latest : w.caller.latest ≡ greatest clock_of deeds
-  pub steered : (k : ℕ) → many (λ n. steers_packet n.event.what k) deeds
+  pub placed : AllByRecursion (λ n. IsPlaced servers n.event.what) notes
+  pub latest : w.caller.latest ≡ greatest clock_of notes
+  pub steered : (k : ℕ) → many (λ n. steers_packet n.event.what k) notes
       ≡ (if is_assigned routes m 0 until k then 1 else 0)
-  pub within : AllByRecursion (λ n. IfSome (packet_of n.event.what) (λ k. k ≤ until)) deeds
+  pub within : AllByRecursion (λ n. IfSome (packet_of n.event.what) (λ k. k ≤ until)) notes
   pub number : w.caller.number ≡ m + 1
-  pub sits : Sits servers w.caller
+  pub has_seats : HasSeats servers w.caller
   pub board_is : w.mux.seen.board ≡ board
   pub plan : w.mux.seen.plan ≡ stage.script.plan
   pub tries : w.caller.tries ≤ tries_per_packet * until
   pub steps : w.steps ≤ until
   pub room : length w.mux.log ≤ entries_per_packet * until + phases
   -- besides the first Switch of each phase, at most as many notes as the packets may lead to
-  pub few : length deeds ≤ notes_per_packet * many (λ n. is_steer n.event.what) deeds + phases
+  pub few : length notes ≤ notes_per_packet * many (λ n. is_steer n.event.what) notes + phases
   pub stop : w.stop ≡ None
 
 -- the notes of a phase before those of earlier phases, for each worker
-abbrev pub add_deeds : List (List Note) → List (List Note) → List (List Note)
-add_deeds (x ∷ more) (d ∷ carriers) = (x ++ d) ∷ add_deeds more carriers
-add_deeds _ carriers = carriers
+abbrev pub add_notes : List (List Note) → List (List Note) → List (List Note)
+add_notes (x ∷ more) (d ∷ carriers) = (x ++ d) ∷ add_notes more carriers
+add_notes _ carriers = carriers
 
 -- the muxes' workers, given what worker 0 did, with p Syncs
 pub record AreAtWork (R : Routes) (F : Rules) (stage : Stage) (servers : List Serving)
@@ -71,10 +71,10 @@ pub record AreAtWork (R : Routes) (F : Rules) (stage : Stage) (servers : List Se
   pub count : length carriers ≡ length workers
   pub each : (m : ℕ) (w : MuxWorker) → slice_get workers m ≡ Some w
       → IsAtWork R F stage servers routes (control_log stage controller) board phases until m w
-      (deeds_of carriers m)
+      (notes_by carriers m)
   -- all that was done, in some order
   pub all : List Note
-  pub same : (f : Note → ℕ) → total f all ≡ total f (controller ++ all_deeds carriers)
+  pub same : (f : Note → ℕ) → total f all ≡ total f (controller ++ notes_of_all carriers)
   pub phased : IsPhased stage p (home_part stage Controller controller) all
 
 -- between two phases: all clocks are below that of the last Sync, which is the greatest
@@ -82,14 +82,14 @@ pub record AreApart (stage : Stage) (after first : ℕ) (controller : List Note)
     (carriers : List (List Note)) : Type 0 where
   pub sync : sync_clock (control_log stage controller) ≡ after
   pub first_is : newest_before (control_log stage controller) ≡ first
-  pub below : (m : ℕ) → AllByRecursion (λ n. clock_of n < after) (deeds_of carriers m)
+  pub below : (m : ℕ) → AllByRecursion (λ n. clock_of n < after) (notes_by carriers m)
   pub top : greatest clock_of controller ≡ after
 
 -- each mux has looked since the last Sync
 abbrev pub HaveLooked : Stage → List Note → List (List Note) → Type 0
 HaveLooked stage controller carriers = (m : ℕ) → m < stage.script.setting.muxes
     → 1 ≤ many (looks_since m (sync_clock (control_log stage controller)))
-    (controller ++ all_deeds carriers)
+    (controller ++ notes_of_all carriers)
 
 -- the commands before this place have p syncs, and none of these is later than a record from the
 -- place `before` on

@@ -7,7 +7,7 @@ use Rattle.bm_shard.specs.Books.{Book, Replays}
 use Rattle.bm_server.specs.Seats.{Seated, most_turns, row, seat_of, telling}
 use Rattle.bm_server.specs.Servings.{Serving, shard_at}
 use Rattle.bm_turnstile.specs.Seen.{AllBelow}
-use Rattle.bm_worker.specs.SeatCalls.{told_there}
+use Rattle.bm_worker.specs.SeatCalls.{calls_there}
 
 -- the book of the shard h of the server at the place s, if these are the seats of all workers
 pub record IsBookThere (server : Serving) (rows : List (List (List Seated))) (s h : ℕ)
@@ -16,7 +16,7 @@ pub record IsBookThere (server : Serving) (rows : List (List (List Seated))) (s 
   pub replays : Replays book.shard (reverse book.entries)
   pub below : AllBelow seat_of server.seats book.entries
   pub told : (i : ℕ) (seats : List (List Seated)) → slice_get rows i ≡ Some seats
-      → telling (Some (shard_at server h)) i book.entries ≡ told_there seats s h
+      → telling (Some (shard_at server h)) i book.entries ≡ calls_there seats s h
 
 -- the books of the server at the place s
 pub record AreBooksThere (servers : List Serving) (rows : List (List (List Seated))) (s : ℕ)
@@ -41,4 +41,4 @@ pub record IsServerOf (setting : Setting) (ids : List ServerId) (workers s : ℕ
 pub record IsNewRow (servers : List Serving) (w : ℕ) (seats : List (List Seated)) : Type 0 where
   pub «is» : map (map who) seats ≡ map (λ server. row server w) servers
   pub turns : (s : ℕ) (seat : List Seated) → slice_get seats s ≡ Some seat → most_turns seat ≡ 0
-  pub told : (s h : ℕ) → told_there seats s h ≡ []
+  pub told : (s h : ℕ) → calls_there seats s h ≡ []

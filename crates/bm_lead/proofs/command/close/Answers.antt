@@ -2,7 +2,7 @@ use Rattle.std.proofs.Common.{◌≡◌, ℕ, ◌<◌, List, length, refl, sym, 
 use Rattle.std.specs.Prelude.{slice_get}
 use Rattle.bm_base.specs.declared.ids.ServerId.{ServerId}
 use Rattle.bm_server.specs.Servings.{Serving}
-use Rattle.bm_worker.specs.WorkerNotes.{Hears, Sits}
+use Rattle.bm_worker.specs.WorkerNotes.{Hears, HasSeats}
 use Rattle.bm_worker.specs.Inside.WorkerNotes.{closing}
 use Rattle.bm_worker.proofs.Carrying.{place_inside}
 use Rattle.bm_worker.proofs.Hearing.{hears_close}
@@ -14,13 +14,13 @@ close-requires-clause-place g c =
     subst (λ (l : List Serving). c.known_place-place.result < length l) (sym c.servers.ensures.value)
     (place_inside c.args.shared.now.servers c.known_place-place.result at.0 at.1)
 
-pub close-requires-clause-sits : goal.close-requires-clause-sits
-close-requires-clause-sits g c =
-    subst (λ (l : List Serving). Sits l c.args.head.now.caller) (sym c.servers.ensures.value) c.requires.can.sits
+pub close-requires-clause-has_seats : goal.close-requires-clause-has_seats
+close-requires-clause-has_seats g c =
+    subst (λ (l : List Serving). HasSeats l c.args.leader.now.caller) (sym c.servers.ensures.value) c.requires.can.has_seats
 
 pub returns-clause-ok : goal.returns-clause-ok
 returns-clause-ok g c = λ p.
-    let a = c.args.head.now in
+    let a = c.args.leader.now in
     let server = c.known_place-place.ensures.0 in
     let due = c.in_ok-due.due in
     let at = c.known_place-place.ensures.1 in
@@ -41,8 +41,8 @@ returns-clause-ok g c = λ p.
               (subst (λ (d : ℕ). Hears c.args.shared.now.stage c.args.shared.now.servers a.caller.seats c.close.new.self.seats
               (closing done.0 server.id c.args.flow done.1 a.next d a.caller.number ∷ [])) is
               (hears_close c.args.shared.now.stage c.args.shared.now.servers c.known_place-place.result a.next a.caller.number server
-              c.args.flow due done.0 done.1 a.caller.seats c.close.new.self.seats c.servers.ensures.set_up.suits at
-              (c.in_ok-_closed.ensures.told server (ap (λ (l : List Serving). slice_get l c.known_place-place.result)
+              c.args.flow due done.0 done.1 a.caller.seats c.close.new.self.seats c.servers.ensures.set_up.servers_are at
+              (c.in_ok-_closed.ensures.call server (ap (λ (l : List Serving). slice_get l c.known_place-place.result)
               c.servers.ensures.value ∙ at)))));
           same = c.in_ok-_closed.ensures.same;
           tries = let e = c.in_ok-_closed.ensures.tries in omega arith;

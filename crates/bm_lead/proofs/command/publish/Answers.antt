@@ -26,8 +26,8 @@ clock_up_to-requires-clause-cause g c =
 
 pub returns-clause-ok : goal.returns-clause-ok
 returns-clause-ok g c =
-    let n = publishing c.in_ok-clock.clock c.args.version c.args.head.now.next in
-    let a = c.args.head.now in (
+    let n = publishing c.in_ok-clock.clock c.args.version c.args.leader.now.next in
+    let a = c.args.leader.now in (
       n ∷ [],
       (
         c.in_ok-clock.clock,

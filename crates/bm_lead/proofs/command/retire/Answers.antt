@@ -10,7 +10,7 @@ use Rattle.bm_lead.proofs.command.retire.Goals as goal
 
 pub retirement-outcome-requires : goal.retirement-outcome-requires
 retirement-outcome-requires g c =
-    subst (λ (s : Stage). c.args.head.now.published.0 ≤ length s.script.plan.changes) (sym c.stage.ensures.value)
+    subst (λ (s : Stage). c.args.leader.now.published.0 ≤ length s.script.plan.changes) (sym c.stage.ensures.value)
     c.requires.published
 
 pub retire_shards-requires-clause-place : goal.retire_shards-requires-clause-place
@@ -20,7 +20,7 @@ retire_shards-requires-clause-place g c =
 
 pub returns-clause-ok : goal.returns-clause-ok
 returns-clause-ok g c = λ p.
-    let a = c.args.head.now in
+    let a = c.args.leader.now in
     let due = c.in_ok-due.due in
     let outcome = c.retirement-outcome.result in
     let server = c.known_place-place.ensures.0 in
@@ -33,7 +33,7 @@ returns-clause-ok g c = λ p.
         due,
         outcome,
         (let e = c.in_ok-due.ensures.ok.0 in let l = c.latest.ensures in omega arith),
-        subst (λ (s : Stage). IsRetirement s.script.plan (timeout s) c.args.head.now.published.0 c.args.server due.0
+        subst (λ (s : Stage). IsRetirement s.script.plan (timeout s) c.args.leader.now.published.0 c.args.server due.0
             outcome) c.stage.ensures.value c.retirement-outcome.ensures,
         are,
       ),

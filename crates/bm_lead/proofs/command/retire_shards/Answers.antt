@@ -3,7 +3,7 @@ use Rattle.std.specs.Prelude.{slice_get}
 use Rattle.bm_core.specs.declared.events.Stage.{Stage}
 use Rattle.bm_core.specs.Stages.{IsSound}
 use Rattle.bm_server.specs.Servings.{Serving}
-use Rattle.bm_worker.specs.WorkerNotes.{Sits}
+use Rattle.bm_worker.specs.WorkerNotes.{HasSeats}
 use Rattle.bm_worker.proofs.Hearing.{hears_retire}
 use Rattle.bm_lead.specs.Inside.Steps.{AreRetirings}
 use Rattle.bm_lead.proofs.Calling.{called_up_to, none_called, retired_more, same_caller, sits_kept}
@@ -20,10 +20,10 @@ loop-shard-init g c = (
   λ i server at. ([], refl, none_called c.args.shared.now.stage c.args.shared.now.servers c.args.caller.now),
 )
 
-pub retire-requires-clause-sits : goal.retire-requires-clause-sits
-retire-requires-clause-sits g c =
-    subst (λ (l : List Serving). Sits l c.loop-shard.caller) (sym c.servers.ensures.value)
-    (sits_kept c.args.shared.now.servers c.args.caller.now c.loop-shard.caller c.requires.can.sits
+pub retire-requires-clause-has_seats : goal.retire-requires-clause-has_seats
+retire-requires-clause-has_seats g c =
+    subst (λ (l : List Serving). HasSeats l c.loop-shard.caller) (sym c.servers.ensures.value)
+    (sits_kept c.args.shared.now.servers c.args.caller.now c.loop-shard.caller c.requires.can.has_seats
     c.loop-shard.invariant.0)
 
 pub retire-requires-clause-place : goal.retire-requires-clause-place
@@ -35,7 +35,7 @@ retire-requires-clause-shard g c server at =
     let set_up = c.stage.ensures.set_up in
     let low : c.loop-shard.shard < c.args.shared.now.stage.script.setting.shards =
     subst (λ (s : Stage). c.loop-shard.shard < s.script.setting.shards) c.stage.ensures.value c.loop-shard-test.true in
-    let all = set_up.suits.shards c.args.place server
+    let all = set_up.servers_are.shards c.args.place server
     (ap (λ (l : List Serving). slice_get l c.args.place) (sym c.servers.ensures.value) ∙ at) in
     omega (arith, low, all)
 
@@ -59,8 +59,8 @@ loop-shard-preserved g c =
           retired_more c.args.shared.now.stage c.args.shared.now.servers i c.loop-shard.shard server c.args.at c.in_ok-retire.field-0
           c.args.outcome a b d old.0 (was.0.number ∙ c.requires.can.number) old.1 old.2
           (hears_retire c.args.shared.now.stage c.args.shared.now.servers c.args.place c.loop-shard.shard i b.number server c.args.at
-          c.in_ok-retire.field-0 c.args.outcome b.seats d.seats c.stage.ensures.set_up.suits at
-          c.in_ok-retire.ensures.told)
+          c.in_ok-retire.field-0 c.args.outcome b.seats d.seats c.stage.ensures.set_up.servers_are at
+          c.in_ok-retire.ensures.call)
           c.in_ok-retire.ensures.same
           c.in_ok-retire.ensures.tries c.in_ok-retire.ensures.latest c.in_ok-retire.ensures.later,
     )

@@ -9,5 +9,5 @@ abbrev pub invariant-loop-shard : goal.invariant-loop-shard
 invariant-loop-shard g l =
     IsSameCaller l.fn.caller l.caller × (l.caller.tries ≤ l.fn.caller.tries + l.shard)
     × ((i : ℕ) (server : Serving) → slice_get l.shared.servers l.place ≡ Some server
-    → (deeds : List Note) × AreRetirings i server.id l.at l.outcome l.shard deeds
-    × HasCalled l.shared.stage l.shared.servers l.shard l.fn.caller l.caller deeds)
+    → (notes : List Note) × AreRetirings i server.id l.at l.outcome l.shard notes
+    × HasCalled l.shared.stage l.shared.servers l.shard l.fn.caller l.caller notes)

@@ -12,16 +12,16 @@ returns-in_err-carry_out-clause-led g c =
     unless_late c.from_residual.result c.in_err-carry_out.field-0.0 _ _ c.from_residual.ensures.1
     c.in_err-carry_out.ensures.late
     (λ late. rw (late.0, late.1)
-    (led_none c.args.shared.now.stage c.args.shared.now.servers c.args.poster.now c.args.head.now c.requires.ready))
+    (led_none c.args.shared.now.stage c.args.shared.now.servers c.args.poster.now c.args.leader.now c.requires.ready))
 
 pub returns-clause-led : goal.returns-clause-led
 returns-clause-led g c =
     let commands = c.args.shared.now.stage.script.commands in
-    let i = c.args.head.now.next in
+    let i = c.args.leader.now.next in
     let none = Change (record { 0 = 0 }) in
-    led_command c.args.shared.now.stage c.args.shared.now.servers c.args.poster.now c.carry_out.new.poster c.args.head.now
-    c.carry_out.new.head
-    (get_or c.items-commands.result.now i none) c.stage.ensures.set_up.sound c.stage.ensures.set_up.suits c.requires.ready
+    led_command c.args.shared.now.stage c.args.shared.now.servers c.args.poster.now c.carry_out.new.poster c.args.leader.now
+    c.carry_out.new.leader
+    (get_or c.items-commands.result.now i none) c.stage.ensures.set_up.sound c.stage.ensures.set_up.servers_are c.requires.ready
     (slice_get-get_or commands i none c.requires.there
     ∙ ap (λ (l : List Command). Some (get_or l i none))
     (sym (c.items-commands.ensures ∙ ap (λ (s : Stage). s.script.commands) c.stage.ensures.value)))

@@ -2,10 +2,10 @@ use Rattle.std.proofs.Common.{◌-◌, ◌≤◌}
 use Rattle.bm_lead.specs.Leads.{HasLed}
 use Rattle.bm_lead.proofs.lead.lead_phase.Given as goal
 
-abbrev pub invariant-loop-head : goal.invariant-loop-head
-invariant-loop-head g l =
-    (l.fn.head.next ≤ l.head.next) × (l.head.next ≤ l.until)
-    × HasLed l.shared.stage l.shared.servers l.fn.poster l.poster l.fn.head l.head
+abbrev pub invariant-loop-leader : goal.invariant-loop-leader
+invariant-loop-leader g l =
+    (l.fn.leader.next ≤ l.leader.next) × (l.leader.next ≤ l.until)
+    × HasLed l.shared.stage l.shared.servers l.fn.poster l.poster l.fn.leader l.leader
 
-abbrev pub decreases-loop-head : goal.decreases-loop-head
-decreases-loop-head g l = l.until - l.head.next
+abbrev pub decreases-loop-leader : goal.decreases-loop-leader
+decreases-loop-leader g l = l.until - l.leader.next

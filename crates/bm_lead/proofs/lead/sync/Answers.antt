@@ -1,7 +1,7 @@
 use Rattle.std.proofs.Common.{◌≡◌, ℕ, List, [], ◌∷◌, slice_get, Option, Some, refl, sym, ap, ◌∙◌, arith, append-nil}
 use Rattle.bm_table.specs.declared.script.Command.{Command}
 use Rattle.bm_table.specs.declared.script.Command.TheVariants.{Sync}
-use Rattle.bm_lead.specs.declared.head.Head.{Head}
+use Rattle.bm_lead.specs.declared.leader.Leader.{Leader}
 use Rattle.bm_lead.specs.Commands.{syncing}
 use Rattle.bm_core.specs.Runs.{next_clock}
 use Rattle.bm_core.specs.Threads.{moment_at}
@@ -13,26 +13,26 @@ use Rattle.bm_lead.proofs.lead.sync.Goals as goal
 
 pub sync_moment-at-requires-clause-there : goal.sync_moment-at-requires-clause-there
 sync_moment-at-requires-clause-there c =
-    rw c.items.ensures (is_there c.args.stage.now.script.commands c.args.head.now.next c.requires.sync)
+    rw c.items.ensures (is_there c.args.stage.now.script.commands c.args.leader.now.next c.requires.sync)
 
 pub clock_up_to-requires-clause-cause : goal.clock_up_to-requires-clause-cause
 clock_up_to-requires-clause-cause c =
-    let early = command_early c.args.stage.now c.args.head.now.next (Sync c.sync_moment-at.result) c.requires.sound
-    (ap (λ (l : List Command). slice_get l c.args.head.now.next) (sym c.items.ensures) ∙ c.sync_moment-at.ensures)
+    let early = command_early c.args.stage.now c.args.leader.now.next (Sync c.sync_moment-at.result) c.requires.sound
+    (ap (λ (l : List Command). slice_get l c.args.leader.now.next) (sym c.items.ensures) ∙ c.sync_moment-at.ensures)
     in omega arith
 
-pub overflow_add-head : goal.overflow_add-head
-overflow_add-head c =
-    let inside = is_there c.args.stage.now.script.commands c.args.head.now.next c.requires.sync in
+pub overflow_add-leader : goal.overflow_add-leader
+overflow_add-leader c =
+    let inside = is_there c.args.stage.now.script.commands c.args.leader.now.next c.requires.sync in
     omega (arith, inside, c.requires.sound.script.few_commands)
 
 pub returns-clause-synced : goal.returns-clause-synced
-returns-clause-synced c = λ servers posted suits ready.
-    let a = c.args.head.now in
+returns-clause-synced c = λ servers posted servers_are ready.
+    let a = c.args.leader.now in
     let stage = c.args.stage.now in
     let clock = c.in_ok-clock.clock in
     let at = c.sync_moment-at.result in
-    let b : Head = record a { caller = c.see.new.self; log = c.write_down.new.log } in
+    let b : Leader = record a { caller = c.see.new.self; log = c.write_down.new.log } in
     let here : slice_get stage.script.commands a.next ≡ Some (Sync at) =
     ap (λ (l : List Command). slice_get l a.next) (sym c.items.ensures) ∙ c.sync_moment-at.ensures in
     let next = c.in_ok-clock.ensures.ok.0 in
@@ -59,7 +59,7 @@ returns-clause-synced c = λ servers posted suits ready.
       is_next = next ∙ ap (λ (o : Option Command). next_clock c.args.greatest.0 (moment_at o)) (sym here);
       bound = c.in_ok-clock.ensures.ok.1;
       leads = command_leads stage servers posted posted a b (Sync at) (syncing clock a.next ∷ []) c.requires.sound
-          suits ready here of done;
+          servers_are ready here of done;
       ready = ready_more stage servers posted posted a b (Sync at) (syncing clock a.next ∷ []) here ready of done;
       latest = omega arith;
       next = refl;

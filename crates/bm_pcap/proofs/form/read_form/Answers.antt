@@ -18,7 +18,7 @@ returns-then-branch-lt20-clause-form g c =
 
 pub returns-clause-form : goal.returns-clause-form
 returns-clause-form g c =
-    form_read _ _ _ _ _ c.fill.new.buf c.fill-2.new.buf _ c.in-Some.order c.in-Some.unit c.form_behind.result
+    form_read _ _ _ _ _ c.fill.new.buf c.fill-2.new.buf _ c.in-Some.order c.in-Some.unit c.form_after_magic.result
     c.fill.auto.buf c.in_ok-fill.ensures.octets c.if-branch-lt4.false c.fill-2.auto.buf
     c.in_ok-fill-2.ensures.octets c.if-branch-lt20.false (sym c.magic.ensures ∙ c.in-Some.is) c.join.ensures
-    c.form_behind.ensures.form
+    c.form_after_magic.ensures.form

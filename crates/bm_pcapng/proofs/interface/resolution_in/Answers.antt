@@ -10,7 +10,7 @@ pub loop-rest-preserved : goal.loop-rest-preserved
 loop-rest-preserved c =
     let P : List ℕ → Type 0 = λ r. Left c.args.order r (resolution_by c.args.order c.args.options.now) in
     subst P
-    (ap (λ (n : ℕ). drop (4 + padded n) c.loop-rest.rest.now) (sym c.read_u16.ensures) ∙ sym c.behind-rest.ensures)
+    (ap (λ (n : ℕ). drop (4 + padded n) c.loop-rest.rest.now) (sym c.read_u16.ensures) ∙ sym c.after_option-rest.ensures)
     (left_next c.args.order c.loop-rest.rest.now _ c.loop-rest.invariant (sym c.is_over.ensures ∙ c.loop-rest-test.true)
     (sym c.if-is_resolution.ensures))
 

@@ -24,7 +24,7 @@ part-requires c =
 
 pub loop-worker-preserved : goal.loop-worker-preserved
 loop-worker-preserved c =
-    one_parted c.args.poster.now c.args.head.log.items c.args.head.caller.seats c.loop-worker.yielded c.in-Some.worker
+    one_parted c.args.poster.now c.args.leader.log.items c.args.leader.caller.seats c.loop-worker.yielded c.in-Some.worker
     c.loop-worker.logs.items c.push-in-loop-worker.new.self.items (items_of c.loop-worker.rows.items)
     (items_of c.push-in-loop-worker-2.new.self.items) c.in_ok-log.log c.in_ok-log.seats.items
     c.in_ok-log.ensures.log c.in_ok-log.ensures.seats c.in_ok-push-3.ensures.items
@@ -35,8 +35,8 @@ loop-worker-preserved c =
 pub returns : goal.returns
 returns c =
     let i = c.loop-worker.invariant
-    in let log = c.args.head.log.items
-    in let seats = c.args.head.caller.seats
+    in let log = c.args.leader.log.items
+    in let seats = c.args.leader.caller.seats
     in let end = YieldsList-end (YieldsList-from_vec c.args.workers.items (cc) (cc)) c.loop-worker.yielded
     c.loop-worker.worker-iterator c.loop-worker.yielded_by _ c.next.new.self c.in-None.is c.next.ensures.steps
     in let all : c.loop-worker.yielded ≡ c.args.workers.items = sym (map-id c.loop-worker.yielded) ∙ end.0

@@ -4,4 +4,4 @@ use Rattle.bm_world.proofs.mux_workers.take_apart.Given as goal
 
 abbrev pub invariant-loop-worker : goal.invariant-loop-worker
 invariant-loop-worker l =
-    AreParted l.poster l.fn.head.log.items l.fn.head.caller.seats l.yielded l.logs.items (items_of l.rows.items)
+    AreParted l.poster l.fn.leader.log.items l.fn.leader.caller.seats l.yielded l.logs.items (items_of l.rows.items)

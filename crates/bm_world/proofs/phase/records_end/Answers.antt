@@ -2,7 +2,7 @@ use Rattle.std.proofs.Common.{◌∙◌, ◌≤◌, List, length, sym, ap, subst
 use Rattle.std.specs.Prelude.{slice_get}
 use Rattle.bm_base.specs.declared.capture.Record.{Record}
 use Rattle.bm_table.specs.declared.script.Command.{Command}
-use Rattle.bm_lead.specs.Heads.{IsSyncCommand}
+use Rattle.bm_lead.specs.Leaders.{IsSyncCommand}
 use Rattle.bm_world.proofs.Numbers.{end_of, no_command, numbers_before, numbers_last, numbers_next}
 use Rattle.bm_world.proofs.phase.records_end.Goals as goal
 

@@ -6,13 +6,13 @@ use Rattle.bm_table.specs.declared.script.Command.{Command}
 use Rattle.bm_core.specs.declared.events.Stage.{Stage}
 use Rattle.bm_core.specs.Stages.{IsSound}
 use Rattle.bm_core.specs.Threads.{phase_of}
-use Rattle.bm_lead.specs.Heads.{IsPhase, IsSyncCommand}
+use Rattle.bm_lead.specs.Leaders.{IsPhase, IsSyncCommand}
 use Rattle.bm_lead.specs.Leads.{HasLed}
 use Rattle.bm_worker.specs.Phases.{CanWork}
 use Rattle.bm_worker.specs.declared.span.Span.{Span}
 use Rattle.bm_worker.specs.declared.worker.MuxWorker.{MuxWorker}
 use Rattle.bm_world.specs.declared.phase.Next.{Next}
-use Rattle.bm_world.specs.Inside.RunStates.{left_of, told_what, HasMet, HaveNotStopped, IsLate, IsNext}
+use Rattle.bm_world.specs.Inside.RunStates.{left_of, with_posts, HasMet, HaveNotStopped, IsLate, IsNext}
 use Rattle.bm_world.specs.Inside.Running.{IsAtPhase}
 use Rattle.bm_world.proofs.Phased.{if_ok_more, led_if_ok, met_fewer, met_next, on_ok, phase_meets, worked_at}
 use Rattle.bm_world.proofs.Stopping.{gives_up}
@@ -21,7 +21,7 @@ use Rattle.bm_world.proofs.phase.run_phase.Goals as goal
 
 pub sync_place-place-requires : goal.sync_place-place-requires
 sync_place-place-requires g c =
-    subst (λ (l : List Command). c.args.head.now.next ≤ length l)
+    subst (λ (l : List Command). c.args.leader.now.next ≤ length l)
     (sym (c.items.ensures ∙ ap (λ (s : Stage). s.script.commands) c.stage-stage.ensures.value))
     c.requires.between.standing.ready.next
 
@@ -41,7 +41,7 @@ records_end-until-requires-clause-within g c =
 
 pub work_beside-led-requires-clause-phase : goal.work_beside-led-requires-clause-phase
 work_beside-led-requires-clause-phase g c κs within =
-    subst (λ (l : List Command). IsPhase l c.args.head.now.next c.sync_place-place.result)
+    subst (λ (l : List Command). IsPhase l c.args.leader.now.next c.sync_place-place.result)
     (c.items.ensures ∙ ap (λ (s : Stage). s.script.commands) c.stage-stage.ensures.value)
     c.sync_place-place.ensures.phase
 
@@ -55,7 +55,7 @@ meet-requires-clause-sync g c =
     let done : (c.work_beside-led.result ≡ Ok tt) × HaveNotStopped now =
     subst (λ (x : Bool). MatchBool x (IsLate c.work_beside-led.result now)
     ((c.work_beside-led.result ≡ Ok tt) × HaveNotStopped now)) c.if-branch.false c.in_ok-is_late.ensures in
-    let at = on_ok c.work_beside-led.result (c.work_beside-led.new.head.next ≡ c.sync_place-place.result) done.0
+    let at = on_ok c.work_beside-led.result (c.work_beside-led.new.leader.next ≡ c.sync_place-place.result) done.0
     c.work_beside-led.ensures.next in
     subst (λ (n : ℕ). n < length c.stage-stage.result.now.script.commands
     → IsSyncCommand (slice_get c.stage-stage.result.now.script.commands n)) (sym at)
@@ -72,7 +72,7 @@ work_beside-led-requires-clause-can g c κs within =
     subst (λ (l : List MuxWorker). All (CanWork shared.stage shared.servers shared.routes span) l)
     (sym c.tell_all.ensures)
     (can_work (Gives g.F.Fn shared.rule) shared.stage shared.servers shared.routes
-    c.args.poster.now c.args.head.now c.args.workers.now span c.stage-stage.ensures.set_up.sound c.requires.between c.latest.ensures
+    c.args.poster.now c.args.leader.now c.args.workers.now span c.stage-stage.ensures.set_up.sound c.requires.between c.latest.ensures
     order.0 order.1)
 
 pub returns-then-branch-clause-next : goal.returns-then-branch-clause-next
@@ -85,9 +85,9 @@ returns-then-branch-clause-next g c =
     let F = Gives g.F.Fn shared.rule in
     let now = c.work_beside-led.new.workers in
     let told = ap (λ (l : List MuxWorker). length l) c.tell_all.ensures in
-    let size = length-map c.args.workers.now (told_what c.args.poster.now) in
+    let size = length-map c.args.workers.now (with_posts c.args.poster.now) in
     gives_up F shared.stage shared.servers shared.routes c.args.poster.now c.work_beside-led.new.poster
-    c.args.head.now c.work_beside-led.new.head c.args.workers.now now span c.work_beside-led.result
+    c.args.leader.now c.work_beside-led.new.leader c.args.workers.now now span c.work_beside-led.result
     c.stage-stage.ensures.set_up.sound c.stage-stage.ensures.set_up.steerable c.requires.between c.latest.ensures order.0 order.1
     c.work_beside-led.ensures.led c.work_beside-led.ensures.stop
     (c.work_beside-led.ensures.count ∙ told ∙ size)
@@ -113,34 +113,34 @@ returns-clause-next g c =
     → IsAtPhase s next p start → start < k → k ≤ until → phase_of s k ≡ p) same ends.numbers in
     let after = subst (λ (s : Stage). (next p : ℕ) → IsPhase s.script.commands next place → IsAtPhase s next p start
     → place < length s.script.commands → IsAtPhase s (place + 1) (p + 1) until) same ends.next in
-    let met = subst (λ (s : Stage). IfOk c.meet.result (HasMet s c.work_beside-led.new.head c.meet.new.head
+    let met = subst (λ (s : Stage). IfOk c.meet.result (HasMet s c.work_beside-led.new.leader c.meet.new.leader
     c.work_beside-led.new.workers until)) same c.meet.ensures in
     let F = Gives g.F.Fn shared.rule in
     let old = c.args.workers.now in
     let now = c.work_beside-led.new.workers in
-    let b = c.work_beside-led.new.head in
+    let b = c.work_beside-led.new.leader in
     let q = c.work_beside-led.new.poster in
     let told = ap (λ (l : List MuxWorker). length l) c.tell_all.ensures in
-    let size = length-map old (told_what c.args.poster.now) in
-    let phase : IsPhase stage.script.commands c.args.head.now.next place =
-    subst (λ (l : List Command). IsPhase l c.args.head.now.next place) (c.items.ensures
+    let size = length-map old (with_posts c.args.poster.now) in
+    let phase : IsPhase stage.script.commands c.args.leader.now.next place =
+    subst (λ (l : List Command). IsPhase l c.args.leader.now.next place) (c.items.ensures
     ∙ ap (λ (s : Stage). s.script.commands) c.stage-stage.ensures.value) c.sync_place-place.ensures.phase in
     let done : (c.work_beside-led.result ≡ Ok tt) × HaveNotStopped now =
     subst (λ (x : Bool). MatchBool x (IsLate c.work_beside-led.result now)
     ((c.work_beside-led.result ≡ Ok tt) × HaveNotStopped now)) c.if-branch.false c.in_ok-is_late.ensures in
     let at = on_ok c.work_beside-led.result (b.next ≡ place) done.0 c.work_beside-led.ensures.next in
-    let meeting = phase_meets F stage shared.servers shared.routes c.args.poster.now q c.args.head.now b old now
-    span place c.stage-stage.ensures.set_up.sound c.stage-stage.ensures.set_up.suits c.stage-stage.ensures.set_up.steerable c.requires.between c.latest.ensures
+    let meeting = phase_meets F stage shared.servers shared.routes c.args.poster.now q c.args.leader.now b old now
+    span place c.stage-stage.ensures.set_up.sound c.stage-stage.ensures.set_up.servers_are c.stage-stage.ensures.set_up.steerable c.requires.between c.latest.ensures
     order.0 order.1
-    (λ k low high. numbers c.args.head.now.next c.requires.between.p k phase c.requires.between.at_phase low high)
-    last (after c.args.head.now.next c.requires.between.p phase c.requires.between.at_phase)
-    (led_if_ok c.work_beside-led.result (HasLed stage shared.servers c.args.poster.now q c.args.head.now b) done.0
+    (λ k low high. numbers c.args.leader.now.next c.requires.between.p k phase c.requires.between.at_phase low high)
+    last (after c.args.leader.now.next c.requires.between.p phase c.requires.between.at_phase)
+    (led_if_ok c.work_beside-led.result (HasLed stage shared.servers c.args.poster.now q c.args.leader.now b) done.0
     c.work_beside-led.ensures.led) at (c.work_beside-led.ensures.count ∙ told ∙ size) done.1
     (worked_at F stage shared.servers shared.routes span c.args.poster.now old
     c.tell_all.new.workers now c.tell_all.ensures c.work_beside-led.ensures.worked) in
-    if_ok_more (HasMet stage b c.meet.new.head now until)
-    (IsNext F stage shared.servers shared.routes q c.meet.new.head now) c.meet.result
-    (λ next met. met_next F stage shared.servers shared.routes q b c.meet.new.head now until next meeting met)
+    if_ok_more (HasMet stage b c.meet.new.leader now until)
+    (IsNext F stage shared.servers shared.routes q c.meet.new.leader now) c.meet.result
+    (λ next met. met_next F stage shared.servers shared.routes q b c.meet.new.leader now until next meeting met)
     met
 
 pub returns-clause-fewer : goal.returns-clause-fewer
@@ -160,35 +160,35 @@ returns-clause-fewer g c =
     → IsAtPhase s next p start → start < k → k ≤ until → phase_of s k ≡ p) same ends.numbers in
     let after = subst (λ (s : Stage). (next p : ℕ) → IsPhase s.script.commands next place → IsAtPhase s next p start
     → place < length s.script.commands → IsAtPhase s (place + 1) (p + 1) until) same ends.next in
-    let met = subst (λ (s : Stage). IfOk c.meet.result (HasMet s c.work_beside-led.new.head c.meet.new.head
+    let met = subst (λ (s : Stage). IfOk c.meet.result (HasMet s c.work_beside-led.new.leader c.meet.new.leader
     c.work_beside-led.new.workers until)) same c.meet.ensures in
     let F = Gives g.F.Fn shared.rule in
     let old = c.args.workers.now in
     let now = c.work_beside-led.new.workers in
-    let b = c.work_beside-led.new.head in
+    let b = c.work_beside-led.new.leader in
     let q = c.work_beside-led.new.poster in
     let told = ap (λ (l : List MuxWorker). length l) c.tell_all.ensures in
-    let size = length-map old (told_what c.args.poster.now) in
-    let phase : IsPhase stage.script.commands c.args.head.now.next place =
-    subst (λ (l : List Command). IsPhase l c.args.head.now.next place) (c.items.ensures
+    let size = length-map old (with_posts c.args.poster.now) in
+    let phase : IsPhase stage.script.commands c.args.leader.now.next place =
+    subst (λ (l : List Command). IsPhase l c.args.leader.now.next place) (c.items.ensures
     ∙ ap (λ (s : Stage). s.script.commands) c.stage-stage.ensures.value) c.sync_place-place.ensures.phase in
     let done : (c.work_beside-led.result ≡ Ok tt) × HaveNotStopped now =
     subst (λ (x : Bool). MatchBool x (IsLate c.work_beside-led.result now)
     ((c.work_beside-led.result ≡ Ok tt) × HaveNotStopped now)) c.if-branch.false c.in_ok-is_late.ensures in
     let at = on_ok c.work_beside-led.result (b.next ≡ place) done.0 c.work_beside-led.ensures.next in
-    let meeting = phase_meets F stage shared.servers shared.routes c.args.poster.now q c.args.head.now b old now
-    span place c.stage-stage.ensures.set_up.sound c.stage-stage.ensures.set_up.suits c.stage-stage.ensures.set_up.steerable c.requires.between c.latest.ensures
+    let meeting = phase_meets F stage shared.servers shared.routes c.args.poster.now q c.args.leader.now b old now
+    span place c.stage-stage.ensures.set_up.sound c.stage-stage.ensures.set_up.servers_are c.stage-stage.ensures.set_up.steerable c.requires.between c.latest.ensures
     order.0 order.1
-    (λ k low high. numbers c.args.head.now.next c.requires.between.p k phase c.requires.between.at_phase low high)
-    last (after c.args.head.now.next c.requires.between.p phase c.requires.between.at_phase)
-    (led_if_ok c.work_beside-led.result (HasLed stage shared.servers c.args.poster.now q c.args.head.now b) done.0
+    (λ k low high. numbers c.args.leader.now.next c.requires.between.p k phase c.requires.between.at_phase low high)
+    last (after c.args.leader.now.next c.requires.between.p phase c.requires.between.at_phase)
+    (led_if_ok c.work_beside-led.result (HasLed stage shared.servers c.args.poster.now q c.args.leader.now b) done.0
     c.work_beside-led.ensures.led) at (c.work_beside-led.ensures.count ∙ told ∙ size) done.1
     (worked_at F stage shared.servers shared.routes span c.args.poster.now old
     c.tell_all.new.workers now c.tell_all.ensures c.work_beside-led.ensures.worked) in
     let low = phase.order in
-    if_ok_more (HasMet stage b c.meet.new.head now until)
-    (λ (next : Next). left_of next c.meet.new.head.next (length stage.script.commands)
-    < suc (length stage.script.commands - c.args.head.now.next)) c.meet.result
-    (λ next met. met_fewer F stage shared.servers shared.routes q b c.meet.new.head now until
-    c.args.head.now.next next meeting met (omega arith))
+    if_ok_more (HasMet stage b c.meet.new.leader now until)
+    (λ (next : Next). left_of next c.meet.new.leader.next (length stage.script.commands)
+    < suc (length stage.script.commands - c.args.leader.now.next)) c.meet.result
+    (λ next met. met_fewer F stage shared.servers shared.routes q b c.meet.new.leader now until
+    c.args.leader.now.next next meeting met (omega arith))
     met

@@ -6,9 +6,9 @@ use Rattle.bm_world.proofs.phase.run_phases.Given as goal
 abbrev pub invariant-loop-next : goal.invariant-loop-next
 invariant-loop-next g l = record {
   next : IsNext (Gives g.F.Fn l.shared.rule) l.shared.stage l.shared.servers l.shared.routes
-      l.poster l.head l.workers l.next;
+      l.poster l.leader l.workers l.next;
   count : length l.workers ≡ length l.fn.workers;
 }
 
 abbrev pub decreases-loop-next : goal.decreases-loop-next
-decreases-loop-next g l = left_of l.next l.head.next (length l.shared.stage.script.commands)
+decreases-loop-next g l = left_of l.next l.leader.next (length l.shared.stage.script.commands)

@@ -1,6 +1,6 @@
 use Rattle.std.proofs.Common.{◌-◌, ◌<◌, ◌≤◌, ℕ, length}
 use Rattle.std.specs.Prelude.{slice_get}
-use Rattle.bm_lead.specs.Heads.{IsSyncCommand}
+use Rattle.bm_lead.specs.Leaders.{IsSyncCommand}
 use Rattle.bm_world.proofs.places.sync_place.Given as goal
 
 abbrev pub invariant-loop-place : goal.invariant-loop-place

@@ -7,8 +7,8 @@ use Rattle.bm_core.specs.declared.events.Stage.{Stage}
 use Rattle.bm_core.specs.Accounts.{Rules}
 use Rattle.bm_merge.specs.Notes.{Note}
 use Rattle.bm_server.specs.Servings.{Serving}
-use Rattle.bm_lead.specs.declared.head.Head.{Head}
-use Rattle.bm_lead.specs.Heads.{HasPosted, IsReady}
+use Rattle.bm_lead.specs.declared.leader.Leader.{Leader}
+use Rattle.bm_lead.specs.Leaders.{HasPosted, IsReady}
 use Rattle.bm_lead.specs.Rests.{Adds}
 use Rattle.bm_fault.specs.Faults.{Gives}
 use Rattle.bm_mux.specs.Muxes.{HasServers}
@@ -53,7 +53,7 @@ run_phases-requires-clause-first g c κs within =
     let stage = shared.stage in
     let servers = shared.servers in
     let posted = c.args.poster.now in
-    let head = c.new-head.result in
+    let leader = c.new-leader.result in
     let others = items_of c.remove-first.new.self.items in
     let rows = row_after servers c.remove-first.result.items others (items_of c.args.rows.items)
     (ap items_of split) c.requires.rows in
@@ -64,25 +64,25 @@ run_phases-requires-clause-first g c κs within =
     let made = c.in_ok-workers.ensures.count in
     let count = c.requires.count in
     let longer = ap (λ l. length l) split in
-    starts_with (Gives g.F.Fn shared.rule) stage servers shared.routes posted c.new.result head
+    starts_with (Gives g.F.Fn shared.rule) stage servers shared.routes posted c.new.result leader
     c.remove-first.result.items others c.args.looks.items workers c.stage-stage.ensures.set_up.sound c.requires.board.0
-    c.requires.board.1 c.new.ensures c.new-head.ensures.caller c.new-head.ensures.next c.new-head.ensures.published.0
-    (λ begins. c.new-head.ensures.ready stage servers posted c.stage-stage.ensures.set_up.sound begins)
-    (λ begins. c.new-head.ensures.led stage servers posted begins)
+    c.requires.board.1 c.new.ensures c.new-leader.ensures.caller c.new-leader.ensures.next c.new-leader.ensures.published.0
+    (λ begins. c.new-leader.ensures.ready stage servers posted c.stage-stage.ensures.set_up.sound begins)
+    (λ begins. c.new-leader.ensures.led stage servers posted begins)
     rows.0 rows.1 c.requires.looks c.requires.muxes (omega arith) (omega arith)
     (λ m look seats w a b here. c.in_ok-workers.ensures.each m look seats w a b
     (ap (λ (l : List MuxWorker). slice_get l m) (sym value) ∙ here))
 
 -- worker 0 after the last phase
 ready_at_end : (F : Rules) (stage : Stage) (servers : List Serving) (routes : List (Option MuxId)) (late : Bool)
-    (posted : Posted) (head : Head) (workers : List MuxWorker)
-    → MatchBool late (HasGivenUp F stage servers posted head workers)
-    (IsThrough F stage servers routes posted head workers)
-    → IsReady stage servers posted head
-ready_at_end F stage servers routes true posted head workers up = up.ready
-ready_at_end F stage servers routes false posted head workers through = through.standing.ready
+    (posted : Posted) (leader : Leader) (workers : List MuxWorker)
+    → MatchBool late (HasGivenUp F stage servers posted leader workers)
+    (IsThrough F stage servers routes posted leader workers)
+    → IsReady stage servers posted leader
+ready_at_end F stage servers routes true posted leader workers up = up.ready
+ready_at_end F stage servers routes false posted leader workers through = through.standing.ready
 
-left_posted : (lent stage : Stage) (late : Bool) (p q : Posted) (a b : Head) → lent ≡ stage
+left_posted : (lent stage : Stage) (late : Bool) (p q : Posted) (a b : Leader) → lent ≡ stage
     → MatchBool late (((rest : List Note) × Adds lent p q a b rest)
     × (length q.clocks ≡ length lent.script.plan.changes)) ((q ≡ p) × (b ≡ a))
     → MatchBool late (((rest : List Note) × Adds stage p q a b rest)
@@ -94,9 +94,9 @@ left_posted lent stage late p q a b same left =
 pub post_left-requires-clause-posted : goal.post_left-requires-clause-posted
 post_left-requires-clause-posted g c =
     let shared = c.args.shared.now in
-    subst (λ (s : Stage). HasPosted s c.run_phases.new.poster c.run_phases.new.head) (sym c.stage-stage.ensures.value)
+    subst (λ (s : Stage). HasPosted s c.run_phases.new.poster c.run_phases.new.leader) (sym c.stage-stage.ensures.value)
     (ready_at_end (Gives g.F.Fn shared.rule) shared.stage shared.servers shared.routes c.in_ok-late.late
-    c.run_phases.new.poster c.run_phases.new.head c.run_phases.new.workers c.in_ok-late.ensures.late).posted_is
+    c.run_phases.new.poster c.run_phases.new.leader c.run_phases.new.workers c.in_ok-late.ensures.late).posted_is
 
 back : (old now : List MuxWorker) (n : ℕ) (lent : List MuxWorker) → lent ≡ old → length now ≡ length lent
     → n ≡ length old → take n (now ++ drop (length now) old) ≡ now
@@ -110,14 +110,14 @@ take_apart-requires g c =
     c.as_mut_slice.ensures.value c.run_phases.ensures.count c.in_ok-workers.workers.ok.0 in
     let F = Gives g.F.Fn shared.rule in
     let stands = stood F shared.stage shared.servers shared.routes c.in_ok-late.late
-    c.run_phases.new.poster c.post_left.new.poster c.run_phases.new.head c.post_left.new.head now
+    c.run_phases.new.poster c.post_left.new.poster c.run_phases.new.leader c.post_left.new.leader now
     c.in_ok-late.ensures.late
     (left_posted c.stage-stage.result.now shared.stage c.in_ok-late.late c.run_phases.new.poster
-    c.post_left.new.poster c.run_phases.new.head c.post_left.new.head c.stage-stage.ensures.value
+    c.post_left.new.poster c.run_phases.new.leader c.post_left.new.leader c.stage-stage.ensures.value
     c.in_ok-post_left.ensures) in
     record {
       boards = λ m w here. boards F shared.stage shared.servers shared.routes c.in_ok-late.late
-          c.post_left.new.poster c.post_left.new.head now stands m w
+          c.post_left.new.poster c.post_left.new.leader now stands m w
           (ap (λ (l : List MuxWorker). slice_get l m) (sym same) ∙ here);
     }
 
@@ -128,22 +128,22 @@ returns g c =
     let same = back c.in_ok-workers.workers.items now c.in_ok-workers.workers.len c.as_mut_slice.result.now
     c.as_mut_slice.ensures.value c.run_phases.ensures.count c.in_ok-workers.workers.ok.0 in
     let F = Gives g.F.Fn shared.rule in
-    let head = c.post_left.new.head in
+    let leader = c.post_left.new.leader in
     let posted = c.post_left.new.poster in
     let stands = stood F shared.stage shared.servers shared.routes c.in_ok-late.late
-    c.run_phases.new.poster posted c.run_phases.new.head head now
+    c.run_phases.new.poster posted c.run_phases.new.leader leader now
     c.in_ok-late.ensures.late
     (left_posted c.stage-stage.result.now shared.stage c.in_ok-late.late c.run_phases.new.poster
-    c.post_left.new.poster c.run_phases.new.head c.post_left.new.head c.stage-stage.ensures.value
+    c.post_left.new.poster c.run_phases.new.leader c.post_left.new.leader c.stage-stage.ensures.value
     c.in_ok-post_left.ensures) in
     record {
       posted = posted;
-      head = head;
+      leader = leader;
       workers = now;
       stood = stands;
       logs_are = c.in_ok-logs.ensures.logs
-          ∙ ap (λ (l : List MuxWorker). head.log.items ∷ map (λ (w : MuxWorker). w.mux.log) l) same;
-      rows_are = c.in_ok-logs.ensures.rows ∙ ap (λ (l : List MuxWorker). rows_of head.caller.seats l) same;
-      shown = all_shown F shared.stage shared.servers shared.routes c.in_ok-late.late posted head now stands
+          ∙ ap (λ (l : List MuxWorker). leader.log.items ∷ map (λ (w : MuxWorker). w.mux.log) l) same;
+      rows_are = c.in_ok-logs.ensures.rows ∙ ap (λ (l : List MuxWorker). rows_of leader.caller.seats l) same;
+      shown = all_shown F shared.stage shared.servers shared.routes c.in_ok-late.late posted leader now stands
           (λ m w here. c.in_ok-logs.ensures.shown m w (ap (λ (l : List MuxWorker). slice_get l m) same ∙ here));
     }

@@ -20,9 +20,9 @@ use Rattle.bm_worker.specs.Environments.{Environment, In, IsRunnable}
 use Rattle.bm_world.specs.Inside.RunStates.{rows_of, IsBack}
 use Rattle.bm_world.specs.Inside.Logged.{books_logs}
 use Rattle.bm_world.specs.Inside.Served.{AreBooksThere, IsNewRow}
-use Rattle.bm_world.proofs.Backed.{row_sits, rows_long, sitting, Stood}
+use Rattle.bm_world.proofs.Backed.{row_has_seats, rows_long, sitting, Stood}
 use Rattle.bm_world.proofs.Late.{none_late}
-use Rattle.bm_world.proofs.Making.{suits_made}
+use Rattle.bm_world.proofs.Making.{servers_made}
 use Rattle.bm_world.proofs.Through.{merge_to_run}
 use Rattle.bm_world.proofs.threads.run_stage.Goals as goal
 
@@ -60,7 +60,7 @@ pub new-shared-requires : goal.new-shared-requires
 new-shared-requires g c =
     let stage = c.args.stage.now in
     let ids = c.as_slice.result.now in
-    let suits = suits_made stage c.in_ok-servers.servers.items ids (stage.script.setting.muxes + 1) c.requires.sound
+    let servers_are = servers_made stage c.in_ok-servers.servers.items ids (stage.script.setting.muxes + 1) c.requires.sound
     (subst (λ (l : List ServerId). RiseFrom 1 l) (sym c.as_slice.ensures.value) c.in_ok-ids.ensures.rise)
     (subst (λ (l : List ServerId). (id : ServerId) → IsWithin 1 1024 id.0
     → is_known stage.script.plan (length stage.script.plan.changes) id ≡ true → is_among l id ≡ true)
@@ -72,7 +72,7 @@ new-shared-requires g c =
     (sym c.as_slice-2.ensures.value) (record {
       sound = c.requires.sound;
       packets = c.requires.packets;
-      suits = suits;
+      servers_are = servers_are;
       count = c.requires.count;
       steerable = c.requires.routed.steerable;
     }))
@@ -84,8 +84,8 @@ finish_all-requires-clause-count g c = λ s server here.
     let late = c.in_ok-late.field-0.late in
     let back = given_back g.F.Fn c.new-shared.result _ late _ _ c.new-shared.ensures c.in_ok-late.ensures in
     let F = Gives g.F.Fn c.args.faults.now.rule in
-    let sits = sitting F stage servers c.as_slice-2.result.now late back.posted back.head back.workers back.stood in
-    let long = rows_long stage servers back.head.caller back.workers sits in
+    let has_seats = sitting F stage servers c.as_slice-2.result.now late back.posted back.leader back.workers back.stood in
+    let long = rows_long stage servers back.leader.caller back.workers has_seats in
     let size = length-map c.in_ok-late.field-0.rows.items (λ row. row.items) in
     let rows = ap (λ (l : List (List (List Seated))). length l) back.rows_are in
     let seats = (c.in_ok-servers.ensures.each_server s server here).seats in
@@ -100,8 +100,8 @@ finish_all-requires-clause-each g c = λ w seats here.
     let back = back_of F stage _ servers _ c.args.routes.items late _ _ c.as_slice-2.ensures.value
     c.as_slice-3.ensures.value (given_back g.F.Fn c.new-shared.result _ late _ _ c.new-shared.ensures
     c.in_ok-late.ensures) in
-    let sits = sitting F stage servers c.args.routes.items late back.posted back.head back.workers back.stood in
-    row_sits stage servers back.head.caller back.workers sits w seats
+    let has_seats = sitting F stage servers c.args.routes.items late back.posted back.leader back.workers back.stood in
+    row_has_seats stage servers back.leader.caller back.workers has_seats w seats
     (ap (λ (l : List (List (List Seated))). slice_get l w) (sym back.rows_are) ∙ here)
 
 pub unreachable-requires : goal.unreachable-requires
@@ -111,7 +111,7 @@ unreachable-requires g c =
     let F = Gives g.F.Fn c.args.faults.now.rule in
     let servers = c.in_ok-servers.servers.items in
     let ids = c.as_slice.result.now in
-    let suits = suits_made stage servers ids (stage.script.setting.muxes + 1) c.requires.sound
+    let servers_are = servers_made stage servers ids (stage.script.setting.muxes + 1) c.requires.sound
     (subst (λ (l : List ServerId). RiseFrom 1 l) (sym c.as_slice.ensures.value) c.in_ok-ids.ensures.rise)
     (subst (λ (l : List ServerId). (id : ServerId) → IsWithin 1 1024 id.0
     → is_known stage.script.plan (length stage.script.plan.changes) id ≡ true → is_among l id ≡ true)
@@ -120,19 +120,19 @@ unreachable-requires g c =
     let back = back_of F stage _ servers _ c.args.routes.items late _ _ c.as_slice-2.ensures.value
     c.as_slice-3.ensures.value (given_back g.F.Fn c.new-shared.result _ late _ _ c.new-shared.ensures
     c.in_ok-late.ensures) in
-    let sits = sitting F stage servers c.args.routes.items late back.posted back.head back.workers back.stood in
+    let has_seats = sitting F stage servers c.args.routes.items late back.posted back.leader back.workers back.stood in
     let seats : (s : ℕ) (server : Serving) → slice_get servers s ≡ Some server
     → server.seats ≡ suc (length back.workers) =
     λ s server here.
-    let one = (c.in_ok-servers.ensures.each_server s server here).seats in let muxes = sits.muxes in omega arith in
+    let one = (c.in_ok-servers.ensures.each_server s server here).seats in let muxes = has_seats.muxes in omega arith in
     let books : (s : ℕ) (books : List Book) → slice_get c.in_ok-books.books.items s ≡ Some books
-    → AreBooksThere servers (rows_of back.head.caller.seats back.workers) s books =
+    → AreBooksThere servers (rows_of back.leader.caller.seats back.workers) s books =
     λ s books here. subst (λ (x : List (List (List Seated))). AreBooksThere servers x s books) back.rows_are
     (c.in_ok-books.ensures.books s books here) in
-    let rest = subst (λ (b : Bool). Stood F stage servers c.args.routes.items b back.posted back.head back.workers)
+    let rest = subst (λ (b : Bool). Stood F stage servers c.args.routes.items b back.posted back.leader back.workers)
     c.if-late.true back.stood in
-    none_late F stage servers rest.before back.posted rest.start back.head back.workers rest.rest
-    c.in_ok-books.books.items c.requires.sound suits seats c.requires.faults.delay rest.given_up rest.added rest.all
+    none_late F stage servers rest.before back.posted rest.start back.leader back.workers rest.rest
+    c.in_ok-books.books.items c.requires.sound servers_are seats c.requires.faults.delay rest.given_up rest.added rest.all
     back.shown c.in_ok-books.ensures.count books
 
 pub returns : goal.returns
@@ -142,7 +142,7 @@ returns g c =
     let F = Gives g.F.Fn c.args.faults.now.rule in
     let servers = c.in_ok-servers.servers.items in
     let ids = c.as_slice.result.now in
-    let suits = suits_made stage servers ids (stage.script.setting.muxes + 1) c.requires.sound
+    let servers_are = servers_made stage servers ids (stage.script.setting.muxes + 1) c.requires.sound
     (subst (λ (l : List ServerId). RiseFrom 1 l) (sym c.as_slice.ensures.value) c.in_ok-ids.ensures.rise)
     (subst (λ (l : List ServerId). (id : ServerId) → IsWithin 1 1024 id.0
     → is_known stage.script.plan (length stage.script.plan.changes) id ≡ true → is_among l id ≡ true)
@@ -151,20 +151,20 @@ returns g c =
     let back = back_of F stage _ servers _ c.args.routes.items late _ _ c.as_slice-2.ensures.value
     c.as_slice-3.ensures.value (given_back g.F.Fn c.new-shared.result _ late _ _ c.new-shared.ensures
     c.in_ok-late.ensures) in
-    let sits = sitting F stage servers c.args.routes.items late back.posted back.head back.workers back.stood in
+    let has_seats = sitting F stage servers c.args.routes.items late back.posted back.leader back.workers back.stood in
     let seats : (s : ℕ) (server : Serving) → slice_get servers s ≡ Some server
     → server.seats ≡ suc (length back.workers) =
     λ s server here.
-    let one = (c.in_ok-servers.ensures.each_server s server here).seats in let muxes = sits.muxes in omega arith in
+    let one = (c.in_ok-servers.ensures.each_server s server here).seats in let muxes = has_seats.muxes in omega arith in
     let books : (s : ℕ) (books : List Book) → slice_get c.in_ok-books.books.items s ≡ Some books
-    → AreBooksThere servers (rows_of back.head.caller.seats back.workers) s books =
+    → AreBooksThere servers (rows_of back.leader.caller.seats back.workers) s books =
     λ s books here. subst (λ (x : List (List (List Seated))). AreBooksThere servers x s books) back.rows_are
     (c.in_ok-books.ensures.books s books here) in
-    let through = subst (λ (b : Bool). Stood F stage servers c.args.routes.items b back.posted back.head back.workers)
+    let through = subst (λ (b : Bool). Stood F stage servers c.args.routes.items b back.posted back.leader back.workers)
     c.if-late.false back.stood in
     let all = c.in_ok-books.books.items in
     let lists = c.in_ok-late.field-0.logs.items ++ books_logs all in
-    let merged = merge_to_run F stage servers c.args.routes.items back.posted back.head back.workers all lists
-    c.requires.sound suits seats c.requires.routed back.shown through c.in_ok-books.ensures.count books
+    let merged = merge_to_run F stage servers c.args.routes.items back.posted back.leader back.workers all lists
+    c.requires.sound servers_are seats c.requires.routed back.shown through c.in_ok-books.ensures.count books
     (ap (λ (l : List (List Event)). l ++ books_logs all) back.logs_are) in
     IfOk-weaker c.merge_beside.result _ _ (λ events is h about made. merged h about (made ∙ is)) c.merge_beside.ensures

@@ -21,12 +21,12 @@ pub handle-answer-requires-clause-mine : goal.handle-answer-requires-clause-mine
 handle-answer-requires-clause-mine g c =
     mine_there c.args.self.now (caller_state c.self.inside) c.args.servers.now c.args.place c.index_mut.result.now
     c.index-servers-place.result
-    c.self.view_is c.requires.sits c.requires.place c.index_mut.ensures.value c.index-servers-place.is
+    c.self.view_is c.requires.has_seats c.requires.place c.index_mut.ensures.value c.index-servers-place.is
 
 pub handle-answer-requires-clause-few : goal.handle-answer-requires-clause-few
 handle-answer-requires-clause-few g c =
     few_there c.args.self.now (caller_state c.self.inside) c.args.servers.now c.args.place c.index_mut.result.now
-    c.self.view_is c.requires.sits c.requires.place c.index_mut.ensures.value c.requires.few c.self.invariant.turns
+    c.self.view_is c.requires.has_seats c.requires.place c.index_mut.ensures.value c.requires.few c.self.invariant.turns
 
 pub arrived-requires-clause-memory : goal.arrived-requires-clause-memory
 arrived-requires-clause-memory g c =
@@ -51,7 +51,7 @@ pub invariant_of-self : goal.invariant_of-self
 invariant_of-self g c =
     let a = caller_state c.self.inside in record {
       turns = turns_kept a.seats c.args.place a.tries c.index_mut.result.now c.handle-answer.new.seat
-          (seat_there c.args.self.now a c.args.servers.now c.args.place c.self.view_is c.requires.sits c.requires.place)
+          (seat_there c.args.self.now a c.args.servers.now c.args.place c.self.view_is c.requires.has_seats c.requires.place)
           c.index_mut.ensures.value c.handle-answer.ensures.turns c.self.invariant.turns;
     }
 
@@ -59,7 +59,7 @@ pub invariant_of-self-2 : goal.invariant_of-self-2
 invariant_of-self-2 g c =
     let a = caller_state c.self.inside in record {
       turns = turns_kept a.seats c.args.place a.tries c.index_mut.result.now c.handle-answer.new.seat
-          (seat_there c.args.self.now a c.args.servers.now c.args.place c.self.view_is c.requires.sits c.requires.place)
+          (seat_there c.args.self.now a c.args.servers.now c.args.place c.self.view_is c.requires.has_seats c.requires.place)
           c.index_mut.ensures.value c.handle-answer.ensures.turns c.self.invariant.turns;
     }
 
@@ -93,10 +93,10 @@ returns-in_err-clock-clause-stays g c =
     stays c.args.self.now (caller_state c.self.inside) c.args.servers.now c.args.place (shard_for server copy.0.1.flow)
     c.index_mut.result.now c.handle-answer.new.seat (Arrive c.args.packet copy.0.0 copy.0.1 c.args.due)
     c.handle-answer.result why.0
-    c.self.view_is c.requires.sits c.requires.place c.index_mut.ensures.value told.0 why.1)
+    c.self.view_is c.requires.has_seats c.requires.place c.index_mut.ensures.value told.0 why.1)
 
-pub returns-clause-told : goal.returns-clause-told
-returns-clause-told g c = λ server' read at' copy.
+pub returns-clause-call : goal.returns-clause-call
+returns-clause-call g c = λ server' read at' copy.
     let server = c.index-servers-place.result in
     let at = server_got c.args.servers.now c.args.place server c.requires.place c.index-servers-place.is in
     let same : server' ≡ server = same_Some server' server (sym at' ∙ at) in
@@ -115,7 +115,7 @@ returns-clause-told g c = λ server' read at' copy.
           c.index_mut.result.now c.handle-answer.new.seat (Arrive c.args.packet read.0 read.1 c.args.due)
           c.handle-answer.result
           (Arrived c.in_ok-clock.clock c.in_ok-clock.verdict given.0)
-          c.self.view_is c.requires.sits c.requires.place c.index_mut.ensures.value
+          c.self.view_is c.requires.has_seats c.requires.place c.index_mut.ensures.value
           (subst (λ (x : Serving). Tells (shard_for x read.1.flow) (Arrive c.args.packet read.0 read.1 c.args.due)
           c.handle-answer.result
           c.index_mut.result.now c.handle-answer.new.seat) (sym same) told.0) given.1;

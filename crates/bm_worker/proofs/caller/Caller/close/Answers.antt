@@ -15,12 +15,12 @@ pub close_flow-answer-requires-clause-mine : goal.close_flow-answer-requires-cla
 close_flow-answer-requires-clause-mine g c =
     mine_there c.args.self.now (caller_state c.self.inside) c.args.servers.now c.args.place c.index_mut.result.now
     c.index-servers-place.result
-    c.self.view_is c.requires.sits c.requires.place c.index_mut.ensures.value c.index-servers-place.is
+    c.self.view_is c.requires.has_seats c.requires.place c.index_mut.ensures.value c.index-servers-place.is
 
 pub close_flow-answer-requires-clause-few : goal.close_flow-answer-requires-clause-few
 close_flow-answer-requires-clause-few g c =
     few_there c.args.self.now (caller_state c.self.inside) c.args.servers.now c.args.place c.index_mut.result.now
-    c.self.view_is c.requires.sits c.requires.place c.index_mut.ensures.value c.requires.few c.self.invariant.turns
+    c.self.view_is c.requires.has_seats c.requires.place c.index_mut.ensures.value c.requires.few c.self.invariant.turns
 
 pub closed-requires : goal.closed-requires
 closed-requires g c =
@@ -30,7 +30,7 @@ pub invariant_of-self : goal.invariant_of-self
 invariant_of-self g c =
     let a = caller_state c.self.inside in record {
       turns = turns_kept a.seats c.args.place a.tries c.index_mut.result.now c.close_flow-answer.new.seat
-          (seat_there c.args.self.now a c.args.servers.now c.args.place c.self.view_is c.requires.sits c.requires.place)
+          (seat_there c.args.self.now a c.args.servers.now c.args.place c.self.view_is c.requires.has_seats c.requires.place)
           c.index_mut.ensures.value c.close_flow-answer.ensures.turns c.self.invariant.turns;
     }
 
@@ -38,7 +38,7 @@ pub invariant_of-self-2 : goal.invariant_of-self-2
 invariant_of-self-2 g c =
     let a = caller_state c.self.inside in record {
       turns = turns_kept a.seats c.args.place a.tries c.index_mut.result.now c.close_flow-answer.new.seat
-          (seat_there c.args.self.now a c.args.servers.now c.args.place c.self.view_is c.requires.sits c.requires.place)
+          (seat_there c.args.self.now a c.args.servers.now c.args.place c.self.view_is c.requires.has_seats c.requires.place)
           c.index_mut.ensures.value c.close_flow-answer.ensures.turns c.self.invariant.turns;
     }
 
@@ -64,11 +64,11 @@ returns-in_err-clock-clause-stays g c = on_err c.from_residual.result (
     (shard_for c.index-servers-place.result c.args.flow)
     c.index_mut.result.now c.close_flow-answer.new.seat (Close c.args.flow c.args.at) c.close_flow-answer.result
     c.in_err-clock.field-0.0
-    c.self.view_is c.requires.sits c.requires.place c.index_mut.ensures.value c.close_flow-answer.ensures.told
+    c.self.view_is c.requires.has_seats c.requires.place c.index_mut.ensures.value c.close_flow-answer.ensures.told
     c.in_err-clock.ensures)
 
-pub returns-clause-told : goal.returns-clause-told
-returns-clause-told g c = λ server at.
+pub returns-clause-call : goal.returns-clause-call
+returns-clause-call g c = λ server at.
     let here = c.index-servers-place.result in
     let is = server_got c.args.servers.now c.args.place here c.requires.place c.index-servers-place.is in
     subst (λ (x : Serving). Gains c.args.place (shard_for x c.args.flow) (Close c.args.flow c.args.at)
@@ -77,7 +77,7 @@ returns-clause-told g c = λ server at.
     (same_Some here server (sym is ∙ at))
     (gains c.args.self.now (caller_state c.self.inside) c.args.servers.now c.args.place (shard_for here c.args.flow)
     c.index_mut.result.now c.close_flow-answer.new.seat (Close c.args.flow c.args.at) c.close_flow-answer.result
-    (Closed c.in_ok-clock.clock c.in_ok-clock.was_held) c.self.view_is c.requires.sits c.requires.place
+    (Closed c.in_ok-clock.clock c.in_ok-clock.was_held) c.self.view_is c.requires.has_seats c.requires.place
     c.index_mut.ensures.value
     c.close_flow-answer.ensures.told c.in_ok-clock.ensures)
 

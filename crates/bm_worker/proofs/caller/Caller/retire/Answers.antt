@@ -12,12 +12,12 @@ pub retire-answer-requires-clause-mine : goal.retire-answer-requires-clause-mine
 retire-answer-requires-clause-mine g c =
     mine_there c.args.self.now (caller_state c.self.inside) c.args.servers.now c.args.place c.index_mut.result.now
     c.index-servers-place.result
-    c.self.view_is c.requires.sits c.requires.place c.index_mut.ensures.value c.index-servers-place.is
+    c.self.view_is c.requires.has_seats c.requires.place c.index_mut.ensures.value c.index-servers-place.is
 
 pub retire-answer-requires-clause-few : goal.retire-answer-requires-clause-few
 retire-answer-requires-clause-few g c =
     few_there c.args.self.now (caller_state c.self.inside) c.args.servers.now c.args.place c.index_mut.result.now
-    c.self.view_is c.requires.sits c.requires.place c.index_mut.ensures.value c.requires.few c.self.invariant.turns
+    c.self.view_is c.requires.has_seats c.requires.place c.index_mut.ensures.value c.requires.few c.self.invariant.turns
 
 pub retired-requires : goal.retired-requires
 retired-requires g c =
@@ -27,7 +27,7 @@ pub invariant_of-self : goal.invariant_of-self
 invariant_of-self g c =
     let a = caller_state c.self.inside in record {
       turns = turns_kept a.seats c.args.place a.tries c.index_mut.result.now c.retire-answer.new.seat
-          (seat_there c.args.self.now a c.args.servers.now c.args.place c.self.view_is c.requires.sits c.requires.place)
+          (seat_there c.args.self.now a c.args.servers.now c.args.place c.self.view_is c.requires.has_seats c.requires.place)
           c.index_mut.ensures.value c.retire-answer.ensures.turns c.self.invariant.turns;
     }
 
@@ -35,7 +35,7 @@ pub invariant_of-self-2 : goal.invariant_of-self-2
 invariant_of-self-2 g c =
     let a = caller_state c.self.inside in record {
       turns = turns_kept a.seats c.args.place a.tries c.index_mut.result.now c.retire-answer.new.seat
-          (seat_there c.args.self.now a c.args.servers.now c.args.place c.self.view_is c.requires.sits c.requires.place)
+          (seat_there c.args.self.now a c.args.servers.now c.args.place c.self.view_is c.requires.has_seats c.requires.place)
           c.index_mut.ensures.value c.retire-answer.ensures.turns c.self.invariant.turns;
     }
 
@@ -60,14 +60,14 @@ returns-in_err-clock-clause-stays g c = on_err c.from_residual.result (
     stays c.args.self.now (caller_state c.self.inside) c.args.servers.now c.args.place c.args.shard
     c.index_mut.result.now c.retire-answer.new.seat (Retire c.args.at c.args.outcome) c.retire-answer.result
     c.in_err-clock.field-0.0
-    c.self.view_is c.requires.sits c.requires.place c.index_mut.ensures.value c.retire-answer.ensures.told
+    c.self.view_is c.requires.has_seats c.requires.place c.index_mut.ensures.value c.retire-answer.ensures.told
     c.in_err-clock.ensures)
 
-pub returns-clause-told : goal.returns-clause-told
-returns-clause-told g c =
+pub returns-clause-call : goal.returns-clause-call
+returns-clause-call g c =
     gains c.args.self.now (caller_state c.self.inside) c.args.servers.now c.args.place c.args.shard
     c.index_mut.result.now c.retire-answer.new.seat (Retire c.args.at c.args.outcome) c.retire-answer.result
-    (Retired c.in_ok-clock.clock) c.self.view_is c.requires.sits c.requires.place c.index_mut.ensures.value
+    (Retired c.in_ok-clock.clock) c.self.view_is c.requires.has_seats c.requires.place c.index_mut.ensures.value
     c.retire-answer.ensures.told c.in_ok-clock.ensures
 
 pub returns-clause-later : goal.returns-clause-later

@@ -2,14 +2,14 @@ use Rattle.std.proofs.Common.{◌≡◌, ◌+◌, ◌*◌, ◌<◌, ◌≤◌, �
 use Rattle.std.specs.Prelude.{slice_get}
 use Rattle.bm_fault.specs.Faults.{Gives}
 use Rattle.bm_server.specs.Servings.{Serving}
-use Rattle.bm_worker.specs.WorkerNotes.{NumbersRise, Sits}
+use Rattle.bm_worker.specs.WorkerNotes.{NumbersRise, HasSeats}
 use Rattle.bm_worker.specs.Inside.Pending.{HasCarried, pending}
 use Rattle.bm_worker.proofs.Carrying.{asks_copy, carried_none, carried_whole, carries_late, carries_loss, carries_stop, place_inside}
 use Rattle.bm_worker.proofs.Sent.{can_on, lost_of, sent_call, sent_loss, sent_nothing, sent_on}
 use Rattle.bm_worker.proofs.Forwarding.{carried_copy, carried_copy_stop, carries_forward, carries_one, carries_one_stop, not_forward, has_onward, has_place, is_turned, turned_copy, goes_further, weight_of}
 use Rattle.bm_worker.proofs.Labels.{copy_on}
 use Rattle.bm_worker.proofs.Copying.{copy_reads}
-use Rattle.bm_worker.proofs.Paying.{no_sending}
+use Rattle.bm_worker.proofs.Completing.{no_sending}
 use Rattle.bm_encap.specs.Faults.{chained}
 use Rattle.bm_core.specs.Inside.Weights.{hop_weight}
 use Rattle.bm_worker.specs.Inside.Pending.{copy_lost, most_lost, most_tries}
@@ -150,9 +150,9 @@ carry_copy-arrive-requires-clause-place g t c =
     (place_inside c.args.shared.now.servers c.args.sending.now.place c.requires.copy.server
     c.requires.copy.is_server)
 
-pub carry_copy-arrive-requires-clause-sits : goal.carry_copy-arrive-requires-clause-sits
-carry_copy-arrive-requires-clause-sits g t c =
-    subst (λ (l : List Serving). Sits l c.args.self.now.caller) (sym c.servers.ensures.value) c.requires.can.sits
+pub carry_copy-arrive-requires-clause-has_seats : goal.carry_copy-arrive-requires-clause-has_seats
+carry_copy-arrive-requires-clause-has_seats g t c =
+    subst (λ (l : List Serving). HasSeats l c.args.self.now.caller) (sym c.servers.ensures.value) c.requires.can.has_seats
 
 pub carry_copy-arrive-requires-clause-few : goal.carry_copy-arrive-requires-clause-few
 carry_copy-arrive-requires-clause-few g t c =
@@ -182,11 +182,11 @@ carry_copy-returns-in_default g t c = record {
       (pending c.args.sending.now.packet c.args.sending.now.hop c.args.sending.now.clock.0 c.args.sending.now.fate) (hop_weight c.args.sending.now.hop) c.args.self.now
       (record c.args.self.now { caller = c.arrive.new.self }) c.args.sending.now.place c.args.sending.now.octets.now
       c.args.due
-      (c.in_ok-clock.clock, c.in_ok-clock.verdict) (some_weight c.args.sending.now.hop) c.servers.ensures.set_up.suits c.requires.copy c.requires.due.0
+      (c.in_ok-clock.clock, c.in_ok-clock.verdict) (some_weight c.args.sending.now.hop) c.servers.ensures.set_up.servers_are c.requires.copy c.requires.due.0
       c.in_ok-clock.ensures.later
       (λ server. no_sending c.args.sending.now.packet c.args.sending.now.hop server c.in_ok-clock.verdict
       (not_forward c.in_ok-clock.verdict c.in_default.not-Forward))
-      (λ server read at. c.in_ok-clock.ensures.told server read (at_place c.servers.result.now c.args.shared.now.servers
+      (λ server read at. c.in_ok-clock.ensures.call server read (at_place c.servers.result.now c.args.shared.now.servers
       c.args.sending.now.place server c.servers.ensures.value at)) refl c.in_ok-clock.ensures.latest c.arrive.ensures.same;
 }
 
@@ -209,9 +209,9 @@ carry_copy-returns-clause-carries g t c =
     (record c.args.self.now { caller = c.arrive.new.self }) c.forward.new.self c.args.sending.now.place
     c.args.sending.now.octets.now c.args.due
     (c.in_ok-clock.clock, c.in_ok-clock.verdict) c.in-Forward.to c.forward.result (sym c.next.ensures ∙ c.in-Some.is)
-    c.servers.ensures.set_up.suits c.requires.copy
+    c.servers.ensures.set_up.servers_are c.requires.copy
     c.requires.due.0
-    c.in_ok-clock.ensures.later c.in-Forward.is c.fate-fate.ensures.gives (λ server read at. c.in_ok-clock.ensures.told server read (at_place c.servers.result.now c.args.shared.now.servers
+    c.in_ok-clock.ensures.later c.in-Forward.is c.fate-fate.ensures.gives (λ server read at. c.in_ok-clock.ensures.call server read (at_place c.servers.result.now c.args.shared.now.servers
     c.args.sending.now.place server c.servers.ensures.value at)) refl
     c.in_ok-clock.ensures.latest
     c.arrive.ensures.same c.forward.ensures.carries
@@ -219,14 +219,14 @@ carry_copy-returns-clause-carries g t c =
 -- A FORWARD
 
 pub forward-place_of-requires : goal.forward-place_of-requires
-forward-place_of-requires g t c = subst NumbersRise (sym c.servers.ensures.value) c.servers.ensures.set_up.suits.rise
+forward-place_of-requires g t c = subst NumbersRise (sym c.servers.ensures.value) c.servers.ensures.set_up.servers_are.rise
 
 pub forward-unreachable-requires : goal.forward-unreachable-requires
 forward-unreachable-requires g t c =
     has_place c.args.shared.now.servers c.args.to
     (has_onward c.args.shared.now.stage c.args.shared.now.servers c.args.self.now.mux c.args.sending.now.place
     c.args.sending.now.packet
-    c.args.sending.now.hop c.args.next c.args.sending.now.octets.now c.args.to c.servers.ensures.set_up.sound c.servers.ensures.set_up.suits c.requires.next c.requires.onward)
+    c.args.sending.now.hop c.args.next c.args.sending.now.octets.now c.args.to c.servers.ensures.set_up.sound c.servers.ensures.set_up.servers_are c.requires.next c.requires.onward)
     (λ s server at. c.place_of.ensures.none c.in_default.is s server (at_place c.servers.result.now
     c.args.shared.now.servers s server c.servers.ensures.value at))
 
@@ -252,7 +252,7 @@ forward-returns-in_err-octets-clause-carries g t c =
 pub carry_copy-unreachable-requires : goal.carry_copy-unreachable-requires
 carry_copy-unreachable-requires g t c =
     let copy = c.requires.copy in
-    let come = c.in_ok-clock.ensures.told copy.server (copy.tag, copy.segment) (at_place c.servers.result.now c.args.shared.now.servers c.args.sending.now.place copy.server c.servers.ensures.value copy.is_server)
+    let come = c.in_ok-clock.ensures.call copy.server (copy.tag, copy.segment) (at_place c.servers.result.now c.args.shared.now.servers c.args.sending.now.place copy.server c.servers.ensures.value copy.is_server)
     (copy_reads c.args.shared.now.stage c.args.shared.now.servers c.args.self.now.mux
     c.args.sending.now.place c.args.sending.now.packet c.args.sending.now.hop
     c.args.sending.now.octets.now copy) in
@@ -310,7 +310,7 @@ carry_copy-forward-requires g t c κs within =
                 after,
                 (
                   let copy = c.requires.copy in
-                      let come = c.in_ok-clock.ensures.told copy.server (copy.tag, copy.segment)
+                      let come = c.in_ok-clock.ensures.call copy.server (copy.tag, copy.segment)
                       (at_place c.servers.result.now c.args.shared.now.servers c.args.sending.now.place copy.server
                       c.servers.ensures.value copy.is_server)
                       (copy_reads c.args.shared.now.stage c.args.shared.now.servers c.args.self.now.mux

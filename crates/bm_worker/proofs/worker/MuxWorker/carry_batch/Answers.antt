@@ -49,7 +49,7 @@ deliver-requires-clause-sents g c κs within =
     (IsSent c.args.shared.now.stage c.args.shared.now.servers c.batch.new.self) l) (sym c.deref-2.ensures.value)
     (batch_sent F c.args.shared.now.stage c.args.shared.now.servers c.args.shared.now.routes
     c.args.self.now.mux c.batch.new.self c.args.from b.end b.items.items b.fates.items c.batch.new.out.items
-    c.in_ok-batch.ensures.set_up.sound c.in_ok-batch.ensures.set_up.suits c.requires.can.mux c.requires.can.plan
+    c.in_ok-batch.ensures.set_up.sound c.in_ok-batch.ensures.set_up.servers_are c.requires.can.mux c.requires.can.plan
     (subst (λ (j : MuxId). AreCollected F c.args.shared.now.stage c.args.shared.now.routes j.0 c.args.from b.end
     b.items.items b.fates.items) c.mux_id.ensures c.in_ok-batch.ensures.all)
     (steered_as c.args.self.now.mux c.batch.new.self b.items.items c.deref.result.now c.clear.new.self.items
@@ -78,7 +78,7 @@ deliver-requires-clause-can g c κs within =
     let same : length c.deref-2.result.now ≡ length c.batch.new.out.items =
     ap (λ (l : List Steered). length l) c.deref-2.ensures.value in
     record {
-      sits = sits_on c.args.shared.now.servers w.caller c.see.new.self c.see.ensures.same can.sits;
+      has_seats = sits_on c.args.shared.now.servers w.caller c.see.new.self c.see.ensures.same can.has_seats;
       number = c.see.ensures.same.number
           ∙ (can.number ∙ ap (λ (m : MuxId). m.0 + 1) (sym c.in_ok-batch-2.ensures.ok.looked.same.id));
       few = let count = c.in_ok-batch.ensures.all.count in let end = c.in_ok-batch.ensures.more.1 in

@@ -5,7 +5,7 @@ use Rattle.bm_publish.specs.Posts.{Posted}
 use Rattle.bm_mux.specs.Muxes.{IsSameMux}
 use Rattle.bm_worker.specs.Inside.Batches.{IsDoneTo}
 use Rattle.bm_worker.specs.WorkerNotes.{IsSameCaller}
-use Rattle.bm_worker.specs.Phases.{stint_of}
+use Rattle.bm_worker.specs.Phases.{task_of}
 use Rattle.bm_worker.proofs.worker.MuxWorker.carry_phase.Given as goal
 
 abbrev pub invariant-loop-next : goal.invariant-loop-next
@@ -17,9 +17,9 @@ invariant-loop-next g l = record {
   tries : l.self.caller.tries ≤ l.fn.self.caller.tries + 39 * (l.next - l.span.from);
   steps : l.self.steps ≤ l.fn.self.steps + (l.next - l.span.from);
   log : length l.self.mux.log ≤ length l.fn.self.mux.log + 11 * (l.next - l.span.from) + 1;
-  done : (told : Posted) → l.fn.self.told ≡ Some told → (d : List Note)
+  done : (posted : Posted) → l.fn.self.posted ≡ Some posted → (d : List Note)
       × IsDoneTo (Gives g.F.Fn l.shared.rule) l.shared.stage l.shared.servers
-      (stint_of l.shared.routes l.span told l.fn.self) l.self l.next d;
+      (task_of l.shared.routes l.span posted l.fn.self) l.self l.next d;
 }
 
 abbrev pub decreases-loop-next : goal.decreases-loop-next

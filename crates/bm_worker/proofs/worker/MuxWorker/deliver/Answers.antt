@@ -26,7 +26,7 @@ loop-at-init g c = record {
 }
 
 pub place_of-requires : goal.place_of-requires
-place_of-requires g c = subst NumbersRise (sym c.servers.ensures.value) c.servers.ensures.set_up.suits.rise
+place_of-requires g c = subst NumbersRise (sym c.servers.ensures.value) c.servers.ensures.set_up.servers_are.rise
 
 pub unreachable-requires : goal.unreachable-requires
 unreachable-requires g c =
@@ -60,7 +60,7 @@ send-requires-clause-can g c =
     let i = c.loop-at.invariant in
     let can = can_on c.args.shared.now.servers (9 * c.loop-at.at) (39 * c.loop-at.at) 39 (39 * length c.args.sents.now) w
     (record c.loop-at.self { steps = w.steps }) (let lt = c.loop-at-test.true in omega (arith, lt)) c.requires.can i.sent
-    in record { sits = can.sits; number = can.number; few = can.few }
+    in record { has_seats = can.has_seats; number = can.number; few = can.few }
 
 pub returns-in_err-send-clause-delivers : goal.returns-in_err-send-clause-delivers
 returns-in_err-send-clause-delivers g c =

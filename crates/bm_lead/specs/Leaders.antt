@@ -8,34 +8,34 @@ use Rattle.bm_table.specs.Scripts.{NamesVersions}
 use Rattle.bm_core.specs.declared.events.Stage.{Stage}
 use Rattle.bm_server.specs.Servings.{Serving}
 use Rattle.bm_publish.specs.Posts.{Posted, last_post}
-use Rattle.bm_worker.specs.WorkerNotes.{Sits}
+use Rattle.bm_worker.specs.WorkerNotes.{HasSeats}
 use Rattle.bm_worker.specs.Callers.{CallerState}
 use Rattle.bm_worker.specs.declared.stop.Stop.{Stop}
 use Rattle.bm_worker.specs.declared.stop.Stop.TheVariants.{Late, Memory}
-use Rattle.bm_lead.specs.declared.head.Head.{Head}
+use Rattle.bm_lead.specs.declared.leader.Leader.{Leader}
 
 -- what was posted on the board is what worker 0 has published
-pub record HasPosted (stage : Stage) (posted : Posted) (head : Head) : Type 0 where
+pub record HasPosted (stage : Stage) (posted : Posted) (leader : Leader) : Type 0 where
   pub plan : posted.plan ≡ stage.script.plan
-  pub count : length posted.clocks ≡ head.published.0
-  pub few : head.published.0 ≤ length stage.script.plan.changes
-  pub last : last_post posted ≡ head.last_post.0
+  pub count : length posted.clocks ≡ leader.published.0
+  pub few : leader.published.0 ≤ length stage.script.plan.changes
+  pub last : last_post posted ≡ leader.last_post.0
 
 -- worker 0 may go on
-pub record IsReady (stage : Stage) (servers : List Serving) (posted : Posted) (head : Head)
+pub record IsReady (stage : Stage) (servers : List Serving) (posted : Posted) (leader : Leader)
     : Type 0 where
-  pub next : head.next ≤ length stage.script.commands
+  pub next : leader.next ≤ length stage.script.commands
   -- the commands that are left name the versions that aren't published
-  pub versions : NamesVersions (head.published.0 + 1) (length stage.script.plan.changes)
-      (drop head.next stage.script.commands)
-  pub posted_is : HasPosted stage posted head
+  pub versions : NamesVersions (leader.published.0 + 1) (length stage.script.plan.changes)
+      (drop leader.next stage.script.commands)
+  pub posted_is : HasPosted stage posted leader
   -- the last post is no later than what worker 0 did, and than LAST - 4,096
-  pub below : head.last_post.0 ≤ head.caller.latest
-  pub early : head.last_post.0 + 4096 ≤ 9 * 10 ^ 18
+  pub below : leader.last_post.0 ≤ leader.caller.latest
+  pub early : leader.last_post.0 + 4096 ≤ 9 * 10 ^ 18
   -- at most one call for each shard of a command
-  pub tries : head.caller.tries ≤ 64 * head.next
-  pub number : head.caller.number ≡ 0
-  pub sits : Sits servers head.caller
+  pub tries : leader.caller.tries ≤ 64 * leader.next
+  pub number : leader.caller.number ≡ 0
+  pub has_seats : HasSeats servers leader.caller
 
 -- nothing is posted, and worker 0 has a seat of every server and has done nothing
 pub record Begins (stage : Stage) (servers : List Serving) (posted : Posted) (caller : CallerState)
@@ -43,7 +43,7 @@ pub record Begins (stage : Stage) (servers : List Serving) (posted : Posted) (ca
   pub plan : posted.plan ≡ stage.script.plan
   pub clocks : posted.clocks ≡ []
   pub number : caller.number ≡ 0
-  pub sits : Sits servers caller
+  pub has_seats : HasSeats servers caller
   pub tries : caller.tries ≡ 0
   pub latest : caller.latest ≡ 0
 

@@ -15,7 +15,7 @@ use Rattle.bm_core.specs.Past.{same_hop, is_forward, is_sending, sending_of, sen
 use Rattle.bm_merge.specs.Notes.{Note}
 use Rattle.bm_merge.proofs.Noting.{total_append}
 use Rattle.bm_worker.specs.Inside.WorkerNotes.{arrival, loss}
-use Rattle.bm_worker.specs.Inside.Pending.{Pending, Pays, comes, comes_by, copyless_at, pending, pending_copyless, pending_gives}
+use Rattle.bm_worker.specs.Inside.Pending.{Pending, Completes, comes, comes_by, copyless_at, pending, pending_copyless, pending_gives}
 use Rattle.bm_worker.specs.Inside.Pending.{pending_gives_by}
 use Rattle.bm_worker.specs.Inside.Pending.{gives, gives_by, is_of, lost_at, with_copies}
 
@@ -29,8 +29,8 @@ one_more false i = refl
 
 -- NO COPY YET
 
-pub pays_none : (d : Pending) → Pays false (with_copies d 0) []
-pays_none d = record {
+pub completes_none : (d : Pending) → Completes false (with_copies d 0) []
+completes_none d = record {
   lost = λ k hop clock. refl;
   sent = λ k hop clock. omega arith;
   arrived = λ k hop. let z = nothing (is_of d k hop) in omega arith;
@@ -38,9 +38,9 @@ pays_none d = record {
 
 -- ONE MORE COPY, with all that came of it
 
-pub pays_more : (d : Pending) (i : ℕ) (x y : List Note) → Pays false (with_copies d i) x → Pays false (with_copies d 1) y
-    → Pays false (with_copies d (i + 1)) (y ++ x)
-pays_more d i x y p q = record {
+pub completes_more : (d : Pending) (i : ℕ) (x y : List Note) → Completes false (with_copies d i) x → Completes false (with_copies d 1) y
+    → Completes false (with_copies d (i + 1)) (y ++ x)
+completes_more d i x y p q = record {
   lost = λ k hop clock.
       let a = total_append (lost_at k hop clock) y x in let b = total_append (copyless_at k hop clock) y x in
       let one = p.lost k hop clock in let two = q.lost k hop clock in omega arith;
@@ -70,22 +70,22 @@ no_sending k hop server (Forward s) not = absurd (let bad : true ≡ false = not
 no_sending k hop server (Reset w) not = refl
 no_sending k hop server (Drop w) not = refl
 
-pub pays_one : (w : ℕ) (d : Pending) (clock : Moment) (server : ServerId) (v : Verdict) (fate : Fate) (due : ℕ)
+pub completes_one : (w : ℕ) (d : Pending) (clock : Moment) (server : ServerId) (v : Verdict) (fate : Fate) (due : ℕ)
     → sending_of (Arrive d.packet d.hop server v) ≡ None → due ≡ d.clock + d.fate.delay → due < clock.0
-    → Pays false (with_copies d 1) (arrival clock d.packet d.hop server v fate due w ∷ [])
-pays_one w d clock server v fate due none is lt = record {
+    → Completes false (with_copies d 1) (arrival clock d.packet d.hop server v fate due w ∷ [])
+completes_one w d clock server v fate due none is lt = record {
   lost = λ k hop c. rw none refl;
   sent = λ k hop c. rw none (let le = in_time (is_of d k hop) d.clock clock.0 c (omega (arith, is, lt)) in omega arith);
   arrived = λ k hop. rw none refl;
 }
 
 -- a copy that is forwarded, and all copies of the forward
-pub pays_forward : (w : ℕ) (d : Pending) (next : Hop) (clock : Moment) (server to : ServerId) (fate : Fate) (due : ℕ)
+pub completes_forward : (w : ℕ) (d : Pending) (next : Hop) (clock : Moment) (server to : ServerId) (fate : Fate) (due : ℕ)
     (y : List Note)
     → hop_after d.hop ≡ Some next → due ≡ d.clock + d.fate.delay → due < clock.0
-    → Pays true (pending d.packet next clock.0 fate) y
-    → Pays false (with_copies d 1) (y ++ arrival clock d.packet d.hop server (Forward to) fate due w ∷ [])
-pays_forward w d next clock server to fate due y after is lt p =
+    → Completes true (pending d.packet next clock.0 fate) y
+    → Completes false (with_copies d 1) (y ++ arrival clock d.packet d.hop server (Forward to) fate due w ∷ [])
+completes_forward w d next clock server to fate due y after is lt p =
     let n = arrival clock d.packet d.hop server (Forward to) fate due w in
     let sent : (k : ℕ) (h : Hop) → sends (Arrive d.packet d.hop server (Forward to)) k h
     ≡ (d.packet == k && same_hop next h) =
@@ -115,9 +115,9 @@ not_zero : (b c : Bool) (n : ℕ) → 1 ≤ n → ◌≡◌ {A = ℕ} (cond (b &
 not_zero false c n le = refl
 not_zero true c n le = rw (ne_eqb n 0 (λ e. omega (arith, e, le))) refl
 
-pub pays_whole : (d : Pending) (x : List Note) → 1 ≤ d.fate.copies → Pays false (with_copies d d.fate.copies) x
-    → Pays true d x
-pays_whole d x le p = record {
+pub completes_whole : (d : Pending) (x : List Note) → 1 ≤ d.fate.copies → Completes false (with_copies d d.fate.copies) x
+    → Completes true d x
+completes_whole d x le p = record {
   lost = λ k hop c.
       let z = not_zero (is_of d k hop) (d.clock == c) d.fate.copies le in let one = p.lost k hop c in omega arith;
   sent = p.sent;
@@ -134,9 +134,9 @@ zero_copies : (b : Bool) (n : ℕ) → n ≡ 0 → cond b n 0 ≡ 0
 zero_copies true n e = e
 zero_copies false n e = refl
 
-pub pays_lost : (w : ℕ) (d : Pending) → d.fate.copies ≡ 0 → (clock : ℕ) → clock ≡ suc d.clock
-    → Pays true d (loss clock d.packet d.hop w ∷ [])
-pays_lost w d zero_is clock is = subst (λ (c : ℕ). Pays true d (loss c d.packet d.hop w ∷ [])) (sym is) (record {
+pub completes_lost : (w : ℕ) (d : Pending) → d.fate.copies ≡ 0 → (clock : ℕ) → clock ≡ suc d.clock
+    → Completes true d (loss clock d.packet d.hop w ∷ [])
+completes_lost w d zero_is clock is = subst (λ (c : ℕ). Completes true d (loss c d.packet d.hop w ∷ [])) (sym is) (record {
   lost = λ k hop c. rw (same_suc d.clock c, eq-eqb d.fate.copies 0 zero_is) refl;
   sent = λ k hop c. omega arith;
   arrived = λ k hop. let z = zero_copies (is_of d k hop) d.fate.copies zero_is in omega arith;

@@ -22,39 +22,39 @@ use Rattle.bm_merge.proofs.Reaching.{one_if}
 
 -- up to each clock at most as many copies arrived as were sent at lower clocks, minus those still to arrive from a
 -- sending at that clock
-abbrev pub IsOwing : List Note → ℕ → Hop → ℕ → ℕ → Type 0
-IsOwing deeds k hop clock left =
-    (c : ℕ) → many (λ n. arrives n.event.what k hop && leb n.event.clock.0 c) deeds + cond (ltb clock c) left 0
-    ≤ total (λ n. cond (sends n.event.what k hop && ltb n.event.clock.0 c) n.fate.copies 0) deeds
+abbrev pub HasCopiesLeft : List Note → ℕ → Hop → ℕ → ℕ → Type 0
+HasCopiesLeft notes k hop clock left =
+    (c : ℕ) → many (λ n. arrives n.event.what k hop && leb n.event.clock.0 c) notes + cond (ltb clock c) left 0
+    ≤ total (λ n. cond (sends n.event.what k hop && ltb n.event.clock.0 c) n.fate.copies 0) notes
 
 -- the copies of a sending are still to arrive
-pub owes_more : (n : Note) (deeds : List Note) (k : ℕ) (hop : Hop) (old : ℕ) → arrives n.event.what k hop ≡ false
-    → sends n.event.what k hop ≡ true → IsOwing deeds k hop old 0
-    → IsOwing (n ∷ deeds) k hop n.event.clock.0 n.fate.copies
-owes_more n deeds k hop old not is owing c =
-    let before = owing c
+pub copies_left_more : (n : Note) (notes : List Note) (k : ℕ) (hop : Hop) (old : ℕ) → arrives n.event.what k hop ≡ false
+    → sends n.event.what k hop ≡ true → HasCopiesLeft notes k hop old 0
+    → HasCopiesLeft (n ∷ notes) k hop n.event.clock.0 n.fate.copies
+copies_left_more n notes k hop old not is has_left c =
+    let before = has_left c
     in rw (not, is) (go (ltb n.event.clock.0 c) before) where
       go : (b : Bool)
-          → many (λ n. arrives n.event.what k hop && leb n.event.clock.0 c) deeds + cond (ltb old c) 0 0
-          ≤ total (λ n. cond (sends n.event.what k hop && ltb n.event.clock.0 c) n.fate.copies 0) deeds
-          → (0 + many (λ n. arrives n.event.what k hop && leb n.event.clock.0 c) deeds) + cond b n.fate.copies 0
+          → many (λ n. arrives n.event.what k hop && leb n.event.clock.0 c) notes + cond (ltb old c) 0 0
+          ≤ total (λ n. cond (sends n.event.what k hop && ltb n.event.clock.0 c) n.fate.copies 0) notes
+          → (0 + many (λ n. arrives n.event.what k hop && leb n.event.clock.0 c) notes) + cond b n.fate.copies 0
           ≤ cond b n.fate.copies 0 + total
-          (λ n. cond (sends n.event.what k hop && ltb n.event.clock.0 c) n.fate.copies 0) deeds
+          (λ n. cond (sends n.event.what k hop && ltb n.event.clock.0 c) n.fate.copies 0) notes
       go true h = omega arith
       go false h = omega arith
 
 -- a copy that arrives later than it was sent is no longer to arrive
-pub owes_less : (n : Note) (deeds : List Note) (k : ℕ) (hop : Hop) (clock left : ℕ)
+pub copies_left_less : (n : Note) (notes : List Note) (k : ℕ) (hop : Hop) (clock left : ℕ)
     → arrives n.event.what k hop ≡ true → sends n.event.what k hop ≡ false → clock < n.event.clock.0
-    → IsOwing deeds k hop clock (suc left) → IsOwing (n ∷ deeds) k hop clock left
-owes_less n deeds k hop clock left is not later owing c =
-    let before = owing c
+    → HasCopiesLeft notes k hop clock (suc left) → HasCopiesLeft (n ∷ notes) k hop clock left
+copies_left_less n notes k hop clock left is not later has_left c =
+    let before = has_left c
     in rw (is, not) (go (leb n.event.clock.0 c) (ltb clock c) refl refl before) where
       go : (a b : Bool) → leb n.event.clock.0 c ≡ a → ltb clock c ≡ b
-          → many (λ n. arrives n.event.what k hop && leb n.event.clock.0 c) deeds + cond b (suc left) 0
-          ≤ total (λ n. cond (sends n.event.what k hop && ltb n.event.clock.0 c) n.fate.copies 0) deeds
-          → (one_if a + many (λ n. arrives n.event.what k hop && leb n.event.clock.0 c) deeds) + cond b left 0
-          ≤ 0 + total (λ n. cond (sends n.event.what k hop && ltb n.event.clock.0 c) n.fate.copies 0) deeds
+          → many (λ n. arrives n.event.what k hop && leb n.event.clock.0 c) notes + cond b (suc left) 0
+          ≤ total (λ n. cond (sends n.event.what k hop && ltb n.event.clock.0 c) n.fate.copies 0) notes
+          → (one_if a + many (λ n. arrives n.event.what k hop && leb n.event.clock.0 c) notes) + cond b left 0
+          ≤ 0 + total (λ n. cond (sends n.event.what k hop && ltb n.event.clock.0 c) n.fate.copies 0) notes
       go true true x y h = omega arith
       go true false x y h =
           let under : n.event.clock.0 ≤ c = leb-true _ _ x
@@ -64,10 +64,10 @@ owes_less n deeds k hop clock left is not later owing c =
       go false false x y h = omega arith
 
 -- what is neither changes nothing
-pub owes_same : (n : Note) (deeds : List Note) (k : ℕ) (hop : Hop) (clock left : ℕ)
-    → arrives n.event.what k hop ≡ false → sends n.event.what k hop ≡ false → IsOwing deeds k hop clock left
-    → IsOwing (n ∷ deeds) k hop clock left
-owes_same n deeds k hop clock left none not owing c = let before = owing c in rw (none, not) (omega arith)
+pub copies_left_same : (n : Note) (notes : List Note) (k : ℕ) (hop : Hop) (clock left : ℕ)
+    → arrives n.event.what k hop ≡ false → sends n.event.what k hop ≡ false → HasCopiesLeft notes k hop clock left
+    → HasCopiesLeft (n ∷ notes) k hop clock left
+copies_left_same n notes k hop clock left none not has_left c = let before = has_left c in rw (none, not) (omega arith)
 
 -- PHASES
 

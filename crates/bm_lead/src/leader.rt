@@ -4,7 +4,7 @@ ghost use Rattle.bm_core.specs.declared.events.Stage.{Stage};
 ghost use Rattle.bm_core.specs.Stages.{IsSound};
 ghost use Rattle.bm_server.specs.Servings.{Serving};
 ghost use Rattle.bm_publish.specs.Posts.{Posted};
-ghost use Rattle.bm_lead.specs.Heads.{Begins, IsReady};
+ghost use Rattle.bm_lead.specs.Leaders.{Begins, IsReady};
 ghost use Rattle.bm_lead.specs.Leads.{IsLed};
 
 use bm_base::{Moment, Version};
@@ -12,9 +12,9 @@ use bm_core::Event;
 use bm_worker::Caller;
 use std::alloc::Global;
 
-/// Worker 0.
+/// Worker 0, which carries out the commands.
 #[derive(Drop)]
-pub struct Head {
+pub struct Leader {
     /// Its seats. The greatest clock of what it did is the controller's clock.
     pub caller: Caller,
     /// The place of the next command, counted from 0.
@@ -27,9 +27,9 @@ pub struct Head {
     pub log: Vec<Event>,
 }
 
-impl Head {
+impl Leader {
     /// Worker 0 before the first command. Takes no memory.
-    pub fn new(alloc: Global, caller: Caller) -> Head
+    pub fn new(alloc: Global, caller: Caller) -> Leader
         ensures caller { result.caller ≡ caller }
         ensures next { result.next ≡ 0 }
         ensures published { (result.published.0 ≡ 0) × (result.last_post.0 ≡ 0) }
@@ -39,7 +39,7 @@ impl Head {
         ensures led { (stage : Stage) (servers : List Serving) (posted : Posted)
             → Begins stage servers posted caller → IsLed stage posted result [] }
     {
-        Head {
+        Leader {
             caller,
             next: 0,
             published: Version(0),

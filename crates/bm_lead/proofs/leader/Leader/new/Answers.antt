@@ -1,6 +1,6 @@
 use Rattle.std.proofs.Common.{refl}
 use Rattle.bm_lead.proofs.Ending.{led_nothing, ready_first}
-use Rattle.bm_lead.proofs.head.Head.new.Goals as goal
+use Rattle.bm_lead.proofs.leader.Leader.new.Goals as goal
 
 pub returns-clause-ready : goal.returns-clause-ready
 returns-clause-ready c = λ stage servers posted sound begins.
