@@ -1,12 +1,11 @@
 //! Tests of `bm_drawing`: drawings of connections.
-use bm_base::{Capture, Flow, List, Moment, ServerId, Version};
+use bm_base::{Capture, Flow, List, Moment, ServerId, Text, Version};
 use bm_connections::{Break, Connection, Sight, Tally};
 use bm_core::{Cause, Event, History, Stage, Verdict, What, Why};
 use bm_drawing::drawing;
 use bm_table::{Plan, Script, Setting};
-use std::alloc::{AllocError, Global};
+use std::alloc::Global;
 use std::process::Abort;
-use std::test::Fail;
 
 /// Three changes, and a sync, which isn't drawn.
 static EVENTS: [Event; 4] = [
@@ -255,60 +254,61 @@ static EMPTY: &str = "</g>\n\
      </g>\n\
      </svg>\n";
 
-fn history(alloc: Global, events: &[Event]) -> Result<History, Fail> {
+/// The history is boxed: what owns it drops one value, not each field.
+fn history(rt: &impl Abort, alloc: Global, events: &[Event]) -> Box<History> {
     let script = Script {
-        setting: Setting::plain(alloc)?,
-        plan: Plan::new(alloc, 8, &[ServerId(1), ServerId(2)])?,
+        setting: Setting::plain(alloc).expect(rt, "memory"),
+        plan: Plan::new(alloc, 8, &[ServerId(1), ServerId(2)]).expect(rt, "memory"),
         commands: List::of(Vec::new(alloc)),
     };
     let records = List::of(Vec::new(alloc));
     let capture = Capture { records, cut: None };
     let stage = Stage { script, capture };
-    let events = List::of(Vec::from_slice(alloc, events)?);
-    Ok(History { stage, events })
+    let events = List::of(Vec::from_slice(alloc, events).expect(rt, "memory"));
+    Box::new(alloc, History { stage, events }).expect(rt, "memory")
+}
+
+/// The drawing of these connections in a history of these events.
+fn draw(rt: &impl Abort, alloc: Global, events: &[Event], table: &[Connection]) -> Text {
+    let h = history(rt, alloc, events);
+    drawing(alloc, &h, table).expect(rt, "memory")
 }
 
 /// A drawing of this height, with this text after the legend.
-fn drawn(alloc: Global, height: u32, text: &str) -> Result<String, AllocError> {
+fn drawn(rt: &impl Abort, alloc: Global, height: u32, text: &str) -> String {
     let mut all = format!(in alloc;
         "<svg xmlns='http://www.w3.org/2000/svg' version='1.1' width='1080' height='{height}' \
          viewBox='0 0 1080 {height}' font-family='sans-serif' font-size='11'>\n\
          <title>connections</title>\n\
          <rect width='1080' height='{height}' fill='#ffffff'/>\n"
-    )?;
-    all.push_str(LEGEND)?;
-    all.push_str(text)?;
-    Ok(all)
+    )
+    .expect(rt, "memory");
+    all.push_str(LEGEND).expect(rt, "memory");
+    all.push_str(text).expect(rt, "memory");
+    all
 }
 
-/// Checks the drawing of these connections in a history of these events.
-fn check(
-    rt: &impl Abort,
-    alloc: Global,
-    events: &[Event],
-    table: &[Connection],
-    want: &str,
-) -> Result<(), Fail> {
-    let h = history(alloc, events)?;
-    let text = drawing(alloc, &h, table)?;
-    assert_eq!(rt; text.as_str(), want);
-    Ok(())
+fn assert_same(rt: &impl Abort, text: &str, want: &str) {
+    assert_eq!(rt; text, want);
 }
 
 #[test]
-fn connections_and_changes_are_drawn(rt: HostRuntime) -> Result<(), Fail> {
-    let want = drawn(rt.alloc(), 146, TEXT)?;
-    check(&rt, rt.alloc(), &EVENTS, &TABLE, &want)
+fn connections_and_changes_are_drawn(rt: HostRuntime) {
+    let text = draw(&rt, rt.alloc(), &EVENTS, &TABLE);
+    let want = drawn(&rt, rt.alloc(), 146, TEXT);
+    assert_same(&rt, text.as_str(), &want);
 }
 
 #[test]
-fn microseconds_and_an_unaccepted_connection_are_drawn(rt: HostRuntime) -> Result<(), Fail> {
-    let want = drawn(rt.alloc(), 116, UNACCEPTED)?;
-    check(&rt, rt.alloc(), &[], &SHORT, &want)
+fn microseconds_and_an_unaccepted_connection_are_drawn(rt: HostRuntime) {
+    let text = draw(&rt, rt.alloc(), &[], &SHORT);
+    let want = drawn(&rt, rt.alloc(), 116, UNACCEPTED);
+    assert_same(&rt, text.as_str(), &want);
 }
 
 #[test]
-fn nothing_is_drawn_where_there_is_nothing(rt: HostRuntime) -> Result<(), Fail> {
-    let want = drawn(rt.alloc(), 110, EMPTY)?;
-    check(&rt, rt.alloc(), &[], &[], &want)
+fn nothing_is_drawn_where_there_is_nothing(rt: HostRuntime) {
+    let text = draw(&rt, rt.alloc(), &[], &[]);
+    let want = drawn(&rt, rt.alloc(), 110, EMPTY);
+    assert_same(&rt, text.as_str(), &want);
 }

@@ -1,10 +1,13 @@
 //! Tests of `bm_load`: the stage of a load, and its line.
-use bm_base::{Body, Flow, Moment, Record, Segment, ServerId, Version};
+ghost use Rattle.std.specs.Prelude.{◌≤◌};
+
+use bm_base::{Body, Flow, Moment, Octets, Record, Segment, ServerId, Version};
+use bm_core::Stage;
 use bm_load::{load_stage, summary};
-use bm_table::{Kind, Plan};
+use bm_table::{Kind, Move, Plan};
 use bm_trace::Totals;
+use std::alloc::Global;
 use std::process::Abort;
-use std::test::Fail;
 
 /// A record: its moment, source port, sequence number, acknowledgment number, length and flags.
 type Row = (u64, u16, u32, u32, u32, u8);
@@ -58,62 +61,84 @@ fn check_records(rt: &impl Abort, records: &[Record], rows: &[Row]) {
     }
 }
 
-fn check_data(rt: &impl Abort, packet: &[u8], headers: &[u8]) {
-    assert_eq!(rt; packet.len(), 140);
-    assert!(rt; packet.starts_with(headers));
-    assert!(rt; packet.iter().skip(40).all(|octet| *octet == 0x61));
+// What the second packet of one connection has after its headers.
+static PAYLOAD: [u8; 100] = [0x61; 100];
+
+fn check_data(rt: &impl Abort, packet: &[u8]) {
+    assert!(rt; packet.len() == 140);
+    assert!(rt; packet.starts_with(&DATA));
+    assert!(rt; packet.ends_with(&PAYLOAD));
+}
+
+// The first bucket from 52 on that isn't given to server 5 in its turn.
+fn end_of_moves(moves: &[Move]) -> u32 {
+    let mut bucket = 52u32;
+    for m in moves {
+        if m.bucket != bucket || m.to != ServerId(5) {
+            return bucket;
+        }
+        bucket = bucket.saturating_add(1);
+    }
+    bucket
 }
 
 // Server 5 gets the highest three buckets of each other server.
-fn check_plan(rt: &impl Abort, plan: &Plan, moment: u64) {
-    assert_eq!(rt; plan.versions(), 1);
-    if let Some(change) = plan.next_change(Version(0)) {
-        assert!(rt; change.moment == Moment(moment));
-        assert!(rt; change.kind == Kind::Add(ServerId(5)));
-        assert_eq!(rt; change.moves.items().len(), 12);
-        for (m, bucket) in change.moves.items().iter().zip(52..64) {
-            assert_eq!(rt; (m.bucket, m.to.0), (bucket, 5));
-        }
-    }
+fn check_moves(rt: &impl Abort, moves: &[Move]) {
+    assert!(rt; moves.len() == 12);
+    assert_eq!(rt; end_of_moves(moves), 64);
 }
 
+fn check_plan(rt: &impl Abort, plan: &Plan, moment: u64) {
+    assert!(rt; plan.versions() == 1);
+    let change = plan.next_change(Version(0)).expect(rt, "a change");
+    assert!(rt; change.moment == Moment(moment));
+    assert!(rt; change.kind == Kind::Add(ServerId(5)));
+    check_moves(rt, change.moves.items());
+}
+
+static TOTALS: Totals = Totals {
+    packets: 8,
+    steered: 8,
+    unsteered: 0,
+    accepted: 2,
+    processed: 5,
+    forwarded: 3,
+    reset: 1,
+    dropped: 4,
+    lost: 7,
+    stray: 0,
+};
+
 #[test]
-fn a_load_has_a_line(rt: HostRuntime) -> Result<(), Fail> {
-    let totals = Totals {
-        packets: 8,
-        steered: 8,
-        unsteered: 0,
-        accepted: 2,
-        processed: 5,
-        forwarded: 3,
-        reset: 1,
-        dropped: 4,
-        lost: 7,
-        stray: 0,
-    };
-    let line = summary(rt.alloc(), 2, &totals)?;
+fn a_load_has_a_line(rt: HostRuntime) {
+    let line = summary(rt.alloc(), 2, &TOTALS).expect(&rt, "memory");
     assert_eq!(rt;
         line.as_str(),
         "load 2 packets 8 accepted 2 processed 5 reset 1 dropped 4 lost 7\n"
     );
-    Ok(())
+}
+
+/// The stage and the packets of a load. The stage is boxed: a test drops one value, not each field.
+fn load(rt: &impl Abort, alloc: Global, connections: u32) -> (Box<Stage>, Octets)
+    requires { (1 ≤ connections) × (connections ≤ 20000) }
+{
+    let (stage, octets) = load_stage(alloc, connections).expect(rt, "memory");
+    (Box::new(alloc, stage).expect(rt, "memory"), octets)
 }
 
 #[test]
-fn one_connection_has_four_packets(rt: HostRuntime) -> Result<(), Fail> {
-    let (stage, octets) = load_stage(rt.alloc(), 1)?;
-    assert_eq!(rt; octets.len(), 4);
+fn one_connection_has_four_packets(rt: HostRuntime) {
+    let (stage, octets) = load(&rt, rt.alloc(), 1);
+    assert!(rt; octets.len() == 4);
     check_records(&rt, stage.capture.records.items(), &ONE);
-    check_data(&rt, octets.get(1), &DATA);
+    check_data(&rt, octets.get(1));
     check_plan(&rt, &stage.script.plan, 2_000);
-    Ok(())
 }
 
 #[test]
-fn three_connections_send_in_turn(rt: HostRuntime) -> Result<(), Fail> {
-    let (stage, octets) = load_stage(rt.alloc(), 3)?;
-    assert_eq!(rt; octets.len(), 12);
+fn three_connections_send_in_turn(rt: HostRuntime) {
+    let (stage, octets) = load(&rt, rt.alloc(), 3);
+    assert!(rt; octets.len() == 12);
     check_records(&rt, stage.capture.records.items(), &THREE);
     check_plan(&rt, &stage.script.plan, 6_000);
-    Ok(())
 }
