@@ -1,5 +1,5 @@
 //! A mux before and after a post.
-ghost use Rattle.std.specs.Prelude.{◌≡◌, ◌<◌, ◌≤◌, Some, All, IfOk, length};
+ghost use Rattle.std.specs.Prelude.{◌≡◌, ◌<◌, ◌≤◌, Some, All, length};
 ghost use Rattle.bm_table.specs.Tables.{next_change};
 ghost use Rattle.bm_publish.specs.Posts.{last_post, last_version};
 ghost use Rattle.bm_mux.specs.Muxes.{HasServers, IsItem};
@@ -12,8 +12,8 @@ use bm_mux::{Mux, MuxItem, Steered};
 use bm_publish::{Look, Poster, board};
 use bm_table::Change;
 use std::alloc::Global;
+use std::process::Abort;
 use std::sync::Wait;
-use std::test::Fail;
 
 /// A segment of 10 octets from 10.0.0.1:1000 to 192.0.2.1:80, whose bucket of 8 is 4.
 const DATA: [u8; 50] = [
@@ -52,25 +52,25 @@ fn item(packet: u32, moment: Moment) -> MuxItem<'static>
 }
 
 /// 256 items at 1,000.
-fn full_batch(alloc: Global) -> Result<Vec<MuxItem<'static>>, Memory>
-    ensures count { IfOk result (λ items. length items.items ≤ 256) }
-    ensures items { IfOk result (λ items. All IsItem items.items) }
+fn full_batch(rt: &impl Abort, alloc: Global) -> Vec<MuxItem<'static>>
+    ensures count { length result.items ≤ 256 }
+    ensures items { All IsItem result.items }
 {
-    let mut items = Vec::with_capacity(alloc, 256)?;
+    let mut items = Vec::with_capacity(alloc, 256).expect(rt, "memory");
     for packet in 0..256u32 {
-        items.push(item(packet, Moment(1_000)))?;
+        items.push(item(packet, Moment(1_000))).expect(rt, "memory");
     }
-    Ok(items)
+    items
 }
 
 /// A mux begins, steers packet 1, and after a post packet 2, whose copies are lost, and 256 more.
-fn steer_beside_a_post<R: Wait>(
+fn steer_beside_a_post<R: Abort + Wait>(
     rt: &R,
     alloc: Global,
     poster: &mut Poster,
     look: Look,
     change: Change,
-) -> Result<(Moment, Log, Vec<Steered>), Memory>
+) -> (Moment, Log, Vec<Steered>)
     requires board { look ≡ poster.old }
     requires buckets { look.plan.buckets ≡ 8 }
     requires servers { HasServers look.plan }
@@ -79,23 +79,27 @@ fn steer_beside_a_post<R: Wait>(
 {
     let mut out = Vec::new(alloc);
     let mut mux = Mux::new(alloc, MuxId(0), look, 8);
-    mux.begin(poster.tell(), Moment(0))?;
-    mux.batch(&[item(1, Moment(0))], &mut out)?;
-    poster.post(rt, change, Moment(501))?;
-    mux.batch(&[item(2, Moment(1_000))], &mut out)?;
-    mux.batch(&[], &mut out)?;
+    mux.begin(poster.tell(), Moment(0)).expect(rt, "memory");
+    mux.batch(&[item(1, Moment(0))], &mut out)
+        .expect(rt, "memory");
+    poster.post(rt, change, Moment(501)).expect(rt, "memory");
+    mux.batch(&[item(2, Moment(1_000))], &mut out)
+        .expect(rt, "memory");
+    mux.batch(&[], &mut out).expect(rt, "memory");
     let clock = mux.clock();
-    mux.lost(2, Hop::Direct, clock)?;
-    mux.batch(full_batch(alloc)?.as_slice(), &mut out)?;
-    Ok((clock, mux.into_log(poster.tell())?, out))
+    mux.lost(2, Hop::Direct, clock).expect(rt, "memory");
+    let items = full_batch(rt, alloc);
+    mux.batch(items.as_slice(), &mut out).expect(rt, "memory");
+    let log = mux.into_log(poster.tell()).expect(rt, "memory");
+    (clock, log, out)
 }
 
-fn day<R: Wait>(rt: &R, alloc: Global) -> Result<(Moment, Log, Vec<Steered>), Memory> {
+fn day<R: Abort + Wait>(rt: &R, alloc: Global) -> Result<(Moment, Log, Vec<Steered>), Memory> {
     let plan = one_move(alloc)?;
     let change = first_change(&plan)?;
     let (mut poster, mut looks) = board(rt, alloc, &plan, 1)?;
     let seen = match looks.pop() {
-        Some(look) => steer_beside_a_post(rt, alloc, &mut poster, look, change),
+        Some(look) => Ok(steer_beside_a_post(rt, alloc, &mut poster, look, change)),
         None => Err(Memory),
     };
     poster.end(rt);
@@ -123,10 +127,8 @@ fn steer(packet: u32) -> What {
     }
 }
 
-#[test]
-fn a_batch_after_a_post_switches_and_writes_the_new_servers(rt: HostRuntime) -> Result<(), Fail> {
-    let (clock, log, out) = day(&rt, rt.alloc()).map_err(|_| "memory")?;
-    assert!(rt; clock == Moment(1_001));
+/// The mux switches at each version, and steers and loses what it was given.
+fn assert_log(rt: &impl Abort, log: &[Event]) {
     let lost = What::Lose {
         packet: 2,
         hop: Hop::Direct,
@@ -138,9 +140,23 @@ fn a_batch_after_a_post_switches_and_writes_the_new_servers(rt: HostRuntime) -> 
         at(1_001, steer(2)),
         at(1_002, lost),
     ];
-    assert!(rt; log.items().starts_with(&want) && log.items().len() == 261);
-    let octets = out.get(1).map(|sent| sent.octets.items()).unwrap_or(&[]);
-    assert!(rt; octets.starts_with(&DIRECT) && octets.ends_with(&DATA) && octets.len() == 106);
-    assert_eq!(rt; out.len(), 258);
-    Ok(())
+    assert!(rt; log.starts_with(&want));
+    assert!(rt; log.len() == 261);
+}
+
+/// The second copy has the header of the new servers.
+fn assert_sent(rt: &impl Abort, out: &[Steered]) {
+    assert!(rt; out.len() == 258);
+    let octets = out[1].octets.items();
+    assert!(rt; octets.starts_with(&DIRECT));
+    assert!(rt; octets.ends_with(&DATA));
+    assert!(rt; octets.len() == 106);
+}
+
+#[test]
+fn a_batch_after_a_post_switches_and_writes_the_new_servers(rt: HostRuntime) {
+    let (clock, log, out) = day(&rt, rt.alloc()).expect(&rt, "memory");
+    assert!(rt; clock == Moment(1_001));
+    assert_log(&rt, log.items());
+    assert_sent(&rt, &out);
 }

@@ -8,8 +8,8 @@ use bm_base::{Memory, Moment, Version};
 use bm_publish::{Look, Poster, Told, board};
 use bm_table::Change;
 use std::alloc::Global;
+use std::process::Abort;
 use std::sync::Wait;
-use std::test::Fail;
 use std::thread::{Threads, join};
 
 /// The version and the clock that the look shows.
@@ -55,43 +55,38 @@ fn post<R: Wait>(rt: &R, poster: &mut Poster, change: Change) -> Result<Told, Me
 }
 
 /// Whether the looks during the post were right, and what the look shows once it has learned of it.
-fn beside_a_post<R: Threads + Wait + Sync>(
+fn beside_a_post<R: Abort + Threads + Wait + Sync>(
     rt: &R,
     poster: &mut Poster,
     look: Look,
     change: Change,
-) -> Result<(bool, Option<(Version, Moment)>), Memory>
+) -> (bool, Option<(Version, Moment)>)
     requires board { look.board ≡ poster.old.board }
     requires next { next_change poster.old.plan (last_version poster.old) ≡ Some change }
     requires later { last_post poster.old < 501 }
 {
     let (told, (mut look, right)) = join(rt, || post(rt, poster, change), || watch(look));
-    look.hear(told?);
+    look.hear(told.expect(rt, "memory"));
     let (_look, seen) = shown(look);
-    Ok((right, seen))
+    (right, seen)
 }
 
-fn day<R: Threads + Wait + Sync>(
+fn day<R: Abort + Threads + Wait + Sync>(
     rt: &R,
     alloc: Global,
-) -> Result<(bool, Option<(Version, Moment)>), Memory> {
-    let plan = one_move(alloc)?;
-    let change = first_change(&plan)?;
-    let (mut poster, mut looks) = board(rt, alloc, &plan, 2)?;
-    let seen = match looks.pop() {
-        Some(look) => beside_a_post(rt, &mut poster, look, change),
-        None => Err(Memory),
-    };
+) -> (bool, Option<(Version, Moment)>) {
+    let plan = one_move(alloc).expect(rt, "memory");
+    let change = first_change(&plan).expect(rt, "memory");
+    let (mut poster, mut looks) = board(rt, alloc, &plan, 2).expect(rt, "memory");
+    let look = looks.pop().expect(rt, "a look");
+    let seen = beside_a_post(rt, &mut poster, look, change);
     poster.end(rt);
     seen
 }
 
 #[test]
-fn looks_beside_a_post_show_it_or_not_and_one_that_heard_of_it_does(
-    rt: HostRuntime,
-) -> Result<(), Fail> {
-    let (right, seen) = day(&rt, rt.alloc()).map_err(|_| "memory")?;
+fn looks_beside_a_post_show_it_or_not_and_one_that_heard_of_it_does(rt: HostRuntime) {
+    let (right, seen) = day(&rt, rt.alloc());
     assert!(rt; right);
     assert!(rt; seen == Some((Version(1), Moment(501))));
-    Ok(())
 }

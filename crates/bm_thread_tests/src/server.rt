@@ -11,8 +11,8 @@ use bm_server::{HandleFault, Server, ServerSeat};
 use bm_shard::ShardReply;
 use bm_table::Retirement;
 use std::alloc::Global;
+use std::process::Abort;
 use std::sync::Wait;
-use std::test::Fail;
 
 /// Direct to server 2, where server 1 had the bucket until the moment 500.
 const TAG: Tag = Tag {
@@ -51,13 +51,23 @@ fn ask<R: Wait>(rt: &R, server: &Server, seat: &mut ServerSeat, octets: &[u8]) -
     }
 }
 
-/// What the server with this number answers, and how many entries its books have then.
-fn ask_server<R: Wait>(rt: &R, alloc: Global, id: ServerId) -> Result<(Answers, usize), Memory> {
+/// The copy, with its carrier header.
+fn copy(rt: &impl Abort, alloc: Global) -> Vec<u8> {
     let mut octets = Vec::new(alloc);
-    wrap(&TAG, &syn(1000), &mut octets)?;
+    wrap(&TAG, &syn(1000), &mut octets).expect(rt, "memory");
+    octets
+}
+
+/// What the server with this number answers, and how many entries its books have then.
+fn ask_server<R: Wait>(
+    rt: &R,
+    alloc: Global,
+    id: ServerId,
+    octets: &[u8],
+) -> Result<(Answers, usize), Memory> {
     let (server, mut seats) = Server::new(alloc, id, 2, 8, 1000, 1)?;
     let mut seat = seats.remove(0);
-    let answers = ask(rt, &server, &mut seat, &octets);
+    let answers = ask(rt, &server, &mut seat, octets);
     let back = alone(alloc, seat)?;
     let books = server.finish(alloc, back)?;
     let entries = match books.items() {
@@ -67,21 +77,27 @@ fn ask_server<R: Wait>(rt: &R, alloc: Global, id: ServerId) -> Result<(Answers, 
     Ok((answers, entries))
 }
 
+/// The copy is handled, its flow is closed, and the shard is retired.
+fn assert_taken(rt: &impl Abort, answers: &Answers) {
+    assert!(rt; matches!(answers.arrived, Ok(ShardReply::Arrived { .. })));
+    assert!(rt; matches!(answers.closed, Ok(ShardReply::Closed { closed: true, .. })));
+    assert!(rt; matches!(answers.retired, Ok(ShardReply::Retired { .. })));
+}
+
+/// The copy isn't handled, and there is no flow to close.
+fn assert_refused(rt: &impl Abort, answers: &Answers) {
+    assert!(rt; matches!(answers.arrived, Err(HandleFault::NotMine)));
+    assert!(rt; matches!(answers.closed, Ok(ShardReply::Closed { closed: false, .. })));
+}
+
 #[test]
-fn a_copy_is_taken_at_its_destination_alone(rt: HostRuntime) -> Result<(), Fail> {
-    let (there, entries) = ask_server(&rt, rt.alloc(), ServerId(2)).map_err(|_| "memory")?;
-    assert!(rt; matches!(there.arrived, Ok(ShardReply::Arrived { .. })));
-    assert!(rt; matches!(there.closed, Ok(ShardReply::Closed { closed: true, .. })));
-    assert!(rt; matches!(there.retired, Ok(ShardReply::Retired { .. })));
-    assert_eq!(rt; entries, 3);
-    let (elsewhere, entries) = ask_server(&rt, rt.alloc(), ServerId(3)).map_err(|_| "memory")?;
-    assert_eq!(rt; elsewhere.arrived.err(), Some(HandleFault::NotMine));
-    assert!(rt;
-        matches!(
-            elsewhere.closed,
-            Ok(ShardReply::Closed { closed: false, .. })
-        )
-    );
-    assert_eq!(rt; entries, 2);
-    Ok(())
+fn a_copy_is_taken_at_its_destination_alone(rt: HostRuntime) {
+    let alloc = rt.alloc();
+    let octets = copy(&rt, alloc);
+    let (there, entries) = ask_server(&rt, alloc, ServerId(2), &octets).expect(&rt, "memory");
+    assert_taken(&rt, &there);
+    assert!(rt; entries == 3);
+    let (elsewhere, entries) = ask_server(&rt, alloc, ServerId(3), &octets).expect(&rt, "memory");
+    assert_refused(&rt, &elsewhere);
+    assert!(rt; entries == 2);
 }

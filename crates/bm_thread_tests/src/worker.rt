@@ -26,8 +26,8 @@ use bm_server::{Server, ServerSeat};
 use bm_table::{Plan, Script, Setting};
 use bm_worker::{Caller, MuxWorker, Shared, Span, work_all};
 use std::alloc::Global;
+use std::process::Abort;
 use std::sync::Wait;
-use std::test::Fail;
 use std::thread::Threads;
 
 /// The record of a SYN from this port, whose packet is added after the others.
@@ -56,56 +56,54 @@ fn add_syn(sport: u16, packets: &mut Octets) -> Result<Record, Memory>
 }
 
 /// Two connections begin.
-fn two_syns(alloc: Global) -> Result<(Capture, Octets), Memory>
-    ensures fit { IfOk result (λ read. IsReplayable plain_setting.vips read.0) }
-    ensures packets { IfOk result (λ read. ArePackets read.0.records read.1) }
-    ensures count { IfOk result (λ read. length read.0.records ≡ 2) }
-    ensures first { IfOk result
-        (λ read. is_some (steerable (slice_get read.0.records 0)) ≡ true) }
-    ensures second { IfOk result
-        (λ read. is_some (steerable (slice_get read.0.records 1)) ≡ true) }
+fn two_syns(rt: &impl Abort, alloc: Global) -> (Capture, Octets)
+    ensures fit { IsReplayable plain_setting.vips result.0 }
+    ensures packets { ArePackets result.0.records result.1 }
+    ensures count { length result.0.records ≡ 2 }
+    ensures first { is_some (steerable (slice_get result.0.records 0)) ≡ true }
+    ensures second { is_some (steerable (slice_get result.0.records 1)) ≡ true }
 {
     let mut packets = Octets::new(alloc);
-    let first = add_syn(1000, &mut packets)?;
-    let second = add_syn(1001, &mut packets)?;
-    let records = List::of(vec![in alloc; first, second]?);
-    Ok((Capture { records, cut: None }, packets))
+    let first = add_syn(1000, &mut packets).expect(rt, "memory");
+    let second = add_syn(1001, &mut packets).expect(rt, "memory");
+    let records = List::of(vec![in alloc; first, second].expect(rt, "memory"));
+    (Capture { records, cut: None }, packets)
 }
 
 /// The plain setting with two muxes and one server of one shard.
-fn small_setting(alloc: Global) -> Result<Setting, Memory>
-    ensures { IfOk result (λ s. s ≡ record plain_setting {
+fn small_setting(rt: &impl Abort, alloc: Global) -> Setting
+    ensures { result ≡ record plain_setting {
       muxes = 2;
       shards = 1;
       servers = record { 0 = 1 } ∷ [];
       lags = 0 ∷ 0 ∷ [];
-    }) }
+    } }
 {
-    let mut setting = Setting::plain(alloc)?;
+    let mut setting = Setting::plain(alloc).expect(rt, "memory");
     setting.muxes = 2;
     setting.shards = 1;
-    setting.servers = List::of(vec![in alloc; ServerId(1)]?);
-    setting.lags = List::of(vec![in alloc; 0, 0]?);
-    Ok(setting)
+    setting.servers = List::of(vec![in alloc; ServerId(1)].expect(rt, "memory"));
+    setting.lags = List::of(vec![in alloc; 0, 0].expect(rt, "memory"));
+    setting
 }
 
 /// The capture is played without commands.
-fn small_stage(alloc: Global, capture: Capture) -> Result<Stage, Memory>
+fn small_stage(rt: &impl Abort, alloc: Global, capture: Capture) -> Stage
     requires { IsReplayable plain_setting.vips capture }
-    ensures sound { IfOk result IsSound }
-    ensures capture { IfOk result (λ stage. stage.capture ≡ capture) }
-    ensures setting { IfOk result (λ stage. (stage.script.setting.shards ≡ 1)
-        × (stage.script.setting.capacity ≡ 4096)
-        × (stage.script.setting.timeout ≡ 240 * 10 ^ 9)) }
-    ensures plan { IfOk result (λ stage. stage.script.plan
-        ≡ record { buckets = 8; servers = record { 0 = 1 } ∷ []; changes = [] }) }
+    ensures sound { IsSound result }
+    ensures capture { result.capture ≡ capture }
+    ensures setting { (result.script.setting.shards ≡ 1)
+        × (result.script.setting.capacity ≡ 4096)
+        × (result.script.setting.timeout ≡ 240 * 10 ^ 9) }
+    ensures plan { result.script.plan
+        ≡ record { buckets = 8; servers = record { 0 = 1 } ∷ []; changes = [] } }
 {
     let script = Script {
-        setting: small_setting(alloc)?,
-        plan: Plan::new(alloc, 8, &[ServerId(1)])?,
+        setting: small_setting(rt, alloc),
+        plan: Plan::new(alloc, 8, &[ServerId(1)]).expect(rt, "memory"),
         commands: List::of(Vec::new(alloc)),
     };
-    Ok(Stage { script, capture })
+    Stage { script, capture }
 }
 
 /// The last of the seats, which has this number.
@@ -180,10 +178,10 @@ fn make_pair(
         (record { from = 0; until = 2; after = record { 0 = 0 } })) workers.items) }
 {
     let mut seats = seats;
-    let seat = last_seat(server, &mut seats, 2)?;
-    let second = worker(alloc, stage, server, 1, looks.1, seat, poster)?;
-    let seat = last_seat(server, &mut seats, 1)?;
-    let first = worker(alloc, stage, server, 0, looks.0, seat, poster)?;
+    let third_seat = last_seat(server, &mut seats, 2)?;
+    let second_seat = last_seat(server, &mut seats, 1)?;
+    let first = worker(alloc, stage, server, 0, looks.0, second_seat, poster)?;
+    let second = worker(alloc, stage, server, 1, looks.1, third_seat, poster)?;
     Ok(vec![in alloc; first, second]?)
 }
 
@@ -250,34 +248,30 @@ fn carry_beside_a_board<W: Threads + Wait + Sync>(
     Ok(workers)
 }
 
-fn two_workers<W: Threads + Wait + Sync>(rt: &W, alloc: Global) -> Result<Vec<MuxWorker>, Memory> {
-    let (capture, octets) = two_syns(alloc)?;
-    let stage = small_stage(alloc, capture)?;
-    let (poster, mut looks) = board(rt, alloc, &stage.script.plan, 2)?;
-    let workers = match (looks.pop(), looks.pop()) {
-        (Some(second), Some(first)) => {
-            carry_beside_a_board(rt, alloc, &stage, &octets, (first, second), &poster)
-        }
-        _ => Err(Memory),
-    };
+fn two_workers<W: Abort + Threads + Wait + Sync>(rt: &W, alloc: Global) -> Vec<MuxWorker> {
+    let (capture, octets) = two_syns(rt, alloc);
+    let stage = small_stage(rt, alloc, capture);
+    let (poster, mut looks) = board(rt, alloc, &stage.script.plan, 2).expect(rt, "memory");
+    let second = looks.pop().expect(rt, "a look");
+    let first = looks.pop().expect(rt, "a look");
+    let workers = carry_beside_a_board(rt, alloc, &stage, &octets, (first, second), &poster);
     poster.end(rt);
-    workers
+    workers.expect(rt, "memory")
 }
 
 #[test]
-fn each_mux_carries_its_packet(rt: HostRuntime) -> Result<(), Fail> {
-    let workers = two_workers(&rt, rt.alloc()).map_err(|_| "memory")?;
-    assert_eq!(rt; workers.len(), 2);
+fn each_mux_carries_its_packet(rt: HostRuntime) {
+    let workers = two_workers(&rt, rt.alloc());
+    assert!(rt; workers.len() == 2);
     // both packets come to one shard, at the clocks 3 and 4
     let mut first = u64::MAX;
     let mut last = 0;
     for worker in workers.iter() {
         assert!(rt; worker.stop.is_none() && worker.posted.is_none());
-        assert_eq!(rt; worker.steps, 1);
+        assert!(rt; worker.steps == 1);
         let clock = worker.caller.latest().0;
         first = first.min(clock);
         last = last.max(clock);
     }
-    assert_eq!(rt; (first, last), (3, 4));
-    Ok(())
+    assert!(rt; (first, last) == (3, 4));
 }
