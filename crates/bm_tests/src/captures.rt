@@ -2,30 +2,27 @@
 ghost use Rattle.std.specs.Prelude.{◌≤◌};
 
 use crate::capture::{Form, OPENED, ethernet, raw};
-use crate::program::{check, check_files};
-use bm_base::{List, Text};
+use crate::program::{check, check_capture, file};
 use bm_io::SureFile;
-use std::alloc::Global;
+use std::alloc::{AllocError, Global};
 use std::process::Abort;
 use std::sync::Wait;
-use std::test::Fail;
 use std::thread::Threads;
 
 /// Checks the report of Ethernet frames, read by at most this many octets at a time.
-fn check_frames(
-    rt: &(impl Abort + Threads + Wait + Sync),
-    alloc: Global,
-    step: usize,
-) -> Result<(), Fail>
+fn check_frames(rt: &(impl Abort + Threads + Wait + Sync), alloc: Global, step: usize)
     requires { 1 ≤ step }
 {
-    let file = SureFile {
-        name: Text::of(String::from_str(alloc, "c")?),
-        octets: List::of(ethernet(alloc)?),
-        step,
-    };
-    let files = vec![in alloc; file]?;
-    check_files(rt, alloc, (&["replay", "c"], files), "frames", (0, FRAMES))
+    let files = frames_file(alloc, step);
+    check(rt, alloc, &["replay", "c"], files, "frames", (0, FRAMES));
+}
+
+/// The file of Ethernet frames, which gives at most this many octets at a time.
+fn frames_file(alloc: Global, step: usize) -> Result<Vec<SureFile>, AllocError>
+    requires { 1 ≤ step }
+{
+    let capture = ethernet(alloc)?;
+    Ok(vec![in alloc; file(alloc, step, "c", &capture)?]?)
 }
 
 /// The report of Ethernet frames.
@@ -44,25 +41,19 @@ const FRAMES: &str = "4001 steer 5 0 0 4\n\
              forwarded 0 reset 0 dropped 0 lost 0 stray 0\n";
 
 #[test]
-fn ethernet_frames_are_read_or_not_steered(rt: HostRuntime) -> Result<(), Fail> {
-    check_frames(&rt, rt.alloc(), 1)?;
-    check_frames(&rt, rt.alloc(), 100)?;
-    check_frames(&rt, rt.alloc(), 262_160)
+fn ethernet_frames_are_read_or_not_steered(rt: HostRuntime) {
+    check_frames(&rt, rt.alloc(), 1);
+    check_frames(&rt, rt.alloc(), 100);
+    check_frames(&rt, rt.alloc(), 262_160);
 }
 
 #[test]
-fn headers_are_refused(rt: HostRuntime) -> Result<(), Fail> {
+fn headers_are_refused(rt: HostRuntime) {
     let alloc = rt.alloc();
     // an octet of a header that is changed: the magic number, the version, the link type
-    let rows: [(usize, u8, &str); 3] = [
-        (0, b'G', "beamer: capture: not a capture\n"),
-        (4, 3, "beamer: capture: bad version\n"),
-        (20, 105, "beamer: capture: bad link type 105\n"),
-    ];
-    for (place, octet, text) in rows {
-        refuse(&rt, alloc, place, octet, text)?;
-    }
-    Ok(())
+    refuse(&rt, alloc, 0, b'G', "beamer: capture: not a capture\n");
+    refuse(&rt, alloc, 4, 3, "beamer: capture: bad version\n");
+    refuse(&rt, alloc, 20, 105, "beamer: capture: bad link type 105\n");
 }
 
 fn refuse(
@@ -71,30 +62,35 @@ fn refuse(
     place: usize,
     octet: u8,
     text: &str,
-) -> Result<(), Fail> {
-    let mut capture = raw(alloc, Form::Micro, &[])?;
+) {
+    let mut capture = raw(alloc, Form::Micro, &[]).expect(rt, "memory");
     if let Some(at) = capture.get_mut(place) {
         *at = octet;
     }
-    check(rt, alloc, (&capture, None), text, (3, text))
+    check_capture(rt, alloc, &capture, text, (3, text));
 }
 
 #[test]
-fn captures_that_end_early_are_refused(rt: HostRuntime) -> Result<(), Fail> {
+fn captures_that_end_early_are_refused(rt: HostRuntime) {
     let alloc = rt.alloc();
     let text = "beamer: capture: not a capture\n";
-    let mut capture = raw(alloc, Form::Micro, &[])?;
+    let mut capture = raw(alloc, Form::Micro, &[]).expect(&rt, "memory");
     capture.truncate(23);
-    check(&rt, alloc, (&capture, None), "23 octets", (3, text))
+    check_capture(&rt, alloc, &capture, "23 octets", (3, text));
 }
 
 #[test]
-fn a_record_that_states_too_much_is_refused(rt: HostRuntime) -> Result<(), Fail> {
+fn a_record_that_states_too_much_is_refused(rt: HostRuntime) {
     let alloc = rt.alloc();
     let text = "beamer: capture record 3: bad length 262145\n";
+    let capture = stating_too_much(alloc).expect(&rt, "memory");
+    check_capture(&rt, alloc, &capture, "too long", (3, text));
+}
+
+/// A capture whose third record states 262,145 octets, twice.
+fn stating_too_much(alloc: Global) -> Result<Vec<u8>, AllocError> {
     let mut capture = raw(alloc, Form::Micro, OPENED)?;
-    for number in [0, 2, 262_145_u32, 262_145] {
-        capture.extend_from_slice(&number.to_le_bytes())?;
-    }
-    check(&rt, alloc, (&capture, None), "too long", (3, text))
+    capture.extend_from_slice(b"\x00\x00\x00\x00\x02\x00\x00\x00")?;
+    capture.extend_from_slice(b"\x01\x00\x04\x00\x01\x00\x04\x00")?;
+    Ok(capture)
 }

@@ -1,11 +1,11 @@
 //! Worked rows: printed reports, and what a check of them answers.
 use crate::capture::{Form, OPENED, raw};
-use crate::program::{check_files, file, files};
+use crate::program::{check, files};
 use crate::rows::{MOVED_REPORT, MOVED_SCRIPT};
-use std::alloc::Global;
+use bm_io::SureFile;
+use std::alloc::{AllocError, Global};
 use std::process::Abort;
 use std::sync::Wait;
-use std::test::Fail;
 use std::thread::Threads;
 
 /// A name, a part of `MOVED_REPORT` and what stands in its place, and the status and the line that
@@ -40,19 +40,26 @@ static CHECKS: [Row; 4] = [
 ];
 
 #[test]
-fn reports_are_checked(rt: HostRuntime) -> Result<(), Fail> {
+fn reports_are_checked(rt: HostRuntime) {
     for row in &CHECKS {
-        check(&rt, rt.alloc(), row)?;
+        check_trace(&rt, rt.alloc(), row);
     }
-    Ok(())
 }
 
-fn check(rt: &(impl Abort + Threads + Wait + Sync), alloc: Global, row: &Row) -> Result<(), Fail> {
+fn check_trace(rt: &(impl Abort + Threads + Wait + Sync), alloc: Global, row: &Row) {
     let (name, (part, other), status, line) = *row;
+    let files = trace_files(alloc, part, other);
+    let form = &["check", "t", "c", "s"];
+    check(rt, alloc, form, files, name, (status, line));
+}
+
+/// The files of a trace with this part of `MOVED_REPORT` replaced, and of its capture and script.
+fn trace_files(alloc: Global, part: &str, other: &str) -> Result<Vec<SureFile>, AllocError> {
     let trace = MOVED_REPORT.replace(alloc, part, other)?;
     let capture = raw(alloc, Form::Micro, OPENED)?;
-    let mut files = files(alloc, &capture, Some(MOVED_SCRIPT.as_bytes()))?;
-    files.push(file(alloc, "t", trace.as_bytes())?)?;
-    let form = &["check", "t", "c", "s"];
-    check_files(rt, alloc, (form, files), name, (status, line))
+    let script = MOVED_SCRIPT.as_bytes();
+    files(
+        alloc,
+        &[("c", &capture), ("s", script), ("t", trace.as_bytes())],
+    )
 }

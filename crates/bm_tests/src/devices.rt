@@ -1,16 +1,12 @@
 //! Files and an output that fail at each of their calls in turn, for replays and for runs.
-ghost use Rattle.std.specs.Prelude.{◌≡◌, IfOk};
-
 use crate::capture::{Form, OPENED, raw, session};
-use crate::program::words;
+use crate::fakes::{Fake, fakes_answer, run_fakes};
+use crate::gates::count;
 use crate::rows::{MOVED_REPORT, MOVED_SCRIPT};
-use bm_base::{List, Text};
-use bm_cli::beamer;
-use bm_io::{Files, IoFault, MemFile, MemFiles, MemSink, OpenGate, Sink};
+use bm_io::{IoFault, MemSink, Sink};
 use std::alloc::{AllocError, Global};
 use std::process::Abort;
 use std::sync::Wait;
-use std::test::Fail;
 use std::thread::Threads;
 
 const READ_FAULT: &str = "beamer: read fault\n";
@@ -87,50 +83,67 @@ impl Sink for ShortSink {
 }
 
 /// The numbers of the calls that fail: one, for the device that is to fail.
-fn fails(alloc: Global, is_it: bool, call: u32) -> Result<Vec<u32>, AllocError> {
-    let mut calls = Vec::new(alloc);
-    if is_it {
-        calls.push(call)?;
-    }
-    Ok(calls)
-}
-
-/// A file that gives at most 40 octets at a time.
-fn file(
-    alloc: Global,
-    name: &str,
-    octets: Vec<u8>,
-    fails: Vec<u32>,
-) -> Result<MemFile, AllocError> {
-    Ok(MemFile {
-        name: Text::of(String::from_str(alloc, name)?),
-        octets: List::of(octets),
-        step: STEP,
-        fails: List::of(fails),
-    })
+fn fails(is_it: bool, call: &[u32; 1]) -> &[u32] {
+    if is_it { call } else { &[] }
 }
 
 /// The script and the capture; one of these may fail at a call.
-fn both(alloc: Global, case: &Case, device: Device, call: u32) -> Result<MemFiles, AllocError>
-    ensures { IfOk result (λ files. ⟦<MemFiles as Files>⟧.open_now files ≡ 0) }
-{
-    let script = Vec::from_slice(alloc, case.script.as_bytes())?;
-    let capture = Vec::from_slice(alloc, case.capture)?;
-    let files = vec![in alloc;
-        file(
-            alloc,
-            "s",
-            script,
-            fails(alloc, device == Device::Script, call)?
-        )?,
-        file(
-            alloc,
-            "c",
-            capture,
-            fails(alloc, device == Device::Capture, call)?
-        )?,
-    ]?;
-    Ok(MemFiles::new(alloc, files))
+fn both<'a>(case: &Case<'a>, device: Device, call: &'a [u32; 1]) -> [Fake<'a>; 2] {
+    [
+        Fake {
+            name: "s",
+            octets: case.script.as_bytes(),
+            fails: fails(device == Device::Script, call),
+        },
+        Fake {
+            name: "c",
+            octets: case.capture,
+            fails: fails(device == Device::Capture, call),
+        },
+    ]
+}
+
+/// What the program ends with where this call fails, how many sources stay open, and whether what
+/// is written is what is due then.
+fn outcome(
+    rt: &(impl Threads + Wait + Sync),
+    alloc: Global,
+    case: &Case,
+    device: Device,
+    call: u32,
+) -> Result<(u8, u32, bool), AllocError> {
+    let calls = [call];
+    let writes = fails(device == Device::Output, &calls);
+    let mut out = ShortSink {
+        sink: MemSink::new(alloc, Vec::from_slice(alloc, writes)?),
+    };
+    let form = &[case.form, "c", "s"];
+    let fakes = both(case, device, &calls);
+    let (status, open) = run_fakes(rt, alloc, form, STEP, &fakes, &mut out)?;
+    let is_due = is_due(case, device, call, status, out.sink.written());
+    Ok((status, open, is_due))
+}
+
+/// Whether this is what is written where the program ends with this status.
+fn is_due(case: &Case, device: Device, call: u32, status: u8, written: &[u8]) -> bool {
+    match status {
+        0 => count(written, case.ends) > 0,
+        2 => device != Device::Output && written == READ_FAULT.as_bytes(),
+        5 => device == Device::Output && is_part(case.form, call, written),
+        _ => false,
+    }
+}
+
+/// Whether this is what was written before a write that failed: all pieces before that one. The
+/// lines of a run's events are written out apart from the others, so one piece may be short.
+fn is_part(form: &str, call: u32, written: &[u8]) -> bool {
+    let made = (written.len() + STEP) as u64;
+    let whole = STEP as u64 * u64::from(call);
+    if form == "replay" {
+        made == whole && MOVED_REPORT.as_bytes().starts_with(written)
+    } else {
+        made <= whole && whole < made.saturating_add(STEP as u64)
+    }
 }
 
 /// Whether the call with this number was made, and so failed. What is written then is what is due,
@@ -141,40 +154,10 @@ fn fail(
     case: &Case,
     device: Device,
     call: u32,
-) -> Result<bool, Fail> {
-    let words = words(alloc, &[case.form, "c", "s"])?;
-    let mut files = both(alloc, case, device, call)?;
-    let mut out = ShortSink {
-        sink: MemSink::new(alloc, fails(alloc, device == Device::Output, call)?),
-    };
-    let status = beamer(rt, alloc, &words, &mut files, &mut out, &OpenGate);
-    assert_eq!(rt; files.open_now(), 0);
-    let written = out.sink.written();
-    if status == 0 {
-        assert!(rt; String::from_utf8_lossy(alloc, written)?.contains(case.ends));
-        return Ok(false);
-    }
-    if device == Device::Output {
-        check_part(rt, case.form, call, status, written);
-    } else {
-        assert_eq!(rt; (status, written), (2, READ_FAULT.as_bytes()));
-    }
-    Ok(true)
-}
-
-/// What was written before a write that failed: all pieces before that one. The lines of a run's
-/// events are written out apart from the others, so one piece may be short.
-fn check_part(rt: &impl Abort, form: &str, call: u32, status: u8, written: &[u8]) {
-    assert_eq!(rt; status, 5);
-    let made = (written.len() + STEP) as u64;
-    let whole = STEP as u64 * u64::from(call);
-    if form == "replay" {
-        assert_eq!(rt; made, whole);
-        assert!(rt; MOVED_REPORT.as_bytes().starts_with(written));
-    } else {
-        assert!(rt; made <= whole);
-        assert!(rt; whole < made.saturating_add(STEP as u64));
-    }
+) -> bool {
+    let (status, open, is_due) = outcome(rt, alloc, case, device, call).expect(rt, "memory");
+    assert!(rt; is_due && open == 0, "{} call {call}: {status}", case.form);
+    status != 0
 }
 
 /// How many calls the device gets; each of them fails in turn.
@@ -183,64 +166,50 @@ fn calls(
     alloc: Global,
     case: &Case,
     device: Device,
-) -> Result<u32, Fail> {
+) -> u32 {
     for call in 1..100 {
-        if !fail(rt, alloc, case, device, call)? {
-            return Ok(call - 1);
+        if !fail(rt, alloc, case, device, call) {
+            return call - 1;
         }
     }
-    Ok(100)
+    100
 }
 
-fn check(
-    rt: &(impl Abort + Threads + Wait + Sync),
-    alloc: Global,
-    case: &Case,
-) -> Result<(), Fail> {
-    assert_eq!(rt; calls(rt, alloc, case, Device::Script)?, case.calls.0);
-    assert_eq!(rt; calls(rt, alloc, case, Device::Capture)?, case.calls.1);
-    let output = calls(rt, alloc, case, Device::Output)?;
-    let least = case.calls.2;
+fn check(rt: &(impl Abort + Threads + Wait + Sync), alloc: Global, case: &Case) {
+    let (scripts, captures, least) = case.calls;
+    assert!(rt; calls(rt, alloc, case, Device::Script) == scripts);
+    assert!(rt; calls(rt, alloc, case, Device::Capture) == captures);
+    let output = calls(rt, alloc, case, Device::Output);
     assert!(rt; output == least || case.form == "run" && least < output && output < 100);
-    Ok(())
 }
 
 #[test]
-fn each_call_of_a_device_may_fail(rt: HostRuntime) -> Result<(), Fail> {
+fn each_call_of_a_device_may_fail(rt: HostRuntime) {
     let alloc = rt.alloc();
-    let capture = raw(alloc, Form::Micro, OPENED)?;
-    check(&rt, alloc, &two_packets("replay", &capture))?;
-    check(&rt, alloc, &two_packets("run", &capture))
+    let capture = raw(alloc, Form::Micro, OPENED).expect(&rt, "memory");
+    check(&rt, alloc, &two_packets("replay", &capture));
+    check(&rt, alloc, &two_packets("run", &capture));
 }
 
 #[test]
-fn each_call_of_a_device_may_fail_in_a_session(rt: HostRuntime) -> Result<(), Fail> {
-    let capture = session(rt.alloc())?;
-    check(&rt, rt.alloc(), &twelve_packets(&capture))
+fn each_call_of_a_device_may_fail_in_a_session(rt: HostRuntime) {
+    let capture = session(rt.alloc()).expect(&rt, "memory");
+    check(&rt, rt.alloc(), &twelve_packets(&capture));
 }
 
 /// Opening fails if there is no such file.
-fn miss(
-    rt: &(impl Abort + Threads + Wait + Sync),
-    alloc: Global,
-    row: &[&str],
-) -> Result<(), Fail> {
-    let words = words(alloc, row)?;
-    let capture = raw(alloc, Form::Micro, OPENED)?;
-    let case = two_packets("replay", &capture);
-    let mut files = both(alloc, &case, Device::Output, 1)?;
-    let mut out = MemSink::new(alloc, Vec::new(alloc));
-    let status = beamer(rt, alloc, &words, &mut files, &mut out, &OpenGate);
-    assert_eq!(rt; (status, files.open_now()), (2, 0));
-    assert_eq!(rt; out.written(), READ_FAULT.as_bytes());
-    Ok(())
+fn miss(rt: &(impl Abort + Threads + Wait + Sync), alloc: Global, capture: &[u8], row: &[&str]) {
+    let fakes = both(&two_packets("replay", capture), Device::Output, &[1]);
+    let answered = fakes_answer(rt, alloc, row, STEP, &fakes, &[], (2, READ_FAULT));
+    assert!(rt; answered == Ok(true), "{row:?}");
 }
 
 #[test]
-fn each_open_may_fail(rt: HostRuntime) -> Result<(), Fail> {
+fn each_open_may_fail(rt: HostRuntime) {
     let alloc = rt.alloc();
-    miss(&rt, alloc, &["replay", "c", "x"])?;
-    miss(&rt, alloc, &["replay", "x", "s"])?;
-    miss(&rt, alloc, &["run", "c", "x"])?;
-    miss(&rt, alloc, &["run", "x", "s"])
+    let capture = raw(alloc, Form::Micro, OPENED).expect(&rt, "memory");
+    miss(&rt, alloc, &capture, &["replay", "c", "x"]);
+    miss(&rt, alloc, &capture, &["replay", "x", "s"]);
+    miss(&rt, alloc, &capture, &["run", "c", "x"]);
+    miss(&rt, alloc, &capture, &["run", "x", "s"]);
 }

@@ -13,7 +13,6 @@ use bm_tcp::{InnerFault, TcpFault};
 use std::alloc::Global;
 use std::process::Abort;
 use std::sync::Wait;
-use std::test::Fail;
 
 /// Ten octets of data from port 1000 of 10.0.0.1 to port 80 of 192.0.2.1.
 const DATA: [u8; 50] = [
@@ -153,57 +152,97 @@ pub(crate) fn ask<R: Wait>(
     Ok((answer, entries))
 }
 
-fn check(
-    rt: &(impl Abort + Wait),
-    alloc: Global,
-    case: Case,
-    due: (Result<ShardReply, HandleFault>, usize),
-) -> Result<(), Fail> {
-    let answered = ask(rt, alloc, case).map_err(|_| "memory")?;
-    assert!(rt; answered == due);
-    Ok(())
+type Due = (Result<ShardReply, HandleFault>, usize);
+
+fn check(rt: &(impl Abort + Wait), alloc: Global, name: &str, case: Case, due: Due) {
+    assert!(rt; ask(rt, alloc, case) == Ok(due), "{name}");
 }
 
 #[test]
-fn a_server_judges_what_it_is_addressed(rt: HostRuntime) -> Result<(), Fail> {
+fn a_server_judges_what_it_is_addressed(rt: HostRuntime) {
     let alloc = rt.alloc();
-    check(&rt, alloc, (Damage::Chained, 1), (CHAINED, 1))?;
-    check(&rt, alloc, (Damage::Nothing, 2), (forwarded(1), 1))
+    check(&rt, alloc, "chained", (Damage::Chained, 1), (CHAINED, 1));
+    check(
+        &rt,
+        alloc,
+        "as it was sent",
+        (Damage::Nothing, 2),
+        (forwarded(1), 1),
+    );
 }
 
 #[test]
-fn a_copy_goes_on_to_each_server_before(rt: HostRuntime) -> Result<(), Fail> {
+fn a_copy_goes_on_to_each_server_before(rt: HostRuntime) {
     let alloc = rt.alloc();
     let not_mine = (Err(HandleFault::NotMine), 0);
-    check(&rt, alloc, (Damage::MovedTwice(0), 1), (forwarded(3), 1))?;
-    check(&rt, alloc, (Damage::MovedTwice(1), 3), (forwarded(2), 1))?;
-    check(&rt, alloc, (Damage::MovedTwice(2), 2), (CHAINED, 1))?;
-    check(&rt, alloc, (Damage::MovedTwice(2), 3), not_mine)
+    check(
+        &rt,
+        alloc,
+        "moved twice",
+        (Damage::MovedTwice(0), 1),
+        (forwarded(3), 1),
+    );
+    check(
+        &rt,
+        alloc,
+        "moved twice, on the first hop",
+        (Damage::MovedTwice(1), 3),
+        (forwarded(2), 1),
+    );
+    check(
+        &rt,
+        alloc,
+        "moved twice, on the last hop",
+        (Damage::MovedTwice(2), 2),
+        (CHAINED, 1),
+    );
+    check(
+        &rt,
+        alloc,
+        "moved twice, at another server",
+        (Damage::MovedTwice(2), 3),
+        not_mine,
+    );
 }
 
 #[test]
-fn a_damaged_copy_touches_no_shard(rt: HostRuntime) -> Result<(), Fail> {
+fn a_damaged_copy_touches_no_shard(rt: HostRuntime) {
     let alloc = rt.alloc();
     let version = bad(InnerFault::Ipv4(Ipv4Fault::NotVersion4));
     let offset = bad(InnerFault::Tcp(TcpFault::BadOffset));
-    check(&rt, alloc, (Damage::Octet(0, 0x65), 2), (version, 0))?;
     check(
         &rt,
         alloc,
+        "version",
+        (Damage::Octet(0, 0x65), 2),
+        (version, 0),
+    );
+    check(
+        &rt,
+        alloc,
+        "fragment",
         (Damage::Octet(6, 0x20), 2),
         (bad(InnerFault::Fragment), 0),
-    )?;
+    );
     check(
         &rt,
         alloc,
+        "protocol",
         (Damage::Octet(9, 0x11), 2),
         (bad(InnerFault::NotTcp), 0),
-    )?;
-    check(&rt, alloc, (Damage::Octet(32, 0x40), 2), (offset, 0))?;
+    );
     check(
         &rt,
         alloc,
+        "data offset",
+        (Damage::Octet(32, 0x40), 2),
+        (offset, 0),
+    );
+    check(
+        &rt,
+        alloc,
+        "another server",
         (Damage::Octet(0, 0x65), 3),
         (Err(HandleFault::NotMine), 0),
-    )
+    );
 }

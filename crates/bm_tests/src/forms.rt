@@ -1,40 +1,36 @@
 //! Words that fit no form, and files and sinks that fail.
 use crate::capture::{Form, OPENED, raw};
-use crate::program::{USAGE, words};
-use bm_base::{List, Text};
-use bm_cli::beamer;
-use bm_io::{MemFile, MemFiles, MemSink, OpenGate};
+use crate::fakes::{Fake, fakes_answer};
+use crate::program::USAGE;
 use std::alloc::Global;
 use std::process::Abort;
 use std::sync::Wait;
-use std::test::Fail;
 use std::thread::Threads;
 
+static NO_FORMS: [&[&str]; 11] = [
+    &[],
+    &["replay"],
+    &["replay", "-c"],
+    &["replay", ""],
+    &["load", "0"],
+    &["load", "007"],
+    &["run", "c"],
+    &["check", "c", "s"],
+    &["check", "t", "c", "-s"],
+    &["streams", "-c"],
+    &["replay", "c", "s", "t"],
+];
+
 #[test]
-fn words_of_no_form_get_the_usage_line(rt: HostRuntime) -> Result<(), Fail> {
-    let alloc = rt.alloc();
-    let rows: [&[&str]; 11] = [
-        &[],
-        &["replay"],
-        &["replay", "-c"],
-        &["replay", ""],
-        &["load", "0"],
-        &["load", "007"],
-        &["run", "c"],
-        &["check", "c", "s"],
-        &["check", "t", "c", "-s"],
-        &["streams", "-c"],
-        &["replay", "c", "s", "t"],
-    ];
-    for row in rows {
-        let mut files = MemFiles::new(alloc, Vec::new(alloc));
-        let mut out = MemSink::new(alloc, Vec::new(alloc));
-        let words = words(alloc, row)?;
-        let status = beamer(&rt, alloc, &words, &mut files, &mut out, &OpenGate);
-        assert_eq!(rt; status, 1);
-        assert_eq!(rt; out.written(), USAGE.as_bytes());
+fn words_of_no_form_get_the_usage_line(rt: HostRuntime) {
+    for row in &NO_FORMS {
+        check_words(&rt, rt.alloc(), row);
     }
-    Ok(())
+}
+
+fn check_words(rt: &(impl Abort + Threads + Wait + Sync), alloc: Global, row: &[&str]) {
+    let answered = fakes_answer(rt, alloc, row, 24, &[], &[], (1, USAGE));
+    assert!(rt; answered == Ok(true), "{row:?}");
 }
 
 /// A file that is there, the calls of its source and of the sink that fail, the status, and what is
@@ -48,32 +44,37 @@ type Row = (
 );
 
 #[test]
-fn a_source_or_a_sink_that_fails_is_told_apart(rt: HostRuntime) -> Result<(), Fail> {
+fn a_source_or_a_sink_that_fails_is_told_apart(rt: HostRuntime) {
+    let alloc = rt.alloc();
+    let capture = raw(alloc, Form::Micro, OPENED).expect(&rt, "memory");
     // the source fails at its second call; there is no such file; the sink fails
-    let rows: [Row; 3] = [
+    check_row(
+        &rt,
+        alloc,
+        &capture,
         ("c", &[2], &[], 2, "beamer: read fault\n"),
+    );
+    check_row(
+        &rt,
+        alloc,
+        &capture,
         ("d", &[], &[], 2, "beamer: read fault\n"),
-        ("c", &[], &[1], 5, ""),
-    ];
-    for row in rows {
-        fail(&rt, rt.alloc(), row)?;
-    }
-    Ok(())
+    );
+    check_row(&rt, alloc, &capture, ("c", &[], &[1], 5, ""));
 }
 
-fn fail(rt: &(impl Abort + Threads + Wait + Sync), alloc: Global, row: Row) -> Result<(), Fail> {
-    let (name, reads, writes, status, text) = row;
-    let file = MemFile {
-        name: Text::of(String::from_str(alloc, name)?),
-        octets: List::of(raw(alloc, Form::Micro, OPENED)?),
-        step: 24,
-        fails: List::of(Vec::from_slice(alloc, reads)?),
+fn check_row(
+    rt: &(impl Abort + Threads + Wait + Sync),
+    alloc: Global,
+    octets: &[u8],
+    (name, fails, writes, status, text): Row,
+) {
+    let fake = Fake {
+        name,
+        octets,
+        fails,
     };
-    let mut files = MemFiles::new(alloc, vec![in alloc; file]?);
-    let mut out = MemSink::new(alloc, Vec::from_slice(alloc, writes)?);
-    let words = words(alloc, &["replay", "c"])?;
-    let ended = beamer(rt, alloc, &words, &mut files, &mut out, &OpenGate);
-    assert_eq!(rt; ended, status);
-    assert_eq!(rt; out.written(), text.as_bytes());
-    Ok(())
+    let form = &["replay", "c"];
+    let answered = fakes_answer(rt, alloc, form, 24, &[fake], writes, (status, text));
+    assert!(rt; answered == Ok(true), "{name} {status}");
 }

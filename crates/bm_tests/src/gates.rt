@@ -1,15 +1,13 @@
 //! Runs in threads whose workers wait at a gate.
 use crate::capture::Form::Micro;
 use crate::capture::Kind::Syn;
-use crate::capture::{Packet, raw};
-use crate::program::{files, words};
-use bm_cli::beamer;
-use bm_io::{Gate, SureFiles, SureSink};
-use std::alloc::Global;
+use crate::capture::Packet;
+use crate::program::{packet_files, run};
+use bm_io::{Gate, SureFile, SureFiles, SureSink};
+use std::alloc::{AllocError, Global};
 use std::process::Abort;
 use std::sync::Wait;
 use std::sync::atomic::{AtomicU32, Ordering};
-use std::test::Fail;
 use std::thread::Threads;
 
 /// How often a waiting worker looks whether it may go on.
@@ -68,13 +66,20 @@ impl Gate for Holds {
     }
 }
 
-/// A run, the workers that wait in it, and what its report says of its packets.
+/// A run, the workers that wait in it, what it ends with, and what its report says of its packets.
 struct Case {
     name: &'static str,
     packets: &'static [Packet],
     script: &'static str,
     holds: &'static [Hold],
-    says: &'static [&'static str],
+    status: u8,
+    says: Says,
+}
+
+/// What a report is: one that has each of these this often, or exactly this text.
+enum Says {
+    Each(&'static [(usize, &'static str)]),
+    All(&'static str),
 }
 
 const FOUR: &'static [Packet] = &[
@@ -105,11 +110,12 @@ static CASES: [Case; 3] = [
                 until: 1,
             },
         ],
-        says: &[
-            "\npacket 1 accepted 1\n",
-            "\npacket 3 processed 1\n",
-            "\ntotal packets 4 steered 4 ",
-        ],
+        status: 0,
+        says: Says::Each(&[
+            (1, "\npacket 1 accepted 1\n"),
+            (1, "\npacket 3 processed 1\n"),
+            (1, "\ntotal packets 4 steered 4 "),
+        ]),
     },
     Case {
         name: "the second mux comes first to the one place",
@@ -121,11 +127,18 @@ static CASES: [Case; 3] = [
             other: 2,
             until: 2,
         }],
-        says: &[
-            "\npacket 1 dropped 1\npacket 2 accepted 1\npacket 3 dropped 1\npacket 4 processed 1\n",
-            "\ntotal packets 4 steered 4 unsteered 0 accepted 1 processed 1 \
+        status: 0,
+        says: Says::Each(&[
+            (
+                1,
+                "\npacket 1 dropped 1\npacket 2 accepted 1\npacket 3 dropped 1\npacket 4 processed 1\n",
+            ),
+            (
+                1,
+                "\ntotal packets 4 steered 4 unsteered 0 accepted 1 processed 1 \
              forwarded 0 reset 0 dropped 2 lost 0 stray 0\n",
-        ],
+            ),
+        ]),
     },
     Case {
         name: "the first mux comes first to the one place",
@@ -137,63 +150,89 @@ static CASES: [Case; 3] = [
             other: 1,
             until: 2,
         }],
-        says: &[
-            "\npacket 1 accepted 1\npacket 2 dropped 1\npacket 3 processed 1\npacket 4 dropped 1\n",
-            "\ntotal packets 4 steered 4 unsteered 0 accepted 1 processed 1 \
+        status: 0,
+        says: Says::Each(&[
+            (
+                1,
+                "\npacket 1 accepted 1\npacket 2 dropped 1\npacket 3 processed 1\npacket 4 dropped 1\n",
+            ),
+            (
+                1,
+                "\ntotal packets 4 steered 4 unsteered 0 accepted 1 processed 1 \
              forwarded 0 reset 0 dropped 2 lost 0 stray 0\n",
-        ],
+            ),
+        ]),
     },
 ];
 
-/// The status and the report of a run whose workers the gate may make wait.
-fn run(
-    rt: &(impl Abort + Threads + Wait + Sync),
+/// What the run ends with over these files, how many workers were released in time, and the first
+/// text that its report doesn't have as often as it should.
+fn outcome(
+    rt: &(impl Threads + Wait + Sync),
     alloc: Global,
-    (capture, script): (&[u8], &str),
-    gate: &Holds,
-) -> Result<(u8, Vec<u8>), Fail> {
-    let words = words(alloc, &["run", "c", "s"])?;
-    let mut files = SureFiles::new(alloc, files(alloc, capture, Some(script.as_bytes()))?);
+    files: Result<Vec<SureFile>, AllocError>,
+    case: &Case,
+) -> Result<(u8, usize, &'static str), AllocError> {
+    let gate = Holds::new(case.holds);
+    let mut files = SureFiles::new(alloc, files?);
     let mut out = SureSink::new(alloc);
-    let status = beamer(rt, alloc, &words, &mut files, &mut out, gate);
-    Ok((status, Vec::from_slice(alloc, out.written())?))
+    let form = &["run", "c", "s"];
+    let status = run(rt, alloc, form, &mut files, &mut out, &gate)?;
+    let released = gate.released.load(Ordering::SeqCst) as usize;
+    Ok((status, released, missing(out.written(), &case.says)))
 }
 
-fn check(
-    rt: &(impl Abort + Threads + Wait + Sync),
-    alloc: Global,
-    case: &Case,
-) -> Result<(), Fail> {
-    let capture = raw(alloc, Micro, case.packets)?;
-    let gate = Holds::new(case.holds);
-    let (status, report) = run(rt, alloc, (&capture, case.script), &gate)?;
-    assert_eq!(rt; status, 0, "{}", case.name);
-    assert_eq!(rt;
-        gate.released.load(Ordering::SeqCst) as usize,
-        case.holds.len(),
-        "{}",
-        case.name
-    );
-    for line in case.says {
-        assert_eq!(rt; count(&report, line), 1, "{}: {}", case.name, line);
+/// The first text that the report doesn't have as often as it should, or no text.
+fn missing(report: &[u8], says: &Says) -> &'static str {
+    match *says {
+        Says::Each(rows) => first_missing(report, rows),
+        Says::All(text) if report == text.as_bytes() => "",
+        Says::All(text) => text,
     }
-    Ok(())
+}
+
+fn first_missing(report: &[u8], rows: &[(usize, &'static str)]) -> &'static str {
+    for (times, text) in rows {
+        if count(report, text) != *times {
+            return *text;
+        }
+    }
+    ""
 }
 
 /// How often the text is in the report.
-fn count(report: &[u8], text: &str) -> usize {
+pub(crate) fn count(report: &[u8], text: &str) -> usize {
     report
         .windows(text.len().max(1))
         .filter(|part| *part == text.as_bytes())
         .count()
 }
 
-#[test]
-fn workers_run_beside_one_another(rt: HostRuntime) -> Result<(), Fail> {
-    for case in &CASES {
-        check(&rt, rt.alloc(), case)?;
+fn check(
+    rt: &(impl Abort + Threads + Wait + Sync),
+    alloc: Global,
+    files: Result<Vec<SureFile>, AllocError>,
+    case: &Case,
+) {
+    let (status, released, missing) = outcome(rt, alloc, files, case).expect(rt, "memory");
+    let is_due = status == case.status && released == case.holds.len() && missing.is_empty();
+    assert!(rt;
+        is_due,
+        "{}: status {status}, {released} released, not {missing}",
+        case.name
+    );
+}
+
+fn check_cases(rt: &(impl Abort + Threads + Wait + Sync), alloc: Global, cases: &[Case]) {
+    for case in cases {
+        let files = packet_files(alloc, Micro, case.packets, Some(case.script));
+        check(rt, alloc, files, case);
     }
-    Ok(())
+}
+
+#[test]
+fn workers_run_beside_one_another(rt: HostRuntime) {
+    check_cases(&rt, rt.alloc(), &CASES);
 }
 
 /// A bucket moves, and then the controller has one more step.
@@ -201,14 +240,12 @@ const MOVED: &str = "[[command]]\nat_ns = 0\ndo = \"move\"\nbucket = 4\nserver =
      [[command]]\nat_ns = 0\ndo = \"close\"\nserver = 1\n\
      from = \"10.0.0.9:9\"\nto = \"192.0.2.1:80\"\n";
 
-#[test]
-fn a_mux_looks_at_the_board_before_each_batch(rt: HostRuntime) -> Result<(), Fail> {
-    let alloc = rt.alloc();
-    let mut packets = Vec::new(alloc);
-    for micros in 0..257_u32 {
-        packets.push(Packet(0, micros, 1000, 100, Syn))?;
-    }
-    let gate = Holds::new(&[
+/// The first batch has version 0, the packet after it version 1.
+static BATCHES: Case = Case {
+    name: "batches",
+    packets: &[],
+    script: MOVED,
+    holds: &[
         Hold {
             worker: 0,
             step: 1,
@@ -221,40 +258,58 @@ fn a_mux_looks_at_the_board_before_each_batch(rt: HostRuntime) -> Result<(), Fai
             other: 0,
             until: 2,
         },
-    ]);
-    let capture = raw(alloc, Micro, &packets)?;
-    let (status, report) = run(&rt, alloc, (&capture, MOVED), &gate)?;
-    assert_eq!(rt; status, 0);
-    assert_eq!(rt; gate.released.load(Ordering::SeqCst), 2);
-    assert_eq!(rt; count(&report, " 0 0 4\n"), 256);
-    for line in BATCHES {
-        assert_eq!(rt; count(&report, line), 1, "{}", line);
+    ],
+    status: 0,
+    says: Says::Each(&[
+        (256, " 0 0 4\n"),
+        (1, " steer 257 0 1 4\n"),
+        (1, "\npacket 1 accepted 1\npacket 2 processed 1\n"),
+        (1, "\npacket 256 processed 1\npacket 257 accepted 2\n"),
+        (
+            1,
+            "\ntotal packets 257 steered 257 unsteered 0 accepted 2 processed 255 \
+             forwarded 0 reset 0 dropped 0 lost 0 stray 0\n",
+        ),
+    ]),
+};
+
+/// The files of this many packets, a microsecond apart, and of this script.
+fn many_files(alloc: Global, count: u32, script: &str) -> Result<Vec<SureFile>, AllocError> {
+    let mut packets = Vec::new(alloc);
+    for micros in 0..count {
+        packets.push(Packet(0, micros, 1000, 100, Syn))?;
     }
-    Ok(())
+    packet_files(alloc, Micro, &packets, Some(script))
 }
 
-/// The first batch has version 0, the packet after it version 1.
-const BATCHES: [&str; 4] = [
-    " steer 257 0 1 4\n",
-    "\npacket 1 accepted 1\npacket 2 processed 1\n",
-    "\npacket 256 processed 1\npacket 257 accepted 2\n",
-    "\ntotal packets 257 steered 257 unsteered 0 accepted 2 processed 255 \
-     forwarded 0 reset 0 dropped 0 lost 0 stray 0\n",
+#[test]
+fn a_mux_looks_at_the_board_before_each_batch(rt: HostRuntime) {
+    let files = many_files(rt.alloc(), 257, MOVED);
+    check(&rt, rt.alloc(), files, &BATCHES);
+}
+
+static SEATS: [Case; 2] = [
+    Case {
+        name: "a mux too many",
+        packets: &[],
+        script: "servers = [1, 2, 3, 4, 5, 6, 7, 8, 9, 10, 11, 12, 13, 14, 15, 16]\nshards = 64\n\
+             muxes = 64\n",
+        holds: &[],
+        status: 7,
+        says: Says::All("beamer: limit seats\n"),
+    },
+    Case {
+        name: "as many muxes as there may be",
+        packets: &[],
+        script: "servers = [1, 2, 3, 4, 5, 6, 7, 8, 9, 10, 11, 12, 13, 14, 15, 16]\nshards = 64\n\
+             muxes = 63\n",
+        holds: &[],
+        status: 0,
+        says: Says::Each(&[]),
+    },
 ];
 
 #[test]
-fn a_run_has_a_limit_on_seats(rt: HostRuntime) -> Result<(), Fail> {
-    let alloc = rt.alloc();
-    let capture = raw(alloc, Micro, &[])?;
-    let servers =
-        "servers = [1, 2, 3, 4, 5, 6, 7, 8, 9, 10, 11, 12, 13, 14, 15, 16]\nshards = 64\n";
-    let most = format!(in alloc; "{servers}muxes = 63\n")?;
-    let more = format!(in alloc; "{servers}muxes = 64\n")?;
-    let gate = Holds::new(&[]);
-    let (status, report) = run(&rt, alloc, (&capture, more.as_str()), &gate)?;
-    assert_eq!(rt; status, 7);
-    assert_eq!(rt; report.as_slice(), b"beamer: limit seats\n".as_slice());
-    let (status, _) = run(&rt, alloc, (&capture, most.as_str()), &gate)?;
-    assert_eq!(rt; status, 0);
-    Ok(())
+fn a_run_has_a_limit_on_seats(rt: HostRuntime) {
+    check_cases(&rt, rt.alloc(), &SEATS);
 }

@@ -13,6 +13,8 @@ mod checks;
 #[cfg(test)]
 mod devices;
 #[cfg(test)]
+mod fakes;
+#[cfg(test)]
 mod forged;
 #[cfg(test)]
 mod forms;

@@ -1,28 +1,47 @@
 //! Limits that a script exceeds.
-use crate::program::check;
+use crate::program::{check, files};
+use bm_io::SureFile;
 use std::alloc::{AllocError, Global};
-use std::test::Fail;
+use std::process::Abort;
+use std::sync::Wait;
+use std::thread::Threads;
 
 #[test]
-fn a_script_may_be_too_long(rt: HostRuntime) -> Result<(), Fail> {
-    let alloc = rt.alloc();
-    let mut long = Vec::new(alloc);
-    long.resize(1_048_577, b'#')?;
+fn a_script_may_be_too_long(rt: HostRuntime) {
     let text = "beamer: limit script-octets\n";
-    check(&rt, alloc, (b"", Some(&long)), text, (7, text))
+    let script = long_script(rt.alloc(), 1_048_577);
+    check_script(&rt, rt.alloc(), script, text);
 }
 
 #[test]
-fn a_script_may_have_too_many_changes(rt: HostRuntime) -> Result<(), Fail> {
-    let alloc = rt.alloc();
+fn a_script_may_have_too_many_changes(rt: HostRuntime) {
     let text = "beamer: limit changes\n";
-    check(
-        &rt,
-        alloc,
-        (b"", Some(&many_changes(alloc)?)),
-        text,
-        (7, text),
-    )
+    check_script(&rt, rt.alloc(), many_changes(rt.alloc()), text);
+}
+
+/// Checks which limit this script exceeds.
+fn check_script(
+    rt: &(impl Abort + Threads + Wait + Sync),
+    alloc: Global,
+    script: Result<Vec<u8>, AllocError>,
+    text: &str,
+) {
+    let files = script_files(alloc, script);
+    check(rt, alloc, &["replay", "c", "s"], files, text, (7, text));
+}
+
+/// The files of an empty capture and of this script.
+fn script_files(
+    alloc: Global,
+    script: Result<Vec<u8>, AllocError>,
+) -> Result<Vec<SureFile>, AllocError> {
+    let script = script?;
+    files(alloc, &[("c", b""), ("s", &script)])
+}
+
+/// A script with this many octets; 1,048,576 are allowed.
+fn long_script(alloc: Global, octets: usize) -> Result<Vec<u8>, AllocError> {
+    vec![in alloc; b'#'; octets]
 }
 
 /// A script with one change too many.

@@ -1,11 +1,8 @@
 //! Generated loads.
-use crate::program::{USAGE, words};
-use bm_cli::beamer;
-use bm_io::{OpenGate, SureFiles, SureSink};
+use crate::program::{USAGE, check};
 use std::alloc::Global;
 use std::process::Abort;
 use std::sync::Wait;
-use std::test::Fail;
 use std::thread::Threads;
 
 /// Words, and the line that the program writes for them.
@@ -36,33 +33,27 @@ static NO_FORMS: [&[&str]; 7] = [
     &["load", "5", "6"],
 ];
 
-fn check(
+/// Checks what the program ends with and writes for these words.
+fn check_words(
     rt: &(impl Abort + Threads + Wait + Sync),
     alloc: Global,
     row: &[&str],
-    (status, line): (u8, &str),
-) -> Result<(), Fail> {
-    let words = words(alloc, row)?;
-    let mut files = SureFiles::new(alloc, Vec::new(alloc));
-    let mut out = SureSink::new(alloc);
-    let ended = beamer(rt, alloc, &words, &mut files, &mut out, &OpenGate);
-    assert_eq!(rt; out.written(), line.as_bytes());
-    assert_eq!(rt; ended, status);
-    Ok(())
+    due: (u8, &str),
+) {
+    let name = row.last().copied().unwrap_or("");
+    check(rt, alloc, row, Ok(Vec::new(alloc)), name, due);
 }
 
 #[test]
-fn a_load_gets_its_line(rt: HostRuntime) -> Result<(), Fail> {
+fn a_load_gets_its_line(rt: HostRuntime) {
     for (row, line) in &LINES {
-        check(&rt, rt.alloc(), row, (0, line))?;
+        check_words(&rt, rt.alloc(), row, (0, line));
     }
-    Ok(())
 }
 
 #[test]
-fn a_load_is_of_a_number_without_sign_or_leading_zero(rt: HostRuntime) -> Result<(), Fail> {
+fn a_load_is_of_a_number_without_sign_or_leading_zero(rt: HostRuntime) {
     for row in &NO_FORMS {
-        check(&rt, rt.alloc(), row, (1, USAGE))?;
+        check_words(&rt, rt.alloc(), row, (1, USAGE));
     }
-    Ok(())
 }

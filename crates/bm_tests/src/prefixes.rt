@@ -1,12 +1,9 @@
 //! A capture that is cut after each of its octets.
 use crate::capture::{Form, OPENED, raw};
-use crate::program::{files, words};
-use bm_cli::beamer;
-use bm_io::{OpenGate, SureFiles, SureSink};
+use crate::program::{Written, answers, files};
 use std::alloc::Global;
 use std::process::Abort;
 use std::sync::Wait;
-use std::test::Fail;
 use std::thread::Threads;
 
 const ZEROS: &str = "total packets 0 steered 0 unsteered 0 accepted 0 processed 0 \
@@ -27,41 +24,29 @@ const CUT_BEHIND_ONE: &str = "packet 1 accepted 1\n\
 
 /// The status and the last lines for this many first octets of two records: a header of 24 octets,
 /// a record of 56 and one of 66.
-fn due(octets: usize) -> (u8, &'static str) {
-    match octets {
+fn due(octets: usize) -> (u8, Written<'static>) {
+    let (status, lines) = match octets {
         0..=23 => (3, "beamer: capture: not a capture\n"),
         24 => (0, ZEROS),
         25..=79 => (0, CUT),
         80 => (0, ONE),
         _ => (0, CUT_BEHIND_ONE),
-    }
+    };
+    (status, Written::End(lines))
 }
 
-fn cut(
-    rt: &(impl Abort + Threads + Wait + Sync),
-    alloc: Global,
-    capture: &[u8],
-) -> Result<(), Fail> {
-    let words = words(alloc, &["replay", "c"])?;
-    let mut files = SureFiles::new(alloc, files(alloc, capture, None)?);
-    let mut out = SureSink::new(alloc);
-    let ended = beamer(rt, alloc, &words, &mut files, &mut out, &OpenGate);
-    let (status, lines) = due(capture.len());
-    assert_eq!(rt; ended, status, "{} octets", capture.len());
-    assert!(rt;
-        out.written().ends_with(lines.as_bytes()),
-        "{} octets",
-        capture.len()
-    );
-    Ok(())
+fn check_cut(rt: &(impl Abort + Threads + Wait + Sync), alloc: Global, capture: &[u8]) {
+    let octets = capture.len();
+    let files = files(alloc, &[("c", capture)]);
+    let answered = answers(rt, alloc, &["replay", "c"], files, due(octets));
+    assert!(rt; answered == Ok(true), "{octets} octets");
 }
 
 #[test]
-fn each_first_part_of_a_capture_has_its_end(rt: HostRuntime) -> Result<(), Fail> {
-    let capture = raw(rt.alloc(), Form::Micro, OPENED)?;
-    assert_eq!(rt; capture.len(), 146);
+fn each_first_part_of_a_capture_has_its_end(rt: HostRuntime) {
+    let capture = raw(rt.alloc(), Form::Micro, OPENED).expect(&rt, "memory");
+    assert!(rt; capture.len() == 146);
     for octets in 0..capture.len() {
-        cut(&rt, rt.alloc(), &capture[..octets])?;
+        check_cut(&rt, rt.alloc(), &capture[..octets]);
     }
-    Ok(())
 }

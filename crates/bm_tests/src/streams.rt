@@ -1,11 +1,10 @@
 //! Worked rows: captures, and the lines of their streams.
 use crate::capture::Kind::{Fin, Syn, Text};
-use crate::capture::{Form, Packet, raw};
-use crate::program::{check_files, files};
+use crate::capture::{Form, Packet};
+use crate::program::{check, packet_files};
 use std::alloc::Global;
 use std::process::Abort;
 use std::sync::Wait;
-use std::test::Fail;
 use std::thread::Threads;
 
 /// A name, packets, and what is written for them.
@@ -38,16 +37,14 @@ static STREAMS: [Row; 3] = [
 ];
 
 #[test]
-fn streams_are_put_in_order(rt: HostRuntime) -> Result<(), Fail> {
+fn streams_are_put_in_order(rt: HostRuntime) {
     for row in &STREAMS {
-        check(&rt, rt.alloc(), row)?;
+        check_streams(&rt, rt.alloc(), row);
     }
-    Ok(())
 }
 
-fn check(rt: &(impl Abort + Threads + Wait + Sync), alloc: Global, row: &Row) -> Result<(), Fail> {
+fn check_streams(rt: &(impl Abort + Threads + Wait + Sync), alloc: Global, row: &Row) {
     let (name, packets, lines) = *row;
-    let capture = raw(alloc, Form::Micro, packets)?;
-    let files = files(alloc, &capture, None)?;
-    check_files(rt, alloc, (&["streams", "c"], files), name, (0, lines))
+    let files = packet_files(alloc, Form::Micro, packets, None);
+    check(rt, alloc, &["streams", "c"], files, name, (0, lines));
 }

@@ -1,0 +1,74 @@
+//! Files and an output that fail at some of their calls.
+ghost use Rattle.std.specs.Prelude.{◌≤◌};
+
+use crate::program::run;
+use bm_base::{List, Text};
+use bm_io::{MemFile, MemFiles, MemSink, OpenGate, Sink};
+use std::alloc::{AllocError, Global};
+use std::sync::Wait;
+use std::thread::Threads;
+
+/// A file: its name, its octets, and the numbers of the calls of its source that fail.
+#[derive(Clone, Copy)]
+pub(crate) struct Fake<'a> {
+    pub name: &'a str,
+    pub octets: &'a [u8],
+    pub fails: &'a [u32],
+}
+
+/// A file that gives at most this many octets at a time.
+fn file(alloc: Global, step: usize, fake: &Fake) -> Result<MemFile, AllocError>
+    requires { 1 ≤ step }
+{
+    Ok(MemFile {
+        name: Text::of(String::from_str(alloc, fake.name)?),
+        octets: List::of(Vec::from_slice(alloc, fake.octets)?),
+        step,
+        fails: List::of(Vec::from_slice(alloc, fake.fails)?),
+    })
+}
+
+fn files(alloc: Global, step: usize, fakes: &[Fake]) -> Result<Vec<MemFile>, AllocError>
+    requires { 1 ≤ step }
+{
+    let mut files = Vec::new(alloc);
+    for fake in fakes {
+        files.push(file(alloc, step, fake)?)?;
+    }
+    Ok(files)
+}
+
+/// What the program ends with for these words over these files, which give at most `step` octets at
+/// a time, and how many sources stay open.
+pub(crate) fn run_fakes<K: Sink>(
+    rt: &(impl Threads + Wait + Sync),
+    alloc: Global,
+    form: &[&str],
+    step: usize,
+    fakes: &[Fake],
+    out: &mut K,
+) -> Result<(u8, u32), AllocError>
+    requires { 1 ≤ step }
+{
+    let mut files = MemFiles::new(alloc, files(alloc, step, fakes)?);
+    let status = run(rt, alloc, form, &mut files, out, &OpenGate)?;
+    Ok((status, files.open_now()))
+}
+
+/// Whether the program ends with this status, writes this text, and leaves no source open. Its
+/// output fails at the calls of these numbers.
+pub(crate) fn fakes_answer(
+    rt: &(impl Threads + Wait + Sync),
+    alloc: Global,
+    form: &[&str],
+    step: usize,
+    fakes: &[Fake],
+    writes: &[u32],
+    due: (u8, &str),
+) -> Result<bool, AllocError>
+    requires { 1 ≤ step }
+{
+    let mut out = MemSink::new(alloc, Vec::from_slice(alloc, writes)?);
+    let ended = run_fakes(rt, alloc, form, step, fakes, &mut out)?;
+    Ok(ended == (due.0, 0) && out.written() == due.1.as_bytes())
+}
