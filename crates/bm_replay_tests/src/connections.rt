@@ -1,33 +1,39 @@
 //! Tests of `bm_connections`: what is reported of the connections of replays.
+ghost use Rattle.std.specs.Prelude.{IfOk};
 ghost use Rattle.bm_core.specs.Runs.{IsRun};
 
 use crate::stages::{
-    DATA, OPENING, OTHER, PSH_ACK, Row, bare_stage, capture, history, moved_stage,
-    twice_moved_stage,
+    DATA, OPENING, OTHER, PSH_ACK, Row, bare_history, moved_history, twice_moved_history,
 };
-use bm_base::{Moment, ServerId};
+use bm_base::{Memory, Moment, ServerId, Text};
 use bm_connections::{
-    Clock, TimeText, causes_text, connections, late_text, servers_text, summary_of, table_text,
+    Clock, Summary, TimeText, causes_text, connections, late_text, servers_text, summary_of,
+    table_text,
 };
 use bm_core::History;
 use bm_trace::sweep;
 use std::alloc::Global;
 use std::process::Abort;
-use std::test::Fail;
 
 /// There are 100 seconds between two packets.
 const GAP: u64 = 100_000_000_000;
 
-/// Checks the text of the history's connections.
+/// The text of the history's connections.
 #[tactic(auto, using(bm_trace::proofs::Ranged::ranges_of))]
-fn check(rt: &impl Abort, alloc: Global, h: &History, text: &str) -> Result<(), Fail>
+fn lines_of(alloc: Global, h: &History) -> Result<Text, Memory>
     requires { IsRun h.now }
 {
     let causes = sweep(alloc, h)?;
     let table = connections(alloc, h, &causes)?;
-    let lines = table_text(alloc, Clock(None), 1, table.items())?;
-    assert_eq!(rt; lines.as_str(), text);
-    Ok(())
+    table_text(alloc, Clock(None), 1, table.items())
+}
+
+/// Checks the text of the history's connections.
+fn check(rt: &impl Abort, alloc: Global, h: &History, want: &str)
+    requires { IsRun h.now }
+{
+    let lines = lines_of(alloc, h).expect(rt, "memory");
+    assert_eq!(rt; lines.as_str(), want);
 }
 
 /// Segments that come to one shard of this capacity, whether server 1 is asked to close the first
@@ -83,112 +89,114 @@ static CASES: [Case; 4] = [
     },
 ];
 
-fn check_case(rt: &impl Abort, alloc: Global, case: &Case) -> Result<(), Fail> {
+fn check_case(rt: &impl Abort, alloc: Global, case: &Case) {
     assert!(rt; case.rows.len() <= 100 && 0 < case.capacity);
-    let (capture, packets) = capture(alloc, GAP, case.rows)?;
-    let stage = bare_stage(alloc, u32::from(case.capacity), case.closing, capture)?;
-    let h = history(alloc, stage, packets, None)?;
-    check(rt, alloc, &h, case.text)
+    let capacity = u32::from(case.capacity);
+    let h = bare_history(alloc, GAP, case.rows, capacity, case.closing, None).expect(rt, "memory");
+    check(rt, alloc, &h, case.text);
 }
 
-fn check_cases(rt: &impl Abort, alloc: Global, cases: &[Case]) -> Result<(), Fail> {
+fn check_cases(rt: &impl Abort, alloc: Global, cases: &[Case]) {
     for case in cases {
-        check_case(rt, alloc, case)?;
+        check_case(rt, alloc, case);
     }
-    Ok(())
 }
 
 #[test]
-fn what_became_of_connections_is_told(rt: HostRuntime) -> Result<(), Fail> {
-    check_cases(&rt, rt.alloc(), &CASES)
+fn what_became_of_connections_is_told(rt: HostRuntime) {
+    check_cases(&rt, rt.alloc(), &CASES);
+}
+
+/// What is counted in the history, and at these servers.
+#[tactic(auto, using(bm_trace::proofs::Ranged::ranges_of))]
+fn summary(alloc: Global, h: &History, servers: &[ServerId]) -> Result<Summary, Memory>
+    requires { IsRun h.now }
+{
+    let causes = sweep(alloc, h)?;
+    let table = connections(alloc, h, &causes)?;
+    summary_of(alloc, h, &causes, table.items(), servers)
+}
+
+/// Whether this is the text.
+fn is(text: Result<Text, Memory>, want: &str) -> bool {
+    match text {
+        Ok(text) => text.as_str() == want,
+        Err(Memory) => false,
+    }
+}
+
+#[test]
+fn servers_and_causes_are_counted(rt: HostRuntime) {
+    let alloc = rt.alloc();
+    let rows = [OPENING, DATA, DATA];
+    let h = bare_history(alloc, GAP, &rows, 4_096, true, None).expect(&rt, "memory");
+    check_counts(&rt, alloc, &h);
 }
 
 /// Checks the lines of servers 2 and 1, and of the one cause that occurs.
-#[tactic(auto, using(bm_trace::proofs::Ranged::ranges_of))]
-fn check_counts(rt: &impl Abort, alloc: Global, h: &History) -> Result<(), Fail>
+fn check_counts(rt: &impl Abort, alloc: Global, h: &History)
     requires { IsRun h.now }
 {
-    let causes = sweep(alloc, h)?;
-    let table = connections(alloc, h, &causes)?;
-    let servers = [ServerId(2), ServerId(1)];
-    let summary = summary_of(alloc, h, &causes, table.items(), &servers)?;
-    let text = servers_text(alloc, summary.servers.items())?;
-    assert_eq!(rt;
-        text.as_str(),
-        "server 2 accepted 0 processed 0 most-held 0 of 4096\n\
-        server 1 accepted 1 processed 0 most-held 1 of 4096\n"
-    );
-    let text = causes_text(alloc, summary.causes.items())?;
-    assert_eq!(rt;
-        text.as_str(),
-        "cause not-held packets 2 broken 1 refused 0\n"
-    );
-    Ok(())
+    let counted = summary(alloc, h, &[ServerId(2), ServerId(1)]).expect(rt, "memory");
+    let servers = servers_text(alloc, counted.servers.items());
+    let lines = "server 2 accepted 0 processed 0 most-held 0 of 4096\n\
+        server 1 accepted 1 processed 0 most-held 1 of 4096\n";
+    assert!(rt; is(servers, lines));
+    let causes = causes_text(alloc, counted.causes.items());
+    assert!(rt; is(causes, "cause not-held packets 2 broken 1 refused 0\n"));
 }
 
-#[test]
-fn servers_and_causes_are_counted(rt: HostRuntime) -> Result<(), Fail> {
-    let alloc = rt.alloc();
-    let (capture, packets) = capture(alloc, GAP, &[OPENING, DATA, DATA])?;
-    let stage = bare_stage(alloc, 4_096, true, capture)?;
-    let h = history(alloc, stage, packets, None)?;
-    check_counts(&rt, alloc, &h)
-}
-
-/// Checks the line of the longest wait.
-#[tactic(auto, using(bm_trace::proofs::Ranged::ranges_of))]
-fn check_late(rt: &impl Abort, alloc: Global, h: &History, text: &str) -> Result<(), Fail>
+/// The line of the longest wait.
+fn late_line(alloc: Global, h: &History) -> Result<Text, Memory>
     requires { IsRun h.now }
 {
-    let causes = sweep(alloc, h)?;
-    let table = connections(alloc, h, &causes)?;
-    let summary = summary_of(alloc, h, &causes, table.items(), &[])?;
-    let late = late_text(alloc, summary.late)?;
-    assert_eq!(rt; late.as_str(), text);
-    Ok(())
+    let counted = summary(alloc, h, &[])?;
+    late_text(alloc, counted.late)
+}
+
+/// Checks the line of the longest wait, and the text of the history's connections.
+fn check_late(
+    rt: &impl Abort,
+    alloc: Global,
+    history: Result<History, Memory>,
+    late: &str,
+    lines: &str,
+)
+    requires { IfOk history IsRun }
+{
+    let h = history.expect(rt, "memory");
+    assert!(rt; is(late_line(alloc, &h), late));
+    check(rt, alloc, &h, lines);
 }
 
 /// The bucket moves at 500 nanoseconds, and the timeout is 240 seconds.
 #[test]
-fn a_moved_connection_breaks_after_the_timeout(rt: HostRuntime) -> Result<(), Fail> {
+fn a_moved_connection_breaks_after_the_timeout(rt: HostRuntime) {
     let alloc = rt.alloc();
-    let (capture, packets) = capture(alloc, GAP, &[OPENING, DATA, DATA, DATA])?;
-    let stage = moved_stage(alloc, capture)?;
-    let h = history(alloc, stage, packets, None)?;
-    let text = "connection 10.0.0.1:1000 192.0.2.1:80 opened 1 at 0.000000000 \
+    let history = moved_history(alloc, GAP, &[OPENING, DATA, DATA, DATA]);
+    let late = "chain-late longest 299.999999502 timeout_s 300\n";
+    let lines = "connection 10.0.0.1:1000 192.0.2.1:80 opened 1 at 0.000000000 \
                 last 4 at 300.000000000 accepted 1 times 1 \
                 processed 2 forwarded 2 dropped 0 reset 1 stray 0 \
                 last-forward 3 by 2 at 200.000000002 after 199.999999502 \
                 broken 4 reset chain-expired because chain-late at 300.000000002\n";
-    check_late(
-        &rt,
-        alloc,
-        &h,
-        "chain-late longest 299.999999502 timeout_s 300\n",
-    )?;
-    check(&rt, alloc, &h, text)
+    check_late(&rt, alloc, history, late, lines);
 }
 
 /// The bucket moves at 500 nanoseconds and at 150 seconds: the fourth packet comes in time for the
 /// previous server, and its chained copy too late for the older one.
 #[test]
-fn a_twice_moved_connection_breaks_at_the_older_stamp(rt: HostRuntime) -> Result<(), Fail> {
+fn a_twice_moved_connection_breaks_at_the_older_stamp(rt: HostRuntime) {
     let alloc = rt.alloc();
-    let (capture, packets) = capture(alloc, GAP, &[OPENING, DATA, DATA, DATA])?;
-    let stage = twice_moved_stage(alloc, Moment(150_000_000_000), capture)?;
-    let h = history(alloc, stage, packets, None)?;
-    let text = "connection 10.0.0.1:1000 192.0.2.1:80 opened 1 at 0.000000000 \
+    let rows = [OPENING, DATA, DATA, DATA];
+    let history = twice_moved_history(alloc, GAP, &rows, Moment(150_000_000_000), None);
+    let late = "chain-late longest 299.999999503 timeout_s 300\n";
+    let lines = "connection 10.0.0.1:1000 192.0.2.1:80 opened 1 at 0.000000000 \
                 last 4 at 300.000000000 accepted 2 times 1 \
                 processed 2 forwarded 4 dropped 0 reset 1 stray 0 \
                 last-forward 4 by 1 at 300.000000002 after 150.000000002 \
                 broken 4 reset chain-expired because chain-late at 300.000000003\n";
-    check_late(
-        &rt,
-        alloc,
-        &h,
-        "chain-late longest 299.999999503 timeout_s 300\n",
-    )?;
-    check(&rt, alloc, &h, text)
+    check_late(&rt, alloc, history, late, lines);
 }
 
 /// A moment, when record 1 was captured, and the expected text.
@@ -215,22 +223,20 @@ static INSTANTS: [Instant; 6] = [
     (u64::MAX, 1, "2554-07-21T23:34:33.709551615Z"),
 ];
 
-fn check_instant(rt: &impl Abort, alloc: Global, row: &Instant) -> Result<(), Fail> {
+fn check_instant(rt: &impl Abort, alloc: Global, row: &Instant) {
     let (began, moment, want) = *row;
     let time = TimeText(Clock(Some(began)), Moment(moment));
-    let text = format!(in alloc; "{time}")?;
+    let text = format!(in alloc; "{time}").expect(rt, "memory");
     assert_eq!(rt; text.as_str(), want);
-    Ok(())
 }
 
-fn check_instants(rt: &impl Abort, alloc: Global, rows: &[Instant]) -> Result<(), Fail> {
+fn check_instants(rt: &impl Abort, alloc: Global, rows: &[Instant]) {
     for row in rows {
-        check_instant(rt, alloc, row)?;
+        check_instant(rt, alloc, row);
     }
-    Ok(())
 }
 
 #[test]
-fn moments_are_told_in_utc(rt: HostRuntime) -> Result<(), Fail> {
-    check_instants(&rt, rt.alloc(), &INSTANTS)
+fn moments_are_told_in_utc(rt: HostRuntime) {
+    check_instants(&rt, rt.alloc(), &INSTANTS);
 }

@@ -1,20 +1,17 @@
 //! Tests of `bm_replay`: the events of replays, and their reports written by one thread and by
 //! several.
-ghost use Rattle.std.specs.Prelude.{◌≡◌, IfOk, length};
+ghost use Rattle.std.specs.Prelude.{◌≡◌, ◌≤◌, IfOk, length};
 ghost use Rattle.bm_core.specs.Runs.{IsRun};
-ghost use Rattle.bm_core.specs.Stages.{IsSound};
-ghost use Rattle.bm_link.specs.Fits.{ArePackets};
 
 use crate::stages::{
-    DATA, OPENING, OTHER, Row, bare_stage, capture, flow, history, moved_stage, twice_moved_stage,
+    DATA, OPENING, OTHER, Row, bare_history, flow, moved_history, twice_moved_history,
 };
-use bm_base::{Hop, Memory, Moment, MuxId, Octets, ServerId, Taken, Version};
-use bm_core::{Cause, Event, History, Stage, Verdict, What, Why};
+use bm_base::{Hop, Memory, Moment, MuxId, ServerId, Taken, Version};
+use bm_core::{Cause, Event, History, Verdict, What, Why};
 use bm_io::MemSink;
 use bm_trace::{cause, report, report_beside};
 use std::alloc::Global;
 use std::process::Abort;
-use std::test::Fail;
 use std::thread::Threads;
 
 /// There is a microsecond between two packets.
@@ -60,29 +57,14 @@ fn lose(clock: u64, packet: u32, hop: Hop) -> Event {
     event(clock, What::Lose { packet, hop })
 }
 
-/// Checks that the stage's replay has these events, as `history` makes it.
-fn check(
-    rt: &impl Abort,
-    alloc: Global,
-    stage: Stage,
-    packets: Octets,
-    lost: Option<Hop>,
-    events: &[Event],
-) -> Result<(), Fail>
-    requires sound { IsSound stage }
-    requires packets { ArePackets stage.capture.records packets }
-    requires muxes { stage.script.setting.muxes ≡ 1 }
-{
-    let history = history(alloc, stage, packets, lost)?;
-    assert!(rt; history.events.items() == events);
-    Ok(())
+/// Whether these are the events of the history.
+fn are_events(history: Result<History, Memory>, events: &[Event]) -> Result<bool, Memory> {
+    let history = history?;
+    Ok(history.events.items() == events)
 }
 
 #[test]
-fn a_connection_is_closed_once(rt: HostRuntime) -> Result<(), Fail> {
-    let alloc = rt.alloc();
-    let (capture, packets) = capture(alloc, GAP, &[OPENING, DATA])?;
-    let stage = bare_stage(alloc, 4_096, true, capture)?;
+fn a_connection_is_closed_once(rt: HostRuntime) {
     let direct = Hop::Direct;
     let want = [
         steer(1, 1),
@@ -92,33 +74,33 @@ fn a_connection_is_closed_once(rt: HostRuntime) -> Result<(), Fail> {
         steer(1_001, 2),
         arrive(1_002, 2, direct, 1, Verdict::Reset(Why::NoPrevious)),
     ];
-    check(&rt, alloc, stage, packets, None, &want)
+    let h = bare_history(rt.alloc(), GAP, &[OPENING, DATA], 4_096, true, None);
+    assert!(rt; are_events(h, &want) == Ok(true));
 }
 
-fn check_cause(rt: &impl Abort, h: &History, place: usize, due: Option<Cause>)
+/// The causes of the second event and of the sixth.
+fn causes(h: &History) -> Option<[Option<Cause>; 2]>
     requires { IsRun h.now }
 {
-    assert!(rt; place < h.events.items().len());
-    assert!(rt; cause(h, place) == due);
+    if h.events.items().len() < 6 {
+        return None;
+    }
+    Some([cause(h, 1), cause(h, 5)])
+}
+
+/// The causes of a connection's opening, and of what comes after its close.
+fn causes_of_close(alloc: Global) -> Result<Option<[Option<Cause>; 2]>, Memory> {
+    let h = bare_history(alloc, GAP, &[OPENING, DATA], 4_096, true, None)?;
+    Ok(causes(&h))
 }
 
 #[test]
-fn a_reset_has_a_cause(rt: HostRuntime) -> Result<(), Fail> {
-    let alloc = rt.alloc();
-    let (capture, packets) = capture(alloc, GAP, &[OPENING, DATA])?;
-    let stage = bare_stage(alloc, 4_096, true, capture)?;
-    let h = history(alloc, stage, packets, None)?;
-    // Accepted, and reset after the close.
-    check_cause(&rt, &h, 1, None);
-    check_cause(&rt, &h, 5, Some(Cause::NotHeld));
-    Ok(())
+fn a_reset_has_a_cause(rt: HostRuntime) {
+    assert!(rt; causes_of_close(rt.alloc()) == Ok(Some([None, Some(Cause::NotHeld)])));
 }
 
 #[test]
-fn a_full_shard_drops(rt: HostRuntime) -> Result<(), Fail> {
-    let alloc = rt.alloc();
-    let (capture, packets) = capture(alloc, GAP, &[OPENING, OTHER])?;
-    let stage = bare_stage(alloc, 1, false, capture)?;
+fn a_full_shard_drops(rt: HostRuntime) {
     let direct = Hop::Direct;
     let want = [
         steer(1, 1),
@@ -126,14 +108,12 @@ fn a_full_shard_drops(rt: HostRuntime) -> Result<(), Fail> {
         steer(1_001, 2),
         arrive(1_002, 2, direct, 1, Verdict::Drop(Why::Full)),
     ];
-    check(&rt, alloc, stage, packets, None, &want)
+    let h = bare_history(rt.alloc(), GAP, &[OPENING, OTHER], 1, false, None);
+    assert!(rt; are_events(h, &want) == Ok(true));
 }
 
 #[test]
-fn copies_are_lost_or_come_again(rt: HostRuntime) -> Result<(), Fail> {
-    let alloc = rt.alloc();
-    let (capture, packets) = capture(alloc, GAP, &[OPENING, DATA, DATA])?;
-    let stage = bare_stage(alloc, 4_096, false, capture)?;
+fn copies_are_lost_or_come_again(rt: HostRuntime) {
     let direct = Hop::Direct;
     let again = Verdict::Process(Taken::Duplicate);
     let want = [
@@ -146,7 +126,9 @@ fn copies_are_lost_or_come_again(rt: HostRuntime) -> Result<(), Fail> {
         arrive(2_003, 3, direct, 1, again),
         arrive(2_004, 3, direct, 1, again),
     ];
-    check(&rt, alloc, stage, packets, Some(direct), &want)
+    let rows = [OPENING, DATA, DATA];
+    let h = bare_history(rt.alloc(), GAP, &rows, 4_096, false, Some(direct));
+    assert!(rt; are_events(h, &want) == Ok(true));
 }
 
 /// This many segments: the first opens a connection, and the others are alike.
@@ -175,87 +157,108 @@ fn many_events(alloc: Global, count: u16) -> Result<Vec<Event>, Memory> {
     Ok(events)
 }
 
-#[test]
-fn packets_after_freed_ones_come(rt: HostRuntime) -> Result<(), Fail> {
-    let alloc = rt.alloc();
-    let count = 16_400;
-    let (capture, packets) = capture(alloc, GAP, &many_rows(alloc, count)?)?;
-    let stage = bare_stage(alloc, 4_096, false, capture)?;
+/// Whether these are the events at these segments.
+fn many_come(alloc: Global, count: u16) -> Result<bool, Memory>
+    requires { count ≤ 20000 }
+{
+    let rows = many_rows(alloc, count)?;
     let want = many_events(alloc, count)?;
-    check(&rt, alloc, stage, packets, None, &want)
+    let h = bare_history(alloc, GAP, &rows, 4_096, false, None);
+    are_events(h, &want)
 }
 
-/// Checks that three threads write the report that one thread appends.
-fn check_beside<R: Abort + Threads + Sync>(rt: &R, alloc: Global, h: &History) -> Result<(), Fail>
+#[test]
+fn packets_after_freed_ones_come(rt: HostRuntime) {
+    assert!(rt; many_come(rt.alloc(), 16_400) == Ok(true));
+}
+
+/// Whether three threads write the report that one thread appends.
+fn is_same_beside<R: Threads + Sync>(rt: &R, alloc: Global, h: &History) -> Result<bool, Memory>
     requires { IsRun h.now }
 {
     let mut one = Vec::new(alloc);
     report(h, &mut one)?;
     let mut many = MemSink::new(alloc, Vec::new(alloc));
-    report_beside(rt, alloc, 3, h, &mut many).map_err(|_| "the sink failed")?;
-    assert_eq!(rt; many.written(), one.as_slice());
-    Ok(())
+    let sent = report_beside(rt, alloc, 3, h, &mut many);
+    Ok(sent == Ok(()) && many.written() == one.as_slice())
+}
+
+/// The history of this many segments, whose bucket moves between the first two.
+fn many_moved(alloc: Global, count: u16) -> Result<History, Memory>
+    requires { count ≤ 20000 }
+    ensures { IfOk result IsRun }
+{
+    let rows = many_rows(alloc, count)?;
+    moved_history(alloc, GAP, &rows)
+}
+
+/// Whether three threads write the report of this many segments that one thread appends.
+fn are_many_beside<R: Threads + Sync>(rt: &R, alloc: Global, count: u16) -> Result<bool, Memory>
+    requires { count ≤ 20000 }
+{
+    let h = many_moved(alloc, count)?;
+    is_same_beside(rt, alloc, &h)
 }
 
 #[test]
-fn threads_write_the_same_report(rt: HostRuntime) -> Result<(), Fail> {
-    let alloc = rt.alloc();
+fn threads_write_the_same_report(rt: HostRuntime) {
     // four pieces of lines; the last is shorter, and in the first the mux gets a version
-    let (capture, packets) = capture(alloc, GAP, &many_rows(alloc, 16_400)?)?;
-    let stage = moved_stage(alloc, capture)?;
-    check_beside(&rt, alloc, &history(alloc, stage, packets, None)?)
+    assert!(rt; are_many_beside(&rt, rt.alloc(), 16_400) == Ok(true));
+}
+
+fn publish(clock: u64, version: u32) -> Event {
+    event(clock, What::Publish(Version(version)))
+}
+
+fn switch(clock: u64, version: u32) -> Event {
+    let mux = MuxId(0);
+    let version = Version(version);
+    event(clock, What::Switch { mux, version })
 }
 
 #[test]
-fn a_packet_is_forwarded_after_a_move(rt: HostRuntime) -> Result<(), Fail> {
-    let alloc = rt.alloc();
-    let (capture, packets) = capture(alloc, GAP, &[OPENING, DATA])?;
-    let stage = moved_stage(alloc, capture)?;
-    let mux = MuxId(0);
-    let version = Version(1);
+fn a_packet_is_forwarded_after_a_move(rt: HostRuntime) {
     let forward = Verdict::Forward(ServerId(1));
     let want = [
         steer(1, 1),
         arrive(2, 1, Hop::Direct, 1, Verdict::Accept),
-        event(501, What::Publish(version)),
-        event(502, What::Switch { mux, version }),
+        publish(501, 1),
+        switch(502, 1),
         steer(1_001, 2),
         arrive(1_002, 2, Hop::Direct, 2, forward),
         arrive(1_003, 2, Hop::Chained, 1, Verdict::Process(Taken::Advance)),
     ];
-    check(&rt, alloc, stage, packets, None, &want)
+    let h = moved_history(rt.alloc(), GAP, &[OPENING, DATA]);
+    assert!(rt; are_events(h, &want) == Ok(true));
 }
 
-/// Checks what becomes of a packet whose bucket moved twice after its connection's opening.
-fn check_twice(rt: &impl Abort, alloc: Global, lost: Option<Hop>, last: Event) -> Result<(), Fail> {
-    let (capture, packets) = capture(alloc, GAP, &[OPENING, DATA])?;
-    let stage = twice_moved_stage(alloc, Moment(600), capture)?;
-    let mux = MuxId(0);
-    let switch = |version: Version| What::Switch { mux, version };
+/// Whether this becomes of a packet whose bucket moved twice after its connection's opening.
+fn ends_in(alloc: Global, lost: Option<Hop>, last: Event) -> Result<bool, Memory> {
     let want = [
         steer(1, 1),
         arrive(2, 1, Hop::Direct, 2, Verdict::Accept),
-        event(501, What::Publish(Version(1))),
-        event(502, switch(Version(1))),
-        event(601, What::Publish(Version(2))),
-        event(602, switch(Version(2))),
+        publish(501, 1),
+        switch(502, 1),
+        publish(601, 2),
+        switch(602, 2),
         steer(1_001, 2),
         arrive(1_002, 2, Hop::Direct, 1, Verdict::Forward(ServerId(3))),
         arrive(1_003, 2, Hop::Chained, 3, Verdict::Forward(ServerId(2))),
         last,
     ];
-    check(rt, alloc, stage, packets, lost, &want)
+    let h = twice_moved_history(alloc, GAP, &[OPENING, DATA], Moment(600), lost);
+    are_events(h, &want)
 }
 
 #[test]
-fn a_packet_is_forwarded_twice_after_two_moves(rt: HostRuntime) -> Result<(), Fail> {
-    let alloc = rt.alloc();
+fn a_packet_is_forwarded_twice_after_two_moves(rt: HostRuntime) {
     let process = Verdict::Process(Taken::Advance);
-    check_twice(&rt, alloc, None, arrive(1_004, 2, Hop::Twice, 2, process))
+    let last = arrive(1_004, 2, Hop::Twice, 2, process);
+    assert!(rt; ends_in(rt.alloc(), None, last) == Ok(true));
 }
 
 #[test]
-fn a_twice_chained_copy_is_lost(rt: HostRuntime) -> Result<(), Fail> {
-    let alloc = rt.alloc();
-    check_twice(&rt, alloc, Some(Hop::Twice), lose(1_004, 2, Hop::Twice))
+fn a_twice_chained_copy_is_lost(rt: HostRuntime) {
+    let last = lose(1_004, 2, Hop::Twice);
+    assert!(rt; ends_in(rt.alloc(), Some(Hop::Twice), last) == Ok(true));
 }

@@ -1,14 +1,12 @@
 //! A test of `bm_running`: which event may not come.
-ghost use Rattle.std.specs.Prelude.{◌<◌, ◌^◌, length};
+ghost use Rattle.std.specs.Prelude.{◌<◌, ◌^◌, IfOk, length};
 ghost use Rattle.bm_core.specs.Stages.{IsSound};
 
 use crate::stages::{OPENING, OTHER, bare_stage, capture};
-use bm_base::{Hop, Moment, MuxId, ServerId};
+use bm_base::{Hop, Memory, Moment, MuxId, ServerId};
 use bm_core::{Event, Stage, Verdict, What, Why};
 use bm_running::{Followed, follow};
 use std::alloc::Global;
-use std::process::Abort;
-use std::test::Fail;
 
 /// There is a microsecond between two packets.
 const GAP: u64 = 1_000;
@@ -38,38 +36,40 @@ fn arrive(clock: u64, packet: u32, hop: Hop, server: u16, verdict: Verdict) -> E
     )
 }
 
-/// Checks which of these events is the first that may not come, counted from 1.
-fn check(
-    rt: &impl Abort,
-    alloc: Global,
-    stage: &Stage,
-    events: &[Event],
-    stop: Option<usize>,
-) -> Result<(), Fail>
+/// Which of these events is the first that may not come, counted from 1.
+fn stop(alloc: Global, stage: &Stage, events: &[Event]) -> Result<Option<usize>, Memory>
     requires sound { IsSound stage.now }
     requires few { length events.now < 2 ^ 63 }
 {
-    let found = match follow(alloc, stage, events)? {
-        Followed::Stops(number) => Some(number),
-        Followed::Runs(..) => None,
-    };
-    assert!(rt; found == stop);
-    Ok(())
+    match follow(alloc, stage, events)? {
+        Followed::Stops(number) => Ok(Some(number)),
+        Followed::Runs(..) => Ok(None),
+    }
 }
 
-#[test]
-fn a_full_shard_accepts_no_other(rt: HostRuntime) -> Result<(), Fail> {
-    let alloc = rt.alloc();
+/// A stage at which two connections open, and whose shards have room for one.
+fn full_stage(alloc: Global) -> Result<Stage, Memory>
+    ensures { IfOk result IsSound }
+{
     let (capture, _packets) = capture(alloc, GAP, &[OPENING, OTHER])?;
-    let stage = bare_stage(alloc, 1, false, capture)?;
+    bare_stage(alloc, 1, false, capture)
+}
+
+/// What is found there, where this is the verdict on the second.
+fn stop_at(alloc: Global, verdict: Verdict) -> Result<Option<usize>, Memory> {
     let direct = Hop::Direct;
-    let mut events = [
+    let events = [
         steer(1, 1),
         arrive(2, 1, direct, 1, Verdict::Accept),
         steer(1_001, 2),
-        arrive(1_002, 2, direct, 1, Verdict::Drop(Why::Full)),
+        arrive(1_002, 2, direct, 1, verdict),
     ];
-    check(&rt, alloc, &stage, &events, None)?;
-    events[3] = arrive(1_002, 2, direct, 1, Verdict::Accept);
-    check(&rt, alloc, &stage, &events, Some(4))
+    let stage = full_stage(alloc)?;
+    stop(alloc, &stage, &events)
+}
+
+#[test]
+fn a_full_shard_accepts_no_other(rt: HostRuntime) {
+    assert!(rt; stop_at(rt.alloc(), Verdict::Drop(Why::Full)) == Ok(None));
+    assert!(rt; stop_at(rt.alloc(), Verdict::Accept) == Ok(Some(4)));
 }

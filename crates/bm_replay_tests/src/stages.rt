@@ -18,7 +18,6 @@ use bm_replay::replay;
 use bm_route::Route;
 use bm_table::{Change, Command, Kind, Move, Plan, Script, Setting};
 use std::alloc::Global;
-use std::test::Fail;
 
 const SYN: u8 = 0x02;
 
@@ -152,9 +151,9 @@ pub(crate) fn bare_stage(
     ensures muxes { IfOk result (λ stage. stage.script.setting.muxes ≡ 1) }
 {
     let script = Script {
+        commands: List::of(two_closes(alloc, closing)?),
         setting: setting(alloc, capacity)?,
         plan: Plan::new(alloc, 8, &[ServerId(1), ServerId(2)])?,
-        commands: List::of(two_closes(alloc, closing)?),
     };
     Ok(Stage { script, capture })
 }
@@ -177,7 +176,7 @@ fn moved(alloc: Global, moment: Moment, to: ServerId) -> Result<Change, Memory>
 }
 
 /// Bucket 4 goes to server 2 at 500.
-fn moved_plan(alloc: Global) -> Result<Plan, Fail>
+fn moved_plan(alloc: Global) -> Result<Plan, Memory>
     ensures { IfOk result (λ plan. plan ≡ record {
       buckets = 8;
       servers = record { 0 = 1 } ∷ record { 0 = 2 } ∷ [];
@@ -191,26 +190,28 @@ fn moved_plan(alloc: Global) -> Result<Plan, Fail>
     }) }
 {
     let mut plan = Plan::new(alloc, 8, &[ServerId(1), ServerId(2)])?;
-    plan.push(moved(alloc, Moment(500), ServerId(2))?)?;
+    let Ok(()) = plan.push(moved(alloc, Moment(500), ServerId(2))?) else {
+        return Err(Memory);
+    };
     Ok(plan)
 }
 
-pub(crate) fn moved_stage(alloc: Global, capture: Capture) -> Result<Stage, Fail>
+pub(crate) fn moved_stage(alloc: Global, capture: Capture) -> Result<Stage, Memory>
     requires { IsReplayable plain_setting.vips capture }
     ensures sound { IfOk result IsSound }
     ensures capture { IfOk result (λ stage. stage.capture ≡ capture) }
     ensures muxes { IfOk result (λ stage. stage.script.setting.muxes ≡ 1) }
 {
     let script = Script {
+        commands: List::of(vec![in alloc; Command::Change(Version(1))]?),
         setting: setting(alloc, 4_096)?,
         plan: moved_plan(alloc)?,
-        commands: List::of(vec![in alloc; Command::Change(Version(1))]?),
     };
     Ok(Stage { script, capture })
 }
 
 /// Bucket 4 goes from server 2 to server 3 at 500, and to server 1 at the second moment.
-fn twice_moved_plan(alloc: Global, second: Moment) -> Result<Plan, Fail>
+fn twice_moved_plan(alloc: Global, second: Moment) -> Result<Plan, Memory>
     requires later { 500 < second.0 }
     requires soon { second.0 ≤ 150_000_000_000 }
     ensures { IfOk result (λ plan. plan ≡ record {
@@ -231,8 +232,12 @@ fn twice_moved_plan(alloc: Global, second: Moment) -> Result<Plan, Fail>
     }) }
 {
     let mut plan = Plan::new(alloc, 8, &[ServerId(1), ServerId(2), ServerId(3)])?;
-    plan.push(moved(alloc, Moment(500), ServerId(3))?)?;
-    plan.push(moved(alloc, second, ServerId(1))?)?;
+    let Ok(()) = plan.push(moved(alloc, Moment(500), ServerId(3))?) else {
+        return Err(Memory);
+    };
+    let Ok(()) = plan.push(moved(alloc, second, ServerId(1))?) else {
+        return Err(Memory);
+    };
     Ok(plan)
 }
 
@@ -250,11 +255,7 @@ fn setting_of_three(alloc: Global) -> Result<Setting, Memory>
     Ok(setting)
 }
 
-pub(crate) fn twice_moved_stage(
-    alloc: Global,
-    second: Moment,
-    capture: Capture,
-) -> Result<Stage, Fail>
+fn twice_moved_stage(alloc: Global, second: Moment, capture: Capture) -> Result<Stage, Memory>
     requires later { 500 < second.0 }
     requires soon { second.0 ≤ 150_000_000_000 }
     requires capture { IsReplayable plain_setting.vips capture }
@@ -264,16 +265,16 @@ pub(crate) fn twice_moved_stage(
 {
     let changes = vec![in alloc; Command::Change(Version(1)), Command::Change(Version(2))]?;
     let script = Script {
+        commands: List::of(changes),
         setting: setting_of_three(alloc)?,
         plan: twice_moved_plan(alloc, second)?,
-        commands: List::of(changes),
     };
     Ok(Stage { script, capture })
 }
 
 /// The history of the stage's replay with one mux. If `lost` names a hop, packet 2's copies of that
 /// hop are lost and each sending of packet 3 has three copies; every other sending has one.
-pub(crate) fn history(
+fn history(
     alloc: Global,
     stage: Stage,
     packets: Octets,
@@ -294,4 +295,55 @@ pub(crate) fn history(
         Fate { copies, delay: 0 }
     });
     replay(alloc, stage, packets, &route, &faults)
+}
+
+/// The history of these segments, `gap` nanoseconds apart, and of a stage without changes, with two
+/// closes or no command.
+pub(crate) fn bare_history(
+    alloc: Global,
+    gap: u64,
+    rows: &[Row],
+    capacity: u32,
+    closing: bool,
+    lost: Option<Hop>,
+) -> Result<History, Memory>
+    requires gap { gap ≤ 100_000_000_000 }
+    requires few { length rows.now ≤ 20000 }
+    requires capacity { IsWithin 1 65536 capacity }
+    ensures { IfOk result IsRun }
+{
+    let (capture, packets) = capture(alloc, gap, rows)?;
+    let stage = bare_stage(alloc, capacity, closing, capture)?;
+    history(alloc, stage, packets, lost)
+}
+
+/// The history of these segments, `gap` nanoseconds apart, where bucket 4 goes to server 2 at 500.
+pub(crate) fn moved_history(alloc: Global, gap: u64, rows: &[Row]) -> Result<History, Memory>
+    requires gap { gap ≤ 100_000_000_000 }
+    requires few { length rows.now ≤ 20000 }
+    ensures { IfOk result IsRun }
+{
+    let (capture, packets) = capture(alloc, gap, rows)?;
+    let stage = moved_stage(alloc, capture)?;
+    history(alloc, stage, packets, None)
+}
+
+/// The history of these segments, `gap` nanoseconds apart, where bucket 4 goes from server 2 to
+/// server 3 at 500, and to server 1 at the second moment.
+pub(crate) fn twice_moved_history(
+    alloc: Global,
+    gap: u64,
+    rows: &[Row],
+    second: Moment,
+    lost: Option<Hop>,
+) -> Result<History, Memory>
+    requires gap { gap ≤ 100_000_000_000 }
+    requires few { length rows.now ≤ 20000 }
+    requires later { 500 < second.0 }
+    requires soon { second.0 ≤ 150_000_000_000 }
+    ensures { IfOk result IsRun }
+{
+    let (capture, packets) = capture(alloc, gap, rows)?;
+    let stage = twice_moved_stage(alloc, second, capture)?;
+    history(alloc, stage, packets, lost)
 }
