@@ -81,7 +81,7 @@ fn repeated(
     text
 }
 
-/// A script with so many items has this verdict.
+/// A script with this many items has this verdict.
 fn assert_limit(
     rt: &impl Abort,
     alloc: Global,
@@ -131,7 +131,7 @@ fn numbered(rt: &impl Abort, alloc: Global, front: &str, last: u32) -> String {
     text
 }
 
-/// A script with so many servers has this verdict.
+/// A script with this many servers has this verdict.
 fn assert_servers(rt: &impl Abort, alloc: Global, front: &str, last: u32, want: &str) {
     let text = numbered(rt, alloc, front, last);
     assert!(rt; has_verdict(alloc, text.as_bytes(), want), "{last} servers");

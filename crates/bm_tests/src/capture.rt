@@ -84,7 +84,7 @@ fn append_record(
     record(octets, form, (packet.0, packet.1), &network)
 }
 
-/// What a frame has behind its two addresses: what says its type, and its packet.
+/// What follows a frame's two addresses: what says its type, and its packet.
 struct Frame(&'static [u8], Inside);
 
 /// What a frame carries.
@@ -216,7 +216,7 @@ fn front(alloc: Global, options: &[u8]) -> Result<Vec<u8>, AllocError> {
     )
 }
 
-/// What stands behind a packet of this even size in its block.
+/// What follows a packet of this even size in its block.
 fn padding(size: u32) -> &'static [u8] {
     if size % 4 == 0 { b"" } else { b"\x00\x00" }
 }

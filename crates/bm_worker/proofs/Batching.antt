@@ -116,7 +116,7 @@ switch_notes_are F stage servers task seen all past begun =
       )
       of_test false = tt
 
--- WHAT IS OWED
+-- WHAT HAS A SENDING
 
 pub sent_has_sending : (F : Rules) (stage : Stage) (task : Task) (seen : Posted) (all : List Note) (last low : ℕ)
     (items : List MuxItem) (fates : List Fate) → task.after ≤ last → task.from ≤ low

@@ -59,7 +59,7 @@ completes_all_more clock k m fate w s x y p q = record {
       let one = p.arrived j hop in let two = q.arrived j hop in omega arith;
 }
 
--- WHAT IS OWED
+-- WHAT HAS A SENDING
 
 -- the packet at a place, and those before it
 has_sending_at : (task : Task) (d : List Note) (low : ℕ) (sents : List Steered) (fates : List Fate) (i : ℕ) (t : Steered)

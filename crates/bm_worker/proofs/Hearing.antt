@@ -58,7 +58,7 @@ pub hears_stays : (stage : Stage) (servers : List Serving) (a b : List (List Sea
 hears_stays stage servers a b same s h server at =
     ap (saying (shard_at server h)) (same s h) ∙ sym (append-nil (saying (shard_at server h) (calls_there a s h)))
 
--- ONE DEED
+-- ONE NOTE
 
 said_cond : (f : Answered → Said) (b : Bool) (p : Answered) (q : Said) → (b ≡ true → f p ≡ q)
     → map f (cond b (p ∷ []) []) ≡ cond b (q ∷ []) []

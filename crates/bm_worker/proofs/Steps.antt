@@ -77,7 +77,7 @@ kept_stays F stage servers task now next d mux same latest caller kept =
       caller = caller;
     })
 
--- WHAT IS OWED STAYS SO
+-- WHAT HAS A SENDING GOES ON TO HAVE ONE
 
 pub among_more : (n : Note) (x d : List Note) → IsAmong n d → IsAmong n (x ++ d)
 among_more n x d among f = let a = among f in let b = total_append f x d in omega arith

@@ -44,8 +44,8 @@ NumbersRise servers =
     (s t : ℕ) (a b : Serving) → slice_get servers s ≡ Some a → slice_get servers t ≡ Some b → s < t
     → a.id.0 < b.id.0
 
--- each server that the script knows at its end is among these, by their numbers, and each is as the
--- setting has it
+-- the servers stand by rising numbers, so none is there twice; each that the script knows at its end
+-- is among them, and each is as the setting has it
 pub record AreServersOf (stage : Stage) (servers : List Serving) : Type 0 where
   pub rise : NumbersRise servers
   pub shards : (s : ℕ) (server : Serving) → slice_get servers s ≡ Some server
