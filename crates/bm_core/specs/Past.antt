@@ -233,8 +233,8 @@ flows_after stage (Retire server shard at result) s h flows =
     if same_server server s && shard == h && is_done result then [] else flows
 flows_after stage _ s h flows = flows
 
--- the flows of the shard that the server holds, as a list, since a capacity counts them. They are
--- those of which `held` has a connection, each once (`laws::held_flows`).
+-- the flows of the shard that the server holds, as a list, since a capacity counts them. A flow of
+-- the shard is in it, and once, exactly if `held` has a connection of it (`laws::held_flows`).
 abbrev pub flows_held : Stage → List Event → ServerId → ℕ → List Flow
 flows_held stage [] s h = []
 flows_held stage (e ∷ past) s h = flows_after stage e.what s h (flows_held stage past s h)
