@@ -1,6 +1,9 @@
-use Rattle.std.proofs.Common.{arith}
+use Rattle.std.proofs.Common.{arith, rules}
 use Rattle.bm_io.proofs.Known.{appends_more, within_piece}
 use Rattle.bm_io.proofs.put.put_all.Goals as goal
+
+pub loop-at-init : goal.loop-at-init
+loop-at-init g c = search rules
 
 pub loop-at-preserved : goal.loop-at-preserved
 loop-at-preserved g c = record {
