@@ -1,5 +1,5 @@
 //! What is reported of a history's connections.
-ghost use Rattle.std.specs.Prelude.{◌≡◌, IfOk};
+ghost use Rattle.std.specs.Prelude.{◌≡◌, ◌++◌, ◌∷◌, [], IfOk, IsOkAnd, OnOk};
 ghost use Rattle.bm_core.specs.Runs.{IsRun};
 ghost use Rattle.bm_trace.specs.Report.{note_line};
 ghost use Rattle.bm_trace.specs.Swept.{AreCauses};
@@ -37,35 +37,50 @@ pub(crate) fn lines_of(alloc: Global, clock: Clock, h: &History) -> Result<Vec<T
 {
     let causes = sweep(alloc, h)?;
     let table = connections(alloc, h, &causes)?;
-    parts_of(alloc, clock, h, &causes, table.items())
+    let summary = summary_in(alloc, h, &causes, table.items())?;
+    parts_of(alloc, clock, h, table.items(), &summary)
 }
 
+/// The parts, from the table of connections and the summary.
 #[tactic(auto, using(crate::proofs::Told::replies_told))]
 fn parts_of(
     alloc: Global,
     clock: Clock,
     h: &History,
-    causes: &CauseList,
     table: &[Connection],
+    summary: &Summary,
 ) -> Result<Vec<Text>, Memory>
-    requires run { IsRun h.now }
-    requires causes { AreCauses h.now causes.now }
     requires table { table.now ≡ tables.connections h.now }
+    requires causes { summary.now.causes ≡ counts.causes_in h.now }
+    requires servers { summary.now.servers
+        ≡ counts.server_counts h.now (servers_of h.now.stage.script) }
+    requires late { summary.now.late ≡ longest_late h.now }
+    requires replies { summary.now.replies ≡ replies h.now }
     ensures { IfOk result (λ parts. parts.items ≡ spec.parts clock.0 h.now) }
 {
-    let summary = summary_in(alloc, h, causes, table)?;
+    let racks = h.stage.script.setting.racks;
+    let causes = summary.causes.items();
+    let replies = summary.replies.items();
     let mut parts = Vec::with_capacity(alloc, 10)?;
-    parts.push(table_text(alloc, clock, h.stage.script.setting.racks, table)?)?;
-    parts.push(servers_text(alloc, summary.servers.items())?)?;
-    parts.push(changes_text(alloc, clock, &h.stage.script.plan)?)?;
-    parts.push(replies_text(alloc, clock, summary.replies.items())?)?;
-    parts.push(causes_text(alloc, summary.causes.items())?)?;
-    parts.push(late_text(alloc, summary.late)?)?;
-    parts.push(cut_text(alloc, h.stage.capture.cut)?)?;
-    parts.push(advice_text(alloc, summary.causes.items())?)?;
-    parts.push(unsteered_text(alloc, table)?)?;
-    parts.push(end_text(alloc, &h.stage)?)?;
+    add(&mut parts, table_text(alloc, clock, racks, table))?;
+    add(&mut parts, servers_text(alloc, summary.servers.items()))?;
+    add(&mut parts, changes_text(alloc, clock, &h.stage.script.plan))?;
+    add(&mut parts, replies_text(alloc, clock, replies))?;
+    add(&mut parts, causes_text(alloc, causes))?;
+    add(&mut parts, late_text(alloc, summary.late))?;
+    add(&mut parts, cut_text(alloc, h.stage.capture.cut))?;
+    add(&mut parts, advice_text(alloc, causes))?;
+    add(&mut parts, unsteered_text(alloc, table))?;
+    add(&mut parts, end_text(alloc, &h.stage))?;
     Ok(parts)
+}
+
+/// Appends the part, unless memory was refused.
+fn add(parts: &mut Vec<Text>, part: Result<Text, Memory>) -> Result<(), Memory>
+    ensures { OnOk result (IsOkAnd part (λ text. parts.new.items ≡ parts.old.items ++ text ∷ [])) }
+{
+    parts.push(part?)?;
+    Ok(())
 }
 
 /// The summary of the history, with the servers of its script.
