@@ -90,7 +90,7 @@ pub(crate) fn are_sent<F: Fn(u32, Hop) -> Fate>(
             return Ok(false);
         }
         let _fate = ask(faults, event.what);
-        tallies.note(event.what)?;
+        tallies.observe(event.what)?;
     }
     Ok(true)
 }

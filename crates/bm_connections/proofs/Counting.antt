@@ -86,13 +86,13 @@ arrival_is s clock (Close server flow closed) found b is = absurd (cc)
 arrival_is s clock (Retire server shard at result) found b is = absurd (cc)
 arrival_is s clock Sync found b is = absurd (cc)
 
-pub loads_noted : (past : List Event) (e : Event) (found : Option Cause) (b : Break)
+pub loads_observed : (past : List Event) (e : Event) (found : Option Cause) (b : Break)
     (loads new : ServerId → Option Served)
     → as_break e.clock e.what found ≡ Some b
     → ((q : ServerId) → new q
     ≡ (if same_server b.server q then Some (counted b.verdict (count_or_none (loads b.server) b.server)) else loads q))
     → AreLoads past loads → AreLoads (e ∷ past) new
-loads_noted past e found b loads new is n k = record {
+loads_observed past e found b loads new is n k = record {
   each = λ q. ap (λ o. count_or_none o q) (n q) ∙ elim (cases_Bool (same_server b.server q)) [
     | inl here ↦
         let same : b.server ≡ q = same_server-true b.server q here
@@ -129,11 +129,11 @@ can_count past loads s few k =
 
 -- CAUSES
 
-pub packets_noted : (stage : Stage) (past : List Event) (e : Event) (found : Option Cause) (old new : CausePackets)
+pub packets_observed : (stage : Stage) (past : List Event) (e : Event) (found : Option Cause) (old new : CausePackets)
     → ((c : Cause) → packets_in new c ≡ one_more (is_cause c found) (packets_in old c))
     → found ≡ cause stage past e.clock.0 e.what
     → ArePackets stage past old → ArePackets stage (e ∷ past) new
-packets_noted stage past e found old new n by k = record {
+packets_observed stage past e found old new n by k = record {
   each = λ c. n c ∙ (λ i. one_more (is_cause c (by i)) (k.each c i));
 }
 

@@ -29,12 +29,12 @@ use Rattle.bm_connections.specs.Waits.{stamp_of, wait_of}
 -- THE PASS
 
 -- one event more
-pub longest_noted : (stage : Stage) (past : List Event) (e : Event) (found : Option Cause) (longest new : Option ℕ)
+pub longest_observed : (stage : Stage) (past : List Event) (e : Event) (found : Option Cause) (longest new : Option ℕ)
     → new ≡ (if is_cause ChainLate found
     then Some (longer longest (wait_of stage past e.clock.0 e.what)) else longest)
     → found ≡ cause stage past e.clock.0 e.what → longest ≡ longest_wait stage past
     → new ≡ longest_wait stage (e ∷ past)
-longest_noted stage past e found longest new is by was =
+longest_observed stage past e found longest new is by was =
     is
     ∙ (λ i. if is_cause ChainLate (by i)
     then Some (longer (was i) (wait_of stage past e.clock.0 e.what)) else was i)

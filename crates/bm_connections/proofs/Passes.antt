@@ -9,7 +9,7 @@ use Rattle.bm_core.specs.declared.events.Event.{Event}
 use Rattle.bm_core.specs.declared.events.History.{History}
 use Rattle.bm_core.specs.Causes.{cause}
 use Rattle.bm_core.specs.Runs.{IsRun, past_at}
-use Rattle.bm_trace.specs.CauseOf.{cause_after, cause_of, is_fault, is_fault_after}
+use Rattle.bm_trace.specs.CauseOf.{cause_after, cause_of, is_break, is_break_after}
 use Rattle.bm_trace.proofs.Caused.{cause_there}
 use Rattle.bm_state.proofs.Newest.{reverse_take}
 use Rattle.bm_connections.specs.declared.seen.Seen.{Seen}
@@ -29,14 +29,14 @@ cause_here h shown place d found same below by =
     in let e : slice_get h.events place ≡ Some (get_or h.events place d) = get_within h.events place d below'
     in rw same (by ∙ ap (λ o. cause_after h.stage (past_at h place) o) e)
 
--- there is one just where the event is a fault
-pub fault_here : (h : History) (shown : List Event) (place : ℕ) (d : Event) (found : Option Cause)
+-- there is one just where the event is a break
+pub break_here : (h : History) (shown : List Event) (place : ℕ) (d : Event) (found : Option Cause)
     → IsRun h → shown ≡ h.events → place < length shown → found ≡ cause_of h place
-    → is_some found ≡ is_fault h.stage (reverse (take place shown)) (get_or shown place d).what
-fault_here h shown place d found run same below by =
+    → is_some found ≡ is_break h.stage (reverse (take place shown)) (get_or shown place d).what
+break_here h shown place d found run same below by =
     let below' : place < length h.events = rw same at below
     in let e : slice_get h.events place ≡ Some (get_or h.events place d) = get_within h.events place d below'
-    in rw same (ap is_some by ∙ cause_there h place run ∙ ap (λ o. is_fault_after h.stage (past_at h place) o) e)
+    in rw same (ap is_some by ∙ cause_there h place run ∙ ap (λ o. is_break_after h.stage (past_at h place) o) e)
 
 -- fewer events came before one of them
 pub few_before : (events : List Event) (place : ℕ) → place < length events → length events < 2 ^ 64

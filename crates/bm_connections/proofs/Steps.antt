@@ -20,7 +20,7 @@ use Rattle.bm_core.specs.declared.events.What.{What}
 use Rattle.bm_core.specs.declared.events.What.TheVariants.{Publish, Switch, Steer, Lose, Arrive, Close, Retire, Sync}
 use Rattle.bm_core.specs.Causes.{cause, is_process}
 use Rattle.bm_core.specs.Past.{Accepted, accept_of, is_accept, is_forward, is_of, segment_of}
-use Rattle.bm_trace.specs.CauseOf.{is_fault}
+use Rattle.bm_trace.specs.CauseOf.{is_break}
 use Rattle.bm_trace.specs.Totals.{is_drop, is_reset}
 use Rattle.bm_connections.specs.declared.connection.Break.{Break}
 use Rattle.bm_connections.specs.declared.connection.Connection.{Connection}
@@ -28,9 +28,9 @@ use Rattle.bm_connections.specs.declared.connection.Forwarding.{Forwarding}
 use Rattle.bm_connections.specs.declared.connection.Sight.{Sight}
 use Rattle.bm_connections.specs.declared.connection.Tally.{Tally}
 use Rattle.bm_connections.specs.Connections.{acceptor, arrivals, as_break, connection}
-use Rattle.bm_connections.specs.Connections.{first_break, first_fault, is_arrival_for, last_forwarding, one_more}
+use Rattle.bm_connections.specs.Connections.{breakage, first_break, is_arrival_for, last_forwarding, one_more}
 use Rattle.bm_connections.specs.Connections.{strays_for, tally, first_of_two, refusal}
-use Rattle.bm_connections.specs.Inside.Rows.{HasRoom, forwarded_after, noted, refused_after}
+use Rattle.bm_connections.specs.Inside.Rows.{HasRoom, forwarded_after, observed, refused_after}
 use Rattle.bm_connections.specs.Inside.Rows.{tallied}
 use Rattle.bm_connections.specs.Waits.{wait, wait_of}
 
@@ -55,21 +55,21 @@ still : (stage : Stage) (records : List Record) (past : List Event) (clock : Mom
     → is_arrival_for stage f what ≡ false
     → connection stage records (record { clock = clock; what = what } ∷ past) f ≡ connection stage records past f
 still stage records past clock (Publish v) f h =
-    rw (with_none (first_break stage f past), with_none (first_fault stage f past)) refl
+    rw (with_none (breakage stage f past), with_none (first_break stage f past)) refl
 still stage records past clock (Switch m v) f h =
-    rw (with_none (first_break stage f past), with_none (first_fault stage f past)) refl
+    rw (with_none (breakage stage f past), with_none (first_break stage f past)) refl
 still stage records past clock (Steer k m) f h =
-    rw (with_none (first_break stage f past), with_none (first_fault stage f past)) refl
+    rw (with_none (breakage stage f past), with_none (first_break stage f past)) refl
 still stage records past clock (Lose k hop) f h =
-    rw (with_none (first_break stage f past), with_none (first_fault stage f past)) refl
+    rw (with_none (breakage stage f past), with_none (first_break stage f past)) refl
 still stage records past clock (Close server flow closed) f h =
-    rw (with_none (first_break stage f past), with_none (first_fault stage f past)) refl
+    rw (with_none (breakage stage f past), with_none (first_break stage f past)) refl
 still stage records past clock (Retire server shard at result) f h =
-    rw (with_none (first_break stage f past), with_none (first_fault stage f past)) refl
+    rw (with_none (breakage stage f past), with_none (first_break stage f past)) refl
 still stage records past clock Sync f h =
-    rw (with_none (first_break stage f past), with_none (first_fault stage f past)) refl
+    rw (with_none (breakage stage f past), with_none (first_break stage f past)) refl
 still stage records past clock (Arrive k hop server verdict) f h =
-    rw (h, and_false (is_accept verdict), with_none (first_break stage f past), with_none (first_fault stage f past))
+    rw (h, and_false (is_accept verdict), with_none (breakage stage f past), with_none (first_break stage f past))
     refl
 
 abbrev connection_with : Flow → Sight → Sight → Option ServerId → Tally → Option Forwarding → Option Break
@@ -92,17 +92,17 @@ same_connection f first last s s' t t' x x' b b' r r' es et ex eb er =
     λ i. connection_with f first last (es i) (et i) (ex i) (eb i) (er i)
 
 -- a flow that has no server after an arrival had none before it
-refused_changed : (accepts : Bool) (s : ServerId) (o after : Option ServerId) (fault new found : Option Break)
+refused_changed : (accepts : Bool) (s : ServerId) (o after : Option ServerId) (before new found : Option Break)
     → (if accepts then Some s else o) ≡ after → new ≡ found
     → (if is_some (if accepts then Some s else o) then None
-    else first_of_two (if is_some o then None else fault) new)
-    ≡ (if is_some after then None else first_of_two fault found)
-refused_changed true s o after fault new found server same =
-    λ i. if is_some (server i) then None else first_of_two fault (same i)
-refused_changed false s None after fault new found server same =
-    λ i. if is_some (server i) then None else first_of_two fault (same i)
-refused_changed false s (Some t) after fault new found server same =
-    λ i. if is_some (server i) then None else first_of_two fault (same i)
+    else first_of_two (if is_some o then None else before) new)
+    ≡ (if is_some after then None else first_of_two before found)
+refused_changed true s o after before new found server same =
+    λ i. if is_some (server i) then None else first_of_two before (same i)
+refused_changed false s None after before new found server same =
+    λ i. if is_some (server i) then None else first_of_two before (same i)
+refused_changed false s (Some t) after before new found server same =
+    λ i. if is_some (server i) then None else first_of_two before (same i)
 
 server_changed : (b : Bool) (o : Option Accepted) (a : Accepted)
     → (if b then Some a.server else option_map (λ x. x.server) o)
@@ -115,22 +115,22 @@ changed : (stage : Stage) (records : List Record) (past : List Event) (clock : M
     → is_of (segment_of stage k) f ≡ true
     → waited ≡ wait stage past clock.0 hop k
     → found ≡ cause stage past clock.0 (Arrive k hop server verdict)
-    → is_some found ≡ is_fault stage past (Arrive k hop server verdict)
-    → noted (record { packet = k; clock = clock; server = server; verdict = verdict; cause = found }) waited
+    → is_some found ≡ is_break stage past (Arrive k hop server verdict)
+    → observed (record { packet = k; clock = clock; server = server; verdict = verdict; cause = found }) waited
     (connection stage records past f)
     ≡ connection stage records (record { clock = clock; what = Arrive k hop server verdict } ∷ past) f
-changed stage records past clock k hop server verdict f found waited here after by fault =
+changed stage records past clock k hop server verdict f found waited here after by broke =
     let e : Event = record { clock = clock; what = Arrive k hop server verdict }
     in let es : (if is_accept verdict then Some server else acceptor stage f past) ≡ acceptor stage f (e ∷ past) =
     rw here (server_changed (is_accept verdict) (accept_of stage past f) _)
     in let et : tallied verdict (is_some found) (tally stage f past) ≡ tally stage f (e ∷ past) =
-    rw (here, fault) refl
-    in let eb : first_of_two (first_break stage f past)
+    rw (here, broke) refl
+    in let eb : first_of_two (breakage stage f past)
     (if is_some found && is_some (acceptor stage f past)
     then Some (record { packet = k; clock = clock; server = server; verdict = verdict; cause = found })
-    else None) ≡ first_break stage f (e ∷ past) =
-    rw (here, ← fault)
-    (ap (λ (o : Option Cause). first_of_two (first_break stage f past)
+    else None) ≡ breakage stage f (e ∷ past) =
+    rw (here, ← broke)
+    (ap (λ (o : Option Cause). first_of_two (breakage stage f past)
     (if is_some found && is_some (acceptor stage f past)
     then Some (record { packet = k; clock = clock; server = server; verdict = verdict; cause = o })
     else None)) by)
@@ -143,7 +143,7 @@ changed stage records past clock k hop server verdict f found waited here after 
     in let en : (if is_some found
     then Some (record { packet = k; clock = clock; server = server; verdict = verdict; cause = found })
     else None)
-    ≡ (if is_of (segment_of stage k) f && is_fault stage past (Arrive k hop server verdict)
+    ≡ (if is_of (segment_of stage k) f && is_break stage past (Arrive k hop server verdict)
     then Some (record {
       packet = k;
       clock = clock;
@@ -152,7 +152,7 @@ changed stage records past clock k hop server verdict f found waited here after 
       cause = cause stage past clock.0 (Arrive k hop server verdict);
     })
     else None) =
-    rw (here, ← fault)
+    rw (here, ← broke)
     (ap (λ (o : Option Cause). if is_some found
     then Some (record { packet = k; clock = clock; server = server; verdict = verdict; cause = o })
     else None) by)
@@ -161,7 +161,7 @@ changed stage records past clock k hop server verdict f found waited here after 
     (if is_accept verdict then Some server else acceptor stage f past) (refusal stage f past)
     ≡ refusal stage f (e ∷ past) =
     refused_changed (is_accept verdict) server (acceptor stage f past) (acceptor stage f (e ∷ past))
-    (first_fault stage f past) _ _ es en
+    (first_break stage f past) _ _ es en
     in same_connection f _ _ _ _ _ _ _ _ _ _ _ _ es et ex eb er
 
 -- an arrival of the flow changes its connection so
@@ -169,22 +169,22 @@ changed_by : (stage : Stage) (records : List Record) (past : List Event) (clock 
     (found : Option Cause) (waited : ℕ) (b : Break)
     → as_break clock what found ≡ Some b → is_arrival_for stage f what ≡ true
     → waited ≡ wait_of stage past clock.0 what
-    → found ≡ cause stage past clock.0 what → is_some found ≡ is_fault stage past what
-    → noted b waited (connection stage records past f)
+    → found ≡ cause stage past clock.0 what → is_some found ≡ is_break stage past what
+    → observed b waited (connection stage records past f)
     ≡ connection stage records (record { clock = clock; what = what } ∷ past) f
-changed_by stage records past clock (Arrive k hop server verdict) f found waited b is here after by fault =
+changed_by stage records past clock (Arrive k hop server verdict) f found waited b is here after by broke =
     let same : record { packet = k; clock = clock; server = server; verdict = verdict; cause = found } ≡ b = cc
-    in subst (λ (x : Break). noted x waited (connection stage records past f)
+    in subst (λ (x : Break). observed x waited (connection stage records past f)
     ≡ connection stage records (record { clock = clock; what = Arrive k hop server verdict } ∷ past) f) same
-    (changed stage records past clock k hop server verdict f found waited here after by fault)
-changed_by stage records past clock (Publish v) f found waited b is here after by fault = absurd (cc)
-changed_by stage records past clock (Switch m v) f found waited b is here after by fault = absurd (cc)
-changed_by stage records past clock (Steer k m) f found waited b is here after by fault = absurd (cc)
-changed_by stage records past clock (Lose k hop) f found waited b is here after by fault = absurd (cc)
-changed_by stage records past clock (Close server flow closed) f found waited b is here after by fault = absurd (cc)
-changed_by stage records past clock (Retire server shard at result) f found waited b is here after by fault =
+    (changed stage records past clock k hop server verdict f found waited here after by broke)
+changed_by stage records past clock (Publish v) f found waited b is here after by broke = absurd (cc)
+changed_by stage records past clock (Switch m v) f found waited b is here after by broke = absurd (cc)
+changed_by stage records past clock (Steer k m) f found waited b is here after by broke = absurd (cc)
+changed_by stage records past clock (Lose k hop) f found waited b is here after by broke = absurd (cc)
+changed_by stage records past clock (Close server flow closed) f found waited b is here after by broke = absurd (cc)
+changed_by stage records past clock (Retire server shard at result) f found waited b is here after by broke =
     absurd (cc)
-changed_by stage records past clock Sync f found waited b is here after by fault = absurd (cc)
+changed_by stage records past clock Sync f found waited b is here after by broke = absurd (cc)
 
 no_arrival : (stage : Stage) (f : Flow) (clock : Moment) (what : What) (found : Option Cause)
     → as_break clock what found ≡ None → is_arrival_for stage f what ≡ false
@@ -211,39 +211,39 @@ arrival_is stage f clock (Retire server shard at result) found b is = absurd (cc
 arrival_is stage f clock Sync found b is = absurd (cc)
 
 -- an arrival of another flow changes nothing
-pub other_noted : (stage : Stage) (records : List Record) (past : List Event) (e : Event) (found : Option Cause)
+pub other_observed : (stage : Stage) (records : List Record) (past : List Event) (e : Event) (found : Option Cause)
     (b : Break) (s : Segment) (q : Flow)
     → as_break e.clock e.what found ≡ Some b → segment_of stage b.packet ≡ Some s → same_flow s.flow q ≡ false
     → connection stage records (e ∷ past) q ≡ connection stage records past q
-other_noted stage records past e found b s q is seg other =
+other_observed stage records past e found b s q is seg other =
     let packet : is_arrival_for stage q e.what ≡ false =
     arrival_is stage q e.clock e.what found b is ∙ ap (λ o. is_of o q) seg ∙ other
     in still stage records past e.clock e.what q packet
 
 -- one of the flow itself
-pub here_noted : (stage : Stage) (records : List Record) (past : List Event) (e : Event) (found : Option Cause)
+pub here_observed : (stage : Stage) (records : List Record) (past : List Event) (e : Event) (found : Option Cause)
     (waited : ℕ) (b : Break) (s : Segment)
     → as_break e.clock e.what found ≡ Some b → segment_of stage b.packet ≡ Some s
     → waited ≡ wait_of stage past e.clock.0 e.what
-    → found ≡ cause stage past e.clock.0 e.what → is_some found ≡ is_fault stage past e.what
-    → connection stage records (e ∷ past) s.flow ≡ noted b waited (connection stage records past s.flow)
-here_noted stage records past e found waited b s is seg after by fault =
+    → found ≡ cause stage past e.clock.0 e.what → is_some found ≡ is_break stage past e.what
+    → connection stage records (e ∷ past) s.flow ≡ observed b waited (connection stage records past s.flow)
+here_observed stage records past e found waited b s is seg after by broke =
     let packet : is_arrival_for stage s.flow e.what ≡ true =
     arrival_is stage s.flow e.clock e.what found b is ∙ ap (λ o. is_of o s.flow) seg ∙ same_flow_refl s.flow
-    in sym (changed_by stage records past e.clock e.what s.flow found waited b is packet after by fault)
+    in sym (changed_by stage records past e.clock e.what s.flow found waited b is packet after by broke)
 
 -- no arrival
-pub none_noted : (stage : Stage) (records : List Record) (past : List Event) (e : Event) (found : Option Cause)
+pub none_observed : (stage : Stage) (records : List Record) (past : List Event) (e : Event) (found : Option Cause)
     (q : Flow) → as_break e.clock e.what found ≡ None
     → connection stage records (e ∷ past) q ≡ connection stage records past q
-none_noted stage records past e found q is =
+none_observed stage records past e found q is =
     still stage records past e.clock e.what q (no_arrival stage q e.clock e.what found is)
 
 -- an arrival of no flow
-pub lost_noted : (stage : Stage) (records : List Record) (past : List Event) (e : Event) (found : Option Cause)
+pub lost_observed : (stage : Stage) (records : List Record) (past : List Event) (e : Event) (found : Option Cause)
     (b : Break) (q : Flow) → as_break e.clock e.what found ≡ Some b → segment_of stage b.packet ≡ None
     → connection stage records (e ∷ past) q ≡ connection stage records past q
-lost_noted stage records past e found b q is seg =
+lost_observed stage records past e found b q is seg =
     still stage records past e.clock e.what q
     (arrival_is stage q e.clock e.what found b is ∙ ap (λ o. is_of o q) seg)
 

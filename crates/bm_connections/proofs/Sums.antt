@@ -23,7 +23,7 @@ use Rattle.bm_trace.specs.Totals.{arrives, is_stray, strays}
 use Rattle.bm_connections.specs.declared.connection.Break.{Break}
 use Rattle.bm_connections.specs.declared.connection.Connection.{Connection}
 use Rattle.bm_connections.specs.Connections.{arrivals, as_break, breaks, connection_in, connections}
-use Rattle.bm_connections.specs.Connections.{first_break, first_of_two, is_arrival_for, one_more}
+use Rattle.bm_connections.specs.Connections.{breakage, first_of_two, is_arrival_for, one_more}
 use Rattle.bm_connections.specs.Connections.{strays_for}
 use Rattle.bm_connections.specs.Laws.{is_broken}
 use Rattle.bm_connections.specs.Seen.{flows_of, is_packet_of, is_seen, records_of, with_flow}
@@ -323,9 +323,9 @@ break_is stage f past e (Arrive k hop server verdict) is =
     ]
 
 pub broken_is : (stage : Stage) (f : Flow) (past : List Event)
-    → is_some (first_break stage f past) ≡ is_broken stage f past
+    → is_some (breakage stage f past) ≡ is_broken stage f past
 broken_is stage f [] = refl
 broken_is stage f (e ∷ past) =
-    some_first (first_break stage f past) _
-    ∙ ap (λ b. b || is_some (first_break stage f past)) (break_is stage f past e e.what refl)
+    some_first (breakage stage f past) _
+    ∙ ap (λ b. b || is_some (breakage stage f past)) (break_is stage f past e e.what refl)
     ∙ ap (λ b. breaks stage f past e.what || b) (broken_is stage f past)

@@ -17,19 +17,19 @@ use Rattle.bm_core.specs.declared.events.Stage.{Stage}
 use Rattle.bm_core.specs.Books.{is_listed}
 use Rattle.bm_core.specs.Causes.{cause}
 use Rattle.bm_core.specs.Past.{segment_of}
-use Rattle.bm_trace.specs.CauseOf.{is_fault}
+use Rattle.bm_trace.specs.CauseOf.{is_break}
 use Rattle.bm_connections.specs.declared.connection.Break.{Break}
 use Rattle.bm_connections.specs.declared.connection.Sight.{Sight}
 use Rattle.bm_connections.specs.declared.rows.Rows.{Rows}
 use Rattle.bm_connections.specs.declared.seen.Seen.{Seen}
 use Rattle.bm_connections.specs.Connections.{as_break, connection}
-use Rattle.bm_connections.specs.Inside.Rows.{AreRows, HasRoomAt, HasRoomForEach, IsSeen, changed_at, noted, packet_place, place_in}
+use Rattle.bm_connections.specs.Inside.Rows.{AreRows, HasRoomAt, HasRoomForEach, IsSeen, changed_at, observed, packet_place, place_in}
 use Rattle.bm_connections.specs.Inside.Rows.{places_of, seen, seen_again, seen_from, table}
 use Rattle.bm_connections.specs.Seen.{flows_of, is_packet_of, is_seen, records_of, sight}
 use Rattle.bm_connections.specs.Waits.{wait_of}
 use Rattle.bm_connections.proofs.Placed.{IsPlace, at_place, distinct, listed_is, map_apart, map_changed}
 use Rattle.bm_connections.proofs.Placed.{packet_placed, place_listed, place_push, place_within, room_of}
-use Rattle.bm_connections.proofs.Steps.{here_noted, lost_noted, none_noted, other_noted, room_in}
+use Rattle.bm_connections.proofs.Steps.{here_observed, lost_observed, none_observed, other_observed, room_in}
 use Rattle.bm_connections.proofs.Steps.{same_flow_refl}
 
 -- RECORDS
@@ -161,7 +161,7 @@ pub rows_still : (stage : Stage) (records : List Record) (past : List Event) (e 
 rows_still stage records past e found rows is k = record {
   places = k.places;
   connections = k.connections
-      ∙ map_same _ _ (flows_of records) (λ q. sym (none_noted stage records past e found q is));
+      ∙ map_same _ _ (flows_of records) (λ q. sym (none_observed stage records past e found q is));
 }
 
 -- an arrival of no connection
@@ -175,7 +175,7 @@ rows_lost stage past e found b rows is place k =
       places = k.places;
       connections = k.connections
           ∙ map_same _ _ (flows_of (records_of stage))
-          (λ q. sym (lost_noted stage (records_of stage) past e found b q is
+          (λ q. sym (lost_observed stage (records_of stage) past e found b q is
           (no_segment _ (subst (λ o. IsPlace (flows_of (records_of stage)) (segment_of stage b.packet) o) none
           (packet_placed stage b.packet)))));
     } where
@@ -184,34 +184,34 @@ rows_lost stage past e found b rows is place k =
       no_segment (Some s) k = absurd k
 
 -- an arrival of a packet of a connection
-pub rows_noted : (stage : Stage) (past : List Event) (e : Event) (found : Option Cause) (waited : ℕ) (b : Break)
+pub rows_observed : (stage : Stage) (past : List Event) (e : Event) (found : Option Cause) (waited : ℕ) (b : Break)
     (place : ℕ) (old new : Rows)
     → as_break e.clock e.what found ≡ Some b → packet_place old.places.items b.packet ≡ Some place
     → waited ≡ wait_of stage past e.clock.0 e.what
-    → found ≡ cause stage past e.clock.0 e.what → is_some found ≡ is_fault stage past e.what
+    → found ≡ cause stage past e.clock.0 e.what → is_some found ≡ is_break stage past e.what
     → new.places ≡ old.places
-    → new.connections.items ≡ changed_at (noted b waited) old.connections.items place
+    → new.connections.items ≡ changed_at (observed b waited) old.connections.items place
     → AreRows stage (records_of stage) past old → AreRows stage (records_of stage) (e ∷ past) new
-rows_noted stage past e found waited b place old new is at after by fault same changed k =
+rows_observed stage past e found waited b place old new is at after by broke same changed k =
     let there : packet_place (places_of (records_of stage)) b.packet ≡ Some place =
     ap (λ places. packet_place places b.packet) (sym k.places) ∙ at
     in record {
       places = ap (λ v. v.items) same ∙ k.places;
-      connections = changed ∙ ap (λ xs. changed_at (noted b waited) xs place) k.connections
+      connections = changed ∙ ap (λ xs. changed_at (observed b waited) xs place) k.connections
           ∙ by_segment (segment_of stage b.packet) refl
           (subst (λ o. IsPlace (flows_of (records_of stage)) (segment_of stage b.packet) o) there
           (packet_placed stage b.packet));
     } where
       by_segment : (o : Option Segment) → segment_of stage b.packet ≡ o
           → IsPlace (flows_of (records_of stage)) o (Some place)
-          → changed_at (noted b waited) (table stage (records_of stage) past) place
+          → changed_at (observed b waited) (table stage (records_of stage) past) place
           ≡ table stage (records_of stage) (e ∷ past)
       by_segment None seg k = absurd k
       by_segment (Some s) seg k =
           sym (map_changed (connection stage (records_of stage) past) (connection stage (records_of stage) (e ∷ past))
-          (noted b waited) (flows_of (records_of stage)) place s.flow (distinct (records_of stage)) k
-          (λ q other. other_noted stage (records_of stage) past e found b s q is seg other)
-          (here_noted stage (records_of stage) past e found waited b s is seg after by fault))
+          (observed b waited) (flows_of (records_of stage)) place s.flow (distinct (records_of stage)) k
+          (λ q other. other_observed stage (records_of stage) past e found b s q is seg other)
+          (here_observed stage (records_of stage) past e found waited b s is seg after by broke))
 
 -- the place of a packet is one of a connection
 place_there : (stage : Stage) (past : List Event) (k place : ℕ) (rows : Rows)

@@ -15,7 +15,7 @@ use Rattle.bm_core.specs.declared.events.What.{What}
 use Rattle.bm_core.specs.declared.events.What.TheVariants.{Arrive}
 use Rattle.bm_core.specs.Causes.{cause, is_process}
 use Rattle.bm_core.specs.Past.{accept_of, is_accept, is_forward, is_of, segment_of}
-use Rattle.bm_trace.specs.CauseOf.{is_fault}
+use Rattle.bm_trace.specs.CauseOf.{is_break}
 use Rattle.bm_trace.specs.Totals.{arrives, is_drop, is_reset, is_stray}
 use Rattle.bm_connections.specs.declared.connection.Break.{Break}
 use Rattle.bm_connections.specs.declared.connection.Connection.{Connection}
@@ -67,7 +67,7 @@ acceptor stage f past = option_map (λ a. a.server) (accept_of stage past f)
 -- a packet of the flow is dropped, reset or a stray after the flow was accepted
 abbrev pub breaks : Stage → Flow → List Event → What → Bool
 breaks stage f past what =
-    is_arrival_for stage f what && is_fault stage past what && is_some (acceptor stage f past)
+    is_arrival_for stage f what && is_break stage past what && is_some (acceptor stage f past)
 
 -- an arrival as a break: its packet, clock, server and verdict, with this cause
 abbrev pub as_break : Moment → What → Option Cause → Option Break
@@ -86,10 +86,10 @@ first_of_two None later = later
 first_of_two (Some b) later = Some b
 
 -- the first packet that broke the flow
-abbrev pub first_break : Stage → Flow → List Event → Option Break
-first_break stage f [] = None
-first_break stage f (e ∷ past) =
-    first_of_two (first_break stage f past)
+abbrev pub breakage : Stage → Flow → List Event → Option Break
+breakage stage f [] = None
+breakage stage f (e ∷ past) =
+    first_of_two (breakage stage f past)
     (if breaks stage f past e.what
     then as_break e.clock e.what (cause stage past e.clock.0 e.what)
     else None)
@@ -97,18 +97,18 @@ first_break stage f (e ∷ past) =
 -- WHAT REFUSED
 
 -- the first packet of the flow that was dropped, reset or a stray
-abbrev pub first_fault : Stage → Flow → List Event → Option Break
-first_fault stage f [] = None
-first_fault stage f (e ∷ past) =
-    first_of_two (first_fault stage f past)
-    (if is_arrival_for stage f e.what && is_fault stage past e.what
+abbrev pub first_break : Stage → Flow → List Event → Option Break
+first_break stage f [] = None
+first_break stage f (e ∷ past) =
+    first_of_two (first_break stage f past)
+    (if is_arrival_for stage f e.what && is_break stage past e.what
     then as_break e.clock e.what (cause stage past e.clock.0 e.what)
     else None)
 
 -- the same, if no server accepted the flow
 abbrev pub refusal : Stage → Flow → List Event → Option Break
 refusal stage f past =
-    if is_some (acceptor stage f past) then None else first_fault stage f past
+    if is_some (acceptor stage f past) then None else first_break stage f past
 
 -- WHAT WAS FORWARDED
 
@@ -143,7 +143,7 @@ connection stage records past f = record {
   server = acceptor stage f past;
   tally = tally stage f past;
   forwarded = last_forwarding stage f past;
-  broken = first_break stage f past;
+  broken = breakage stage f past;
   refused = refusal stage f past;
 }
 

@@ -55,15 +55,15 @@ forwarded_text clock (Some x) =
     spaced (codes "last-forward" ∷ []) ++ spaced (forwarding_words clock x)
 
 -- a packet that was dropped, reset or a stray, its verdict and its cause
-abbrev pub fault_words : Break → List ℕ
-fault_words b =
+abbrev pub break_words : Break → List ℕ
+break_words b =
     spaced (decimal b.packet ∷ []) ++ spaced (verdict_words b.verdict)
     ++ spaced (because_words b.cause)
 
 -- what broke the connection; else what refused it; else whether a server accepted it
 abbrev pub end_words : Option Break → Option Break → Option ServerId → List ℕ
-end_words (Some b) refused server = codes " broken" ++ fault_words b
-end_words None (Some b) server = codes " refused" ++ fault_words b
+end_words (Some b) refused server = codes " broken" ++ break_words b
+end_words None (Some b) server = codes " refused" ++ break_words b
 end_words None None None = codes " unaccepted"
 end_words None None (Some server) = codes " whole"
 

@@ -57,11 +57,11 @@ instant_text ns =
 
 -- a moment in nanoseconds since record 1, or since 1970 if it is known when record 1 was captured,
 -- up to 2 ^ 64 - 1 in the year 2554
-abbrev pub told : Option ℕ → ℕ → ℕ
-told None moment = moment
-told (Some began) moment = min (began + moment) (2 ^ 64 - 1)
+abbrev pub shown : Option ℕ → ℕ → ℕ
+shown None moment = moment
+shown (Some began) moment = min (began + moment) (2 ^ 64 - 1)
 
 -- a moment in seconds since record 1, or in UTC
 abbrev pub time_text : Option ℕ → ℕ → List ℕ
 time_text None moment = seconds_text moment
-time_text (Some began) moment = instant_text (told (Some began) moment)
+time_text (Some began) moment = instant_text (shown (Some began) moment)

@@ -10,7 +10,7 @@ ghost use Rattle.bm_trace.specs.Swept.{AreCauses};
 use crate::counts::CausePackets;
 use crate::held::HeldByShards;
 use crate::late::LateWaits;
-use crate::replies::note_reply;
+use crate::replies::observe_reply;
 use crate::servers::Loads;
 use bm_base::Memory;
 use bm_core::{Cause, Event, History, Stage};
@@ -44,7 +44,7 @@ impl Counters {
     }
 
     /// Records the event that comes next, after this many events, which has this cause.
-    fn note(
+    fn observe(
         &mut self,
         alloc: Global,
         stage: &Stage,
@@ -59,11 +59,11 @@ impl Counters {
             → HasCounted stage.now past self.old
             → OnOk result (HasCounted stage.now (event.now ∷ past) self.new) }
     {
-        self.packets.note(cause);
-        self.late.note(stage, event, cause)?;
-        self.loads.note(event)?;
-        self.held.note(alloc, stage, place, event)?;
-        note_reply(&mut self.replies, event)?;
+        self.packets.observe(cause);
+        self.late.observe(stage, event, cause)?;
+        self.loads.observe(event)?;
+        self.held.observe(alloc, stage, place, event)?;
+        observe_reply(&mut self.replies, event)?;
         Ok(())
     }
 
@@ -76,7 +76,7 @@ impl Counters {
         let events = h.events.items();
         let mut counters = Counters::new(alloc, &h.stage)?;
         for (place, event) in events.iter().enumerate() {
-            counters.note(alloc, &h.stage, place, event, causes.at(place))?;
+            counters.observe(alloc, &h.stage, place, event, causes.at(place))?;
         }
         Ok(counters)
     }

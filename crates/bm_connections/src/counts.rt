@@ -80,7 +80,7 @@ impl CausePackets {
     }
 
     /// Records an event with this cause.
-    pub(crate) fn note(&mut self, cause: Option<Cause>)
+    pub(crate) fn observe(&mut self, cause: Option<Cause>)
         requires { (c : Cause) → suc (kept.packets_in self.old c) < 2 ^ 64 }
         ensures { (c : Cause) → kept.packets_in self.new c
             ≡ one_more (spec.is_cause c cause) (kept.packets_in self.old c) }

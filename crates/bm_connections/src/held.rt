@@ -10,7 +10,7 @@ ghost use Rattle.bm_trace.specs.Ranges.{HasRanges};
 ghost use Rattle.bm_connections.specs.Counts.{most_among};
 ghost use Rattle.bm_connections.specs.Inside.Held as kept;
 
-use crate::noted::one_more;
+use crate::observed::one_more;
 use bm_base::{Flow, Segment, ServerId, Taken};
 use bm_core::{Event, Stage, Verdict, What};
 use bm_hash::shard_of;
@@ -213,7 +213,7 @@ impl ShardCounts {
 
     /// Records the event that comes next, where these servers hold flows before it.
     #[tactic(auto, using(crate::proofs::Holding::counts_still))]
-    fn note(&mut self, holders: &Holders, stage: &Stage, event: &Event) -> Result<(), AllocError>
+    fn observe(&mut self, holders: &Holders, stage: &Stage, event: &Event) -> Result<(), AllocError>
         requires ranges { HasRanges stage.now }
         requires room { kept.HaveRoom (kept.count self.old) }
         ensures { (past : List Event) → KeepsHolders stage.now past holders.now
@@ -246,7 +246,7 @@ impl HeldByShards {
     }
 
     /// Records the event that comes next, after this many events.
-    pub(crate) fn note(
+    pub(crate) fn observe(
         &mut self,
         alloc: Global,
         stage: &Stage,
@@ -259,8 +259,8 @@ impl HeldByShards {
             → kept.AreHeldByShards stage.now past self.old
             → OnOk result (kept.AreHeldByShards stage.now (event.now ∷ past) self.new) }
     {
-        self.counts.note(&self.holders, stage, event)?;
-        self.holders.note(alloc, stage, place, event.what)?;
+        self.counts.observe(&self.holders, stage, event)?;
+        self.holders.observe(alloc, stage, place, event.what)?;
         Ok(())
     }
 

@@ -84,7 +84,7 @@ impl LateWaits {
     }
 
     /// Records the event that comes next, which has this cause.
-    pub(crate) fn note(
+    pub(crate) fn observe(
         &mut self,
         stage: &Stage,
         event: &Event,
@@ -98,7 +98,7 @@ impl LateWaits {
             → OnOk result (KnowsLate stage.now (event.now ∷ past) self.new) }
     {
         self.longest = self.longest_after(stage, event, cause);
-        self.stamps.note(event.what)?;
+        self.stamps.observe(event.what)?;
         Ok(())
     }
 

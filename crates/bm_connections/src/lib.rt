@@ -7,7 +7,7 @@ mod counts;
 mod held;
 mod late;
 pub mod laws;
-mod noted;
+mod observed;
 mod replies;
 mod rows;
 mod seen;

@@ -13,7 +13,7 @@ fn is_reply(what: What) -> bool
 }
 
 /// Appends the event that comes next, if it is a reply.
-pub(crate) fn note_reply(replies: &mut Vec<Event>, event: &Event) -> Result<(), AllocError>
+pub(crate) fn observe_reply(replies: &mut Vec<Event>, event: &Event) -> Result<(), AllocError>
     ensures { (past : List Event) → replies.old.items ≡ spec.replies_in past
         → OnOk result (replies.new.items ≡ spec.replies_in (event.now ∷ past)) }
 {

@@ -9,7 +9,7 @@ ghost use Rattle.bm_connections.specs.Inside.Held.{AreHeldByShards};
 ghost use Rattle.bm_connections.specs.Inside.Loads as kept;
 
 use crate::held::HeldByShards;
-use crate::noted::{as_break, is_accept, is_process, one_more};
+use crate::observed::{as_break, is_accept, is_process, one_more};
 use crate::text::shown_rack;
 use bm_base::ServerId;
 use bm_core::{Event, Stage, Verdict};
@@ -75,7 +75,7 @@ impl Loads {
     }
 
     /// Records an arrival at the server.
-    fn note_arrival(&mut self, server: ServerId, verdict: Verdict) -> Result<(), AllocError>
+    fn observe_arrival(&mut self, server: ServerId, verdict: Verdict) -> Result<(), AllocError>
         requires { kept.CanCount (kept.count_or_none (kept.load self.old server) server) }
         ensures { OnOk result ((q : ServerId) → kept.load self.new q ≡ (if same_server server q
             then Some (kept.counted verdict (kept.count_or_none (kept.load self.old server) server))
@@ -91,7 +91,7 @@ impl Loads {
     }
 
     /// Records the event that comes next.
-    pub(crate) fn note(&mut self, event: &Event) -> Result<(), AllocError>
+    pub(crate) fn observe(&mut self, event: &Event) -> Result<(), AllocError>
         requires { kept.HaveRoom (kept.load self.old) }
         ensures { (past : List Event) → kept.AreLoads past (kept.load self.old)
             → OnOk result (kept.AreLoads (event.now ∷ past) (kept.load self.new)) }
@@ -99,7 +99,7 @@ impl Loads {
         match as_break(event, None) {
             None => Ok(()),
             Some(arrival) => {
-                self.note_arrival(arrival.server, arrival.verdict)?;
+                self.observe_arrival(arrival.server, arrival.verdict)?;
                 Ok(())
             }
         }

@@ -52,12 +52,12 @@ impl Stamps {
     }
 
     /// Records what happens next.
-    pub(crate) fn note(&mut self, what: What) -> Result<(), Memory>
+    pub(crate) fn observe(&mut self, what: What) -> Result<(), Memory>
         ensures { (stage : Stage) (past : List Event) (e : Event) → e.what ≡ what
             → KnowsStamps stage past self.old → OnOk result (KnowsStamps stage (e ∷ past) self.new) }
     {
-        self.labels.note(&self.versions, what);
-        self.versions.note(what)?;
+        self.labels.observe(&self.versions, what);
+        self.versions.observe(what)?;
         Ok(())
     }
 

@@ -5,7 +5,7 @@ ghost use Rattle.bm_trace.specs.Swept.{AreCauses};
 ghost use Rattle.bm_connections.specs.Connections as spec;
 
 use crate::connection::Connection;
-use crate::noted::note_events;
+use crate::observed::observe_events;
 use crate::seen::see_records;
 use bm_base::{List, Memory};
 use bm_core::History;
@@ -24,6 +24,6 @@ pub fn connections(
     ensures { IfOk result (λ list. list ≡ spec.connections h.now) }
 {
     let mut rows = see_records(alloc, h.stage.capture.records.items())?;
-    note_events(alloc, &mut rows, h, causes)?;
+    observe_events(alloc, &mut rows, h, causes)?;
     Ok(List::of(rows.into_connections()))
 }

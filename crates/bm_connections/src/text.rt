@@ -121,10 +121,10 @@ impl fmt::Display for ForwardedWords {
 
 /// A packet that was dropped, reset or a stray, each word after a space.
 #[derive(Clone, Copy)]
-struct FaultWords(Break);
+struct BreakWords(Break);
 
-impl fmt::Display for FaultWords {
-    ghost output = { λ b. Some (spec.fault_words b.0) };
+impl fmt::Display for BreakWords {
+    ghost output = { λ b. Some (spec.break_words b.0) };
 
     fn fmt<W: fmt::Write>(&self, f: &mut fmt::Formatter<W>) -> fmt::Result {
         let packet = self.0.packet;
@@ -147,8 +147,8 @@ impl fmt::Display for EndWords {
 
     fn fmt<W: fmt::Write>(&self, f: &mut fmt::Formatter<W>) -> fmt::Result {
         match (self.broken, self.refused, self.server) {
-            (Some(first), _, _) => write!(f, " broken{}", FaultWords(first)),
-            (None, Some(first), _) => write!(f, " refused{}", FaultWords(first)),
+            (Some(first), _, _) => write!(f, " broken{}", BreakWords(first)),
+            (None, Some(first), _) => write!(f, " refused{}", BreakWords(first)),
             (None, None, None) => write!(f, " unaccepted"),
             (None, None, Some(_)) => write!(f, " whole"),
         }

@@ -17,8 +17,8 @@ pub struct Clock(pub Option<u64>);
 impl Clock {
     /// A moment in nanoseconds since record 1, or since 1970-01-01T00:00:00Z. At most 2 ^ 64 - 1,
     /// in the year 2554.
-    pub fn told(self, moment: Moment) -> u64
-        ensures { result ≡ spec.told self.0 moment.0 }
+    pub fn shown(self, moment: Moment) -> u64
+        ensures { result ≡ spec.shown self.0 moment.0 }
     {
         match self.0 {
             None => moment.0,
@@ -68,7 +68,7 @@ impl fmt::Display for TimeText {
         let TimeText(clock, moment) = *self;
         match clock.0 {
             None => write!(f, "{}", SecondsText(moment.0)),
-            Some(_) => write!(f, "{}", InstantText(clock.told(moment))),
+            Some(_) => write!(f, "{}", InstantText(clock.shown(moment))),
         }
     }
 }

@@ -49,9 +49,9 @@ tally_fields t =
 
 -- the first packet that broke or refused the connection, its clock, its server, its verdict and its
 -- cause
-abbrev pub fault_fields : Option ℕ → Option Break → List (List ℕ)
-fault_fields clock None = [] ∷ [] ∷ [] ∷ [] ∷ [] ∷ []
-fault_fields clock (Some b) =
+abbrev pub break_fields : Option ℕ → Option Break → List (List ℕ)
+break_fields clock None = [] ∷ [] ∷ [] ∷ [] ∷ [] ∷ []
+break_fields clock (Some b) =
     decimal b.packet ∷ time_text clock b.clock.0 ∷ decimal b.server.0 ∷ verdict_field b.verdict
     ∷ cause_field b.cause ∷ []
 
@@ -87,9 +87,9 @@ abbrev pub connection_fields : Option ℕ → ℕ → Connection → List (List 
 connection_fields clock racks c =
     seen_fields clock c
     ++ tally_fields c.tally
-    ++ fault_fields clock c.broken
+    ++ break_fields clock c.broken
     ++ forwarded_fields clock c.forwarded
-    ++ fault_fields clock c.refused
+    ++ break_fields clock c.refused
     ++ rack_field (shown_rack racks c.server) ∷ []
 
 -- the record of these fields, as the kit's CSV writer writes it

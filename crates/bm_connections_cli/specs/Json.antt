@@ -12,7 +12,7 @@ use Rattle.bm_connections.specs.declared.connection.Forwarding.{Forwarding}
 use Rattle.bm_connections.specs.declared.connection.Sight.{Sight}
 use Rattle.bm_connections.specs.declared.connection.Tally.{Tally}
 use Rattle.bm_connections.specs.Text.{shown_rack}
-use Rattle.bm_connections.specs.Times.{told}
+use Rattle.bm_connections.specs.Times.{shown}
 use Rattle.bm_connections_cli.specs.Csv.{verdict_field}
 
 abbrev pub count : ℕ → Data
@@ -22,7 +22,7 @@ count n = number (unsigned n)
 abbrev pub sight_value : Option ℕ → Sight → Data
 sight_value clock s =
     object
-    (member (codes "at_ns") (count (told clock s.moment.0))
+    (member (codes "at_ns") (count (shown clock s.moment.0))
     (member (codes "packet") (count s.number)
     no_members))
 
@@ -42,11 +42,11 @@ cause_value None = null
 cause_value (Some cause) = string (cause_word cause)
 
 -- the first packet that broke or refused the connection, or null
-abbrev pub fault_value : Option ℕ → Option Break → Data
-fault_value clock None = null
-fault_value clock (Some b) =
+abbrev pub break_or_null : Option ℕ → Option Break → Data
+break_or_null clock None = null
+break_or_null clock (Some b) =
     object
-    (member (codes "at_ns") (count (told clock b.clock.0))
+    (member (codes "at_ns") (count (shown clock b.clock.0))
     (member (codes "cause") (cause_value b.cause)
     (member (codes "packet") (count b.packet)
     (member (codes "server") (count b.server.0)
@@ -58,7 +58,7 @@ abbrev pub forward_value : Option ℕ → Option Forwarding → Data
 forward_value clock None = null
 forward_value clock (Some x) =
     object
-    (member (codes "at_ns") (count (told clock x.clock.0))
+    (member (codes "at_ns") (count (shown clock x.clock.0))
     (member (codes "packet") (count x.packet)
     (member (codes "server") (count x.server.0)
     (member (codes "wait_ns") (count x.wait)
@@ -79,13 +79,13 @@ abbrev pub connection_value : Option ℕ → ℕ → Connection → Data
 connection_value clock racks c =
     object
     (member (codes "arrivals") (tally_value c.tally)
-    (member (codes "broken") (fault_value clock c.broken)
+    (member (codes "broken") (break_or_null clock c.broken)
     (member (codes "client") (string (endpoint c.flow.src c.flow.sport))
     (member (codes "forward") (forward_value clock c.forwarded)
     (member (codes "last") (sight_value clock c.last)
     (member (codes "opened") (sight_value clock c.first)
     (member (codes "rack") (rack_value (shown_rack racks c.server))
-    (member (codes "refused") (fault_value clock c.refused)
+    (member (codes "refused") (break_or_null clock c.refused)
     (member (codes "server") (server_value c.server)
     (member (codes "service") (string (endpoint c.flow.dst c.flow.dport))
     no_members))))))))))

@@ -160,10 +160,10 @@ impl Fields {
     }
 
     /// Appends the first packet that broke or refused a connection, or nothing.
-    fn fault(self, clock: Clock, fault: Option<Break>) -> Result<Fields, AllocError>
-        ensures { IfOk result (λ fields. fields ≡ self ++ spec.fault_fields clock.0 fault) }
+    fn first_break(self, clock: Clock, found: Option<Break>) -> Result<Fields, AllocError>
+        ensures { IfOk result (λ fields. fields ≡ self ++ spec.break_fields clock.0 found) }
     {
-        match fault {
+        match found {
             None => self.text("")?.text("")?.text("")?.text("")?.text(""),
             Some(first) => self
                 .arrival(first.packet, TimeText(clock, first.clock), first.server)?
@@ -216,9 +216,9 @@ fn connection_fields(
 {
     seen_fields(alloc, clock, c)?
         .tally(c.tally)?
-        .fault(clock, c.broken)?
+        .first_break(clock, c.broken)?
         .forwarded(clock, c.forwarded)?
-        .fault(clock, c.refused)?
+        .first_break(clock, c.refused)?
         .rack(shown_rack(racks, c.server))
 }
 

@@ -15,7 +15,7 @@ use std::alloc::{AllocError, Global};
 fn sight_value(alloc: Global, clock: Clock, sight: Sight) -> Result<Value, AllocError>
     ensures { IfOk result (λ value. view value ≡ spec.sight_value clock.0 sight) }
 {
-    json!(in alloc; {"packet": u64::from(sight.number), "at_ns": clock.told(sight.moment)})
+    json!(in alloc; {"packet": u64::from(sight.number), "at_ns": clock.shown(sight.moment)})
 }
 
 /// A server's number, or null.
@@ -49,21 +49,21 @@ fn cause_value(alloc: Global, cause: Option<Cause>) -> Result<Value, AllocError>
 }
 
 /// The first packet that broke or refused a connection, or null.
-fn fault_value(alloc: Global, clock: Clock, fault: Option<Break>) -> Result<Value, AllocError>
-    ensures { IfOk result (λ value. view value ≡ spec.fault_value clock.0 fault) }
+fn break_or_null(alloc: Global, clock: Clock, found: Option<Break>) -> Result<Value, AllocError>
+    ensures { IfOk result (λ value. view value ≡ spec.break_or_null clock.0 found) }
 {
-    match fault {
+    match found {
         None => Ok(Value::Null),
         Some(first) => break_value(alloc, clock, first),
     }
 }
 
 fn break_value(alloc: Global, clock: Clock, first: Break) -> Result<Value, AllocError>
-    ensures { IfOk result (λ value. view value ≡ spec.fault_value clock.0 (Some first)) }
+    ensures { IfOk result (λ value. view value ≡ spec.break_or_null clock.0 (Some first)) }
 {
     json!(in alloc; {
         "packet": u64::from(first.packet),
-        "at_ns": clock.told(first.clock),
+        "at_ns": clock.shown(first.clock),
         "server": u64::from(first.server.0),
         "verdict": verdict_field(first.verdict),
         "cause": cause_value(alloc, first.cause)?
@@ -89,7 +89,7 @@ fn forwarding_value(alloc: Global, clock: Clock, last: Forwarding) -> Result<Val
 {
     json!(in alloc; {
         "packet": u64::from(last.packet),
-        "at_ns": clock.told(last.clock),
+        "at_ns": clock.shown(last.clock),
         "server": u64::from(last.server.0),
         "wait_ns": last.wait
     })
@@ -132,9 +132,9 @@ fn connection_value(
         "server": server_value(c.server),
         "rack": rack_value(shown_rack(racks, c.server)),
         "arrivals": tally_value(alloc, c.tally)?,
-        "broken": fault_value(alloc, clock, c.broken)?,
+        "broken": break_or_null(alloc, clock, c.broken)?,
         "forward": forward_value(alloc, clock, c.forwarded)?,
-        "refused": fault_value(alloc, clock, c.refused)?
+        "refused": break_or_null(alloc, clock, c.refused)?
     })
 }
 

@@ -12,11 +12,11 @@ use Rattle.std.specs.Option.{IfSome}
 use Rattle.bm_base.specs.declared.ids.ServerId.{ServerId}
 use Rattle.bm_controller.proofs.MemberFacts.{among-members, members_weigh, RiseFrom-members}
 use Rattle.bm_controller.proofs.MemberPlans.{owned-none, owners_after-range, some_to, Serves-range}
-use Rattle.bm_controller.proofs.Noted.{noted-is}
+use Rattle.bm_controller.proofs.SetTargets.{with_targets-is}
 use Rattle.bm_controller.specs.Controlled.{in_rack, servers_of, weight_of}
 use Rattle.bm_controller.specs.declared.members.Member.{Member}
 use Rattle.bm_controller.specs.Inside.Kinds.{HasRack, HasWeight}
-use Rattle.bm_controller.specs.Inside.Targets.{noted}
+use Rattle.bm_controller.specs.Inside.Targets.{with_targets}
 use Rattle.bm_controller.specs.Racks.{rack_part, EachRackHasMember, OwnQuotas}
 use Rattle.bm_quota.proofs.Claims.{some_weighs}
 use Rattle.bm_quota.proofs.ListedLemmas.{ascend, by_parts, none-below, Ascend, AreSizes}
@@ -148,10 +148,10 @@ target-all owner buckets n members rack some all b =
 
 pub target-more : (owner : ℕ → ServerId) (buckets n : ℕ) (members : List Member) (rack : ℕ) → rack < n
     → (to : ℕ → Option ServerId) → ((b : ℕ) → to b ≡ target_below owner buckets n members rack b) → (b : ℕ)
-    → noted n rack (rebalancing_of (rack_part owner buckets n members rack)) to b
+    → with_targets n rack (rebalancing_of (rack_part owner buckets n members rack)) to b
     ≡ target_below owner buckets n members (rack + 1) b
 target-more owner buckets n members rack below to are b =
-    noted-is n rack below (rebalancing_of (rack_part owner buckets n members rack))
+    with_targets-is n rack below (rebalancing_of (rack_part owner buckets n members rack))
     (ascend (part_size buckets n rack) 0 (rebalancing_of (rack_part owner buckets n members rack))
     (rise-rack owner buckets n members rack)) to none b
     ∙ elim (cases_eq (b % n) rack) [

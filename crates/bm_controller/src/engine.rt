@@ -305,13 +305,13 @@ impl Engine {
         let change = change_to(&self.plan, self.racks, at, kind, members.as_slice())?;
         self.plan.push(change)?;
         self.members = members;
-        note_kind(self.known.as_mut_slice(), kind);
+        make_known(self.known.as_mut_slice(), kind);
         Ok(())
     }
 }
 
 /// A server that is added becomes known.
-fn note_kind(known: &mut [bool], kind: Kind)
+fn make_known(known: &mut [bool], kind: Kind)
     requires { length known.old ≡ NUMBERS }
     ensures { known.new ≡ known_after kind known.old }
 {

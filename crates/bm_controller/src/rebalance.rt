@@ -4,7 +4,7 @@ ghost use Rattle.std.specs.Prelude.{slice_index, slice_index_or, vec_len};
 ghost use Rattle.bm_base.specs.declared.ids.ServerId.{ServerId};
 ghost use Rattle.bm_controller.specs.Controlled as controlled;
 ghost use Rattle.bm_controller.specs.Inside.Kinds.{HasWeight};
-ghost use Rattle.bm_controller.specs.Inside.Targets.{noted, target_in};
+ghost use Rattle.bm_controller.specs.Inside.Targets.{with_targets, target_in};
 ghost use Rattle.bm_controller.specs.Racks.{rack_part, EachRackHasMember};
 ghost use Rattle.bm_quota.specs.Parts as parts;
 ghost use Rattle.bm_table.specs.Settings.{RiseFrom};
@@ -50,7 +50,7 @@ pub(crate) fn moves_by_racks(
     listed(alloc, targets.as_slice())
 }
 
-/// Records for each bucket where the moves of its rack bring it.
+/// Finds for each bucket where the moves of its rack bring it.
 fn find_targets(
     alloc: Global,
     rooms: &mut [u32],
@@ -75,7 +75,7 @@ fn find_targets(
 {
     for rack in 0..racks {
         let moves = moves_of_rack(alloc, rooms, owners, racks, rack, members)?;
-        note(targets, racks, rack, moves.as_slice());
+        set_targets(targets, racks, rack, moves.as_slice());
     }
     Ok(())
 }
@@ -136,12 +136,12 @@ fn owners_of_rack(
     Ok(owned)
 }
 
-/// Records where the moves of a rack bring its buckets.
-fn note(targets: &mut [Option<ServerId>], racks: u16, rack: u16, moves: &[Move])
+/// Sets the targets of the buckets that the moves of a rack bring somewhere.
+fn set_targets(targets: &mut [Option<ServerId>], racks: u16, rack: u16, moves: &[Move])
     requires places { All (λ m. m.bucket * racks + rack < length targets.old) moves.now }
     ensures count { length targets.new ≡ length targets.old }
-    ensures noted { (b : ℕ)
-        → target_in targets.new b ≡ noted racks rack moves.now (target_in targets.old) b }
+    ensures moved { (b : ℕ)
+        → target_in targets.new b ≡ with_targets racks rack moves.now (target_in targets.old) b }
 {
     for m in moves {
         targets[m.bucket as usize * racks as usize + rack as usize] = Some(m.to);

@@ -27,11 +27,11 @@ use Rattle.bm_core.specs.declared.events.History.{History}
 use Rattle.bm_base.specs.Segments.{is_opening}
 use Rattle.bm_core.specs.Past.{timeout, sends, is_sent, is_forward, newest, segment_of, label_of, Accepted, owner}
 use Rattle.bm_core.specs.Verdicts.{onward, local_at, verdict_of, verdict_at}
-use Rattle.bm_core.specs.Causes.{first_broken, is_process, is_fault, is_refusal, opening_cause, cause}
+use Rattle.bm_core.specs.Causes.{first_broken, is_process, is_break, is_refusal, opening_cause, cause}
 use Rattle.bm_core.specs.Stages.{IsSound}
 use Rattle.bm_core.specs.Runs.{last_clock, IsArrival, MayCome, Run, IsRun, event_at, past_at}
 use Rattle.bm_core.specs.Laws.{IsUnbrokenPacket, IsServedPacket, IsUnbrokenArrival, IsServed, IsRetiredDrop}
-use Rattle.bm_core.specs.Laws.{IsLate, IsStampLate, IsAway, IsForwardedTo, IsFault, At}
+use Rattle.bm_core.specs.Laws.{IsLate, IsStampLate, IsAway, IsForwardedTo, IsBreak, At}
 use Rattle.bm_core.proofs.Owned.{IsServedBy, safe, late, outdated, home_is, has_onward, false_from_not}
 use Rattle.bm_core.proofs.Pasts.{arrival_sends, hop_before, owner_is, sent_before, steer_sends}
 
@@ -222,19 +222,19 @@ opening_caused stage sound past clock k Direct server verdict run later may open
       | inr full ↦ rw full refl
     ]
 
-process_no_fault : (a : Accepted) (verdict : Verdict) → is_process verdict ≡ true
-    → is_fault verdict (Some a) a.server ≡ false
-process_no_fault a verdict p = grind (arith, nat_tests)
+process_no_break : (a : Accepted) (verdict : Verdict) → is_process verdict ≡ true
+    → is_break verdict (Some a) a.server ≡ false
+process_no_break a verdict p = grind (arith, nat_tests)
 
-forward_no_fault : (a : Accepted) (server : ServerId) (verdict : Verdict) (onto : Option Past)
-    → IsSomeAnd onto (λ p. verdict ≡ Forward p.server) → is_fault verdict (Some a) server ≡ false
-forward_no_fault a server verdict None goes = absurd goes
-forward_no_fault a server verdict (Some p) goes = rw goes refl
+forward_no_break : (a : Accepted) (server : ServerId) (verdict : Verdict) (onto : Option Past)
+    → IsSomeAnd onto (λ p. verdict ≡ Forward p.server) → is_break verdict (Some a) server ≡ false
+forward_no_break a server verdict None goes = absurd goes
+forward_no_break a server verdict (Some p) goes = rw goes refl
 
-served_no_fault : (a : Accepted) (entry : Entry) (hop : Hop) (server : ServerId) (verdict : Verdict)
-    → IsServedBy a entry hop server verdict → is_fault verdict (Some a) server ≡ false
-served_no_fault a entry hop server verdict (inl here) = rw here.1 (process_no_fault a verdict here.0)
-served_no_fault a entry hop server verdict (inr goes) = forward_no_fault a server verdict (onward entry hop) goes.1.0
+served_no_break : (a : Accepted) (entry : Entry) (hop : Hop) (server : ServerId) (verdict : Verdict)
+    → IsServedBy a entry hop server verdict → is_break verdict (Some a) server ≡ false
+served_no_break a entry hop server verdict (inl here) = rw here.1 (process_no_break a verdict here.0)
+served_no_break a entry hop server verdict (inr goes) = forward_no_break a server verdict (onward entry hop) goes.1.0
 
 some_or_none : (o : Option Cause) → (o ≡ None → ⊥) → is_some o ≡ true
 some_or_none None no_way = absurd (no_way refl)
@@ -244,33 +244,33 @@ plain_caused : (stage : Stage) → IsSound stage
     → (past : List Event) (clock k : ℕ) (hop : Hop) (server : ServerId) (verdict : Verdict) → Run stage past
     → last_clock past ≤ clock
     → (may : IsArrival stage past clock k hop server verdict) → is_opening may.segment ≡ false → (o : Option Accepted)
-    → owner stage past k ≡ o → is_fault verdict o server ≡ true
+    → owner stage past k ≡ o → is_break verdict o server ≡ true
     → is_some (first_broken stage past clock may.label hop may.segment.flow server o) ≡ true
-plain_caused stage sound past clock k hop server verdict run later may plain None own fault = refl
-plain_caused stage sound past clock k hop server verdict run later may plain (Some a) own fault =
+plain_caused stage sound past clock k hop server verdict run later may plain None own broke = refl
+plain_caused stage sound past clock k hop server verdict run later may plain (Some a) own broke =
     some_or_none (first_broken stage past clock may.label hop may.segment.flow server (Some a)) (λ unbroken.
     both_ways _
-    (served_no_fault a may.label.entry hop server verdict
-    (safe stage sound past run clock k server later a hop verdict may plain own unbroken)) fault)
+    (served_no_break a may.label.entry hop server verdict
+    (safe stage sound past run clock k server later a hop verdict may plain own unbroken)) broke)
 
 cause_step : (stage : Stage) → IsSound stage → (past : List Event) (clock : ℕ) (what : What) → Run stage past
-    → last_clock past ≤ clock → MayCome stage past clock what → IsFault stage past what
+    → last_clock past ≤ clock → MayCome stage past clock what → IsBreak stage past what
     → is_some (cause stage past clock what) ≡ true
-cause_step stage sound past clock (Arrive k hop server verdict) run later may fault =
+cause_step stage sound past clock (Arrive k hop server verdict) run later may broke =
     rw (may.is_segment, may.is_label) (elim (cases_Bool (is_opening may.segment)) [
       | inl opens ↦ rw opens
           (opening_caused stage sound past clock k hop server verdict run later may opens
-          (rw (may.is_segment, opens) at fault))
+          (rw (may.is_segment, opens) at broke))
       | inr plain ↦
-          let fault' : is_fault verdict (owner stage past k) server ≡ true = rw (may.is_segment, plain) at fault
-          in rw (plain, fault')
+          let broke' : is_break verdict (owner stage past k) server ≡ true = rw (may.is_segment, plain) at broke
+          in rw (plain, broke')
           (plain_caused stage sound past clock k hop server verdict run later may plain (owner stage past k) refl
-          fault')
+          broke')
     ])
-cause_step stage sound past clock _ run later may fault = absurd fault
+cause_step stage sound past clock _ run later may broke = absurd broke
 
-pub cause_law : (h : History) (place : ℕ) → IsRun h → At h place (λ stage past clock what. IsFault stage past what)
+pub cause_law : (h : History) (place : ℕ) → IsRun h → At h place (λ stage past clock what. IsBreak stage past what)
     → At h place (λ stage past clock what. is_some (cause stage past clock what) ≡ true)
 cause_law =
-    law (λ stage past clock what. IsFault stage past what)
+    law (λ stage past clock what. IsBreak stage past what)
     (λ stage past clock what. is_some (cause stage past clock what) ≡ true) cause_step

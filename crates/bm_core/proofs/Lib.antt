@@ -29,4 +29,4 @@ pub mod WorkedThreads
 pub mod Weighing
 pub mod Pacing
 pub mod Existing
-pub mod Faulty
+pub mod Breaking

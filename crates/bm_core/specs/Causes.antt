@@ -78,10 +78,10 @@ is_refusal (Drop why) = true
 is_refusal _ = false
 
 -- the packet, which isn't opening, is reset or dropped, or it is a stray: processed without an
--- owner, or by a server other than its owner's. (A fault here is no error, and no impairment.)
-abbrev pub is_fault : Verdict → Option Accepted → ServerId → Bool
-is_fault (Process t) a s = not (option_map_or (λ owner. same_server s owner.server) a false)
-is_fault verdict a s = is_refusal verdict
+-- owner, or by a server other than its owner's
+abbrev pub is_break : Verdict → Option Accepted → ServerId → Bool
+is_break (Process t) a s = not (option_map_or (λ owner. same_server s owner.server) a false)
+is_break verdict a s = is_refusal verdict
 
 -- why an opening packet is dropped: the shard is full, or its mux had an old table
 abbrev pub opening_cause : Verdict → ℕ → ℕ → Option Cause
@@ -94,14 +94,14 @@ abbrev pub cause_at : Stage → List Event → ℕ → Hop → ServerId → Verd
     → Option Segment → Option Label → Option Cause
 cause_at stage past clock hop server verdict a (Some s) (Some label) =
     if is_opening s then opening_cause verdict label.version.0 (newest past)
-    else if is_fault verdict a server then first_broken stage past clock label hop s.flow server a
+    else if is_break verdict a server then first_broken stage past clock label hop s.flow server a
     else None
 cause_at stage past clock hop server verdict a _ _ = None
 
--- the packet's line names a cause: an opening packet is reset or dropped; for others see `is_fault`
+-- the packet's line names a cause: an opening packet is reset or dropped; for others see `is_break`
 abbrev pub wants_cause : Verdict → Option Accepted → ServerId → Option Segment → Bool
 wants_cause verdict a server None = false
-wants_cause v a server (Some s) = if is_opening s then is_refusal v else is_fault v a server
+wants_cause v a server (Some s) = if is_opening s then is_refusal v else is_break v a server
 
 -- why the packet that arrives is dropped, reset or processed elsewhere
 abbrev pub cause : Stage → List Event → ℕ → What → Option Cause

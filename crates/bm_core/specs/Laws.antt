@@ -47,10 +47,10 @@ IsServed stage past (Arrive k hop server verdict) = IsSomeAnd (owner stage past 
 IsServed stage past _ = ⊥
 
 -- an arrival whose line names a cause: a drop, a reset or a stray
-abbrev pub IsFault : Stage → List Event → What → Type 0
-IsFault stage past (Arrive k hop server verdict) =
+abbrev pub IsBreak : Stage → List Event → What → Type 0
+IsBreak stage past (Arrive k hop server verdict) =
     wants_cause verdict (owner stage past k) server (segment_of stage k) ≡ true
-IsFault stage past _ = ⊥
+IsBreak stage past _ = ⊥
 
 -- the server is not the owner's, the label's version is no older than the owner's, and the changes
 -- between them moved the bucket at most twice, and at least as often as a copy of this hop went

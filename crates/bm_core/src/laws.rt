@@ -13,7 +13,7 @@ ghost use Rattle.bm_core.specs.declared.events.What.{What};
 ghost use Rattle.bm_core.specs.Books.{AreDistinct, book_local, book_of, is_listed};
 ghost use Rattle.bm_core.specs.Causes.{cause, is_elsewhere};
 ghost use Rattle.bm_core.specs.Histories.{IsNextIn, IsReplay};
-ghost use Rattle.bm_core.specs.Laws.{At, IsFault, IsLate, IsRetiredDrop, IsServed, IsServedPacket};
+ghost use Rattle.bm_core.specs.Laws.{At, IsBreak, IsLate, IsRetiredDrop, IsServed, IsServedPacket};
 ghost use Rattle.bm_core.specs.Laws.{IsHeldElsewhere, IsUnbrokenArrival, IsUnbrokenPacket};
 ghost use Rattle.bm_core.specs.Logs.{log_of};
 ghost use Rattle.bm_core.specs.Past.{flows_held, held, label_of, shard, version_at};
@@ -48,15 +48,15 @@ pub fn served(h: &History, packet: u32)
 /// Each packet that is dropped, reset or processed elsewhere has a cause.
 pub fn causes(h: &History, place: usize)
     requires run { IsRun h.now }
-    requires fault { At h.now place (λ stage past clock what. IsFault stage past what) }
+    requires broke { At h.now place (λ stage past clock what. IsBreak stage past what) }
     ensures { At h.now place
         (λ stage past clock what. is_some (cause stage past clock what) ≡ true) }
 {}
 
 /// Only a packet that is dropped, reset or processed elsewhere has a cause.
-pub fn only_faults(stage: &Stage)
+pub fn only_breaks(stage: &Stage)
     ensures { (past : List Event) (clock : ℕ) (what : What)
-        → is_some (cause stage.now past clock what) ≡ true → IsFault stage.now past what }
+        → is_some (cause stage.now past clock what) ≡ true → IsBreak stage.now past what }
 {}
 
 /// The premise `SynElsewhere` is broken by exactly this: a server other than the owner's holds the

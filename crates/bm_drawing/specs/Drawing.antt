@@ -44,16 +44,16 @@ abbrev pub servers_in : List Connection → List ℕ
 servers_in table = fold (λ servers (c : Connection). with_server servers c.server) [] table
 
 -- the packet that broke a connection, or else the one that was refused
-abbrev pub fault_of : Connection → Option Break
-fault_of c = first_of_two c.broken c.refused
+abbrev pub break_of : Connection → Option Break
+break_of c = first_of_two c.broken c.refused
 
-abbrev pub fault_moment : Option Break → ℕ
-fault_moment None = 0
-fault_moment (Some b) = b.clock.0
+abbrev pub break_moment : Option Break → ℕ
+break_moment None = 0
+break_moment (Some b) = b.clock.0
 
 -- the last moment of a connection that is drawn
 abbrev pub last_moment : Connection → ℕ
-last_moment c = max (max c.first.moment.0 c.last.moment.0) (fault_moment (fault_of c))
+last_moment c = max (max c.first.moment.0 c.last.moment.0) (break_moment (break_of c))
 
 -- the last moment of all that is drawn
 abbrev pub span_of : List Published → List Connection → ℕ
@@ -223,17 +223,17 @@ title racks c =
     ++ codes "</title>"
 
 -- the mark of what broke the connection, or of what refused it, at its clock
-unfoldable pub fault_mark : Plot → ℕ → Option Break → Option Break → List ℕ
-fault_mark p y (Some b) refused = mark true (x p.span b.clock.0) y
-fault_mark p y None (Some b) = mark false (x p.span b.clock.0) y
-fault_mark p y None None = []
+unfoldable pub break_mark : Plot → ℕ → Option Break → Option Break → List ℕ
+break_mark p y (Some b) refused = mark true (x p.span b.clock.0) y
+break_mark p y None (Some b) = mark false (x p.span b.clock.0) y
+break_mark p y None None = []
 
 -- a line from the first to the last packet
 abbrev pub connection_at : Plot → ℕ → Connection → List ℕ
 connection_at p y c =
     group (colour_of c.server) ++ title p.racks c
     ++ line (x p.span c.first.moment.0) y (x p.span c.last.moment.0) y
-    ++ fault_mark p y c.broken c.refused ++ group_end ++ newline
+    ++ break_mark p y c.broken c.refused ++ group_end ++ newline
 
 -- at its place in the table
 abbrev pub connection : Plot → ℕ → Connection → List ℕ

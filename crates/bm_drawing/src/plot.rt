@@ -51,7 +51,7 @@ impl Plot {
 }
 
 /// Adds the number of another server.
-fn note_server(servers: &mut BTreeSet<u16>, server: Option<ServerId>) -> Result<(), AllocError>
+fn insert_server(servers: &mut BTreeSet<u16>, server: Option<ServerId>) -> Result<(), AllocError>
     ensures { OnOk result (servers.new.keys ≡ spec.with_server servers.old.keys server) }
 {
     if let Some(server) = server {
@@ -67,14 +67,14 @@ pub(crate) fn servers_in(alloc: Global, table: &[Connection]) -> Result<Vec<u16>
 {
     let mut servers = BTreeSet::new(alloc);
     for connection in table {
-        note_server(&mut servers, connection.server)?;
+        insert_server(&mut servers, connection.server)?;
     }
     servers.into_iter().collect(alloc)
 }
 
 /// The packet that broke a connection, or else the one that was refused.
-fn fault_of(c: &Connection) -> Option<Break>
-    ensures { result ≡ spec.fault_of c.now }
+fn break_of(c: &Connection) -> Option<Break>
+    ensures { result ≡ spec.break_of c.now }
 {
     match c.broken {
         Some(broken) => Some(broken),
@@ -87,9 +87,9 @@ fn last_moment(c: &Connection) -> u64
     ensures { result ≡ spec.last_moment c.now }
 {
     let seen = c.first.moment.0.max(c.last.moment.0);
-    match fault_of(c) {
+    match break_of(c) {
         None => seen,
-        Some(fault) => seen.max(fault.clock.0),
+        Some(first) => seen.max(first.clock.0),
     }
 }
 

@@ -13,25 +13,25 @@ use std::fmt;
 
 /// The mark of what broke or refused a connection, or nothing.
 #[derive(Clone, Copy)]
-struct FaultMark {
+struct BreakMark {
     plot: Plot,
     y: u128,
     broken: Option<Break>,
     refused: Option<Break>,
 }
 
-#[tactic(auto, unfolding(crate::specs::Drawing::fault_mark))]
-impl fmt::Display for FaultMark {
-    ghost output = { λ m. Some (spec.fault_mark m.plot m.y m.broken m.refused) };
+#[tactic(auto, unfolding(crate::specs::Drawing::break_mark))]
+impl fmt::Display for BreakMark {
+    ghost output = { λ m. Some (spec.break_mark m.plot m.y m.broken m.refused) };
 
     fn fmt<W: fmt::Write>(&self, f: &mut fmt::Formatter<W>) -> fmt::Result {
         let y = self.y;
-        let (broken, fault) = match (self.broken, self.refused) {
-            (Some(fault), _) => (true, fault),
-            (None, Some(fault)) => (false, fault),
+        let (broken, first) = match (self.broken, self.refused) {
+            (Some(first), _) => (true, first),
+            (None, Some(first)) => (false, first),
             (None, None) => return Ok(()),
         };
-        let x = x_of(self.plot.span, fault.clock.0);
+        let x = x_of(self.plot.span, first.clock.0);
         write!(f, "{}", Mark { broken, x, y })
     }
 }
@@ -80,7 +80,7 @@ fn write_connection(
         x2: x_of(plot.span, c.last.moment.0),
         y2: y,
     };
-    let mark = FaultMark {
+    let mark = BreakMark {
         plot,
         y,
         broken: c.broken,

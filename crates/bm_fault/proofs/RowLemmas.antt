@@ -112,16 +112,16 @@ row_says row k hop same = grind (arith, nat_tests, same)
 row_silent : (row : FaultRow) (k : ℕ) (hop : Hop) → same_hop row.hop hop ≡ false → row_fate row k hop ≡ None
 row_silent row k hop apart = grind (arith, nat_tests, apart)
 
--- a row that was recorded
-abbrev pub Notes : BTreeMap ℕ Fate → BTreeMap ℕ Fate → FaultRow → Type 0
-Notes old new row =
+-- the fate of a row was added to those of its hop
+abbrev pub AddsFate : BTreeMap ℕ Fate → BTreeMap ℕ Fate → FaultRow → Type 0
+AddsFate old new row =
     (k : ℕ) → get nat_cmp new k ≡ fate_or (get nat_cmp old k) (if row.packet == k then Some row.fate else None)
 
--- a row was recorded: it says what nothing said before
+-- a row was added: it says what nothing said before
 abbrev pub Adds : List FaultRow → List FaultRow → FaultRow → Type 0
 Adds old new row = (k : ℕ) (hop : Hop) → found_in new k hop ≡ fate_or (found_in old k hop) (row_fate row k hop)
 
--- a row was recorded among the fates of its hop, and those of the others stayed
+-- a row was added among the fates of its hop, and those of the others stayed
 abbrev pub AddsTo : Inside → Inside → FaultRow → Type 0
 AddsTo old new row =
     (hop : Hop) (k : ℕ)
@@ -130,43 +130,43 @@ AddsTo old new row =
     then fate_or (get nat_cmp (fates_of old hop) k) (if row.packet == k then Some row.fate else None)
     else get nat_cmp (fates_of old hop) k)
 
-one_noted : (row : FaultRow) (k : ℕ) (hop : Hop) (o : Option Fate) (b : Bool) → same_hop row.hop hop ≡ b
+one_added : (row : FaultRow) (k : ℕ) (hop : Hop) (o : Option Fate) (b : Bool) → same_hop row.hop hop ≡ b
     → (if b then fate_or o (if row.packet == k then Some row.fate else None) else o) ≡ fate_or o (row_fate row k hop)
-one_noted row k hop o true is = ap (λ f. fate_or o f) (sym (row_says row k hop is))
-one_noted row k hop o false is = sym (or_none o) ∙ ap (λ f. fate_or o f) (sym (row_silent row k hop is))
+one_added row k hop o true is = ap (λ f. fate_or o f) (sym (row_says row k hop is))
+one_added row k hop o false is = sym (or_none o) ∙ ap (λ f. fate_or o f) (sym (row_silent row k hop is))
 
-pub noted : (old new : Inside) (rows : List FaultRow) (row : FaultRow) → rows_of old ≡ rows → AddsTo old new row
+pub row_added : (old new : Inside) (rows : List FaultRow) (row : FaultRow) → rows_of old ≡ rows → AddsTo old new row
     → Adds rows (rows_of new) row
-noted old new rows row is adds k hop =
+row_added old new rows row is adds k hop =
     found_hop new k hop
     ∙ (adds hop k
-    ∙ (one_noted row k hop (get nat_cmp (fates_of old hop) k) (same_hop row.hop hop) refl
+    ∙ (one_added row k hop (get nat_cmp (fates_of old hop) k) (same_hop row.hop hop) refl
     ∙ ap (λ f. fate_or f (row_fate row k hop))
     (sym (found_hop old k hop) ∙ ap (λ (xs : List FaultRow). found_in xs k hop) is)))
 
-pub noted_direct : (r : Inside) (rows : List FaultRow) (new : BTreeMap ℕ Fate) (row : FaultRow) → rows_of r ≡ rows
-    → row.hop ≡ Direct → Notes r.direct new row → Adds rows (rows_of (record r { direct = new })) row
-noted_direct r rows new row is own notes = noted r (record r { direct = new }) rows row is adds where
+pub added_direct : (r : Inside) (rows : List FaultRow) (new : BTreeMap ℕ Fate) (row : FaultRow) → rows_of r ≡ rows
+    → row.hop ≡ Direct → AddsFate r.direct new row → Adds rows (rows_of (record r { direct = new })) row
+added_direct r rows new row is own inserted = row_added r (record r { direct = new }) rows row is adds where
   adds : AddsTo r (record r { direct = new }) row
-  adds Direct k = rw own (notes k)
+  adds Direct k = rw own (inserted k)
   adds Chained k = rw own refl
   adds Twice k = rw own refl
 
-pub noted_chained : (r : Inside) (rows : List FaultRow) (new : BTreeMap ℕ Fate) (row : FaultRow) → rows_of r ≡ rows
-    → row.hop ≡ Chained → Notes r.chained new row → Adds rows (rows_of (record r { chained = new })) row
-noted_chained r rows new row is own notes = noted r (record r { chained = new }) rows row is adds where
+pub added_chained : (r : Inside) (rows : List FaultRow) (new : BTreeMap ℕ Fate) (row : FaultRow) → rows_of r ≡ rows
+    → row.hop ≡ Chained → AddsFate r.chained new row → Adds rows (rows_of (record r { chained = new })) row
+added_chained r rows new row is own inserted = row_added r (record r { chained = new }) rows row is adds where
   adds : AddsTo r (record r { chained = new }) row
   adds Direct k = rw own refl
-  adds Chained k = rw own (notes k)
+  adds Chained k = rw own (inserted k)
   adds Twice k = rw own refl
 
-pub noted_twice : (r : Inside) (rows : List FaultRow) (new : BTreeMap ℕ Fate) (row : FaultRow) → rows_of r ≡ rows
-    → row.hop ≡ Twice → Notes r.twice new row → Adds rows (rows_of (record r { twice = new })) row
-noted_twice r rows new row is own notes = noted r (record r { twice = new }) rows row is adds where
+pub added_twice : (r : Inside) (rows : List FaultRow) (new : BTreeMap ℕ Fate) (row : FaultRow) → rows_of r ≡ rows
+    → row.hop ≡ Twice → AddsFate r.twice new row → Adds rows (rows_of (record r { twice = new })) row
+added_twice r rows new row is own inserted = row_added r (record r { twice = new }) rows row is adds where
   adds : AddsTo r (record r { twice = new }) row
   adds Direct k = rw own refl
   adds Chained k = rw own refl
-  adds Twice k = rw own (notes k)
+  adds Twice k = rw own (inserted k)
 
 -- WHAT IS KEPT AND WHAT IS LEFT SAY WHAT ALL ROWS SAY
 

@@ -50,22 +50,22 @@ impl FaultRows {
             twice: BTreeMap::new(alloc),
         };
         for row in rows {
-            kept.note(row)?;
+            kept.add(row)?;
         }
         Ok(kept)
     }
 
     /// Adds a row, unless there is one with its packet and hop.
-    fn note(&mut self, row: &FaultRow) -> Result<(), Memory>
+    fn add(&mut self, row: &FaultRow) -> Result<(), Memory>
         ensures { IfOk result
             (λ _. (packet : ℕ) (hop : _)
             → found_in self.new packet hop ≡ fate_or (found_in self.old packet hop)
             (row_fate row.now packet hop)) }
     {
         match row.hop {
-            Hop::Direct => note_fate(&mut self.direct, row.packet, row.fate),
-            Hop::Chained => note_fate(&mut self.chained, row.packet, row.fate),
-            Hop::Twice => note_fate(&mut self.twice, row.packet, row.fate),
+            Hop::Direct => add_fate(&mut self.direct, row.packet, row.fate),
+            Hop::Chained => add_fate(&mut self.chained, row.packet, row.fate),
+            Hop::Twice => add_fate(&mut self.twice, row.packet, row.fate),
         }
     }
 
@@ -90,7 +90,7 @@ fn fate_of(fates: &BTreeMap<u32, Fate>, packet: u32) -> Fate
 }
 
 /// Adds a packet's fate, unless the packet has one.
-fn note_fate(fates: &mut BTreeMap<u32, Fate>, packet: u32, fate: Fate) -> Result<(), Memory>
+fn add_fate(fates: &mut BTreeMap<u32, Fate>, packet: u32, fate: Fate) -> Result<(), Memory>
     ensures { IfOk result
         (λ _. (k : ℕ)
         → get nat_cmp fates.new k

@@ -14,11 +14,11 @@ use Rattle.bm_merge.specs.Notes.{Note}
 use Rattle.bm_merge.specs.Workers.{is_home}
 use Rattle.bm_server.specs.Servings.{Serving, shard_at}
 use Rattle.bm_server.specs.Seats.{Seated}
-use Rattle.bm_worker.specs.WorkerNotes.{Hears, IsSameCaller, HasSeats, saying}
+use Rattle.bm_worker.specs.WorkerNotes.{GetReplies, IsSameCaller, HasSeats, due_events}
 use Rattle.bm_worker.specs.Inside.WorkerNotes.{retiring}
 use Rattle.bm_worker.specs.Callers.{CallerState}
 use Rattle.bm_worker.specs.SeatCalls.{calls_there}
-use Rattle.bm_worker.proofs.Hearing.{hears_more, hears_none}
+use Rattle.bm_worker.proofs.CallNotes.{gets_more, gets_none}
 use Rattle.bm_publish.specs.Posts.{Posted}
 use Rattle.bm_lead.specs.declared.leader.Leader.{Leader}
 use Rattle.bm_lead.specs.Commands.{control_log}
@@ -31,10 +31,10 @@ change_early stage v change sound is =
     subst (λ (o : Option Change). change_moment o ≤ 45 * 10 ^ 17) is ((sound_early stage sound).changes v)
 
 -- what isn't at a shard adds no call
-pub hears_elsewhere : (stage : Stage) (servers : List Serving) (a b : List (List Seated)) (n : Note) → b ≡ a
-    → ((s h : ℕ) → is_home stage (ShardOf s h) n ≡ false) → Hears stage servers a b (n ∷ [])
-hears_elsewhere stage servers a b n same away s h server at =
-    rw (same, away server.id.0 h) (sym (append-nil (saying (shard_at server h) (calls_there a s h))))
+pub gets_elsewhere : (stage : Stage) (servers : List Serving) (a b : List (List Seated)) (n : Note) → b ≡ a
+    → ((s h : ℕ) → is_home stage (ShardOf s h) n ≡ false) → GetReplies stage servers a b (n ∷ [])
+gets_elsewhere stage servers a b n same away s h server at =
+    rw (same, away server.id.0 h) (sym (append-nil (due_events (shard_at server h) (calls_there a s h))))
 
 pub same_caller : (a b d : CallerState) → IsSameCaller a b → IsSameCaller b d → IsSameCaller a d
 same_caller a b d first then =
@@ -46,7 +46,7 @@ sits_kept servers a b has_seats same = rw same.number (same.who_is ∙ has_seats
 -- no call yet
 pub none_called : (stage : Stage) (servers : List Serving) (a : CallerState) → HasCalled stage servers 0 a a []
 none_called stage servers a = record {
-  heard = hears_none stage servers a.seats;
+  replies = gets_none stage servers a.seats;
   same = record { number = refl; who_is = refl };
   tries = omega arith;
   latest = omega arith;
@@ -56,19 +56,19 @@ none_called stage servers a = record {
 pub retired_more : (stage : Stage) (servers : List Serving) (i k : ℕ) (server : Serving) (at clock : Moment)
     (outcome : Retirement) (a b d : CallerState) (notes : List Note) → b.number ≡ 0
     → AreRetirings i server.id at outcome k notes → HasCalled stage servers k a b notes
-    → Hears stage servers b.seats d.seats (retiring clock server.id k at outcome i b.number ∷ [])
+    → GetReplies stage servers b.seats d.seats (retiring clock server.id k at outcome i b.number ∷ [])
     → IsSameCaller b d → d.tries ≤ b.tries + 1 → d.latest ≡ max b.latest clock.0 → at.0 < clock.0
     → (notes : List Note) × AreRetirings i server.id at outcome (k + 1) notes
     × HasCalled stage servers (k + 1) a d notes
-retired_more stage servers i k server at clock outcome a b d notes zero are called heard same tries latest later =
+retired_more stage servers i k server at clock outcome a b d notes zero are called replies same tries latest later =
     let n = retiring clock server.id k at outcome i 0 in
-    let one : Hears stage servers b.seats d.seats (n ∷ []) =
-    subst (λ (w : ℕ). Hears stage servers b.seats d.seats (retiring clock server.id k at outcome i w ∷ [])) zero
-    heard in (
+    let one : GetReplies stage servers b.seats d.seats (n ∷ []) =
+    subst (λ (w : ℕ). GetReplies stage servers b.seats d.seats (retiring clock server.id k at outcome i w ∷ [])) zero
+    replies in (
       n ∷ notes,
       (clock, k, omega arith, refl, later, are),
       record {
-        heard = hears_more stage servers a.seats b.seats d.seats notes (n ∷ []) called.heard one;
+        replies = gets_more stage servers a.seats b.seats d.seats notes (n ∷ []) called.replies one;
         same = same_caller a b d called.same same;
         tries = let t = called.tries in omega arith;
         latest = let l = called.latest in omega arith;
@@ -78,7 +78,7 @@ retired_more stage servers i k server at clock outcome a b d notes zero are call
 pub called_up_to : (stage : Stage) (servers : List Serving) (n m : ℕ) (a b : CallerState) (notes : List Note) → n ≤ m
     → HasCalled stage servers n a b notes → HasCalled stage servers m a b notes
 called_up_to stage servers n m a b notes low called = record {
-  heard = called.heard;
+  replies = called.replies;
   same = called.same;
   tries = let t = called.tries in omega arith;
   latest = called.latest;

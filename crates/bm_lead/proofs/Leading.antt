@@ -28,7 +28,7 @@ use Rattle.bm_server.specs.Servings.{Serving}
 use Rattle.bm_publish.specs.Posts.{Posted}
 use Rattle.bm_lead.specs.declared.leader.Leader.{Leader}
 use Rattle.bm_lead.specs.Commands.{AreDone, IsControlStep, IsJudgedBy, control_log, posted_clocks}
-use Rattle.bm_worker.proofs.Hearing.{hears_more, hears_none}
+use Rattle.bm_worker.proofs.CallNotes.{gets_more, gets_none}
 use Rattle.bm_lead.specs.Leads.{IsLed, IsPlaced, Leads}
 use Rattle.bm_lead.specs.Inside.Steps.{HasDone, published_after}
 use Rattle.bm_lead.proofs.Calling.{same_caller}
@@ -203,7 +203,7 @@ leads_step stage servers p q a b c e at step done = record {
   led = λ before old. led_more stage servers p q a b c e before at step done old;
   board = ap (λ (x : Posted). x.board) done.posted;
   same = done.called.same;
-  heard = done.called.heard;
+  replies = done.called.replies;
   placed = step.placed;
   since = step.since;
   rises = let l = done.called.latest in omega arith;
@@ -216,7 +216,7 @@ leads_none stage servers p a = record {
   led = λ before old. old;
   board = refl;
   same = record { number = refl; who_is = refl };
-  heard = hears_none stage servers a.caller.seats;
+  replies = gets_none stage servers a.caller.seats;
   placed = tt;
   since = tt;
   rises = omega arith;
@@ -229,7 +229,7 @@ leads_more stage servers p q r a b d x y first then = record {
       (then.led (x ++ before) (first.led before old));
   board = then.board ∙ first.board;
   same = same_caller a.caller b.caller d.caller first.same then.same;
-  heard = hears_more stage servers a.caller.seats b.caller.seats d.caller.seats x y first.heard then.heard;
+  replies = gets_more stage servers a.caller.seats b.caller.seats d.caller.seats x y first.replies then.replies;
   placed = each_append (λ n. IsPlaced stage servers n.event.what) y x then.placed first.placed;
   since = each_append (λ n. a.caller.latest < n.event.clock.0) y x
       (each_so (λ n. b.caller.latest < n.event.clock.0) (λ n. a.caller.latest < n.event.clock.0) y

@@ -15,7 +15,7 @@ use Rattle.bm_merge.specs.Notes.{Note, greatest}
 use Rattle.bm_merge.specs.Workers.{IsCommanded}
 use Rattle.bm_server.specs.Servings.{Serving}
 use Rattle.bm_publish.specs.Posts.{Posted}
-use Rattle.bm_worker.specs.WorkerNotes.{HasServer, Hears, IsSameCaller}
+use Rattle.bm_worker.specs.WorkerNotes.{GetReplies, HasServer, IsSameCaller}
 use Rattle.bm_lead.specs.declared.leader.Leader.{Leader}
 use Rattle.bm_lead.specs.Commands.{AreDone, IsControlStep, IsJudgedBy, control_log, posted_clocks}
 use Rattle.bm_lead.specs.Commands.{syncing}
@@ -51,7 +51,7 @@ pub record Leads (stage : Stage) (servers : List Serving) (p q : Posted) (a b : 
   pub board : q.board ≡ p.board
   pub same : IsSameCaller a.caller b.caller
   -- its seats' calls and replies grow by exactly what it does at their shards
-  pub heard : Hears stage servers a.caller.seats b.caller.seats notes
+  pub replies : GetReplies stage servers a.caller.seats b.caller.seats notes
   pub placed : AllByRecursion (λ n. IsPlaced stage servers n.event.what) notes
   -- each clock is above all clocks before
   pub since : AllByRecursion (λ n. a.caller.latest < n.event.clock.0) notes

@@ -56,13 +56,13 @@ abbrev pub AreShown : MuxId → List ℕ → List Event → Type 0
 AreShown m clocks log = AllByRecursion (λ e. IsOwn m e.what × IsShown clocks e.clock.0 e.what) log
 
 -- the log of a mux that learned these posts, and then looked
-pub record IsLogOf (mux : MuxState) (told : Posted) (log : List Event) : Type 0 where
+pub record IsLogOf (mux : MuxState) (snapshot : Posted) (log : List Event) : Type 0 where
   pub log_is : log ≡ mux.log
   -- what it was shown last
   pub seen : Posted
   pub posted : IsPosted seen
   pub later : Continues mux.seen seen
-  pub heard : Continues told seen
+  pub learned : Continues snapshot seen
   pub shown : AreShown mux.id seen.clocks log
 
 -- CALLS
@@ -84,9 +84,9 @@ pub record HasLooked (old new : MuxState) : Type 0 where
   pub version : (version_at (reverse new.log) old.id).0 ≡ last_version new.seen
 
 -- the mux learned these posts, and then looked and switched
-pub record HasBegun (old : MuxState) (told : Posted) (after : ℕ) (new : MuxState) : Type 0 where
+pub record HasBegun (old : MuxState) (snapshot : Posted) (after : ℕ) (new : MuxState) : Type 0 where
   pub looked : HasLooked old new
-  pub heard : Continues told new.seen
+  pub learned : Continues snapshot new.seen
   pub log : new.log
       ≡ old.log ++ switch_to old.id new.seen (reverse old.log) (max after (last_post new.seen)) ∷ []
 

@@ -12,7 +12,7 @@ use crate::notes::Notes;
 use crate::{MuxItem, Steered};
 use bm_base::{Hop, List, Memory, Moment, MuxId, Version};
 use bm_core::{Event, Log, What};
-use bm_publish::{Guard, Look, Told};
+use bm_publish::{Guard, Look, Snapshot};
 use std::alloc::Global;
 use std::marker::Model;
 
@@ -66,15 +66,15 @@ impl Mux {
     /// above `after`, above that of its last Switch or Steer, and above that of the last post.
     /// `Memory` where memory or the look was refused; then it has learned them, and the log is as
     /// it was.
-    pub fn begin(&mut self, told: Told, after: Moment) -> Result<(), Memory>
-        requires board { told.board ≡ self.old.seen.board }
+    pub fn begin(&mut self, snapshot: Snapshot, after: Moment) -> Result<(), Memory>
+        requires board { snapshot.board ≡ self.old.seen.board }
         requires after { after.0 ≤ 9 * 10 ^ 18 }
         requires room { length self.old.log < 2 ^ 48 }
-        ensures ok { OnOk result (HasBegun self.old told after.0 self.new) }
+        ensures ok { OnOk result (HasBegun self.old snapshot after.0 self.new) }
         ensures err { OnErr result (IsSameMux self.old self.new
-            × Continues told self.new.seen × (self.new.log ≡ self.old.log)) }
+            × Continues snapshot self.new.seen × (self.new.log ≡ self.old.log)) }
     {
-        hear(&mut self.look, told);
+        learn(&mut self.look, snapshot);
         let guard = enter(&mut self.look)?;
         let cause = Moment(after.0.max(guard.clock().0));
         let done = self.notes.switch(&guard, cause);
@@ -126,27 +126,27 @@ impl Mux {
     /// The log, after the mux learned these posts and looked once more. Each Switch of the log is
     /// to version 0 or to the version of a post that the mux was shown, which has a lower clock.
     /// `Memory` where the look was refused.
-    pub fn into_log(self, told: Told) -> Result<Log, Memory>
-        requires { told.board ≡ self.seen.board }
-        ensures { IfOk result (IsLogOf self told) }
+    pub fn into_log(self, snapshot: Snapshot) -> Result<Log, Memory>
+        requires { snapshot.board ≡ self.seen.board }
+        ensures { IfOk result (IsLogOf self snapshot) }
     {
         let Mux { mut look, notes } = self;
-        hear(&mut look, told);
+        learn(&mut look, snapshot);
         let guard = enter(&mut look)?;
         let _look = guard.leave();
         Ok(List::of(notes.log))
     }
 }
 
-fn hear(look: &mut Option<Look>, told: Told)
+fn learn(look: &mut Option<Look>, snapshot: Snapshot)
     requires some { IsSome look.old }
-    requires board { told.board ≡ (seen_by look.old).board }
+    requires board { snapshot.board ≡ (seen_by look.old).board }
     ensures some { IsSome look.new }
     ensures seen { Continues (seen_by look.old) (seen_by look.new) }
-    ensures told { Continues told (seen_by look.new) }
+    ensures learned { Continues snapshot (seen_by look.new) }
 {
     let Some(look) = look else { unreachable!() };
-    look.hear(told);
+    look.learn(snapshot);
 }
 
 /// Takes the look, and looks. If that is refused the look is put back.

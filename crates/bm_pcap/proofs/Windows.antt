@@ -12,16 +12,16 @@ pub grown : (xs ys : List ℕ) (start end k n : ℕ) → start ≤ end → end �
     → slice_range (put_mid end k xs ys) start (end + n) ≡ slice_range xs start end ++ take n ys
 grown xs ys start end k n ordered within fits =
     let front = length-take-le end xs within in
-    let held = drop start (take end xs) in
-    let len : length held ≡ end - start = omega (arith, length-drop start (take end xs)) in
+    let buffered = drop start (take end xs) in
+    let len : length buffered ≡ end - start = omega (arith, length-drop start (take end xs)) in
     let sum : end + n - start ≡ (end - start) + n = omega arith in
     let parts : end ≡ start + (end - start) = omega arith in
-    let same : held ≡ take (end - start) (drop start xs) =
+    let same : buffered ≡ take (end - start) (drop start xs) =
     ap (λ j. drop start (take j xs)) parts ∙ drop-take start (end - start) xs in
     let after = ys ++ post_of end k xs in
     ap (take (end + n - start)) (drop-append-le start (take end xs) after (omega arith))
-    ∙ ap (λ j. take j (held ++ after)) sum ∙ take-add (end - start) n (held ++ after)
-    ∙ (rw (take_at held after _ len, drop_at held after _ len, take-append-le n ys (post_of end k xs) fits, same) refl)
+    ∙ ap (λ j. take j (buffered ++ after)) sum ∙ take-add (end - start) n (buffered ++ after)
+    ∙ (rw (take_at buffered after _ len, drop_at buffered after _ len, take-append-le n ys (post_of end k xs) fits, same) refl)
 
 pub kept : (xs ys : List ℕ) (start end k : ℕ) → start ≤ end → end ≤ length xs
     → slice_range (put_mid end k xs ys) start end ≡ slice_range xs start end
@@ -48,17 +48,17 @@ answered xs start end count inside =
 -- The octets that were left stay the same where nothing moved.
 pub keeps_same : (left : Option (List ℕ)) (new : Option (List ℕ)) (xs ys : List ℕ) → Keeps left new → ys ≡ xs
     → Keeps (prepend_known xs left) (prepend_known ys new)
-keeps_same None new xs ys same held = tt
-keeps_same (Some a) None xs ys same held = same
-keeps_same (Some a) (Some b) xs ys same held = ap₂ (λ p q. p ++ q) held same
+keeps_same None new xs ys same buffered = tt
+keeps_same (Some a) None xs ys same buffered = same
+keeps_same (Some a) (Some b) xs ys same buffered = ap₂ (λ p q. p ++ q) buffered same
 
 -- A piece of the source was read ahead.
 pub keeps_more : (left : Option (List ℕ)) (new : Option (List ℕ)) (xs ys more : List ℕ) → Consumes left new more
     → ys ≡ xs ++ more → Keeps (prepend_known xs left) (prepend_known ys new)
-keeps_more None new xs ys more read held = tt
-keeps_more (Some a) None xs ys more read held = read
-keeps_more (Some a) (Some b) xs ys more read held =
-    ap (λ p. p ++ b) held ∙ append_assoc xs more b ∙ ap (λ q. xs ++ q) (sym read)
+keeps_more None new xs ys more read buffered = tt
+keeps_more (Some a) None xs ys more read buffered = read
+keeps_more (Some a) (Some b) xs ys more read buffered =
+    ap (λ p. p ++ b) buffered ∙ append_assoc xs more b ∙ ap (λ q. xs ++ q) (sym read)
 
 pub keeps_trans : (old mid new : Option (List ℕ)) → Keeps old mid → Keeps mid new → Keeps old new
 keeps_trans None mid new h k = tt
@@ -91,9 +91,9 @@ length_range xs start end within =
     omega (arith, within, length-take (end - start) (drop start xs), length-drop start xs)
 
 -- what a buffer contains from its front
-pub front_held : (xs : List ℕ) (start end size : ℕ) → start ≡ 0 → end ≤ size → length xs ≡ size
+pub front_buffered : (xs : List ℕ) (start end size : ℕ) → start ≡ 0 → end ≤ size → length xs ≡ size
     → length (slice_range xs start end) ≡ end
-front_held xs start end size zero within is =
+front_buffered xs start end size zero within is =
     omega (arith, zero, within, length_range xs start end (omega (arith, within, is)))
 
 -- A beginning of a beginning is a beginning.

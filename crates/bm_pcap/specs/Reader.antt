@@ -22,29 +22,29 @@ use Rattle.bm_pcap.specs.Records.{after_record}
 use Rattle.bm_pcap.specs.Taken.{FormLeaves}
 
 -- A reader: the source after what was read ahead, what the capture's header says, and the place
--- after what was taken. `held` is the octets that were read ahead, and `passed` those that were
+-- after what was taken. `buffered` is the octets that were read ahead, and `passed` those that were
 -- taken last; only contracts of private calls use these. `ended` is what the reader returns from
 -- now on, if it has ended.
 pub record Reader (S : Type 0) : Type 0 where
   pub source : S
   pub form : Form
   pub place : Place
-  pub held : List ℕ
+  pub buffered : List ℕ
   pub passed : List ℕ
   pub ended : Option (Result Step CaptureFault)
 
 -- The octets that aren't consumed yet, if the source's octets are known: those that were read
 -- ahead, and then those that the source has left.
 abbrev pub to_come : {S : Type 0} → (S → Option (List ℕ)) → Reader S → Option (List ℕ)
-to_come left reader = prepend_known reader.held (left reader.source)
+to_come left reader = prepend_known reader.buffered (left reader.source)
 
 -- what was read ahead and isn't consumed yet is bounded
 abbrev pub IsBounded : {S : Type 0} → Reader S → Type 0
-IsBounded reader = length reader.held ≤ widest
+IsBounded reader = length reader.buffered ≤ widest
 
 -- no record was asked for yet, and nothing is read ahead
 abbrev pub IsFresh : {S : Type 0} → Reader S → Type 0
-IsFresh reader = (reader.place ≡ first_place) × (reader.ended ≡ None) × (reader.held ≡ [])
+IsFresh reader = (reader.place ≡ first_place) × (reader.ended ≡ None) × (reader.buffered ≡ [])
 
 -- The result is a reader of what the header says, or the header's first fault with the source.
 abbrev pub Starts : {S : Type 0} → (S → Option (List ℕ)) → S → Result (Reader S) (S × CaptureFault)
@@ -115,7 +115,7 @@ AdvancesFrom left faults None old new result own =
     StepGives (to_come left old) (to_come left new) old.form old.place result own
     × HasStepCause (faults old.source) (faults new.source) result
     × Keeps old new result
-    × FailsOpen old.form old.place result new.held
+    × FailsOpen old.form old.place result new.buffered
 
 abbrev pub Advances : {S : Type 0} → (S → Option (List ℕ)) → (S → ℕ) → Reader S → Reader S
     → Result Step CaptureFault → List ℕ → Type 0

@@ -12,8 +12,8 @@ abbrev pub width : {S : Type 0} → Window S → ℕ
 width window = length window.octets.items
 
 -- what was read ahead
-abbrev pub held : {S : Type 0} → Window S → List ℕ
-held window = slice_range window.octets.items window.from window.upto
+abbrev pub buffered : {S : Type 0} → Window S → List ℕ
+buffered window = slice_range window.octets.items window.from window.upto
 
 -- what is before it in the buffer: the last octet that was consumed is at its end
 abbrev pub passed : {S : Type 0} → Window S → List ℕ
@@ -22,7 +22,7 @@ passed window = take window.from window.octets.items
 -- The octets that aren't consumed yet, if the source's octets are known: those that were read
 -- ahead, and then those that the source has left.
 abbrev pub rest : {S : Type 0} → (S → Option (List ℕ)) → Window S → Option (List ℕ)
-rest left window = prepend_known (held window) (left window.src)
+rest left window = prepend_known (buffered window) (left window.src)
 
 -- The first octets of the rest were read ahead: as many as were wanted, or all of them.
 abbrev pub Ahead : Option (List ℕ) → ℕ → ℕ → List ℕ → Type 0

@@ -38,7 +38,7 @@ impl<S> Model for PcapReader<S> {
     ghost use Rattle.bm_pcap.specs.Limits.{widest};
     ghost use Rattle.bm_pcap.specs.Reader.{Reader};
     ghost use Rattle.bm_pcap.specs.Inside.Reader.{EndsWell};
-    ghost use Rattle.bm_pcap.specs.Window.{held, passed, width};
+    ghost use Rattle.bm_pcap.specs.Window.{buffered, passed, width};
 
     ghost Value = { Reader S };
 
@@ -46,12 +46,12 @@ impl<S> Model for PcapReader<S> {
       source = a.window.src;
       form = a.form;
       place = a.place;
-      held = held a.window;
+      buffered = buffered a.window;
       passed = passed a.window;
       ended = a.ended;
     } };
 
-    ghost invariant = { λ a. (length (held a.window) ≤ widest) × IsTrue (is_link a.form.link)
+    ghost invariant = { λ a. (length (buffered a.window) ≤ widest) × IsTrue (is_link a.form.link)
         × EndsWell a.ended × (width a.window ≡ widest) };
 }
 

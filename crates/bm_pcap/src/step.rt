@@ -9,7 +9,7 @@ ghost use Rattle.bm_pcap.specs.Limits.{latest, widest};
 ghost use Rattle.bm_pcap.specs.Reader.{FailsOpen, StepGives};
 ghost use Rattle.bm_pcap.specs.Inside.Reader.{IsLast, own_octets};
 ghost use Rattle.bm_pcap.specs.Records.{IsOpen, next_of, time_of};
-ghost use Rattle.bm_pcap.specs.Window.{held, passed, rest, width};
+ghost use Rattle.bm_pcap.specs.Window.{buffered, passed, rest, width};
 
 use crate::CaptureFault;
 use crate::form::Form;
@@ -43,7 +43,7 @@ pub(crate) fn read_step<S: Source>(
     ensures gives { StepGives (rest S.left window.old) (rest S.left window.new) form.now place.now
         result (own_octets result (passed window.new)) }
     ensures last { IfOk result (IsLast (passed window.new)) }
-    ensures open { FailsOpen form.now place.now result (held window.new) }
+    ensures open { FailsOpen form.now place.now result (buffered window.new) }
     ensures fits { IfOk result (StepFits place.now) }
     ensures others { IfErr result IsRecordFault }
     ensures wide { width window.new ≡ widest }
@@ -77,9 +77,9 @@ fn read_head<S: Source>(
     requires { width window.old ≡ widest }
     ensures gives { HeadGives (rest S.left window.old) form.now place.now result }
     ensures keeps { Keeps (rest S.left window.old) (rest S.left window.new) }
-    ensures held { IfOk result (HeadIn form.now (held window.new)) }
+    ensures buffered { IfOk result (HeadIn form.now (buffered window.new)) }
     ensures open { IsErrOf result CaptureFault.ReadFault
-        → IsOpen (next_of form.now place.now (held window.new)) }
+        → IsOpen (next_of form.now place.now (buffered window.new)) }
     ensures fits { IfOk result (HeadFits place.now) }
     ensures others { IfErr result IsRecordFault }
     ensures wide { width window.new ≡ widest }
@@ -101,7 +101,7 @@ fn read_head<S: Source>(
             Ok(Head::Cut)
         };
     }
-    states(form, place, &window.held()[..header])
+    states(form, place, &window.buffered()[..header])
 }
 
 /// Looks for an octet after the last record that is allowed.
@@ -114,9 +114,9 @@ fn read_end<S: Source>(
     requires last { MOST_RECORDS < place.now.number }
     ensures gives { HeadGives (rest S.left window.old) form.now place.now result }
     ensures keeps { Keeps (rest S.left window.old) (rest S.left window.new) }
-    ensures held { IfOk result (HeadIn form.now (held window.new)) }
+    ensures buffered { IfOk result (HeadIn form.now (buffered window.new)) }
     ensures open { IsErrOf result CaptureFault.ReadFault
-        → IsOpen (next_of form.now place.now (held window.new)) }
+        → IsOpen (next_of form.now place.now (buffered window.new)) }
     ensures fits { IfOk result (HeadFits place.now) }
     ensures others { IfErr result IsRecordFault }
     ensures wide { width window.new ≡ widest }

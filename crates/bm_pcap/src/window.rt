@@ -20,12 +20,12 @@ pub struct Window<S> {
 }
 
 impl<S> Window<S> {
-    ghost use Rattle.bm_pcap.specs.Window.{held, passed, source_of, width};
+    ghost use Rattle.bm_pcap.specs.Window.{buffered, passed, source_of, width};
 
     /// A window of a source, from which at most `most` octets are read ahead, and none yet. The
     /// source is given back where memory was refused.
     pub fn new(alloc: Global, src: S, most: usize) -> Result<Window<S>, S>
-        ensures ok { IfOk result (λ window. (source_of window ≡ src) × (held window ≡ [])) }
+        ensures ok { IfOk result (λ window. (source_of window ≡ src) × (buffered window ≡ [])) }
         ensures width { IfOk result (λ window. width window ≡ most) }
         ensures err { IfErr result (λ back. back ≡ src) }
     {
@@ -55,8 +55,8 @@ impl<S> Window<S> {
     }
 
     /// What was read ahead.
-    pub fn held(&self) -> &[u8]
-        ensures { result.now ≡ held self.now }
+    pub fn buffered(&self) -> &[u8]
+        ensures { result.now ≡ buffered self.now }
     {
         &self.octets[self.from..self.upto]
     }
@@ -71,9 +71,9 @@ impl<S> Window<S> {
 
     /// Consumes the first octets that were read ahead.
     pub fn skip(&mut self, count: usize)
-        requires { count ≤ length (held self.old) }
-        ensures held { held self.new ≡ drop count (held self.old) }
-        ensures passed { passed self.new ≡ passed self.old ++ take count (held self.old) }
+        requires { count ≤ length (buffered self.old) }
+        ensures buffered { buffered self.new ≡ drop count (buffered self.old) }
+        ensures passed { passed self.new ≡ passed self.old ++ take count (buffered self.old) }
         ensures source { source_of self.new ≡ source_of self.old }
         ensures wide { width self.new ≡ width self.old }
     {
@@ -82,7 +82,7 @@ impl<S> Window<S> {
 
     /// Moves what was read ahead to the front of the buffer.
     fn move_to_front(&mut self)
-        ensures held { held self.new ≡ held self.old }
+        ensures buffered { buffered self.new ≡ buffered self.old }
         ensures front { self.new.from ≡ 0 }
         ensures source { self.new.src ≡ self.old.src }
         ensures wide { width self.new ≡ width self.old }
@@ -95,13 +95,13 @@ impl<S> Window<S> {
 }
 
 impl<S: Source> Window<S> {
-    ghost use Rattle.bm_pcap.specs.Window.{Ahead, held, rest, source_of, width};
+    ghost use Rattle.bm_pcap.specs.Window.{Ahead, buffered, rest, source_of, width};
 
     /// Reads one more piece of the source, as much as it gives and the buffer has room for. Returns
     /// how many octets these are.
     fn read(&mut self) -> Result<usize, Failed>
         ensures keeps { Keeps (rest S.left self.old) (rest S.left self.new) }
-        ensures grows { take (length (held self.old)) (held self.new) ≡ held self.old }
+        ensures grows { take (length (buffered self.old)) (buffered self.new) ≡ buffered self.old }
         ensures count { IfOk result (λ n. self.new.upto ≡ self.old.upto + n) }
         ensures end { IfOk result
             (λ n. n ≡ 0 → self.old.upto < width self.old → IsAtEnd (S.left self.new.src)) }
@@ -121,12 +121,12 @@ impl<S: Source> Window<S> {
     /// large as the buffer has room for. After a failure what was read ahead is kept.
     pub fn want(&mut self, most: usize) -> Result<usize, Failed>
         requires { most ≤ width self.old }
-        ensures bound { IfOk result (λ n. (n ≤ most) × (n ≤ length (held self.new))) }
-        ensures ahead { IfOk result (λ n. Ahead (rest S.left self.old) most n (held self.new)) }
+        ensures bound { IfOk result (λ n. (n ≤ most) × (n ≤ length (buffered self.new))) }
+        ensures ahead { IfOk result (λ n. Ahead (rest S.left self.old) most n (buffered self.new)) }
         ensures keeps { Keeps (rest S.left self.old) (rest S.left self.new) }
-        ensures grows { take (length (held self.old)) (held self.new) ≡ held self.old }
-        ensures short { OnErr result (length (held self.new) < most) }
-        ensures still { most ≤ length (held self.old) → self.new ≡ self.old }
+        ensures grows { take (length (buffered self.old)) (buffered self.new) ≡ buffered self.old }
+        ensures short { OnErr result (length (buffered self.new) < most) }
+        ensures still { most ≤ length (buffered self.old) → self.new ≡ self.old }
         ensures wide { width self.new ≡ width self.old }
         ensures cause { HasCause (S.faults (source_of self.old)) (S.faults (source_of self.new))
             result }

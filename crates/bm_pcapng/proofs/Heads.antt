@@ -169,17 +169,17 @@ pub known : (octets : List ℕ) (new : Option (List ℕ)) → Keeps (Some octets
 known octets None keeps = absurd keeps
 known octets (Some same) keeps = ap (λ z. Some z) keeps
 
-pub held_begins : (octets ahead : List ℕ) (left : Option (List ℕ)) → Keeps (Some octets) (prepend_known ahead left)
+pub buffered_begins : (octets ahead : List ℕ) (left : Option (List ℕ)) → Keeps (Some octets) (prepend_known ahead left)
     → Begins ahead octets
-held_begins octets ahead None keeps = absurd keeps
-held_begins octets ahead (Some ys) keeps =
+buffered_begins octets ahead None keeps = absurd keeps
+buffered_begins octets ahead (Some ys) keeps =
     ap (take (length ahead)) (sym keeps) ∙ take_at ahead ys (length ahead) refl
 
 pub begins_old : (old left : Option (List ℕ)) (octets ahead : List ℕ) → old ≡ Some octets
     → Keeps old (prepend_known ahead left) → Begins ahead octets
 begins_old old left octets ahead is keeps =
     let P : Option (List ℕ) → Type 0 = λ o. Keeps o (prepend_known ahead left) in
-    held_begins octets ahead left (subst P is keeps)
+    buffered_begins octets ahead left (subst P is keeps)
 
 pub states_given : (old left : Option (List ℕ)) (order : Order) (interfaces : List Interface) (place : Place)
     (ahead : List ℕ) (kind : Kind) (result : Result Head CaptureFault) → kind ≡ kind_at order ahead
@@ -188,7 +188,7 @@ pub states_given : (old left : Option (List ℕ)) (order : Order) (interfaces : 
     → result ≡ stated kind order place (take (head_size kind) ahead) → HeadGives old order interfaces place result
 states_given None left order interfaces place ahead kind result is long wide keeps said = tt
 states_given (Some octets) left order interfaces place ahead kind result is long wide keeps said =
-    head_says order interfaces place ahead octets kind result is long wide (held_begins octets ahead left keeps) said
+    head_says order interfaces place ahead octets kind result is long wide (buffered_begins octets ahead left keeps) said
 
 states_in : (order : Order) (interfaces : List Interface) (place : Place) (ahead : List ℕ)
     (result : Result Head CaptureFault)
@@ -200,12 +200,12 @@ states_in order interfaces place ahead (Ok head.Cut) h = tt
 states_in order interfaces place ahead (Ok (head.States kind own n)) h = h
 states_in order interfaces place ahead (Err e) h = tt
 
-pub states_held : (order : Order) (interfaces : List Interface) (place : Place) (ahead : List ℕ) (kind : Kind)
+pub states_buffered : (order : Order) (interfaces : List Interface) (place : Place) (ahead : List ℕ) (kind : Kind)
     (result : Result Head CaptureFault) → kind ≡ kind_at order ahead
     → head_size kind ≤ length ahead → head_size kind ≤ place.room + 1
     → result ≡ stated kind order place (take (head_size kind) ahead)
     → IfOk result (HeadIn order interfaces place ahead)
-states_held order interfaces place ahead kind result is long wide said =
+states_buffered order interfaces place ahead kind result is long wide said =
     states_in order interfaces place ahead result
     (λ octets begins. head_says order interfaces place ahead octets kind result is long wide begins said)
 

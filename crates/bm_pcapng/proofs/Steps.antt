@@ -116,9 +116,9 @@ pub open_body : (order : Order) (interfaces : List Interface) (place : Place) (s
     (n most : ℕ) (before ahead : List ℕ) → said ≡ head.States kind own n → HeadIn order interfaces place before said
     → take (length before) ahead ≡ before → most ≡ min n (place.room + 1) → length ahead < most
     → IsOpen (next_of order interfaces place ahead)
-open_body order interfaces place said kind own n most before ahead is held grows is_most less =
+open_body order interfaces place said kind own n most before ahead is buffered grows is_most less =
     let P : Head → Type 0 = λ h. HeadIn order interfaces place before h in
-    let found = (subst P is held) ahead grows in
+    let found = (subst P is buffered) ahead grows in
     let few : min (length ahead) place.room < n = omega (arith, is_most, less) in
     subst IsOpen
     (sym (found ∙ part kind own interfaces place n ahead few

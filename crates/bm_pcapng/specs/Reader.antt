@@ -26,7 +26,7 @@ use Rattle.bm_pcapng.specs.Parts.{BlockGives, FailsOpen, StepFits}
 use Rattle.bm_pcapng.specs.Places.{first_place, interfaces_after, order_after, place_after}
 
 -- A reader: the source after what was read ahead, the order of its section's numbers and its
--- interfaces, and the place after what was taken. `held` is the octets that were read ahead, and
+-- interfaces, and the place after what was taken. `buffered` is the octets that were read ahead, and
 -- `passed` those that were taken last; only contracts of private calls use these. `ended` is what
 -- the reader returns from now on, if it has ended.
 pub record Reader (S : Type 0) : Type 0 where
@@ -34,18 +34,18 @@ pub record Reader (S : Type 0) : Type 0 where
   pub order : Order
   pub interfaces : List Interface
   pub place : Place
-  pub held : List ℕ
+  pub buffered : List ℕ
   pub passed : List ℕ
   pub ended : Option (Result Step CaptureFault)
 
 -- The octets that aren't consumed yet, if the source's octets are known: those that were read
 -- ahead, and then those that the source has left.
 abbrev pub to_come : {S : Type 0} → (S → Option (List ℕ)) → Reader S → Option (List ℕ)
-to_come left reader = prepend_known reader.held (left reader.source)
+to_come left reader = prepend_known reader.buffered (left reader.source)
 
 -- what was read ahead and isn't consumed yet is bounded
 abbrev pub IsBounded : {S : Type 0} → Reader S → Type 0
-IsBounded reader = length reader.held ≤ longest_block
+IsBounded reader = length reader.buffered ≤ longest_block
 
 -- the octets of a packet in a block
 abbrev pub octets_in : Packet → List ℕ → List ℕ
@@ -118,7 +118,7 @@ AdvancesFrom left faults None old new result own =
     BlockGives (to_come left old) (to_come left new) old.order old.interfaces old.place result own
     × HasStepCause (faults old.source) (faults new.source) result
     × Keeps old new result
-    × FailsOpen old.order old.interfaces old.place result new.held
+    × FailsOpen old.order old.interfaces old.place result new.buffered
 
 abbrev pub Advances : {S : Type 0} → (S → Option (List ℕ)) → (S → ℕ) → Reader S → Reader S
     → Result Step CaptureFault → List ℕ → Type 0

@@ -43,7 +43,7 @@ pub struct NgReader<S> {
 impl<S> Model for NgReader<S> {
     ghost use Rattle.std.specs.Prelude.{◌≡◌, ◌+◌, ◌≤◌, length};
     ghost use Rattle.bm_pcap.specs.Limits.{latest, most_octets, most_records};
-    ghost use Rattle.bm_pcap.specs.Window.{held, passed, source_of, width};
+    ghost use Rattle.bm_pcap.specs.Window.{buffered, passed, source_of, width};
     ghost use Rattle.bm_pcapng.specs.Limits.{longest_block};
     ghost use Rattle.bm_pcapng.specs.Reader.{Reader};
     ghost use Rattle.bm_pcapng.specs.Inside.Reader.{EndsWell};
@@ -55,12 +55,12 @@ impl<S> Model for NgReader<S> {
       order = a.section.order;
       interfaces = a.section.interfaces.items;
       place = a.place;
-      held = held a.window;
+      buffered = buffered a.window;
       passed = passed a.window;
       ended = a.ended;
     } };
 
-    ghost invariant = { λ a. (length (held a.window) ≤ longest_block) × EndsWell a.ended
+    ghost invariant = { λ a. (length (buffered a.window) ≤ longest_block) × EndsWell a.ended
         × (a.place.block + a.place.room ≤ most_octets + 1)
         × (a.place.number ≤ most_records + 1) × (width a.window ≡ longest_block) };
 }

@@ -3,7 +3,7 @@ ghost use Rattle.std.specs.Prelude.{◌≡◌, ◌≤◌, length, nat_lt, if◌t
 ghost use Rattle.std.specs.Prelude.{Err};
 ghost use Rattle.std.specs.Io.KnownBytes.{Keeps};
 ghost use Rattle.bm_pcap.specs.Causes.{HasStepCause};
-ghost use Rattle.bm_pcap.specs.Window.{held, passed, rest, source_of, width};
+ghost use Rattle.bm_pcap.specs.Window.{buffered, passed, rest, source_of, width};
 ghost use Rattle.bm_pcap.specs.declared.fault.CaptureFault.TheVariants.{TooLarge};
 ghost use Rattle.bm_pcapng.specs.Blocks.{framed, head_size, least_length};
 ghost use Rattle.bm_pcapng.specs.Causes.{IsBlockFault};
@@ -54,7 +54,7 @@ pub(crate) fn read_step<S: Source>(
         (own_octets result (passed window.new)) }
     ensures last { IfOk result (IsLast (passed window.new)) }
     ensures open { FailsOpen section.now.order section.now.interfaces.items place.now result
-        (held window.new) }
+        (buffered window.new) }
     ensures fits { IfOk result (StepFits section.now.interfaces.items place.now) }
     ensures others { IfErr result IsBlockFault }
     ensures wide { width window.new ≡ longest_block }
@@ -78,11 +78,11 @@ pub(crate) fn look<S: Source>(
     ensures gives { StepGives (rest S.left window.old) section.now.order
         section.now.interfaces.items place.now result }
     ensures keeps { Keeps (rest S.left window.old) (rest S.left window.new) }
-    ensures held { IfOk result (StepIn (held window.new)) }
-    ensures start { IsAtSection (held window.old) → longest_block ≤ place.now.room
+    ensures buffered { IfOk result (StepIn (buffered window.new)) }
+    ensures start { IsAtSection (buffered window.old) → longest_block ≤ place.now.room
         → IfErr result IsStartFault }
     ensures open { FailsOpen section.now.order section.now.interfaces.items place.now result
-        (held window.new) }
+        (buffered window.new) }
     ensures fits { IfOk result (StepFits section.now.interfaces.items place.now) }
     ensures others { IfErr result IsBlockFault }
     ensures wide { width window.new ≡ longest_block }
@@ -102,7 +102,7 @@ pub(crate) fn look<S: Source>(
             if count < whole {
                 return Ok(Step::Cut);
             }
-            let block = &window.held()[..whole];
+            let block = &window.buffered()[..whole];
             framed(kind, order, section, place, size, block)
         }
     }
@@ -129,12 +129,12 @@ fn read_head<S: Source>(
     ensures gives { HeadGives (rest S.left window.old) section.now.order
         section.now.interfaces.items place.now result }
     ensures keeps { Keeps (rest S.left window.old) (rest S.left window.new) }
-    ensures start { IsAtSection (held window.old) → longest_block ≤ place.now.room
+    ensures start { IsAtSection (buffered window.old) → longest_block ≤ place.now.room
         → StartsSection result }
-    ensures held { IfOk result
-        (HeadIn section.now.order section.now.interfaces.items place.now (held window.new)) }
+    ensures buffered { IfOk result
+        (HeadIn section.now.order section.now.interfaces.items place.now (buffered window.new)) }
     ensures open { FailsOpen section.now.order section.now.interfaces.items place.now result
-        (held window.new) }
+        (buffered window.new) }
     ensures fits { IfOk result (HeadFits place.now) }
     ensures others { IfErr result IsBlockFault }
     ensures wide { width window.new ≡ longest_block }
@@ -149,13 +149,13 @@ fn read_head<S: Source>(
     if count < 8 {
         return short(count, room);
     }
-    let kind = Kind::at(section.order, &window.held()[..4]);
+    let kind = Kind::at(section.order, &window.buffered()[..4]);
     let most = kind.head_size();
     let count = window.want((room + 1).min(most))?;
     if count < most {
         return short(count, room);
     }
-    states(kind, section.order, place, &window.held()[..most])
+    states(kind, section.order, place, &window.buffered()[..most])
 }
 
 /// What a whole head says of a block of this kind, in a section of this order.
@@ -207,7 +207,7 @@ fn framed(
 pub(crate) fn read_order<S: Source>(window: &mut Window<S>) -> Result<Order, CaptureFault>
     requires { width window.old ≡ longest_block }
     ensures gives { OrderGives (rest S.left window.old) result }
-    ensures section { OnOk result (IsAtSection (held window.new)) }
+    ensures section { OnOk result (IsAtSection (buffered window.new)) }
     ensures keeps { Keeps (rest S.left window.old) (rest S.left window.new) }
     ensures others { IfErr result IsOrderFault }
     ensures wide { width window.new ≡ longest_block }
@@ -217,13 +217,13 @@ pub(crate) fn read_order<S: Source>(window: &mut Window<S>) -> Result<Order, Cap
     if window.want(4)? < 4 {
         return Err(CaptureFault::NotACapture);
     }
-    if !is_section(&window.held()[..4]) {
+    if !is_section(&window.buffered()[..4]) {
         return Err(CaptureFault::NotACapture);
     }
     if window.want(12)? < 12 {
         return Err(CaptureFault::NotACapture);
     }
-    match magic(&window.held()[..12]) {
+    match magic(&window.buffered()[..12]) {
         Some(order) => Ok(order),
         None => Err(CaptureFault::NotACapture),
     }

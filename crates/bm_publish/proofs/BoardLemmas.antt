@@ -83,8 +83,8 @@ same_table plan v xs ys a b = same_gets xs ys (λ i. elim (cases_lt i plan.bucke
 ])
 
 -- the same table and the same posts
-pub same_shown : (x y : Shown) → x.table ≡ y.table → x.told ≡ y.told → x ≡ y
-same_shown x y table told i = record { table = table i; told = told i }
+pub same_shown : (x y : Shown) → x.table ≡ y.table → x.snapshot ≡ y.snapshot → x ≡ y
+same_shown x y table snapshot i = record { table = table i; snapshot = snapshot i }
 
 -- THE RULE
 
@@ -102,7 +102,7 @@ turns seat v x y p q same goes views h at = (
         (λ (t : (j ≢ seat) × (get_elem? views j ≡ some u)). subst (λ b. IsOn b u) (sym same) (h.each j u t.1))
         (at_set views seat j (Some q) u e);
   },
-  record { right = goes h.right; told = refl; board = subst (λ b. IsOn b v) (sym same) (h.each seat v at) },
+  record { right = goes h.right; snapshot = refl; board = subst (λ b. IsOn b v) (sym same) (h.each seat v at) },
 )
 
 -- a new seat has no view
@@ -150,7 +150,7 @@ merges seat other v w x p views h at apart there =
 
 -- a seat that sees this knows the board
 pub sees_knows : (x : List Entry) (p : Posted) (v w : Option Posted) → Sees x p v w → Knows p.board w
-sees_knows x p v w h = (p, h.told, refl)
+sees_knows x p v w h = (p, h.snapshot, refl)
 
 -- what a seat that knew a board sees is of that board
 pub sees_same : (board : Book) (x : List Entry) (p : Posted) (v w : Option Posted) → Knows board v → Sees x p v w

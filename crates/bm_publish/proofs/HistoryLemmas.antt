@@ -10,8 +10,8 @@ use Rattle.bm_base.specs.declared.ids.Moment.{Moment}
 use Rattle.logbook.specs.Pages.{Book, Cell, Nib, cell, keeps, adds, gives, may_write, nib, no_nib, step, Moves, Goes}
 use Rattle.bm_table.specs.Planned.{Planned}
 use Rattle.bm_table.specs.Plans.{IsPlan}
-use Rattle.bm_publish.specs.declared.told.Line.{Line}
-use Rattle.bm_publish.specs.declared.told.Line.TheVariants.{Opens, Posts}
+use Rattle.bm_publish.specs.declared.snapshot.Line.{Line}
+use Rattle.bm_publish.specs.declared.snapshot.Line.TheVariants.{Opens, Posts}
 use Rattle.bm_publish.specs.Inside.Histories.{plan_in, clocks_in, posted_in, IsOpened, IsCounted, IsSpent, permit_in, Grants, Adds, Checks}
 use Rattle.bm_publish.specs.Posts.{Posted, Continues, IsPosted, RiseAbove, last_or, last_post, last_version, with_post}
 use Rattle.bm_publish.proofs.Prefixes.{prefix_shorter, prefix_trans, prefix_whole}

@@ -4,8 +4,8 @@
 mod look;
 mod poster;
 mod shown;
-mod told;
+mod snapshot;
 
 pub use look::{Guard, Look};
 pub use poster::{Poster, board};
-pub use told::Told;
+pub use snapshot::Snapshot;

@@ -6,7 +6,7 @@ ghost use Rattle.bm_publish.specs.Posts.{Continues, IsPosted, last_post, last_ve
 ghost use Rattle.left_right.specs.Sides.{view as seat_view};
 
 use crate::shown::{Kept, Seeing, Shown};
-use crate::told::Told;
+use crate::snapshot::Snapshot;
 use bm_base::{Entry, Memory, Moment, Version};
 use left_right::reader::{Reader, Reading};
 use std::marker::Model;
@@ -15,8 +15,8 @@ use std::marker::Model;
 /// learned of.
 #[derive(Drop)]
 pub struct Look {
-    reader: Reader<Shown, Option<Told>, Kept>,
-    told: Told,
+    reader: Reader<Shown, Option<Snapshot>, Kept>,
+    snapshot: Snapshot,
 }
 
 impl Model for Look {
@@ -26,15 +26,15 @@ impl Model for Look {
 
     ghost Value = { Posted };
 
-    ghost view = { λ l. l.told };
+    ghost view = { λ l. l.snapshot };
 
-    ghost invariant = { λ l. Knows l.told.board (seat_view l.reader.place) };
+    ghost invariant = { λ l. Knows l.snapshot.board (seat_view l.reader.place) };
 }
 
 /// The table of a board, while it is read. It isn't Drop: end it by `leave`. Contracts see the
 /// posts that lead to it.
 pub struct Guard {
-    reading: Reading<Shown, Option<Told>, Kept>,
+    reading: Reading<Shown, Option<Snapshot>, Kept>,
 }
 
 impl Model for Guard {
@@ -44,28 +44,28 @@ impl Model for Guard {
 
     ghost Value = { Posted };
 
-    ghost view = { λ g. g.reading.part.value.told };
+    ghost view = { λ g. g.reading.part.value.snapshot };
 
-    ghost invariant = { λ g. IsRight g.reading.part.value.table g.reading.part.value.told
-        × Knows g.reading.part.value.told.board (seat_view g.reading.place) };
+    ghost invariant = { λ g. IsRight g.reading.part.value.table g.reading.part.value.snapshot
+        × Knows g.reading.part.value.snapshot.board (seat_view g.reading.place) };
 }
 
 impl Look {
-    pub(crate) fn new(reader: Reader<Shown, Option<Told>, Kept>, told: Told) -> Look
-        requires { Knows told.board (seat_view reader.place) }
-        ensures { result ≡ told }
+    pub(crate) fn new(reader: Reader<Shown, Option<Snapshot>, Kept>, snapshot: Snapshot) -> Look
+        requires { Knows snapshot.board (seat_view reader.place) }
+        ensures { result ≡ snapshot }
     {
-        Look { reader, told }
+        Look { reader, snapshot }
     }
 
     /// Learns these posts. From then on it shows nothing older.
-    pub fn hear(&mut self, told: Told)
-        requires { told.board ≡ self.old.board }
-        ensures one { (self.new ≡ self.old) ⊎ (self.new ≡ told) }
+    pub fn learn(&mut self, snapshot: Snapshot)
+        requires { snapshot.board ≡ self.old.board }
+        ensures one { (self.new ≡ self.old) ⊎ (self.new ≡ snapshot) }
         ensures seen { Continues self.old self.new }
-        ensures told { Continues told self.new }
+        ensures learned { Continues snapshot self.new }
     {
-        self.told = self.told.longer(&told);
+        self.snapshot = self.snapshot.longer(&snapshot);
     }
 
     /// Looks at the table that is posted. Waits for no other thread, and takes no lock, no copy and
@@ -73,16 +73,16 @@ impl Look {
     pub fn look(self) -> Result<Guard, (Look, Memory)>
         ensures { MatchResult result (λ guard. Continues self guard) (λ back. back.0 ≡ self) }
     {
-        let Look { reader, told } = self;
+        let Look { reader, snapshot } = self;
         let reading = match reader.enter_as::<Seeing>() {
             Ok(reading) => reading,
-            Err(reader) => return Err((Look { reader, told }, Memory)),
+            Err(reader) => return Err((Look { reader, snapshot }, Memory)),
         };
-        if told.begins(&reading.get().told) {
+        if snapshot.begins(&reading.get().snapshot) {
             return Ok(Guard { reading });
         }
         let reader = reading.leave();
-        Err((Look { reader, told }, Memory))
+        Err((Look { reader, snapshot }, Memory))
     }
 }
 
@@ -93,17 +93,17 @@ impl Guard {
         ensures posted { IsPosted self }
     {
         let Guard { reading } = self;
-        let told = reading.get().told.again();
+        let snapshot = reading.get().snapshot.again();
         Look {
             reader: reading.leave(),
-            told,
+            snapshot,
         }
     }
 
-    pub(crate) fn told(&self) -> &Told
+    pub(crate) fn snapshot(&self) -> &Snapshot
         ensures { result.now ≡ self.now }
     {
-        &self.reading.get().told
+        &self.reading.get().snapshot
     }
 
     /// How many changes of the plan the table has. Takes no memory.
@@ -111,7 +111,7 @@ impl Guard {
         ensures version { result.0 ≡ last_version self.now }
         ensures posted { IsPosted self.now }
     {
-        self.reading.get().told.version()
+        self.reading.get().snapshot.version()
     }
 
     /// The clock of the last post, or 0. Takes no memory.
@@ -119,7 +119,7 @@ impl Guard {
         ensures clock { result.0 ≡ last_post self.now }
         ensures bound { result.0 ≤ 9 * 10 ^ 18 }
     {
-        self.reading.get().told.clock()
+        self.reading.get().snapshot.clock()
     }
 
     /// The table's entry for a bucket. Takes no memory.

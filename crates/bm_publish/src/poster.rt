@@ -8,8 +8,8 @@ ghost use Rattle.bm_publish.specs.Inside.Boards.{IsRight, ShowsAllBut, changed_f
 ghost use Rattle.bm_publish.specs.Posts.{Continues, last_post, last_version, with_post};
 
 use crate::look::{Guard, Look};
-use crate::shown::{Hearing, Kept, Post, Seeing, Shown, Telling};
-use crate::told::{History, Told};
+use crate::shown::{Giving, Kept, Post, Seeing, Shown, Taking};
+use crate::snapshot::{History, Snapshot};
 use bm_base::{List, Memory, Moment};
 use bm_table::{Change, Kind, Plan, Table};
 use core::mem::replace_with;
@@ -18,7 +18,7 @@ use std::alloc::Global;
 use std::marker::Model;
 use std::sync::Wait;
 
-type Ends = Writer<Shown, Post, Option<Told>, Kept>;
+type Ends = Writer<Shown, Post, Option<Snapshot>, Kept>;
 
 /// The end of a board that posts. It isn't Drop: end it by `end`. Contracts see what is posted.
 pub struct Poster {
@@ -39,10 +39,10 @@ impl Model for Poster {
     ghost view = { λ p. p.history };
 
     ghost invariant = { λ p. (drop p.writer.behind p.writer.log.items ≡ [])
-        × IsRight p.writer.desk.shown.value.table p.writer.desk.shown.value.told
-        × (seat_view p.writer.desk.place ≡ Some p.writer.desk.shown.value.told)
-        × (p.writer.desk.shown.value.told.board ≡ p.history.board)
-        × ShowsAllBut p.writer.desk.shown.value.table p.writer.desk.shown.value.told p.history
+        × IsRight p.writer.desk.shown.value.table p.writer.desk.shown.value.snapshot
+        × (seat_view p.writer.desk.place ≡ Some p.writer.desk.shown.value.snapshot)
+        × (p.writer.desk.shown.value.snapshot.board ≡ p.history.board)
+        × ShowsAllBut p.writer.desk.shown.value.table p.writer.desk.shown.value.snapshot p.history
         p.waiting };
 }
 
@@ -83,13 +83,13 @@ fn idle_change(alloc: Global) -> Change
 /// Shows a post. If memory was refused the ends show what they showed, and the post comes back.
 fn publish<R: Wait>(rt: &R, mut writer: Ends, post: Post) -> (Ends, Option<Post>)
     requires idle { drop writer.behind writer.log.items ≡ [] }
-    requires right { IsRight writer.desk.shown.value.table writer.desk.shown.value.told }
-    requires next { IsRight (changed_from post.change 0 writer.desk.shown.value.table) post.told }
-    requires board { post.told.board ≡ writer.desk.shown.value.told.board }
+    requires right { IsRight writer.desk.shown.value.table writer.desk.shown.value.snapshot }
+    requires next { IsRight (changed_from post.change 0 writer.desk.shown.value.table) post.snapshot }
+    requires board { post.snapshot.board ≡ writer.desk.shown.value.snapshot.board }
     ensures idle { drop result.0.behind result.0.log.items ≡ [] }
-    ensures shown { MatchOption result.1 ((result.0.desk.shown.value.told ≡ post.told)
-        × IsRight result.0.desk.shown.value.table post.told
-        × (seat_view result.0.desk.place ≡ Some post.told))
+    ensures shown { MatchOption result.1 ((result.0.desk.shown.value.snapshot ≡ post.snapshot)
+        × IsRight result.0.desk.shown.value.table post.snapshot
+        × (seat_view result.0.desk.place ≡ Some post.snapshot))
         (λ back. (back ≡ post) × (result.0.desk.shown.value ≡ writer.desk.shown.value)
         × (seat_view result.0.desk.place ≡ seat_view writer.desk.place)) }
 {
@@ -106,16 +106,16 @@ fn publish<R: Wait>(rt: &R, mut writer: Ends, post: Post) -> (Ends, Option<Post>
 /// Shows a post. If memory was refused it comes back, to wait.
 fn show<R: Wait>(rt: &R, writer: Ends, post: Post) -> (Ends, Option<Post>)
     requires idle { drop writer.behind writer.log.items ≡ [] }
-    requires right { IsRight writer.desk.shown.value.table writer.desk.shown.value.told }
-    requires seat { seat_view writer.desk.place ≡ Some writer.desk.shown.value.told }
-    requires next { IsRight (changed_from post.change 0 writer.desk.shown.value.table) post.told }
-    requires board { post.told.board ≡ writer.desk.shown.value.told.board }
+    requires right { IsRight writer.desk.shown.value.table writer.desk.shown.value.snapshot }
+    requires seat { seat_view writer.desk.place ≡ Some writer.desk.shown.value.snapshot }
+    requires next { IsRight (changed_from post.change 0 writer.desk.shown.value.table) post.snapshot }
+    requires board { post.snapshot.board ≡ writer.desk.shown.value.snapshot.board }
     ensures idle { drop result.0.behind result.0.log.items ≡ [] }
-    ensures right { IsRight result.0.desk.shown.value.table result.0.desk.shown.value.told }
-    ensures seat { seat_view result.0.desk.place ≡ Some result.0.desk.shown.value.told }
-    ensures board { result.0.desk.shown.value.told.board ≡ post.told.board }
-    ensures waits { ShowsAllBut result.0.desk.shown.value.table result.0.desk.shown.value.told
-        post.told result.1 }
+    ensures right { IsRight result.0.desk.shown.value.table result.0.desk.shown.value.snapshot }
+    ensures seat { seat_view result.0.desk.place ≡ Some result.0.desk.shown.value.snapshot }
+    ensures board { result.0.desk.shown.value.snapshot.board ≡ post.snapshot.board }
+    ensures waits { ShowsAllBut result.0.desk.shown.value.table result.0.desk.shown.value.snapshot
+        post.snapshot result.1 }
 {
     let (writer, back) = publish(rt, writer, post);
     match back {
@@ -132,16 +132,16 @@ fn show_rest<R: Wait>(
     history: &History,
 ) -> (Ends, Option<Post>)
     requires idle { drop writer.behind writer.log.items ≡ [] }
-    requires right { IsRight writer.desk.shown.value.table writer.desk.shown.value.told }
-    requires seat { seat_view writer.desk.place ≡ Some writer.desk.shown.value.told }
-    requires board { writer.desk.shown.value.told.board ≡ history.now.board }
-    requires waits { ShowsAllBut writer.desk.shown.value.table writer.desk.shown.value.told
+    requires right { IsRight writer.desk.shown.value.table writer.desk.shown.value.snapshot }
+    requires seat { seat_view writer.desk.place ≡ Some writer.desk.shown.value.snapshot }
+    requires board { writer.desk.shown.value.snapshot.board ≡ history.now.board }
+    requires waits { ShowsAllBut writer.desk.shown.value.table writer.desk.shown.value.snapshot
         history.now waiting }
     ensures idle { drop result.0.behind result.0.log.items ≡ [] }
-    ensures right { IsRight result.0.desk.shown.value.table result.0.desk.shown.value.told }
-    ensures seat { seat_view result.0.desk.place ≡ Some result.0.desk.shown.value.told }
-    ensures board { result.0.desk.shown.value.told.board ≡ history.now.board }
-    ensures waits { ShowsAllBut result.0.desk.shown.value.table result.0.desk.shown.value.told
+    ensures right { IsRight result.0.desk.shown.value.table result.0.desk.shown.value.snapshot }
+    ensures seat { seat_view result.0.desk.place ≡ Some result.0.desk.shown.value.snapshot }
+    ensures board { result.0.desk.shown.value.snapshot.board ≡ history.now.board }
+    ensures waits { ShowsAllBut result.0.desk.shown.value.table result.0.desk.shown.value.snapshot
         history.now result.1 }
 {
     match waiting {
@@ -153,17 +153,17 @@ fn show_rest<R: Wait>(
 /// The poster with one more post.
 fn add<R: Wait>(rt: &R, writer: Ends, history: History, change: Change, clock: Moment) -> Poster
     requires idle { drop writer.behind writer.log.items ≡ [] }
-    requires right { IsRight writer.desk.shown.value.table writer.desk.shown.value.told }
-    requires seat { seat_view writer.desk.place ≡ Some writer.desk.shown.value.told }
-    requires same { writer.desk.shown.value.told ≡ history }
+    requires right { IsRight writer.desk.shown.value.table writer.desk.shown.value.snapshot }
+    requires seat { seat_view writer.desk.place ≡ Some writer.desk.shown.value.snapshot }
+    requires same { writer.desk.shown.value.snapshot ≡ history }
     requires next { next_change history.plan (last_version history) ≡ Some change }
     requires later { last_post history < clock.0 }
     requires last { clock.0 ≤ 9 * 10 ^ 18 }
     ensures { result ≡ with_post history clock.0 }
 {
     let more = history.with_post(clock);
-    let told = more.tell();
-    let (writer, waiting) = show(rt, writer, Post { change, told });
+    let snapshot = more.snapshot();
+    let (writer, waiting) = show(rt, writer, Post { change, snapshot });
     Poster {
         writer,
         history: more,
@@ -213,16 +213,16 @@ impl Poster {
         let Some(history) = History::open(plan) else {
             return Err(Memory);
         };
-        let told = history.tell();
+        let snapshot = history.snapshot();
         let writer = Writer::new(
             alloc,
-            shown(alloc, plan, &told)?,
-            shown(alloc, plan, &told)?,
+            shown(alloc, plan, &snapshot)?,
+            shown(alloc, plan, &snapshot)?,
             usize::from(readers),
         )?;
         let post = Post {
             change: idle_change(alloc),
-            told,
+            snapshot,
         };
         let (writer, waiting) = publish(rt, writer, post);
         if let Some(_post) = waiting {
@@ -243,8 +243,8 @@ impl Poster {
         ensures look { IfOk result (λ look. look ≡ self.old) }
     {
         let mut reader = self.writer.factory().reader()?;
-        reader.learn::<Hearing>(self.writer.tell::<Telling>());
-        Ok(Look::new(reader, self.tell()))
+        reader.learn::<Taking>(self.writer.tell::<Giving>());
+        Ok(Look::new(reader, self.snapshot()))
     }
 
     /// This many looks.
@@ -277,10 +277,10 @@ impl Poster {
     }
 
     /// All that was posted, for a look to learn. Takes no memory.
-    pub fn tell(&self) -> Told
+    pub fn snapshot(&self) -> Snapshot
         ensures { result ≡ self.now }
     {
-        self.history.tell()
+        self.history.snapshot()
     }
 
     /// A law: what a guard of this board shows is a prefix of what was posted, also after a refused
@@ -290,7 +290,7 @@ impl Poster {
         ensures kept { self.new ≡ self.old }
         ensures posted { Continues guard.now self.old }
     {
-        self.history.was_posted(guard.told());
+        self.history.was_posted(guard.snapshot());
     }
 
     /// Drops the board. Waits for the looks that read.
@@ -305,13 +305,13 @@ impl Poster {
 }
 
 /// The table of version 0.
-fn shown(alloc: Global, plan: &Plan, told: &Told) -> Result<Shown, Memory>
-    requires { (told.now.plan ≡ plan.now) × (told.now.clocks ≡ []) }
-    ensures told { IfOk result (λ s. s.told ≡ told.now) }
-    ensures right { IfOk result (λ s. IsRight s.table s.told) }
+fn shown(alloc: Global, plan: &Plan, snapshot: &Snapshot) -> Result<Shown, Memory>
+    requires { (snapshot.now.plan ≡ plan.now) × (snapshot.now.clocks ≡ []) }
+    ensures snapshot { IfOk result (λ s. s.snapshot ≡ snapshot.now) }
+    ensures right { IfOk result (λ s. IsRight s.table s.snapshot) }
 {
     Ok(Shown {
         table: Table::opening(alloc, plan)?,
-        told: told.again(),
+        snapshot: snapshot.again(),
     })
 }

@@ -216,7 +216,7 @@ impl Known {
 
     /// Records what buckets leave by the version, if one is published.
     #[tactic(auto, using(crate::proofs::Leaving::still_newest))]
-    fn note_leaves(&mut self, alloc: Global, stage: &Stage, event: &Event) -> Result<(), Memory>
+    fn observe_leaves(&mut self, alloc: Global, stage: &Stage, event: &Event) -> Result<(), Memory>
         requires { AreMoves stage.now.script.plan self.old.moves }
         ensures keeps { (past : List Event)
             → KeepsLeaves stage.now.script.plan (newest past) self.old.leaves
@@ -228,7 +228,7 @@ impl Known {
             What::Publish(version) => {
                 let before = version.0.saturating_sub(1);
                 let plan = &stage.script.plan;
-                self.leaves.note(alloc, plan, &self.moves, before)?;
+                self.leaves.observe(alloc, plan, &self.moves, before)?;
                 Ok(())
             }
             What::Switch { .. }
@@ -263,12 +263,12 @@ impl Known {
         if !self.may_come(alloc, stage, event)? {
             return Ok(false);
         }
-        self.note_leaves(alloc, stage, event)?;
-        self.clocks.note(author, event.clock)?;
-        self.labels.note(&self.versions, event.what);
-        self.versions.note(event.what)?;
-        self.tallies.note(event.what)?;
-        self.losses.note(event)?;
+        self.observe_leaves(alloc, stage, event)?;
+        self.clocks.observe(author, event.clock)?;
+        self.labels.observe(&self.versions, event.what);
+        self.versions.observe(event.what)?;
+        self.tallies.observe(event.what)?;
+        self.losses.observe(event)?;
         Ok(true)
     }
 

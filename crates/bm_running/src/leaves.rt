@@ -157,7 +157,7 @@ impl Leaves {
     }
 
     /// Records the change that comes after this many.
-    pub(crate) fn note(
+    pub(crate) fn observe(
         &mut self,
         alloc: Global,
         plan: &Plan,

@@ -317,7 +317,7 @@ impl<P: Fn(ServerId) -> u16 + Drop> Reading<P> {
             server,
             flow,
         };
-        self.tell(at, server, command)
+        self.ask(at, server, command)
     }
 
     fn retire(&mut self, at: u64, table: &Table) -> Result<(), ScriptFault>
@@ -332,7 +332,7 @@ impl<P: Fn(ServerId) -> u16 + Drop> Reading<P> {
             at: Moment(at),
             server,
         };
-        self.tell(at, server, command)
+        self.ask(at, server, command)
     }
 
     /// Adds a command, which leads to the change that the controller made last, unless it refused.
@@ -355,7 +355,7 @@ impl<P: Fn(ServerId) -> u16 + Drop> Reading<P> {
     }
 
     /// Adds a command to a server that must be known.
-    fn tell(&mut self, at: u64, server: ServerId, command: Command) -> Result<(), ScriptFault>
+    fn ask(&mut self, at: u64, server: ServerId, command: Command) -> Result<(), ScriptFault>
         requires few { length self.old.commands.items < 65536 }
         requires counted { IsCounted self.old }
         ensures { Reads self.old self.new

@@ -14,7 +14,7 @@ use Rattle.bm_rows.specs.Rows.{glued}
 use Rattle.bm_rows.proofs.Places.{there}
 use Rattle.bm_rows.proofs.Lasts.{IsLast, rows_left, heads, tails, lasts, take_one}
 use Rattle.bm_server.specs.Servings.{Serving, shard_at}
-use Rattle.bm_server.specs.Seats.{Seated, row, row_from, seat_of, telling, told_of, seen_at, seen_of}
+use Rattle.bm_server.specs.Seats.{Seated, row, row_from, seat_of, replies_in, replies_of, seen_at, seen_of}
 use Rattle.bm_server.specs.Books.{IsBookOf}
 
 -- ROWS
@@ -118,9 +118,9 @@ pub book_from : (server : Serving) (seats : List (List Seated)) (m : ℕ) (t : T
     → Replays book.shard (reverse book.entries) → AllBelow seat_of (length column) book.entries
     → ((k : ℕ) (s : Seated) → slice_get column k ≡ Some s → Covers seat_of k s.seen book.entries)
     → ((k : ℕ) (s : Seated) → slice_get column k ≡ Some s
-    → telling s.fixed k book.entries ≡ told_of (Some s))
+    → replies_in s.fixed k book.entries ≡ replies_of (Some s))
     → IsBookOf server seats m book
-book_from server seats m t column book c some count fixed replays below seen told =
+book_from server seats m t column book c some count fixed replays below seen replies =
     let long = c.long in
     let first = there column 0 (omega arith) in
     let kind : Some (shard_at server m) ≡ Some book.shard =
@@ -136,10 +136,10 @@ book_from server seats m t column book c some count fixed replays below seen tol
       below = subst (λ (n : ℕ). AllBelow seat_of n book.entries) c.long below;
       seen = covers;
       mine = λ i seat at. own_covered seat_of i (seen_at seat m) book.entries (covers i seat at);
-      told = λ i seat at.
+      replies = λ i seat at.
           let a = at_shard server seats m t column c count i seat at in
-          ap (λ (o : Option Shard). telling o i book.entries) (sym a.2.fixed)
-          ∙ (told i a.0 a.1 ∙ ap told_of (sym a.2.there));
+          ap (λ (o : Option Shard). replies_in o i book.entries) (sym a.2.fixed)
+          ∙ (replies i a.0 a.1 ∙ ap replies_of (sym a.2.there));
     }
 
 -- what is left without the last shard

@@ -8,7 +8,7 @@ use Rattle.bm_shard.specs.declared.book.Shard.{Shard}
 use Rattle.bm_shard.specs.declared.calls.ShardEntry.{ShardEntry}
 use Rattle.bm_turnstile.specs.Sittings.{Who, IsFresh, who, post}
 use Rattle.bm_server.specs.Servings.{serving, shard_at}
-use Rattle.bm_server.specs.Seats.{Seated, IsNewSeat, row_from, telling, told_at, most_turns, seen_at}
+use Rattle.bm_server.specs.Seats.{Seated, IsNewSeat, row_from, replies_in, replies_at, most_turns, seen_at}
 
 row-snoc : (f : ℕ → Shard) (n i h : ℕ) (ts : List TableId) (t : TableId)
     → row_from f n i h (ts ++ t ∷ []) ≡ row_from f n i h ts ++ post t (Some (f (h + length ts))) n i ∷ []
@@ -18,17 +18,17 @@ row-snoc f n i h (x ∷ ts) t =
     ap (λ (l : List (Who Shard)). post x (Some (f h)) n i ∷ l)
     (row-snoc f n i (suc h) ts t ∙ ap (λ (k : ℕ). row_from f n i (suc h) ts ++ post t (Some (f k)) n i ∷ []) e)
 
-none_told : (o : Option Shard) (n : ℕ) → telling o n [] ≡ []
-none_told None n = refl
-none_told (Some about) n = refl
+no_replies : (o : Option Shard) (n : ℕ) → replies_in o n [] ≡ []
+no_replies None n = refl
+no_replies (Some about) n = refl
 
-fresh_told : (r : List Seated) (s : Seated) → s.seen ≡ [] → ((h : ℕ) → told_at r h ≡ [])
-    → (h : ℕ) → told_at (r ++ s ∷ []) h ≡ []
-fresh_told [] s seen none zero =
-    ap (λ (es : List ShardEntry). telling s.fixed s.number es) seen ∙ none_told s.fixed s.number
-fresh_told [] s seen none (suc h) = refl
-fresh_told (x ∷ r) s seen none zero = none 0
-fresh_told (x ∷ r) s seen none (suc h) = fresh_told r s seen (λ k. none (suc k)) h
+fresh_replies : (r : List Seated) (s : Seated) → s.seen ≡ [] → ((h : ℕ) → replies_at r h ≡ [])
+    → (h : ℕ) → replies_at (r ++ s ∷ []) h ≡ []
+fresh_replies [] s seen none zero =
+    ap (λ (es : List ShardEntry). replies_in s.fixed s.number es) seen ∙ no_replies s.fixed s.number
+fresh_replies [] s seen none (suc h) = refl
+fresh_replies (x ∷ r) s seen none zero = none 0
+fresh_replies (x ∷ r) s seen none (suc h) = fresh_replies r s seen (λ k. none (suc k)) h
 
 fresh_seen : (r : List Seated) (s : Seated) → s.seen ≡ [] → ((h : ℕ) → seen_at r h ≡ [])
     → (h : ℕ) → seen_at (r ++ s ∷ []) h ≡ []
@@ -45,7 +45,7 @@ pub no_shard : (id : ServerId) (capacity timeout seats i : ℕ) (seat : List Sea
     → IsNewSeat (serving id capacity timeout seats []) i seat
 no_shard id capacity timeout seats i seat e =
     let P : List Seated → Type 0 = λ s. IsNewSeat (serving id capacity timeout seats []) i s in
-    subst P (sym e) (record { «is» = refl; turns = refl; seen = λ h. refl; told = λ h. refl })
+    subst P (sym e) (record { «is» = refl; turns = refl; seen = λ h. refl; replies = λ h. refl })
 
 pub fresh_more : (id : ServerId) (capacity timeout seats : ℕ) (ts : List TableId) (t : TableId) (i : ℕ)
     (r : List Seated) (s : Seated) → IsNewSeat (serving id capacity timeout seats ts) i r → IsFresh s
@@ -60,5 +60,5 @@ fresh_more id capacity timeout seats ts t i r s new fresh w =
           ∙ ((λ j. new.«is» j ++ w j ∷ []) ∙ (last ∙ sym (row-snoc f seats i 0 ts t)));
       turns = fresh_turns r s fresh.turns new.turns;
       seen = fresh_seen r s fresh.seen new.seen;
-      told = fresh_told r s fresh.seen new.told;
+      replies = fresh_replies r s fresh.seen new.replies;
     }

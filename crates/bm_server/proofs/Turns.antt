@@ -18,12 +18,12 @@ use Rattle.bm_shard.specs.declared.fault.HandleFault.{HandleFault}
 use Rattle.bm_shard.specs.declared.fault.HandleFault.TheVariants.{Memory}
 use Rattle.bm_turnstile.specs.Seen.{SeesMore, Turned}
 use Rattle.bm_turnstile.specs.Sittings.{Who, who}
-use Rattle.bm_turnstile.specs.Told.{IsTold}
-use Rattle.bm_server.specs.Copies.{TellsCopy, arrival}
+use Rattle.bm_turnstile.specs.Replies.{AddsReply}
+use Rattle.bm_server.specs.Copies.{HandlesCopy, arrival}
 use Rattle.bm_server.specs.Servings.{Serving, shard_at, shard_for}
 use Rattle.bm_server.specs.Seats.{row, row_from}
-use Rattle.bm_server.specs.Seats.{Seated, Answered, IsReply, Tells, seat_of, call_of, reply_of}
-use Rattle.bm_server.specs.Seats.{told_of, told_at, added, said, most_turns, Sees, TakesTurn}
+use Rattle.bm_server.specs.Seats.{Seated, Answered, IsReply, GetsReply, seat_of, call_of, reply_of}
+use Rattle.bm_server.specs.Seats.{replies_of, replies_at, added, added_at, most_turns, Sees, TakesTurn}
 
 pub inside : (tables : List TableId) (l seat : List Seated) (h : ℕ) → l ≡ seat
     → map (λ (s : Seated). s.table) seat ≡ tables → h < length tables → h < length l
@@ -59,25 +59,25 @@ turns_set [] h d t lt e = absurd (omega arith)
 turns_set (x ∷ xs) zero d t lt e = omega arith
 turns_set (x ∷ xs) (suc h) d t lt e = let a = turns_set xs h d t (omega arith) e in omega arith
 
-told_by : {M : Type 0} (s t : Seated) (call : ShardCall) (r : Result ShardReply M)
-    → IsTold seat_of call_of reply_of s t call r → told_of (Some t) ≡ told_of (Some s) ++ added call r
-told_by s t call (Ok x) told = told
-told_by s t call (Err e) told = told ∙ sym (append-nil (told_of (Some s)))
+replies_by : {M : Type 0} (s t : Seated) (call : ShardCall) (r : Result ShardReply M)
+    → AddsReply seat_of call_of reply_of s t call r → replies_of (Some t) ≡ replies_of (Some s) ++ added call r
+replies_by s t call (Ok x) replies = replies
+replies_by s t call (Err e) replies = replies ∙ sym (append-nil (replies_of (Some s)))
 
-pub told_set : {M : Type 0} (l : List Seated) (h : ℕ) (s t : Seated) (call : ShardCall) (r : Result ShardReply M)
-    → h < length l → s ≡ get_or l h s → IsTold seat_of call_of reply_of s t call r
-    → (k : ℕ) → told_at (set l h t) k ≡ told_at l k ++ said h call r k
-told_set l h s t call r lt is told k = elim (cases_Bool (k == h)) [
+pub replies_set : {M : Type 0} (l : List Seated) (h : ℕ) (s t : Seated) (call : ShardCall) (r : Result ShardReply M)
+    → h < length l → s ≡ get_or l h s → AddsReply seat_of call_of reply_of s t call r
+    → (k : ℕ) → replies_at (set l h t) k ≡ replies_at l k ++ added_at h call r k
+replies_set l h s t call r lt is replies k = elim (cases_Bool (k == h)) [
   | inl here ↦
       let e : k ≡ h = eqb-true k h here in
       let old : slice_get l k ≡ Some s = ap (slice_get l) e ∙ (slice_get-get_or l h s lt ∙ ap Some (sym is)) in
       let new : slice_get (set l h t) k ≡ Some t = ap (slice_get (set l h t)) e ∙ slice_get-set_same l h t lt in
-      let more : said h call r k ≡ added call r = ap (λ (b : Bool). cond b (added call r) []) here in
-      ap told_of new ∙ (told_by s t call r told ∙ (λ i. told_of (sym old i) ++ sym more i))
+      let more : added_at h call r k ≡ added call r = ap (λ (b : Bool). cond b (added call r) []) here in
+      ap replies_of new ∙ (replies_by s t call r replies ∙ (λ i. replies_of (sym old i) ++ sym more i))
   | inr other ↦
-      let rest : said h call r k ≡ [] = ap (λ (b : Bool). cond b (added call r) []) other in
-      ap told_of (slice_get-set_other l h k t (λ e. eqb-false k h other (sym e)))
-      ∙ (sym (append-nil (told_at l k)) ∙ ap (λ (more : List Answered). told_at l k ++ more) (sym rest))
+      let rest : added_at h call r k ≡ [] = ap (λ (b : Bool). cond b (added call r) []) other in
+      ap replies_of (slice_get-set_other l h k t (λ e. eqb-false k h other (sym e)))
+      ∙ (sym (append-nil (replies_at l k)) ∙ ap (λ (more : List Answered). replies_at l k ++ more) (sym rest))
 ]
 
 sees_by : {M : Type 0} (s t : Seated) (call : ShardCall) (r : Result ShardReply M)
@@ -123,27 +123,27 @@ err_turn h call e f old new turn = record { turns = turn.turns; sees = turn.sees
 pub copy_replied : {M : Type 0} (server : Serving) (packet h : ℕ) (due : Moment) (read : Tag × Segment)
     (copy : Result (Tag × Segment) HandleFault) (r : Result ShardReply M) (reply : ShardReply)
     (old new : List Seated) → Ok read ≡ copy → h ≡ shard_for server read.1.flow → r ≡ Ok reply
-    → Tells h (arrival packet due read) r old new → TakesTurn h (arrival packet due read) r old new
-    → IsReply (arrival packet due read) r → TellsCopy server packet due copy (Ok reply) old new
-copy_replied {M} server packet h due read copy r reply old new is at ok tells turn given =
+    → GetsReply h (arrival packet due read) r old new → TakesTurn h (arrival packet due read) r old new
+    → IsReply (arrival packet due read) r → HandlesCopy server packet due copy (Ok reply) old new
+copy_replied {M} server packet h due read copy r reply old new is at ok gets turn given =
     let call = arrival packet due read in
     let P : ℕ → Result ShardReply M → Type 0 = λ k x.
-    Tells k call x old new × TakesTurn k call x old new × IsReply call x in
+    GetsReply k call x old new × TakesTurn k call x old new × IsReply call x in
     let a : P (shard_for server read.1.flow) (Ok reply) =
-    subst (λ (k : ℕ). P k (Ok reply)) at (subst (P h) ok (tells, turn, given)) in
-    subst (λ (x : Result (Tag × Segment) HandleFault). TellsCopy server packet due x (Ok reply) old new) is
+    subst (λ (k : ℕ). P k (Ok reply)) at (subst (P h) ok (gets, turn, given)) in
+    subst (λ (x : Result (Tag × Segment) HandleFault). HandlesCopy server packet due x (Ok reply) old new) is
     (a.0, tt, a.2, ok_turn (shard_for server read.1.flow) call reply old new a.1)
 
 -- the same where memory was refused
 pub copy_refused : {M : Type 0} (server : Serving) (packet h : ℕ) (due : Moment) (read : Tag × Segment)
     (copy : Result (Tag × Segment) HandleFault) (r : Result ShardReply M) (e : M) (old new : List Seated)
     → Ok read ≡ copy → h ≡ shard_for server read.1.flow → r ≡ Err e
-    → Tells h (arrival packet due read) r old new → TakesTurn h (arrival packet due read) r old new
-    → TellsCopy server packet due copy (Err Memory) old new
-copy_refused {M} server packet h due read copy r e old new is at err tells turn =
+    → GetsReply h (arrival packet due read) r old new → TakesTurn h (arrival packet due read) r old new
+    → HandlesCopy server packet due copy (Err Memory) old new
+copy_refused {M} server packet h due read copy r e old new is at err gets turn =
     let call = arrival packet due read in
-    let P : ℕ → Result ShardReply M → Type 0 = λ k x. Tells k call x old new × TakesTurn k call x old new in
+    let P : ℕ → Result ShardReply M → Type 0 = λ k x. GetsReply k call x old new × TakesTurn k call x old new in
     let a : P (shard_for server read.1.flow) (Err e) =
-    subst (λ (k : ℕ). P k (Err e)) at (subst (P h) err (tells, turn)) in
-    subst (λ (x : Result (Tag × Segment) HandleFault). TellsCopy server packet due x (Err Memory) old new) is
+    subst (λ (k : ℕ). P k (Err e)) at (subst (P h) err (gets, turn)) in
+    subst (λ (x : Result (Tag × Segment) HandleFault). HandlesCopy server packet due x (Err Memory) old new) is
     (a.0, refl, tt, err_turn (shard_for server read.1.flow) call e Memory old new a.1)

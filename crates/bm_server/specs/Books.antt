@@ -3,7 +3,7 @@ use Rattle.std.specs.Prelude.{◌≡◌, ℕ, List, reverse, slice_get, Some}
 use Rattle.bm_shard.specs.Books.{Book, Replays}
 use Rattle.bm_turnstile.specs.Seen.{AllBelow, Covers, own}
 use Rattle.bm_server.specs.Servings.{Serving, shard_at}
-use Rattle.bm_server.specs.Seats.{Seated, seat_of, seen_at, telling, told_at}
+use Rattle.bm_server.specs.Seats.{Seated, replies_at, replies_in, seat_of, seen_at}
 
 -- the book of the shard h, once these are all seats of the server
 pub record IsBookOf (server : Serving) (seats : List (List Seated)) (h : ℕ)
@@ -18,5 +18,5 @@ pub record IsBookOf (server : Serving) (seats : List (List Seated)) (h : ℕ)
   pub mine : (i : ℕ) (seat : List Seated) → slice_get seats i ≡ Some seat
       → own seat_of i book.entries ≡ own seat_of i (seen_at seat h)
   -- for each seat, the book has exactly that seat's calls and replies
-  pub told : (i : ℕ) (seat : List Seated) → slice_get seats i ≡ Some seat
-      → telling (Some (shard_at server h)) i book.entries ≡ told_at seat h
+  pub replies : (i : ℕ) (seat : List Seated) → slice_get seats i ≡ Some seat
+      → replies_in (Some (shard_at server h)) i book.entries ≡ replies_at seat h

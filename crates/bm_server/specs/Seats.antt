@@ -9,7 +9,7 @@ use Rattle.bm_shard.specs.declared.calls.ShardEntry.{ShardEntry}
 use Rattle.bm_shard.specs.declared.calls.ShardReply.{ShardReply}
 use Rattle.bm_turnstile.specs.Seen.{SeesMore, Turned}
 use Rattle.bm_turnstile.specs.Sittings.{Sitting, Who, post, who}
-use Rattle.bm_turnstile.specs.Told.{told}
+use Rattle.bm_turnstile.specs.Replies.{replies}
 use Rattle.bm_server.specs.Servings.{Serving, shard_at}
 
 -- a seat at one shard. A seat of a server is the list of its seats at the shards
@@ -49,29 +49,29 @@ abbrev pub Answered : Type 0
 Answered = ShardCall × ShardReply
 
 -- the calls under the number n among these entries of a shard's book, each with its reply
-abbrev pub telling : Option Shard → ℕ → List ShardEntry → List Answered
-telling = told seat_of call_of reply_of
+abbrev pub replies_in : Option Shard → ℕ → List ShardEntry → List Answered
+replies_in = replies seat_of call_of reply_of
 
-abbrev pub told_of : Option Seated → List Answered
-told_of None = []
-told_of (Some s) = telling s.fixed s.number s.seen
+abbrev pub replies_of : Option Seated → List Answered
+replies_of None = []
+replies_of (Some s) = replies_in s.fixed s.number s.seen
 
 -- the seat's calls to the shard h, each with its reply
-abbrev pub told_at : List Seated → ℕ → List Answered
-told_at seat h = told_of (slice_get seat h)
+abbrev pub replies_at : List Seated → ℕ → List Answered
+replies_at seat h = replies_of (slice_get seat h)
 
 abbrev pub added : {M : Type 0} → ShardCall → Result ShardReply M → List Answered
 added call (Ok reply) = (call, reply) ∷ []
 added call (Err e) = []
 
 -- what a call to the shard h adds to the seat's calls to the shard k
-abbrev pub said : {M : Type 0} → ℕ → ShardCall → Result ShardReply M → ℕ → List Answered
-said h call result k = cond (k == h) (added call result) []
+abbrev pub added_at : {M : Type 0} → ℕ → ShardCall → Result ShardReply M → ℕ → List Answered
+added_at h call result k = cond (k == h) (added call result) []
 
 -- a seat after a call to the shard h
-abbrev pub Tells : {M : Type 0} → ℕ → ShardCall → Result ShardReply M → List Seated → List Seated
+abbrev pub GetsReply : {M : Type 0} → ℕ → ShardCall → Result ShardReply M → List Seated → List Seated
     → Type 0
-Tells h call result old new = (k : ℕ) → told_at new k ≡ told_at old k ++ said h call result k
+GetsReply h call result old new = (k : ℕ) → replies_at new k ≡ replies_at old k ++ added_at h call result k
 
 -- WHAT IT HAS SEEN
 
@@ -109,4 +109,4 @@ pub record IsNewSeat (server : Serving) (i : ℕ) (seat : List Seated) : Type 0 
   pub «is» : map who seat ≡ row server i
   pub turns : most_turns seat ≡ 0
   pub seen : (h : ℕ) → seen_at seat h ≡ []
-  pub told : (h : ℕ) → told_at seat h ≡ []
+  pub replies : (h : ℕ) → replies_at seat h ≡ []

@@ -6,8 +6,8 @@ ghost use Rattle.bm_shard.specs.Copies.{copy_in};
 ghost use Rattle.bm_shard.specs.declared.calls.ShardCall.TheVariants.{Close, Retire};
 ghost use Rattle.bm_turnstile.specs.Sittings.{who};
 ghost use Rattle.bm_server.specs.Books.{IsBookOf};
-ghost use Rattle.bm_server.specs.Copies.{TellsCopy};
-ghost use Rattle.bm_server.specs.Seats.{IsNewSeat, IsReply, TakesTurn, Tells};
+ghost use Rattle.bm_server.specs.Copies.{HandlesCopy};
+ghost use Rattle.bm_server.specs.Seats.{GetsReply, IsNewSeat, IsReply, TakesTurn};
 ghost use Rattle.bm_server.specs.Seats.{most_turns, row};
 ghost use Rattle.bm_server.specs.Servings.{serving, shard_for};
 
@@ -111,8 +111,8 @@ impl Server {
         requires due { due.0 ≤ 9 * 10 ^ 18 }
         ensures who { map who seat.new ≡ map who seat.old }
         ensures turns { most_turns seat.new ≤ most_turns seat.old + 1 }
-        ensures told { let read = copy_in self.now.id octets.now in
-            TellsCopy self.now packet due read result seat.old seat.new }
+        ensures replies { let read = copy_in self.now.id octets.now in
+            HandlesCopy self.now packet due read result seat.old seat.new }
     {
         let (tag, segment) = read_copy(self.id, octets)?;
         let shard = shard_of(&segment.flow, self.shards());
@@ -142,7 +142,7 @@ impl Server {
         requires moment { at.0 ≤ 9 * 10 ^ 18 }
         ensures who { map who seat.new ≡ map who seat.old }
         ensures turns { most_turns seat.new ≤ most_turns seat.old + 1 }
-        ensures told { Tells (shard_for self.now flow) (Close flow at) result seat.old seat.new }
+        ensures replies { GetsReply (shard_for self.now flow) (Close flow at) result seat.old seat.new }
         ensures turn { TakesTurn (shard_for self.now flow) (Close flow at) result seat.old seat.new }
         ensures reply { IsReply (Close flow at) result }
     {
@@ -166,7 +166,7 @@ impl Server {
         requires moment { at.0 ≤ 9 * 10 ^ 18 }
         ensures who { map who seat.new ≡ map who seat.old }
         ensures turns { most_turns seat.new ≤ most_turns seat.old + 1 }
-        ensures told { Tells shard (Retire at outcome) result seat.old seat.new }
+        ensures replies { GetsReply shard (Retire at outcome) result seat.old seat.new }
         ensures turn { TakesTurn shard (Retire at outcome) result seat.old seat.new }
         ensures reply { IsReply (Retire at outcome) result }
     {
@@ -191,7 +191,7 @@ impl Server {
         requires taken { IsTaken call }
         ensures who { map who seat.new ≡ map who seat.old }
         ensures turns { most_turns seat.new ≤ most_turns seat.old + 1 }
-        ensures told { Tells shard call result seat.old seat.new }
+        ensures replies { GetsReply shard call result seat.old seat.new }
         ensures turn { TakesTurn shard call result seat.old seat.new }
         ensures reply { IsReply call result }
     {

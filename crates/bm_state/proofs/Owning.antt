@@ -67,13 +67,13 @@ owners_steer stage past e old new packet m found is of puts same keeps = record 
 
 -- AN ACCEPT
 
-accept_noted : (stage : Stage) (past : List Event) (packet : ℕ) (hop : Hop) (server : ServerId) (f : Flow)
+accept_observed : (stage : Stage) (past : List Event) (packet : ℕ) (hop : Hop) (server : ServerId) (f : Flow)
     (found : Owner) (before : Option Accepted) (old : Option Owner)
     → found.server ≡ server → found.version ≡ version_of (label_of stage past packet) → found.place ≡ length past
     → option_map as_accepted old ≡ before
     → option_map as_accepted (if is_of (segment_of stage packet) f then Some found else old)
     ≡ accept_after stage past (Arrive packet hop server Accept) f before
-accept_noted stage past packet hop server f found before old s v p is =
+accept_observed stage past packet hop server f found before old s v p is =
     elim (cases_Bool (is_of (segment_of stage packet) f)) [
       | inl here ↦ rw (here, s, v, p) refl
       | inr elsewhere ↦ rw elsewhere is
@@ -89,7 +89,7 @@ owners_accept stage past e old new packet hop server found is s v p puts same ke
   count = rw same keeps.count;
   accept_of_each =
       λ f. ap (λ o. option_map as_accepted o) (puts f)
-      ∙ rw is (accept_noted stage past packet hop server f found (accept_of stage past f) (accept_in old.accepts f) s v
+      ∙ rw is (accept_observed stage past packet hop server f found (accept_of stage past f) (accept_in old.accepts f) s v
       p (keeps.accept_of_each f));
   owner_of_each = λ k. rw (is, same) (keeps.owner_of_each k);
 }

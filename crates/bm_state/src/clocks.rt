@@ -59,7 +59,7 @@ impl Clocks {
     }
 
     /// Records an event of this author at this clock.
-    pub fn note(&mut self, author: Option<Author>, clock: Moment) -> Result<(), AllocError>
+    pub fn observe(&mut self, author: Option<Author>, clock: Moment) -> Result<(), AllocError>
         ensures { (stage : Stage) (past : List Event) (e : Event)
             → KeepsClocks stage past self.old → option_map actor author ≡ actor_of stage e.what
             → e.clock ≡ clock → OnOk result (KeepsClocks stage (e ∷ past) self.new) }

@@ -43,7 +43,7 @@ impl Holders {
         }
     }
 
-    fn note_arrival(
+    fn observe_arrival(
         &mut self,
         alloc: Global,
         stage: &Stage,
@@ -63,7 +63,7 @@ impl Holders {
     }
 
     #[tactic(auto, using(crate::proofs::Holding::kept_unclosed))]
-    fn note_close(&mut self, server: ServerId, flow: &Flow, closed: bool)
+    fn observe_close(&mut self, server: ServerId, flow: &Flow, closed: bool)
         ensures { (stage : Stage) (past : List Event) (e : Event)
             → e.what ≡ What.Close server flow.now closed → KeepsHolders stage past self.old
             → KeepsHolders stage (e ∷ past) self.new }
@@ -74,7 +74,7 @@ impl Holders {
     }
 
     #[tactic(auto, using(crate::proofs::Holding::kept_unretired))]
-    fn note_retire(
+    fn observe_retire(
         &mut self,
         place: usize,
         server: ServerId,
@@ -94,7 +94,7 @@ impl Holders {
 
     /// Records what happens next, after this many events.
     #[tactic(auto, using(crate::proofs::Holding::kept_still))]
-    pub fn note(
+    pub fn observe(
         &mut self,
         alloc: Global,
         stage: &Stage,
@@ -111,13 +111,13 @@ impl Holders {
                 server,
                 verdict,
                 ..
-            } => self.note_arrival(alloc, stage, place, packet, server, verdict),
+            } => self.observe_arrival(alloc, stage, place, packet, server, verdict),
             What::Close {
                 server,
                 flow,
                 closed,
             } => {
-                self.note_close(server, &flow, closed);
+                self.observe_close(server, &flow, closed);
                 Ok(())
             }
             What::Retire {
@@ -125,7 +125,7 @@ impl Holders {
                 shard,
                 result,
                 ..
-            } => self.note_retire(place, server, shard, result),
+            } => self.observe_retire(place, server, shard, result),
             What::Publish(_)
             | What::Switch { .. }
             | What::Steer { .. }

@@ -137,7 +137,7 @@ impl Labels {
 
     /// Records what happens next, where these are the versions of the muxes before it.
     #[tactic(auto, using(crate::proofs::Labelling::labels_same))]
-    pub fn note(&mut self, versions: &Versions, what: What)
+    pub fn observe(&mut self, versions: &Versions, what: What)
         ensures { (stage : Stage) (past : List Event) (e : Event) → e.what ≡ what
             → KeepsVersions past versions.now → KeepsLabels stage past self.old
             → KeepsLabels stage (e ∷ past) self.new }

@@ -217,7 +217,7 @@ impl Losses {
     }
 
     /// Records a direct sending at this clock.
-    fn note_direct(&mut self, packet: u32, clock: u64) -> Result<(), AllocError>
+    fn observe_direct(&mut self, packet: u32, clock: u64) -> Result<(), AllocError>
         ensures { (sent lost : List Event) (e : Event) → length sent < 2 ^ 63
             → sending_of e.what ≡ Some (record { packet = packet; hop = Direct })
             → e.clock.0 ≡ clock → AreCounted sent lost self.old
@@ -231,21 +231,21 @@ impl Losses {
     }
 
     /// Records a sending at this clock.
-    fn note_sending(&mut self, sending: Sending, clock: Moment) -> Result<(), AllocError>
+    fn observe_sending(&mut self, sending: Sending, clock: Moment) -> Result<(), AllocError>
         ensures { (sent lost : List Event) (e : Event) → length sent < 2 ^ 63
             → sending_of e.what ≡ Some (as_sending sending) → e.clock ≡ clock
             → AreCounted sent lost self.old
             → OnOk result (AreCounted (e ∷ sent) lost self.new) }
     {
         if sending.hop == Hop::Direct {
-            return self.note_direct(sending.packet, clock.0);
+            return self.observe_direct(sending.packet, clock.0);
         }
         self.add_sending(SentAt::of(sending.packet, sending.hop, clock.0))?;
         Ok(())
     }
 
     /// Records a loss at this clock, which comes one nanosecond after its sending.
-    fn note_loss(&mut self, packet: u32, hop: Hop, clock: Moment) -> Result<(), AllocError>
+    fn observe_loss(&mut self, packet: u32, hop: Hop, clock: Moment) -> Result<(), AllocError>
         ensures { (sent lost : List Event) (e : Event) → length lost < 2 ^ 63
             → e.what ≡ What.Lose packet hop → e.clock ≡ clock
             → AreCounted sent lost self.old
@@ -261,25 +261,25 @@ impl Losses {
     }
 
     /// Records what the event sends.
-    fn note_sent(&mut self, event: &Event) -> Result<(), AllocError>
+    fn observe_sent(&mut self, event: &Event) -> Result<(), AllocError>
         ensures { (sent lost : List Event) → length sent < 2 ^ 63
             → AreCounted sent lost self.old
             → OnOk result (AreCounted (event.now ∷ sent) lost self.new) }
     {
         match sending_of(event.what) {
-            Some(sending) => self.note_sending(sending, event.clock),
+            Some(sending) => self.observe_sending(sending, event.clock),
             None => Ok(()),
         }
     }
 
     /// Records what is lost.
-    fn note_lost(&mut self, event: &Event) -> Result<(), AllocError>
+    fn observe_lost(&mut self, event: &Event) -> Result<(), AllocError>
         ensures { (sent lost : List Event) → length lost < 2 ^ 63
             → AreCounted sent lost self.old
             → OnOk result (AreCounted sent (event.now ∷ lost) self.new) }
     {
         match event.what {
-            What::Lose { packet, hop } => self.note_loss(packet, hop, event.clock),
+            What::Lose { packet, hop } => self.observe_loss(packet, hop, event.clock),
             What::Publish(_)
             | What::Switch { .. }
             | What::Steer { .. }
@@ -291,12 +291,12 @@ impl Losses {
     }
 
     /// Records the event that comes next.
-    pub fn note(&mut self, event: &Event) -> Result<(), AllocError>
+    pub fn observe(&mut self, event: &Event) -> Result<(), AllocError>
         ensures { (past : List Event) → length past < 2 ^ 63
             → KeepsLosses past self.old → OnOk result (KeepsLosses (event.now ∷ past) self.new) }
     {
-        self.note_sent(event)?;
-        self.note_lost(event)?;
+        self.observe_sent(event)?;
+        self.observe_lost(event)?;
         Ok(())
     }
 }

@@ -162,7 +162,7 @@ impl Moves {
 
     /// Records the change that leads from this version to the next.
     #[tactic(auto, using(crate::proofs::Moving::moves_same))]
-    fn note(&mut self, alloc: Global, plan: &Plan, change: u32) -> Result<(), AllocError>
+    fn observe(&mut self, alloc: Global, plan: &Plan, change: u32) -> Result<(), AllocError>
         requires { (q : ℕ)
             → listed (tree.get nat_cmp self.old.lists q) ≡ bucket_moves plan.now q change }
         ensures { OnOk result
@@ -181,7 +181,7 @@ impl Moves {
     {
         let mut moves = Moves::empty(alloc);
         for change in 0..plan.versions() {
-            moves.note(alloc, plan, change)?;
+            moves.observe(alloc, plan, change)?;
         }
         Ok(moves)
     }

@@ -181,7 +181,7 @@ impl Owners {
         }
     }
 
-    fn note_steer(&mut self, stage: &Stage, packet: u32)
+    fn observe_steer(&mut self, stage: &Stage, packet: u32)
         ensures { (past : List Event) (e : Event) (mux : MuxId)
             → e.what ≡ What.Steer packet mux → KeepsOwners stage.now past self.old
             → KeepsOwners stage.now (e ∷ past) self.new }
@@ -190,7 +190,7 @@ impl Owners {
         self.put(packet, owner)
     }
 
-    fn note_accept(
+    fn observe_accept(
         &mut self,
         stage: &Stage,
         labels: &Labels,
@@ -213,7 +213,7 @@ impl Owners {
     }
 
     #[tactic(auto, using(crate::proofs::Owning::owners_same))]
-    fn note_arrival(
+    fn observe_arrival(
         &mut self,
         stage: &Stage,
         labels: &Labels,
@@ -228,14 +228,14 @@ impl Owners {
             → OnOk result (KeepsOwners stage.now (e ∷ past) self.new) }
     {
         match verdict {
-            Verdict::Accept => self.note_accept(stage, labels, place, packet, server),
+            Verdict::Accept => self.observe_accept(stage, labels, place, packet, server),
             _ => Ok(()),
         }
     }
 
     /// Records what happens next, after this many events, where these are the labels before it.
     #[tactic(auto, using(crate::proofs::Owning::owners_same))]
-    pub fn note(
+    pub fn observe(
         &mut self,
         stage: &Stage,
         labels: &Labels,
@@ -248,7 +248,7 @@ impl Owners {
     {
         match what {
             What::Steer { packet, .. } => {
-                self.note_steer(stage, packet);
+                self.observe_steer(stage, packet);
                 Ok(())
             }
             What::Arrive {
@@ -256,7 +256,7 @@ impl Owners {
                 server,
                 verdict,
                 ..
-            } => self.note_arrival(stage, labels, place, packet, server, verdict),
+            } => self.observe_arrival(stage, labels, place, packet, server, verdict),
             _ => Ok(()),
         }
     }

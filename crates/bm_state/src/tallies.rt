@@ -115,7 +115,7 @@ impl Tallies {
         }
     }
 
-    fn note_sending(&mut self, sending: Sending) -> Result<(), AllocError>
+    fn observe_sending(&mut self, sending: Sending) -> Result<(), AllocError>
         ensures { (sent came : List Event) (e : Event) → length sent < 2 ^ 63
             → sending_of e.what ≡ Some (as_sending sending) → AreTallied sent came self.old
             → OnOk result (AreTallied (e ∷ sent) came self.new) }
@@ -125,7 +125,7 @@ impl Tallies {
         Ok(())
     }
 
-    fn note_arrival(&mut self, packet: u32, hop: Hop) -> Result<(), AllocError>
+    fn observe_arrival(&mut self, packet: u32, hop: Hop) -> Result<(), AllocError>
         ensures { (sent came : List Event) (e : Event) (server : ServerId) (verdict : Verdict)
             → length came < 2 ^ 63 → e.what ≡ What.Arrive packet hop server verdict
             → AreTallied sent came self.old
@@ -137,25 +137,25 @@ impl Tallies {
     }
 
     /// Records what the event sends.
-    fn note_sent(&mut self, what: What) -> Result<(), AllocError>
+    fn observe_sent(&mut self, what: What) -> Result<(), AllocError>
         ensures { (sent came : List Event) (e : Event) → e.what ≡ what → length sent < 2 ^ 63
             → AreTallied sent came self.old
             → OnOk result (AreTallied (e ∷ sent) came self.new) }
     {
         match sending_of(what) {
-            Some(sending) => self.note_sending(sending),
+            Some(sending) => self.observe_sending(sending),
             None => Ok(()),
         }
     }
 
     /// Records the copy that arrives.
-    fn note_came(&mut self, what: What) -> Result<(), AllocError>
+    fn observe_came(&mut self, what: What) -> Result<(), AllocError>
         ensures { (sent came : List Event) (e : Event) → e.what ≡ what → length came < 2 ^ 63
             → AreTallied sent came self.old
             → OnOk result (AreTallied sent (e ∷ came) self.new) }
     {
         match what {
-            What::Arrive { packet, hop, .. } => self.note_arrival(packet, hop),
+            What::Arrive { packet, hop, .. } => self.observe_arrival(packet, hop),
             What::Publish(_)
             | What::Switch { .. }
             | What::Steer { .. }
@@ -167,12 +167,12 @@ impl Tallies {
     }
 
     /// Records what happens next.
-    pub fn note(&mut self, what: What) -> Result<(), AllocError>
+    pub fn observe(&mut self, what: What) -> Result<(), AllocError>
         ensures { (past : List Event) (e : Event) → e.what ≡ what → length past < 2 ^ 63
             → KeepsTallies past self.old → OnOk result (KeepsTallies (e ∷ past) self.new) }
     {
-        self.note_sent(what)?;
-        self.note_came(what)?;
+        self.observe_sent(what)?;
+        self.observe_came(what)?;
         Ok(())
     }
 }

@@ -63,7 +63,7 @@ impl Versions {
     }
 
     /// Records what happens next.
-    pub fn note(&mut self, what: What) -> Result<(), AllocError>
+    pub fn observe(&mut self, what: What) -> Result<(), AllocError>
         ensures { (past : List Event) (e : Event) → e.what ≡ what → KeepsVersions past self.old
             → OnOk result (KeepsVersions (e ∷ past) self.new) }
     {

@@ -130,16 +130,16 @@ processed_place stage past clock k hop server t s is may =
     place_held (held stage past server s.flow) _ (held_latest stage past server s.flow)
     (process_held t (held stage past server s.flow) (local_at stage past server s.flow) _ clock hop _ s verdict refl)
 
--- A PIECE IS NOTED
+-- A PIECE IS OBSERVED
 
-pub piece_noted : (stage : Stage) (past : List Event) (e : Event) (old new : Found) (k : ℕ) (hop : Hop)
+pub piece_observed : (stage : Stage) (past : List Event) (e : Event) (old new : Found) (k : ℕ) (hop : Hop)
     (server : ServerId) (t : Taken) (s : Segment) → e.what ≡ Arrive k hop server (Process t) → is_piece t ≡ true
     → segment_of stage k ≡ Some s → MayCome stage past e.clock.0 e.what → HasFound stage past old
     → new.accepts ≡ old.accepts
     → ((q : ℕ) → list_in new.packets q
     ≡ (if is_at (place_in old.accepts server s.flow) q then list_in old.packets q ++ k ∷ [] else list_in old.packets q))
     → HasFound stage (e ∷ past) new
-piece_noted stage past e old new k hop server t s what piece segment may found accepts packets =
+piece_observed stage past e old new k hop server t s what piece segment may found accepts packets =
     let arrival : IsArrival stage past e.clock.0 k hop server (Process t) =
     subst (λ (w : What). MayCome stage past e.clock.0 w) what may
     in

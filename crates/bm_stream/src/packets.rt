@@ -183,7 +183,7 @@ impl Found {
     }
 
     /// Records an arrival.
-    fn note_arrival(
+    fn observe_arrival(
         &mut self,
         alloc: Global,
         stage: &Stage,
@@ -214,7 +214,7 @@ impl Found {
     }
 
     /// Records the event that comes after `place` others.
-    pub(crate) fn note(
+    pub(crate) fn observe(
         &mut self,
         alloc: Global,
         stage: &Stage,
@@ -232,7 +232,7 @@ impl Found {
                 server,
                 verdict,
                 ..
-            } => self.note_arrival(alloc, stage, place, packet, server, verdict),
+            } => self.observe_arrival(alloc, stage, place, packet, server, verdict),
             What::Publish(_)
             | What::Switch { .. }
             | What::Steer { .. }

@@ -23,7 +23,7 @@ fn find(alloc: Global, h: &History) -> Result<Found, Memory>
     let mut found = Found::new(alloc);
     let events = h.events.items();
     for (place, event) in events.iter().enumerate() {
-        found.note(alloc, &h.stage, place, event)?;
+        found.observe(alloc, &h.stage, place, event)?;
     }
     Ok(found)
 }

@@ -122,6 +122,6 @@ least_since-more steps i d s since h =
 
 -- A LOOP OVER THE MOVES
 
--- what was recorded, and what the moves that are left say, is what all moves say
-abbrev pub Notes : (ℕ → Option ℕ) → (ℕ → ServerId) → List Move → List Move → Type 0
-Notes noted server rest moves = (s : ℕ) → option_or (noted s) (first_left server rest s) ≡ first_left server moves s
+-- what was found, and what the moves that are left say, is what all moves say
+abbrev pub SayLeft : (ℕ → Option ℕ) → (ℕ → ServerId) → List Move → List Move → Type 0
+SayLeft found server rest moves = (s : ℕ) → option_or (found s) (first_left server rest s) ≡ first_left server moves s

@@ -118,14 +118,14 @@ impl Table {
     {
         let mut left = BTreeMap::new(alloc);
         for m in moves {
-            note_left(&mut left, self.server(m.bucket), m.bucket)?;
+            insert_left(&mut left, self.server(m.bucket), m.bucket)?;
         }
         Ok(left)
     }
 }
 
-/// Records that a bucket leaves the server, unless another is recorded.
-fn note_left(left: &mut BTreeMap<u16, u32>, from: ServerId, bucket: u32) -> Result<(), Memory>
+/// Inserts a bucket that leaves the server, unless another is there.
+fn insert_left(left: &mut BTreeMap<u16, u32>, from: ServerId, bucket: u32) -> Result<(), Memory>
     ensures { IfOk result (λ _. (s : ℕ) → get nat_cmp left.new s
         ≡ option_or (get nat_cmp left.old s) (if from.0 == s then Some bucket else None)) }
 {

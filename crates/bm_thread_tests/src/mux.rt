@@ -79,7 +79,7 @@ fn steer_beside_a_post<R: Abort + Wait>(
 {
     let mut out = Vec::new(alloc);
     let mut mux = Mux::new(alloc, MuxId(0), look, 8);
-    mux.begin(poster.tell(), Moment(0)).expect(rt, "memory");
+    mux.begin(poster.snapshot(), Moment(0)).expect(rt, "memory");
     mux.batch(&[item(1, Moment(0))], &mut out)
         .expect(rt, "memory");
     poster.post(rt, change, Moment(501)).expect(rt, "memory");
@@ -90,7 +90,7 @@ fn steer_beside_a_post<R: Abort + Wait>(
     mux.lost(2, Hop::Direct, clock).expect(rt, "memory");
     let items = full_batch(rt, alloc);
     mux.batch(items.as_slice(), &mut out).expect(rt, "memory");
-    let log = mux.into_log(poster.tell()).expect(rt, "memory");
+    let log = mux.into_log(poster.snapshot()).expect(rt, "memory");
     (clock, log, out)
 }
 

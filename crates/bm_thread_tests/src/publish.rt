@@ -5,7 +5,7 @@ ghost use Rattle.bm_publish.specs.Posts.{last_post, last_version};
 
 use crate::plans::{first_change, one_move};
 use bm_base::{Memory, Moment, Version};
-use bm_publish::{Look, Poster, Told, board};
+use bm_publish::{Look, Poster, Snapshot, board};
 use bm_table::Change;
 use std::alloc::Global;
 use std::process::Abort;
@@ -45,13 +45,13 @@ fn watch(look: Look) -> (Look, bool)
 }
 
 /// Posts the change, and returns all that was posted.
-fn post<R: Wait>(rt: &R, poster: &mut Poster, change: Change) -> Result<Told, Memory>
+fn post<R: Wait>(rt: &R, poster: &mut Poster, change: Change) -> Result<Snapshot, Memory>
     requires next { next_change poster.old.plan (last_version poster.old) ≡ Some change }
     requires later { last_post poster.old < 501 }
-    ensures { IfOk result (λ told. told.board ≡ poster.old.board) }
+    ensures { IfOk result (λ snapshot. snapshot.board ≡ poster.old.board) }
 {
     poster.post(rt, change, Moment(501))?;
-    Ok(poster.tell())
+    Ok(poster.snapshot())
 }
 
 /// Whether the looks during the post were right, and what the look shows once it has learned of it.
@@ -65,8 +65,8 @@ fn beside_a_post<R: Abort + Threads + Wait + Sync>(
     requires next { next_change poster.old.plan (last_version poster.old) ≡ Some change }
     requires later { last_post poster.old < 501 }
 {
-    let (told, (mut look, right)) = join(rt, || post(rt, poster, change), || watch(look));
-    look.hear(told.expect(rt, "memory"));
+    let (snapshot, (mut look, right)) = join(rt, || post(rt, poster, change), || watch(look));
+    look.learn(snapshot.expect(rt, "memory"));
     let (_look, seen) = shown(look);
     (right, seen)
 }
@@ -85,7 +85,7 @@ fn day<R: Abort + Threads + Wait + Sync>(
 }
 
 #[test]
-fn looks_beside_a_post_show_it_or_not_and_one_that_heard_of_it_does(rt: HostRuntime) {
+fn looks_beside_a_post_show_it_or_not_and_one_that_learned_of_it_does(rt: HostRuntime) {
     let (right, seen) = day(&rt, rt.alloc());
     assert!(rt; right);
     assert!(rt; seen == Some((Version(1), Moment(501))));

@@ -152,7 +152,7 @@ fn worker(
         mux,
         caller: Caller::new(number + 1, seats),
         steps: 0,
-        posted: Some(poster.tell()),
+        posted: Some(poster.snapshot()),
         stop: None,
     })
 }

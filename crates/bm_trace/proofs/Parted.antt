@@ -189,10 +189,10 @@ ends_there events shown i kept ends there same is =
     ap words_of_ends is ∙ there ∙ ap (λ x. ends_of (reverse x) (i + 1)) same
 
 -- the ends of a packet with those of one event more
-pub event_noted : (events : List Event) (i : ℕ) (d : Event) (k : ℕ) (before now : List (List ℕ)) → i < length events
+pub event_observed : (events : List Event) (i : ℕ) (d : Event) (k : ℕ) (before now : List (List ℕ)) → i < length events
     → before ≡ ends_of (reverse (take i events)) k → now ≡ before ++ end_words (get_or events i d).what k
     → now ≡ ends_of (reverse (take (i + 1) events)) k
-event_noted events i d k before now below was step =
+event_observed events i d k before now below was step =
     step
     ∙ ap (λ x. x ++ end_words (get_or events i d).what k) was
     ∙ ap (λ past. ends_of past k) (sym (reverse_take events i d below))

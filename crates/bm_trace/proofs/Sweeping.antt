@@ -15,7 +15,7 @@ use Rattle.bm_core.specs.declared.events.What.{What}
 use Rattle.bm_core.specs.declared.events.What.TheVariants.{Publish, Switch, Steer, Lose, Arrive, Close, Retire, Sync}
 use Rattle.bm_core.specs.Causes.{cause, is_process}
 use Rattle.bm_core.specs.Runs.{IsRun, past_at}
-use Rattle.bm_trace.specs.CauseOf.{cause_after, cause_of, is_fault, is_fault_after}
+use Rattle.bm_trace.specs.CauseOf.{cause_after, cause_of, is_break, is_break_after}
 use Rattle.bm_trace.specs.declared.known.Known.{Known}
 use Rattle.bm_trace.specs.Inside.Known.{Knows}
 use Rattle.bm_trace.specs.Swept.{AreCauses, cause_in}
@@ -128,7 +128,7 @@ cause_of_part h from to place causes all order below there =
 -- STRAYS
 
 stray_is : (stage : Stage) (past : List Event) (what : What)
-    → is_stray stage past what ≡ (arrives is_process what && is_fault stage past what)
+    → is_stray stage past what ≡ (arrives is_process what && is_break stage past what)
 stray_is stage past (Arrive packet hop server verdict) = refl
 stray_is stage past (Publish v) = refl
 stray_is stage past (Switch m v) = refl
@@ -147,7 +147,7 @@ stray_by_cause h place d found run below is =
     let e : slice_get h.events place ≡ Some (get_or h.events place d) = get_within h.events place d below
     in stray_is h.stage (reverse (take place h.events)) (get_or h.events place d).what
     ∙ ap (λ b. arrives is_process (get_or h.events place d).what && b)
-    (sym (ap is_some is ∙ cause_there h place run ∙ ap (λ o. is_fault_after h.stage (past_at h place) o) e))
+    (sym (ap is_some is ∙ cause_there h place run ∙ ap (λ o. is_break_after h.stage (past_at h place) o) e))
 
 strays_more : (h : History) (n count : ℕ) (d : Event) → n < length h.events
     → count ≡ strays h.stage (reverse (take n h.events))

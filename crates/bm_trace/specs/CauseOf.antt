@@ -19,15 +19,15 @@ abbrev pub cause_of : History → ℕ → Option Cause
 cause_of h place = cause_after h.stage (past_at h place) (event_at h place)
 
 -- a packet is dropped, reset or processed elsewhere
-abbrev pub is_fault : Stage → List Event → What → Bool
-is_fault stage past (Arrive packet hop server verdict) =
+abbrev pub is_break : Stage → List Event → What → Bool
+is_break stage past (Arrive packet hop server verdict) =
     wants_cause verdict (owner stage past packet) server (segment_of stage packet)
-is_fault stage past _ = false
+is_break stage past _ = false
 
-abbrev pub is_fault_after : Stage → List Event → Option Event → Bool
-is_fault_after stage past None = false
-is_fault_after stage past (Some e) = is_fault stage past e.what
+abbrev pub is_break_after : Stage → List Event → Option Event → Bool
+is_break_after stage past None = false
+is_break_after stage past (Some e) = is_break stage past e.what
 
 -- the event is a drop, a reset or a stray
-abbrev pub is_fault_at : History → ℕ → Bool
-is_fault_at h place = is_fault_after h.stage (past_at h place) (event_at h place)
+abbrev pub is_break_at : History → ℕ → Bool
+is_break_at h place = is_break_after h.stage (past_at h place) (event_at h place)

@@ -58,7 +58,7 @@ fn write_line(
     let events = h.events.items();
     let event = &events[place];
     write_event(lines, versions, &h.stage, event, cause)?;
-    versions.note(event.what)?;
+    versions.observe(event.what)?;
     Ok(())
 }
 

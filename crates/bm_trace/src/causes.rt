@@ -5,7 +5,7 @@ ghost use Rattle.bm_core.specs.Past as past;
 ghost use Rattle.bm_core.specs.Causes as causes;
 ghost use Rattle.bm_trace.specs.Ranges.{HasRanges};
 ghost use Rattle.bm_core.specs.Runs.{IsRun};
-ghost use Rattle.bm_trace.specs.CauseOf.{cause_of, is_fault_at};
+ghost use Rattle.bm_trace.specs.CauseOf.{cause_of, is_break_at};
 ghost use Rattle.bm_state.specs.Labels.{label_by, label_from};
 ghost use Rattle.bm_state.specs.Owners.{as_accepted};
 
@@ -221,7 +221,7 @@ pub fn cause(h: &History, event: usize) -> Option<Cause>
     requires place { event < length h.now.events }
     requires run { IsRun h.now }
     ensures cause { result ≡ cause_of h.now event }
-    ensures there { is_some result ≡ is_fault_at h.now event }
+    ensures there { is_some result ≡ is_break_at h.now event }
 {
     cause_at(h, event)
 }

@@ -63,7 +63,7 @@ fn put_events<K: Sink>(
     for (place, event) in events.iter().enumerate() {
         let cause = causes.at(place);
         write_event(lines, &versions, &h.stage, event, cause)?;
-        versions.note(event.what)?;
+        versions.observe(event.what)?;
         put_full(lines, out)?;
     }
     Ok(())

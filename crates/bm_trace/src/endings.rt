@@ -135,9 +135,9 @@ impl EndTable {
     }
 
     /// Records an event, which may be the end of a copy.
-    fn note(&mut self, what: &What) -> Result<(), AllocError>
+    fn observe(&mut self, what: &What) -> Result<(), AllocError>
         ensures count { OnOk result (vec_len self.new.firsts ≡ vec_len self.old.firsts) }
-        ensures noted { OnOk result ((k : ℕ) → k < vec_len self.old.firsts
+        ensures observed { OnOk result ((k : ℕ) → k < vec_len self.old.firsts
             → words_of_ends (ends_at self.new k)
             ≡ words_of_ends (ends_at self.old k) ++ report.end_words what.now (k + 1)) }
     {
@@ -161,7 +161,7 @@ pub(crate) fn ends_of_packets(
 {
     let mut table = EndTable::new(alloc, packets)?;
     for event in events {
-        table.note(&event.what)?;
+        table.observe(&event.what)?;
     }
     Ok(table)
 }

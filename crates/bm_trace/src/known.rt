@@ -94,7 +94,7 @@ impl Known {
     }
 
     /// Records what happens next, after this many events.
-    pub(crate) fn note(
+    pub(crate) fn observe(
         &mut self,
         alloc: Global,
         stage: &Stage,
@@ -104,10 +104,10 @@ impl Known {
         ensures { (past : List Event) (e : Event) → e.what ≡ what → place ≡ length past
             → Knows stage.now past self.old → OnOk result (Knows stage.now (e ∷ past) self.new) }
     {
-        self.holders.note(alloc, stage, place, what)?;
-        self.owners.note(stage, &self.labels, place, what)?;
-        self.labels.note(&self.versions, what);
-        self.versions.note(what)?;
+        self.holders.observe(alloc, stage, place, what)?;
+        self.owners.observe(stage, &self.labels, place, what)?;
+        self.labels.observe(&self.versions, what);
+        self.versions.observe(what)?;
         Ok(())
     }
 

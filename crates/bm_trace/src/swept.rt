@@ -139,7 +139,7 @@ impl Sweeper {
         let events = h.events.items();
         let event = &events[place];
         let cause = self.known.cause(&h.stage, event);
-        self.known.note(alloc, &h.stage, place, event.what)?;
+        self.known.observe(alloc, &h.stage, place, event.what)?;
         self.strays = counted(self.strays, is_stray(&event.what, cause));
         Ok(cause)
     }

@@ -3,5 +3,5 @@ pub mod Entries
 pub mod Steps
 pub mod Changes
 pub mod Seats
-pub mod Tellings
+pub mod ReplyLemmas
 pub mod Places

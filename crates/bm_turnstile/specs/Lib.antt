@@ -1,5 +1,5 @@
 pub mod Sittings
 pub mod Seen
-pub mod Told
+pub mod Replies
 pub mod Views
 pub mod Inside

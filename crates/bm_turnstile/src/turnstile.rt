@@ -3,7 +3,7 @@ ghost use Rattle.std.specs.Prelude.{◌≡◌, ℕ, ◌+◌, ◌<◌, Some, [], 
 ghost use Rattle.std.specs.Prelude.{IfOk, OnErr};
 ghost use Rattle.bm_turnstile.specs.Seen.{AllBelow, Covers, SeesMore, Turned, own};
 ghost use Rattle.bm_turnstile.specs.Sittings.{IsFresh, IsPost, post, who};
-ghost use Rattle.bm_turnstile.specs.Told.{IsTold, told, told_to};
+ghost use Rattle.bm_turnstile.specs.Replies.{AddsReply, replies, replies_to};
 ghost use Rattle.bm_turnstile.specs.Views.{AllIn, IsIdle, NewFrom, SeatsCover, SeatsFrom};
 ghost use Rattle.bm_turnstile.specs.Views.{fixed_of, given_of, new_sitting, old_of};
 
@@ -90,7 +90,7 @@ impl<T: Booked + Drop> Turnstile<T> {
         ensures turns { seat.new.turns ≡ seat.old.turns + 1 }
         ensures ok { IfOk result (Turned T.seat_of T.call_of T.reply seat.old seat.new call) }
         ensures memory { OnErr result (SeesMore T.seat_of seat.old seat.new) }
-        ensures told { IsTold T.seat_of T.call_of T.reply seat.old seat.new call result }
+        ensures replies { AddsReply T.seat_of T.call_of T.reply seat.old seat.new call result }
     {
         let number = seat.number;
         self.tickets.turn(rt, &mut seat.place, number, call)
@@ -107,9 +107,9 @@ impl<T: Booked + Drop> Turnstile<T> {
             → Covers T.seat_of k s.seen (T.entries result) }
         ensures own { (k : ℕ) (s : _) → slice_get seats.items k ≡ Some s
             → own T.seat_of k (T.entries result) ≡ own T.seat_of k s.seen }
-        ensures told { (k : ℕ) (s : _) → slice_get seats.items k ≡ Some s
-            → told T.seat_of T.call_of T.reply s.fixed k (T.entries result)
-            ≡ told_to T.seat_of T.call_of T.reply s }
+        ensures replies { (k : ℕ) (s : _) → slice_get seats.items k ≡ Some s
+            → replies T.seat_of T.call_of T.reply s.fixed k (T.entries result)
+            ≡ replies_to T.seat_of T.call_of T.reply s }
         ensures below { AllBelow T.seat_of (length seats.items) (T.entries result) }
         ensures replays { T.replays (T.fixed result) (T.entries result) }
         ensures fixed { (s : _) → slice_get seats.items 0 ≡ Some s

@@ -34,9 +34,9 @@ use Rattle.bm_worker.specs.Assigned.{RoutedBy, is_mux, is_assigned, assigned_mux
 use Rattle.bm_worker.proofs.Collecting.{assigned_none, mux_is}
 use Rattle.bm_worker.proofs.Copying.{copies_as}
 use Rattle.bm_worker.proofs.Going.{kept_looked}
-use Rattle.bm_worker.proofs.Hearing.{hears_none}
+use Rattle.bm_worker.proofs.CallNotes.{gets_none}
 use Rattle.bm_worker.proofs.Keeping.{Step, kept_more}
-use Rattle.bm_worker.proofs.Phasing.{each_reverse, steerings_heard}
+use Rattle.bm_worker.proofs.Phasing.{each_reverse, gets_steerings}
 use Rattle.bm_worker.proofs.Steering.{last_posted, own_steering, steerings_home}
 use Rattle.bm_worker.proofs.Steps.{same_posts}
 
@@ -49,7 +49,7 @@ kept_none F stage servers task = record {
   ordered = tt;
   logged = refl;
   gives = tt;
-  hears = hears_none stage servers task.start.caller.seats;
+  replies = gets_none stage servers task.start.caller.seats;
   copies = λ are. are;
   latest = omega arith;
   mux = same_posts task.start task.start refl refl;
@@ -140,7 +140,7 @@ begun_step F stage servers task mid ready begun seen_it =
     subst (λ (b : Bool). MatchBool b ((version_at past m).0 < last_version seen)
     ((last_version task.posted ≤ last_version seen) × ((version_at past m).0 ≤ last_version seen)))
     (sym (none_since m task.from task.after past older))
-    (prefix_version task.posted seen begun.heard, begun.looked.newer) in
+    (prefix_version task.posted seen begun.learned, begun.looked.newer) in
     record {
       each = (
         record {
@@ -163,7 +163,7 @@ begun_step F stage servers task mid ready begun seen_it =
           (rest ++ past) e.clock.0 e.what) l)
           (sym log)
           ((look, (last_post seen, last_posted seen, (omega (arith, own)))), tt);
-      hears = steerings_heard stage servers m (n ∷ []) task.start.caller.seats mid.caller.seats seen_it.seats
+      replies = gets_steerings stage servers m (n ∷ []) task.start.caller.seats mid.caller.seats seen_it.seats
           (refl, tt);
       copies = λ are. subst (λ (l : List (List Seated)). AreCopies stage m servers (reverse mid.mux.log) l)
           (sym seen_it.seats)
@@ -198,7 +198,7 @@ begin_done F stage servers task mid ready begun seen_it =
         settled = record { lost = λ k hop c. refl; sent = λ k hop c. omega arith; arrived = λ k hop. refl };
         steered = λ k. ap (λ (b : Bool). cond b 1 0) (sym (assigned_none task.routes m.0 task.from k));
         looked = let one : ◌≡◌ {A = ℕ} (cond (m.0 == m.0) 1 0) 1 = rw mine refl in omega (arith, one);
-        heard = begun.heard;
+        learned = begun.learned;
         few = omega arith;
         first = (tt, tt);
         logged = subst (λ (l : List Event). AllByRecursion (IsLogged m task.from) l) (sym turned)
@@ -258,7 +258,7 @@ phase_ended F stage servers task now d next is done = (
       arrived = done.settled.arrived;
     };
     looked = done.looked;
-    heard = done.heard;
+    learned = done.learned;
     steered = λ k. subst (λ (e : ℕ). many (λ n. steers_packet n.event.what k) d
         ≡ cond (is_assigned task.routes (mux_for task).0 task.from e k) 1 0) is (done.steered k);
     few = done.few;

@@ -34,10 +34,10 @@ use Rattle.bm_worker.specs.Inside.Pending.{with_copies}
 use Rattle.bm_worker.specs.Inside.Lost.{with_loss}
 use Rattle.bm_worker.specs.Phases.{IsStopOf, Kept, Task, mux_for}
 use Rattle.bm_worker.specs.Callers.{CallerState}
-use Rattle.bm_worker.specs.SeatCalls.{Stays}
+use Rattle.bm_worker.specs.SeatCalls.{AddsNoCall}
 use Rattle.bm_worker.proofs.Copying.{copy_reads}
 use Rattle.bm_worker.proofs.Completing.{completes_lost, completes_more, completes_none, completes_one, completes_whole}
-use Rattle.bm_worker.proofs.Steps.{kept_arrival, kept_loss, kept_stays, one_of, copies_left_more}
+use Rattle.bm_worker.proofs.Steps.{kept_arrival, kept_loss, kept_no_call, one_of, copies_left_more}
 
 -- ANSWERS
 
@@ -208,16 +208,16 @@ carried_arrival F stage servers pending i most old now next place octets due r s
 -- memory was refused in the loop
 pub carried_stop : (F : Rules) (stage : Stage) (servers : List Serving) (pending : Pending) (i few most : ℕ)
     (old now next : MuxWorker)
-    (r : Result (Unit {0}) Stop) → few ≤ most → next.mux ≡ now.mux → Stays now.caller.seats next.caller.seats
+    (r : Result (Unit {0}) Stop) → few ≤ most → next.mux ≡ now.mux → AddsNoCall now.caller.seats next.caller.seats
     → next.caller.latest ≡ now.caller.latest → IsSameCaller now.caller next.caller
     → IsErrAnd r (λ stop. stop ≡ Memory)
     → HasCarried F stage servers pending i few old now → Carries F stage servers pending most old next r
-carried_stop F stage servers pending i few most old now next r top mux stays latest caller memory carried =
+carried_stop F stage servers pending i few most old now next r top mux no_call latest caller memory carried =
     λ task d kept awaits.
     let c = carried task d kept awaits in let x = c.0 in (
       x,
       record {
-        kept = kept_stays F stage servers task now next (x ++ d) mux stays latest caller c.1.kept;
+        kept = kept_no_call F stage servers task now next (x ++ d) mux no_call latest caller c.1.kept;
         packets = c.1.packets;
         few = let f = c.1.few in omega (arith, f, top);
       },

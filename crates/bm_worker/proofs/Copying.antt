@@ -29,8 +29,8 @@ use Rattle.bm_worker.specs.Arrivals.{HasCome, IsCopy}
 use Rattle.bm_worker.specs.WorkerNotes.{AreServersOf}
 use Rattle.bm_worker.specs.Inside.Pending.{IsCopyOf}
 use Rattle.bm_worker.specs.Phases.{AreCopies, IsCopyCall}
-use Rattle.bm_worker.specs.SeatCalls.{Stays, calls_there}
-use Rattle.bm_worker.proofs.Hearing.{same_shard}
+use Rattle.bm_worker.specs.SeatCalls.{AddsNoCall, calls_there}
+use Rattle.bm_worker.proofs.CallNotes.{same_shard}
 
 -- the hop of a label's tag
 pub tag_hop : (l : Label) (hop : Hop) (tag : Tag) → tag_of l hop ≡ Some tag → tag.hop ≡ hop
@@ -96,11 +96,11 @@ copies_come stage servers mux place k hop octets due r a b servers_are copy come
         copy.mine ∙ ap (λ (x : Serving). x.id) (sym same),
       ),
     ) in
-    subst (λ (l : List Answered). AllByRecursion P l) (sym (come.gains s h))
+    subst (λ (l : List Answered). AllByRecursion P l) (sym (come.adds s h))
     (each_plus P (calls_there a s h) (cond here (call ∷ []) []) (are s h server at) (one_cond P here call mine))
 
 pub copies_stay : (stage : Stage) (servers : List Serving) (m : MuxId) (past : List Event) (a b : List (List Seated))
-    → Stays a b
+    → AddsNoCall a b
     → AreCopies stage m servers past a → AreCopies stage m servers past b
 copies_stay stage servers m past a b same are s h server at =
     subst (λ (l : List Answered). AllByRecursion (λ x. IsCopyCall stage past m server h x.0) l) (sym (same s h))

@@ -37,7 +37,7 @@ use Rattle.bm_turnstile.specs.Sittings.{who}
 use Rattle.bm_worker.proofs.Carrying.{ended}
 use Rattle.bm_worker.proofs.Keeping.{more_many}
 use Rattle.bm_worker.proofs.Labels.{label_kept}
-use Rattle.bm_worker.proofs.Steps.{among_more, kept_stays}
+use Rattle.bm_worker.proofs.Steps.{among_more, kept_no_call}
 
 -- SUMS
 
@@ -166,7 +166,7 @@ pub kept_steps : (F : Rules) (stage : Stage) (servers : List Serving) (task : Ta
     (d : List Note) → next.mux ≡ now.mux → next.caller ≡ now.caller → Kept F stage servers task now d
     → Kept F stage servers task next d
 kept_steps F stage servers task now next d mux caller kept =
-    kept_stays F stage servers task now next d mux (λ s h. ap (λ (p : CallerState). calls_there p.seats s h) caller)
+    kept_no_call F stage servers task now next d mux (λ s h. ap (λ (p : CallerState). calls_there p.seats s h) caller)
     (ap (λ (p : CallerState). p.latest) caller)
     (record {
       number = ap (λ (p : CallerState). p.number) caller;

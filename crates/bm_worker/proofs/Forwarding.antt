@@ -42,14 +42,14 @@ use Rattle.bm_worker.specs.Inside.Pending.{Carries, CarriesOne, Pending, HasCarr
 use Rattle.bm_worker.specs.Inside.Pending.{AwaitsCopies, Completes}
 use Rattle.bm_worker.specs.Inside.Pending.{pending, most_tries, with_copies}
 use Rattle.bm_worker.specs.Phases.{IsStopOf, Kept, Task, mux_for}
-use Rattle.bm_worker.specs.SeatCalls.{Stays}
+use Rattle.bm_worker.specs.SeatCalls.{AddsNoCall}
 use Rattle.bm_worker.proofs.Carrying.{answered, ended, stop_of_memory}
 use Rattle.bm_worker.proofs.Copying.{copy_reads, tag_hop}
 use Rattle.bm_worker.proofs.Keeping.{more_many}
 use Rattle.bm_worker.proofs.Known.{known_stop}
 use Rattle.bm_worker.proofs.Labels.{label_entry}
 use Rattle.bm_worker.proofs.Completing.{completes_forward, completes_more, completes_one}
-use Rattle.bm_worker.proofs.Steps.{kept_arrival, kept_stays, copies_left_more}
+use Rattle.bm_worker.proofs.Steps.{kept_arrival, kept_no_call, copies_left_more}
 
 -- THE OCTETS
 
@@ -193,14 +193,14 @@ carries_one F stage servers d most now next place octets due r some servers_are 
 
 -- a copy that didn't come for want of memory
 pub carries_one_stop : (F : Rules) (stage : Stage) (servers : List Serving) (d : Pending) (most : ℕ) (now next : MuxWorker)
-    (r : Result (Unit {0}) Stop) → next.mux ≡ now.mux → Stays now.caller.seats next.caller.seats
+    (r : Result (Unit {0}) Stop) → next.mux ≡ now.mux → AddsNoCall now.caller.seats next.caller.seats
     → next.caller.latest ≡ now.caller.latest → IsSameCaller now.caller next.caller
     → IsErrAnd r (λ stop. stop ≡ Memory) → CarriesOne F stage servers d most now next r
-carries_one_stop F stage servers d most now next r mux stays latest caller memory = λ task notes kept awaits. (
+carries_one_stop F stage servers d most now next r mux no_call latest caller memory = λ task notes kept awaits. (
   [],
   record {
     kept =
-        kept_stays F stage servers task now next notes mux stays latest caller kept;
+        kept_no_call F stage servers task now next notes mux no_call latest caller kept;
     packets = tt;
     few = omega arith;
   },

@@ -46,7 +46,7 @@ use Rattle.bm_worker.proofs.Batching.{all_sent, batch_version, sent_has_sending}
 use Rattle.bm_worker.proofs.Carrying.{ended}
 use Rattle.bm_worker.proofs.Copying.{copies_stay}
 use Rattle.bm_worker.proofs.Delivering.{ups_to_more}
-use Rattle.bm_worker.proofs.Hearing.{hears_stays}
+use Rattle.bm_worker.proofs.CallNotes.{gets_no_call}
 use Rattle.bm_worker.proofs.Keeping.{kept_more, more_many}
 use Rattle.bm_worker.proofs.Phasing.{batch_kinds, batch_notes, batch_step, batch_turned, delivery_none, each_reverse}
 use Rattle.bm_worker.proofs.Phasing.{event_plus, last_of_sent, lost_clock, lost_logged, lost_turned, sent_many}
@@ -317,8 +317,8 @@ done_in F stage servers task now mid next d low end most i items fates sents don
             let a = done.looked in
             let b = more_many (λ n. is_switch_of n.event.what m.0) x d in
             let e = more_many (λ n. is_switch_of n.event.what m.0) y (x ++ d) in omega (arith, a, b, e);
-        heard = subst (λ (p : Posted). Continues task.posted p) (sym seen_is)
-            (continues_on task.posted now.mux.seen mid.mux.seen done.heard steered.looked.same.later);
+        learned = subst (λ (p : Posted). Continues task.posted p) (sym seen_is)
+            (continues_on task.posted now.mux.seen mid.mux.seen done.learned steered.looked.same.later);
         few = batch_few F m seen past all fates y d got.drawn (omega arith) o.2 o.3 done.few;
         first = each_append (λ n. IsUpTo end n.event.what) y (x ++ d)
             (ups_to_more (last_packet low all) end y under o.4.1)
@@ -399,7 +399,7 @@ batch_empty F stage servers task now d low end items fates none le done got = re
       let split = assigned_split task.routes (mux_for task).0 task.from low end k done.from le in
       omega (arith, a, b, e, split);
   looked = done.looked;
-  heard = done.heard;
+  learned = done.learned;
   few = done.few;
   first = ups_to_more low end d le done.first;
   logged = logged_more (mux_for task) low end (reverse now.mux.log) le done.logged;
@@ -417,7 +417,7 @@ kept_looked F stage servers task now next d looked kept =
       ordered = tt;
       logged = ap (λ (l : List Event). reverse l) looked.log;
       gives = tt;
-      hears = hears_stays stage servers now.caller.seats next.caller.seats
+      replies = gets_no_call stage servers now.caller.seats next.caller.seats
           (λ s h. ap (λ (p : CallerState). calls_there p.seats s h) looked.caller);
       copies = λ are. subst (λ (l : List Event). AreCopies stage (mux_for task) servers (reverse l) next.caller.seats)
           (sym looked.log)

@@ -19,10 +19,10 @@ use Rattle.bm_publish.specs.Posts.{last_version}
 use Rattle.bm_mux.specs.Muxes.{IsSameMux, post_clock}
 use Rattle.bm_server.specs.Servings.{Serving}
 use Rattle.bm_worker.specs.declared.worker.MuxWorker.{MuxWorker}
-use Rattle.bm_worker.specs.WorkerNotes.{Hears, IsSameCaller, clock_of}
+use Rattle.bm_worker.specs.WorkerNotes.{GetReplies, IsSameCaller, clock_of}
 use Rattle.bm_worker.specs.Phases.{AreCopies, IsPhaseNote, IsInOrder, IsLossOf, IsMuxGiven, Kept, Task, mux_log}
 use Rattle.bm_worker.specs.Phases.{mux_for}
-use Rattle.bm_worker.proofs.Hearing.{hears_more}
+use Rattle.bm_worker.proofs.CallNotes.{gets_more}
 
 -- MORE NOTES
 
@@ -132,7 +132,7 @@ pub record Step (F : Rules) (stage : Stage) (servers : List Serving) (task : Tas
   pub logged : reverse next.mux.log ≡ mux_log stage (mux_for task).0 x ++ reverse now.mux.log
   pub gives : AtEach (λ rest e. IsMuxGiven stage task.after (last_version task.posted) next.mux.seen.clocks
       (rest ++ reverse now.mux.log) e.clock.0 e.what) (mux_log stage (mux_for task).0 x)
-  pub hears : Hears stage servers now.caller.seats next.caller.seats x
+  pub replies : GetReplies stage servers now.caller.seats next.caller.seats x
   pub copies : AreCopies stage (mux_for task) servers (reverse now.mux.log) now.caller.seats
       → AreCopies stage (mux_for task) servers (reverse next.mux.log) next.caller.seats
   pub latest : next.caller.latest ≡ max now.caller.latest (greatest clock_of x)
@@ -189,8 +189,8 @@ kept_more F stage servers task now next d x old step =
           (λ rest e is. given_later stage task.after first now.mux.seen.clocks next.mux.seen.clocks (rest ++ past)
           e.clock.0 e.what
           step.mux.later.posts is) old.gives));
-      hears = hears_more stage servers task.start.caller.seats now.caller.seats next.caller.seats d x old.hears
-          step.hears;
+      replies = gets_more stage servers task.start.caller.seats now.caller.seats next.caller.seats d x old.replies
+          step.replies;
       copies = λ are. step.copies (old.copies are);
       latest = let one = old.latest in let two = step.latest in let g = greatest_append clock_of x d in omega arith;
       mux = same_mux_on task now next old.mux step.mux;

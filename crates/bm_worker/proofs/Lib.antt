@@ -1,7 +1,7 @@
 pub mod Numbered
 pub mod Seating
 pub mod Replying
-pub mod Hearing
+pub mod CallNotes
 pub mod Completing
 pub mod Keeping
 mod Weighing

@@ -30,7 +30,7 @@ use Rattle.bm_worker.specs.declared.worker.MuxWorker.{MuxWorker}
 use Rattle.bm_worker.specs.Inside.Batches.{AreDrawn, HasSeen, IsDelivery, IsItemOf}
 use Rattle.bm_worker.specs.Inside.Batches.{IsLogged, Rise}
 use Rattle.bm_worker.specs.Inside.Batches.{last_packet, last_sent, sent_notes, steering, switch_note, switch_notes}
-use Rattle.bm_worker.specs.WorkerNotes.{Hears, Said, clock_of, saying}
+use Rattle.bm_worker.specs.WorkerNotes.{DueEvent, GetReplies, clock_of, due_events}
 use Rattle.bm_worker.specs.SeatCalls.{calls_there}
 use Rattle.bm_worker.specs.Inside.Pending.{GrowsByLosses}
 use Rattle.bm_worker.specs.Phases.{AreCopies, IsPhaseNote, IsMuxGiven}
@@ -128,13 +128,13 @@ switch_greatest m seen past = of_test (ltb (version_at past m).0 (last_version s
   of_test false = omega arith
 
 -- nothing of it is a call to a shard
-pub steerings_heard : (stage : Stage) (servers : List Serving) (m : MuxId) (x : List Note) (a b : List (List Seated))
+pub gets_steerings : (stage : Stage) (servers : List Serving) (m : MuxId) (x : List Note) (a b : List (List Seated))
     → b ≡ a → AreSteerings m x
-    → Hears stage servers a b x
-steerings_heard stage servers m x a b same kinds p h server at =
-    let said = saying (shard_at server h) (calls_there a p h) in
-    ap (λ (l : List (List Seated)). saying (shard_at server h) (calls_there l p h)) same
-    ∙ (sym (append-nil said) ∙ ap (λ (l : List Said). said ++ l) (sym (steerings_noted stage m server.id.0 h x kinds)))
+    → GetReplies stage servers a b x
+gets_steerings stage servers m x a b same kinds p h server at =
+    let events = due_events (shard_at server h) (calls_there a p h) in
+    ap (λ (l : List (List Seated)). due_events (shard_at server h) (calls_there l p h)) same
+    ∙ (sym (append-nil events) ∙ ap (λ (l : List DueEvent). events ++ l) (sym (steerings_noted stage m server.id.0 h x kinds)))
 
 -- THE STEP OF A BATCH
 
@@ -183,7 +183,7 @@ batch_step F stage servers task now next d low i items fates out out' id same ba
           (switch_logged m low seen past logged)
           (switched_more task.after m.0 sw past switched) refl))
           (gives_switch stage m task.after first low seen past logged switched begun));
-      hears = steerings_heard stage servers m x now.caller.seats next.caller.seats seen_it.seats kinds;
+      replies = gets_steerings stage servers m x now.caller.seats next.caller.seats seen_it.seats kinds;
       copies = λ are. subst (λ (l : List (List Seated)). AreCopies stage m servers (reverse next.mux.log) l)
           (sym seen_it.seats)
           (copies_as stage servers m past (reverse next.mux.log) now.caller.seats

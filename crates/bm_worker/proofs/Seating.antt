@@ -14,9 +14,9 @@ use Rattle.bm_shard.specs.declared.calls.ShardCall.{ShardCall}
 use Rattle.bm_shard.specs.declared.calls.ShardReply.{ShardReply}
 use Rattle.bm_turnstile.specs.Sittings.{Who, who}
 use Rattle.bm_server.specs.Servings.{Serving}
-use Rattle.bm_server.specs.Seats.{Seated, Answered, row, row_from, said, Tells, most_turns}
+use Rattle.bm_server.specs.Seats.{Seated, Answered, row, row_from, added_at, GetsReply, most_turns}
 use Rattle.bm_server.specs.Servings.{shard_at}
-use Rattle.bm_worker.specs.SeatCalls.{Gains, Stays, calls_in, calls_there}
+use Rattle.bm_worker.specs.SeatCalls.{AddsCall, AddsNoCall, calls_in, calls_there}
 use Rattle.bm_worker.specs.WorkerNotes.{HasSeats}
 use Rattle.bm_worker.specs.Callers.{CallerState}
 
@@ -115,26 +115,26 @@ pub whos_kept : (seats : List (List Seated)) (place : ℕ) (a b : List Seated) �
 whos_kept seats place a b is same =
     map-set_same (map who) seats place b a (same ∙ ap (λ (l : List Seated). map who l) is)
 
--- WHAT WAS TOLD
+-- THE CALLS
 
 -- the seats' calls and replies after a call
-told_grows : {M : Type 0} (seats : List (List Seated)) (place shard : ℕ) (a b : List Seated) (call : ShardCall)
+calls_grow : {M : Type 0} (seats : List (List Seated)) (place shard : ℕ) (a b : List Seated) (call : ShardCall)
     (r : Result ShardReply M)
-    → place < length seats → a ≡ get_or seats place a → Tells shard call r a b
+    → place < length seats → a ≡ get_or seats place a → GetsReply shard call r a b
     → (s h : ℕ) → calls_there (set seats place b) s h ≡ calls_there seats s h
-    ++ cond (s == place) (said shard call r h) []
-told_grows seats place shard a b call r lt is tells s h = elim (cases_Bool (s == place)) [
+    ++ cond (s == place) (added_at shard call r h) []
+calls_grow seats place shard a b call r lt is gets s h = elim (cases_Bool (s == place)) [
   | inl here ↦
       let e : s ≡ place = eqb-true s place here in
       let old : slice_get seats s ≡ Some a = ap (slice_get seats) e ∙ seat_got seats place a lt is in
       let new : slice_get (set seats place b) s ≡ Some b =
       ap (slice_get (set seats place b)) e ∙ slice_get-set_same seats place b lt in
-      let more : said shard call r h ≡ cond (s == place) (said shard call r h) [] =
-      ap (λ (x : Bool). cond x (said shard call r h) []) (sym here) in
-      ap (λ (o : Option (List Seated)). calls_in o h) new ∙ (tells h ∙ (λ i. calls_in (sym old i) h ++ more i))
+      let more : added_at shard call r h ≡ cond (s == place) (added_at shard call r h) [] =
+      ap (λ (x : Bool). cond x (added_at shard call r h) []) (sym here) in
+      ap (λ (o : Option (List Seated)). calls_in o h) new ∙ (gets h ∙ (λ i. calls_in (sym old i) h ++ more i))
   | inr other ↦
-      let none : [] ≡ cond (s == place) (said shard call r h) [] =
-      ap (λ (x : Bool). cond x (said shard call r h) []) (sym other) in
+      let none : [] ≡ cond (s == place) (added_at shard call r h) [] =
+      ap (λ (x : Bool). cond x (added_at shard call r h) []) (sym other) in
       ap (λ (o : Option (List Seated)). calls_in o h)
       (slice_get-set_other seats place s b (λ e. eqb-false s place other (sym e)))
       ∙ (sym (append-nil (calls_there seats s h)) ∙ ap (λ (l : List Answered). calls_there seats s h ++ l) none)
@@ -144,30 +144,30 @@ both_conds : (a b : Bool) (x : Answered) → cond a (cond b (x ∷ []) []) [] �
 both_conds true b x = refl
 both_conds false b x = refl
 
--- a call that was answered is gained
-pub gains : {M : Type 0} (c a : CallerState) (servers : List Serving) (place shard : ℕ) (old new : List Seated)
+-- a call that was answered is added
+pub adds_call : {M : Type 0} (c a : CallerState) (servers : List Serving) (place shard : ℕ) (old new : List Seated)
     (call : ShardCall)
     (r : Result ShardReply M) (reply : ShardReply) → a ≡ c → HasSeats servers c → place < length servers
     → old ≡ get_or a.seats place old
-    → Tells shard call r old new → r ≡ Ok reply → Gains place shard call reply c.seats (set a.seats place new)
-gains c a servers place shard old new call r reply e h lt is tells ok s k =
-    told_grows a.seats place shard old new call r (seat_there c a servers place e h lt) is tells s k
-    ∙ (λ i. calls_there ((e i).seats) s k ++ cond (s == place) (said shard call (ok i) k) [])
+    → GetsReply shard call r old new → r ≡ Ok reply → AddsCall place shard call reply c.seats (set a.seats place new)
+adds_call c a servers place shard old new call r reply e h lt is gets ok s k =
+    calls_grow a.seats place shard old new call r (seat_there c a servers place e h lt) is gets s k
+    ∙ (λ i. calls_there ((e i).seats) s k ++ cond (s == place) (added_at shard call (ok i) k) [])
     ∙ ap (λ (l : List Answered). calls_there c.seats s k ++ l) (both_conds (s == place) (k == shard) (call, reply))
 
-none_said : (a b : Bool) → ◌≡◌ {A = List Answered} (cond a (cond b [] []) []) []
-none_said true true = refl
-none_said true false = refl
-none_said false b = refl
+none_added : (a b : Bool) → ◌≡◌ {A = List Answered} (cond a (cond b [] []) []) []
+none_added true true = refl
+none_added true false = refl
+none_added false b = refl
 
 -- one that was not leaves all as it was
-pub stays : {M : Type 0} (c a : CallerState) (servers : List Serving) (place shard : ℕ) (old new : List Seated)
+pub adds_no_call : {M : Type 0} (c a : CallerState) (servers : List Serving) (place shard : ℕ) (old new : List Seated)
     (call : ShardCall)
     (r : Result ShardReply M) (why : M) → a ≡ c → HasSeats servers c → place < length servers
     → old ≡ get_or a.seats place old
-    → Tells shard call r old new → r ≡ Err why → Stays c.seats (set a.seats place new)
-stays c a servers place shard old new call r why e h lt is tells err s k =
-    told_grows a.seats place shard old new call r (seat_there c a servers place e h lt) is tells s k
-    ∙ (λ i. calls_there ((e i).seats) s k ++ cond (s == place) (said shard call (err i) k) [])
-    ∙ (ap (λ (l : List Answered). calls_there c.seats s k ++ l) (none_said (s == place) (k == shard))
+    → GetsReply shard call r old new → r ≡ Err why → AddsNoCall c.seats (set a.seats place new)
+adds_no_call c a servers place shard old new call r why e h lt is gets err s k =
+    calls_grow a.seats place shard old new call r (seat_there c a servers place e h lt) is gets s k
+    ∙ (λ i. calls_there ((e i).seats) s k ++ cond (s == place) (added_at shard call (err i) k) [])
+    ∙ (ap (λ (l : List Answered). calls_there c.seats s k ++ l) (none_added (s == place) (k == shard))
     ∙ append-nil (calls_there c.seats s k))

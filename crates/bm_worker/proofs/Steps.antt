@@ -30,14 +30,14 @@ use Rattle.bm_mux.specs.Steers.{at_clock}
 use Rattle.bm_server.specs.Servings.{Serving}
 use Rattle.bm_worker.specs.declared.worker.MuxWorker.{MuxWorker}
 use Rattle.bm_worker.specs.Arrivals.{HasCome}
-use Rattle.bm_worker.specs.WorkerNotes.{Hears, IsSameCaller, AreServersOf}
+use Rattle.bm_worker.specs.WorkerNotes.{GetReplies, IsSameCaller, AreServersOf}
 use Rattle.bm_worker.specs.Inside.WorkerNotes.{arrival, loss}
 use Rattle.bm_worker.specs.Inside.Pending.{Pending, IsAmong, IsCopyOf, IsOf, IsUpTo, AwaitsCopies}
 use Rattle.bm_worker.specs.Inside.Lost.{with_loss}
 use Rattle.bm_worker.specs.Phases.{AreCopies, IsMuxGiven, Kept, Task, mux_log, mux_for}
-use Rattle.bm_worker.specs.SeatCalls.{Stays}
+use Rattle.bm_worker.specs.SeatCalls.{AddsNoCall}
 use Rattle.bm_worker.proofs.Copying.{copies_as, copies_come, copies_stay, tag_hop}
-use Rattle.bm_worker.proofs.Hearing.{hears_arrival, hears_none, hears_stays}
+use Rattle.bm_worker.proofs.CallNotes.{gets_arrival, gets_no_call, gets_none}
 use Rattle.bm_worker.proofs.Keeping.{kept_more, more_many}
 
 -- what the mux gives beyond its log
@@ -57,17 +57,17 @@ same_posts now next id seen = record {
 
 -- NOTHING DONE
 
-pub kept_stays : (F : Rules) (stage : Stage) (servers : List Serving) (task : Task) (now next : MuxWorker)
+pub kept_no_call : (F : Rules) (stage : Stage) (servers : List Serving) (task : Task) (now next : MuxWorker)
     (d : List Note)
-    → next.mux ≡ now.mux → Stays now.caller.seats next.caller.seats → next.caller.latest ≡ now.caller.latest
+    → next.mux ≡ now.mux → AddsNoCall now.caller.seats next.caller.seats → next.caller.latest ≡ now.caller.latest
     → IsSameCaller now.caller next.caller → Kept F stage servers task now d → Kept F stage servers task next d
-kept_stays F stage servers task now next d mux same latest caller kept =
+kept_no_call F stage servers task now next d mux same latest caller kept =
     kept_more F stage servers task now next d [] kept (record {
       each = tt;
       ordered = tt;
       logged = ap (λ (x : MuxState). reverse x.log) mux;
       gives = tt;
-      hears = hears_stays stage servers now.caller.seats next.caller.seats same;
+      replies = gets_no_call stage servers now.caller.seats next.caller.seats same;
       copies = λ are.
           subst (λ (x : MuxState). AreCopies stage (mux_for task) servers (reverse x.log) next.caller.seats)
           (sym mux)
@@ -182,9 +182,9 @@ kept_arrival F stage servers task now next d pending place octets due r fate ser
       ordered = (none_after pending.packet d awaits.first, tt);
       logged = ap (λ (x : MuxState). reverse x.log) mux ∙ ap (λ (l : List Event). l ++ reverse now.mux.log) (sym none);
       gives = subst (λ (l : List Event). AtEach (GivenNow stage task now next) l) (sym none) tt;
-      hears = subst (λ (h : Hop). Hears stage servers now.caller.seats next.caller.seats
+      replies = subst (λ (h : Hop). GetReplies stage servers now.caller.seats next.caller.seats
           (arrival r.0 pending.packet h copy.server.id r.1 fate due.0 (m + 1) ∷ [])) hop_is
-          (hears_arrival stage servers place pending.packet (m + 1) copy.server (copy.tag, copy.segment) due r fate
+          (gets_arrival stage servers place pending.packet (m + 1) copy.server (copy.tag, copy.segment) due r fate
           now.caller.seats next.caller.seats
           servers_are copy.is_server come copy.is_segment);
       copies = λ are.
@@ -241,7 +241,7 @@ kept_loss F stage servers task now d pending none awaits kept =
       ordered = (tt, tt);
       logged = turned ∙ ap (λ (l : List Event). l ++ reverse now.mux.log) (sym one);
       gives = subst (λ (l : List Event). AtEach (GivenNow stage task now next) l) (sym one) (tt, tt);
-      hears = hears_none stage servers now.caller.seats;
+      replies = gets_none stage servers now.caller.seats;
       copies = λ are. copies_as stage servers (mux_for task) (reverse now.mux.log) (reverse next.mux.log)
           now.caller.seats
           (λ k l is. subst (λ (past : List Event). label_of stage past k ≡ Some l) (sym turned) is) are;

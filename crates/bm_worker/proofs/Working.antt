@@ -32,7 +32,7 @@ ended_as F stage servers task now next None mux caller is = (
     kept = kept_steps F stage servers task now next is.0 mux caller is.1.kept;
     carrier = is.1.carrier;
     looked = is.1.looked;
-    heard = subst (λ (x : MuxState). Continues task.posted x.seen) (sym mux) is.1.heard;
+    learned = subst (λ (x : MuxState). Continues task.posted x.seen) (sym mux) is.1.learned;
     steered = is.1.steered;
     few = is.1.few;
   },

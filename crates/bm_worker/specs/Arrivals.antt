@@ -13,7 +13,7 @@ use Rattle.bm_shard.specs.Copies.{copy_in}
 use Rattle.bm_server.specs.Servings.{Serving}
 use Rattle.bm_server.specs.Seats.{Seated}
 use Rattle.bm_server.specs.Servings.{shard_for}
-use Rattle.bm_worker.specs.SeatCalls.{Gains}
+use Rattle.bm_worker.specs.SeatCalls.{AddsCall}
 
 -- the server reads this tag and segment in the octets
 abbrev pub IsCopy : Serving → List ℕ → Tag × Segment → Type 0
@@ -24,7 +24,7 @@ IsCopy server octets read = copy_in server.id octets ≡ Ok read
 pub record HasCome (place : ℕ) (server : Serving) (packet : ℕ) (read : Tag × Segment) (due : Moment)
     (r : Moment × Verdict) (a b : List (List Seated)) : Type 0 where
   pub reset : Option (List ℕ)
-  pub gains : Gains place (shard_for server read.1.flow) (Arrive packet read.0 read.1 due)
+  pub adds : AddsCall place (shard_for server read.1.flow) (Arrive packet read.0 read.1 due)
       (Arrived r.0 r.1 reset) a b
   pub passed : (to : ServerId) → r.1 ≡ Forward to
       → server_of (onward (entry_of read.0) read.0.hop) ≡ Some to

@@ -30,7 +30,7 @@ use Rattle.bm_worker.specs.declared.span.Span.{Span}
 use Rattle.bm_worker.specs.declared.stop.Stop.{Stop}
 use Rattle.bm_worker.specs.declared.stop.Stop.TheVariants.{Memory, Late}
 use Rattle.bm_worker.specs.declared.worker.MuxWorker.{MuxWorker}
-use Rattle.bm_worker.specs.WorkerNotes.{HasServer, Hears, IsSameCaller, HasSeats, clock_of}
+use Rattle.bm_worker.specs.WorkerNotes.{HasServer, GetReplies, IsSameCaller, HasSeats, clock_of}
 use Rattle.bm_worker.specs.SeatCalls.{calls_there}
 use Rattle.bm_worker.specs.Assigned.{RoutedBy, is_assigned}
 
@@ -171,7 +171,7 @@ pub record Kept (F : Rules) (stage : Stage) (servers : List Serving) (task : Tas
       (rest ++ reverse task.start.mux.log) e.clock.0 e.what)
       (mux_log stage (mux_for task).0 notes)
   -- the seats' calls and replies grew likewise
-  pub hears : Hears stage servers task.start.caller.seats now.caller.seats notes
+  pub replies : GetReplies stage servers task.start.caller.seats now.caller.seats notes
   pub copies : AreCopies stage (mux_for task) servers (reverse task.start.mux.log)
       task.start.caller.seats
       → AreCopies stage (mux_for task) servers (reverse now.mux.log) now.caller.seats
@@ -192,7 +192,7 @@ pub record Phase (F : Rules) (stage : Stage) (servers : List Serving) (task : Ta
   pub carrier : IsCarrier (RoutedBy task.routes) F stage (mux_for task).0 notes
   -- the mux looked at what was posted before the phase, or later
   pub looked : 1 ≤ many (λ n. is_switch_of n.event.what (mux_for task).0) notes
-  pub heard : Continues task.posted now.mux.seen
+  pub learned : Continues task.posted now.mux.seen
   -- each of the mux's packets is steered once, and no other packet is
   pub steered : (k : ℕ) → many (λ n. steers_packet n.event.what k) notes
       ≡ (if is_assigned task.routes (mux_for task).0 task.from task.until k then 1 else 0)

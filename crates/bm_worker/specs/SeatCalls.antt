@@ -10,24 +10,24 @@ use Rattle.bm_shard.specs.declared.calls.ShardCall.{ShardCall}
 use Rattle.bm_shard.specs.declared.calls.ShardCall.TheVariants.{Arrive, Close, Retire}
 use Rattle.bm_shard.specs.declared.calls.ShardReply.{ShardReply}
 use Rattle.bm_shard.specs.declared.calls.ShardReply.TheVariants.{Arrived, Closed, Retired}
-use Rattle.bm_server.specs.Seats.{Seated, Answered, told_at}
+use Rattle.bm_server.specs.Seats.{Seated, Answered, replies_at}
 
 abbrev pub calls_in : Option (List Seated) → ℕ → List Answered
 calls_in None h = []
-calls_in (Some seat) h = told_at seat h
+calls_in (Some seat) h = replies_at seat h
 
 -- the seats' calls to the shard h of the server at the place s, each with its reply, in order
 abbrev pub calls_there : List (List Seated) → ℕ → ℕ → List Answered
 calls_there seats s h = calls_in (slice_get seats s) h
 
 -- one more call at this place and shard, and at no other
-abbrev pub Gains : ℕ → ℕ → ShardCall → ShardReply → List (List Seated) → List (List Seated) → Type 0
-Gains place shard call reply a b = (s h : ℕ) → calls_there b s h
+abbrev pub AddsCall : ℕ → ℕ → ShardCall → ShardReply → List (List Seated) → List (List Seated) → Type 0
+AddsCall place shard call reply a b = (s h : ℕ) → calls_there b s h
     ≡ calls_there a s h ++ (if s == place && h == shard then (call, reply) ∷ [] else [])
 
 -- no call was added
-abbrev pub Stays : List (List Seated) → List (List Seated) → Type 0
-Stays a b = (s h : ℕ) → calls_there b s h ≡ calls_there a s h
+abbrev pub AddsNoCall : List (List Seated) → List (List Seated) → Type 0
+AddsNoCall a b = (s h : ℕ) → calls_there b s h ≡ calls_there a s h
 
 -- the event of a call with this reply
 abbrev pub event_of_call : Shard → ShardCall → ShardReply → Event

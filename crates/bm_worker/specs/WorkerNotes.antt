@@ -61,28 +61,28 @@ pub record AreServersOf (stage : Stage) (servers : List Serving) : Type 0 where
 -- THE CALLS OF THE SEATS
 
 -- an event, and the moment that was passed to the shard
-abbrev pub Said : Type 0
-Said = Event × ℕ
+abbrev pub DueEvent : Type 0
+DueEvent = Event × ℕ
 
-abbrev pub said_of : Shard → Answered → Said
-said_of shard a = (event_of_call shard a.0 a.1, (call_moment a.0).0)
+abbrev pub due_event : Shard → Answered → DueEvent
+due_event shard a = (event_of_call shard a.0 a.1, (call_moment a.0).0)
 
--- what these calls with their replies say, in order
-abbrev pub saying : Shard → List Answered → List Said
-saying shard calls = map (said_of shard) calls
+-- the events of these calls with their replies, in order
+abbrev pub due_events : Shard → List Answered → List DueEvent
+due_events shard calls = map (due_event shard) calls
 
 -- what the notes say about one actor's log, the oldest first
-abbrev pub noted : Stage → Actor → List Note → List Said
+abbrev pub noted : Stage → Actor → List Note → List DueEvent
 noted stage a [] = []
 noted stage a (n ∷ notes) =
     noted stage a notes ++ (if is_home stage a n then (n.event, n.due) ∷ [] else [])
 
 -- the seats' calls and replies grew by exactly these notes, at each shard in their order
-abbrev pub Hears : Stage → List Serving → List (List Seated) → List (List Seated) → List Note
+abbrev pub GetReplies : Stage → List Serving → List (List Seated) → List (List Seated) → List Note
     → Type 0
-Hears stage servers a b notes = (s h : ℕ) (server : Serving) → slice_get servers s ≡ Some server
-    → saying (shard_at server h) (calls_there b s h)
-    ≡ saying (shard_at server h) (calls_there a s h) ++ noted stage (ShardOf server.id.0 h) notes
+GetReplies stage servers a b notes = (s h : ℕ) (server : Serving) → slice_get servers s ≡ Some server
+    → due_events (shard_at server h) (calls_there b s h)
+    ≡ due_events (shard_at server h) (calls_there a s h) ++ noted stage (ShardOf server.id.0 h) notes
 
 -- NOTES
 

@@ -10,7 +10,7 @@ ghost use Rattle.bm_server.specs.Seats.{most_turns};
 ghost use Rattle.bm_worker.specs.Inside.Answers.{IsArrived, IsClosed, IsRetired};
 ghost use Rattle.bm_worker.specs.Arrivals.{HasCome, IsCopy};
 ghost use Rattle.bm_worker.specs.WorkerNotes.{IsSameCaller, HasSeats};
-ghost use Rattle.bm_worker.specs.SeatCalls.{Gains, Stays};
+ghost use Rattle.bm_worker.specs.SeatCalls.{AddsCall, AddsNoCall};
 
 use bm_base::{Flow, Memory, Moment};
 use bm_core::Verdict;
@@ -117,7 +117,7 @@ impl Caller {
             (λ r. (server : Serving) (read : _) → slice_get servers.now place ≡ Some server
             → IsCopy server octets.now read
             → HasCome place server packet read due r self.old.seats self.new.seats) }
-        ensures stays { OnErr result (Stays self.old.seats self.new.seats) }
+        ensures no_call { OnErr result (AddsNoCall self.old.seats self.new.seats) }
         ensures later { IfOk result (λ r. due.0 < r.0.0) }
         ensures latest { MatchResult result (λ r. self.new.latest ≡ max self.old.latest r.0.0)
             (λ _. self.new.latest ≡ self.old.latest) }
@@ -148,9 +148,9 @@ impl Caller {
         ensures tries { self.new.tries ≤ self.old.tries + 1 }
         ensures call { IfOk result
             (λ r. (server : Serving) → slice_get servers.now place ≡ Some server
-            → Gains place (shard_for server flow) (Close flow at) (Closed r.0 r.1) self.old.seats
+            → AddsCall place (shard_for server flow) (Close flow at) (Closed r.0 r.1) self.old.seats
             self.new.seats) }
-        ensures stays { OnErr result (Stays self.old.seats self.new.seats) }
+        ensures no_call { OnErr result (AddsNoCall self.old.seats self.new.seats) }
         ensures later { IfOk result (λ r. at.0 < r.0.0) }
         ensures latest { MatchResult result (λ r. self.new.latest ≡ max self.old.latest r.0.0)
             (λ _. self.new.latest ≡ self.old.latest) }
@@ -183,9 +183,9 @@ impl Caller {
         ensures same { IsSameCaller self.old self.new }
         ensures tries { self.new.tries ≤ self.old.tries + 1 }
         ensures call { IfOk result
-            (λ clock. Gains place shard (Retire at outcome) (Retired clock) self.old.seats
+            (λ clock. AddsCall place shard (Retire at outcome) (Retired clock) self.old.seats
             self.new.seats) }
-        ensures stays { OnErr result (Stays self.old.seats self.new.seats) }
+        ensures no_call { OnErr result (AddsNoCall self.old.seats self.new.seats) }
         ensures later { IfOk result (λ clock. at.0 < clock.0) }
         ensures latest { MatchResult result (λ clock. self.new.latest ≡ max self.old.latest clock.0)
             (λ _. self.new.latest ≡ self.old.latest) }

@@ -36,24 +36,24 @@ use Rattle.bm_world.specs.Inside.RunStates.{with_posts, IsBetween}
 use Rattle.bm_world.specs.Inside.Returned.{control_log}
 use Rattle.bm_world.specs.Inside.Running.{IsAtWork, AreAtWork}
 
--- WHAT IS TOLD CHANGES NOTHING ELSE
+-- KNOWING WHAT IS POSTED CHANGES NOTHING ELSE
 
-pub told_at : (posted : Posted) (workers : List MuxWorker) (m : ℕ) (y : MuxWorker)
+pub informed_at : (posted : Posted) (workers : List MuxWorker) (m : ℕ) (y : MuxWorker)
     → slice_get (map (with_posts posted) workers) m ≡ Some y
     → (w : MuxWorker) × (slice_get workers m ≡ Some w) × (with_posts posted w ≡ y)
-told_at posted [] m y here = absurd (cc)
-told_at posted (w ∷ workers) zero y here = (w, refl, same_Some _ _ here)
-told_at posted (w ∷ workers) (suc m) y here = told_at posted workers m y here
+informed_at posted [] m y here = absurd (cc)
+informed_at posted (w ∷ workers) zero y here = (w, refl, same_Some _ _ here)
+informed_at posted (w ∷ workers) (suc m) y here = informed_at posted workers m y here
 
-at_work_told : (R : Routes) (F : Rules) (stage : Stage) (servers : List Serving) (routes : List (Option MuxId))
+at_work_informed : (R : Routes) (F : Rules) (stage : Stage) (servers : List Serving) (routes : List (Option MuxId))
     (control : List Event) (board : Book) (phases until m : ℕ) (posted : Posted) (w : MuxWorker) (notes : List Note)
     → IsAtWork R F stage servers routes control board phases until m w notes
     → IsAtWork R F stage servers routes control board phases until m (with_posts posted w) notes
-at_work_told R F stage servers routes control board phases until m posted w notes at = record {
+at_work_informed R F stage servers routes control board phases until m posted w notes at = record {
   carriage = at.carriage;
   id = at.id;
   logged = at.logged;
-  heard = at.heard;
+  replies = at.replies;
   copies = at.copies;
   placed = at.placed;
   latest = at.latest;
@@ -70,18 +70,18 @@ at_work_told R F stage servers routes control board phases until m posted w note
   stop = at.stop;
 }
 
-pub all_told : (R : Routes) (F : Rules) (stage : Stage) (servers : List Serving) (routes : List (Option MuxId))
+pub all_informed : (R : Routes) (F : Rules) (stage : Stage) (servers : List Serving) (routes : List (Option MuxId))
     (board : Book) (p phases until : ℕ) (posted : Posted) (workers : List MuxWorker) (controller : List Note)
     (carriers : List (List Note))
     → AreAtWork R F stage servers routes board p phases until workers controller carriers
     → AreAtWork R F stage servers routes board p phases until (map (with_posts posted) workers) controller carriers
-all_told R F stage servers routes board p phases until posted workers controller carriers at = record {
+all_informed R F stage servers routes board p phases until posted workers controller carriers at = record {
   count = at.count ∙ sym (length-map workers (with_posts posted));
   each = λ m y here.
-      let w = told_at posted workers m y here
+      let w = informed_at posted workers m y here
       in subst (λ (x : MuxWorker). IsAtWork R F stage servers routes (control_log stage controller) board phases until
       m x (notes_by carriers m)) w.2
-      (at_work_told R F stage servers routes (control_log stage controller) board phases until m posted w.0
+      (at_work_informed R F stage servers routes (control_log stage controller) board phases until m posted w.0
       (notes_by carriers m)
       (at.each m w.0 w.1));
   all = at.all;
@@ -215,7 +215,7 @@ pub can_work : (F : Rules) (stage : Stage) (servers : List Serving) (routes : Li
     → span.from ≤ span.until → span.until ≤ length stage.capture.records
     → All (CanWork stage servers routes span) (map (with_posts posted) workers)
 can_work F stage servers routes posted leader workers span sound between after order within k d low =
-    let told = map (with_posts posted) workers
-    in let w = told_at posted workers k (get_or told k d) (slice_get-get_or told k d low)
+    let informed = map (with_posts posted) workers
+    in let w = informed_at posted workers k (get_or informed k d) (slice_get-get_or informed k d low)
     in subst (λ (x : MuxWorker). CanWork stage servers routes span x) w.2
     (can_one F stage servers routes posted leader workers span k w.0 sound between after order within w.1)

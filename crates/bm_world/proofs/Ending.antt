@@ -41,7 +41,7 @@ use Rattle.bm_worker.specs.Phases.{mux_log, IsPlaced, AreCopies}
 use Rattle.bm_worker.specs.Assigned.{is_mux, assigned_mux}
 use Rattle.bm_worker.specs.declared.worker.MuxWorker.{MuxWorker}
 use Rattle.bm_world.specs.Inside.Returned.{control_log, posted_clocks, IsControl, IsBooked, has_book, AreHandedBack}
-use Rattle.bm_world.specs.Inside.Running.{HaveHeard, AreAtWork, HaveLooked}
+use Rattle.bm_world.specs.Inside.Running.{HaveReplies, AreAtWork, HaveLooked}
 use Rattle.bm_lead.specs.Leads.{IsPlaced as IsLedAt}
 use Rattle.bm_world.specs.Inside.Routed.{AreRouted}
 use Rattle.bm_world.specs.Inside.Served.{AreBooksThere}
@@ -195,7 +195,7 @@ pub record IsEnded (R : Routes) (F : Rules) (stage : Stage) (servers : List Serv
   pub controls : IsController stage controller
   pub control : IsControl stage controller
   pub changes : newest (control_log stage controller) ≡ length stage.script.plan.changes
-  pub heard : HaveHeard stage servers leader controller
+  pub replies : HaveReplies stage servers leader controller
   pub led_at : AllByRecursion (λ n. IsLedAt stage servers n.event.what) controller
   pub at_work : AreAtWork R F stage servers routes board p phases (length stage.capture.records) workers controller
       carriers
@@ -219,17 +219,17 @@ notes_each P carriers each m = elim (cases_lt m (length carriers)) [
   | inr high ↦ subst (λ (x : List Note). AllByRecursion (P m) x) (sym (no_notes carriers m high)) tt
 ]
 
-heard_of : (R : Routes) (F : Rules) (stage : Stage) (servers : List Serving) (routes : List (Option MuxId))
+have_of : (R : Routes) (F : Rules) (stage : Stage) (servers : List Serving) (routes : List (Option MuxId))
     (board : Board) (p phases : ℕ) (workers : List MuxWorker) (leader : List (List Seated)) (controller : List Note)
     (carriers : List (List Note)) → IsEnded R F stage servers routes board p phases workers leader controller carriers
     → (w : ℕ) (seats : List (List Seated)) → slice_get (rows_of leader workers) w ≡ Some seats
-    → HaveHeard stage servers seats (notes_by (controller ∷ carriers) w)
-heard_of R F stage servers routes board p phases workers leader controller carriers end zero seats here =
-    subst (λ (x : List (List Seated)). HaveHeard stage servers x controller) (same_Some leader seats here) end.heard
-heard_of R F stage servers routes board p phases workers leader controller carriers end (suc m) seats here =
+    → HaveReplies stage servers seats (notes_by (controller ∷ carriers) w)
+have_of R F stage servers routes board p phases workers leader controller carriers end zero seats here =
+    subst (λ (x : List (List Seated)). HaveReplies stage servers x controller) (same_Some leader seats here) end.replies
+have_of R F stage servers routes board p phases workers leader controller carriers end (suc m) seats here =
     let w = row_of workers m seats here
-    in subst (λ (x : List (List Seated)). HaveHeard stage servers x (notes_by carriers m)) w.2
-    (end.at_work.each m w.0 w.1).heard
+    in subst (λ (x : List (List Seated)). HaveReplies stage servers x (notes_by carriers m)) w.2
+    (end.at_work.each m w.0 w.1).replies
 
 are_done : (R : Routes) (F : Rules) (stage : Stage) (servers : List Serving) (routes : List (Option MuxId))
     (board : Board) (p phases : ℕ) (workers : List MuxWorker) (leader : List (List Seated)) (controller : List Note)
@@ -247,7 +247,7 @@ are_done R F stage servers routes board p phases workers leader controller carri
       first = end.control.seats;
       others = notes_each (λ m n. n.seat ≡ suc m) carriers (λ m low.
           let w = there workers m (omega arith) in (end.at_work.each m w.0 w.1).carriage.seats);
-      heard = heard_of R F stage servers routes board p phases workers leader controller carriers end;
+      replies = have_of R F stage servers routes board p phases workers leader controller carriers end;
       copies = λ m seats here.
           let w = row_of workers m seats here
           in let at = end.at_work.each m w.0 w.1

@@ -28,19 +28,19 @@ use Rattle.bm_shard.specs.declared.calls.ShardEntry.{ShardEntry}
 use Rattle.bm_merge.specs.Notes.{Note}
 use Rattle.bm_merge.specs.Workers.{home_part, notes_by}
 use Rattle.bm_merge.proofs.Keeping.{no_notes}
-use Rattle.bm_server.specs.Seats.{Answered, Seated, seat_of, telling}
+use Rattle.bm_server.specs.Seats.{Answered, Seated, replies_in, seat_of}
 use Rattle.bm_server.specs.Servings.{Serving, shard_at}
 use Rattle.bm_turnstile.specs.Seen.{AllBelow}
-use Rattle.bm_worker.specs.WorkerNotes.{NumbersRise, saying, noted, AreServersOf}
+use Rattle.bm_worker.specs.WorkerNotes.{NumbersRise, due_events, noted, AreServersOf}
 use Rattle.bm_worker.proofs.Numbered.{differ}
 use Rattle.bm_worker.specs.Phases.{mux_log, IsCopyCall, AreCopies}
 use Rattle.bm_worker.specs.SeatCalls.{calls_there}
 use Rattle.bm_world.specs.Inside.Shards.{entries_by, AreNoted}
 use Rattle.bm_world.specs.Inside.Returned.{IsCopied, IsBookOfAll, has_book, HaveOwnBooks}
-use Rattle.bm_world.specs.Inside.Running.{HaveHeard}
+use Rattle.bm_world.specs.Inside.Running.{HaveReplies}
 use Rattle.bm_world.specs.Inside.Served.{IsBookThere, AreBooksThere}
 use Rattle.bm_world.proofs.Homes.{home_each}
-use Rattle.bm_world.proofs.Telling.{told_noted, told_one, told_last, reverse_more, reverse_twice}
+use Rattle.bm_world.proofs.Recorded.{replies_noted, reply_one, replies_last, reverse_more, reverse_twice}
 
 -- EACH ENTRY
 
@@ -78,16 +78,16 @@ answered_rest P (a ∷ x) y all = let old = answered_rest P x y all.1 in ((all.0
 
 -- what holds of the calls of a seat holds of its entries
 calls_each : (Q : ShardCall → Type 0) (about : Shard) (w : ℕ) (x : List ShardEntry)
-    → AllByRecursion (λ (a : Answered). Q a.0) (telling (Some about) w (reverse x))
+    → AllByRecursion (λ (a : Answered). Q a.0) (replies_in (Some about) w (reverse x))
     → AllByRecursion (λ (e : ShardEntry). Q e.call) (entries_by w x)
 calls_each Q about w [] all = tt
 calls_each Q about w (e ∷ x) all =
-    let more : telling (Some about) w (reverse (e ∷ x)) ≡ _ =
-    ap (λ (l : List ShardEntry). telling (Some about) w l) (reverse_more e x) ∙ told_last about w [] (reverse x) e
-    in let parts = answered_rest (λ (a : Answered). Q a.0) (telling (Some about) w (reverse x)) _
+    let more : replies_in (Some about) w (reverse (e ∷ x)) ≡ _ =
+    ap (λ (l : List ShardEntry). replies_in (Some about) w l) (reverse_more e x) ∙ replies_last about w [] (reverse x) e
+    in let parts = answered_rest (λ (a : Answered). Q a.0) (replies_in (Some about) w (reverse x)) _
     (subst (λ (l : List Answered). AllByRecursion (λ (a : Answered). Q a.0) l) more all)
     in go (eqb e.seat w) parts.1 (calls_each Q about w x parts.0) where
-      go : (b : Bool) → AllByRecursion (λ (a : Answered). Q a.0) (told_one about w (reverse x) e b)
+      go : (b : Bool) → AllByRecursion (λ (a : Answered). Q a.0) (reply_one about w (reverse x) e b)
           → AllByRecursion (λ (y : ShardEntry). Q y.call) (entries_by w x)
           → AllByRecursion (λ (y : ShardEntry). Q y.call) (cond b (e ∷ entries_by w x) (entries_by w x))
       go true here old = (here.0, old)
@@ -119,35 +119,35 @@ reverse_each P (e ∷ x) all =
 -- WORKER 0 MAKES NO COPIES
 
 -- what happens is what the call says
-abbrev IsSaid : Shard → ShardEntry → Type 0
-IsSaid about e = (knows : Flow → Local) × (clock : Moment) × (e.event.what ≡ what_of about knows clock e.call)
+abbrev IsOfCall : Shard → ShardEntry → Type 0
+IsOfCall about e = (knows : Flow → Local) × (clock : Moment) × (e.event.what ≡ what_of about knows clock e.call)
 
-all_said : (about : Shard) (x : List ShardEntry) → Replays about x → AllByRecursion (IsSaid about) x
-all_said about [] replays = tt
-all_said about (e ∷ x) replays = (
+all_of_calls : (about : Shard) (x : List ShardEntry) → Replays about x → AllByRecursion (IsOfCall about) x
+all_of_calls about [] replays = tt
+all_of_calls about (e ∷ x) replays = (
   (knows_after about x, clock_after x e.call, ap (λ (z : Event). z.what) replays.0),
-  all_said about x replays.1,
+  all_of_calls about x replays.1,
 )
 
 no_copy : (stage : Stage) (carriers : List (List Note)) (about : Shard) (e : ShardEntry) (call : ShardCall)
-    → e.call ≡ call → is_command e.event.what ≡ true → IsSaid about e → IsCopied stage carriers about call
-no_copy stage carriers about e (Arrive packet tag segment due) is command said =
-    let what : e.event.what ≡ what_of about said.0 said.1 (Arrive packet tag segment due) =
-    said.2 ∙ ap (λ (c : ShardCall). what_of about said.0 said.1 c) is
+    → e.call ≡ call → is_command e.event.what ≡ true → IsOfCall about e → IsCopied stage carriers about call
+no_copy stage carriers about e (Arrive packet tag segment due) is command of_call =
+    let what : e.event.what ≡ what_of about of_call.0 of_call.1 (Arrive packet tag segment due) =
+    of_call.2 ∙ ap (λ (c : ShardCall). what_of about of_call.0 of_call.1 c) is
     in absurd (let bad = rw what at command in cc)
-no_copy stage carriers about e (Close flow moment) is command said = tt
-no_copy stage carriers about e (Retire moment result) is command said = tt
+no_copy stage carriers about e (Close flow moment) is command of_call = tt
+no_copy stage carriers about e (Retire moment result) is command of_call = tt
 
 no_copies : (stage : Stage) (carriers : List (List Note)) (about : Shard) (es : List ShardEntry) (ns : List Note)
-    → AreNoted es ns → AllByRecursion (λ n. is_command n.event.what ≡ true) ns → AllByRecursion (IsSaid about) es
+    → AreNoted es ns → AllByRecursion (λ n. is_command n.event.what ≡ true) ns → AllByRecursion (IsOfCall about) es
     → AllByRecursion (λ (e : ShardEntry). IsCopied stage carriers about e.call) es
-no_copies stage carriers about [] [] noted commands said = tt
-no_copies stage carriers about [] (n ∷ ns) noted commands said = absurd noted
-no_copies stage carriers about (e ∷ es) [] noted commands said = absurd noted
-no_copies stage carriers about (e ∷ es) (n ∷ ns) noted commands said = (
+no_copies stage carriers about [] [] noted commands of_call = tt
+no_copies stage carriers about [] (n ∷ ns) noted commands of_call = absurd noted
+no_copies stage carriers about (e ∷ es) [] noted commands of_call = absurd noted
+no_copies stage carriers about (e ∷ es) (n ∷ ns) noted commands of_call = (
   no_copy stage carriers about e e.call refl
-      (subst (λ (z : Event). is_command z.what ≡ true) noted.0.0 commands.0) said.0,
-  no_copies stage carriers about es ns noted.1 commands.1 said.1,
+      (subst (λ (z : Event). is_command z.what ≡ true) noted.0.0 commands.0) of_call.0,
+  no_copies stage carriers about es ns noted.1 commands.1 of_call.1,
 )
 
 -- A BOOK
@@ -183,8 +183,8 @@ pub record AreDone (stage : Stage) (servers : List Serving) (rows : List (List (
   pub first : AllByRecursion (λ n. n.seat ≡ 0) controller
   pub others : (m : ℕ) → AllByRecursion (λ n. n.seat ≡ suc m) (notes_by carriers m)
   -- the calls and replies of each worker's seats are what it did
-  pub heard : (w : ℕ) (seats : List (List Seated)) → slice_get rows w ≡ Some seats
-      → HaveHeard stage servers seats (notes_by (controller ∷ carriers) w)
+  pub replies : (w : ℕ) (seats : List (List Seated)) → slice_get rows w ≡ Some seats
+      → HaveReplies stage servers seats (notes_by (controller ∷ carriers) w)
   -- and the copies have the labels of the mux's log
   pub copies : (m : ℕ) (seats : List (List Seated)) → slice_get rows (suc m) ≡ Some seats
       → (id : MuxId) × (id.0 ≡ m) × AreCopies stage id servers (mux_log stage m (notes_by carriers m)) seats
@@ -195,24 +195,24 @@ seat_notes : (stage : Stage) (servers : List Serving) (rows : List (List (List S
 seat_notes stage servers rows controller carriers done zero = done.first
 seat_notes stage servers rows controller carriers done (suc m) = done.others m
 
-told_of_book : (stage : Stage) (servers : List Serving) (rows : List (List (List Seated))) (controller : List Note)
+replies_of_book : (stage : Stage) (servers : List Serving) (rows : List (List (List Seated))) (controller : List Note)
     (carriers : List (List Note)) (s h : ℕ) (server : Serving) (entries : List ShardEntry)
     → AreDone stage servers rows controller carriers → slice_get servers s ≡ Some server
     → Replays (shard_at server h) (reverse entries) → AllBelow seat_of server.seats entries
     → ((i : ℕ) (seats : List (List Seated)) → slice_get rows i ≡ Some seats
-    → telling (Some (shard_at server h)) i entries ≡ calls_there seats s h) → (w : ℕ)
+    → replies_in (Some (shard_at server h)) i entries ≡ calls_there seats s h) → (w : ℕ)
     → AreNoted (entries_by w (reverse entries))
     (home_part stage (ShardOf server.id.0 h) (notes_by (controller ∷ carriers) w))
-told_of_book stage servers rows controller carriers s h server entries done here replays below told w =
+replies_of_book stage servers rows controller carriers s h server entries done here replays below replies w =
     elim (cases_lt w (length rows)) [
       | inl low ↦
           let seats = there rows w low
-          in told_noted stage (ShardOf server.id.0 h) (shard_at server h) w entries (notes_by (controller ∷ carriers) w)
+          in replies_noted stage (ShardOf server.id.0 h) (shard_at server h) w entries (notes_by (controller ∷ carriers) w)
           replays
           (home_each (λ n. n.seat ≡ w) stage (ShardOf server.id.0 h) (notes_by (controller ∷ carriers) w)
           (seat_notes stage servers rows controller carriers done w))
-          (ap (λ (l : List Answered). saying (shard_at server h) l) (told w seats.0 seats.1)
-          ∙ done.heard w seats.0 seats.1 s h server here)
+          (ap (λ (l : List Answered). due_events (shard_at server h) l) (replies w seats.0 seats.1)
+          ∙ done.replies w seats.0 seats.1 s h server here)
       | inr high ↦
           let none : notes_by (controller ∷ carriers) w ≡ [] = no_notes (controller ∷ carriers) w
           (let l = done.lines in omega arith)
@@ -236,31 +236,31 @@ copied_of_book : (stage : Stage) (servers : List Serving) (rows : List (List (Li
     → AreDone stage servers rows controller carriers → slice_get servers s ≡ Some server
     → Replays (shard_at server h) (reverse entries) → AllBelow seat_of server.seats entries
     → ((i : ℕ) (seats : List (List Seated)) → slice_get rows i ≡ Some seats
-    → telling (Some (shard_at server h)) i entries ≡ calls_there seats s h) → (w : ℕ)
+    → replies_in (Some (shard_at server h)) i entries ≡ calls_there seats s h) → (w : ℕ)
     → AllByRecursion (λ (e : ShardEntry). IsCopied stage carriers (shard_at server h) e.call)
     (entries_by w (reverse entries))
-copied_of_book stage servers rows controller carriers s h server entries done here replays below told zero =
+copied_of_book stage servers rows controller carriers s h server entries done here replays below replies zero =
     no_copies stage carriers (shard_at server h) (entries_by 0 (reverse entries))
     (home_part stage (ShardOf server.id.0 h) controller)
-    (told_of_book stage servers rows controller carriers s h server entries done here replays below told 0)
+    (replies_of_book stage servers rows controller carriers s h server entries done here replays below replies 0)
     (home_each (λ n. is_command n.event.what ≡ true) stage (ShardOf server.id.0 h) controller done.commands)
-    (part_each (IsSaid (shard_at server h)) 0 (reverse entries)
-    (all_said (shard_at server h) (reverse entries) replays))
-copied_of_book stage servers rows controller carriers s h server entries done here replays below told (suc m) =
+    (part_each (IsOfCall (shard_at server h)) 0 (reverse entries)
+    (all_of_calls (shard_at server h) (reverse entries) replays))
+copied_of_book stage servers rows controller carriers s h server entries done here replays below replies (suc m) =
     elim (cases_lt (suc m) (length rows)) [
       | inl low ↦
           let seats = there rows (suc m) low
           in let c = done.copies m seats.0 seats.1
           in let calls = c.2 s h server here
-          in let same : telling (Some (shard_at server h)) (suc m) (reverse (reverse entries))
+          in let same : replies_in (Some (shard_at server h)) (suc m) (reverse (reverse entries))
           ≡ calls_there seats.0 s h =
-          ap (λ (l : List ShardEntry). telling (Some (shard_at server h)) (suc m) l) (reverse_twice entries)
-          ∙ told (suc m) seats.0 seats.1
+          ap (λ (l : List ShardEntry). replies_in (Some (shard_at server h)) (suc m) l) (reverse_twice entries)
+          ∙ replies (suc m) seats.0 seats.1
           in calls_each (λ call. IsCopied stage carriers (shard_at server h) call) (shard_at server h) (suc m)
           (reverse entries)
           (answered_so (λ (a : Answered). IsCopyCall stage (mux_log stage m (notes_by carriers m)) c.0 server h a.0)
           (λ (a : Answered). IsCopied stage carriers (shard_at server h) a.0)
-          (telling (Some (shard_at server h)) (suc m) (reverse (reverse entries)))
+          (replies_in (Some (shard_at server h)) (suc m) (reverse (reverse entries)))
           (λ a k. copied_of stage carriers server h c.0 m a.0 c.1 k)
           (subst (λ (l : List Answered). AllByRecursion
           (λ (a : Answered). IsCopyCall stage (mux_log stage m (notes_by carriers m)) c.0 server h a.0) l) (sym same)
@@ -288,15 +288,15 @@ book_of_all stage servers rows controller carriers s h server book done here is 
       of = subst (λ (a : Shard). IsOf stage a) (sym is.shard)
           (record { capacity = done.servers_are.capacity s server here; timeout_is = done.servers_are.timeout s server here });
       replays = is.replays;
-      told = λ w. subst (λ (a : Shard). AreNoted (entries_by w (reverse book.entries))
+      noted = λ w. subst (λ (a : Shard). AreNoted (entries_by w (reverse book.entries))
           (home_part stage (ShardOf a.server.0 a.number) (notes_by (controller ∷ carriers) w))) (sym is.shard)
-          (told_of_book stage servers rows controller carriers s h server book.entries done here replays is.below
-          is.told w);
+          (replies_of_book stage servers rows controller carriers s h server book.entries done here replays is.below
+          is.replies w);
       copied = subst (λ (a : Shard). AllByRecursion (λ (e : ShardEntry). IsCopied stage carriers a e.call)
           (reverse book.entries)) (sym is.shard)
           (entries_each (λ (e : ShardEntry). IsCopied stage carriers (shard_at server h) e.call) (reverse book.entries)
           (copied_of_book stage servers rows controller carriers s h server book.entries done here replays is.below
-          is.told));
+          is.replies));
     }
 
 -- ALL BOOKS

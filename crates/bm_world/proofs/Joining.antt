@@ -26,7 +26,7 @@ use Rattle.bm_merge.proofs.Phasing.{IsPhased, phased_more, phased_publish}
 use Rattle.bm_merge.proofs.Reaching.{one_if}
 use Rattle.bm_server.specs.Seats.{Seated}
 use Rattle.bm_server.specs.Servings.{Serving}
-use Rattle.bm_worker.specs.WorkerNotes.{clock_of, noted, HasSeats, Hears, IsSameCaller}
+use Rattle.bm_worker.specs.WorkerNotes.{clock_of, noted, HasSeats, GetReplies, IsSameCaller}
 use Rattle.bm_worker.specs.Phases.{mux_log, AreCopies, IsPlaced, IsPhaseNote, IsMuxGiven, Phase, task_of}
 use Rattle.bm_worker.specs.Phases.{HasGrown, is_steer}
 use Rattle.bm_worker.specs.Callers.{CallerState}
@@ -38,7 +38,7 @@ use Rattle.std.proofs.lemmas.Bool.{le-leb, lt-leb, lt-ltb, le-ltb}
 use Rattle.bm_worker.specs.Assigned.{is_mux, is_assigned, assigned_mux, RoutedBy}
 use Rattle.bm_worker.specs.declared.worker.MuxWorker.{MuxWorker}
 use Rattle.bm_world.specs.Inside.Returned.{control_log}
-use Rattle.bm_world.specs.Inside.Running.{HaveHeard, IsAtWork, add_notes}
+use Rattle.bm_world.specs.Inside.Running.{HaveReplies, IsAtWork, add_notes}
 use Rattle.bm_world.proofs.Homes.{home_append, home_each}
 use Rattle.bm_world.proofs.Growing.{carriage_later, carriage_more, carrier_routed, log_append}
 
@@ -136,9 +136,9 @@ noted_append stage a (n ∷ x) y =
     ap (λ (l : List (Event × ℕ)). l ++ cond (is_home stage a n) ((n.event, n.due) ∷ []) []) (noted_append stage a x y)
     ∙ append_assoc (noted stage a y) (noted stage a x) (cond (is_home stage a n) ((n.event, n.due) ∷ []) [])
 
-pub heard_more : (stage : Stage) (servers : List Serving) (a b : List (List Seated)) (x notes : List Note)
-    → Hears stage servers a b x → HaveHeard stage servers a notes → HaveHeard stage servers b (x ++ notes)
-heard_more stage servers a b x notes more old s h server at =
+pub have_more : (stage : Stage) (servers : List Serving) (a b : List (List Seated)) (x notes : List Note)
+    → GetReplies stage servers a b x → HaveReplies stage servers a notes → HaveReplies stage servers b (x ++ notes)
+have_more stage servers a b x notes more old s h server at =
     more s h server at
     ∙ ap (λ (l : List (Event × ℕ)). l ++ noted stage (ShardOf server.id.0 h) x) (old s h server at)
     ∙ sym (noted_append stage (ShardOf server.id.0 h) x notes)
@@ -215,28 +215,28 @@ given_same stage x posts a a' f f' m m' old old' ea ef em eo given =
 
 -- what a mux's worker did in a phase
 pub record HasDone (F : Rules) (stage : Stage) (servers : List Serving) (routes : List (Option MuxId)) (span : Span)
-    (told : Posted) (old now : MuxWorker) (x : List Note) : Type 0 where
-  pub phase : Phase F stage servers (task_of routes span told old) now x
-  pub grown : HasGrown (task_of routes span told old) now
+    (snapshot : Posted) (old now : MuxWorker) (x : List Note) : Type 0 where
+  pub phase : Phase F stage servers (task_of routes span snapshot old) now x
+  pub grown : HasGrown (task_of routes span snapshot old) now
   pub stop : now.stop ≡ None
 
 pub at_work_more : (R : Routes) (F : Rules) (stage : Stage) (servers : List Serving) (routes : List (Option MuxId))
-    (control y : List Event) (board : Book) (p phases m : ℕ) (span : Span) (told : Posted) (old now : MuxWorker)
+    (control y : List Event) (board : Book) (p phases m : ℕ) (span : Span) (snapshot : Posted) (old now : MuxWorker)
     (notes x : List Note)
     → ((k m : ℕ) (s : Segment) → assigned_mux routes k ≡ Some m → segment_of stage k ≡ Some s → R k s.flow m)
     → ((k : ℕ) → span.from < k → k ≤ span.until → phase_of stage k ≡ p)
     → span.from ≤ span.until → sync_clock (y ++ control) ≡ span.after.0
-    → newest_before (y ++ control) ≡ last_version told → counts (y ++ control) is_sync ≡ p
+    → newest_before (y ++ control) ≡ last_version snapshot → counts (y ++ control) is_sync ≡ p
     → AllByRecursion (λ e. span.after.0 < e.clock.0) y → AllByRecursion (λ n. clock_of n < span.after.0) notes
-    → HasDone F stage servers routes span told old now x
+    → HasDone F stage servers routes span snapshot old now x
     → IsAtWork R F stage servers routes control board phases span.from m old notes
     → IsAtWork R F stage servers routes (y ++ control) board (phases + 1) span.until m now (x ++ notes)
-at_work_more R F stage servers routes control y board p phases m span told old now notes x route numbers order sync
+at_work_more R F stage servers routes control y board p phases m span snapshot old now notes x route numbers order sync
     first
     syncs later below done at =
     let phase = done.phase
     in let kept = phase.kept
-    in let task = task_of routes span told old
+    in let task = task_of routes span snapshot old
     in let id : old.mux.id.0 ≡ m = at.id
     in let posts = kept.mux.later.posts
     in let log : mux_log stage m x ++ mux_log stage m notes ≡ mux_log stage m (x ++ notes) =
@@ -247,7 +247,7 @@ at_work_more R F stage servers routes control y board p phases m span told old n
     kept.each
     in let given : AtEach (λ rest e. IsMuxGiven stage (sync_clock (y ++ control)) (newest_before (y ++ control))
     now.mux.seen.clocks (rest ++ mux_log stage m notes) e.clock.0 e.what) (mux_log stage m x) =
-    given_same stage x now.mux.seen.clocks span.after.0 (sync_clock (y ++ control)) (last_version told)
+    given_same stage x now.mux.seen.clocks span.after.0 (sync_clock (y ++ control)) (last_version snapshot)
     (newest_before (y ++ control)) old.mux.id.0 m (reverse old.mux.log) (mux_log stage m notes) (sym sync) (sym first)
     id
     at.logged kept.gives
@@ -272,7 +272,7 @@ at_work_more R F stage servers routes control y board p phases m span told old n
       id = ap (λ (i : MuxId). i.0) kept.mux.id ∙ id;
       logged = kept.logged ∙ ap (λ (k : ℕ). mux_log stage k x ++ reverse old.mux.log) id
           ∙ ap (λ (l : List Event). mux_log stage m x ++ l) at.logged ∙ log;
-      heard = heard_more stage servers old.caller.seats now.caller.seats x notes kept.hears at.heard;
+      replies = have_more stage servers old.caller.seats now.caller.seats x notes kept.replies at.replies;
       copies = subst (λ (i : MuxId). AreCopies stage i servers (reverse now.mux.log) now.caller.seats) (sym kept.mux.id)
           (kept.copies at.copies);
       placed = each_append (λ n. IsPlaced servers n.event.what) x notes

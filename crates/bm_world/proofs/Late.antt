@@ -33,7 +33,7 @@ use Rattle.bm_merge.proofs.Underway.{underway_bounded}
 use Rattle.bm_publish.specs.Posts.{Posted}
 use Rattle.bm_server.specs.Seats.{Seated}
 use Rattle.bm_server.specs.Servings.{Serving, shard_at}
-use Rattle.bm_worker.specs.WorkerNotes.{Hears, Said, AreServersOf, clock_of, noted, saying}
+use Rattle.bm_worker.specs.WorkerNotes.{GetReplies, DueEvent, AreServersOf, clock_of, noted, due_events}
 use Rattle.bm_worker.specs.Phases.{AreCopies, mux_log}
 use Rattle.bm_worker.specs.Phases.{IsPlaced as IsCarriedAt}
 use Rattle.bm_worker.specs.Callers.{CallerState}
@@ -47,7 +47,7 @@ use Rattle.bm_world.specs.Inside.RunStates.{rows_of}
 use Rattle.bm_world.specs.Inside.GivenUp.{HasGivenUp}
 use Rattle.bm_world.specs.Inside.Returned.{IsBooked}
 use Rattle.bm_world.specs.Inside.Left.{AreLeft, IsLeft, IsMuxClocked, IsSynced}
-use Rattle.bm_world.specs.Inside.Running.{HaveHeard}
+use Rattle.bm_world.specs.Inside.Running.{HaveReplies}
 use Rattle.bm_world.specs.Inside.Served.{AreBooksThere}
 use Rattle.bm_world.proofs.Amounts.{changes_few, total_ones}
 use Rattle.bm_world.proofs.InLogs.{all_carried, notes_each}
@@ -55,7 +55,7 @@ use Rattle.bm_world.proofs.Ending.{carried_booked, carried_no_command, led_booke
 use Rattle.bm_world.proofs.Finishing.{AreDone, all_books, books_of_all, own_books}
 use Rattle.bm_world.proofs.GivingUp.{sync_append, unsynced}
 use Rattle.bm_world.proofs.Growing.{post_more}
-use Rattle.bm_world.proofs.Joining.{control_append, heard_more}
+use Rattle.bm_world.proofs.Joining.{control_append, have_more}
 use Rattle.bm_world.proofs.Leaving.{all_kinds, left_shared, left_underway}
 use Rattle.bm_world.proofs.Logs.{logs_of}
 
@@ -251,25 +251,25 @@ left_bounded F stage controller carriers books left short =
 
 -- TOGETHER
 
-rows_heard : (stage : Stage) (servers : List Serving) (leader : List (List Seated)) (workers : List MuxWorker)
-    (controller : List Note) (carriers : List (List Note)) → HaveHeard stage servers leader controller
+rows_have : (stage : Stage) (servers : List Serving) (leader : List (List Seated)) (workers : List MuxWorker)
+    (controller : List Note) (carriers : List (List Note)) → HaveReplies stage servers leader controller
     → ((m : ℕ) (w : MuxWorker) → slice_get workers m ≡ Some w
-    → HaveHeard stage servers w.caller.seats (notes_by carriers m))
+    → HaveReplies stage servers w.caller.seats (notes_by carriers m))
     → (w : ℕ) (seats : List (List Seated)) → slice_get (rows_of leader workers) w ≡ Some seats
-    → HaveHeard stage servers seats (notes_by (controller ∷ carriers) w)
-rows_heard stage servers leader workers controller carriers first others zero seats here =
-    subst (λ (x : List (List Seated)). HaveHeard stage servers x controller) (same_Some leader seats here) first
-rows_heard stage servers leader workers controller carriers first others (suc m) seats here =
+    → HaveReplies stage servers seats (notes_by (controller ∷ carriers) w)
+rows_have stage servers leader workers controller carriers first others zero seats here =
+    subst (λ (x : List (List Seated)). HaveReplies stage servers x controller) (same_Some leader seats here) first
+rows_have stage servers leader workers controller carriers first others (suc m) seats here =
     let w = row_of workers m seats here
-    in subst (λ (x : List (List Seated)). HaveHeard stage servers x (notes_by carriers m)) w.2 (others m w.0 w.1)
+    in subst (λ (x : List (List Seated)). HaveReplies stage servers x (notes_by carriers m)) w.2 (others m w.0 w.1)
 
 -- the changes that are posted later add no call of worker 0's seats
-none_heard : (stage : Stage) (servers : List Serving) (a b : CallerState) (x : List Note)
-    → AllByRecursion (λ n. is_publish n.event.what ≡ true) x → b ≡ a → Hears stage servers a.seats b.seats x
-none_heard stage servers a b x kinds same =
-    subst (λ (z : CallerState). Hears stage servers a.seats z.seats x) (sym same) (λ s h server at.
-    sym (append-nil (saying (shard_at server h) (calls_there a.seats s h)))
-    ∙ ap (λ (l : List Said). saying (shard_at server h) (calls_there a.seats s h) ++ l)
+gets_publishes : (stage : Stage) (servers : List Serving) (a b : CallerState) (x : List Note)
+    → AllByRecursion (λ n. is_publish n.event.what ≡ true) x → b ≡ a → GetReplies stage servers a.seats b.seats x
+gets_publishes stage servers a b x kinds same =
+    subst (λ (z : CallerState). GetReplies stage servers a.seats z.seats x) (sym same) (λ s h server at.
+    sym (append-nil (due_events (shard_at server h) (calls_there a.seats s h)))
+    ∙ ap (λ (l : List DueEvent). due_events (shard_at server h) (calls_there a.seats s h) ++ l)
     (sym (none_noted stage server.id.0 h x kinds)))
 
 -- what was posted, at last
@@ -316,10 +316,10 @@ over_done F stage servers p q a b workers x all over =
       first = each_append (λ n. n.seat ≡ 0) x controller over.added.seats given.led.seats;
       others = notes_each (λ m n. n.seat ≡ suc m) carriers (λ m low.
           let w = there workers m (omega arith) in (given.each m w.0 w.1).left.seats);
-      heard = rows_heard stage servers b.caller.seats workers (x ++ controller) carriers
-          (heard_more stage servers a.caller.seats b.caller.seats x controller
-          (none_heard stage servers a.caller b.caller x over.added.kinds over.added.caller) given.heard)
-          (λ m w here. (given.each m w here).heard);
+      replies = rows_have stage servers b.caller.seats workers (x ++ controller) carriers
+          (have_more stage servers a.caller.seats b.caller.seats x controller
+          (gets_publishes stage servers a.caller b.caller x over.added.kinds over.added.caller) given.replies)
+          (λ m w here. (given.each m w here).replies);
       copies = λ m seats here.
           let w = row_of workers m seats here
           in let at = given.each m w.0 w.1

@@ -9,7 +9,7 @@ pub mod Assembled
 pub mod Growing
 pub mod Joining
 pub mod Meeting
-pub mod Telling
+pub mod Recorded
 pub mod Finishing
 pub mod Ending
 pub mod Scripting

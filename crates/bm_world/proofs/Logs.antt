@@ -44,7 +44,7 @@ pub book_notes : (stage : Stage) (controller : List Note) (carriers : List (List
     → IsBookOfAll stage controller carriers b
     → AreSeatedNotes (reverse b.entries)
     (λ w. home_part stage (ShardOf b.shard.server.0 b.shard.number) (notes_by (controller ∷ carriers) w))
-book_notes stage controller carriers b is = seated_notes no_note (reverse b.entries) _ is.told
+book_notes stage controller carriers b is = seated_notes no_note (reverse b.entries) _ is.noted
 
 -- the shards' logs
 abbrev pub shard_logs : (stage : Stage) (controller : List Note) (carriers : List (List Note)) (books : List Book)

@@ -173,8 +173,8 @@ pub shown_all : (posted : Posted) (w : MuxWorker) → length posted.clocks ≡ l
 shown_all posted w all has =
     let few = has.is_posted.few
     in let plan : length has.seen.plan.changes ≡ length posted.plan.changes =
-    ap (λ (p : Planned). length p.changes) has.heard.plan
-    in let more = has.heard.posts
+    ap (λ (p : Planned). length p.changes) has.learned.plan
+    in let more = has.learned.posts
     in let long : length (posted.clocks ++ more.0) ≤ length posted.clocks =
     let e = ap (λ (l : List ℕ). length l) more.1 in omega arith
     in let none = nothing_left posted.clocks more.0 long

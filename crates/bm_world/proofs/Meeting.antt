@@ -48,11 +48,11 @@ if_some P Q (Some k) f h = f k h
 
 -- what each mux's worker did in a phase
 pub record HaveDone (F : Rules) (stage : Stage) (servers : List Serving) (routes : List (Option MuxId)) (span : Span)
-    (told : Posted) (old now : List MuxWorker) (more : List (List Note)) : Type 0 where
+    (snapshot : Posted) (old now : List MuxWorker) (more : List (List Note)) : Type 0 where
   pub workers : length now ≡ length old
   pub count : length more ≡ length old
   pub each : (m : ℕ) (a b : MuxWorker) → slice_get old m ≡ Some a → slice_get now m ≡ Some b
-      → HasDone F stage servers routes span told a b (notes_by more m)
+      → HasDone F stage servers routes span snapshot a b (notes_by more m)
 
 part_of : (f : Note → ℕ) (carriers : List (List Note)) (m : ℕ)
     → total f (notes_by carriers m) ≤ total f (notes_of_all carriers)
@@ -66,15 +66,15 @@ worker_at l m low = there l m low
 
 -- a phase more, of all workers
 pub all_at_work_more : (R : Routes) (F : Rules) (stage : Stage) (servers : List Serving) (routes : List (Option MuxId))
-    (board : Book) (p phases : ℕ) (span : Span) (told : Posted) (old now : List MuxWorker)
+    (board : Book) (p phases : ℕ) (span : Span) (snapshot : Posted) (old now : List MuxWorker)
     (controller x : List Note) (carriers more : List (List Note))
     → ((k m : ℕ) (s : Segment) → assigned_mux routes k ≡ Some m → segment_of stage k ≡ Some s → R k s.flow m)
     → ((k : ℕ) → span.from < k → k ≤ span.until → phase_of stage k ≡ p) → span.from ≤ span.until
-    → AreApart stage span.after.0 (last_version told) controller carriers → AreOfPhase span.after.0 x
-    → HaveDone F stage servers routes span told old now more
+    → AreApart stage span.after.0 (last_version snapshot) controller carriers → AreOfPhase span.after.0 x
+    → HaveDone F stage servers routes span snapshot old now more
     → AreAtWork R F stage servers routes board p phases span.from old controller carriers
     → AreAtWork R F stage servers routes board p (phases + 1) span.until now (x ++ controller) (add_notes more carriers)
-all_at_work_more R F stage servers routes board p phases span told old now controller x carriers more route numbers
+all_at_work_more R F stage servers routes board p phases span snapshot old now controller x carriers more route numbers
     order
     apart phase done at =
     let same = control_same stage x controller phase.no_sync
@@ -90,7 +90,7 @@ all_at_work_more R F stage servers routes board p phases span told old now contr
     let a = worker_at old m (omega arith)
     in let b = worker_at now m (omega arith)
     in let kept = (done.each m a.0 b.0 a.1 b.1).phase.kept
-    in each_so (IsPhaseNote F stage servers (task_of routes span told a.0) (notes_by more m)) D (notes_by more m)
+    in each_so (IsPhaseNote F stage servers (task_of routes span snapshot a.0) (notes_by more m)) D (notes_by more m)
     (λ n d. (
       d.later,
       if_some (λ k. (span.from < k) × (k ≤ span.until)) (λ k. phase_of stage k ≡ p)
@@ -104,7 +104,7 @@ all_at_work_more R F stage servers routes board p phases span told old now contr
           in let a = worker_at old m (omega arith)
           in let one =
           at_work_more R F stage servers routes (control_log stage controller) (control_log stage x) board p
-          phases m span told a.0 w (notes_by carriers m) (notes_by more m) route numbers order
+          phases m span snapshot a.0 w (notes_by carriers m) (notes_by more m) route numbers order
           (ap sync_clock (sym log) ∙ sync) (ap newest_before (sym log) ∙ same.1 ∙ apart.first_is)
           (ap (λ (l : List Event). counts l is_sync) (sym log) ∙ same.2 ∙ syncs)
           (control_each (λ e. span.after.0 < e.clock.0) stage x phase.later) (apart.below m)
@@ -138,13 +138,13 @@ look_one true b so = let is = so refl in rw is (omega arith)
 look_one false b so = omega arith
 
 pub all_looked : (F : Rules) (stage : Stage) (servers : List Serving) (routes : List (Option MuxId)) (span : Span)
-    (told : Posted) (old now : List MuxWorker) (controller x : List Note) (carriers more : List (List Note))
+    (snapshot : Posted) (old now : List MuxWorker) (controller x : List Note) (carriers more : List (List Note))
     → length old ≡ stage.script.setting.muxes → length carriers ≡ length old
     → ((m : ℕ) (w : MuxWorker) → slice_get old m ≡ Some w → w.mux.id.0 ≡ m)
     → sync_clock (control_log stage controller) ≡ span.after.0 → AreOfPhase span.after.0 x
-    → HaveDone F stage servers routes span told old now more
+    → HaveDone F stage servers routes span snapshot old now more
     → HaveLooked stage (x ++ controller) (add_notes more carriers)
-all_looked F stage servers routes span told old now controller x carriers more muxes count ids after phase done m low =
+all_looked F stage servers routes span snapshot old now controller x carriers more muxes count ids after phase done m low =
     let same = control_same stage x controller phase.no_sync
     in let sync : sync_clock (control_log stage (x ++ controller)) ≡ span.after.0 = same.0 ∙ after
     in let long = done.count
@@ -158,7 +158,7 @@ all_looked F stage servers routes span told old now controller x carriers more m
     subst (λ (k : ℕ). 1 ≤ many (λ n. is_switch_of n.event.what k) (notes_by more m)) id d.phase.looked
     in let most : many (λ n. is_switch_of n.event.what m) (notes_by more m) ≤ total f (notes_by more m) =
     total_most (λ n. one_if (is_switch_of n.event.what m)) f (notes_by more m)
-    (each_so (IsPhaseNote F stage servers (task_of routes span told a.0) (notes_by more m))
+    (each_so (IsPhaseNote F stage servers (task_of routes span snapshot a.0) (notes_by more m))
     (λ n. one_if (is_switch_of n.event.what m) ≤ f n) (notes_by more m)
     (λ n k. look_one (is_switch_of n.event.what m) _ (λ is. le-leb _ _ (let l = k.later in omega arith)))
     d.phase.kept.each)
@@ -180,7 +180,7 @@ at_work_later R F stage servers routes control e board phases until m w notes be
       (λ n h. (h, tt)) below) ([], append-nil w.mux.seen.clocks) at.carriage;
   id = at.id;
   logged = at.logged;
-  heard = at.heard;
+  replies = at.replies;
   copies = at.copies;
   placed = at.placed;
   latest = at.latest;

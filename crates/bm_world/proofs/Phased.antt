@@ -39,10 +39,10 @@ use Rattle.bm_world.specs.Inside.RunStates.{with_posts, latest_in, HaveNotStoppe
 use Rattle.bm_world.specs.Inside.RunStates.{IsThrough}
 use Rattle.bm_world.specs.Inside.Returned.{control_log}
 use Rattle.bm_world.specs.Inside.Running.{AreAtWork, AreApart, HaveLooked, IsAtPhase, add_notes}
-use Rattle.bm_world.proofs.Joining.{AreOfPhase, HasDone, heard_more}
+use Rattle.bm_world.proofs.Joining.{AreOfPhase, HasDone, have_more}
 use Rattle.bm_world.proofs.Meeting.{HaveDone, all_at_work_more, all_looked, sync_met}
 use Rattle.bm_world.proofs.Stopping.{too_late_to_sync}
-use Rattle.bm_world.proofs.BeforePhase.{all_told, told_at}
+use Rattle.bm_world.proofs.BeforePhase.{all_informed, informed_at}
 
 -- WHAT EACH DID
 
@@ -68,9 +68,9 @@ Worked F stage servers routes span posted old now =
 
 -- where the call says so of the workers that know what is posted
 pub worked_at : (F : Rules) (stage : Stage) (servers : List Serving) (routes : List (Option MuxId)) (span : Span)
-    (posted : Posted) (old told now : List MuxWorker) → told ≡ map (with_posts posted) old
-    → HaveWorked F stage servers routes span told now → Worked F stage servers routes span posted old now
-worked_at F stage servers routes span posted old told now is each m x y a b =
+    (posted : Posted) (old informed now : List MuxWorker) → informed ≡ map (with_posts posted) old
+    → HaveWorked F stage servers routes span informed now → Worked F stage servers routes span posted old now
+worked_at F stage servers routes span posted old informed now is each m x y a b =
     each m (with_posts posted x) y
     (ap (λ (l : List MuxWorker). slice_get l m) is ∙ slice_get-map (with_posts posted) old m
     ∙ ap (option_map (with_posts posted)) a) b
@@ -93,8 +93,8 @@ pub have_done : (F : Rules) (stage : Stage) (servers : List Serving) (routes : L
     → Worked F stage servers routes span posted old now
     → (more : List (List Note)) × HaveDone F stage servers routes span posted (map (with_posts posted) old) now more
 have_done F stage servers routes span posted old now long before after worked =
-    let told = map (with_posts posted) old
-    in let size : length told ≡ length old = length-map old (with_posts posted)
+    let informed = map (with_posts posted) old
+    in let size : length informed ≡ length old = length-map old (with_posts posted)
     in let P : ℕ → List Note → Type 0 =
     λ m d. (x y : MuxWorker) → slice_get old m ≡ Some x → slice_get now m ≡ Some y
     → HasDone F stage servers routes span posted (with_posts posted x) y d
@@ -117,7 +117,7 @@ have_done F stage servers routes span posted old now long before after worked =
         workers = long ∙ sym size;
         count = all.1 ∙ sym size;
         each = λ m a b p q.
-            let x = told_at posted old m a p
+            let x = informed_at posted old m a p
             in subst (λ (z : MuxWorker). HasDone F stage servers routes span posted z b (notes_by all.0 m)) x.2
             (all.2 m (slice_get_within old m x.0 x.1) x.0 b x.1 q);
       },
@@ -154,11 +154,11 @@ phase_stands F stage servers routes posted q leader b old now span between after
     let standing = between.standing
     in let controller = between.controller
     in let carriers = between.carriers
-    in let told = map (with_posts posted) old
+    in let informed = map (with_posts posted) old
     in let R : Routes = RoutedBy routes
     in let x = led.1.0
     in let leads = led.1.1
-    in let at = all_told R F stage servers routes posted.board between.p between.p span.from posted old controller
+    in let at = all_informed R F stage servers routes posted.board between.p between.p span.from posted old controller
     carriers standing.at_work
     in let done = have_done F stage servers routes span posted old now long
     (λ m w here. (standing.at_work.each m w here).stop) none worked
@@ -167,9 +167,9 @@ phase_stands F stage servers routes posted q leader b old now span between after
     subst (λ (k : ℕ). AreApart stage k (last_version posted) controller carriers) (sym after)
     (subst (λ (k : ℕ). AreApart stage leader.caller.latest k controller carriers) (sym version) between.apart)
     in let phase = of_phase stage servers posted q leader b span.after.0 x controller standing.led after leads led.1.2
-    in let one = all_at_work_more R F stage servers routes posted.board between.p between.p span posted told now
+    in let one = all_at_work_more R F stage servers routes posted.board between.p between.p span posted informed now
     controller x carriers done.0 (λ k m s is seg. is) numbers order apart phase done.1 at
-    in let size : length told ≡ length old = length-map old (with_posts posted)
+    in let size : length informed ≡ length old = length-map old (with_posts posted)
     in let muxes = standing.muxes
     in (
       x ++ controller,
@@ -178,12 +178,12 @@ phase_stands F stage servers routes posted q leader b old now span between after
         muxes = long ∙ muxes;
         ready = led.0;
         led = leads.led controller standing.led;
-        heard = heard_more stage servers leader.caller.seats b.caller.seats x controller leads.heard standing.heard;
+        replies = have_more stage servers leader.caller.seats b.caller.seats x controller leads.replies standing.replies;
         placed = each_append (λ n. IsPlaced stage servers n.event.what) x controller leads.placed standing.placed;
         at_work = subst (λ (k : Book). AreAtWork R F stage servers routes k between.p (between.p + 1) span.until now
             (x ++ controller) (add_notes done.0 carriers)) (sym leads.board) one;
       },
-      all_looked F stage servers routes span posted told now controller x carriers done.0 (size ∙ muxes)
+      all_looked F stage servers routes span posted informed now controller x carriers done.0 (size ∙ muxes)
           (at.count)
           (λ m w here. (at.each m w here).id) apart.sync phase done.1,
     )
@@ -244,8 +244,8 @@ sync_stands F stage servers routes posted leader b workers p start controller ca
         muxes = standing.muxes;
         ready = synced.ready;
         led = led;
-        heard = heard_more stage servers leader.caller.seats b.caller.seats (n ∷ []) controller synced.leads.heard
-            standing.heard;
+        replies = have_more stage servers leader.caller.seats b.caller.seats (n ∷ []) controller synced.leads.replies
+            standing.replies;
         placed = (synced.leads.placed.0, standing.placed);
         at_work = subst (λ (k : ℕ). AreAtWork R F stage servers routes posted.board k (p + 1) start workers
             (n ∷ controller) carriers) one met.0;

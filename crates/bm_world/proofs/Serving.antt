@@ -10,19 +10,19 @@ use Rattle.bm_rows.proofs.Places.{there, last_cases}
 use Rattle.bm_shard.specs.Books.{Book}
 use Rattle.bm_turnstile.specs.Sittings.{who}
 use Rattle.bm_server.specs.Books.{IsBookOf}
-use Rattle.bm_server.specs.Seats.{Seated, IsNewSeat, row, told_at, most_turns}
+use Rattle.bm_server.specs.Seats.{Seated, IsNewSeat, row, replies_at, most_turns}
 use Rattle.bm_server.specs.Servings.{Serving}
 use Rattle.bm_worker.specs.SeatCalls.{calls_in, calls_there}
 use Rattle.bm_world.specs.Inside.Served.{IsBookThere, IsNewRow}
 
 -- A SERVER MORE
 
-row_told : (seats : List (List Seated)) (seat : List Seated) → ((h : ℕ) → told_at seat h ≡ [])
+row_replies : (seats : List (List Seated)) (seat : List Seated) → ((h : ℕ) → replies_at seat h ≡ [])
     → ((s h : ℕ) → calls_there seats s h ≡ []) → (s h : ℕ) → calls_there (seats ++ seat ∷ []) s h ≡ []
-row_told [] seat new none zero h = new h
-row_told [] seat new none (suc s) h = refl
-row_told (x ∷ seats) seat new none zero h = none 0 h
-row_told (x ∷ seats) seat new none (suc s) h = row_told seats seat new (λ k j. none (suc k) j) s h
+row_replies [] seat new none zero h = new h
+row_replies [] seat new none (suc s) h = refl
+row_replies (x ∷ seats) seat new none zero h = none 0 h
+row_replies (x ∷ seats) seat new none (suc s) h = row_replies seats seat new (λ k j. none (suc k) j) s h
 
 pub new_row_more : (servers : List Serving) (server : Serving) (w : ℕ) (seats : List (List Seated)) (seat : List Seated)
     → IsNewRow servers w seats → IsNewSeat server w seat → IsNewRow (servers ++ server ∷ []) w (seats ++ seat ∷ [])
@@ -31,13 +31,13 @@ new_row_more servers server w seats seat old new = record {
       ∙ sym (map-append (λ (z : Serving). row z w) servers (server ∷ [])));
   turns = λ s x at. ⊎_elim (λ a. old.turns s x a) (λ p. ap most_turns (sym p.1) ∙ new.turns)
       (last_cases seats seat x s at);
-  told = row_told seats seat new.told old.told;
+  replies = row_replies seats seat new.replies old.replies;
 }
 
 pub empty_row : (w : ℕ) (seats : List (List Seated)) → seats ≡ [] → IsNewRow [] w seats
 empty_row w seats e =
     let P : List (List Seated) → Type 0 = λ x. IsNewRow [] w x
-    in subst P (sym e) (record { «is» = refl; turns = λ s seat at. absurd (cc); told = λ s h. refl })
+    in subst P (sym e) (record { «is» = refl; turns = λ s seat at. absurd (cc); replies = λ s h. refl })
 
 -- THE LAST SERVER
 
@@ -106,7 +106,7 @@ book_there servers rows left t others column last h book of = record {
   shard = of.shard;
   replays = of.replays;
   below = of.below;
-  told = λ w seats at.
+  replies = λ w seats at.
       let lt = slice_get_within rows w seats at
       in let long = last.long
       in let s = there column w (omega arith)
@@ -114,5 +114,5 @@ book_there servers rows left t others column last h book of = record {
       in let same : l.row ≡ seats = same_Some l.row seats (sym l.row_at ∙ at)
       in let seat : slice_get seats (length left) ≡ Some s.0 =
       ap (λ (x : List (List Seated)). slice_get x (length left)) (sym same) ∙ l.item_at
-      in of.told w s.0 s.1 ∙ sym (ap (λ (o : Option (List Seated)). calls_in o h) seat);
+      in of.replies w s.0 s.1 ∙ sym (ap (λ (o : Option (List Seated)). calls_in o h) seat);
 }

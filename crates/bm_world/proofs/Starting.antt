@@ -20,7 +20,7 @@ use Rattle.bm_mux.specs.Muxes.{MuxState}
 use Rattle.bm_publish.specs.Posts.{Posted}
 use Rattle.bm_server.specs.Seats.{Answered, Seated, row}
 use Rattle.bm_server.specs.Servings.{Serving, shard_at}
-use Rattle.bm_worker.specs.WorkerNotes.{saying, HasSeats}
+use Rattle.bm_worker.specs.WorkerNotes.{due_events, HasSeats}
 use Rattle.bm_worker.specs.Phases.{AreCopies, IsCopyCall}
 use Rattle.bm_worker.specs.Callers.{CallerState}
 use Rattle.bm_worker.specs.SeatCalls.{calls_there}
@@ -31,15 +31,15 @@ use Rattle.bm_lead.specs.Leaders.{Begins, IsReady}
 use Rattle.bm_lead.specs.Leads.{IsLed}
 use Rattle.bm_world.specs.Inside.RunStates.{IsBetween, IsNewWorker}
 use Rattle.bm_world.specs.Inside.Returned.{IsCarriage}
-use Rattle.bm_world.specs.Inside.Running.{HaveHeard, IsAtWork, AreApart, IsAtPhase}
+use Rattle.bm_world.specs.Inside.Running.{HaveReplies, IsAtWork, AreApart, IsAtPhase}
 use Rattle.bm_world.specs.Inside.Served.{IsNewRow}
 use Rattle.bm_world.proofs.Meeting.{idle, idle_all, idle_count, idle_notes, nothing_apart}
 use Rattle.bm_world.proofs.Scripting.{phase_first}
 use Rattle.bm_world.proofs.MakingWorkers.{all_at}
 
-no_heard : (stage : Stage) (servers : List Serving) (seats : List (List Seated))
-    → ((s h : ℕ) → calls_there seats s h ≡ []) → HaveHeard stage servers seats []
-no_heard stage servers seats none s h server at = ap (λ (l : List Answered). saying (shard_at server h) l) (none s h)
+have_none : (stage : Stage) (servers : List Serving) (seats : List (List Seated))
+    → ((s h : ℕ) → calls_there seats s h ≡ []) → HaveReplies stage servers seats []
+have_none stage servers seats none s h server at = ap (λ (l : List Answered). due_events (shard_at server h) l) (none s h)
 
 no_copies : (stage : Stage) (m : MuxId) (servers : List Serving) (past : List Event) (seats : List (List Seated))
     → ((s h : ℕ) → calls_there seats s h ≡ []) → AreCopies stage m servers past seats
@@ -79,12 +79,12 @@ new_at_work R F stage servers routes posted seats m w plan new is =
     in let own : w.caller.seats ≡ seats = ap (λ (x : CallerState). x.seats) is.caller
     in let number : w.caller.number ≡ m + 1 = ap (λ (x : CallerState). x.number) is.caller
     in let none : (s h : ℕ) → calls_there w.caller.seats s h ≡ [] =
-    λ s h. ap (λ (x : List (List Seated)). calls_there x s h) own ∙ new.told s h
+    λ s h. ap (λ (x : List (List Seated)). calls_there x s h) own ∙ new.replies s h
     in record {
       carriage = no_carriage R F stage w.mux.seen.clocks m;
       id = ap (λ (x : MuxState). x.id.0) is.mux;
       logged = ap (λ (x : List Event). reverse x) log;
-      heard = no_heard stage servers w.caller.seats none;
+      replies = have_none stage servers w.caller.seats none;
       copies = no_copies stage w.mux.id servers (reverse w.mux.log) w.caller.seats none;
       placed = tt;
       latest = ap (λ (x : CallerState). x.latest) is.caller;
@@ -122,7 +122,7 @@ starts F stage servers routes posted leader workers sound muxes begins none read
         muxes = muxes;
         ready = ready;
         led = led;
-        heard = no_heard stage servers leader.caller.seats none;
+        replies = have_none stage servers leader.caller.seats none;
         placed = tt;
         at_work = record {
           count = idle_count n;
@@ -169,7 +169,7 @@ starts_with F stage servers routes posted caller leader first others looks worke
     }
     in starts F stage servers routes posted leader workers sound (many ∙ long ∙ muxes)
     (subst (λ (p : CallerState). Begins stage servers posted p) (sym same) begins)
-    (λ s h. ap (λ (p : CallerState). calls_there p.seats s h) (same ∙ is) ∙ row.told s h)
+    (λ s h. ap (λ (p : CallerState). calls_there p.seats s h) (same ∙ is) ∙ row.replies s h)
     (ready begins) (led begins) next published
     (λ m w here.
     let low = slice_get_within workers m w here

@@ -46,7 +46,7 @@ use Rattle.bm_world.proofs.Amounts.{carried_few, led_few, steered_part, syncs_fe
 use Rattle.bm_world.proofs.GivingUp.{all_synced, assigned_steerable, left_more, left_of, sync_append, sync_some}
 use Rattle.bm_world.proofs.GivingUp.{unsynced}
 use Rattle.bm_world.proofs.Growing.{log_append}
-use Rattle.bm_world.proofs.Joining.{added_count, added_of, added_total, control_append, given_same, heard_more}
+use Rattle.bm_world.proofs.Joining.{added_count, added_of, added_total, control_append, given_same, have_more}
 use Rattle.bm_world.proofs.Joining.{sits_still, assigned_sum}
 use Rattle.bm_world.proofs.Meeting.{worker_under}
 
@@ -103,7 +103,7 @@ at_part F stage servers routes control board phases until m w notes known at = r
         at.steered ([], append-nil w.mux.seen.clocks) at.carriage;
     id = at.id;
     logged = at.logged;
-    heard = at.heard;
+    replies = at.replies;
     copies = at.copies;
     placed = at.placed;
     number = at.number;
@@ -153,7 +153,7 @@ kept_left F stage servers routes control y board phases m span posted old now x 
       id = ap (λ (i : MuxId). i.0) kept.mux.id ∙ id;
       logged = kept.logged ∙ ap (λ (k : ℕ). mux_log stage k x ++ reverse old.mux.log) id
           ∙ ap (λ (l : List Event). mux_log stage m x ++ l) at.logged ∙ sym (log_append stage m x notes);
-      heard = heard_more stage servers old.caller.seats now.caller.seats x notes kept.hears at.heard;
+      replies = have_more stage servers old.caller.seats now.caller.seats x notes kept.replies at.replies;
       copies = subst (λ (i : MuxId). AreCopies stage i servers (reverse now.mux.log) now.caller.seats) (sym kept.mux.id)
           (kept.copies at.copies);
       placed = each_append (λ n. IsCarriedAt servers n.event.what) x notes
@@ -346,7 +346,7 @@ gives_up F stage servers routes posted q leader b old now span led sound known b
       muxes = muxes;
       ready = went.0;
       led = is_led;
-      heard = heard_more stage servers leader.caller.seats b.caller.seats d before leads.heard standing.heard;
+      replies = have_more stage servers leader.caller.seats b.caller.seats d before leads.replies standing.replies;
       placed = each_append (λ n. IsPlaced stage servers n.event.what) d before leads.placed standing.placed;
       count = total_carriers;
       each = λ m w here. (each m w here).left;
@@ -409,7 +409,7 @@ too_late_to_sync F stage servers routes posted leader workers p phases until con
       muxes = standing.muxes;
       ready = standing.ready;
       led = standing.led;
-      heard = standing.heard;
+      replies = standing.replies;
       placed = standing.placed;
       count = at.count;
       each = λ m w here. (each m w here).left;

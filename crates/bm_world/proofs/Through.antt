@@ -119,7 +119,7 @@ is_ended F stage servers routes posted leader workers sound servers_are seats ro
       controls = all_led stage posted leader end.controller led end.done;
       control = record { seats = led.seats; steps = led.steps; judged = led.judged };
       changes = all_published stage servers posted leader end.controller standing.ready led end.done;
-      heard = standing.heard;
+      replies = standing.replies;
       led_at = standing.placed;
       at_work = standing.at_work;
       looked = end.looked;

@@ -11,7 +11,7 @@ use bm_base::{List, Memory, MuxId};
 use bm_core::Log;
 use bm_lead::Leader;
 use bm_mux::Mux;
-use bm_publish::{Look, Poster, Told};
+use bm_publish::{Look, Poster, Snapshot};
 use bm_server::ServerSeat;
 use bm_worker::{Caller, MuxWorker};
 use std::alloc::Global;
@@ -66,14 +66,14 @@ pub(crate) fn make_workers(
 
 /// What a mux's worker gives back: the mux's log, once it has learned what was posted and looked,
 /// and the worker's seats.
-fn part(worker: MuxWorker, told: Told) -> Result<(Log, Vec<ServerSeat>), Memory>
-    requires { told.board ≡ worker.mux.seen.board }
+fn part(worker: MuxWorker, snapshot: Snapshot) -> Result<(Log, Vec<ServerSeat>), Memory>
+    requires { snapshot.board ≡ worker.mux.seen.board }
     ensures log { IfOk result (λ parts. parts.0 ≡ worker.mux.log) }
     ensures seats { IfOk result (λ parts. parts.1.items ≡ worker.caller.seats) }
-    ensures shown { OnOk result (HasSeenAll told worker) }
+    ensures shown { OnOk result (HasSeenAll snapshot worker) }
 {
     let MuxWorker { mux, caller, .. } = worker;
-    let log = mux.into_log(told)?;
+    let log = mux.into_log(snapshot)?;
     Ok((log, caller.into_seats()))
 }
 
@@ -100,7 +100,7 @@ pub(crate) fn take_apart(
     logs.push(List::of(log))?;
     rows.push(caller.into_seats())?;
     for worker in workers {
-        let (log, seats) = part(worker, poster.tell())?;
+        let (log, seats) = part(worker, poster.snapshot())?;
         logs.push(log)?;
         rows.push(seats)?;
     }

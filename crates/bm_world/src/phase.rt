@@ -62,11 +62,11 @@ fn records_end(stage: &Stage, place: usize, from: u32) -> u32
 }
 
 /// Lets each worker know what is posted. Takes no memory.
-fn tell_all(poster: &Poster, workers: &mut [MuxWorker])
+fn give_snapshots(poster: &Poster, workers: &mut [MuxWorker])
     ensures { workers.new ≡ map (with_posts poster.now) workers.old }
 {
     for place in 0..workers.len() {
-        workers[place].posted = Some(poster.tell());
+        workers[place].posted = Some(poster.snapshot());
     }
 }
 
@@ -220,7 +220,7 @@ pub(crate) fn run_phase<W: Threads + Wait + Sync, F: Fn(u32, Hop) -> Fate + Sync
         until,
         after: leader.caller.latest(),
     };
-    tell_all(poster, workers);
+    give_snapshots(poster, workers);
     let led = work_beside(rt, shared, poster, leader, workers, span, place);
     if is_late(led, workers)? {
         return Ok(Next::Late);

@@ -47,13 +47,13 @@ seen_again s c = record c { last = s }
 
 -- the counts after an arrival with this verdict, which is a drop, a reset, a stray or none of these
 abbrev pub tallied : Verdict → Bool → Tally → Tally
-tallied verdict fault t = record {
+tallied verdict broke t = record {
   accepted = one_more (is_accept verdict) t.accepted;
   processed = one_more (is_process verdict) t.processed;
   forwarded = one_more (is_forward verdict) t.forwarded;
   reset = one_more (is_reset verdict) t.reset;
   dropped = one_more (is_drop verdict) t.dropped;
-  stray = one_more (is_process verdict && fault) t.stray;
+  stray = one_more (is_process verdict && broke) t.stray;
 }
 
 -- the server that accepted a flow last, after an arrival of one of its packets
@@ -75,8 +75,8 @@ refused_after b server before =
     else first_of_two before (if is_some b.cause then Some b else None)
 
 -- the connection of a flow after an arrival of one of its packets, with this wait
-abbrev pub noted : Break → ℕ → Connection → Connection
-noted b wait c = record {
+abbrev pub observed : Break → ℕ → Connection → Connection
+observed b wait c = record {
   flow = c.flow;
   first = c.first;
   last = c.last;

@@ -7,8 +7,8 @@ use Rattle.bm_table.specs.declared.plan.Move.{Move}
 abbrev pub target_in : List (Option ServerId) → ℕ → Option ServerId
 target_in targets b = slice_index_or targets b None
 
--- the targets after the moves of a part were recorded, one after another
-abbrev pub noted : ℕ → ℕ → List Move → (ℕ → Option ServerId) → ℕ → Option ServerId
-noted n part [] to b = to b
-noted n part (m ∷ moves) to b =
-    noted n part moves (λ x. if m.bucket * n + part == x then Some m.to else to x) b
+-- the targets after those of a part's moves were set, one after another
+abbrev pub with_targets : ℕ → ℕ → List Move → (ℕ → Option ServerId) → ℕ → Option ServerId
+with_targets n part [] to b = to b
+with_targets n part (m ∷ moves) to b =
+    with_targets n part moves (λ x. if m.bucket * n + part == x then Some m.to else to x) b

@@ -14,7 +14,7 @@ use Rattle.bm_core.specs.Runs.{next_clock}
 use Rattle.bm_merge.specs.Notes.{Note, greatest}
 use Rattle.bm_server.specs.Servings.{Serving}
 use Rattle.bm_publish.specs.Posts.{Posted, last_or}
-use Rattle.bm_worker.specs.WorkerNotes.{Hears, IsSameCaller, HasSeats}
+use Rattle.bm_worker.specs.WorkerNotes.{GetReplies, IsSameCaller, HasSeats}
 use Rattle.bm_worker.specs.Inside.WorkerNotes.{closing, retiring}
 use Rattle.bm_worker.specs.Callers.{CallerState}
 use Rattle.bm_lead.specs.declared.leader.Leader.{Leader}
@@ -55,7 +55,7 @@ pub record CanCall (servers : List Serving) (calls : ℕ) (p : CallerState) : Ty
 -- the worker's seats and clock after these notes, where at most this many are calls
 pub record HasCalled (stage : Stage) (servers : List Serving) (calls : ℕ) (a b : CallerState)
     (notes : List Note) : Type 0 where
-  pub heard : Hears stage servers a.seats b.seats notes
+  pub replies : GetReplies stage servers a.seats b.seats notes
   pub same : IsSameCaller a b
   pub tries : b.tries ≤ a.tries + calls
   pub latest : b.latest ≡ max a.latest (greatest (λ n. n.event.clock.0) notes)

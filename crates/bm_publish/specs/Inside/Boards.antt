@@ -21,7 +21,7 @@ IsRight entries posted = IsTable posted.plan (last_version posted) entries
 
 -- a seat's view, if it has one, is of this board
 abbrev pub IsOn : Book → Option Posted → Type 0
-IsOn board told = IfSome told (λ t. t.board ≡ board)
+IsOn board snapshot = IfSome snapshot (λ t. t.board ≡ board)
 
 -- the table is right, and each seat's view, if it has one, is of this board
 pub record Keeps (entries : List Entry) (p : Posted) (views : List (Option Posted)) : Type 0 where
@@ -31,15 +31,15 @@ pub record Keeps (entries : List Entry) (p : Posted) (views : List (Option Poste
 -- after a seat sees this, its view is these posts
 pub record Sees (entries : List Entry) (p : Posted) (before after : Option Posted) : Type 0 where
   pub right : IsRight entries p
-  pub told : after ≡ Some p
+  pub snapshot : after ≡ Some p
   pub board : IsOn p.board before
 
 -- a seat has a view, which is of this board
 abbrev pub Knows : Book → Option Posted → Type 0
-Knows board view = (told : Posted) × (view ≡ Some told) × (told.board ≡ board)
+Knows board view = (snapshot : Posted) × (view ≡ Some snapshot) × (snapshot.board ≡ board)
 
 -- all that was posted is shown, except the post that waits
 abbrev pub ShowsAllBut : List Entry → Posted → Posted → Option Post → Type 0
 ShowsAllBut entries shown past waiting =
     MatchOption waiting (shown ≡ past)
-    (λ post. IsRight (changed_from post.change 0 entries) post.told × (post.told ≡ past))
+    (λ post. IsRight (changed_from post.change 0 entries) post.snapshot × (post.snapshot ≡ past))

@@ -3,8 +3,8 @@ use mathlib.Core.List.{IsPrefix}
 use Rattle.std.specs.Prelude.{◌≡◌, ℕ, ◌<◌, true, List, [], ◌∷◌, ◌++◌, length}
 use Rattle.logbook.specs.Pages.{Book, Cell, Named, Step, View, cell, nib, may_make}
 use Rattle.bm_table.specs.Planned.{Planned}
-use Rattle.bm_publish.specs.declared.told.Line.{Line}
-use Rattle.bm_publish.specs.declared.told.Line.TheVariants.{Opens, Posts}
+use Rattle.bm_publish.specs.declared.snapshot.Line.{Line}
+use Rattle.bm_publish.specs.declared.snapshot.Line.TheVariants.{Opens, Posts}
 use Rattle.bm_publish.specs.Posts.{Posted}
 
 -- the plan with which the history opens

@@ -192,7 +192,7 @@ pub record IsDoneTo (F : Rules) (stage : Stage) (servers : List Serving) (task :
   pub steered : (k : ℕ) → many (λ n. steers_packet n.event.what k) notes
       ≡ (if is_assigned task.routes (mux_for task).0 task.from next k then 1 else 0)
   pub looked : 1 ≤ many (λ n. is_switch_of n.event.what (mux_for task).0) notes
-  pub heard : Continues task.posted now.mux.seen
+  pub learned : Continues task.posted now.mux.seen
   pub few : AreFew notes
   pub first : AllByRecursion (λ y. IsUpTo next y.event.what) notes
   pub logged : AllByRecursion (IsLogged (mux_for task) next) (reverse now.mux.log)

@@ -20,7 +20,7 @@ use Rattle.bm_lead.specs.Commands.{control_log}
 use Rattle.bm_lead.specs.Leaders.{IsReady}
 use Rattle.bm_lead.specs.Leads.{IsLed, IsPlaced}
 use Rattle.bm_world.specs.Inside.Left.{IsLeft, IsSynced}
-use Rattle.bm_world.specs.Inside.Running.{HaveHeard}
+use Rattle.bm_world.specs.Inside.Running.{HaveReplies}
 
 -- what the worker of mux m did, whether it gave up or not
 pub record HasLeft (F : Rules) (stage : Stage) (servers : List Serving) (control : List Event)
@@ -28,7 +28,7 @@ pub record HasLeft (F : Rules) (stage : Stage) (servers : List Serving) (control
   pub left : IsLeft F stage control w.mux.seen.clocks m notes
   pub id : w.mux.id.0 ≡ m
   pub logged : reverse w.mux.log ≡ mux_log stage m notes
-  pub heard : HaveHeard stage servers w.caller.seats notes
+  pub replies : HaveReplies stage servers w.caller.seats notes
   pub copies : AreCopies stage w.mux.id servers (reverse w.mux.log) w.caller.seats
   pub placed : AllByRecursion (λ n. IsCarriedAt servers n.event.what) notes
   pub number : w.caller.number ≡ m + 1
@@ -43,7 +43,7 @@ pub record HasGivenUp (F : Rules) (stage : Stage) (servers : List Serving) (post
   pub muxes : length workers ≡ stage.script.setting.muxes
   pub ready : IsReady stage servers posted leader
   pub led : IsLed stage posted leader controller
-  pub heard : HaveHeard stage servers leader.caller.seats controller
+  pub replies : HaveReplies stage servers leader.caller.seats controller
   pub placed : AllByRecursion (λ n. IsPlaced stage servers n.event.what) controller
   pub count : length carriers ≡ length workers
   pub each : (m : ℕ) (w : MuxWorker) → slice_get workers m ≡ Some w

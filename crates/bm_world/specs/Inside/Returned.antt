@@ -88,7 +88,7 @@ pub record IsBookOfAll (stage : Stage) (controller : List Note) (carriers : List
     : Type 0 where
   pub of : IsOf stage book.shard
   pub replays : Replays book.shard (reverse book.entries)
-  pub told : (w : ℕ) → AreNoted (entries_by w (reverse book.entries))
+  pub noted : (w : ℕ) → AreNoted (entries_by w (reverse book.entries))
       (home_part stage (ShardOf book.shard.server.0 book.shard.number)
       (notes_by (controller ∷ carriers) w))
   pub copied : AllByRecursion (λ e. IsCopied stage carriers book.shard e.call)

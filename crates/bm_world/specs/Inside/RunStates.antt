@@ -32,7 +32,7 @@ use Rattle.bm_lead.specs.Rests.{Adds}
 use Rattle.bm_world.specs.declared.phase.Next.{Next}
 use Rattle.bm_world.specs.declared.phase.Next.TheVariants.{Phase, End, Late as TooLate}
 use Rattle.bm_world.specs.Inside.GivenUp.{HasGivenUp}
-use Rattle.bm_world.specs.Inside.Running.{AreApart, AreAtWork, HaveHeard, HaveLooked, IsAtPhase}
+use Rattle.bm_world.specs.Inside.Running.{AreApart, AreAtWork, HaveLooked, HaveReplies, IsAtPhase}
 
 -- WORKERS
 
@@ -71,7 +71,7 @@ pub record IsStanding (F : Rules) (stage : Stage) (servers : List Serving)
   pub muxes : length workers ≡ stage.script.setting.muxes
   pub ready : IsReady stage servers posted leader
   pub led : IsLed stage posted leader controller
-  pub heard : HaveHeard stage servers leader.caller.seats controller
+  pub replies : HaveReplies stage servers leader.caller.seats controller
   pub placed : AllByRecursion (λ n. IsPlaced stage servers n.event.what) controller
   pub at_work : AreAtWork (RoutedBy routes) F stage servers routes posted.board p phases until
       workers controller carriers
@@ -178,7 +178,7 @@ pub record HasSeenAll (posted : Posted) (w : MuxWorker) : Type 0 where
   pub seen : Posted
   pub is_posted : IsPosted seen
   pub later : Continues w.mux.seen seen
-  pub heard : Continues posted seen
+  pub learned : Continues posted seen
 
 -- if a worker gave up, all changes that were left are posted too
 pub record HasPostedRest (F : Rules) (stage : Stage) (servers : List Serving) (posted : Posted)

@@ -4,7 +4,7 @@ use Rattle.bm_base.specs.declared.ids.ServerId.{ServerId}
 use Rattle.bm_table.specs.declared.setting.Setting.{Setting}
 use Rattle.bm_turnstile.specs.Sittings.{who}
 use Rattle.bm_shard.specs.Books.{Book, Replays}
-use Rattle.bm_server.specs.Seats.{Seated, most_turns, row, seat_of, telling}
+use Rattle.bm_server.specs.Seats.{Seated, most_turns, replies_in, row, seat_of}
 use Rattle.bm_server.specs.Servings.{Serving, shard_at}
 use Rattle.bm_turnstile.specs.Seen.{AllBelow}
 use Rattle.bm_worker.specs.SeatCalls.{calls_there}
@@ -15,8 +15,8 @@ pub record IsBookThere (server : Serving) (rows : List (List (List Seated))) (s 
   pub shard : book.shard ≡ shard_at server h
   pub replays : Replays book.shard (reverse book.entries)
   pub below : AllBelow seat_of server.seats book.entries
-  pub told : (i : ℕ) (seats : List (List Seated)) → slice_get rows i ≡ Some seats
-      → telling (Some (shard_at server h)) i book.entries ≡ calls_there seats s h
+  pub replies : (i : ℕ) (seats : List (List Seated)) → slice_get rows i ≡ Some seats
+      → replies_in (Some (shard_at server h)) i book.entries ≡ calls_there seats s h
 
 -- the books of the server at the place s
 pub record AreBooksThere (servers : List Serving) (rows : List (List (List Seated))) (s : ℕ)
@@ -41,4 +41,4 @@ pub record IsServerOf (setting : Setting) (ids : List ServerId) (workers s : ℕ
 pub record IsNewRow (servers : List Serving) (w : ℕ) (seats : List (List Seated)) : Type 0 where
   pub «is» : map (map who) seats ≡ map (λ server. row server w) servers
   pub turns : (s : ℕ) (seat : List Seated) → slice_get seats s ≡ Some seat → most_turns seat ≡ 0
-  pub told : (s h : ℕ) → calls_there seats s h ≡ []
+  pub replies : (s h : ℕ) → calls_there seats s h ≡ []

@@ -32,9 +32,9 @@ loop-event-preserved g c =
     in let few = few_past events i c.requires.few
     in let decides = c.is_sent_before.ensures past kept.1.0 few kept.0 c.requires.sure kept.1.1
     in let was = decides.0 c.if-not-is_sent_before.false
-    in subst (λ now. KeepsTallies now c.note.new.self × ((fates : List Fate) × AreFated F fates now × AreSent fates now))
+    in subst (λ now. KeepsTallies now c.observe.new.self × ((fates : List Fate) × AreFated F fates now × AreSent fates now))
     (sym (reverse_take events i no_event c.loop-event-test.true)) (
-      c.in_ok-note.ensures past (get_or events i no_event) refl (omega (arith, few)) kept.0,
+      c.in_ok-observe.ensures past (get_or events i no_event) refl (omega (arith, few)) kept.0,
       (
         c.ask-fate.result ∷ kept.1.0,
         (c.ask-fate.ensures, kept.1.1),

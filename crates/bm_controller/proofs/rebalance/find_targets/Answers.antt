@@ -2,7 +2,7 @@ use Rattle.std.proofs.Common.{◌<◌, ◌+◌, ◌*◌, List, length, get_or, a
 use Rattle.std.specs.List.{All}
 use Rattle.bm_controller.proofs.RackParts.{places-rack, rise-rack, target-all, target-more, target-none}
 use Rattle.bm_controller.proofs.rebalance.find_targets.Goals as goal
-use Rattle.bm_controller.specs.Inside.Targets.{noted, target_in}
+use Rattle.bm_controller.specs.Inside.Targets.{with_targets, target_in}
 use Rattle.bm_controller.specs.Racks.{rack_part}
 use Rattle.bm_quota.specs.Parts.{rebalancing_of}
 use Rattle.bm_table.specs.declared.plan.Move.{Move}
@@ -12,13 +12,13 @@ loop-rack-init c = record {
   long = c.requires.numbers;
   zero = c.requires.zero;
   count = c.requires.count;
-  noted = λ b. c.requires.none b
+  moved = λ b. c.requires.none b
       ∙ sym (target-none (λ x. get_or c.args.owners.now x (record { 0 = 0 })) (length c.args.owners.now) c.args.racks
       c.args.members.now b);
 }
 
-pub note-requires : goal.note-requires
-note-requires c =
+pub set_targets-requires : goal.set_targets-requires
+set_targets-requires c =
     let moves = c.as_slice.ensures.value ∙ c.in_ok-moves.ensures.moves
     in record {
       places = subst (λ (ms : List Move). All (λ m. m.bucket * c.args.racks + c.loop-rack.rack < length c.loop-rack.targets) ms)
@@ -39,17 +39,17 @@ loop-rack-preserved c =
     in record {
       long = search rules;
       zero = c.in_ok-moves.ensures.zero;
-      count = c.note.ensures.count ∙ c.loop-rack.invariant.count;
-      noted = λ b.
-          c.note.ensures.noted b
-          ∙ ap (λ (ms : List Move). noted c.args.racks c.loop-rack.rack ms (target_in c.loop-rack.targets) b) moves
+      count = c.set_targets.ensures.count ∙ c.loop-rack.invariant.count;
+      moved = λ b.
+          c.set_targets.ensures.moved b
+          ∙ ap (λ (ms : List Move). with_targets c.args.racks c.loop-rack.rack ms (target_in c.loop-rack.targets) b) moves
           ∙ target-more (λ x. get_or c.args.owners.now x (record { 0 = 0 })) (length c.args.owners.now) c.args.racks
           c.args.members.now c.loop-rack.rack c.loop-rack-test.true (target_in c.loop-rack.targets)
-          c.loop-rack.invariant.noted b;
+          c.loop-rack.invariant.moved b;
     }
 
 pub returns : goal.returns
 returns c = λ b.
-    c.loop-rack.invariant.noted b
+    c.loop-rack.invariant.moved b
     ∙ target-all (λ x. get_or c.args.owners.now x (record { 0 = 0 })) (length c.args.owners.now) c.args.racks
     c.args.members.now c.loop-rack.rack c.requires.few c.loop-rack-test.false b

@@ -9,6 +9,6 @@ invariant-loop-rack l = record {
   long : length l.rooms ≡ 65536;
   zero : (s : ServerId) → slice_index l.rooms s.0 ≡ 0;
   count : length l.targets ≡ length l.owners;
-  noted : (b : ℕ) → target_in l.targets b
+  moved : (b : ℕ) → target_in l.targets b
       ≡ target_below (λ x. slice_index_or l.owners x (record { 0 = 0 })) (length l.owners) l.racks l.members l.rack b;
 }

@@ -1,5 +1,5 @@
 use Rattle.std.proofs.Common.{length}
-use Rattle.bm_controller.proofs.Noted.{listed-passed, listed-took, listed-all}
+use Rattle.bm_controller.proofs.SetTargets.{listed-passed, listed-took, listed-all}
 use Rattle.bm_controller.proofs.rebalance.listed.Goals as goal
 use Rattle.bm_controller.proofs.rebalance.listed.Goals.{in-Some+in_ok-push, in_default}
 use Rattle.bm_controller.specs.Inside.Targets.{target_in}

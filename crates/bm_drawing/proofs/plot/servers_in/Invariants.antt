@@ -5,6 +5,6 @@ use Rattle.bm_drawing.proofs.plot.servers_in.Given as goal
 
 abbrev pub invariant-loop-connection : goal.invariant-loop-connection
 invariant-loop-connection l = record {
-  noted : l.servers.keys
+  collected : l.servers.keys
       ≡ fold (λ servers (c : Connection). with_server servers c.server) [] (take l.connection-index l.table);
 }

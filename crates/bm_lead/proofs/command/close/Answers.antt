@@ -2,10 +2,10 @@ use Rattle.std.proofs.Common.{◌≡◌, ℕ, ◌<◌, List, length, refl, sym, 
 use Rattle.std.specs.Prelude.{slice_get}
 use Rattle.bm_base.specs.declared.ids.ServerId.{ServerId}
 use Rattle.bm_server.specs.Servings.{Serving}
-use Rattle.bm_worker.specs.WorkerNotes.{Hears, HasSeats}
+use Rattle.bm_worker.specs.WorkerNotes.{GetReplies, HasSeats}
 use Rattle.bm_worker.specs.Inside.WorkerNotes.{closing}
 use Rattle.bm_worker.proofs.Carrying.{place_inside}
-use Rattle.bm_worker.proofs.Hearing.{hears_close}
+use Rattle.bm_worker.proofs.CallNotes.{gets_close}
 use Rattle.bm_lead.proofs.command.close.Goals as goal
 
 pub close-requires-clause-place : goal.close-requires-clause-place
@@ -32,15 +32,15 @@ returns-clause-ok g c = λ p.
       (done.0, done.1, refl, let h = c.in_ok-_closed.ensures.later in omega arith),
       record {
         called = record {
-          heard = subst
-              (λ (s : ServerId). Hears c.args.shared.now.stage c.args.shared.now.servers a.caller.seats c.close.new.self.seats
+          replies = subst
+              (λ (s : ServerId). GetReplies c.args.shared.now.stage c.args.shared.now.servers a.caller.seats c.close.new.self.seats
               (closing done.0 s c.args.flow done.1 a.next (max c.args.at.0 a.caller.latest) 0 ∷ [])) same
-              (subst (λ (w : ℕ). Hears c.args.shared.now.stage c.args.shared.now.servers a.caller.seats c.close.new.self.seats
+              (subst (λ (w : ℕ). GetReplies c.args.shared.now.stage c.args.shared.now.servers a.caller.seats c.close.new.self.seats
               (closing done.0 server.id c.args.flow done.1 a.next (max c.args.at.0 a.caller.latest) w ∷ []))
               c.requires.can.number
-              (subst (λ (d : ℕ). Hears c.args.shared.now.stage c.args.shared.now.servers a.caller.seats c.close.new.self.seats
+              (subst (λ (d : ℕ). GetReplies c.args.shared.now.stage c.args.shared.now.servers a.caller.seats c.close.new.self.seats
               (closing done.0 server.id c.args.flow done.1 a.next d a.caller.number ∷ [])) is
-              (hears_close c.args.shared.now.stage c.args.shared.now.servers c.known_place-place.result a.next a.caller.number server
+              (gets_close c.args.shared.now.stage c.args.shared.now.servers c.known_place-place.result a.next a.caller.number server
               c.args.flow due done.0 done.1 a.caller.seats c.close.new.self.seats c.servers.ensures.set_up.servers_are at
               (c.in_ok-_closed.ensures.call server (ap (λ (l : List Serving). slice_get l c.known_place-place.result)
               c.servers.ensures.value ∙ at)))));

@@ -4,7 +4,7 @@ use Rattle.bm_table.specs.declared.plan.Change.{Change}
 use Rattle.bm_core.specs.declared.events.Stage.{Stage}
 use Rattle.bm_table.specs.Tables.{change_moment, next_change}
 use Rattle.bm_lead.specs.Inside.Commands.{publishing}
-use Rattle.bm_lead.proofs.Calling.{change_early, hears_elsewhere}
+use Rattle.bm_lead.proofs.Calling.{change_early, gets_elsewhere}
 use Rattle.bm_lead.proofs.command.publish.Goals as goal
 
 -- the next change of the plan of the stage that was lent
@@ -39,7 +39,7 @@ returns-clause-ok g c =
       ),
       record {
         called = record {
-          heard = hears_elsewhere c.args.shared.now.stage c.args.shared.now.servers a.caller.seats c.see.new.self.seats n
+          replies = gets_elsewhere c.args.shared.now.stage c.args.shared.now.servers a.caller.seats c.see.new.self.seats n
               c.see.ensures.seats
               (λ s h. refl);
           same = c.see.ensures.same;

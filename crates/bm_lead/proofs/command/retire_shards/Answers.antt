@@ -4,7 +4,7 @@ use Rattle.bm_core.specs.declared.events.Stage.{Stage}
 use Rattle.bm_core.specs.Stages.{IsSound}
 use Rattle.bm_server.specs.Servings.{Serving}
 use Rattle.bm_worker.specs.WorkerNotes.{HasSeats}
-use Rattle.bm_worker.proofs.Hearing.{hears_retire}
+use Rattle.bm_worker.proofs.CallNotes.{gets_retire}
 use Rattle.bm_lead.specs.Inside.Steps.{AreRetirings}
 use Rattle.bm_lead.proofs.Calling.{called_up_to, none_called, retired_more, same_caller, sits_kept}
 use Rattle.bm_lead.proofs.command.retire_shards.Goals as goal
@@ -58,7 +58,7 @@ loop-shard-preserved g c =
           let old = was.2 i server at in
           retired_more c.args.shared.now.stage c.args.shared.now.servers i c.loop-shard.shard server c.args.at c.in_ok-retire.field-0
           c.args.outcome a b d old.0 (was.0.number ∙ c.requires.can.number) old.1 old.2
-          (hears_retire c.args.shared.now.stage c.args.shared.now.servers c.args.place c.loop-shard.shard i b.number server c.args.at
+          (gets_retire c.args.shared.now.stage c.args.shared.now.servers c.args.place c.loop-shard.shard i b.number server c.args.at
           c.in_ok-retire.field-0 c.args.outcome b.seats d.seats c.stage.ensures.set_up.servers_are at
           c.in_ok-retire.ensures.call)
           c.in_ok-retire.ensures.same

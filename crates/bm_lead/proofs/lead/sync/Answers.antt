@@ -6,7 +6,7 @@ use Rattle.bm_lead.specs.Commands.{syncing}
 use Rattle.bm_core.specs.Runs.{next_clock}
 use Rattle.bm_core.specs.Threads.{moment_at}
 use Rattle.bm_lead.specs.Inside.Steps.{AreOf, HasDone}
-use Rattle.bm_lead.proofs.Calling.{hears_elsewhere}
+use Rattle.bm_lead.proofs.Calling.{gets_elsewhere}
 use Rattle.bm_lead.proofs.Going.{command_leads, ready_more}
 use Rattle.bm_lead.proofs.Scripted.{command_early, is_there}
 use Rattle.bm_lead.proofs.lead.sync.Goals as goal
@@ -40,7 +40,7 @@ returns-clause-synced c = λ servers posted servers_are ready.
     let latest = c.see.ensures.latest in
     let done : HasDone stage servers posted posted a b (syncing clock a.next ∷ []) = record {
       called = record {
-        heard = hears_elsewhere stage servers a.caller.seats b.caller.seats (syncing clock a.next) c.see.ensures.seats
+        replies = gets_elsewhere stage servers a.caller.seats b.caller.seats (syncing clock a.next) c.see.ensures.seats
             (λ s h. refl);
         same = c.see.ensures.same;
         tries = let t = c.see.ensures.tries in omega arith;

@@ -23,9 +23,9 @@ loop-packets-init g c =
     record {
       so_far = λ octets stands. rw (c.new-records.ensures.items, c.new-packets.ensures)
           (starts _ c.args.r.now.form c.args.vips.now c.args.r.now.place octets
-          (stands_ahead _ c.args.r.now.held c.args.r.now.form octets c.requires.2 stands) c.requires.0);
+          (stands_ahead _ c.args.r.now.buffered c.args.r.now.form octets c.requires.2 stands) c.requires.0);
       began = λ octets stands. began_starts _ c.args.r.now.form c.args.r.now.place octets
-          (stands_ahead _ c.args.r.now.held c.args.r.now.form octets c.requires.2 stands) c.requires.0;
+          (stands_ahead _ c.args.r.now.buffered c.args.r.now.form octets c.requires.2 stands) c.requires.0;
       soon = rw c.requires.0 (omega arith);
       count = rw c.new-packets.ensures (sym one);
       few = omega (arith, one);

@@ -24,6 +24,6 @@ returns-else-count-room-clause-gives g c =
 
 pub returns-clause-gives : goal.returns-clause-gives
 returns-clause-gives g c =
-    head_stated _ c.args.form.now c.args.place.now _ _ _ c.held.result.now c.states.result c.min.ensures
+    head_stated _ c.args.form.now c.args.place.now _ _ _ c.buffered.result.now c.states.result c.min.ensures
     c.in_ok-count.ensures.bound.0 c.in_ok-count.ensures.ahead c.if-count-header.false c.if-place-gt-MOST_RECORDS.false
-    c.held.ensures c.states.ensures.stated
+    c.buffered.ensures c.states.ensures.stated

@@ -9,8 +9,8 @@ returns-then-branch-lt4-clause-gives g c =
 
 pub returns-then-not-is_section-clause-gives : goal.returns-then-not-is_section-clause-gives
 returns-then-not-is_section-clause-gives g c =
-    no_section _ _ _ c.held.result.now c.in_ok-want.ensures.ahead c.if-branch-lt4.false c.in_ok-want.ensures.bound.0
-    c.held.ensures (sym (c.if-not-is_section.ensures))
+    no_section _ _ _ c.buffered.result.now c.in_ok-want.ensures.ahead c.if-branch-lt4.false c.in_ok-want.ensures.bound.0
+    c.buffered.ensures (sym (c.if-not-is_section.ensures))
 
 pub returns-then-branch-lt12-clause-gives : goal.returns-then-branch-lt12-clause-gives
 returns-then-branch-lt12-clause-gives g c =
@@ -19,14 +19,14 @@ returns-then-branch-lt12-clause-gives g c =
 
 pub returns-in-Some-clause-gives : goal.returns-in-Some-clause-gives
 returns-in-Some-clause-gives g c =
-    order_read _ _ _ _ _ _ c.held.result.now c.held-2.result.now _ c.in_ok-want.ensures.ahead c.if-branch-lt4.false
-    c.in_ok-want.ensures.bound.0 c.held.ensures (sym c.if-not-is_section.ensures) c.in_ok-want.ensures.keeps
-    c.in_ok-want-2.ensures.ahead c.if-branch-lt12.false c.in_ok-want-2.ensures.bound.0 c.held-2.ensures
+    order_read _ _ _ _ _ _ c.buffered.result.now c.buffered-2.result.now _ c.in_ok-want.ensures.ahead c.if-branch-lt4.false
+    c.in_ok-want.ensures.bound.0 c.buffered.ensures (sym c.if-not-is_section.ensures) c.in_ok-want.ensures.keeps
+    c.in_ok-want-2.ensures.ahead c.if-branch-lt12.false c.in_ok-want-2.ensures.bound.0 c.buffered-2.ensures
     (sym c.magic.ensures ∙ c.in-Some.is)
 
 pub returns-in-None-clause-gives : goal.returns-in-None-clause-gives
 returns-in-None-clause-gives g c =
-    order_bad _ _ _ _ _ _ c.held.result.now c.held-2.result.now c.in_ok-want.ensures.ahead c.if-branch-lt4.false
-    c.in_ok-want.ensures.bound.0 c.held.ensures (sym c.if-not-is_section.ensures) c.in_ok-want.ensures.keeps
-    c.in_ok-want-2.ensures.ahead c.if-branch-lt12.false c.in_ok-want-2.ensures.bound.0 c.held-2.ensures
+    order_bad _ _ _ _ _ _ c.buffered.result.now c.buffered-2.result.now c.in_ok-want.ensures.ahead c.if-branch-lt4.false
+    c.in_ok-want.ensures.bound.0 c.buffered.ensures (sym c.if-not-is_section.ensures) c.in_ok-want.ensures.keeps
+    c.in_ok-want-2.ensures.ahead c.if-branch-lt12.false c.in_ok-want-2.ensures.bound.0 c.buffered-2.ensures
     (sym c.magic.ensures ∙ c.in-None.is)

@@ -17,8 +17,8 @@ returns-clause-line c from lines =
 
 pub returns-clause-known : goal.returns-clause-known
 returns-clause-known c =
-    subst (λ es. KeepsVersions (reverse (take (c.args.place + 1) es)) c.note.new.self) c.items-events.ensures
-    (versions_next c.items-events.result.now c.args.place _ c.note.new.self (search rules)
-    (c.in_ok-note.ensures _ _ refl
+    subst (λ es. KeepsVersions (reverse (take (c.args.place + 1) es)) c.observe.new.self) c.items-events.ensures
+    (versions_next c.items-events.result.now c.args.place _ c.observe.new.self (search rules)
+    (c.in_ok-observe.ensures _ _ refl
     (subst (λ es. KeepsVersions (reverse (take c.args.place es)) c.args.versions.now) (sym c.items-events.ensures)
     c.requires.known)))

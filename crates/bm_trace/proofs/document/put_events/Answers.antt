@@ -9,8 +9,8 @@ returns-in_err-write_event-clause-err g c =
     (events_left c.args.h.now.stage c.items-events.result.now c.args.h.now.events c.loop-place.place
     _ _ _ _ c.items-events.ensures c.loop-place.invariant.written)
 
-pub returns-in_err-note-clause-err : goal.returns-in_err-note-clause-err
-returns-in_err-note-clause-err g c =
+pub returns-in_err-observe-clause-err : goal.returns-in_err-observe-clause-err
+returns-in_err-observe-clause-err g c =
     on_err _ _
     (events_left c.args.h.now.stage c.items-events.result.now c.args.h.now.events c.loop-place.place
     _ _ _ _ c.items-events.ensures c.loop-place.invariant.written)
@@ -32,7 +32,7 @@ loop-place-preserved g c = record {
       (cause_here c.args.h.now c.items-events.result.now c.loop-place.place _ c.args.causes.now _
       c.items-events.ensures c.loop-place-test.true c.requires.causes c.at-cause.ensures)) c.in_ok-put_full.ensures.ok;
   known = versions_next c.items-events.result.now c.loop-place.place _ _ c.loop-place-test.true
-      (c.in_ok-note.ensures _ _ refl c.loop-place.invariant.known);
+      (c.in_ok-observe.ensures _ _ refl c.loop-place.invariant.known);
   later = c.in_ok-put_full.ensures.cause.kept ∙ c.loop-place.invariant.later;
 }
 

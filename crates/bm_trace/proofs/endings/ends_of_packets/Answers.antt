@@ -1,16 +1,16 @@
 use Rattle.std.proofs.Common.{◌+◌, ◌∙◌, arith, ap, reverse}
 use Rattle.bm_trace.specs.Report as report
-use Rattle.bm_trace.proofs.Parted.{event_noted}
+use Rattle.bm_trace.proofs.Parted.{event_observed}
 use Rattle.bm_trace.proofs.Pieces.{take_over}
 use Rattle.bm_trace.proofs.endings.ends_of_packets.Goals as goal
 
 pub loop-event-preserved : goal.loop-event-preserved
 loop-event-preserved c = record {
-  count = c.in_ok-note.ensures.count ∙ c.loop-event.invariant.count;
+  count = c.in_ok-observe.ensures.count ∙ c.loop-event.invariant.count;
   ends = λ k below.
-      event_noted c.args.events.now c.loop-event.event-index _ (k + 1) _ _ (omega (arith, c.loop-event-test.true))
+      event_observed c.args.events.now c.loop-event.event-index _ (k + 1) _ _ (omega (arith, c.loop-event-test.true))
       (c.loop-event.invariant.ends k below)
-      (c.in_ok-note.ensures.noted k (omega (arith, below, c.loop-event.invariant.count)));
+      (c.in_ok-observe.ensures.observed k (omega (arith, below, c.loop-event.invariant.count)));
 }
 
 pub returns-clause-ends : goal.returns-clause-ends

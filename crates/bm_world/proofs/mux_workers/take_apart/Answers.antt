@@ -18,7 +18,7 @@ part-requires c =
     in let turn = YieldsList-turn (YieldsList-from_vec workers (cc) (cc)) c.loop-worker.yielded
     c.loop-worker.worker-iterator c.loop-worker.yielded_by _ c.next.new.self c.in-Some.worker c.in-Some.is
     c.next.ensures.steps
-    in ap (λ (p : Posted). p.board) c.tell.ensures
+    in ap (λ (p : Posted). p.board) c.snapshot.ensures
     ∙ sym (c.requires.boards n c.in-Some.worker
     (slice_get-get_or workers n c.in-Some.worker turn.0 ∙ ap Some (sym turn.1)))
 
@@ -29,7 +29,7 @@ loop-worker-preserved c =
     (items_of c.push-in-loop-worker-2.new.self.items) c.in_ok-log.log c.in_ok-log.seats.items
     c.in_ok-log.ensures.log c.in_ok-log.ensures.seats c.in_ok-push-3.ensures.items
     (ap items_of c.in_ok-push-4.ensures.items ∙ map-append _ c.loop-worker.rows.items _)
-    (subst (λ (p : Posted). HasSeenAll p c.in-Some.worker) c.tell.ensures c.in_ok-log.ensures.shown)
+    (subst (λ (p : Posted). HasSeenAll p c.in-Some.worker) c.snapshot.ensures c.in_ok-log.ensures.shown)
     c.loop-worker.invariant
 
 pub returns : goal.returns

@@ -70,7 +70,7 @@ work_beside-led-requires-clause-can g c κs within =
     × (c.records_end-until.result ≤ length s.capture.records)) c.stage-stage.ensures.value
     c.records_end-until.ensures.order in
     subst (λ (l : List MuxWorker). All (CanWork shared.stage shared.servers shared.routes span) l)
-    (sym c.tell_all.ensures)
+    (sym c.give_snapshots.ensures)
     (can_work (Gives g.F.Fn shared.rule) shared.stage shared.servers shared.routes
     c.args.poster.now c.args.leader.now c.args.workers.now span c.stage-stage.ensures.set_up.sound c.requires.between c.latest.ensures
     order.0 order.1)
@@ -84,15 +84,15 @@ returns-then-branch-clause-next g c =
     c.records_end-until.ensures.order in
     let F = Gives g.F.Fn shared.rule in
     let now = c.work_beside-led.new.workers in
-    let told = ap (λ (l : List MuxWorker). length l) c.tell_all.ensures in
+    let informed = ap (λ (l : List MuxWorker). length l) c.give_snapshots.ensures in
     let size = length-map c.args.workers.now (with_posts c.args.poster.now) in
     gives_up F shared.stage shared.servers shared.routes c.args.poster.now c.work_beside-led.new.poster
     c.args.leader.now c.work_beside-led.new.leader c.args.workers.now now span c.work_beside-led.result
     c.stage-stage.ensures.set_up.sound c.stage-stage.ensures.set_up.steerable c.requires.between c.latest.ensures order.0 order.1
     c.work_beside-led.ensures.led c.work_beside-led.ensures.stop
-    (c.work_beside-led.ensures.count ∙ told ∙ size)
+    (c.work_beside-led.ensures.count ∙ informed ∙ size)
     (worked_at F shared.stage shared.servers shared.routes span c.args.poster.now c.args.workers.now
-    c.tell_all.new.workers now c.tell_all.ensures c.work_beside-led.ensures.worked)
+    c.give_snapshots.new.workers now c.give_snapshots.ensures c.work_beside-led.ensures.worked)
     (subst (λ (b : Bool). MatchBool b (IsLate c.work_beside-led.result now)
     ((c.work_beside-led.result ≡ Ok tt) × HaveNotStopped now)) c.if-branch.true c.in_ok-is_late.ensures)
 
@@ -120,7 +120,7 @@ returns-clause-next g c =
     let now = c.work_beside-led.new.workers in
     let b = c.work_beside-led.new.leader in
     let q = c.work_beside-led.new.poster in
-    let told = ap (λ (l : List MuxWorker). length l) c.tell_all.ensures in
+    let informed = ap (λ (l : List MuxWorker). length l) c.give_snapshots.ensures in
     let size = length-map old (with_posts c.args.poster.now) in
     let phase : IsPhase stage.script.commands c.args.leader.now.next place =
     subst (λ (l : List Command). IsPhase l c.args.leader.now.next place) (c.items.ensures
@@ -135,9 +135,9 @@ returns-clause-next g c =
     (λ k low high. numbers c.args.leader.now.next c.requires.between.p k phase c.requires.between.at_phase low high)
     last (after c.args.leader.now.next c.requires.between.p phase c.requires.between.at_phase)
     (led_if_ok c.work_beside-led.result (HasLed stage shared.servers c.args.poster.now q c.args.leader.now b) done.0
-    c.work_beside-led.ensures.led) at (c.work_beside-led.ensures.count ∙ told ∙ size) done.1
+    c.work_beside-led.ensures.led) at (c.work_beside-led.ensures.count ∙ informed ∙ size) done.1
     (worked_at F stage shared.servers shared.routes span c.args.poster.now old
-    c.tell_all.new.workers now c.tell_all.ensures c.work_beside-led.ensures.worked) in
+    c.give_snapshots.new.workers now c.give_snapshots.ensures c.work_beside-led.ensures.worked) in
     if_ok_more (HasMet stage b c.meet.new.leader now until)
     (IsNext F stage shared.servers shared.routes q c.meet.new.leader now) c.meet.result
     (λ next met. met_next F stage shared.servers shared.routes q b c.meet.new.leader now until next meeting met)
@@ -167,7 +167,7 @@ returns-clause-fewer g c =
     let now = c.work_beside-led.new.workers in
     let b = c.work_beside-led.new.leader in
     let q = c.work_beside-led.new.poster in
-    let told = ap (λ (l : List MuxWorker). length l) c.tell_all.ensures in
+    let informed = ap (λ (l : List MuxWorker). length l) c.give_snapshots.ensures in
     let size = length-map old (with_posts c.args.poster.now) in
     let phase : IsPhase stage.script.commands c.args.leader.now.next place =
     subst (λ (l : List Command). IsPhase l c.args.leader.now.next place) (c.items.ensures
@@ -182,9 +182,9 @@ returns-clause-fewer g c =
     (λ k low high. numbers c.args.leader.now.next c.requires.between.p k phase c.requires.between.at_phase low high)
     last (after c.args.leader.now.next c.requires.between.p phase c.requires.between.at_phase)
     (led_if_ok c.work_beside-led.result (HasLed stage shared.servers c.args.poster.now q c.args.leader.now b) done.0
-    c.work_beside-led.ensures.led) at (c.work_beside-led.ensures.count ∙ told ∙ size) done.1
+    c.work_beside-led.ensures.led) at (c.work_beside-led.ensures.count ∙ informed ∙ size) done.1
     (worked_at F stage shared.servers shared.routes span c.args.poster.now old
-    c.tell_all.new.workers now c.tell_all.ensures c.work_beside-led.ensures.worked) in
+    c.give_snapshots.new.workers now c.give_snapshots.ensures c.work_beside-led.ensures.worked) in
     let low = phase.order in
     if_ok_more (HasMet stage b c.meet.new.leader now until)
     (λ (next : Next). left_of next c.meet.new.leader.next (length stage.script.commands)

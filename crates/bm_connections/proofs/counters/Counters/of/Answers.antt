@@ -4,16 +4,16 @@ use Rattle.bm_connections.proofs.Counting.{can_count_more, past_few, past_long}
 use Rattle.bm_connections.proofs.Passes.{cause_here, past_more}
 use Rattle.bm_connections.proofs.counters.Counters.of.Goals as goal
 
-pub note-requires-clause-room : goal.note-requires-clause-room
-note-requires-clause-room c =
+pub observe-requires-clause-room : goal.observe-requires-clause-room
+observe-requires-clause-room c =
     can_count_more c.args.h.now.stage _ c.loop-place.counters
     (past_few c.items-events.result.now c.loop-place.place (omega (arith, c.loop-place-test.true))) c.loop-place.invariant.counted
 
 pub loop-place-preserved : goal.loop-place-preserved
 loop-place-preserved c = record {
-  counted = past_more (λ past. HasCounted c.args.h.now.stage past c.note.new.self) c.items-events.result.now
+  counted = past_more (λ past. HasCounted c.args.h.now.stage past c.observe.new.self) c.items-events.result.now
       c.loop-place.place _ c.loop-place-test.true
-      (c.in_ok-note.ensures _ (past_long c.items-events.result.now c.loop-place.place c.loop-place-test.true)
+      (c.in_ok-observe.ensures _ (past_long c.items-events.result.now c.loop-place.place c.loop-place-test.true)
       (cause_here c.args.h.now c.items-events.result.now c.loop-place.place _ c.at.result c.items-events.ensures
       c.loop-place-test.true (c.at.ensures ∙ c.requires.causes c.loop-place.place))
       c.loop-place.invariant.counted);

@@ -68,7 +68,7 @@ invariant_of-self-2 c =
     in let none = rw change at c.in_ok-push.ensures.accepted
     in let pushed = c.in_ok-push.ensures.ok ∙ ap (with_change plan) change
     in let long : length c.self.inside.known.items ≡ vec_len c.self.inside.known = search rules
-    in let noted = c.note_kind.ensures ∙ ap (known_after c.args.kind) c.as_mut_slice.ensures.value
+    in let made_known = c.make_known.ensures ∙ ap (known_after c.args.kind) c.as_mut_slice.ensures.value
     in record {
       membership =
           rw pushed (KeepsMembership-change plan racks c.self.invariant.membership c.args.at c.args.kind
@@ -81,8 +81,8 @@ invariant_of-self-2 c =
       numbers = search rules;
       known = λ x l.
           ap (λ (ks : List Bool). get_or ks x.0 false)
-          (with_items_is c.self.inside.known c.note_kind.new.known
-          (ap length noted ∙ length-known_after c.args.kind c.self.inside.known.items ∙ long) ∙ noted)
+          (with_items_is c.self.inside.known c.make_known.new.known
+          (ap length made_known ∙ length-known_after c.args.kind c.self.inside.known.items ∙ long) ∙ made_known)
           ∙ known-after c.self.inside.known.items plan wanted c.args.kind refl may (search rules)
           c.self.invariant.known x l
           ∙ ap (λ (p : Planned). membership.knows p x) (sym pushed);

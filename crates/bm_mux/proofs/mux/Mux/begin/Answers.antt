@@ -13,47 +13,47 @@ use Rattle.bm_mux.proofs.mux.Mux.begin.Goals as goal
 pub invariant_of-self : goal.invariant_of-self
 invariant_of-self c =
     let n = c.self.inside.notes in
-    let heard = c.hear.new.look in
-    let kept : IsKept n.id n.buckets n.version.0 n.clock.0 n.log.items (seen_by heard) =
+    let known = c.learn.new.look in
+    let kept : IsKept n.id n.buckets n.version.0 n.clock.0 n.log.items (seen_by known) =
     kept_later n.id n.buckets n.version.0 n.clock.0 n.log.items (seen_by c.self.inside.look) c.self.invariant.1
-    (seen_by heard) c.hear.ensures.seen in
+    (seen_by known) c.learn.ensures.seen in
     subst (λ l. IsSome l × IsKept n.id n.buckets n.version.0 n.clock.0 n.log.items (seen_by l))
-    (sym c.in_err-guard.ensures.err) (c.hear.ensures.some, kept)
+    (sym c.in_err-guard.ensures.err) (c.learn.ensures.some, kept)
 
 pub switch-done-requires-clause-kept : goal.switch-done-requires-clause-kept
 switch-done-requires-clause-kept c =
     let n = c.self.inside.notes in
     let was = seen_by c.self.inside.look in
-    let heard = seen_by c.hear.new.look in
+    let known = seen_by c.learn.new.look in
     kept_later n.id n.buckets n.version.0 n.clock.0 n.log.items was c.self.invariant.1 c.in_ok-guard.guard
-    (continues_trans was heard c.in_ok-guard.guard c.hear.ensures.seen c.in_ok-guard.ensures.ok)
+    (continues_trans was known c.in_ok-guard.guard c.learn.ensures.seen c.in_ok-guard.ensures.ok)
 
 pub returns-clause-ok : goal.returns-clause-ok
 returns-clause-ok c =
     let n = c.self.inside.notes in
     let was = seen_by c.self.inside.look in
-    let heard = seen_by c.hear.new.look in
+    let known = seen_by c.learn.new.look in
     let seen = c.in_ok-guard.guard in
     let left = c.leave.result in
     let m = c.switch-done.new.self in
     let done = c.switch-done.ensures in
     let back : left ≡ seen = c.leave.ensures.seen in
-    let more = continues_trans was heard seen c.hear.ensures.seen c.in_ok-guard.ensures.ok in
-    let told = continues_trans c.args.told heard seen c.hear.ensures.told c.in_ok-guard.ensures.ok in
+    let more = continues_trans was known seen c.learn.ensures.seen c.in_ok-guard.ensures.ok in
+    let continues = continues_trans c.args.snapshot known seen c.learn.ensures.learned c.in_ok-guard.ensures.ok in
     let old : MuxState = record { id = n.id; seen = was; log = n.log.items } in
     let new : MuxState = record { id = m.id; seen = left; log = m.log.items } in
     let cause : c.max.result ≡ max c.args.after.0 (last_post seen) =
     c.max.ensures ∙ ap (max c.args.after.0) c.clock.ensures.clock in
-    subst (λ (o : MuxState). OnOk c.switch-done.result (HasBegun o c.args.told c.args.after.0 new)) c.self.view_is
+    subst (λ (o : MuxState). OnOk c.switch-done.result (HasBegun o c.args.snapshot c.args.after.0 new)) c.self.view_is
     (on_ok_both c.switch-done.result
     (m.log.items ≡ n.log.items ++ switch_to n.id seen (reverse n.log.items) c.max.result ∷ [])
     (m.version.0 ≡ last_version seen)
-    (HasBegun old c.args.told c.args.after.0 new)
+    (HasBegun old c.args.snapshot c.args.after.0 new)
     (λ log version. record {
       looked = has_looked n.id m.id n.buckets n.version.0 n.clock.0 m.buckets m.version.0 m.clock.0 n.log.items
           m.log.items was seen left
           c.self.invariant.1 more back c.leave.ensures.posted done.same.0 done.kept version;
-      heard = subst (Continues c.args.told) (sym back) told;
+      learned = subst (Continues c.args.snapshot) (sym back) continues;
       log = log ∙ ap (λ k. n.log.items ++ switch_to n.id seen (reverse n.log.items) k ∷ []) cause
           ∙ ap (λ (p : Posted). n.log.items
           ++ switch_to n.id p (reverse n.log.items) (max c.args.after.0 (last_post p)) ∷ []) (sym back);
@@ -64,23 +64,23 @@ pub returns-clause-err : goal.returns-clause-err
 returns-clause-err c =
     let n = c.self.inside.notes in
     let was = seen_by c.self.inside.look in
-    let heard = seen_by c.hear.new.look in
+    let known = seen_by c.learn.new.look in
     let seen = c.in_ok-guard.guard in
     let left = c.leave.result in
     let m = c.switch-done.new.self in
     let back : left ≡ seen = c.leave.ensures.seen in
-    let more = continues_trans was heard seen c.hear.ensures.seen c.in_ok-guard.ensures.ok in
-    let told = continues_trans c.args.told heard seen c.hear.ensures.told c.in_ok-guard.ensures.ok in
+    let more = continues_trans was known seen c.learn.ensures.seen c.in_ok-guard.ensures.ok in
+    let continues = continues_trans c.args.snapshot known seen c.learn.ensures.learned c.in_ok-guard.ensures.ok in
     let old : MuxState = record { id = n.id; seen = was; log = n.log.items } in
     let new : MuxState = record { id = m.id; seen = left; log = m.log.items } in
     subst (λ (o : MuxState). OnErr c.switch-done.result
-    (IsSameMux o new × Continues c.args.told left × (m.log.items ≡ o.log))) c.self.view_is
+    (IsSameMux o new × Continues c.args.snapshot left × (m.log.items ≡ o.log))) c.self.view_is
     (on_err_then c.switch-done.result (m.log.items ≡ n.log.items)
-    (IsSameMux old new × Continues c.args.told left × (m.log.items ≡ n.log.items))
+    (IsSameMux old new × Continues c.args.snapshot left × (m.log.items ≡ n.log.items))
     (λ log. (
       record { id = c.switch-done.ensures.same.0; later = subst (Continues was) (sym back) more },
       subst
-          (Continues c.args.told) (sym back) told,
+          (Continues c.args.snapshot) (sym back) continues,
       log,
     ))
     c.switch-done.ensures.err)

@@ -1,7 +1,7 @@
 use Rattle.std.proofs.Common.{◌≡◌, ◌≤◌, ◌-◌, ◌+◌, ◌++◌, ◌∙◌, ap, ℕ, List, length, take, slice_range, arith, rules}
 use Rattle.std.proofs.lemmas.List.{with_items_is}
 use Rattle.std.specs.Vec.{with_items}
-use Rattle.bm_pcap.specs.Window.{held}
+use Rattle.bm_pcap.specs.Window.{buffered}
 use Rattle.bm_pcap.proofs.Windows.{grown, kept, keeps_same, keeps_more, grows_same, grows_more}
 use Rattle.bm_pcap.proofs.window.Window.read.Goals as goal
 use borrow.Rule.Slice.PartMut.{put_mid, same_len_mid}
@@ -11,7 +11,7 @@ same : (g : _) (c : goal.After-from_residual g)
     → slice_range
     (with_items c.args.self.now.octets
     (put_mid c.args.self.now.upto (length c.deref_mut.result.now - c.args.self.now.upto) c.deref_mut.result.now
-    c.take.new.buf)).items c.args.self.now.from c.args.self.now.upto ≡ held c.args.self.now
+    c.take.new.buf)).items c.args.self.now.from c.args.self.now.upto ≡ buffered c.args.self.now
 same g c =
     let w = c.args.self.now in
     let d : List ℕ = c.deref_mut.result.now in
@@ -29,7 +29,7 @@ more : (g : _) (c : goal.After-self-2-1 g)
     → slice_range
     (with_items c.args.self.now.octets
     (put_mid c.args.self.now.upto (length c.deref_mut.result.now - c.args.self.now.upto) c.deref_mut.result.now
-    c.take.new.buf)).items c.args.self.now.from (c.args.self.now.upto + c.in_ok-count.count) ≡ held c.args.self.now
+    c.take.new.buf)).items c.args.self.now.from (c.args.self.now.upto + c.in_ok-count.count) ≡ buffered c.args.self.now
     ++ take c.in_ok-count.count c.take.new.buf
 more g c =
     let w = c.args.self.now in

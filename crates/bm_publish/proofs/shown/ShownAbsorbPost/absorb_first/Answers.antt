@@ -5,5 +5,5 @@ pub returns-clause-absorbed : goal.returns-clause-absorbed
 returns-clause-absorbed c =
     let table =
     changed_all c.args.operation.now.change c.args.self.now.table c.apply.new.self c.apply.ensures.entries in
-    let told = c.again.ensures.same in
-    cc (table, told)
+    let snapshot = c.again.ensures.same in
+    cc (table, snapshot)

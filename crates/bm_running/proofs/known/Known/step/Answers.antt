@@ -25,7 +25,7 @@ returns c past few knows =
     in let tallies = subst (λ (k : Known). KeepsTallies past k.tallies) same knows.tallies
     in let losses = subst (λ (k : Known). KeepsLosses past k.losses) same knows.losses
     in let moves = subst (λ (k : Known). AreMoves stage.script.plan k.moves) same knows.moves
-    in let noted = sym c.in_ok-note_leaves.ensures.others
+    in let observed = sym c.in_ok-observe_leaves.ensures.others
     in let decides = c.in_ok-may_come.ensures.decides past knows
     in let may = decides.0 came
     in record {
@@ -34,21 +34,21 @@ returns c past few knows =
         knows.run,
       );
       clocks =
-          c.in_ok-note.ensures stage past e (subst (λ (k : Known). KeepsClocks stage past k.clocks) noted clocks) author
+          c.in_ok-observe.ensures stage past e (subst (λ (k : Known). KeepsClocks stage past k.clocks) observed clocks) author
           refl;
       labels =
-          c.note-2.ensures stage past e refl (subst (λ (k : Known). KeepsVersions past k.versions) noted versions)
-          (subst (λ (k : Known). KeepsLabels stage past k.labels) noted labels);
+          c.observe-2.ensures stage past e refl (subst (λ (k : Known). KeepsVersions past k.versions) observed versions)
+          (subst (λ (k : Known). KeepsLabels stage past k.labels) observed labels);
       versions =
-          c.in_ok-note-2.ensures past e refl (subst (λ (k : Known). KeepsVersions past k.versions) noted versions);
-      moves = subst (λ (k : Known). AreMoves stage.script.plan k.moves) noted moves;
+          c.in_ok-observe-2.ensures past e refl (subst (λ (k : Known). KeepsVersions past k.versions) observed versions);
+      moves = subst (λ (k : Known). AreMoves stage.script.plan k.moves) observed moves;
       tallies =
-          c.in_ok-note-3.ensures past e refl few (subst (λ (k : Known). KeepsTallies past k.tallies) noted tallies);
-      losses = c.in_ok-note-4.ensures past few (subst (λ (k : Known). KeepsLosses past k.losses) noted losses);
+          c.in_ok-observe-3.ensures past e refl few (subst (λ (k : Known). KeepsTallies past k.tallies) observed tallies);
+      losses = c.in_ok-observe-4.ensures past few (subst (λ (k : Known). KeepsLosses past k.losses) observed losses);
       shards =
-          subst (λ (k : Known). KeepsShards stage (e ∷ past) k.shards) noted
+          subst (λ (k : Known). KeepsShards stage (e ∷ past) k.shards) observed
           (c.in_ok-may_come.ensures.shards past knows came);
       leaves =
-          c.in_ok-note_leaves.ensures.keeps past
+          c.in_ok-observe_leaves.ensures.keeps past
           (subst (λ (k : Known). KeepsLeaves stage.script.plan (newest past) k.leaves) same knows.leaves) may;
     }

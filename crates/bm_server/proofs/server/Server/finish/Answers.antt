@@ -107,7 +107,7 @@ loop-turnstile-preserved c =
       count = omega (arith, l, n, count);
       books = front_more (IsBookOf server seats) m book (reverse books) (reverse c.push.new.self.items) front
           (book_from server seats m t column book p.column_is some c.requires.count closed.fixed closed.replays
-          closed.below closed.seen closed.told)
+          closed.below closed.seen closed.replies)
           (λ k b at. subst (λ (h : ℕ). IsBookOf server seats h b) (ap (λ (j : ℕ). j + k) l) (i.books k b at));
     }
 

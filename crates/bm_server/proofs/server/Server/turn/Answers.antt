@@ -1,8 +1,8 @@
 use Rattle.std.proofs.Common.{◌≡◌, ◌+◌, ◌≤◌, ◌++◌, map, set, get_or, List, ap, ◌∙◌, subst, arith}
 use Rattle.std.proofs.Math.Seq.{map-set_same}
 use Rattle.bm_turnstile.specs.Sittings.{who}
-use Rattle.bm_server.specs.Seats.{Seated, TakesTurn, most_turns, said, told_at}
-use Rattle.bm_server.proofs.Turns.{inside, takes_turn, turned_reply, turns_at, turns_set, told_set}
+use Rattle.bm_server.specs.Seats.{Seated, TakesTurn, added_at, most_turns, replies_at}
+use Rattle.bm_server.proofs.Turns.{inside, takes_turn, turned_reply, turns_at, turns_set, replies_set}
 use Rattle.bm_server.proofs.server.Server.turn.Goals as goal
 
 pub turn-requires-clause-few : goal.turn-requires-clause-few
@@ -37,15 +37,15 @@ returns-clause-turns g c =
     subst (λ (x : List Seated). most_turns (set l h c.turn.new.seat) ≤ most_turns x + 1) c.seat.view_is
     (turns_set l h s c.turn.new.seat lt more)
 
-pub returns-clause-told : goal.returns-clause-told
-returns-clause-told g c = λ k.
+pub returns-clause-replies : goal.returns-clause-replies
+returns-clause-replies g c = λ k.
     let s = c.index_mut.result.now in
     let l = c.seat.inside.seats.items in
     let h = c.args.shard in
     let call = c.args.call in
     let lt = inside c.args.self.now.tables l c.args.seat.now h c.seat.view_is c.requires.mine c.requires.shard in
-    told_set l h s c.turn.new.seat call c.turn.result lt c.index_mut.ensures.value c.turn.ensures.told k
-    ∙ ap (λ (x : List Seated). told_at x k ++ said h call c.turn.result k) c.seat.view_is
+    replies_set l h s c.turn.new.seat call c.turn.result lt c.index_mut.ensures.value c.turn.ensures.replies k
+    ∙ ap (λ (x : List Seated). replies_at x k ++ added_at h call c.turn.result k) c.seat.view_is
 
 pub returns-clause-turn : goal.returns-clause-turn
 returns-clause-turn g c =

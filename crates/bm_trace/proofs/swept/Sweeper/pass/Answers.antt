@@ -13,5 +13,5 @@ returns-clause-swept c =
     c.requires.swept.known
     in swept_more h shown c.args.place _ c.args.self.now _ c.cause-cause.result
     c.is_stray.result c.items-events.ensures c.requires.place (c.cause-cause.ensures past knows)
-    (c.in_ok-note.ensures past _ refl (length_before h shown c.args.place c.items-events.ensures c.requires.place) knows)
+    (c.in_ok-observe.ensures past _ refl (length_before h shown c.args.place c.items-events.ensures c.requires.place) knows)
     c.is_stray.ensures c.counted-self.ensures c.requires.swept

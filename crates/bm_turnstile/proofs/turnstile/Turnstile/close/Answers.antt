@@ -1,10 +1,10 @@
 use Rattle.std.proofs.Common.{◌≡◌, ℕ, slice_get, Some, length, sym, ap, ◌∙◌}
 use Rattle.bm_turnstile.specs.Sittings.{Sitting}
 use Rattle.bm_turnstile.specs.Seen.{Covers}
-use Rattle.bm_turnstile.specs.Told.{told}
+use Rattle.bm_turnstile.specs.Replies.{replies}
 use Rattle.bm_turnstile.proofs.Entries.{own_covered}
 use Rattle.bm_turnstile.proofs.Places.{all_posts, given_first, covers_at, fixed_at}
-use Rattle.bm_turnstile.proofs.Tellings.{told_covered}
+use Rattle.bm_turnstile.proofs.ReplyLemmas.{replies_covered}
 use Rattle.bm_turnstile.proofs.turnstile.Turnstile.close.Goals as goal
 
 pub closed-requires-clause-own : goal.closed-requires-clause-own
@@ -35,12 +35,12 @@ returns-clause-own g c = λ k s at.
     let b = g.T.Booked in
     own_covered b.seat_of k s.seen (b.entries c.closed.result) (seen g c k s at)
 
-pub returns-clause-told : goal.returns-clause-told
-returns-clause-told g c = λ k s at.
+pub returns-clause-replies : goal.returns-clause-replies
+returns-clause-replies g c = λ k s at.
     let b = g.T.Booked in
     let number : s.number ≡ k = (c.requires.each k s at).«as» in
-    told_covered b.seat_of b.call_of b.reply s.fixed k s.seen (b.entries c.closed.result) (seen g c k s at)
-    ∙ ap (λ (n : ℕ). told b.seat_of b.call_of b.reply s.fixed n s.seen) (sym number)
+    replies_covered b.seat_of b.call_of b.reply s.fixed k s.seen (b.entries c.closed.result) (seen g c k s at)
+    ∙ ap (λ (n : ℕ). replies b.seat_of b.call_of b.reply s.fixed n s.seen) (sym number)
 
 pub returns-clause-fixed : goal.returns-clause-fixed
 returns-clause-fixed g c = λ s at.

@@ -5,10 +5,10 @@ use Rattle.bm_shard.specs.declared.calls.ShardCall.TheVariants.{Close}
 use Rattle.bm_shard.specs.declared.calls.ShardReply.TheVariants.{Closed}
 use Rattle.bm_server.specs.Servings.{Serving, shard_for}
 use Rattle.bm_worker.specs.Callers.{CallerState}
-use Rattle.bm_worker.specs.SeatCalls.{Gains}
+use Rattle.bm_worker.specs.SeatCalls.{AddsCall}
 use Rattle.bm_worker.specs.Views.{caller_state}
 use Rattle.bm_worker.proofs.Replying.{close_later, closes, on_err}
-use Rattle.bm_worker.proofs.Seating.{few_there, gains, mine_there, seat_there, server_got, stays, turns_kept, whos_kept}
+use Rattle.bm_worker.proofs.Seating.{adds_call, adds_no_call, few_there, mine_there, seat_there, server_got, turns_kept, whos_kept}
 use Rattle.bm_worker.proofs.caller.Caller.close.Goals as goal
 
 pub close_flow-answer-requires-clause-mine : goal.close_flow-answer-requires-clause-mine
@@ -58,28 +58,28 @@ returns-clause-same g c = record {
       c.close_flow-answer.ensures.who ∙ ap (λ (x : CallerState). map (map who) x.seats) c.self.view_is;
 }
 
-pub returns-in_err-clock-clause-stays : goal.returns-in_err-clock-clause-stays
-returns-in_err-clock-clause-stays g c = on_err c.from_residual.result (
-    stays c.args.self.now (caller_state c.self.inside) c.args.servers.now c.args.place
+pub returns-in_err-clock-clause-no_call : goal.returns-in_err-clock-clause-no_call
+returns-in_err-clock-clause-no_call g c = on_err c.from_residual.result (
+    adds_no_call c.args.self.now (caller_state c.self.inside) c.args.servers.now c.args.place
     (shard_for c.index-servers-place.result c.args.flow)
     c.index_mut.result.now c.close_flow-answer.new.seat (Close c.args.flow c.args.at) c.close_flow-answer.result
     c.in_err-clock.field-0.0
-    c.self.view_is c.requires.has_seats c.requires.place c.index_mut.ensures.value c.close_flow-answer.ensures.told
+    c.self.view_is c.requires.has_seats c.requires.place c.index_mut.ensures.value c.close_flow-answer.ensures.replies
     c.in_err-clock.ensures)
 
 pub returns-clause-call : goal.returns-clause-call
 returns-clause-call g c = λ server at.
     let here = c.index-servers-place.result in
     let is = server_got c.args.servers.now c.args.place here c.requires.place c.index-servers-place.is in
-    subst (λ (x : Serving). Gains c.args.place (shard_for x c.args.flow) (Close c.args.flow c.args.at)
+    subst (λ (x : Serving). AddsCall c.args.place (shard_for x c.args.flow) (Close c.args.flow c.args.at)
     (Closed c.in_ok-clock.clock c.in_ok-clock.was_held) c.args.self.now.seats
     (set (caller_state c.self.inside).seats c.args.place c.close_flow-answer.new.seat))
     (same_Some here server (sym is ∙ at))
-    (gains c.args.self.now (caller_state c.self.inside) c.args.servers.now c.args.place (shard_for here c.args.flow)
+    (adds_call c.args.self.now (caller_state c.self.inside) c.args.servers.now c.args.place (shard_for here c.args.flow)
     c.index_mut.result.now c.close_flow-answer.new.seat (Close c.args.flow c.args.at) c.close_flow-answer.result
     (Closed c.in_ok-clock.clock c.in_ok-clock.was_held) c.self.view_is c.requires.has_seats c.requires.place
     c.index_mut.ensures.value
-    c.close_flow-answer.ensures.told c.in_ok-clock.ensures)
+    c.close_flow-answer.ensures.replies c.in_ok-clock.ensures)
 
 pub returns-clause-later : goal.returns-clause-later
 returns-clause-later g c =

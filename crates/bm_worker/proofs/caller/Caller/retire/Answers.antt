@@ -5,7 +5,7 @@ use Rattle.bm_shard.specs.declared.calls.ShardReply.TheVariants.{Retired}
 use Rattle.bm_worker.specs.Callers.{CallerState}
 use Rattle.bm_worker.specs.Views.{caller_state}
 use Rattle.bm_worker.proofs.Replying.{on_err, retirement_later, retires}
-use Rattle.bm_worker.proofs.Seating.{few_there, gains, mine_there, seat_there, stays, turns_kept, whos_kept}
+use Rattle.bm_worker.proofs.Seating.{adds_call, adds_no_call, few_there, mine_there, seat_there, turns_kept, whos_kept}
 use Rattle.bm_worker.proofs.caller.Caller.retire.Goals as goal
 
 pub retire-answer-requires-clause-mine : goal.retire-answer-requires-clause-mine
@@ -55,20 +55,20 @@ returns-clause-same g c = record {
       c.retire-answer.ensures.who ∙ ap (λ (x : CallerState). map (map who) x.seats) c.self.view_is;
 }
 
-pub returns-in_err-clock-clause-stays : goal.returns-in_err-clock-clause-stays
-returns-in_err-clock-clause-stays g c = on_err c.from_residual.result (
-    stays c.args.self.now (caller_state c.self.inside) c.args.servers.now c.args.place c.args.shard
+pub returns-in_err-clock-clause-no_call : goal.returns-in_err-clock-clause-no_call
+returns-in_err-clock-clause-no_call g c = on_err c.from_residual.result (
+    adds_no_call c.args.self.now (caller_state c.self.inside) c.args.servers.now c.args.place c.args.shard
     c.index_mut.result.now c.retire-answer.new.seat (Retire c.args.at c.args.outcome) c.retire-answer.result
     c.in_err-clock.field-0.0
-    c.self.view_is c.requires.has_seats c.requires.place c.index_mut.ensures.value c.retire-answer.ensures.told
+    c.self.view_is c.requires.has_seats c.requires.place c.index_mut.ensures.value c.retire-answer.ensures.replies
     c.in_err-clock.ensures)
 
 pub returns-clause-call : goal.returns-clause-call
 returns-clause-call g c =
-    gains c.args.self.now (caller_state c.self.inside) c.args.servers.now c.args.place c.args.shard
+    adds_call c.args.self.now (caller_state c.self.inside) c.args.servers.now c.args.place c.args.shard
     c.index_mut.result.now c.retire-answer.new.seat (Retire c.args.at c.args.outcome) c.retire-answer.result
     (Retired c.in_ok-clock.clock) c.self.view_is c.requires.has_seats c.requires.place c.index_mut.ensures.value
-    c.retire-answer.ensures.told c.in_ok-clock.ensures
+    c.retire-answer.ensures.replies c.in_ok-clock.ensures
 
 pub returns-clause-later : goal.returns-clause-later
 returns-clause-later g c =

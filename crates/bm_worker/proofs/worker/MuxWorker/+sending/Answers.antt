@@ -168,7 +168,7 @@ carry_copy-returns-in_err-clock-clause-carries g t c =
     carries_one_stop (Gives g.F.Fn c.args.shared.now.rule) c.args.shared.now.stage
     c.args.shared.now.servers
     (pending c.args.sending.now.packet c.args.sending.now.hop c.args.sending.now.clock.0 c.args.sending.now.fate) (hop_weight c.args.sending.now.hop) c.args.self.now
-    (record c.args.self.now { caller = c.arrive.new.self }) c.from_residual.result refl c.in_err-clock.ensures.stays
+    (record c.args.self.now { caller = c.arrive.new.self }) c.from_residual.result refl c.in_err-clock.ensures.no_call
     c.in_err-clock.ensures.latest
     c.arrive.ensures.same c.from_residual.ensures.1
 

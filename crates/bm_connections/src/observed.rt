@@ -1,0 +1,218 @@
+//! The pass over the events: what became of each connection's packets.
+ghost use Rattle.std.specs.Prelude.{◌≡◌, ◌<◌, ◌^◌, ◌&&◌, suc, Some, is_some, reverse};
+ghost use Rattle.std.specs.Prelude.{if◌then◌else◌, length, List, None, [], ◌∷◌, OnOk};
+ghost use Rattle.bm_core.specs.Causes as causes;
+ghost use Rattle.bm_core.specs.Past as past;
+ghost use Rattle.bm_core.specs.Runs.{IsRun};
+ghost use Rattle.bm_core.specs.declared.events.Event.{Event};
+ghost use Rattle.bm_core.specs.declared.events.Stage.{Stage};
+ghost use Rattle.bm_trace.specs.CauseOf.{is_break};
+ghost use Rattle.bm_trace.specs.Swept.{AreCauses};
+ghost use Rattle.bm_trace.specs.Totals as totals;
+ghost use Rattle.bm_connections.specs.Connections as spec;
+ghost use Rattle.bm_connections.specs.Inside.Rows as kept;
+ghost use Rattle.bm_connections.specs.Seen.{records_of};
+ghost use Rattle.bm_connections.specs.Waits.{wait_of};
+
+use crate::connection::{Break, Connection, Forwarding, Tally};
+use crate::rows::Rows;
+use crate::stamps::Stamps;
+use bm_base::{Memory, ServerId};
+use bm_core::{Cause, Event, History, Verdict, What};
+use bm_trace::CauseList;
+use std::alloc::Global;
+
+/// One more, if `so` holds.
+pub(crate) fn one_more(so: bool, count: u64) -> u64
+    requires { suc count < 2 ^ 64 }
+    ensures { result ≡ spec.one_more so count }
+{
+    if so { count + 1 } else { count }
+}
+
+pub(crate) fn is_accept(verdict: Verdict) -> bool
+    ensures { result ≡ past.is_accept verdict }
+{
+    matches!(verdict, Verdict::Accept)
+}
+
+pub(crate) fn is_process(verdict: Verdict) -> bool
+    ensures { result ≡ causes.is_process verdict }
+{
+    matches!(verdict, Verdict::Process(_))
+}
+
+fn is_forward(verdict: Verdict) -> bool
+    ensures { result ≡ past.is_forward verdict }
+{
+    matches!(verdict, Verdict::Forward(_))
+}
+
+fn is_reset(verdict: Verdict) -> bool
+    ensures { result ≡ totals.is_reset verdict }
+{
+    matches!(verdict, Verdict::Reset(_))
+}
+
+fn is_drop(verdict: Verdict) -> bool
+    ensures { result ≡ totals.is_drop verdict }
+{
+    matches!(verdict, Verdict::Drop(_))
+}
+
+/// The counts after an arrival with this verdict, which is a drop, a reset, a stray or none of these.
+fn tallied(verdict: Verdict, broke: bool, t: &Tally) -> Tally
+    requires { kept.HasRoom t.now }
+    ensures { result ≡ kept.tallied verdict broke t.now }
+{
+    Tally {
+        accepted: one_more(is_accept(verdict), t.accepted),
+        processed: one_more(is_process(verdict), t.processed),
+        forwarded: one_more(is_forward(verdict), t.forwarded),
+        reset: one_more(is_reset(verdict), t.reset),
+        dropped: one_more(is_drop(verdict), t.dropped),
+        stray: one_more(is_process(verdict) && broke, t.stray),
+    }
+}
+
+/// What broke a connection first, after an arrival of one of its packets.
+fn broken_after(before: &Connection, arrival: Break) -> Option<Break>
+    ensures { result ≡ spec.first_of_two before.now.broken
+        (if is_some arrival.cause && is_some before.now.server then Some arrival else None) }
+{
+    match before.broken {
+        Some(first) => Some(first),
+        None if arrival.cause.is_some() && before.server.is_some() => Some(arrival),
+        None => None,
+    }
+}
+
+/// The server that accepted a connection last, after an arrival of one of its packets.
+fn server_after(arrival: &Break, before: Option<ServerId>) -> Option<ServerId>
+    ensures { result ≡ kept.server_after arrival.now before }
+{
+    if is_accept(arrival.verdict) {
+        Some(arrival.server)
+    } else {
+        before
+    }
+}
+
+/// What was forwarded last, after an arrival with this wait.
+fn forwarded_after(arrival: &Break, wait: u64, before: Option<Forwarding>) -> Option<Forwarding>
+    ensures { result ≡ kept.forwarded_after arrival.now wait before }
+{
+    if is_forward(arrival.verdict) {
+        Some(Forwarding {
+            packet: arrival.packet,
+            clock: arrival.clock,
+            server: arrival.server,
+            wait,
+        })
+    } else {
+        before
+    }
+}
+
+/// What refused a connection, after an arrival, if it then has this server.
+fn refused_after(arrival: Break, server: Option<ServerId>, before: Option<Break>) -> Option<Break>
+    ensures { result ≡ kept.refused_after arrival server before }
+{
+    match (server, before) {
+        (Some(_), _) => None,
+        (None, Some(first)) => Some(first),
+        (None, None) if arrival.cause.is_some() => Some(arrival),
+        (None, None) => None,
+    }
+}
+
+/// An arrival as a break, with this cause.
+pub(crate) fn as_break(event: &Event, cause: Option<Cause>) -> Option<Break>
+    ensures { result ≡ spec.as_break event.now.clock event.now.what cause }
+{
+    match event.what {
+        What::Arrive {
+            packet,
+            server,
+            verdict,
+            ..
+        } => Some(Break {
+            packet,
+            clock: event.clock,
+            server,
+            verdict,
+            cause,
+        }),
+        _ => None,
+    }
+}
+
+impl Connection {
+    /// Records an arrival of one of its packets, with this wait.
+    fn observe(&mut self, arrival: Break, wait: u64)
+        requires { kept.HasRoom self.old.tally }
+        ensures { self.new ≡ kept.observed arrival wait self.old }
+    {
+        self.broken = broken_after(self, arrival);
+        self.server = server_after(&arrival, self.server);
+        self.tally = tallied(arrival.verdict, arrival.cause.is_some(), &self.tally);
+        self.forwarded = forwarded_after(&arrival, wait, self.forwarded);
+        self.refused = refused_after(arrival, self.server, self.refused);
+    }
+}
+
+impl Rows {
+    /// Records an arrival of a packet of the connection at this place.
+    fn observe_arrival(&mut self, place: usize, arrival: Break, wait: u64)
+        requires place { place < length self.old.connections.items }
+        requires room { kept.HasRoomAt self.old.connections.items place }
+        ensures places { self.new.places ≡ self.old.places }
+        ensures connections { self.new.connections.items
+            ≡ kept.changed_at (kept.observed arrival wait) self.old.connections.items place }
+    {
+        self.connections[place].observe(arrival, wait);
+    }
+
+    /// Records the event that comes next, with this cause and this wait.
+    fn observe(&mut self, event: &Event, cause: Option<Cause>, wait: u64)
+        requires { kept.HasRoomForEach self.old }
+        ensures { (stage : Stage) (past : List Event)
+            → kept.AreRows stage (records_of stage) past self.old
+            → cause ≡ causes.cause stage past event.now.clock.0 event.now.what
+            → is_some cause ≡ is_break stage past event.now.what
+            → wait ≡ wait_of stage past event.now.clock.0 event.now.what
+            → kept.AreRows stage (records_of stage) (event.now ∷ past) self.new }
+    {
+        match as_break(event, cause) {
+            None => {}
+            Some(arrival) => match self.place_of(arrival.packet) {
+                None => {}
+                Some(place) => self.observe_arrival(place, arrival, wait),
+            },
+        }
+    }
+}
+
+/// Records all events.
+pub(crate) fn observe_events(
+    alloc: Global,
+    rows: &mut Rows,
+    h: &History,
+    causes: &CauseList,
+) -> Result<(), Memory>
+    requires run { IsRun h.now }
+    requires causes { AreCauses h.now causes.now }
+    requires rows { kept.AreRows h.now.stage (records_of h.now.stage) [] rows.old }
+    ensures { OnOk result
+        (kept.AreRows h.now.stage (records_of h.now.stage) (reverse h.now.events) rows.new) }
+{
+    let events = h.events.items();
+    let mut stamps = Stamps::new(alloc, &h.stage)?;
+    for (place, event) in events.iter().enumerate() {
+        let cause = causes.at(place);
+        let wait = stamps.wait(&h.stage, event);
+        rows.observe(event, cause, wait);
+        stamps.observe(event.what)?;
+    }
+    Ok(())
+}

@@ -1,0 +1,5 @@
+use Rattle.std.proofs.Common.{rules}
+use Rattle.bm_publish.proofs.look.Look.learn.Goals as goal
+
+pub returns-clause-learned : goal.returns-clause-snapshot
+returns-clause-learned c = search rules

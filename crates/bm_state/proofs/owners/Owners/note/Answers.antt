@@ -1,6 +1,0 @@
-use Rattle.std.proofs.Common.{◌∙◌}
-use Rattle.bm_state.proofs.owners.Owners.note.Goals as goal
-
-pub returns-in-Steer : goal.returns-in-Steer
-returns-in-Steer c past e is at labels keeps =
-    c.note_steer.ensures past e c.in-Steer.mux (is ∙ c.in-Steer.is) keeps
