@@ -34,7 +34,7 @@ pub fn sums(h: &History)
     ensures stray { sum_by (λ c. c.tally.stray) (connections h.now) ≡ (totals_of h.now).stray }
 {}
 
-/// A connection has a first break exactly if one of the events breaks it.
+/// A connection is broken exactly if one of the events breaks it.
 pub fn broken(h: &History)
     ensures { (f : Flow) → is_some (connection_in h.now f).broken
         ≡ is_broken h.now.stage f (reverse h.now.events) }

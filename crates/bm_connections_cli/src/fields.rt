@@ -160,7 +160,7 @@ impl Fields {
     }
 
     /// Appends the first packet that broke or refused a connection, or nothing.
-    fn first_break(self, clock: Clock, found: Option<Break>) -> Result<Fields, AllocError>
+    fn break_fields(self, clock: Clock, found: Option<Break>) -> Result<Fields, AllocError>
         ensures { IfOk result (λ fields. fields ≡ self ++ spec.break_fields clock.0 found) }
     {
         match found {
@@ -216,9 +216,9 @@ fn connection_fields(
 {
     seen_fields(alloc, clock, c)?
         .tally(c.tally)?
-        .first_break(clock, c.broken)?
+        .break_fields(clock, c.broken)?
         .forwarded(clock, c.forwarded)?
-        .first_break(clock, c.refused)?
+        .break_fields(clock, c.refused)?
         .rack(shown_rack(racks, c.server))
 }
 

@@ -14,7 +14,7 @@ use Rattle.bm_merge.specs.Notes.{Note}
 use Rattle.bm_merge.specs.Workers.{is_home}
 use Rattle.bm_server.specs.Servings.{Serving, shard_at}
 use Rattle.bm_server.specs.Seats.{Seated}
-use Rattle.bm_worker.specs.WorkerNotes.{GetReplies, IsSameCaller, HasSeats, due_events}
+use Rattle.bm_worker.specs.WorkerNotes.{GetReplies, IsSameCaller, HasSeats, timed_events}
 use Rattle.bm_worker.specs.Inside.WorkerNotes.{retiring}
 use Rattle.bm_worker.specs.Callers.{CallerState}
 use Rattle.bm_worker.specs.SeatCalls.{calls_there}
@@ -34,7 +34,7 @@ change_early stage v change sound is =
 pub gets_elsewhere : (stage : Stage) (servers : List Serving) (a b : List (List Seated)) (n : Note) → b ≡ a
     → ((s h : ℕ) → is_home stage (ShardOf s h) n ≡ false) → GetReplies stage servers a b (n ∷ [])
 gets_elsewhere stage servers a b n same away s h server at =
-    rw (same, away server.id.0 h) (sym (append-nil (due_events (shard_at server h) (calls_there a s h))))
+    rw (same, away server.id.0 h) (sym (append-nil (timed_events (shard_at server h) (calls_there a s h))))
 
 pub same_caller : (a b d : CallerState) → IsSameCaller a b → IsSameCaller b d → IsSameCaller a d
 same_caller a b d first then =

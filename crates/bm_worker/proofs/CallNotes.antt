@@ -27,7 +27,7 @@ use Rattle.bm_shard.specs.declared.calls.ShardReply.TheVariants.{Arrived, Closed
 use Rattle.bm_server.specs.Servings.{Serving}
 use Rattle.bm_server.specs.Seats.{Answered, Seated}
 use Rattle.bm_server.specs.Servings.{shard_at, shard_for}
-use Rattle.bm_worker.specs.WorkerNotes.{GetReplies, DueEvent, AreServersOf, noted, due_event, due_events}
+use Rattle.bm_worker.specs.WorkerNotes.{GetReplies, TimedEvent, AreServersOf, noted, timed_event, timed_events}
 use Rattle.bm_worker.specs.Inside.WorkerNotes.{arrival, closing, retiring}
 use Rattle.bm_worker.specs.SeatCalls.{AddsCall, AddsNoCall, calls_there}
 use Rattle.bm_worker.specs.Arrivals.{HasCome}
@@ -39,30 +39,30 @@ pub noted-append : (stage : Stage) (a : Actor) (y x : List Note) → noted stage
     ++ noted stage a y
 noted-append stage a [] x = sym (append-nil (noted stage a x))
 noted-append stage a (n ∷ y) x =
-    let last : List DueEvent = cond (is_home stage a n) ((n.event, n.due) ∷ []) [] in
-    ap (λ (l : List DueEvent). l ++ last) (noted-append stage a y x) ∙ append_assoc (noted stage a x) (noted stage a y) last
+    let last : List TimedEvent = cond (is_home stage a n) ((n.event, n.due) ∷ []) [] in
+    ap (λ (l : List TimedEvent). l ++ last) (noted-append stage a y x) ∙ append_assoc (noted stage a x) (noted stage a y) last
 
 pub gets_none : (stage : Stage) (servers : List Serving) (a : List (List Seated)) → GetReplies stage servers a a []
-gets_none stage servers a s h server at = sym (append-nil (due_events (shard_at server h) (calls_there a s h)))
+gets_none stage servers a s h server at = sym (append-nil (timed_events (shard_at server h) (calls_there a s h)))
 
 pub gets_more : (stage : Stage) (servers : List Serving) (a b d : List (List Seated)) (x y : List Note)
     → GetReplies stage servers a b x → GetReplies stage servers b d y → GetReplies stage servers a d (y ++ x)
 gets_more stage servers a b d x y first then s h server at =
     let actor = ShardOf server.id.0 h in
-    then s h server at ∙ (ap (λ (l : List DueEvent). l ++ noted stage actor y) (first s h server at)
-    ∙ (append_assoc (due_events (shard_at server h) (calls_there a s h)) (noted stage actor x) (noted stage actor y)
-    ∙ ap (λ (l : List DueEvent). due_events (shard_at server h) (calls_there a s h) ++ l) (sym (noted-append stage actor y x))))
+    then s h server at ∙ (ap (λ (l : List TimedEvent). l ++ noted stage actor y) (first s h server at)
+    ∙ (append_assoc (timed_events (shard_at server h) (calls_there a s h)) (noted stage actor x) (noted stage actor y)
+    ∙ ap (λ (l : List TimedEvent). timed_events (shard_at server h) (calls_there a s h) ++ l) (sym (noted-append stage actor y x))))
 
 pub gets_no_call : (stage : Stage) (servers : List Serving) (a b : List (List Seated)) → AddsNoCall a b
     → GetReplies stage servers a b []
 gets_no_call stage servers a b same s h server at =
-    ap (due_events (shard_at server h)) (same s h) ∙ sym (append-nil (due_events (shard_at server h) (calls_there a s h)))
+    ap (timed_events (shard_at server h)) (same s h) ∙ sym (append-nil (timed_events (shard_at server h) (calls_there a s h)))
 
 -- ONE NOTE
 
-due_cond : (f : Answered → DueEvent) (b : Bool) (p : Answered) (q : DueEvent) → (b ≡ true → f p ≡ q)
+due_cond : (f : Answered → TimedEvent) (b : Bool) (p : Answered) (q : TimedEvent) → (b ≡ true → f p ≡ q)
     → map f (cond b (p ∷ []) []) ≡ cond b (q ∷ []) []
-due_cond f true p q same = ap (λ (x : DueEvent). x ∷ []) (same refl)
+due_cond f true p q same = ap (λ (x : TimedEvent). x ∷ []) (same refl)
 due_cond f false p q same = refl
 
 same_test : (i j : ServerId) (s place n m h : ℕ) → (i ≡ j → s ≡ place) → (s ≡ place → i ≡ j) → n ≡ m
@@ -88,7 +88,7 @@ gets_call : (stage : Stage) (servers : List Serving) (place number home : ℕ) (
     (reply : ShardReply)
     (n : Note) (a b : List (List Seated)) → AreServersOf stage servers → slice_get servers place ≡ Some server
     → AddsCall place number call reply a b → number ≡ home
-    → due_event (shard_at server number) (call, reply) ≡ (n.event, n.due)
+    → timed_event (shard_at server number) (call, reply) ≡ (n.event, n.due)
     → ((i h : ℕ) → is_home stage (ShardOf i h) n ≡ (server.id.0 == i) && (home == h)) → GetReplies stage servers a b (n ∷ [])
 gets_call stage servers place number home server call reply n a b servers_are at adds same due_is homes s h server' at' =
     let about = shard_at server' h in
@@ -97,15 +97,15 @@ gets_call stage servers place number home server call reply n a b servers_are at
     homes server'.id.0 h
     ∙ same_test server'.id server.id s place number home h (differ servers servers_are.rise s place server' server at' at)
     (λ e. ap (λ (x : Serving). x.id) (same_Some server' server (sym at' ∙ (ap (slice_get servers) e ∙ at)))) same in
-    let due : here ≡ true → due_event about (call, reply) ≡ (n.event, n.due) = λ yes.
+    let due : here ≡ true → timed_event about (call, reply) ≡ (n.event, n.due) = λ yes.
     let both = both_true (s == place) (h == number) yes in
     let e : s ≡ place = eqb-true s place both.0 in
     let one : server' ≡ server = same_Some server' server (sym at' ∙ (ap (slice_get servers) e ∙ at)) in
-    (λ i. due_event (shard_at (one i) (eqb-true h number both.1 i)) (call, reply)) ∙ due_is in
-    ap (due_events about) (adds s h) ∙ (map-append (due_event about) (calls_there a s h) (cond here ((call, reply) ∷ []) [])
-    ∙ (ap (λ (l : List DueEvent). due_events about (calls_there a s h) ++ l)
-    (due_cond (due_event about) here (call, reply) (n.event, n.due) due)
-    ∙ ap (λ (x : Bool). due_events about (calls_there a s h) ++ cond x ((n.event, n.due) ∷ []) []) (sym test)))
+    (λ i. timed_event (shard_at (one i) (eqb-true h number both.1 i)) (call, reply)) ∙ due_is in
+    ap (timed_events about) (adds s h) ∙ (map-append (timed_event about) (calls_there a s h) (cond here ((call, reply) ∷ []) [])
+    ∙ (ap (λ (l : List TimedEvent). timed_events about (calls_there a s h) ++ l)
+    (due_cond (timed_event about) here (call, reply) (n.event, n.due) due)
+    ∙ ap (λ (x : Bool). timed_events about (calls_there a s h) ++ cond x ((n.event, n.due) ∷ []) []) (sym test)))
 
 -- the shard of a flow at a server of the stage
 pub same_shard : (stage : Stage) (servers : List Serving) (place : ℕ) (server : Serving) (flow : Flow)

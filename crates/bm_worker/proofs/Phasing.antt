@@ -30,7 +30,7 @@ use Rattle.bm_worker.specs.declared.worker.MuxWorker.{MuxWorker}
 use Rattle.bm_worker.specs.Inside.Batches.{AreDrawn, HasSeen, IsDelivery, IsItemOf}
 use Rattle.bm_worker.specs.Inside.Batches.{IsLogged, Rise}
 use Rattle.bm_worker.specs.Inside.Batches.{last_packet, last_sent, sent_notes, steering, switch_note, switch_notes}
-use Rattle.bm_worker.specs.WorkerNotes.{DueEvent, GetReplies, clock_of, due_events}
+use Rattle.bm_worker.specs.WorkerNotes.{TimedEvent, GetReplies, clock_of, timed_events}
 use Rattle.bm_worker.specs.SeatCalls.{calls_there}
 use Rattle.bm_worker.specs.Inside.Pending.{GrowsByLosses}
 use Rattle.bm_worker.specs.Phases.{AreCopies, IsPhaseNote, IsMuxGiven}
@@ -132,9 +132,9 @@ pub gets_steerings : (stage : Stage) (servers : List Serving) (m : MuxId) (x : L
     → b ≡ a → AreSteerings m x
     → GetReplies stage servers a b x
 gets_steerings stage servers m x a b same kinds p h server at =
-    let events = due_events (shard_at server h) (calls_there a p h) in
-    ap (λ (l : List (List Seated)). due_events (shard_at server h) (calls_there l p h)) same
-    ∙ (sym (append-nil events) ∙ ap (λ (l : List DueEvent). events ++ l) (sym (steerings_noted stage m server.id.0 h x kinds)))
+    let events = timed_events (shard_at server h) (calls_there a p h) in
+    ap (λ (l : List (List Seated)). timed_events (shard_at server h) (calls_there l p h)) same
+    ∙ (sym (append-nil events) ∙ ap (λ (l : List TimedEvent). events ++ l) (sym (steerings_noted stage m server.id.0 h x kinds)))
 
 -- THE STEP OF A BATCH
 

@@ -61,18 +61,18 @@ pub record AreServersOf (stage : Stage) (servers : List Serving) : Type 0 where
 -- THE CALLS OF THE SEATS
 
 -- an event, and the moment that was passed to the shard
-abbrev pub DueEvent : Type 0
-DueEvent = Event × ℕ
+abbrev pub TimedEvent : Type 0
+TimedEvent = Event × ℕ
 
-abbrev pub due_event : Shard → Answered → DueEvent
-due_event shard a = (event_of_call shard a.0 a.1, (call_moment a.0).0)
+abbrev pub timed_event : Shard → Answered → TimedEvent
+timed_event shard a = (event_of_call shard a.0 a.1, (call_moment a.0).0)
 
 -- the events of these calls with their replies, in order
-abbrev pub due_events : Shard → List Answered → List DueEvent
-due_events shard calls = map (due_event shard) calls
+abbrev pub timed_events : Shard → List Answered → List TimedEvent
+timed_events shard calls = map (timed_event shard) calls
 
 -- what the notes say about one actor's log, the oldest first
-abbrev pub noted : Stage → Actor → List Note → List DueEvent
+abbrev pub noted : Stage → Actor → List Note → List TimedEvent
 noted stage a [] = []
 noted stage a (n ∷ notes) =
     noted stage a notes ++ (if is_home stage a n then (n.event, n.due) ∷ [] else [])
@@ -81,8 +81,8 @@ noted stage a (n ∷ notes) =
 abbrev pub GetReplies : Stage → List Serving → List (List Seated) → List (List Seated) → List Note
     → Type 0
 GetReplies stage servers a b notes = (s h : ℕ) (server : Serving) → slice_get servers s ≡ Some server
-    → due_events (shard_at server h) (calls_there b s h)
-    ≡ due_events (shard_at server h) (calls_there a s h) ++ noted stage (ShardOf server.id.0 h) notes
+    → timed_events (shard_at server h) (calls_there b s h)
+    ≡ timed_events (shard_at server h) (calls_there a s h) ++ noted stage (ShardOf server.id.0 h) notes
 
 -- NOTES
 

@@ -31,7 +31,7 @@ use Rattle.bm_merge.proofs.Keeping.{no_notes}
 use Rattle.bm_server.specs.Seats.{Answered, Seated, replies_in, seat_of}
 use Rattle.bm_server.specs.Servings.{Serving, shard_at}
 use Rattle.bm_turnstile.specs.Seen.{AllBelow}
-use Rattle.bm_worker.specs.WorkerNotes.{NumbersRise, due_events, noted, AreServersOf}
+use Rattle.bm_worker.specs.WorkerNotes.{NumbersRise, timed_events, noted, AreServersOf}
 use Rattle.bm_worker.proofs.Numbered.{differ}
 use Rattle.bm_worker.specs.Phases.{mux_log, IsCopyCall, AreCopies}
 use Rattle.bm_worker.specs.SeatCalls.{calls_there}
@@ -211,7 +211,7 @@ replies_of_book stage servers rows controller carriers s h server entries done h
           replays
           (home_each (λ n. n.seat ≡ w) stage (ShardOf server.id.0 h) (notes_by (controller ∷ carriers) w)
           (seat_notes stage servers rows controller carriers done w))
-          (ap (λ (l : List Answered). due_events (shard_at server h) l) (replies w seats.0 seats.1)
+          (ap (λ (l : List Answered). timed_events (shard_at server h) l) (replies w seats.0 seats.1)
           ∙ done.replies w seats.0 seats.1 s h server here)
       | inr high ↦
           let none : notes_by (controller ∷ carriers) w ≡ [] = no_notes (controller ∷ carriers) w

@@ -33,7 +33,7 @@ use Rattle.bm_merge.proofs.Underway.{underway_bounded}
 use Rattle.bm_publish.specs.Posts.{Posted}
 use Rattle.bm_server.specs.Seats.{Seated}
 use Rattle.bm_server.specs.Servings.{Serving, shard_at}
-use Rattle.bm_worker.specs.WorkerNotes.{GetReplies, DueEvent, AreServersOf, clock_of, noted, due_events}
+use Rattle.bm_worker.specs.WorkerNotes.{GetReplies, TimedEvent, AreServersOf, clock_of, noted, timed_events}
 use Rattle.bm_worker.specs.Phases.{AreCopies, mux_log}
 use Rattle.bm_worker.specs.Phases.{IsPlaced as IsCarriedAt}
 use Rattle.bm_worker.specs.Callers.{CallerState}
@@ -268,8 +268,8 @@ gets_publishes : (stage : Stage) (servers : List Serving) (a b : CallerState) (x
     → AllByRecursion (λ n. is_publish n.event.what ≡ true) x → b ≡ a → GetReplies stage servers a.seats b.seats x
 gets_publishes stage servers a b x kinds same =
     subst (λ (z : CallerState). GetReplies stage servers a.seats z.seats x) (sym same) (λ s h server at.
-    sym (append-nil (due_events (shard_at server h) (calls_there a.seats s h)))
-    ∙ ap (λ (l : List DueEvent). due_events (shard_at server h) (calls_there a.seats s h) ++ l)
+    sym (append-nil (timed_events (shard_at server h) (calls_there a.seats s h)))
+    ∙ ap (λ (l : List TimedEvent). timed_events (shard_at server h) (calls_there a.seats s h) ++ l)
     (sym (none_noted stage server.id.0 h x kinds)))
 
 -- what was posted, at last

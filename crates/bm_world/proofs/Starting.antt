@@ -20,7 +20,7 @@ use Rattle.bm_mux.specs.Muxes.{MuxState}
 use Rattle.bm_publish.specs.Posts.{Posted}
 use Rattle.bm_server.specs.Seats.{Answered, Seated, row}
 use Rattle.bm_server.specs.Servings.{Serving, shard_at}
-use Rattle.bm_worker.specs.WorkerNotes.{due_events, HasSeats}
+use Rattle.bm_worker.specs.WorkerNotes.{timed_events, HasSeats}
 use Rattle.bm_worker.specs.Phases.{AreCopies, IsCopyCall}
 use Rattle.bm_worker.specs.Callers.{CallerState}
 use Rattle.bm_worker.specs.SeatCalls.{calls_there}
@@ -39,7 +39,7 @@ use Rattle.bm_world.proofs.MakingWorkers.{all_at}
 
 have_none : (stage : Stage) (servers : List Serving) (seats : List (List Seated))
     → ((s h : ℕ) → calls_there seats s h ≡ []) → HaveReplies stage servers seats []
-have_none stage servers seats none s h server at = ap (λ (l : List Answered). due_events (shard_at server h) l) (none s h)
+have_none stage servers seats none s h server at = ap (λ (l : List Answered). timed_events (shard_at server h) l) (none s h)
 
 no_copies : (stage : Stage) (m : MuxId) (servers : List Serving) (past : List Event) (seats : List (List Seated))
     → ((s h : ℕ) → calls_there seats s h ≡ []) → AreCopies stage m servers past seats

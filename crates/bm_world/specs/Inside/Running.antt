@@ -17,7 +17,7 @@ use Rattle.bm_merge.specs.Workers.{home_part, notes_by, notes_of_all, looks_sinc
 use Rattle.bm_merge.proofs.Phasing.{IsPhased}
 use Rattle.bm_server.specs.Seats.{Seated}
 use Rattle.bm_server.specs.Servings.{Serving, shard_at}
-use Rattle.bm_worker.specs.WorkerNotes.{clock_of, noted, due_events, HasSeats}
+use Rattle.bm_worker.specs.WorkerNotes.{clock_of, noted, timed_events, HasSeats}
 use Rattle.bm_worker.specs.Phases.{mux_log, AreCopies, IsPlaced, is_steer}
 use Rattle.bm_worker.specs.Phases.{notes_per_packet, entries_per_packet, tries_per_packet}
 use Rattle.bm_worker.specs.SeatCalls.{calls_there}
@@ -29,7 +29,7 @@ use Rattle.bm_world.specs.Inside.Returned.{control_log, IsCarriage}
 abbrev pub HaveReplies : Stage → List Serving → List (List Seated) → List Note → Type 0
 HaveReplies stage servers seats notes =
     (s h : ℕ) (server : Serving) → slice_get servers s ≡ Some server
-    → due_events (shard_at server h) (calls_there seats s h) ≡ noted stage (ShardOf server.id.0 h) notes
+    → timed_events (shard_at server h) (calls_there seats s h) ≡ noted stage (ShardOf server.id.0 h) notes
 
 -- the worker of mux m, after this many phases, in which the records before this place were carried
 pub record IsAtWork (R : Routes) (F : Rules) (stage : Stage) (servers : List Serving)
