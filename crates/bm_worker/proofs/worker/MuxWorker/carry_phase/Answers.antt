@@ -1,5 +1,5 @@
 use Rattle.std.proofs.Common.{◌≡◌, ◌+◌, ◌<◌, Some, None, refl, sym, ap, ◌∙◌, subst}
-use Rattle.std.proofs.Common.{arith}
+use Rattle.std.proofs.Common.{arith, rules}
 use Rattle.std.proofs.lemmas.Option.{same_Some}
 use Rattle.bm_fault.specs.Faults.{Gives}
 use Rattle.bm_base.specs.declared.ids.MuxId.{MuxId}
@@ -106,3 +106,12 @@ carry_batch-requires-clause-can g c κs within =
       steps = let a = ready.steps in let b = i.steps in omega (arith, a, b, from, lt);
       room = let a = ready.room in let b = i.log in omega (arith, a, b, from, lt);
     }
+
+pub carry_batch-requires-clause-until : goal.carry_batch-requires-clause-until
+carry_batch-requires-clause-until g c = search rules
+
+pub returns-in_err-next-clause-grown : goal.returns-in_err-next-clause-grown
+returns-in_err-next-clause-grown g c = search rules
+
+pub returns-in_err-next-clause-ended : goal.returns-in_err-next-clause-ended
+returns-in_err-next-clause-ended g c = search rules
