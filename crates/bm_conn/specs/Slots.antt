@@ -1,5 +1,6 @@
 -- The slots of a table: open addressing, with linear probing from each flow's home.
-use Rattle.std.specs.Prelude.{◌≡◌, ℕ, ◌+◌, ◌-◌, ◌%◌, ◌<◌, Bool, true, false, if◌then◌else◌}
+use Rattle.std.specs.Prelude.{◌≡◌, ℕ, ◌+◌, ◌-◌, ◌/◌, ◌%◌, ◌^◌, ◌<◌, Bool, true, false}
+use Rattle.std.specs.Prelude.{if◌then◌else◌}
 use Rattle.std.specs.Prelude.{nat_le, List, length, slice_index_or, ◌⊎◌}
 use Rattle.bm_base.specs.declared.flow.Flow.{Flow}
 use Rattle.bm_base.specs.Segments.{same_flow}
@@ -25,9 +26,11 @@ is_of f (Used g receiver) = same_flow g f
 unfoldable pub distance : ℕ → ℕ → ℕ → ℕ
 distance count from to = if nat_le from to then to - from else to + count - from
 
--- where the flow's probe begins, among this many places
+-- where the flow's probe begins, among this many places: by the hash without its low 40 bits, since
+-- the low bits choose the bucket, those from bit 32 on the shard, and a shard has the flows of few
+-- buckets
 unfoldable pub home : ℕ → Flow → ℕ
-home count f = flow_hash f % count
+home count f = flow_hash f / 2 ^ 40 % count
 
 -- each flow's probe from its home up to its slot, wrapping around at the end, has no free slot
 pub record AreReached (slots : List Slot) (count : ℕ) : Type 0 where

@@ -51,7 +51,7 @@ pub(crate) fn home(count: usize, flow: &Flow) -> usize
     ensures within { result < count }
     ensures home { result ≡ slots.home count flow.now }
 {
-    remainder(flow_hash(flow), count as u64) as usize
+    remainder(flow_hash(flow) >> 40, count as u64) as usize
 }
 
 /// The next place, wrapping around at the end.
@@ -108,6 +108,7 @@ fn shift(places: &mut [Slot], hole: usize, place: usize, flow: &Flow) -> usize
 }
 
 /// Closes the hole at the start: shifts back what follows, until a slot is free.
+#[inline(never)]
 pub(crate) fn close_up(places: &mut [Slot], start: usize)
     requires few { length places.old ≤ 2 ^ 32 }
     requires spare { length (used places.old) + 2 ≤ length places.old }
@@ -148,6 +149,7 @@ fn receiver_of(slot: Slot) -> Option<Receiver>
 }
 
 /// Searches for the flow.
+#[inline(always)]
 pub(crate) fn look(places: &[Slot], flow: &Flow) -> Found
     requires few { length places.now ≤ 2 ^ 32 }
     requires spare { length (used places.now) < length places.now }
@@ -209,6 +211,7 @@ pub(crate) fn take(places: &mut [Slot], found: Found) -> bool
 }
 
 /// Puts the flows of the old slots into the new ones, which are free and more than enough.
+#[inline(never)]
 pub(crate) fn move_all(old: &[Slot], places: &mut [Slot])
     requires few { length places.old ≤ 2 ^ 32 }
     requires spare { length (used old.now) < length places.old }

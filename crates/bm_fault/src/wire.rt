@@ -1,5 +1,7 @@
 //! The copies that are under way, by their due moments.
-ghost use Rattle.std.specs.Prelude.{◌≡◌, List, [], MatchResult};
+ghost use Rattle.std.specs.Prelude.{◌≡◌, ◌≤◌, List, [], MatchResult, OnErr, OnOk};
+ghost use Rattle.std.specs.VecDeque.{deque_len};
+ghost use Rattle.std.specs.List.{insert};
 ghost use Rattle.bm_fault.specs.Flying.{Flying};
 ghost use Rattle.bm_fault.specs.Wires.{DueRise, first_due, first_flight, others, put_flying};
 ghost use Rattle.bm_fault.specs.Views.{flying, IsKept};
@@ -38,6 +40,22 @@ impl Model for Wire {
     ghost invariant = { IsKept };
 }
 
+/// Puts a copy before the one at this place, or at the end.
+#[inline(always)]
+fn put_at(flights: &mut VecDeque<Queued>, place: usize, queued: Queued) -> Result<(), Memory>
+    requires place { place ≤ deque_len flights.old }
+    ensures items { OnOk result (flights.new.items ≡ insert flights.old.items place queued) }
+    ensures memory { OnErr result (flights.new.items ≡ flights.old.items) }
+{
+    // Mostly no copy is due later, and then none is moved.
+    if place == flights.len() {
+        flights.push_back(queued)?;
+    } else {
+        flights.insert(place, queued)?;
+    }
+    Ok(())
+}
+
 impl Wire {
     /// A wire without copies.
     pub fn new(alloc: Global) -> Wire
@@ -56,7 +74,7 @@ impl Wire {
             (λ _. self.new ≡ self.old) }
     {
         let place = self.flights.partition_point(|f| f.due.0 <= due.0);
-        self.flights.insert(place, Queued { due, flight })?;
+        put_at(&mut self.flights, place, Queued { due, flight })?;
         Ok(())
     }
 

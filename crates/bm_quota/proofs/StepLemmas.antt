@@ -4,7 +4,7 @@ use Rattle.std.proofs.Common.{map, inl, inr, refl, ap, sym, ◌∙◌, subst, ar
 use Rattle.std.proofs.Math.ListN.{set}
 use Rattle.std.proofs.lemmas.Bool.{cases_Bool, cases_lt, eqb-true, ltb-false}
 use Rattle.std.proofs.lemmas.List.{at_drop_more, at_drop_all, get_or-set_same, get_or-set_other, get_or-replicate}
-use Rattle.std.proofs.lemmas.List.{get_or_past, length-replicate}
+use Rattle.std.proofs.lemmas.List.{get_or_past, length-replicate, set_past}
 use Rattle.std.specs.List.{zip}
 use Rattle.bm_base.specs.declared.ids.ServerId.{ServerId}
 use Rattle.bm_quota.proofs.QuotaLemmas.{first_not_among, quota_of-outside}
@@ -45,10 +45,9 @@ room_in-kept rooms a h = λ i s. at s i
           | inr other ↦ rw other.0 (room_in-set_other rooms a s (room_in rooms a - 1) other.1)
         ]
 
--- where there is none, nothing changes
-pub room_in-none : (rooms : List ℕ) (a : ServerId) → a.0 < length rooms → room_in rooms a ≡ 0
+room_in-same : (rooms : List ℕ) (a : ServerId) → a.0 < length rooms → room_in rooms a ≡ 0
     → room_in (set rooms a.0 (room_in rooms a - 1)) ≡ room_in rooms
-room_in-none rooms a h z = λ i s. at s i
+room_in-same rooms a h z = λ i s. at s i
   where
     at : (s : ServerId) → room_in (set rooms a.0 (room_in rooms a - 1)) s ≡ room_in rooms s
     at s =
@@ -58,6 +57,14 @@ room_in-none rooms a h z = λ i s. at s i
               in room_in-set_same rooms a s (room_in rooms a - 1) h same.0 ∙ omega arith
           | inr other ↦ room_in-set_other rooms a s (room_in rooms a - 1) other.1
         ]
+
+-- where there is none, nothing changes
+pub room_in-none : (rooms : List ℕ) (a : ServerId) → room_in rooms a ≡ 0
+    → room_in (set rooms a.0 (room_in rooms a - 1)) ≡ room_in rooms
+room_in-none rooms a z = elim (cases_lt a.0 (length rooms)) [
+  | inl within ↦ room_in-same rooms a within z
+  | inr past ↦ ap room_in (set_past rooms a.0 (room_in rooms a - 1) past)
+]
 
 -- the quota of the next active server was written at its number
 pub record AreRooms (active : List ServerId) (quotas rooms : List ℕ) (i : ℕ) : Type 0 where
@@ -155,13 +162,27 @@ pub record Gave (owner : List ServerId) (i : ℕ) (room : ServerId → ℕ) (buc
   pub so_far : buckets ++ given room i (drop i owner) ≡ all
   pub remaining : (s : ServerId) → left room (drop i owner) s ≡ rest s
 
+-- where there is no such place, there is no room
+pub no_place : (rooms : List ℕ) (i : ℕ) → length rooms ≤ i
+    → (get_or rooms i 0 ≡ 0) × (set rooms i (get_or rooms i 0 - 1) ≡ rooms)
+no_place rooms i past = (get_or_past rooms i 0 past, set_past rooms i (get_or rooms i 0 - 1) past)
+
+some_place : (rooms : List ℕ) (i : ℕ) → ltb 0 (get_or rooms i 0) ≡ true → i < length rooms
+some_place rooms i some = elim (cases_lt i (length rooms)) [
+  | inl within ↦ within
+  | inr past ↦
+      let none : get_or rooms i 0 ≡ 0 = get_or_past rooms i 0 past
+      in absurd (let bad : false ≡ true = rw none at some in cc)
+]
+
 pub Gave-kept : (owner : List ServerId) (i : ℕ) (d : ServerId) (rooms new buckets all : List ℕ) (rest : ServerId → ℕ)
     → i < length owner
-    → (get_or owner i d).0 < length rooms → new ≡ set rooms (get_or owner i d).0 (room_in rooms (get_or owner i d) - 1)
+    → new ≡ set rooms (get_or owner i d).0 (room_in rooms (get_or owner i d) - 1)
     → ltb 0 (room_in rooms (get_or owner i d)) ≡ true → Gave owner i (room_in rooms) buckets all rest
     → Gave owner (i + 1) (room_in new) buckets all rest
-Gave-kept owner i d rooms new buckets all rest h l is some gave =
-    subst (λ f. Gave owner (i + 1) f buckets all rest) (sym (ap room_in is ∙ room_in-kept rooms (get_or owner i d) l))
+Gave-kept owner i d rooms new buckets all rest h is some gave =
+    let l : (get_or owner i d).0 < length rooms = some_place rooms (get_or owner i d).0 some
+    in subst (λ f. Gave owner (i + 1) f buckets all rest) (sym (ap room_in is ∙ room_in-kept rooms (get_or owner i d) l))
     (record {
       so_far = give_more owner i d (room_in rooms) buckets all h some gave.so_far;
       remaining = λ s. left_more owner i d (room_in rooms) s (rest s) h some (gave.remaining s);
@@ -169,13 +190,13 @@ Gave-kept owner i d rooms new buckets all rest h l is some gave =
 
 pub Gave-given : (owner : List ServerId) (i : ℕ) (d : ServerId) (rooms new buckets all : List ℕ) (rest : ServerId → ℕ)
     → i < length owner
-    → (get_or owner i d).0 < length rooms → new ≡ set rooms (get_or owner i d).0 (room_in rooms (get_or owner i d) - 1)
+    → new ≡ set rooms (get_or owner i d).0 (room_in rooms (get_or owner i d) - 1)
     → ltb 0 (room_in rooms (get_or owner i d)) ≡ false → Gave owner i (room_in rooms) buckets all rest
     → Gave owner (i + 1) (room_in new) (buckets ++ i ∷ []) all rest
-Gave-given owner i d rooms new buckets all rest h l is none gave =
+Gave-given owner i d rooms new buckets all rest h is none gave =
     let bare : room_in rooms (get_or owner i d) ≤ 0 = ltb-false _ _ none
     in subst (λ f. Gave owner (i + 1) f (buckets ++ i ∷ []) all rest)
-    (sym (ap room_in is ∙ room_in-none rooms (get_or owner i d) l (omega arith))) (record {
+    (sym (ap room_in is ∙ room_in-none rooms (get_or owner i d) (omega arith))) (record {
       so_far = give_more-given owner i d (room_in rooms) buckets all h none gave.so_far;
       remaining = λ s. left_more-none owner i d (room_in rooms) s (rest s) h none (gave.remaining s);
     })

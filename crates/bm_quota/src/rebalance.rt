@@ -12,9 +12,6 @@ use bm_base::{Memory, ServerId};
 use bm_table::Move;
 use std::alloc::Global;
 
-/// How many server numbers there may be.
-const NUMBERS: usize = 65_536;
-
 /// The fewest moves after which each active server owns its quota and no other server owns a
 /// bucket. Each server that owns more than its quota gives away its highest buckets. These buckets,
 /// in rising order, go to the servers below their quota, in rising number, each filled before the
@@ -45,12 +42,26 @@ pub fn moves(
         → rule.ReachQuotas owner.now active.now quotas.now others
         → length moves.items ≤ length others) }
 {
-    let mut rooms = zeros(alloc, NUMBERS)?;
+    let mut rooms = zeros(alloc, numbers(active))?;
     moves_in(alloc, rooms.as_mut_slice(), owner, active, quotas)
 }
 
-/// The moves of `moves`, found in a table that the caller keeps: it has a place for each server
-/// number, is zero at each, and is zero again after `Ok`. So one table serves several rebalancings.
+/// One more than the highest number of these servers, or 0 if there are none.
+fn numbers(servers: &[ServerId]) -> usize
+    ensures { All (λ s. s.0 < result) servers.now }
+{
+    let mut numbers = 0;
+    for s in servers {
+        if numbers <= s.0 as usize {
+            numbers = s.0 as usize + 1;
+        }
+    }
+    numbers
+}
+
+/// The moves of `moves`, found in a table that the caller keeps: it has a place for the number of
+/// each active server, is zero at each, and is zero again after `Ok`. So one table serves several
+/// rebalancings.
 /// `Memory` where memory was refused; the table may then contain anything.
 pub fn moves_in(
     alloc: Global,
@@ -59,12 +70,13 @@ pub fn moves_in(
     active: &[ServerId],
     quotas: &[u32],
 ) -> Result<Vec<Move>, Memory>
-    requires numbers { length rooms.old ≡ NUMBERS }
+    requires numbers { All (λ s. s.0 < length rooms.old) active.now }
     requires zero { (s : ServerId) → slice_index rooms.old s.0 ≡ 0 }
     requires rising { RiseFrom 0 active.now }
     requires count { length quotas.now ≡ length active.now }
     requires total { sum quotas.now ≡ length owner.now }
     requires buckets { length owner.now ≤ 65536 }
+    ensures numbers { length rooms.new ≡ length rooms.old }
     ensures chosen { IfOk result (λ moves. moves.items
         ≡ rule.rebalancing owner.now active.now quotas.now) }
     ensures zero { OnOk result ((s : ServerId) → slice_index rooms.new s.0 ≡ 0) }
@@ -79,11 +91,13 @@ pub fn moves_in(
 
 /// Writes the quota of each active server at its number.
 fn make_room(rooms: &mut [u32], active: &[ServerId], quotas: &[u32])
-    requires numbers { length rooms.old ≡ NUMBERS }
+    requires numbers { All (λ s. s.0 < length rooms.old) active.now }
     requires zero { (s : ServerId) → room_in rooms.old s ≡ 0 }
     requires rising { RiseFrom 0 active.now }
     requires count { length quotas.now ≡ length active.now }
-    ensures { (s : ServerId) → room_in rooms.new s ≡ rule.quota_of active.now quotas.now s }
+    ensures numbers { length rooms.new ≡ length rooms.old }
+    ensures rooms { (s : ServerId)
+        → room_in rooms.new s ≡ rule.quota_of active.now quotas.now s }
 {
     for (i, s) in active.iter().enumerate() {
         rooms[s.0 as usize] = quotas[i];
@@ -92,8 +106,9 @@ fn make_room(rooms: &mut [u32], active: &[ServerId], quotas: &[u32])
 
 /// Writes zero at the number of each of these servers.
 fn clear(rooms: &mut [u32], servers: &[ServerId])
-    requires numbers { length rooms.old ≡ NUMBERS }
-    ensures { (s : ServerId)
+    requires numbers { All (λ s. s.0 < length rooms.old) servers.now }
+    ensures numbers { length rooms.new ≡ length rooms.old }
+    ensures cleared { (s : ServerId)
         → room_in rooms.new s ≡ cleared servers.now (room_in rooms.old) s }
 {
     for s in servers {
@@ -111,8 +126,8 @@ fn zeros(alloc: Global, count: usize) -> Result<Vec<u32>, Memory>
 /// The buckets for which their servers have no room, in rising order. `rooms` ends as the room that
 /// is left.
 fn give(alloc: Global, owner: &[ServerId], rooms: &mut [u32]) -> Result<Vec<u32>, Memory>
-    requires numbers { length rooms.old ≡ NUMBERS }
     requires buckets { length owner.now ≤ 65536 }
+    ensures numbers { length rooms.new ≡ length rooms.old }
     ensures given { IfOk result (λ buckets. buckets.items ≡ given (room_in rooms.old) 0 owner.now) }
     ensures left { OnOk result ((s : ServerId)
         → room_in rooms.new s ≡ left (room_in rooms.old) owner.now s) }
@@ -126,12 +141,17 @@ fn give(alloc: Global, owner: &[ServerId], rooms: &mut [u32]) -> Result<Vec<u32>
     Ok(buckets)
 }
 
-/// Whether there was room at the place; if so, it is one less afterwards.
+/// Whether there was room at the place; if so, it is one less afterwards. Where the table has no
+/// such place, there is none.
+#[tactic(auto, using(crate::proofs::StepLemmas::no_place))]
 fn has_kept(rooms: &mut [u32], place: usize) -> bool
-    requires { place < length rooms.old }
+    ensures numbers { length rooms.new ≡ length rooms.old }
     ensures room { result ≡ nat_lt 0 (slice_index rooms.old place) }
     ensures after { rooms.new ≡ slice_set rooms.old place (slice_index rooms.old place - 1) }
 {
+    if place >= rooms.len() {
+        return false;
+    }
     let room = rooms[place];
     rooms[place] = room.saturating_sub(1);
     room > 0
@@ -139,7 +159,7 @@ fn has_kept(rooms: &mut [u32], place: usize) -> bool
 
 /// The active servers in order, each as often as it has room.
 fn takers(alloc: Global, active: &[ServerId], rooms: &[u32]) -> Result<Vec<ServerId>, Memory>
-    requires { length rooms.now ≡ NUMBERS }
+    requires numbers { All (λ s. s.0 < length rooms.now) active.now }
     ensures { IfOk result (λ takers. takers.items ≡ rule.takers (room_in rooms.now) active.now) }
 {
     let mut takers = Vec::new(alloc);

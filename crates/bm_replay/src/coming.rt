@@ -1,7 +1,8 @@
 //! Which of the calls that can come is first.
 ghost use Rattle.std.specs.Prelude.{◌≡◌};
 ghost use Rattle.bm_core.specs.Schedule.{comes_first};
-ghost use Rattle.bm_replay.specs.Inside.Comings.{is_before, is_no_later, first_coming, sooner_of};
+ghost use Rattle.bm_replay.specs.Inside.Comings.{is_before, is_no_later, first_coming, soonest_of};
+ghost use Rattle.bm_replay.specs.Inside.Comings.{sooner_of};
 
 use bm_base::Moment;
 use bm_core::Due;
@@ -35,8 +36,27 @@ fn comes_first(a: &Due, b: &Due) -> bool
         || a.moment == b.moment && (a_rank < b_rank || a_rank == b_rank && a.number < b.number)
 }
 
+/// The moment of the first copy under way or of the next packet, whichever is sooner.
+pub(crate) fn soonest(copy: Option<Moment>, packet: Option<Due>) -> Option<Moment>
+    ensures { result ≡ soonest_of copy packet }
+{
+    match (copy, packet) {
+        (None, None) => None,
+        (Some(moment), None) => Some(moment),
+        (None, Some(due)) => Some(Moment(due.moment)),
+        (Some(moment), Some(due)) => {
+            Some(if moment.0 <= due.moment {
+                moment
+            } else {
+                Moment(due.moment)
+            })
+        }
+    }
+}
+
 /// The first of the soonest command, the first copy under way and the next packet: a copy arrives
 /// after the commands of its moment, and before the packets.
+#[inline(always)]
 pub(crate) fn first_coming(
     command: Option<Due>,
     copy: Option<Moment>,
@@ -55,7 +75,8 @@ pub(crate) fn first_coming(
     }
 }
 
-fn is_before(moment: Moment, due: Option<Due>) -> bool
+/// Whether this is due after the moment, if it is due at all.
+pub(crate) fn is_before(moment: Moment, due: Option<Due>) -> bool
     ensures { result ≡ is_before moment.0 due }
 {
     match due {

@@ -1,6 +1,7 @@
 //! A replay in progress: its state, what comes next, and the steps.
 ghost use Rattle.std.specs.Prelude.{◌≡◌, ◌*◌, ◌^◌, ◌<◌, ◌≤◌, IfOk, IfSome, OnOk, Some};
-ghost use Rattle.std.specs.Prelude.{length};
+ghost use Rattle.std.specs.Prelude.{length, true};
+ghost use Rattle.std.specs.Bool.{OnTrue};
 ghost use Rattle.bm_base.specs.declared.ids.ServerId.{ServerId};
 ghost use Rattle.bm_base.specs.Pieces.{cleared};
 ghost use Rattle.bm_link.specs.Fits.{ArePackets};
@@ -25,13 +26,14 @@ ghost use Rattle.bm_replay.specs.Inside.Players.{HasSteered, HasSwitched, HasSyn
 ghost use Rattle.bm_replay.specs.Inside.Players.{after_loss};
 ghost use Rattle.bm_replay.specs.Inside.Players.{after_publish, chained, coming_for, forwards};
 ghost use Rattle.bm_replay.specs.Inside.Players.{happened};
-ghost use Rattle.bm_replay.specs.Inside.Players.{done_for, publish_after, what_for};
+ghost use Rattle.bm_replay.specs.Inside.Comings.{is_before};
+ghost use Rattle.bm_replay.specs.Inside.Players.{done_for, publish_after, soonest_command, what_for};
 ghost use Rattle.bm_replay.specs.Inside.Playing.{HasPlayed, HasStepped, IsComing, IsPlaying};
 ghost use Rattle.bm_shard.specs.Books.{IsTaken};
 ghost use Rattle.bm_replay.specs.Inside.Shards.{place_of};
 
 use crate::carrier::Carrier;
-use crate::coming::{Coming, first_coming, sooner};
+use crate::coming::{Coming, first_coming, is_before, sooner, soonest};
 use crate::events::Events;
 use crate::mux::Muxes;
 use crate::queue::{Queue, later_retire, next_close, next_packet, next_retire, next_sync};
@@ -164,11 +166,48 @@ impl Player {
         requires { length self.now.stage.script.plan.changes ≤ 4096 }
         ensures { result ≡ coming_for self.now }
     {
+        let copy = self.wire.least();
+        let packet = self.packet.head;
+        // Mostly a copy or a packet comes before all commands, whichever of these is the soonest.
+        match soonest(copy, packet) {
+            Some(moment) if self.is_quiet(moment) => first_coming(None, copy, packet),
+            _ => first_coming(self.command(), copy, packet),
+        }
+    }
+
+    /// Whether each change and command comes after this moment.
+    fn is_quiet(&self, moment: Moment) -> bool
+        requires { length self.now.stage.script.plan.changes ≤ 4096 }
+        ensures { OnTrue result (is_before moment.0 (soonest_command self.now) ≡ true) }
+    {
+        if !is_before(moment, self.publication()) {
+            return false;
+        }
+        if !is_before(moment, self.switch) {
+            return false;
+        }
+        if !is_before(moment, self.close.head) {
+            return false;
+        }
+        if !is_before(moment, self.retire.head) {
+            return false;
+        }
+        if !is_before(moment, self.sync.head) {
+            return false;
+        }
+        true
+    }
+
+    /// The soonest change or command.
+    #[inline(never)]
+    fn command(&self) -> Option<Due>
+        requires { length self.now.stage.script.plan.changes ≤ 4096 }
+        ensures { result ≡ soonest_command self.now }
+    {
         let change = sooner(self.publication(), self.switch);
         let close = sooner(change, self.close.head);
         let retire = sooner(close, self.retire.head);
-        let command = sooner(retire, self.sync.head);
-        first_coming(command, self.wire.least(), self.packet.head)
+        sooner(retire, self.sync.head)
     }
 
     /// The publication of the next change.
@@ -397,6 +436,7 @@ impl Player {
     }
 
     /// Calls the server's shard, and records what happens there at this clock.
+    #[inline(always)]
     fn serve(
         &mut self,
         clock: Moment,

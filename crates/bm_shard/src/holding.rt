@@ -45,6 +45,7 @@ impl Holding {
     }
 
     /// Carries out the call: what happened, and the reply.
+    #[inline(always)]
     pub(crate) fn serve(
         &mut self,
         shard: &Shard,

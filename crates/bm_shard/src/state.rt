@@ -52,6 +52,8 @@ impl ShardState {
 
     /// Makes a call at this clock: what happens, and the reply. Where memory is refused, nothing
     /// changes.
+    // Inlined, so that a caller that ignores the reply doesn't compute it.
+    #[inline(always)]
     pub fn serve(&mut self, clock: Moment, call: &ShardCall) -> Result<(What, ShardReply), Memory>
         requires { IsShort call.now }
         ensures what { IfOk result
@@ -71,6 +73,7 @@ impl ShardState {
 
     /// Makes a call at the first clock that is above the last one and the call's moment: its event,
     /// and the reply. Where memory is refused, nothing changes.
+    #[inline(always)]
     pub fn apply(&mut self, call: &ShardCall) -> Result<(Event, ShardReply), Memory>
         requires taken { IsTaken call.now }
         requires clock { self.old.clock.0 < 2 ^ 63 }

@@ -26,6 +26,7 @@ pub enum InnerFault {
 
 /// The TCP segment of the IPv4 packet at the front of these octets, and the packet without what
 /// follows it, or the first fault.
+#[inline(always)]
 pub fn read_packet(octets: &[u8]) -> Result<(Segment, &[u8]), InnerFault>
     requires { length octets.now < 2 ^ 32 }
     ensures segment { result_map_both (λ read. (read.0, read.1.now)) (λ e. e) result

@@ -1,23 +1,57 @@
 //! Appending words and numbers to a line, faster than `write!` does.
-ghost use Rattle.std.specs.Prelude.{◌≡◌, ◌∷◌, ◌++◌, [], OnOk, decimal, string_bytes};
+ghost use Rattle.std.specs.Prelude.{◌≡◌, ◌<◌, ◌+◌, ◌∷◌, ◌++◌, [], OnOk, decimal};
+ghost use Rattle.std.specs.Prelude.{string_bytes};
 ghost use Rattle.bm_trace.specs.Words as words;
 
 use crate::words::{cause_word, process_text, why_word};
+use bm_base::{Hop, Taken};
 use bm_core::{Cause, Verdict};
 use itoa::Buffer;
 use std::alloc::AllocError;
 
-/// Appends a number.
+/// Appends a digit.
+#[inline(always)]
+fn push_digit(line: &mut String, digit: u64) -> Result<(), AllocError>
+    requires { digit < 10 }
+    ensures { OnOk result (string_bytes line.new ≡ string_bytes line.old ++ (48 + digit) ∷ []) }
+{
+    line.push(char::from(b'0' + digit as u8))?;
+    Ok(())
+}
+
+/// Appends a number below 100.
+#[inline(always)]
+fn push_first(line: &mut String, number: u64) -> Result<(), AllocError>
+    requires { number < 100 }
+    ensures { OnOk result (string_bytes line.new ≡ string_bytes line.old ++ decimal number) }
+{
+    if number < 10 {
+        return push_digit(line, number);
+    }
+    push_digit(line, number / 10)?;
+    push_digit(line, number % 10)
+}
+
+/// Appends a number of any size.
+#[inline(never)]
+fn push_long(line: &mut String, number: u64) -> Result<(), AllocError>
+    ensures { OnOk result (string_bytes line.new ≡ string_bytes line.old ++ decimal number) }
+{
+    line.push_str(Buffer::new().format(number))?;
+    Ok(())
+}
+
+/// Appends a number. Up to two digits need no buffer and no copy. It isn't inlined: here a push is,
+/// and in a caller with many `?` it isn't.
+#[inline(never)]
 pub(crate) fn push_digits(line: &mut String, number: u64) -> Result<(), AllocError>
     ensures { OnOk result (string_bytes line.new ≡ string_bytes line.old ++ decimal number) }
 {
-    // One digit needs no buffer and no copy.
-    if number < 10 {
-        line.push(char::from(b'0' + number as u8))?;
-        return Ok(());
+    if number < 100 {
+        push_first(line, number)
+    } else {
+        push_long(line, number)
     }
-    line.push_str(Buffer::new().format(number))?;
-    Ok(())
 }
 
 /// Appends a space and a number.
@@ -29,13 +63,26 @@ pub(crate) fn push_number(line: &mut String, number: u64) -> Result<(), AllocErr
     push_digits(line, number)
 }
 
-/// Appends a text and a number. A few long appends are faster than many of a word or a space.
+/// Appends a text and a number. A few long appends are faster than many of a word or a space. Where
+/// it is called with a literal, the text's length is known, and no call copies it.
 pub(crate) fn push_named(line: &mut String, text: &str, number: u64) -> Result<(), AllocError>
     ensures { OnOk result
         (string_bytes line.new ≡ string_bytes line.old ++ (text.now ++ decimal number)) }
 {
     line.push_str(text)?;
     push_digits(line, number)
+}
+
+/// Appends the word of a hop between two spaces, and a number.
+pub(crate) fn push_hop(line: &mut String, hop: Hop, number: u64) -> Result<(), AllocError>
+    ensures { OnOk result (string_bytes line.new
+        ≡ string_bytes line.old ++ ((32 ∷ words.hop_word hop ++ 32 ∷ []) ++ decimal number)) }
+{
+    match hop {
+        Hop::Direct => push_named(line, " direct ", number),
+        Hop::Chained => push_named(line, " chained ", number),
+        Hop::Twice => push_named(line, " twice ", number),
+    }
 }
 
 /// Appends a text and a word.
@@ -56,6 +103,7 @@ pub(crate) fn push_verdict(line: &mut String, verdict: Verdict) -> Result<(), Al
 {
     match verdict {
         Verdict::Accept => line.push_str(" accept")?,
+        Verdict::Process(Taken::Advance) => line.push_str(" process advance")?,
         Verdict::Process(taken) => line.push_str(process_text(taken))?,
         Verdict::Forward(server) => push_named(line, " forward ", u64::from(server.0))?,
         Verdict::Reset(why) => push_words(line, " reset ", why_word(why))?,

@@ -9,9 +9,9 @@ ghost use Rattle.bm_trace.specs.Words as words;
 ghost use Rattle.bm_trace.specs.Report as report;
 ghost use Rattle.bm_state.specs.Versions.{KeepsVersions};
 
-use crate::append::{end_line, push_digits, push_named, push_number, push_verdict};
+use crate::append::{end_line, push_digits, push_hop, push_named, push_number, push_verdict};
 use crate::sums::Totals;
-use crate::words::{Counted, Endpoint, RetirementWords, hop_text, hop_word};
+use crate::words::{Counted, Endpoint, RetirementWords, hop_word};
 use bm_base::{Flow, Hop, MuxId, ServerId};
 use bm_core::{Cause, Event, Stage, Verdict, What};
 use bm_hash::bucket_of;
@@ -35,7 +35,7 @@ fn write_arrival(
 {
     push_digits(line, clock)?;
     push_named(line, " arrive ", u64::from(packet))?;
-    push_named(line, hop_text(hop), u64::from(server.0))?;
+    push_hop(line, hop, u64::from(server.0))?;
     push_verdict(line, verdict)?;
     end_line(line, cause)
 }
@@ -192,6 +192,7 @@ pub fn write_line(line: &mut String, event: &Event, aside: &Aside) -> Result<(),
 }
 
 /// Appends the line of an event with this cause. `versions` are the versions before it.
+#[inline(always)]
 pub(crate) fn write_event(
     line: &mut String,
     versions: &Versions,

@@ -1,5 +1,5 @@
 //! The words of a report.
-ghost use Rattle.std.specs.Prelude.{◌≡◌, Some, ◌∷◌, ◌++◌, []};
+ghost use Rattle.std.specs.Prelude.{◌≡◌, Some};
 ghost use Rattle.bm_core.specs.declared.events.Verdict.TheVariants.{Process};
 ghost use Rattle.bm_trace.specs.Words as words;
 
@@ -15,17 +15,6 @@ pub(crate) fn hop_word(hop: Hop) -> &'static str
         Hop::Direct => "direct",
         Hop::Chained => "chained",
         Hop::Twice => "twice",
-    }
-}
-
-/// The word of a hop between two spaces.
-pub(crate) fn hop_text(hop: Hop) -> &'static str
-    ensures { result.now ≡ 32 ∷ words.hop_word hop ++ 32 ∷ [] }
-{
-    match hop {
-        Hop::Direct => " direct ",
-        Hop::Chained => " chained ",
-        Hop::Twice => " twice ",
     }
 }
 

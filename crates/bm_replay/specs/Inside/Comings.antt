@@ -24,6 +24,13 @@ abbrev pub coming_of : Option Due → Coming
 coming_of None = Over
 coming_of (Some d) = Call d
 
+-- when a copy arrives or a packet is steered, whichever is sooner
+abbrev pub soonest_of : Option Moment → Option Due → Option Moment
+soonest_of None None = None
+soonest_of (Some m) None = Some m
+soonest_of None (Some d) = Some (record { 0 = d.moment })
+soonest_of (Some m) (Some d) = Some (if nat_le m.0 d.moment then m else record { 0 = d.moment })
+
 -- a copy arrives after the commands of its moment, and before the packets
 abbrev pub first_coming : Option Due → Option Moment → Option Due → Coming
 first_coming command None packet = coming_of (sooner_of command packet)

@@ -10,7 +10,7 @@ loop-s-preserved c = record {
       (search rules) s ∙ c.loop-s.invariant.are s;
 }
 
-pub returns : goal.returns
-returns c = λ s.
+pub returns-clause-cleared : goal.returns-clause-cleared
+returns-clause-cleared c = λ s.
     sym (cleared-end c.args.servers.now c.loop-s.s-index (room_in c.loop-s.rooms) c.loop-s-test.false s)
     ∙ c.loop-s.invariant.are s

@@ -5,7 +5,7 @@ use Rattle.bm_quota.proofs.rebalance.clear.Given as goal
 
 abbrev pub invariant-loop-s : goal.invariant-loop-s
 invariant-loop-s l = record {
-  long : length l.rooms ≡ 65536;
+  long : length l.rooms ≡ length l.fn.rooms;
   are : (s : ServerId)
       → cleared (drop l.s-index l.servers) (room_in l.rooms) s ≡ cleared l.servers (room_in l.fn.rooms) s;
 }

@@ -1,4 +1,4 @@
-use Rattle.std.proofs.Common.{sym, ◌∙◌, arith, rules}
+use Rattle.std.proofs.Common.{sym, ◌∙◌, arith}
 use Rattle.bm_quota.proofs.StepLemmas.{Gave-kept, Gave-given}
 use Rattle.bm_quota.proofs.rebalance.give.Goals as goal
 use Rattle.bm_quota.proofs.rebalance.give.Goals.{then-not-has_kept+in_ok-push, else-not-has_kept}
@@ -13,7 +13,7 @@ loop-bucket-preserved c =
             Gave-given c.args.owner.now c.loop-bucket.bucket (record { 0 = 0 }) c.loop-bucket.rooms c.has_kept.new.rooms
             c.loop-bucket.buckets.items
             (given (room_in c.args.rooms.now) 0 c.args.owner.now) (left (room_in c.args.rooms.now) c.args.owner.now)
-            c.loop-bucket-test.true (search rules) c.has_kept.ensures.after
+            c.loop-bucket-test.true c.has_kept.ensures.after
             (sym c.has_kept.ensures.room ∙ w.if-not-has_kept.true) c.loop-bucket.invariant.gave);
       }
       | else-not-has_kept w ↦ record {
@@ -22,7 +22,7 @@ loop-bucket-preserved c =
             Gave-kept c.args.owner.now c.loop-bucket.bucket (record { 0 = 0 }) c.loop-bucket.rooms c.has_kept.new.rooms
             c.loop-bucket.buckets.items
             (given (room_in c.args.rooms.now) 0 c.args.owner.now) (left (room_in c.args.rooms.now) c.args.owner.now)
-            c.loop-bucket-test.true (search rules) c.has_kept.ensures.after
+            c.loop-bucket-test.true c.has_kept.ensures.after
             (sym c.has_kept.ensures.room ∙ w.if-not-has_kept.false) c.loop-bucket.invariant.gave);
       }
     ]

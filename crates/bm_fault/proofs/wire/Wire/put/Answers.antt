@@ -14,7 +14,7 @@ invariant_of-self-2 c =
     let parted = IsPartitionedBy-leb (λ (q : Queued). q.due.0) qs x.due.0 (non_decreasing 0 qs c.self.invariant) in
     let point = IsPartitionPoint-from_clause (λ (q : Queued). leb q.due.0 x.due.0) _ _
     c.partition_point-place.ensures.partitioned parted (λ a r q k. search rules) in
-    rising_put (flying_of x) _ _ (put_at x qs _ _ c.in_ok-insert.ensures.items point) c.self.invariant
+    rising_put (flying_of x) _ _ (put_at x qs _ _ c.in_ok-put_at.ensures.items point) c.self.invariant
 
 pub returns : goal.returns
 returns c =
@@ -23,5 +23,5 @@ returns c =
     let parted = IsPartitionedBy-leb (λ (q : Queued). q.due.0) qs x.due.0 (non_decreasing 0 qs c.self.invariant) in
     let point = IsPartitionPoint-from_clause (λ (q : Queued). leb q.due.0 x.due.0) _ _
     c.partition_point-place.ensures.partitioned parted (λ a r q k. search rules) in
-    put_at x qs _ _ c.in_ok-insert.ensures.items point
+    put_at x qs _ _ c.in_ok-put_at.ensures.items point
     ∙ ap (λ (fs : List Flying). put_flying (flying_of x) fs) c.self.view_is
