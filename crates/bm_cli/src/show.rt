@@ -18,6 +18,7 @@ use crate::status::Status;
 use bm_base::{Memory, Octets};
 use bm_core::{History, Stage};
 use bm_io::{Gate, IoFault, Sink};
+use bm_trace::laws::events_fit;
 use bm_trace::{report_beside, report_to, sweep, totals_of};
 use std::alloc::Global;
 use std::sync::Wait;
@@ -43,7 +44,11 @@ pub(crate) fn show<R: Threads + Wait + Sync, K: Sink, G: Gate>(
         (did K.written K.faults out.old out.new) result }
 {
     match history_of(rt, alloc, mode, stage, packets, gate) {
-        Ok(history) => show_history(rt, alloc, mode, &history, out),
+        Ok(history) => {
+            // The proof wants to know that each number fits its type. Nothing is kept of what this reads.
+            events_fit(&history);
+            show_history(rt, alloc, mode, &history, out)
+        }
         Err(Memory) => Status::Memory,
     }
 }

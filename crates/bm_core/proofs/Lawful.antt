@@ -17,6 +17,7 @@ use Rattle.bm_base.proofs.Hops.{same_number}
 use Rattle.bm_core.specs.declared.events.Why.TheVariants.{Full, Retired}
 use Rattle.bm_core.specs.declared.events.Local.{Local}
 use Rattle.bm_core.specs.declared.events.Cause.{Cause}
+use Rattle.bm_core.specs.declared.events.Cause.TheVariants.{Full as FullShard, OldTable}
 use Rattle.bm_core.specs.declared.events.Verdict.{Verdict}
 use Rattle.bm_core.specs.declared.events.Verdict.TheVariants.{Drop, Forward}
 use Rattle.bm_core.specs.declared.events.What.{What}
@@ -31,7 +32,8 @@ use Rattle.bm_core.specs.Causes.{first_broken, is_process, is_break, is_refusal,
 use Rattle.bm_core.specs.Stages.{IsSound}
 use Rattle.bm_core.specs.Runs.{last_clock, IsArrival, MayCome, Run, IsRun, event_at, past_at}
 use Rattle.bm_core.specs.Laws.{IsUnbrokenPacket, IsServedPacket, IsUnbrokenArrival, IsServed, IsRetiredDrop}
-use Rattle.bm_core.specs.Laws.{IsLate, IsStampLate, IsAway, IsForwardedTo, IsBreak, At}
+use Rattle.bm_core.specs.Laws.{IsLate, IsStampLate, IsAway, IsForwardedTo, IsBreak, At, IsRefusedOpening}
+use Rattle.bm_core.specs.Laws.{IsRefusalNamed}
 use Rattle.bm_core.proofs.Owned.{IsServedBy, safe, late, outdated, home_is, has_onward, false_from_not}
 use Rattle.bm_core.proofs.Pasts.{arrival_sends, hop_before, owner_is, sent_before, steer_sends}
 
@@ -96,7 +98,7 @@ pub safety_law : (h : History) (place : ℕ) → IsRun h → At h place IsUnbrok
     → At h place (λ stage past clock what. IsServed stage past what)
 safety_law = law IsUnbrokenArrival (λ stage past clock what. IsServed stage past what) safe_step
 
-packet_served : (stage : Stage) → IsSound stage → (packet : ℕ) (all : List Event) → Run stage all
+pub packet_served : (stage : Stage) → IsSound stage → (packet : ℕ) (all : List Event) → Run stage all
     → IsUnbrokenPacket stage all packet → IsServedPacket stage all packet
 packet_served stage sound packet [] run unbroken = tt
 packet_served stage sound packet (e ∷ past) run unbroken = (
@@ -201,25 +203,39 @@ opening_refused : (local : Local) (timeout clock : ℕ) (onto : Option Past) (s 
     → ((local.retired ≡ true) × (verdict ≡ Drop Retired)) ⊎ (verdict ≡ Drop Full)
 opening_refused local timeout clock onto s verdict is opens ref = grind arith
 
-opening_caused : (stage : Stage) → IsSound stage
+-- an opening packet is dropped by a full shard, or by a retired one after its mux had an old table
+opening_named : (stage : Stage) → IsSound stage
     → (past : List Event) (clock k : ℕ) (hop : Hop) (server : ServerId) (verdict : Verdict) → Run stage past
     → last_clock past ≤ clock
     → (may : IsArrival stage past clock k hop server verdict) → is_opening may.segment ≡ true
-    → is_refusal verdict ≡ true → is_some (opening_cause verdict may.label.version.0 (newest past)) ≡ true
-opening_caused stage sound past clock k Chained server verdict run later may opens ref =
+    → is_refusal verdict ≡ true
+    → ((verdict ≡ Drop Full) × (opening_cause verdict may.label.version.0 (newest past) ≡ Some FullShard))
+    ⊎ ((verdict ≡ Drop Retired) × (opening_cause verdict may.label.version.0 (newest past) ≡ Some OldTable))
+opening_named stage sound past clock k Chained server verdict run later may opens ref =
     absurd (both_ways _ (opening_unsent stage past k may.segment run may.is_segment opens) may.sent)
-opening_caused stage sound past clock k Twice server verdict run later may opens ref =
+opening_named stage sound past clock k Twice server verdict run later may opens ref =
     absurd (both_ways _ (opening_unsent stage past k may.segment run may.is_segment opens)
     (sent_before stage past run k Chained Twice (omega arith) may.sent))
-opening_caused stage sound past clock k Direct server verdict run later may opens ref =
+opening_named stage sound past clock k Direct server verdict run later may opens ref =
     elim (opening_refused (local_at stage past server may.segment.flow) (timeout stage) clock
     (onward may.label.entry Direct) may.segment verdict may.verdict_is opens ref) [
       | inl gone ↦
           let old : may.label.version.0 < newest past =
           outdated stage sound past run clock k server later verdict may gone.0
           in let t : ltb may.label.version.0 (newest past) ≡ true = lt-ltb _ _ old
-          in rw (gone.1, t) refl
-      | inr full ↦ rw full refl
+          in inr (gone.1, rw (gone.1, t) refl)
+      | inr full ↦ inl (full, rw full refl)
+    ]
+
+opening_caused : (stage : Stage) → IsSound stage
+    → (past : List Event) (clock k : ℕ) (hop : Hop) (server : ServerId) (verdict : Verdict) → Run stage past
+    → last_clock past ≤ clock
+    → (may : IsArrival stage past clock k hop server verdict) → is_opening may.segment ≡ true
+    → is_refusal verdict ≡ true → is_some (opening_cause verdict may.label.version.0 (newest past)) ≡ true
+opening_caused stage sound past clock k hop server verdict run later may opens ref =
+    elim (opening_named stage sound past clock k hop server verdict run later may opens ref) [
+      | inl full ↦ rw full.1 refl
+      | inr gone ↦ rw gone.1 refl
     ]
 
 process_no_break : (a : Accepted) (verdict : Verdict) → is_process verdict ≡ true
@@ -274,3 +290,16 @@ pub cause_law : (h : History) (place : ℕ) → IsRun h → At h place (λ stage
 cause_law =
     law (λ stage past clock what. IsBreak stage past what)
     (λ stage past clock what. is_some (cause stage past clock what) ≡ true) cause_step
+
+refused_step : (stage : Stage) → IsSound stage → (past : List Event) (clock : ℕ) (what : What) → Run stage past
+    → last_clock past ≤ clock → MayCome stage past clock what → IsRefusedOpening stage past what
+    → IsRefusalNamed stage past clock what
+refused_step stage sound past clock (Arrive k hop server verdict) run later may refused =
+    let opens : is_opening may.segment ≡ true = rw may.is_segment at refused.0
+    in let named = opening_named stage sound past clock k hop server verdict run later may opens refused.1
+    in rw (may.is_segment, may.is_label, opens) named
+refused_step stage sound past clock _ run later may refused = absurd refused
+
+pub refused_law : (h : History) (place : ℕ) → IsRun h
+    → At h place (λ stage past clock what. IsRefusedOpening stage past what) → At h place IsRefusalNamed
+refused_law = law (λ stage past clock what. IsRefusedOpening stage past what) IsRefusalNamed refused_step

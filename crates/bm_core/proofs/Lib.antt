@@ -1,6 +1,8 @@
 pub mod Pasts
 pub mod Owned
 pub mod Lawful
+pub mod Losing
+pub mod Ends
 pub mod Pinned
 pub mod Schedules
 pub mod Switching
@@ -25,6 +27,7 @@ pub mod WorkedRetiring
 pub mod WorkedReceiver
 pub mod WorkedFates
 pub mod WorkedWhole
+pub mod WorkedTwice
 pub mod WorkedThreads
 pub mod Weighing
 pub mod Pacing

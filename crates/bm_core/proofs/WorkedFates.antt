@@ -14,6 +14,7 @@ use Rattle.bm_core.specs.declared.events.Stage.{Stage}
 use Rattle.bm_core.specs.declared.events.Verdict.TheVariants.{Accept, Process, Reset, Drop}
 use Rattle.bm_core.specs.declared.events.What.TheVariants.{Close, Lose}
 use Rattle.bm_core.specs.declared.events.Why.TheVariants.{NoPrevious, Full}
+use Rattle.bm_core.specs.Ends.{AtServer, Lost, packet_ends}
 use Rattle.bm_core.proofs.Playing.{play}
 use Rattle.bm_core.proofs.Worked.{server, flow_from, syn, data_of, record_at, stage_of, at, steer, arrive, replayed}
 use Rattle.bm_core.proofs.Worked.{causes_of, newest_broken}
@@ -48,6 +49,17 @@ fates_causes : reverse (causes_of fates (replayed fates 10))
 unfolding replayed play has_flag is_opening flow_octets fnv_step fnv_1a flow_hash acceptable distance taken_reset
     comes_in_turn taken after_taken opened receiver_after
 fates_causes = refl
+
+-- the lost packet has no end but its loss, the other one an end for each copy
+fates_ends : (packet_ends (replayed fates 10) 2 ≡ Lost ∷ [])
+    × (packet_ends (replayed fates 10) 3 ≡
+    AtServer (server 1) (Process Advance)
+    ∷ AtServer (server 1) (Process Duplicate)
+    ∷ AtServer (server 1) (Process Duplicate)
+    ∷ [])
+unfolding replayed play has_flag is_opening flow_octets fnv_step fnv_1a flow_hash acceptable distance taken_reset
+    comes_in_turn taken after_taken opened receiver_after
+fates_ends = (refl, refl)
 
 -- a shard that holds its capacity drops a SYN
 abbrev full : Stage

@@ -15,6 +15,7 @@ use Rattle.bm_core.specs.declared.events.Stage.{Stage}
 use Rattle.bm_core.specs.declared.events.Verdict.TheVariants.{Accept, Process, Forward, Reset}
 use Rattle.bm_core.specs.declared.events.Why.TheVariants.{ChainExpired, ChainedUnknown}
 use Rattle.bm_core.specs.Past.{label_of}
+use Rattle.bm_core.specs.Ends.{AtServer, packet_ends}
 use Rattle.bm_core.proofs.Playing.{play}
 use Rattle.bm_core.proofs.Worked.{server, syn, data_of, record_at, move, change_at, stage_of, publish, switch, steer}
 use Rattle.bm_core.proofs.Worked.{arrive, replayed, causes_of, newest_broken}
@@ -122,7 +123,7 @@ unfolding replayed play has_flag is_opening flow_octets fnv_step fnv_1a flow_has
 expired_by_one_causes = refl
 
 -- two moves to other servers: the data goes on twice, to the server that accepted the SYN
-abbrev moved_twice : Stage
+abbrev pub moved_twice : Stage
 moved_twice =
     stage_of (record plain_setting { servers = server 1 ∷ server 2 ∷ server 3 ∷ [] })
     (change_at 500 Shift (move 4 3 ∷ []) ∷ change_at 600 Shift (move 4 1 ∷ []) ∷ [])
@@ -205,6 +206,12 @@ unfolding replayed play has_flag is_opening flow_octets fnv_step fnv_1a flow_has
     comes_in_turn taken after_taken opened receiver_after
 moved_thrice_broken = refl
 
+-- it has one end, and not at its owner's server
+moved_thrice_ends : packet_ends (replayed moved_thrice 14) 2 ≡ AtServer (server 3) (Reset ChainedUnknown) ∷ []
+unfolding replayed play has_flag is_opening flow_octets fnv_step fnv_1a flow_hash acceptable distance taken_reset
+    comes_in_turn taken after_taken opened receiver_after
+moved_thrice_ends = refl
+
 -- the second move is recent, the first isn't: the data is forwarded once and then reset
 abbrev older_late : Stage
 older_late =
@@ -233,6 +240,12 @@ older_late_causes : reverse (causes_of older_late (replayed older_late 11))
 unfolding replayed play has_flag is_opening flow_octets fnv_step fnv_1a flow_hash acceptable distance taken_reset
     comes_in_turn taken after_taken opened receiver_after
 older_late_causes = refl
+
+-- the one premise that is broken: the chained copy comes too late for the older server
+older_late_broken : newest_broken older_late (replayed older_late 9) ≡ ChainLate ∷ []
+unfolding replayed play has_flag is_opening flow_octets fnv_step fnv_1a flow_hash acceptable distance taken_reset
+    comes_in_turn taken after_taken opened receiver_after
+older_late_broken = refl
 
 -- there and back again: the owner is the current server
 abbrev moved_back : Stage

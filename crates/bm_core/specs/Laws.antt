@@ -9,7 +9,8 @@ use Rattle.bm_base.specs.declared.label.Entry.{Entry}
 use Rattle.bm_base.specs.declared.label.Label.{Label}
 use Rattle.bm_base.specs.declared.label.Hop.{Hop}
 use Rattle.bm_base.specs.Labels.{arrives_at, hop_number, onward}
-use Rattle.bm_core.specs.declared.events.Why.TheVariants.{Retired}
+use Rattle.bm_core.specs.declared.events.Cause.TheVariants.{Full, OldTable}
+use Rattle.bm_core.specs.declared.events.Why.TheVariants.{Full as FullShard, Retired}
 use Rattle.bm_core.specs.declared.events.Verdict.{Verdict}
 use Rattle.bm_core.specs.declared.events.Verdict.TheVariants.{Forward, Drop}
 use Rattle.bm_core.specs.declared.events.What.{What}
@@ -21,7 +22,7 @@ use Rattle.bm_table.specs.Tables.{moves, same_server}
 use Rattle.bm_base.specs.Segments.{is_opening}
 use Rattle.bm_core.specs.Past.{segment_of, bucket, timeout, label_of, held, Accepted, owner}
 use Rattle.bm_core.specs.Runs.{AtEach, event_at, past_at}
-use Rattle.bm_core.specs.Causes.{first_broken, is_process, wants_cause}
+use Rattle.bm_core.specs.Causes.{cause, first_broken, is_process, is_refusal, wants_cause}
 
 -- a packet arrives that isn't opening, and no premise is broken
 abbrev pub IsUnbrokenArrival : Stage → List Event → ℕ → What → Type 0
@@ -51,6 +52,22 @@ abbrev pub IsBreak : Stage → List Event → What → Type 0
 IsBreak stage past (Arrive k hop server verdict) =
     wants_cause verdict (owner stage past k) server (segment_of stage k) ≡ true
 IsBreak stage past _ = ⊥
+
+-- an opening packet is reset or dropped where it arrives
+abbrev pub IsRefusedOpening : Stage → List Event → What → Type 0
+IsRefusedOpening stage past (Arrive k hop server verdict) =
+    IsSomeAnd (segment_of stage k) (λ s. is_opening s ≡ true) × (is_refusal verdict ≡ true)
+IsRefusedOpening stage past _ = ⊥
+
+-- a full shard drops the packet, or a retired one that its mux's old table led to; the cause says
+-- which
+abbrev pub IsRefusalNamed : Stage → List Event → ℕ → What → Type 0
+IsRefusalNamed stage past clock (Arrive k hop server verdict) =
+    ((verdict ≡ Drop FullShard)
+    × (cause stage past clock (Arrive k hop server verdict) ≡ Some Full))
+    ⊎ ((verdict ≡ Drop Retired)
+    × (cause stage past clock (Arrive k hop server verdict) ≡ Some OldTable))
+IsRefusalNamed stage past clock _ = ⊥
 
 -- the server is not the owner's, the label's version is no older than the owner's, and the changes
 -- between them moved the bucket at most twice, and at least as often as a copy of this hop went

@@ -8,6 +8,7 @@ pub mod Pins
 pub mod Books
 pub mod Logs
 pub mod Accounts
+pub mod Ends
 pub mod Schedule
 pub mod Threads
 pub mod Rules

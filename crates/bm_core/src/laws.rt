@@ -12,11 +12,14 @@ ghost use Rattle.bm_core.specs.declared.events.Event.{Event};
 ghost use Rattle.bm_core.specs.declared.events.What.{What};
 ghost use Rattle.bm_core.specs.Books.{AreDistinct, book_local, book_of, is_listed};
 ghost use Rattle.bm_core.specs.Causes.{cause, is_elsewhere};
+ghost use Rattle.bm_core.specs.Accounts.{IsAccountOf};
+ghost use Rattle.bm_core.specs.Ends.{AreLost, IsEnded, IsKept};
 ghost use Rattle.bm_core.specs.Histories.{IsNextIn, IsReplay};
 ghost use Rattle.bm_core.specs.Laws.{At, IsBreak, IsLate, IsRetiredDrop, IsServed, IsServedPacket};
-ghost use Rattle.bm_core.specs.Laws.{IsHeldElsewhere, IsUnbrokenArrival, IsUnbrokenPacket};
+ghost use Rattle.bm_core.specs.Laws.{IsHeldElsewhere, IsRefusalNamed, IsRefusedOpening};
+ghost use Rattle.bm_core.specs.Laws.{IsUnbrokenArrival, IsUnbrokenPacket};
 ghost use Rattle.bm_core.specs.Logs.{log_of};
-ghost use Rattle.bm_core.specs.Past.{flows_held, held, label_of, shard, version_at};
+ghost use Rattle.bm_core.specs.Past.{flows_held, held, label_of, segment_of, shard, version_at};
 ghost use Rattle.bm_core.specs.Pins.{IsKeptTo, IsPinned};
 ghost use Rattle.bm_core.specs.Rules.{RouteBy, RuleBy, setting_fate, setting_mux};
 ghost use Rattle.bm_core.specs.Runs.Actor.{MuxOf};
@@ -45,12 +48,52 @@ pub fn served(h: &History, packet: u32)
     ensures { IsServedPacket h.now.stage (reverse h.now.events) packet }
 {}
 
+/// If a steered packet's premises hold at all its arrivals, the server that accepted its connection
+/// processes each copy that isn't lost or forwarded. No other server processes one, and none is
+/// dropped or reset.
+pub fn kept(h: &History, packet: u32)
+    requires run { IsRun h.now }
+    requires steered { is_some (segment_of h.now.stage packet) ≡ true }
+    requires unbroken { IsUnbrokenPacket h.now.stage (reverse h.now.events) packet }
+    ensures { (mux : ℕ → Flow → ℕ) (fate : ℕ → Hop → Fate) (fates : List Fate)
+        → IsAccountOf (RouteBy mux) (RuleBy fate) h.now.stage fates (reverse h.now.events)
+        → IsKept (RuleBy fate) h.now.stage (reverse h.now.events) packet }
+{}
+
+/// Each steered packet has an end: a server accepts, processes, resets or drops a copy, or a copy
+/// is lost. It has just one where each of its sendings has one copy at most.
+pub fn ended(h: &History, packet: u32)
+    requires run { IsRun h.now }
+    requires steered { is_some (segment_of h.now.stage packet) ≡ true }
+    ensures { (mux : ℕ → Flow → ℕ) (fate : ℕ → Hop → Fate) (fates : List Fate)
+        → IsAccountOf (RouteBy mux) (RuleBy fate) h.now.stage fates (reverse h.now.events)
+        → IsEnded (RuleBy fate) (reverse h.now.events) packet }
+{}
+
+/// What the script loses arrives nowhere: where it gives no copies to a packet's sendings with a
+/// hop, each of them is lost, and where each of them is lost no copy arrives.
+pub fn lost(h: &History, packet: u32)
+    requires { IsRun h.now }
+    ensures { (mux : ℕ → Flow → ℕ) (fate : ℕ → Hop → Fate) (fates : List Fate)
+        → IsAccountOf (RouteBy mux) (RuleBy fate) h.now.stage fates (reverse h.now.events)
+        → (hop : Hop) → AreLost (RuleBy fate) (reverse h.now.events) packet hop }
+{}
+
 /// Each packet that is dropped, reset or processed elsewhere has a cause.
 pub fn causes(h: &History, place: usize)
     requires run { IsRun h.now }
     requires broke { At h.now place (λ stage past clock what. IsBreak stage past what) }
     ensures { At h.now place
         (λ stage past clock what. is_some (cause stage past clock what) ≡ true) }
+{}
+
+/// An opening packet that is reset or dropped is dropped: by a full shard, or by a retired one because
+/// its mux had an old table. Its cause says which.
+pub fn refused(h: &History, place: usize)
+    requires run { IsRun h.now }
+    requires refused { At h.now place
+        (λ stage past clock what. IsRefusedOpening stage past what) }
+    ensures { At h.now place IsRefusalNamed }
 {}
 
 /// Only a packet that is dropped, reset or processed elsewhere has a cause.

@@ -1,11 +1,28 @@
 //! What a report says about its history.
-ghost use Rattle.std.specs.Prelude.{◌≡◌, ◌<◌, ◌^◌};
-ghost use Rattle.bm_trace.specs.Report.{text};
+ghost use Rattle.std.specs.Prelude.{◌≡◌, ◌<◌, ◌^◌, ℕ, Bool, true, false, List, None, is_some};
+ghost use Rattle.std.specs.Prelude.{reverse};
+ghost use Rattle.std.specs.List.{flat_map};
+ghost use Rattle.bm_base.specs.declared.fate.Fate.{Fate};
+ghost use Rattle.bm_base.specs.declared.flow.Flow.{Flow};
+ghost use Rattle.bm_base.specs.declared.label.Hop.{Hop};
+ghost use Rattle.bm_core.specs.declared.events.Event.{Event};
+ghost use Rattle.bm_core.specs.declared.events.Verdict.{Verdict};
+ghost use Rattle.bm_core.specs.declared.events.What.TheVariants.{Lose};
+ghost use Rattle.bm_core.specs.Accounts.{IsAccountOf};
+ghost use Rattle.bm_core.specs.Causes.{cause};
+ghost use Rattle.bm_core.specs.Ends.{packet_ends};
+ghost use Rattle.bm_core.specs.Laws.{IsUnbrokenPacket};
+ghost use Rattle.bm_core.specs.Past.{segment_of};
+ghost use Rattle.bm_core.specs.Rules.{RouteBy, RuleBy};
+ghost use Rattle.bm_core.specs.Runs.{IsRun};
+ghost use Rattle.bm_trace.specs.Kept.{IsEndedLine, IsKeptLine, end_told};
+ghost use Rattle.bm_trace.specs.Report.{ends_of, text};
+ghost use Rattle.bm_trace.specs.Totals.{arrives, is_lost, is_stray};
 ghost use Rattle.bm_trace.specs.Types.{AreEvents, IsAnswer, IsEvent, IsFlow, IsVerdict};
 ghost use Rattle.bm_trace.specs.Types.{IsWhat};
 
 use bm_base::Flow;
-use bm_core::{Event, History, Verdict, What};
+use bm_core::{Event, History, Stage, Verdict, What};
 use bm_table::Retirement;
 
 fn read_flow(flow: &Flow)
@@ -112,6 +129,13 @@ fn read_events(events: &[Event])
     }
 }
 
+/// Each number of a history's events fits its type.
+pub fn events_fit(h: &History)
+    ensures { AreEvents h.now.events }
+{
+    read_events(h.events.items());
+}
+
 /// Two histories of one stage with the same report have the same events: a report determines its
 /// history.
 #[tactic(auto, using(crate::proofs::OneHistory::same_events))]
@@ -120,6 +144,44 @@ pub fn one_history(a: &History, b: &History)
     requires text { text a.now ≡ text b.now }
     ensures { a.now.events ≡ b.now.events }
 {
-    read_events(a.events.items());
-    read_events(b.events.items());
+    events_fit(a);
+    events_fit(b);
 }
+
+/// The line of a packet has the words of its copies' ends, in the order in which they happened, and
+/// no others.
+pub fn ends_told()
+    ensures { (past : List Event) (k : ℕ)
+        → ends_of past k ≡ flat_map end_told (packet_ends past k) }
+{}
+
+/// Each steered packet has an end, and its line has the words of its ends.
+pub fn ended_line(h: &History, packet: u32)
+    requires run { IsRun h.now }
+    requires steered { is_some (segment_of h.now.stage packet) ≡ true }
+    ensures { (mux : ℕ → Flow → ℕ) (fate : ℕ → Hop → Fate) (fates : List Fate)
+        → IsAccountOf (RouteBy mux) (RuleBy fate) h.now.stage fates (reverse h.now.events)
+        → IsEndedLine (RuleBy fate) (reverse h.now.events) packet }
+{}
+
+/// If a steered packet's premises hold at all its arrivals, its line says that the server that
+/// accepted its connection processed it, and nothing else but losses.
+pub fn kept_line(h: &History, packet: u32)
+    requires run { IsRun h.now }
+    requires steered { is_some (segment_of h.now.stage packet) ≡ true }
+    requires unbroken { IsUnbrokenPacket h.now.stage (reverse h.now.events) packet }
+    ensures { (mux : ℕ → Flow → ℕ) (fate : ℕ → Hop → Fate) (fates : List Fate)
+        → IsAccountOf (RouteBy mux) (RuleBy fate) h.now.stage fates (reverse h.now.events)
+        → IsKeptLine (RuleBy fate) h.now.stage (reverse h.now.events) packet }
+{}
+
+/// A loss is counted as lost, and as nothing else: it is no drop. Nor has it a cause.
+pub fn losses(stage: &Stage)
+    ensures lost { (k : ℕ) (hop : Hop) → is_lost (Lose k hop) ≡ true }
+    ensures alone { (k : ℕ) (hop : Hop) (kind : Verdict → Bool)
+        → arrives kind (Lose k hop) ≡ false }
+    ensures stray { (past : List Event) (k : ℕ) (hop : Hop)
+        → is_stray stage.now past (Lose k hop) ≡ false }
+    ensures no_cause { (past : List Event) (clock k : ℕ) (hop : Hop)
+        → cause stage.now past clock (Lose k hop) ≡ None }
+{}

@@ -11,7 +11,7 @@ show_history-requires g c =
 pub returns-in-Ok : goal.returns-in-Ok
 returns-in-Ok g c =
     tells_report c.args.mode c.args.stage c.in-Ok.history _ _ c.in-Ok.ensures.about c.in-Ok.ensures.made
-    c.show_history.ensures
+    c.events_fit.ensures c.show_history.ensures
 
 pub returns-in-Err : goal.returns-in-Err
 returns-in-Err g c = tells_nothing (Shown (IsReportOf c.args.mode c.args.stage)) _ _

@@ -1,0 +1,8 @@
+use Rattle.bm_core.specs.Rules.{RouteBy, RuleBy}
+use Rattle.bm_trace.proofs.Kept.{ended_line_law}
+use Rattle.bm_trace.proofs.laws.ended_line.Goals as goal
+
+pub returns : goal.returns
+returns c = λ mux fate fates account.
+    ended_line_law (RouteBy mux) (RuleBy fate) c.args.h.now c.args.packet fates c.requires.run c.requires.steered
+    account
