@@ -7,16 +7,16 @@ use Rattle.std.specs.Prelude.{if◌then◌else◌, reverse, All, IfSome}
 use Rattle.std.proofs.lemmas.Bool.{and_parts, cases_Bool, eqb-true}
 use Rattle.bm_base.specs.declared.fate.Fate.{Fate}
 use Rattle.bm_base.specs.declared.label.Hop.{Hop}
-use Rattle.bm_base.specs.declared.label.Hop.TheVariants.{Direct, Chained, Twice}
+use Rattle.bm_base.specs.declared.label.Hop.TheVariants.{Direct}
 use Rattle.bm_base.specs.Labels.{same_hop}
 use Rattle.bm_core.specs.Accounts.{AreAnswered, AreCarriedOut, AreSent, IsAccountOf, IsRouted, Routes, Rules, before}
 use Rattle.bm_core.specs.Accounts.{copyless_at, count_of, counts, fate_now, loses, lost_at, sent_copies}
 use Rattle.bm_core.specs.Accounts.{steers_packet}
 use Rattle.bm_core.specs.Past.{Sending, is_sending, is_sent, segment_of, sending_of, sends}
 use Rattle.bm_core.specs.Runs.{MayCome, Run}
+use Rattle.bm_core.proofs.Ends.{direct_steers}
 use Rattle.bm_core.specs.declared.events.Event.{Event}
 use Rattle.bm_core.specs.declared.events.Stage.{Stage}
-use Rattle.bm_core.specs.declared.events.Verdict.TheVariants.{Accept, Drop, Forward, Process, Reset}
 use Rattle.bm_core.specs.declared.events.What.{What}
 use Rattle.bm_core.specs.declared.events.What.TheVariants.{Arrive, Close, Lose, Publish, Retire, Steer, Switch, Sync}
 use Rattle.bm_check.proofs.Copying.{same_hop-true, sent_bound}
@@ -71,31 +71,6 @@ routed_of R F stage fates (e ∷ past) all = (all.0.0, routed_of R F stage (befo
 
 -- PACKETS
 
-and_true : (b : Bool) → (b && true) ≡ b
-and_true true = refl
-and_true false = refl
-
-and_false : (b : Bool) → (b && false) ≡ false
-and_false true = refl
-and_false false = refl
-
--- what is sent with the direct hop is what is steered
-sends_direct : (what : What) (k : ℕ) → sends what k Direct ≡ steers_packet what k
-sends_direct (Steer p m) k = and_true (p == k)
-sends_direct (Arrive p Direct server (Forward to)) k = and_false (p == k)
-sends_direct (Arrive p Chained server (Forward to)) k = and_false (p == k)
-sends_direct (Arrive p Twice server (Forward to)) k = refl
-sends_direct (Arrive p hop server Accept) k = refl
-sends_direct (Arrive p hop server (Process taken)) k = refl
-sends_direct (Arrive p hop server (Reset why)) k = refl
-sends_direct (Arrive p hop server (Drop why)) k = refl
-sends_direct (Publish v) k = refl
-sends_direct (Switch m v) k = refl
-sends_direct (Lose p hop) k = refl
-sends_direct (Close server flow closed) k = refl
-sends_direct (Retire server h at result) k = refl
-sends_direct Sync k = refl
-
 module _ (stage : Stage) where
   fresh : (past : List Event) (clock : ℕ) (what : What) (k : ℕ) → MayCome stage past clock what
       → steers_packet what k ≡ true → (is_sent past k Direct ≡ false) × (is_some (segment_of stage k) ≡ true)
@@ -127,7 +102,7 @@ module _ (stage : Stage) where
   steered_once (e ∷ past) run k =
       one_step (steers_packet e.what k) (is_sent past k Direct) (counts past (λ what. steers_packet what k))
       (λ is. (fresh past e.clock.0 e.what k run.0.may is).0) (steered_once past run.1 k)
-      ∙ ap (λ (b : Bool). if b || is_sent past k Direct then 1 else 0) (sym (sends_direct e.what k))
+      ∙ ap (λ (b : Bool). if b || is_sent past k Direct then 1 else 0) (sym (direct_steers e.what k))
 
   sent_has_segment : (past : List Event) → Run stage past → (k : ℕ) → is_sent past k Direct ≡ true
       → is_some (segment_of stage k) ≡ true
@@ -135,7 +110,7 @@ module _ (stage : Stage) where
   sent_has_segment (e ∷ past) run k is = elim (cases_Bool (steers_packet e.what k)) [
     | inl here ↦ (fresh past e.clock.0 e.what k run.0.may here).1
     | inr other ↦
-        let none : sends e.what k Direct ≡ false = sends_direct e.what k ∙ other
+        let none : sends e.what k Direct ≡ false = direct_steers e.what k ∙ other
         in sent_has_segment past run.1 k (rw none at is)
   ]
 

@@ -48,14 +48,19 @@ stop_few stage events n least = elim (cases_lt (length events) n) [
 
 -- ONE ANSWER
 
-run_begins : (stage : Stage) (events : List Event) (n : ℕ) → Run stage (reverse events)
+pub run_begins : (stage : Stage) (events : List Event) (n : ℕ) → Run stage (reverse events)
     → Run stage (reverse (take n events))
 run_begins stage events n run =
     run_older stage (drop n events) (reverse (take n events))
     (subst (λ (x : List Event). Run stage x) (reverse_split n events []) run)
 
-same_history : (h k : History) → h.stage ≡ k.stage → h.events ≡ k.events → h ≡ k
+pub same_history : (h k : History) → h.stage ≡ k.stage → h.events ≡ k.events → h ≡ k
 same_history h k stage events = λ i. record { stage = stage i; events = events i }
+
+-- a text doesn't differ from itself
+pub no_difference : (trace : List ℕ) (n : ℕ) → DifferAt trace trace n → ⊥
+no_difference trace zero differ = differ
+no_difference trace (suc i) differ = differ refl
 
 -- the report of a run that is accounted for has no other answer
 pub only_answer : (R : Routes) (F : Rules) (stage : Stage) (trace : List ℕ) (h : History) → h.stage ≡ stage
@@ -80,11 +85,7 @@ only_answer R F stage trace h here fits run account is = by where
       absurd (found.4 (subst (λ (k : History). IsAccounted R F k) (sym (other found.0 found.1 found.2)) account))
   by (NotSame n) found =
       let same = ap text (other found.0 found.1 found.2) ∙ is
-      in absurd (none n (subst (λ (t : List ℕ). DifferAt trace t n) same found.5.0))
-    where
-      none : (m : ℕ) → DifferAt trace trace m → ⊥
-      none zero differ = differ
-      none (suc i) differ = differ refl
+      in absurd (no_difference trace n (subst (λ (t : List ℕ). DifferAt trace t n) same found.5.0))
   by (Yes e) found =
       let events = ap (λ (k : History). k.events) (other found.0 found.1 found.2)
       in ap Yes (sym found.6 ∙ ap length events)

@@ -9,3 +9,4 @@ pub mod Copying
 pub mod Routing
 pub mod Accounting
 pub mod Answering
+pub mod OneAnswer

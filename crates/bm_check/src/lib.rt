@@ -7,6 +7,7 @@ mod answer;
 mod checking;
 mod compare;
 mod copies;
+pub mod laws;
 mod lines;
 mod orders;
 mod reader;

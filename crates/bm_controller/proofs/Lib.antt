@@ -6,3 +6,4 @@ pub mod SetTargets
 pub mod RackFacts
 pub mod RackParts
 pub mod OneRack
+pub mod Racked

@@ -4,7 +4,7 @@ use Rattle.std.proofs.Common.{Option, Some, None, unwrap_or, length, inl, inr, r
 use Rattle.std.proofs.Math.Nat.{mod-lt, mul-le-mul_left, mul-le-mul_right}
 use Rattle.std.proofs.lemmas.Bool.{cases_Bool, cases_eq, cases_lt, eq-eqb, le-ltb, lt-ltb, ne_eqb}
 use Rattle.std.proofs.lemmas.List.{length-map}
-use Rattle.std.proofs.lemmas.List.Elements.{All-cons, All-filter, All-head, All-nil, All-tail}
+use Rattle.std.proofs.lemmas.List.Elements.{All-cons, All-filter, All-head, All-nil, All-tail, All-map}
 use Rattle.std.proofs.lemmas.List.FromFn.{get_or-map-range_with_len, length-map-range_with_len}
 use Rattle.std.proofs.lemmas.Nat.{div-add-mod'}
 use Rattle.std.specs.List.{range_with_len, All}
@@ -98,6 +98,13 @@ rising-rack rack members rise = RiseFrom-members (λ m. eqb m.rack rack) 0 membe
 
 pub weights-rack : (rack : ℕ) (members : List Member) → All HasWeight members → All HasWeight (in_rack rack members)
 weights-rack rack members weights = All-filter (λ m. eqb m.rack rack) HasWeight members weights
+
+-- the numbers of a rack's servers are below what those of all are below
+pub numbers-rack : (rack : ℕ) (members : List Member) (n : ℕ) → All (λ m. m.server.0 < n) members
+    → All (λ s. s.0 < n) (servers_of (in_rack rack members))
+numbers-rack rack members n below =
+    All-map (λ (s : ServerId). s.0 < n) (λ (m : Member). m.server) (in_rack rack members)
+    (All-filter (λ m. eqb m.rack rack) (λ (m : Member). m.server.0 < n) members below)
 
 pub length-servers_of : (members : List Member) → length (servers_of members) ≡ length members
 length-servers_of members = length-map members (λ (m : Member). m.server)

@@ -1,9 +1,10 @@
 -- Placement within racks: the rack of bucket b is `b mod racks`, and the servers of each rack share
 -- its buckets by their weights.
-use Rattle.std.specs.Prelude.{◌≡◌, ℕ, ◌%◌, ◌<◌, ◌≤◌, true, List, length, unwrap_or}
+use Rattle.std.specs.Prelude.{◌≡◌, ℕ, ◌%◌, ◌<◌, ◌≤◌, true, All, List, length, unwrap_or}
 use Rattle.bm_base.specs.declared.ids.ServerId.{ServerId}
 use Rattle.bm_controller.specs.declared.members.Member.{Member}
 use Rattle.bm_controller.specs.Controlled.{in_rack, is_member, servers_of, weight_of, Controlled}
+use Rattle.bm_controller.specs.Membership.{active_now, is_active}
 use Rattle.bm_quota.specs.Parts.{owners_of_part, part_size, Part}
 use Rattle.bm_quota.specs.Rebalancing.{owned, quota_of, quotas_of}
 use Rattle.bm_table.specs.declared.plan.Change.{Change}
@@ -49,3 +50,16 @@ pub record IsRebalanced (plan : Planned) (change : Change) (c : Controlled) : Ty
   pub least : (others : List Move)
       → OwnQuotas (server_after plan others) plan.buckets c.racks c.members
       → length change.moves ≤ length others
+
+-- The members stand in the racks that a rule names, and are the servers that are active by the plan.
+-- This holds from the opening on, after each command.
+pub record IsRacked (rack : ServerId → ℕ) (c : Controlled) : Type 0 where
+  pub racks : All (λ m. m.rack ≡ rack m.server) c.members
+  pub members : servers_of c.members ≡ active_now c.plan
+
+-- each bucket is at a server that is active by the plan, and that the rule puts into the bucket's
+-- own rack
+abbrev pub IsHome : (ServerId → ℕ) → Controlled → Type 0
+IsHome rack c =
+    (b : ℕ) → b < c.plan.buckets → (is_active c.plan (server_now c.plan b) ≡ true)
+    × (rack (server_now c.plan b) ≡ b % c.racks)

@@ -1,5 +1,5 @@
 //! The active servers with their weights and racks, in the order of their numbers.
-ghost use Rattle.std.specs.Prelude.{◌≡◌, IfOk, length};
+ghost use Rattle.std.specs.Prelude.{◌≡◌, ◌<◌, All, IfOk, length};
 ghost use Rattle.bm_base.specs.declared.ids.ServerId.{ServerId};
 ghost use Rattle.bm_controller.specs.Controlled as controlled;
 
@@ -49,6 +49,19 @@ pub(crate) fn weights(alloc: Global, members: &[Member]) -> Result<Vec<u32>, Mem
 {
     let weights = members.iter().map(|m| m.weight).collect(alloc)?;
     Ok(weights)
+}
+
+/// One more than the highest number of a member, or 0 if there are none.
+pub(crate) fn numbers(members: &[Member]) -> usize
+    ensures { All (λ m. m.server.0 < result) members.now }
+{
+    let mut numbers = 0;
+    for m in members {
+        if numbers <= m.server.0 as usize {
+            numbers = m.server.0 as usize + 1;
+        }
+    }
+    numbers
 }
 
 /// The members in this rack.

@@ -1,13 +1,14 @@
 //! The controller of servers in racks.
 ghost use Rattle.std.specs.Prelude.{◌≡◌, ◌≢◌, ◌≤◌, [], All, length, map, Some, None, IfOk, IfErr};
-ghost use Rattle.std.specs.Prelude.{OnOk, OnErr};
+ghost use Rattle.std.specs.Prelude.{OnOk, OnErr, ℕ};
 ghost use Rattle.bm_controller.specs.Commands as commands;
 ghost use Rattle.bm_controller.specs.Commands.Command.{AddServer, DrainServer, WeighServer};
 ghost use Rattle.bm_controller.specs.Commands.Command.{MoveBucket};
 ghost use Rattle.bm_controller.specs.Controlled as controlled;
 ghost use Rattle.bm_controller.specs.declared.refusal.RackRefusal.TheVariants.{Base as base};
 ghost use Rattle.bm_controller.specs.Membership as membership;
-ghost use Rattle.bm_controller.specs.Racks.{EachRackHasMember};
+ghost use Rattle.bm_base.specs.declared.ids.ServerId.{ServerId};
+ghost use Rattle.bm_controller.specs.Racks.{EachRackHasMember, IsHome, IsRacked};
 ghost use Rattle.bm_policy.specs.Policies.{IsNumber, IsPolicy};
 ghost use Rattle.bm_quota.specs.declared.refusal.Refusal.TheVariants.{Memory as memory};
 ghost use Rattle.bm_table.specs.Settings.{IsWithin, RiseFrom};
@@ -58,6 +59,8 @@ impl<P: Fn(ServerId) -> u16 + Drop> RackController<P> {
               racks = policy.racks;
               members = controlled.members_of servers.now weights.now (map p.rack servers.now);
             }) }
+        ensures racked { (p : IsPolicy P.Fn policy.rule policy.racks)
+            → IfOk result (λ controller. IsRacked p.rack controller.engine) }
     {
         let racks = racks_of(alloc, &policy, servers)?;
         let engine = Engine::new(
@@ -96,6 +99,12 @@ impl<P: Fn(ServerId) -> u16 + Drop> RackController<P> {
         ensures rebalanced { (p : IsPolicy P.Fn self.old.policy.rule self.old.policy.racks)
             → OnOk result
             (commands.Rebalances self.old.engine at (AddServer s weight (p.rack s))) }
+        // Members stay in the racks that the policy names, and are the plan's active servers. So
+        // each bucket is at such a server of its own rack.
+        ensures racked { (p : IsPolicy P.Fn self.old.policy.rule self.old.policy.racks)
+            → IsRacked p.rack self.old.engine → IsRacked p.rack self.new.engine }
+        ensures home { (p : IsPolicy P.Fn self.old.policy.rule self.old.policy.racks)
+            → IsRacked p.rack self.old.engine → OnOk result (IsHome p.rack self.new.engine) }
         ensures policy { self.new.policy ≡ self.old.policy }
     {
         let rack = self.policy.rack(s);
@@ -119,6 +128,10 @@ impl<P: Fn(ServerId) -> u16 + Drop> RackController<P> {
         ensures err { OnErr result (self.new.engine ≡ self.old.engine) }
         ensures rebalanced { OnOk result
             (commands.Rebalances self.old.engine at (DrainServer s)) }
+        ensures racked { (rack : ServerId → ℕ)
+            → IsRacked rack self.old.engine → IsRacked rack self.new.engine }
+        ensures home { (rack : ServerId → ℕ)
+            → IsRacked rack self.old.engine → OnOk result (IsHome rack self.new.engine) }
         ensures policy { self.new.policy ≡ self.old.policy }
     {
         self.engine.drain(at, s)
@@ -142,6 +155,10 @@ impl<P: Fn(ServerId) -> u16 + Drop> RackController<P> {
         ensures err { OnErr result (self.new.engine ≡ self.old.engine) }
         ensures rebalanced { OnOk result
             (commands.Rebalances self.old.engine at (WeighServer s weight)) }
+        ensures racked { (rack : ServerId → ℕ)
+            → IsRacked rack self.old.engine → IsRacked rack self.new.engine }
+        ensures home { (rack : ServerId → ℕ)
+            → IsRacked rack self.old.engine → OnOk result (IsHome rack self.new.engine) }
         ensures policy { self.new.policy ≡ self.old.policy }
     {
         self.engine.weigh(at, s, weight)
@@ -161,6 +178,8 @@ impl<P: Fn(ServerId) -> u16 + Drop> RackController<P> {
         ensures want { IfErr result (λ refusal. refusal ≡ base memory
             → commands.refusal self.old.engine at (MoveBucket bucket s) ≡ None) }
         ensures err { OnErr result (self.new.engine ≡ self.old.engine) }
+        ensures racked { (rack : ServerId → ℕ)
+            → IsRacked rack self.old.engine → IsRacked rack self.new.engine }
         ensures policy { self.new.policy ≡ self.old.policy }
     {
         self.engine.shift(at, bucket, s)

@@ -16,9 +16,6 @@ use bm_quota::{moves_in, quotas};
 use bm_table::Move;
 use std::alloc::Global;
 
-/// How many server numbers there may be.
-const NUMBERS: usize = 65_536;
-
 /// The moves of all racks, in rising bucket. `owners` has the server of each bucket. One table of
 /// rooms serves all racks, for a server has a quota in one rack alone.
 pub(crate) fn moves_by_racks(
@@ -37,7 +34,7 @@ pub(crate) fn moves_by_racks(
         (rack_part (λ b. slice_index_or owners.now b (record { 0 = 0 })) (length owners.now) racks
         members.now)) }
 {
-    let mut rooms = no_rooms(alloc, NUMBERS)?;
+    let mut rooms = no_rooms(alloc, members::numbers(members))?;
     let mut targets = no_targets(alloc, owners.len())?;
     find_targets(
         alloc,
@@ -59,7 +56,7 @@ fn find_targets(
     racks: u16,
     members: &[Member],
 ) -> Result<(), Memory>
-    requires numbers { length rooms.old ≡ NUMBERS }
+    requires numbers { All (λ m. m.server.0 < length rooms.old) members.now }
     requires zero { (s : ServerId) → slice_index rooms.old s.0 ≡ 0 }
     requires count { length targets.old ≡ length owners.now }
     requires none { (b : ℕ) → target_in targets.old b ≡ None }
@@ -90,13 +87,14 @@ fn moves_of_rack(
     rack: u16,
     members: &[Member],
 ) -> Result<Vec<Move>, Memory>
-    requires numbers { length rooms.old ≡ NUMBERS }
+    requires numbers { All (λ m. m.server.0 < length rooms.old) members.now }
     requires zero { (s : ServerId) → slice_index rooms.old s.0 ≡ 0 }
     requires rack { rack < racks }
     requires rising { RiseFrom 0 (controlled.servers_of members.now) }
     requires buckets { length owners.now ≤ 65536 }
     requires some { 0 < length (controlled.in_rack rack members.now) }
     requires weights { All HasWeight members.now }
+    ensures numbers { length rooms.new ≡ length rooms.old }
     ensures moves { IfOk result (λ moves. moves.items ≡ parts.rebalancing_of
         (rack_part (λ b. slice_index_or owners.now b (record { 0 = 0 })) (length owners.now) racks
         members.now rack)) }

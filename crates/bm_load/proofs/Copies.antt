@@ -6,13 +6,11 @@ use Rattle.std.specs.Prelude.{IfSome, slice_get}
 use Rattle.std.proofs.lemmas.Bool.{eq-eqb}
 use Rattle.bm_base.specs.declared.fate.Fate.{Fate}
 use Rattle.bm_base.specs.declared.label.Hop.{Hop}
-use Rattle.bm_base.specs.declared.label.Hop.TheVariants.{Direct, Chained, Twice}
 use Rattle.bm_base.proofs.Hops.{same_hop_refl}
 use Rattle.bm_core.specs.Accounts.{AreAnswered, before, copyless_at, counts, fate_now, loses, lost_at}
-use Rattle.bm_core.specs.Accounts.{sent_copies, steers_packet}
+use Rattle.bm_core.specs.Accounts.{sent_copies}
 use Rattle.bm_core.specs.declared.events.Event.{Event}
 use Rattle.bm_core.specs.declared.events.Stage.{Stage}
-use Rattle.bm_core.specs.declared.events.Verdict.TheVariants.{Accept, Process, Forward, Reset, Drop}
 use Rattle.bm_core.specs.declared.events.What.{What}
 use Rattle.bm_core.specs.declared.events.What.TheVariants.{Publish, Switch, Steer, Lose, Arrive, Close, Retire, Sync}
 use Rattle.bm_core.specs.Past.{Sending, is_sending, sending_of, sends}
@@ -81,33 +79,6 @@ copyless_none fates (e ∷ past) k hop clock single =
     let old = copyless_none (before fates) past k hop clock single.1
     in let here = none_of (fate_now fates) (sending_of e.what) k hop (eqb e.clock.0 clock) single.0
     in omega arith
-
--- DIRECT COPIES
-
-and_true : (b : Bool) → (b && true) ≡ b
-and_true true = refl
-and_true false = refl
-
-and_false : (b : Bool) → (b && false) ≡ false
-and_false true = refl
-and_false false = refl
-
--- a Steer sends direct copies, and nothing else does
-pub direct_steers : (k : ℕ) (what : What) → sends what k Direct ≡ steers_packet what k
-direct_steers k (Steer packet m) = and_true (eqb packet k)
-direct_steers k (Publish v) = refl
-direct_steers k (Switch m v) = refl
-direct_steers k (Lose packet hop) = refl
-direct_steers k (Arrive packet Direct server (Forward to)) = and_false (eqb packet k)
-direct_steers k (Arrive packet Chained server (Forward to)) = and_false (eqb packet k)
-direct_steers k (Arrive packet Twice server (Forward to)) = refl
-direct_steers k (Arrive packet hop server Accept) = refl
-direct_steers k (Arrive packet hop server (Process taken)) = refl
-direct_steers k (Arrive packet hop server (Reset why)) = refl
-direct_steers k (Arrive packet hop server (Drop why)) = refl
-direct_steers k (Close server flow closed) = refl
-direct_steers k (Retire server h at result) = refl
-direct_steers k Sync = refl
 
 -- QUIET
 

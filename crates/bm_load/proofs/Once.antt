@@ -8,8 +8,9 @@ use Rattle.bm_core.specs.declared.events.Event.{Event}
 use Rattle.bm_core.specs.declared.events.Stage.{Stage}
 use Rattle.bm_core.specs.Past.{segment_of, sends}
 use Rattle.bm_core.specs.Runs.{AtEach}
+use Rattle.bm_core.proofs.Ends.{direct_steers}
 use Rattle.bm_load.proofs.Clocks.{clocks_by, each_by}
-use Rattle.bm_load.proofs.Copies.{AreSingle, are_quiet, are_single, direct_steers, sent_once}
+use Rattle.bm_load.proofs.Copies.{AreSingle, are_quiet, are_single, sent_once}
 use Rattle.bm_load.proofs.Lengths.{chained_few, events_few, once_most, twice_few}
 use Rattle.bm_load.proofs.Shape.{AreOnce, IsRunLike, is_quiet, once as one_if}
 use Rattle.bm_load.proofs.Summing.{counts_same}
@@ -27,7 +28,8 @@ direct_in : {stage : Stage} {n : ℕ} {fates : List Fate} {all : List Event} →
     → counts all (λ what. arrives what k Direct) ≡ one_if (is_some (segment_of stage k))
 direct_in {stage} {n} {fates} {all} run k =
     run.account.arrived k Direct ∙ sent_once fates all k Direct (single_in run)
-    ∙ counts_same all (λ what. sends what k Direct) (λ what. steers_packet what k) (direct_steers k)
+    ∙ counts_same all (λ what. sends what k Direct) (λ what. steers_packet what k)
+    (λ what. direct_steers what k)
     ∙ run.account.steered k
 
 chained_in : {stage : Stage} {n : ℕ} {fates : List Fate} {all : List Event} → IsRunLike stage n fates all → (k : ℕ)

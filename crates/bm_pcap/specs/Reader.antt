@@ -22,9 +22,9 @@ use Rattle.bm_pcap.specs.Records.{after_record}
 use Rattle.bm_pcap.specs.Taken.{FormLeaves}
 
 -- A reader: the source after what was read ahead, what the capture's header says, and the place
--- after what was taken. `buffered` is the octets that were read ahead, and `passed` those that were
--- taken last; only contracts of private calls use these. `ended` is what the reader returns from
--- now on, if it has ended.
+-- after what was taken. `buffered` is the octets that were read ahead (see `IsFresh`, `FailsOpen`).
+-- `passed` is those that were taken last; only contracts of private calls speak of these. `ended` is
+-- what the reader returns from now on, if it has ended.
 pub record Reader (S : Type 0) : Type 0 where
   pub source : S
   pub form : Form

@@ -26,9 +26,9 @@ use Rattle.bm_pcapng.specs.Parts.{BlockGives, FailsOpen, StepFits}
 use Rattle.bm_pcapng.specs.Places.{first_place, interfaces_after, order_after, place_after}
 
 -- A reader: the source after what was read ahead, the order of its section's numbers and its
--- interfaces, and the place after what was taken. `buffered` is the octets that were read ahead, and
--- `passed` those that were taken last; only contracts of private calls use these. `ended` is what
--- the reader returns from now on, if it has ended.
+-- interfaces, and the place after what was taken. `buffered` is the octets that were read ahead (see
+-- `FailsOpen` in Parts). `passed` is those that were taken last; only contracts of private calls
+-- speak of these. `ended` is what the reader returns from now on, if it has ended.
 pub record Reader (S : Type 0) : Type 0 where
   pub source : S
   pub order : Order

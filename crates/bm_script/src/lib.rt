@@ -5,6 +5,7 @@ mod commands;
 mod endpoint;
 mod fault;
 mod key;
+pub mod laws;
 mod lists;
 mod racks;
 mod rows;

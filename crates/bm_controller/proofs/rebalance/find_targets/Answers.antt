@@ -1,4 +1,4 @@
-use Rattle.std.proofs.Common.{◌<◌, ◌+◌, ◌*◌, List, length, get_or, ap, sym, ◌∙◌, subst, rules}
+use Rattle.std.proofs.Common.{◌<◌, ◌+◌, ◌*◌, List, length, get_or, ap, refl, sym, ◌∙◌, subst, rules}
 use Rattle.std.specs.List.{All}
 use Rattle.bm_controller.proofs.RackParts.{places-rack, rise-rack, target-all, target-more, target-none}
 use Rattle.bm_controller.proofs.rebalance.find_targets.Goals as goal
@@ -9,7 +9,7 @@ use Rattle.bm_table.specs.declared.plan.Move.{Move}
 
 pub loop-rack-init : goal.loop-rack-init
 loop-rack-init c = record {
-  long = c.requires.numbers;
+  long = refl;
   zero = c.requires.zero;
   count = c.requires.count;
   moved = λ b. c.requires.none b

@@ -6,7 +6,7 @@ use Rattle.bm_controller.specs.Inside.Targets.{target_in}
 
 abbrev pub invariant-loop-rack : goal.invariant-loop-rack
 invariant-loop-rack l = record {
-  long : length l.rooms ≡ 65536;
+  long : length l.rooms ≡ length l.fn.rooms;
   zero : (s : ServerId) → slice_index l.rooms s.0 ≡ 0;
   count : length l.targets ≡ length l.owners;
   moved : (b : ℕ) → target_in l.targets b

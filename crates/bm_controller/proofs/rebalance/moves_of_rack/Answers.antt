@@ -1,9 +1,9 @@
-use Rattle.std.proofs.Common.{length, sum, get_or, ap, sym, ◌∙◌, subst, arith}
+use Rattle.std.proofs.Common.{◌<◌, length, sum, get_or, ap, sym, ◌∙◌, subst, arith}
 use Rattle.std.proofs.lemmas.List.{length-map}
 use Rattle.std.specs.List.{All}
 use Rattle.bm_controller.proofs.MemberFacts.{all_weights, length-weights_of}
 use Rattle.bm_controller.proofs.RackParts.{length-owners_of_part, length-servers_of, moves-same, part_size-le}
-use Rattle.bm_controller.proofs.RackParts.{rising-rack, weights-rack}
+use Rattle.bm_controller.proofs.RackParts.{numbers-rack, rising-rack, weights-rack}
 use Rattle.bm_controller.proofs.rebalance.moves_of_rack.Goals as goal
 use Rattle.bm_controller.specs.Controlled as controlled
 use Rattle.bm_quota.specs.Parts.{part_size}
@@ -55,6 +55,13 @@ overflow_cast-buckets c =
       part_size-le (length c.args.owners.now) c.args.racks c.args.rack c.requires.rack,
       c.requires.buckets,
     )
+
+pub moves_in-requires-clause-numbers : goal.moves_in-requires-clause-numbers
+moves_in-requires-clause-numbers c =
+    let servers = c.as_slice-5.ensures.value ∙ c.in_ok-servers.ensures
+    ∙ ap controlled.servers_of (c.as_slice.ensures.value ∙ c.in_ok-mates.ensures)
+    in subst (All (λ s. s.0 < length c.args.rooms.now)) (sym servers)
+    (numbers-rack c.args.rack c.args.members.now (length c.args.rooms.now) c.requires.numbers)
 
 pub moves_in-requires-clause-rising : goal.moves_in-requires-clause-rising
 moves_in-requires-clause-rising c =

@@ -1,4 +1,4 @@
-use Rattle.std.proofs.Common.{◌≡◌, ◌≤◌, ◌∙◌, ◌++◌, List, ℕ, length, reverse, get_or, sym, subst, ap, arith, rules}
+use Rattle.std.proofs.Common.{◌≡◌, ◌≤◌, ◌∙◌, ◌++◌, List, length, reverse, get_or, sym, subst, ap, arith}
 use Rattle.std.proofs.lemmas.List.{length-reverse}
 use Rattle.bm_core.specs.declared.events.Event.{Event}
 use Rattle.bm_stream.specs.Accepts.{packets_of}

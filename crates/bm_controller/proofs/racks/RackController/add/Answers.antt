@@ -1,4 +1,5 @@
-use Rattle.std.proofs.Common.{◌≡◌, ◌≢◌, Some, None, OnOk, IfErr, subst}
+use Rattle.std.proofs.Common.{◌≡◌, ◌≢◌, Some, None, OnOk, IfErr, refl, subst}
+use Rattle.bm_controller.proofs.Racked.{home_result, racked_result}
 use Rattle.bm_controller.proofs.racks.RackController.add.Goals as goal
 use Rattle.bm_controller.specs.Commands as commands
 use Rattle.bm_controller.specs.Commands.Command.{AddServer}
@@ -30,3 +31,15 @@ returns-clause-rebalanced g c = λ p.
     subst (λ rack. OnOk c.add.result
     (commands.Rebalances c.args.self.now.engine c.args.at (AddServer c.args.s c.args.weight rack)))
     (c.rack-rack.ensures.rack p) c.add.ensures.rebalanced
+
+pub returns-clause-racked : goal.returns-clause-racked
+returns-clause-racked g c = λ p racked.
+    racked_result p.rack c.args.self.now.engine c.add.new.self c.args.at
+    (AddServer c.args.s c.args.weight (p.rack c.args.s)) c.add.result (returns-clause-ok g c p) c.add.ensures.err refl
+    racked
+
+pub returns-clause-home : goal.returns-clause-home
+returns-clause-home g c = λ p racked.
+    home_result p.rack c.args.self.now.engine c.add.new.self c.args.at
+    (AddServer c.args.s c.args.weight (p.rack c.args.s)) c.add.result (returns-clause-ok g c p)
+    (returns-clause-rebalanced g c p) refl racked

@@ -3,9 +3,10 @@ use Rattle.std.proofs.lemmas.List.{length-map}
 use Rattle.std.proofs.lemmas.List.Elements.{All-map}
 use Rattle.std.specs.List.{All}
 use Rattle.bm_controller.proofs.RackFacts.{some-servers}
+use Rattle.bm_controller.proofs.Racked.{racked_opening}
 use Rattle.bm_controller.proofs.racks.RackController.new.Goals as goal
 use Rattle.bm_controller.specs.Controlled.{members_of, Controlled}
-use Rattle.bm_controller.specs.Racks.{EachRackHasMember}
+use Rattle.bm_controller.specs.Racks.{EachRackHasMember, IsRacked}
 
 pub new-requires-clause-servers : goal.new-requires-clause-servers
 new-requires-clause-servers g c =
@@ -39,3 +40,8 @@ returns-clause-opening g c = λ p.
       racks = c.args.policy.racks;
       members = members_of c.args.servers.now c.args.weights.now racks;
     }) (c.as_slice.ensures.value ∙ c.in_ok-racks.ensures p)
+
+pub returns-clause-racked : goal.returns-clause-racked
+returns-clause-racked g c = λ p.
+    subst (λ (x : Controlled). IsRacked p.rack x) (sym (returns-clause-opening g c p))
+    (racked_opening p.rack c.args.buckets c.args.policy.racks c.args.servers.now c.args.weights.now c.requires.count)
