@@ -2,6 +2,7 @@
 use Rattle.std.proofs.Common.{◌≡◌, ◌≢◌, inl, inr, ℕ, List, [], Option, Some, None, Ok, Err}
 use Rattle.std.proofs.Common.{sym, subst, ◌∙◌, refl}
 use Rattle.bm_core.specs.declared.events.Stage.{Stage}
+use Rattle.bm_io.specs.declared.opening.Opening.{Opening}
 use Rattle.bm_words.specs.Form.{Asked, Load, Named}
 use Rattle.bm_pcap.specs.declared.fault.CaptureFault.TheVariants.{Memory as NoMemory}
 use Rattle.bm_cli.specs.declared.fault.StageFault.{StageFault}
@@ -21,7 +22,7 @@ use Rattle.bm_cli.specs.Lines.{usage_line}
 use Rattle.bm_cli.specs.Reading.{Holds, Octets, Reading, Reads, reading, reads_of, script_by}
 use Rattle.bm_cli.specs.Statuses.{FilesDid, SinkDid}
 use Rattle.bm_cli.proofs.Faults.{memory_line, read_line}
-use Rattle.bm_cli.proofs.Names.{all_of_none, asks_nothing}
+use Rattle.bm_cli.proofs.Names.{adds_nothing, asks_nothing}
 use Rattle.bm_cli.proofs.Telling.{untouched, writes_nothing}
 
 -- SOME READS
@@ -74,11 +75,24 @@ not_memory says e = λ is. let no : ReadFault ≡ Memory = sym e ∙ is in cc
 pub asks_as : (names : List (List ℕ)) (files : FilesDid) (by says : Status) →
     AsksFor names by files → (says ≢ Memory → says ≡ by) → AsksFor names says files
 asks_as names files by says asks is = record {
+  held = asks.held;
   some = asks.some;
   all = λ read memory. asks.all (λ e. read (is memory ∙ e)) (λ e. memory (is memory ∙ e));
   rose = λ e. asks.rose (sym (is (not_memory says e)) ∙ e);
   kept = λ read memory. asks.kept (λ e. read (is memory ∙ e)) (λ e. memory (is memory ∙ e));
   opens = λ e. asks.opens (sym (is (not_memory says e)) ∙ e);
+}
+
+-- of an answer that says neither that a read failed nor that memory was refused
+pub asks_unread : (names : List (List ℕ)) (files : FilesDid) (says : Status) → AsksFor names Done files →
+    says ≢ ReadFault → AsksFor names says files
+asks_unread names files says asks unread = record {
+  held = asks.held;
+  some = asks.some;
+  all = λ read memory. asks.all (λ e. cc) (λ e. cc);
+  rose = λ e. absurd (unread e);
+  kept = λ read memory. asks.kept (λ e. cc) (λ e. cc);
+  opens = λ e. absurd (unread e);
 }
 
 -- what was read of a stage was answered
@@ -107,7 +121,7 @@ play_ends mode names told files sink r result read tells =
 -- NO FILE IS READ
 
 -- memory was refused before anything was done
-pub ends_nothing : (due : Due) (asked : Option (List (List ℕ))) (fails : ℕ) (before : Option (List ℕ))
+pub ends_nothing : (due : Due) (asked : Option (List Opening)) (fails : ℕ) (before : Option (List ℕ))
     (faults : ℕ) →
     Ends due (untouched asked fails) (untouched before faults) Memory
 ends_nothing due asked fails before faults = record {
@@ -116,7 +130,8 @@ ends_nothing due asked fails before faults = record {
   said = inl (inr (refl, refl));
   writes = writes_nothing before faults;
   asks = record {
-    some = asks_nothing asked due.names;
+    held = 0;
+    some = asks_nothing 0 (untouched asked fails) due.names refl;
     all = λ read memory. absurd (memory refl);
     rose = λ e. absurd (cc);
     kept = λ read memory. refl;
@@ -125,11 +140,11 @@ ends_nothing due asked fails before faults = record {
 }
 
 -- no status that is due says that a read failed
-abbrev IsUnread : Answer → Type 0
+abbrev pub IsUnread : Answer → Type 0
 IsUnread answer = (says : Status) (text : List ℕ) → IsDue answer says text → says ≢ ReadFault
 
 -- an answer that asks for no file was written
-pub ends_unread : (answer : Answer) (asked : Option (List (List ℕ))) (fails : ℕ) (sink : SinkDid)
+pub ends_unread : (answer : Answer) (asked : Option (List Opening)) (fails : ℕ) (sink : SinkDid)
     (result : Status) → IsUnread answer → Tells answer sink result →
     Ends (record { names = []; answer = answer }) (untouched asked fails) sink result
 ends_unread answer asked fails sink result not tells = record {
@@ -138,8 +153,9 @@ ends_unread answer asked fails sink result not tells = record {
   said = inl tells.is;
   writes = tells.writes;
   asks = record {
-    some = asks_nothing asked [];
-    all = λ read memory. all_of_none asked;
+    held = 0;
+    some = asks_nothing 0 (untouched asked fails) [] refl;
+    all = λ read memory. adds_nothing asked;
     rose = λ e. absurd (unread tells.is e);
     kept = λ read memory. refl;
     opens = λ e. absurd (unread tells.is e);
@@ -151,7 +167,7 @@ ends_unread answer asked fails sink result not tells = record {
     unread (inr none) = λ e. let no : Memory ≡ ReadFault = sym none.0 ∙ e in cc
 
 -- the same, by some reads
-pub unread_ends : (answer : Answer) (told : Octets) (asked : Option (List (List ℕ))) (fails : ℕ) (sink : SinkDid)
+pub unread_ends : (answer : Answer) (told : Octets) (asked : Option (List Opening)) (fails : ℕ) (sink : SinkDid)
     (result : Status) → IsUnread answer → Tells answer sink result →
     Holds told (λ reads. Ends (record { names = []; answer = answer }) (untouched asked fails) sink result)
 unread_ends answer told asked fails sink result not tells =
@@ -168,7 +184,7 @@ pub words_end : (form : Option Asked) (words : Option Asked) (told : Octets) (fi
 words_end form words told files sink result same ends =
     subst (λ f. Holds told (λ reads. Ends (due f reads) files sink result)) same ends
 
-pub usage_ends : (words : Option Asked) (told : Octets) (asked : Option (List (List ℕ))) (fails : ℕ)
+pub usage_ends : (words : Option Asked) (told : Octets) (asked : Option (List Opening)) (fails : ℕ)
     (sink : SinkDid) (result : Status) → None ≡ words → Tells (Misused usage_line) sink result →
     Holds told (λ reads. Ends (due words reads) (untouched asked fails) sink result)
 usage_ends words told asked fails sink result none tells =
@@ -177,14 +193,14 @@ usage_ends words told asked fails sink result none tells =
     (λ says text is e. let no : ReadFault ≡ Usage = sym e ∙ is.0 in cc) tells)
 
 -- the line of a load was answered
-pub load_ends : (n : ℕ) (told : Octets) (asked : Option (List (List ℕ))) (fails : ℕ) (sink : SinkDid)
+pub load_ends : (n : ℕ) (told : Octets) (asked : Option (List Opening)) (fails : ℕ) (sink : SinkDid)
     (result : Status) → Tells (Shown (IsSummaryOf n)) sink result →
     Holds told (λ reads. Ends (due (Some (Load n)) reads) (untouched asked fails) sink result)
 load_ends n told asked fails sink result tells =
     unread_ends (Shown (IsSummaryOf n)) told asked fails sink result
     (λ says text is e. let no : ReadFault ≡ Done = sym e ∙ is.0 in cc) tells
 
-pub memory_ends : (words : Option Asked) (told : Octets) (asked : Option (List (List ℕ))) (fails : ℕ)
+pub memory_ends : (words : Option Asked) (told : Octets) (asked : Option (List Opening)) (fails : ℕ)
     (before : Option (List ℕ)) (faults : ℕ) →
     Holds told (λ reads. Ends (due words reads) (untouched asked fails) (untouched before faults) Memory)
 memory_ends words told asked fails before faults =

@@ -18,7 +18,7 @@ use Rattle.bm_cli.specs.declared.fault.StageFault.TheVariants.{Script as OfScrip
 use Rattle.bm_cli.specs.declared.fault.StageFault.TheVariants.{Capture as OfCapture, Memory as WantsMemory}
 use Rattle.bm_cli.specs.declared.status.Status.{Status}
 use Rattle.bm_cli.specs.declared.status.Status.TheVariants.{BadCapture, BadScript, Done, Memory, ReadFault, Usage}
-use Rattle.bm_cli.specs.declared.status.Status.TheVariants.{Denied, Limit, WriteFault}
+use Rattle.bm_cli.specs.declared.status.Status.TheVariants.{Denied, Exceeded, Limit, WriteFault}
 use Rattle.bm_cli.specs.Lines.{capture_line, capture_status, fault_line, fault_status, refusal_status, script_line}
 use Rattle.bm_cli.specs.Lines.{script_status}
 use Rattle.bm_cli.specs.Statuses.{code_of}
@@ -29,36 +29,39 @@ use Rattle.bm_cli.specs.Statuses.{code_of}
 apart : (s t : Status) → (code_of s == code_of t) ≡ false → s ≢ t
 apart s t codes = λ is. eqb-false (code_of s) (code_of t) codes (ap code_of is)
 
--- a status of a fault: neither of the words, nor of a report, nor of the sink, nor of a check
+-- a status of a fault: neither of the words, nor of a report, nor of the sink, nor of a check, nor of a script
 pub record IsOfFault (s : Status) : Type 0 where
   pub usage : s ≢ Usage
   pub done : s ≢ Done
   pub write : s ≢ WriteFault
   pub denied : s ≢ Denied
+  pub exceeded : s ≢ Exceeded
 
 of_code : (s : Status) → (code_of s == code_of Usage) ≡ false → (code_of s == code_of Done) ≡ false
-    → (code_of s == code_of WriteFault) ≡ false → (code_of s == code_of Denied) ≡ false → IsOfFault s
-of_code s usage done write denied = record {
+    → (code_of s == code_of WriteFault) ≡ false → (code_of s == code_of Denied) ≡ false
+    → (code_of s == code_of Exceeded) ≡ false → IsOfFault s
+of_code s usage done write denied exceeded = record {
   usage = apart s Usage usage;
   done = apart s Done done;
   write = apart s WriteFault write;
   denied = apart s Denied denied;
+  exceeded = apart s Exceeded exceeded;
 }
 
 bad_script : IsOfFault BadScript
-bad_script = of_code BadScript refl refl refl refl
+bad_script = of_code BadScript refl refl refl refl refl
 
 bad_capture : IsOfFault BadCapture
-bad_capture = of_code BadCapture refl refl refl refl
+bad_capture = of_code BadCapture refl refl refl refl refl
 
 read_fault : IsOfFault ReadFault
-read_fault = of_code ReadFault refl refl refl refl
+read_fault = of_code ReadFault refl refl refl refl refl
 
 limit : IsOfFault Limit
-limit = of_code Limit refl refl refl refl
+limit = of_code Limit refl refl refl refl refl
 
 memory : IsOfFault Memory
-memory = of_code Memory refl refl refl refl
+memory = of_code Memory refl refl refl refl refl
 
 -- a refused command is a fault of the script, or passes a limit
 refused_by : (refusal : Refusal) → (refusal_status refusal ≡ BadScript) ⊎ (refusal_status refusal ≡ Limit)
@@ -90,6 +93,7 @@ script_of_fault (Refused n refusal) = record {
   done = refusal_is_not refusal Done bad_script.done limit.done;
   write = refusal_is_not refusal WriteFault bad_script.write limit.write;
   denied = refusal_is_not refusal Denied bad_script.denied limit.denied;
+  exceeded = refusal_is_not refusal Exceeded bad_script.exceeded limit.exceeded;
 }
 script_of_fault (Rack n refusal) = bad_script
 script_of_fault ScriptMemory = memory

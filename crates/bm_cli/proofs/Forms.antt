@@ -1,10 +1,8 @@
 -- What is due for each form of words.
-use Rattle.std.proofs.Common.{◌≡◌, ◌≢◌, ℕ, List, [], Option, Some, None, IsSome, Result, Ok, Err, refl, subst}
+use Rattle.std.proofs.Common.{◌≡◌, ◌≢◌, ℕ, List, [], Option, Some, None, IsSome, refl, subst, arith}
 use Rattle.bm_words.specs.Form.{Asked, Check, Load, Named, Replay, Run, Streams}
-use Rattle.bm_table.specs.declared.script.Script.{Script}
-use Rattle.bm_cli.specs.declared.fault.StageFault.{StageFault}
 use Rattle.bm_cli.specs.declared.mode.Mode.TheVariants.{Replay as by_replay, Run as by_run}
-use Rattle.bm_cli.specs.declared.status.Status.TheVariants.{Usage, BadScript}
+use Rattle.bm_cli.specs.declared.status.Status.TheVariants.{BadScript, Exceeded, Usage}
 use Rattle.bm_cli.specs.Beamer.{beamer}
 use Rattle.bm_cli.specs.Dues.{IsDue, due, names_after}
 use Rattle.bm_cli.specs.Headline.{IsReportOf}
@@ -14,8 +12,8 @@ use Rattle.bm_cli.specs.Streams.{AreStreams}
 use Rattle.bm_cli.specs.Top.{AsksNone, scripts_in}
 use Rattle.bm_cli.proofs.Ending.{nothing}
 use Rattle.bm_cli.proofs.Stages.{script_named}
-use Rattle.bm_cli.proofs.Traces.{check_names, check_open, check_usage}
-use Rattle.bm_cli.proofs.Laws.{ByForm, stage_names, stage_usage}
+use Rattle.bm_cli.proofs.Traces.{check_exceeded, check_names, check_open, check_usage}
+use Rattle.bm_cli.proofs.Laws.{ByForm, due_below, stage_exceeded, stage_names, stage_usage}
 
 -- the usage line is due for the words of no form alone
 usage_form : (form : Option Asked) (reads : Reads) (text : List ℕ) → IsDue (due form reads).answer Usage text →
@@ -56,6 +54,19 @@ script_form (Some (Streams names)) reads text is =
 script_form (Some (Check trace capture script)) reads text is = check_names trace capture script reads text is
 script_form (Some (Load n)) reads text is = absurd (let no = is.0 in cc)
 
+-- no form asks about more than a script allows
+exceeded_form : (form : Option Asked) (reads : Reads) (text : List ℕ) → IsDue (due form reads).answer Exceeded text → ⊥
+exceeded_form None reads text is = let no = is.0 in cc
+exceeded_form (Some (Replay names)) reads text is =
+    stage_exceeded (IsReportOf by_replay) (reading by_replay names reads) text is
+exceeded_form (Some (Run capture script)) reads text is =
+    stage_exceeded (IsReportOf by_run)
+    (reading by_run (record { capture = capture; script = Some script }) reads) text is
+exceeded_form (Some (Streams names)) reads text is =
+    stage_exceeded (AreStreams names reads) (reading by_replay names reads) text is
+exceeded_form (Some (Check trace capture script)) reads text is = check_exceeded trace capture script reads text is
+exceeded_form (Some (Load n)) reads text is = let no = is.0 in cc
+
 -- A FILE IS ASKED FOR
 
 -- by a replay, with or without a script
@@ -89,4 +100,6 @@ by_form form = record {
   usage = usage_text form;
   named = named_form form;
   script = script_form form;
+  most = omega arith;
+  within = λ reads says text is. due_below (due form reads).answer (exceeded_form form reads) says text is;
 }

@@ -1,6 +1,6 @@
 -- The clauses of a top call, by what is due and by how the call ended.
 use Rattle.std.proofs.Common.{◌≡◌, ◌≢◌, ◌⊎◌, inl, inr, ℕ, List, [], Option, None, IsSome, Result, Ok, Err}
-use Rattle.std.proofs.Common.{sym, ap, subst, ◌∙◌, refl, ◌≤◌}
+use Rattle.std.proofs.Common.{sym, ap, subst, ◌∙◌, refl, ◌≤◌, arith}
 use Rattle.std.specs.Io.KnownBytes.{Appends}
 use Rattle.bm_io.specs.Causes.{Rose}
 use Rattle.bm_check.specs.declared.answer.Answer.{Answer as Checked}
@@ -15,7 +15,8 @@ use Rattle.bm_cli.specs.declared.fault.StageFault.TheVariants.{Files}
 use Rattle.bm_cli.specs.declared.status.Status.{Status}
 use Rattle.bm_cli.specs.declared.status.Status.TheVariants.{Done, Usage, ReadFault, BadCapture}
 use Rattle.bm_cli.specs.declared.status.Status.TheVariants.{BadScript, WriteFault, Memory, Limit, Denied}
-use Rattle.bm_cli.specs.Dues.{Answer, Due, IsDue, Judged, Misused, Refused, Shown, answer_for, names_after}
+use Rattle.bm_cli.specs.declared.status.Status.TheVariants.{Exceeded}
+use Rattle.bm_cli.specs.Dues.{Answer, Due, IsDue, Judged, Misused, Refused, Shown, Warned, answer_for, names_after}
 use Rattle.bm_cli.specs.Ends.{Ends, EndsWith, IsSaid}
 use Rattle.bm_cli.specs.Lines.{fault_line}
 use Rattle.bm_cli.specs.Names.{AsksAll, AsksPrefix, script_names}
@@ -23,7 +24,8 @@ use Rattle.bm_cli.specs.Program.{IsProgram, Program}
 use Rattle.bm_cli.specs.Reading.{Holds, Octets, Reading, Reads, with_capture}
 use Rattle.bm_cli.specs.Reading.{with_script}
 use Rattle.bm_cli.specs.Statuses.{code_of, FilesDid, SinkDid}
-use Rattle.bm_cli.specs.Top.{DeniesAnswer, IsAccepted, IsStatusOf, RefusesAnswer, ShowsAnswer, WritesSome}
+use Rattle.bm_cli.specs.Top.{DeniesAnswer, IsAccepted, IsStatusOf, RefusesAnswer, ShowsAnswer, WarnsAnswer}
+use Rattle.bm_cli.specs.Top.{WritesSome}
 use Rattle.bm_cli.proofs.Ending.{holds_more}
 use Rattle.bm_cli.proofs.Faults.{capture_no_script, of_fault, read_line}
 use Rattle.bm_cli.proofs.Statuses.{code_below, same_code, says_is}
@@ -52,10 +54,10 @@ module _ (wanted : Due) (files : FilesDid) (sink : SinkDid) (s : Status) (ends :
       (subst (λ says. IsDue wanted.answer says ends.text) same is_due, ends.writes.whole said)
 
   pub all_asked : (t : Status) → t ≢ ReadFault → t ≢ WriteFault → t ≢ Memory → s ≡ t →
-      AsksAll files.before files.now wanted.names
+      (held : ℕ) × AsksAll held files wanted.names
   all_asked t read write memory is =
       let said = own t write memory is in
-      ends.asks.all (λ e. read (sym is ∙ said ∙ e)) (λ e. memory (sym is ∙ said ∙ e))
+      (ends.asks.held, ends.asks.all (λ e. read (sym is ∙ said ∙ e)) (λ e. memory (sym is ∙ said ∙ e)))
 
   pub read_said : s ≡ ReadFault → ends.says ≡ ReadFault
   read_said is = sym (own ReadFault (λ e. cc) (λ e. cc) is) ∙ is
@@ -92,16 +94,19 @@ shown_answer (Misused line) before now text is written = absurd (let no = is.0 i
 shown_answer (Refused fault) before now text is written = absurd ((of_fault fault).done (sym is.0))
 shown_answer (Shown of) before now text is written =
     record { octets = text; report = is.1; written = written }
+shown_answer (Warned line) before now text is written = absurd (let no = is.0 in cc)
 shown_answer (Judged of) before now text is written =
     shown_yes of is.0 before now text is.1 is.2 is.3 written
 
 pub refused_answer : (answer : Answer) (s : Status) (before now : Option (List ℕ)) (text : List ℕ) → s ≢ Usage →
-    s ≢ Done → s ≢ Denied → IsDue answer s text → Appends before now text → RefusesAnswer answer (code_of s) before now
-refused_answer (Misused line) s before now text usage done denied is written = absurd (usage is.0)
-refused_answer (Refused fault) s before now text usage done denied is written =
+    s ≢ Done → s ≢ Denied → s ≢ Exceeded → IsDue answer s text → Appends before now text →
+    RefusesAnswer answer (code_of s) before now
+refused_answer (Misused line) s before now text usage done denied exceeded is written = absurd (usage is.0)
+refused_answer (Refused fault) s before now text usage done denied exceeded is written =
     (ap code_of is.0, subst (λ l. Appends before now l) is.1 written)
-refused_answer (Shown of) s before now text usage done denied is written = absurd (done is.0)
-refused_answer (Judged of) s before now text usage done denied is written =
+refused_answer (Shown of) s before now text usage done denied exceeded is written = absurd (done is.0)
+refused_answer (Warned line) s before now text usage done denied exceeded is written = absurd (exceeded is.0)
+refused_answer (Judged of) s before now text usage done denied exceeded is written =
     absurd (check_is_not is.0 s s is.2 refl (λ e. done (sym e)) (λ e. denied (sym e)))
 
 pub denied_answer : (answer : Answer) (before now : Option (List ℕ)) (text : List ℕ) → IsDue answer Denied text →
@@ -109,8 +114,18 @@ pub denied_answer : (answer : Answer) (before now : Option (List ℕ)) (text : L
 denied_answer (Misused line) before now text is written = let no = is.0 in absurd (cc)
 denied_answer (Refused fault) before now text is written = absurd ((of_fault fault).denied (sym is.0))
 denied_answer (Shown of) before now text is written = let no = is.0 in absurd (cc)
+denied_answer (Warned line) before now text is written = let no = is.0 in absurd (cc)
 denied_answer (Judged of) before now text is written =
     (is.0, is.1, sym is.2, subst (λ l. Appends before now l) is.3 written)
+
+pub warned_answer : (answer : Answer) (before now : Option (List ℕ)) (text : List ℕ) → IsDue answer Exceeded text →
+    Appends before now text → WarnsAnswer answer before now
+warned_answer (Misused line) before now text is written = let no = is.0 in absurd (cc)
+warned_answer (Refused fault) before now text is written = absurd ((of_fault fault).exceeded (sym is.0))
+warned_answer (Shown of) before now text is written = let no = is.0 in absurd (cc)
+warned_answer (Warned line) before now text is written = subst (λ l. Appends before now l) is.1 written
+warned_answer (Judged of) before now text is written =
+    absurd (check_is_not is.0 Exceeded Exceeded is.2 refl (λ x. cc) (λ x. cc))
 
 -- the line of a read that failed
 pub line_said : (answer : Answer) (says : Status) (text : List ℕ) → says ≡ ReadFault → IsSaid answer says text →
@@ -118,6 +133,7 @@ pub line_said : (answer : Answer) (says : Status) (text : List ℕ) → says ≡
 line_said (Misused line) says text e (inl (inl due)) = let no : ReadFault ≡ Usage = sym e ∙ due.0 in absurd (cc)
 line_said (Refused fault) says text e (inl (inl due)) = due.1 ∙ read_line fault (sym due.0 ∙ e)
 line_said (Shown of) says text e (inl (inl due)) = let no : ReadFault ≡ Done = sym e ∙ due.0 in absurd (cc)
+line_said (Warned line) says text e (inl (inl due)) = let no : ReadFault ≡ Exceeded = sym e ∙ due.0 in absurd (cc)
 line_said (Judged of) says text e (inl (inl due)) =
     absurd (check_is_not due.0 says ReadFault due.2 e (λ x. cc) (λ x. cc))
 line_said answer says text e (inl (inr none)) = let no : ReadFault ≡ Memory = sym e ∙ none.0 in absurd (cc)
@@ -148,6 +164,12 @@ status_said wanted s says text (inr (inr e)) opens is = inr (inr (inr (ap code_o
 pub stage_usage : (is : Stage → List ℕ → Type 0) (r : Reading) (text : List ℕ) → IsDue (answer_for is r) Usage text → ⊥
 stage_usage is (Ok stage) text due = let no = due.0 in cc
 stage_usage is (Err fault) text due = (of_fault fault).usage (sym due.0)
+
+-- nor a text that says that the words ask about more than the script allows
+pub stage_exceeded : (is : Stage → List ℕ → Type 0) (r : Reading) (text : List ℕ) →
+    IsDue (answer_for is r) Exceeded text → ⊥
+stage_exceeded is (Ok stage) text due = let no = due.0 in cc
+stage_exceeded is (Err fault) text due = (of_fault fault).exceeded (sym due.0)
 
 -- a bad script is due where the script's name alone is
 capture_names : (is : Stage → List ℕ → Type 0) (names : Named) (script : Script) (r : Captured) →
@@ -203,8 +225,18 @@ module _ (due : Reads → Due) (told : Octets) (files : FilesDid) (sink : SinkDi
       status_said (due reads) s ends.says ends.text ends.writes.ends ends.asks.opens ends.said)
       all
 
-  pub known : Ended → code ≤ 8
-  known all = subst (λ n. n ≤ 8) (sym all.holds.is) (code_below all.holds.status)
+  -- no status is greater than this, if none that is due is
+  pub known : (most : ℕ) → 6 ≤ most →
+      ((reads : Reads) (says : Status) (text : List ℕ) → IsDue (due reads).answer says text → code_of says ≤ most) →
+      Ended → code ≤ most
+  known most six by all = case (status all) where
+    case : Holds told (λ reads. IsStatusOf (due reads) code) → code ≤ most
+    case is = within is.holds where
+      within : IsStatusOf (due is.reads) code → code ≤ most
+      within (inl due) = subst (λ n. n ≤ most) (sym due.3) (by is.reads due.0 due.1 due.2)
+      within (inr (inl e)) = omega (arith, six, e.0)
+      within (inr (inr (inl e))) = omega (arith, six, e)
+      within (inr (inr (inr e))) = omega (arith, six, e)
 
   -- what follows where a usage line is due
   pub usage : (Fact : Type 0) → ((reads : Reads) (text : List ℕ) → IsDue (due reads).answer Usage text → Fact) →
@@ -258,22 +290,22 @@ module _ (due : Reads → Due) (told : Octets) (files : FilesDid) (sink : SinkDi
       (line_said (due all.reads).answer ends.says ends.text (read_by all e) ends.said)
       (ends.writes.whole said)
 
-  line_at : Ended → (t : Status) → code ≡ code_of t → t ≢ Usage → t ≢ Done → t ≢ Denied → t ≢ ReadFault →
-      t ≢ WriteFault → t ≢ Memory → Holds told (λ reads. RefusesAnswer (due reads).answer code sink.before sink.now)
-  line_at all t e usage done denied read write memory =
+  line_at : Ended → (t : Status) → code ≡ code_of t → t ≢ Usage → t ≢ Done → t ≢ Denied → t ≢ Exceeded →
+      t ≢ ReadFault → t ≢ WriteFault → t ≢ Memory → Holds told (λ reads. RefusesAnswer (due reads).answer code sink.before sink.now)
+  line_at all t e usage done denied exceeded read write memory =
       by_status (λ reads n. RefusesAnswer (due reads).answer n sink.before sink.now)
       (λ reads s is ends.
       let same = the s t is e in
       let d = dues (due reads) files sink s ends t read write memory same in
       subst (λ says. RefusesAnswer (due reads).answer (code_of says) sink.before sink.now) (sym same)
-      (refused_answer (due reads).answer t sink.before sink.now ends.text usage done denied d.0 d.1))
+      (refused_answer (due reads).answer t sink.before sink.now ends.text usage done denied exceeded d.0 d.1))
       all
 
   pub line : Ended → (code ≡ 3) ⊎ (code ≡ 4) ⊎ (code ≡ 7) →
       Holds told (λ reads. RefusesAnswer (due reads).answer code sink.before sink.now)
-  line all (inl e) = line_at all BadCapture e (λ x. cc) (λ x. cc) (λ x. cc) (λ x. cc) (λ x. cc) (λ x. cc)
-  line all (inr (inl e)) = line_at all BadScript e (λ x. cc) (λ x. cc) (λ x. cc) (λ x. cc) (λ x. cc) (λ x. cc)
-  line all (inr (inr e)) = line_at all Limit e (λ x. cc) (λ x. cc) (λ x. cc) (λ x. cc) (λ x. cc) (λ x. cc)
+  line all (inl e) = line_at all BadCapture e (λ x. cc) (λ x. cc) (λ x. cc) (λ x. cc) (λ x. cc) (λ x. cc) (λ x. cc)
+  line all (inr (inl e)) = line_at all BadScript e (λ x. cc) (λ x. cc) (λ x. cc) (λ x. cc) (λ x. cc) (λ x. cc) (λ x. cc)
+  line all (inr (inr e)) = line_at all Limit e (λ x. cc) (λ x. cc) (λ x. cc) (λ x. cc) (λ x. cc) (λ x. cc) (λ x. cc)
 
   pub denied : Ended → code ≡ 8 → Holds told (λ reads. DeniesAnswer (due reads).answer sink.before sink.now)
   denied all e =
@@ -281,6 +313,14 @@ module _ (due : Reads → Due) (told : Octets) (files : FilesDid) (sink : SinkDi
       (λ reads s is ends.
       let d = dues (due reads) files sink s ends Denied (λ x. cc) (λ x. cc) (λ x. cc) (the s Denied is e) in
       denied_answer (due reads).answer sink.before sink.now ends.text d.0 d.1)
+      all
+
+  pub exceeded : Ended → code ≡ 9 → Holds told (λ reads. WarnsAnswer (due reads).answer sink.before sink.now)
+  exceeded all e =
+      by_status (λ reads n. WarnsAnswer (due reads).answer sink.before sink.now)
+      (λ reads s is ends.
+      let d = dues (due reads) files sink s ends Exceeded (λ x. cc) (λ x. cc) (λ x. cc) (the s Exceeded is e) in
+      warned_answer (due reads).answer sink.before sink.now ends.text d.0 d.1)
       all
 
   pub part : Ended → (code ≡ 5) ⊎ (code ≡ 6) → Holds told (λ reads. WritesSome (due reads) files sink)
@@ -297,15 +337,15 @@ module _ (due : Reads → Due) (told : Octets) (files : FilesDid) (sink : SinkDi
       by s is (inl e) = inl (the s WriteFault is e)
       by s is (inr e) = inr (the s Memory is e)
 
-  pub asked : Ended → Holds told (λ reads. AsksPrefix files.before files.now (due reads).names)
+  pub asked : Ended → Holds told (λ reads. (held : ℕ) × AsksPrefix held files (due reads).names)
   asked all =
-      by_status (λ reads n. AsksPrefix files.before files.now (due reads).names)
-      (λ reads s is ends. ends.asks.some) all
+      by_status (λ reads n. (held : ℕ) × AsksPrefix held files (due reads).names)
+      (λ reads s is ends. (ends.asks.held, ends.asks.some)) all
 
   pub asked_all : Ended → code ≢ 2 → code ≢ 5 → code ≢ 6 →
-      Holds told (λ reads. AsksAll files.before files.now (due reads).names)
+      Holds told (λ reads. (held : ℕ) × AsksAll held files (due reads).names)
   asked_all all read write memory =
-      by_status (λ reads n. AsksAll files.before files.now (due reads).names)
+      by_status (λ reads n. (held : ℕ) × AsksAll held files (due reads).names)
       (λ reads s is ends.
       all_asked (due reads) files sink s ends s (λ e. read (is ∙ ap code_of e))
       (λ e. write (is ∙ ap code_of e)) (λ e. memory (is ∙ ap code_of e)) refl)
@@ -314,13 +354,13 @@ module _ (due : Reads → Due) (told : Octets) (files : FilesDid) (sink : SinkDi
   -- these names are due where a bad script is
   pub script : (names : List (List ℕ)) →
       ((reads : Reads) (text : List ℕ) → IsDue (due reads).answer BadScript text → (due reads).names ≡ names) →
-      Ended → code ≡ 4 → AsksAll files.before files.now names
+      Ended → code ≡ 4 → (held : ℕ) × AsksAll held files names
   script names by all e =
       let bad = the all.holds.status BadScript all.holds.is e in
       let ends = all.holds.ends in
       let d = dues (due all.reads) files sink all.holds.status ends
       BadScript (λ x. cc) (λ x. cc) (λ x. cc) bad in
-      subst (λ l. AsksAll files.before files.now l) (by all.reads ends.text d.0)
+      subst (λ l. (held : ℕ) × AsksAll held files l) (by all.reads ends.text d.0)
       (all_asked (due all.reads) files sink all.holds.status ends BadScript (λ x. cc) (λ x. cc) (λ x. cc) bad)
 
   pub complete : Ended → IsAccepted due told →
@@ -338,6 +378,11 @@ module _ (due : Reads → Due) (told : Octets) (files : FilesDid) (sink : SinkDi
 
 -- ALL CLAUSES
 
+-- any other status that is due is at most 8
+pub due_below : (answer : Answer) → ((text : List ℕ) → IsDue answer Exceeded text → ⊥) → (says : Status)
+    (text : List ℕ) → IsDue answer says text → code_of says ≤ 8
+due_below answer not says text is = code_below says (λ e. not text (subst (λ s. IsDue answer s text) e is))
+
 -- what is due by the form of the words
 pub record ByForm {A : Type 0} (program : Program A) (form : Option A) : Type 0 where
   -- the usage line is due for the words of no form alone
@@ -349,6 +394,10 @@ pub record ByForm {A : Type 0} (program : Program A) (form : Option A) : Type 0 
   -- the script's name alone is due where a bad script is
   pub script : (reads : Reads) (text : List ℕ) → IsDue (program.due form reads).answer BadScript text →
       (program.due form reads).names ≡ program.scripts form
+  -- no status is greater than this
+  pub most : 6 ≤ program.greatest
+  pub within : (reads : Reads) (says : Status) (text : List ℕ) → IsDue (program.due form reads).answer says text →
+      code_of says ≤ program.greatest
 
 pub is_program : {A : Type 0} (program : Program A) (form : Option A) (told : Octets) (files : FilesDid)
     (sink : SinkDid) (s : Status) (code : ℕ) → ByForm program form → code ≡ code_of s →
@@ -360,7 +409,7 @@ is_program program form told files sink s code by is holds =
       ends = all;
       status = status due told files sink code all;
       complete = complete due told files sink code all;
-      known = known due told files sink code all;
+      known = known due told files sink code program.greatest by.most by.within all;
       misused = usage due told files sink code (form ≡ None) by.misused all;
       named = named due told files sink code (IsSome form) by.named all;
       read = read due told files sink code all;
@@ -371,6 +420,7 @@ is_program program form told files sink s code by is holds =
       read_line = read_written due told files sink code all;
       line = line due told files sink code all;
       denied = denied due told files sink code all;
+      exceeded = exceeded due told files sink code all;
       part = part due told files sink code all;
       asked = asked due told files sink code all;
       all = asked_all due told files sink code all;

@@ -5,6 +5,7 @@ pub mod Forms
 pub mod Fronts
 pub mod Laws
 pub mod Loads
+pub mod NamedScripts
 pub mod Names
 pub mod Playing
 pub mod Readings

@@ -24,6 +24,7 @@ stage_lost mode names told files stage more read =
     (λ reads s. record {
       read = inl (inr refl);
       asks = record {
+        held = s.0.asks.held;
         some = s.0.asks.some;
         all = λ failed memory. absurd (memory refl);
         rose = λ e. absurd (cc);

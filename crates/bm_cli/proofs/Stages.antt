@@ -3,8 +3,10 @@ use Rattle.std.proofs.Common.{◌≡◌, ◌≢◌, ◌⊎◌, inl, inr, ℕ, Li
 use Rattle.std.proofs.Common.{IfOk, IsErrAnd, IsSome, sym, ap, subst, ◌∙◌, refl}
 use Rattle.std.specs.Prelude.{◌≤◌, IsErrOf}
 use Rattle.std.specs.Result.{result_map_both}
+use Rattle.bm_base.specs.declared.capture.Capture.{Capture}
 use Rattle.bm_base.specs.declared.capture.Vip.{Vip}
 use Rattle.bm_io.specs.Causes.{Rose}
+use Rattle.bm_io.specs.declared.opening.Opening.{Opening}
 use Rattle.bm_table.specs.declared.script.Script.{Script}
 use Rattle.bm_pcap.specs.Capture.{Captured}
 use Rattle.bm_pcap.specs.declared.fault.CaptureFault.{CaptureFault}
@@ -34,7 +36,7 @@ use Rattle.bm_cli.specs.Reading.{with_capture, with_script}
 use Rattle.bm_cli.specs.Statuses.{FilesDid}
 use Rattle.bm_cli.specs.Streams.{packets_in, packets_of, packets_with}
 use Rattle.bm_cli.proofs.Ending.{holds_more}
-use Rattle.bm_cli.proofs.Names.{all_then, asks_more, asks_then}
+use Rattle.bm_cli.proofs.Names.{all_then, asks_more, asks_then, first_of, second_of}
 use Rattle.bm_cli.proofs.Readings.{rose_later}
 
 -- a replay always asks for a name
@@ -100,23 +102,21 @@ refused_by : (mode : Mode) (reads : Reads) (name : Option (List ℕ)) (fault : S
 refused_by mode reads name fault (inl outside) = inl outside
 refused_by mode reads name fault (inr due) = inr (ap (if_taken mode) due)
 
-behind_some : (names : Named) (files : FilesDid) (r : Result Script StageFault) →
-    AsksPrefix files.before files.now (script_names names.script) →
-    AsksPrefix files.before files.now (names_after names r)
-behind_some names files (Ok script) h =
-    asks_more files.before files.now (script_names names.script) (names.capture ∷ []) h
-behind_some names files (Err fault) h = h
+behind_some : (names : Named) (held : ℕ) (files : FilesDid) (r : Result Script StageFault) →
+    AsksPrefix held files (script_names names.script) → AsksPrefix held files (names_after names r)
+behind_some names held files (Ok script) h =
+    asks_more held files (script_names names.script) (names.capture ∷ []) h
+behind_some names held files (Err fault) h = h
 
-behind_all : (names : Named) (files : FilesDid) (r : Result Script StageFault) (fault : StageFault) →
-    IsRead r (Err fault) → IsOutside fault ⊎ AsksAll files.before files.now (script_names names.script) →
-    fault_status fault ≢ ReadFault → fault_status fault ≢ Memory →
-    AsksAll files.before files.now (names_after names r)
-behind_all names files r fault (inl (inl e)) all read memory = absurd (read e)
-behind_all names files r fault (inl (inr e)) all read memory = absurd (memory e)
-behind_all names files r fault (inr due) (inl (inl e)) read memory = absurd (read e)
-behind_all names files r fault (inr due) (inl (inr e)) read memory = absurd (memory e)
-behind_all names files r fault (inr due) (inr all) read memory =
-    subst (λ (s : Result Script StageFault). AsksAll files.before files.now (names_after names s)) (sym due) all
+behind_all : (names : Named) (held : ℕ) (files : FilesDid) (r : Result Script StageFault) (fault : StageFault) →
+    IsRead r (Err fault) → IsOutside fault ⊎ AsksAll held files (script_names names.script) →
+    fault_status fault ≢ ReadFault → fault_status fault ≢ Memory → AsksAll held files (names_after names r)
+behind_all names held files r fault (inl (inl e)) all read memory = absurd (read e)
+behind_all names held files r fault (inl (inr e)) all read memory = absurd (memory e)
+behind_all names held files r fault (inr due) (inl (inl e)) read memory = absurd (read e)
+behind_all names held files r fault (inr due) (inl (inr e)) read memory = absurd (memory e)
+behind_all names held files r fault (inr due) (inr all) read memory =
+    subst (λ (s : Result Script StageFault). AsksAll held files (names_after names s)) (sym due) all
 
 -- a run has a script
 abbrev pub HasScript : Mode → Named → Type 0
@@ -149,14 +149,14 @@ kept_by : (files : FilesDid) (fault : StageFault) → fault_status fault ≢ Rea
 kept_by files fault read (inl e) = absurd (read e)
 kept_by files fault read (inr same) = same
 
-pub script_refused : (mode : Mode) (names : Named) (told : Octets) (files : FilesDid) (fault : StageFault) →
-    HasScript mode names → ReadsScript told names.script (Err fault) →
-    AsksPrefix files.before files.now (script_names names.script) →
-    IsOutside fault ⊎ AsksAll files.before files.now (script_names names.script) →
+pub script_refused : (mode : Mode) (names : Named) (told : Octets) (held : ℕ) (files : FilesDid)
+    (fault : StageFault) → HasScript mode names → ReadsScript told names.script (Err fault) →
+    AsksPrefix held files (script_names names.script) →
+    IsOutside fault ⊎ AsksAll held files (script_names names.script) →
     (fault_status fault ≡ ReadFault → Rose files.faults files.later) →
     (fault_status fault ≡ ReadFault) ⊎ (files.later ≡ files.faults) →
     Holds told (λ reads. ReadsStage mode names reads files (Err fault))
-script_refused mode names told files fault has read some all rose same =
+script_refused mode names told held files fault has read some all rose same =
     let found = refused_some told names.script fault read in
     let script = script_by mode found.reads names.script in
     record {
@@ -165,8 +165,9 @@ script_refused mode names told files fault has read some all rose same =
       holds = record {
         read = refused_reading mode names found.reads fault found.holds;
         asks = record {
-          some = behind_some names files script some;
-          all = behind_all names files script fault
+          held = held;
+          some = behind_some names held files script some;
+          all = behind_all names held files script fault
               (refused_by mode found.reads names.script fault found.holds) all;
           rose = rose;
           kept = λ read memory. kept_by files fault read same;
@@ -277,26 +278,29 @@ memory_by : (script : Script) (r : Captured) → IsErrOf r NoMemory → status_b
 memory_by script (Ok read) h = absurd (cc)
 memory_by script (Err fault) h = let is : fault ≡ NoMemory = cc in ap capture_status is
 
-pub capture_read : (mode : Mode) (names : Named) (told : Octets) (files : FilesDid) (mid : Option (List (List ℕ)))
-    (script : Script) (r : Captured) (time : ℕ) → HasScript mode names → taken mode script ≡ Ok script →
-    ReadsScript told names.script (Ok script) →
+pub capture_read : (mode : Mode) (names : Named) (told : Octets) (held many kept : ℕ) (files : FilesDid)
+    (mid : Option (List Opening)) (script : Script) (r : Captured) (time : ℕ) → HasScript mode names →
+    taken mode script ≡ Ok script → ReadsScript told names.script (Ok script) →
     ReadsFile told names.capture script.setting.vips r → IfOk r (λ read. FileBegan told names.capture time) →
-    AsksAll files.before mid (script_names names.script) →
-    AsksPrefix mid files.now (names.capture ∷ []) →
-    IsErrOf r NoMemory ⊎ AsksAll mid files.now (names.capture ∷ []) →
+    AsksAll held (first_of files mid kept) (script_names names.script) → many ≡ held → kept ≡ files.faults →
+    AsksPrefix many (second_of files mid kept) (names.capture ∷ []) →
+    IsErrOf r NoMemory ⊎ AsksAll many (second_of files mid kept) (names.capture ∷ []) →
     (status_by (with_capture script r) ≡ ReadFault → Rose files.faults files.later) →
     (status_by (with_capture script r) ≢ ReadFault → files.later ≡ files.faults) →
     Holds told (ReadsAll mode names files (with_capture script r) r time)
-capture_read mode names told files mid script r time has takes first second third before part all rose kept =
+capture_read mode names told held many kept files mid script r time has takes first second third before as_many as_often
+    part all rose same =
     let found = gives_some names told script r time names.script refl first second third in
     let asks : AsksFor (names_after names (script_by mode found.reads names.script))
     (status_by (with_capture script r)) files = record {
-      some = behind (AsksPrefix files.before files.now) (ap (if_taken mode) found.holds.first ∙ takes)
-          (asks_then files.before mid files.now (script_names names.script) (names.capture ∷ []) before part);
-      all = λ read memory. behind (AsksAll files.before files.now)
-          (ap (if_taken mode) found.holds.first ∙ takes) (whole all memory);
+      held = held;
+      some = behind (AsksPrefix held files) (ap (if_taken mode) found.holds.first ∙ takes)
+          (asks_then held many kept files mid (script_names names.script) (names.capture ∷ []) before as_many as_often
+          part);
+      all = λ read memory. behind (AsksAll held files) (ap (if_taken mode) found.holds.first ∙ takes)
+          (whole all memory);
       rose = rose;
-      kept = λ read memory. kept read;
+      kept = λ read memory. same read;
       opens = λ e. names_open mode names found.reads has;
     } in
     record {
@@ -313,11 +317,12 @@ capture_read mode names told files mid script r time has takes first second thir
         fact (script_names names.script ++ names.capture ∷ []) → fact (names_after names s)
     behind fact is h = subst (λ s. fact (names_after names s)) (sym is) h
 
-    whole : IsErrOf r NoMemory ⊎ AsksAll mid files.now (names.capture ∷ []) →
-        status_by (with_capture script r) ≢ Memory → AsksAll files.before files.now (script_names names.script ++ names.capture ∷ [])
+    whole : IsErrOf r NoMemory ⊎ AsksAll many (second_of files mid kept) (names.capture ∷ []) →
+        status_by (with_capture script r) ≢ Memory →
+        AsksAll held files (script_names names.script ++ names.capture ∷ [])
     whole (inl none) memory = absurd (memory (memory_by script r none))
     whole (inr h) memory =
-        all_then files.before mid files.now (script_names names.script) (names.capture ∷ []) before h
+        all_then held many kept files mid (script_names names.script) (names.capture ∷ []) before as_many as_often h
 
 -- ITS SEATS WERE REFUSED
 
@@ -325,10 +330,9 @@ abbrev pub read_ok : Script → Result Script StageFault
 read_ok script = Ok script
 
 -- a script that was read was asked for
-asked_ok : (script : Script) (files : FilesDid) (mid : Option (List (List ℕ))) (names : List (List ℕ)) →
-    IsErrAnd (read_ok script) IsOutside ⊎ AsksAll files.before mid names → AsksAll files.before mid names
-asked_ok script files mid names (inl h) = absurd h
-asked_ok script files mid names (inr h) = h
+asked_ok : (script : Script) (asks : Type 0) → IsErrAnd (read_ok script) IsOutside ⊎ asks → asks
+asked_ok script asks (inl h) = absurd h
+asked_ok script asks (inr h) = h
 
 -- no read of it failed
 kept_ok : (script : Script) (before now : ℕ) →
@@ -358,14 +362,14 @@ read_some names told script read = by told names.script refl read where
       record { reads = reads_of octets; known = refl; holds = ap (script_for (reads_of octets)) is ∙ read }
 
 -- the seats of the script that was read are too many
-pub seats_refused : (mode : Mode) (names : Named) (told : Octets) (files : FilesDid) (script : Script)
+pub seats_refused : (mode : Mode) (names : Named) (told : Octets) (held : ℕ) (files : FilesDid) (script : Script)
     (fault : StageFault) → HasScript mode names → ReadsScript told names.script (Ok script) →
     (taken mode script ≡ Err fault) × (fault ≡ Seats) →
-    IsErrAnd (read_ok script) IsOutside ⊎ AsksAll files.before files.now (script_names names.script) →
-    AsksPrefix files.before files.now (script_names names.script) →
+    IsErrAnd (read_ok script) IsOutside ⊎ AsksAll held files (script_names names.script) →
+    AsksPrefix held files (script_names names.script) →
     IsErrAnd (read_ok script) (λ fault. fault_status fault ≡ ReadFault) ⊎ (files.later ≡ files.faults) →
     Holds told (λ reads. ReadsStage mode names reads files (Err fault))
-seats_refused mode names told files script fault has read refused all some same =
+seats_refused mode names told held files script fault has read refused all some same =
     let found = read_some names told script read in
     let is = ap (if_taken mode) found.holds ∙ refused.0 in
     record {
@@ -374,9 +378,10 @@ seats_refused mode names told files script fault has read refused all some same 
       holds = record {
         read = inr (ap (λ (s : Result Script StageFault). with_script s (found.reads.capture names.capture)) is);
         asks = record {
-          some = not_played names _ fault is (AsksPrefix files.before files.now) some;
-          all = λ read memory. not_played names _ fault is (AsksAll files.before files.now)
-              (asked_ok script files files.now (script_names names.script) all);
+          held = held;
+          some = not_played names _ fault is (AsksPrefix held files) some;
+          all = λ read memory. not_played names _ fault is (AsksAll held files)
+              (asked_ok script (AsksAll held files (script_names names.script)) all);
           rose = λ e. let no = sym (ap fault_status refused.1) ∙ e in absurd (cc);
           kept = λ read memory. kept_ok script files.faults files.later same;
           opens = λ e. names_open mode names found.reads has;
@@ -399,29 +404,52 @@ source_failed script (Err (BadLength number n)) e = absurd (cc)
 source_failed script (Err TooManyPackets) e = absurd (cc)
 source_failed script (Err NoMemory) e = absurd (cc)
 
-pub captured_stage : (mode : Mode) (names : Named) (told then : Octets) (files : FilesDid)
-    (mid : Option (List (List ℕ))) (script : Script) (vips : List Vip) (r : Captured) (time faults : ℕ) →
+pub captured_stage : (mode : Mode) (names : Named) (told then : Octets) (held many : ℕ) (files : FilesDid)
+    (mid : Option (List Opening)) (script : Script) (vips : List Vip) (r : Captured) (time faults : ℕ) →
     HasScript mode names → taken mode script ≡ Ok script →
     then ≡ told → vips ≡ script.setting.vips →
     ReadsScript told names.script (Ok script) → ReadsFile then names.capture vips r →
     IfOk r (λ read. FileBegan then names.capture time) →
-    IsErrAnd (read_ok script) IsOutside ⊎ AsksAll files.before mid (script_names names.script) →
-    AsksPrefix mid files.now (names.capture ∷ []) →
-    IsErrOf r NoMemory ⊎ AsksAll mid files.now (names.capture ∷ []) →
+    IsErrAnd (read_ok script) IsOutside ⊎ AsksAll held (first_of files mid faults) (script_names names.script) →
+    many ≡ held → AsksPrefix many (second_of files mid faults) (names.capture ∷ []) →
+    IsErrOf r NoMemory ⊎ AsksAll many (second_of files mid faults) (names.capture ∷ []) →
     files.faults ≤ faults →
     IsErrAnd (read_ok script) (λ fault. fault_status fault ≡ ReadFault) ⊎ (faults ≡ files.faults) →
     HasStepCause faults files.later r →
     Holds told (ReadsAll mode names files (with_capture script r) r time)
-captured_stage mode names told then files mid script vips r time faults has takes same served first second third before
-    part all low kept cause =
-    capture_read mode names told files mid script r time has takes first
+captured_stage mode names told then held many files mid script vips r time faults has takes same served first second
+    third before as_many part all low kept cause =
+    capture_read mode names told held many faults files mid script r time has takes first
     (subst (λ t. ReadsFile t names.capture script.setting.vips r) same
     (subst (λ v. ReadsFile then names.capture v r) served second))
     (subst (λ t. IfOk r (λ read. FileBegan t names.capture time)) same third)
-    (asked_ok script files mid (script_names names.script) before) part all
+    (asked_ok script (AsksAll held (first_of files mid faults) (script_names names.script)) before) as_many
+    (kept_ok script files.faults faults kept) part all
     (λ e. rose_later files.faults faults files.later low (cause.failed (source_failed script r e)))
     (λ read. cause.kept (λ e. read (ap (λ (c : Captured). status_by (with_capture script c)) e))
     ∙ kept_ok script files.faults faults kept)
+
+abbrev captured_ok : Capture × List (List ℕ) → Captured
+captured_ok read = Ok read
+
+abbrev with_files : Option (List Opening) → Option (List Opening) → ℕ → ℕ → FilesDid
+with_files before now often faults = record { before = before; now = now; faults = often; later = faults }
+
+-- both names were asked for
+pub both_asked : (names : Named) (held many often faults : ℕ) (before mid now : Option (List Opening))
+    (script : Script) (read : Capture × List (List ℕ)) →
+    IsErrAnd (read_ok script) IsOutside
+    ⊎ AsksAll held (first_of (with_files before now often faults) mid faults) (script_names names.script) →
+    IsErrAnd (read_ok script) (λ fault. fault_status fault ≡ ReadFault) ⊎ (faults ≡ often) → many ≡ held →
+    IsErrOf (captured_ok read) NoMemory
+    ⊎ AsksAll many (second_of (with_files before now often faults) mid faults) (names.capture ∷ []) →
+    AsksAll held (with_files before now often faults) (script_names names.script ++ names.capture ∷ [])
+both_asked names held many often faults before mid now script read scripts kept as_many (inl none) = absurd (cc)
+both_asked names held many often faults before mid now script read scripts kept as_many (inr all) =
+    let files = with_files before now often faults in
+    all_then held many faults files mid (script_names names.script) (names.capture ∷ [])
+    (asked_ok script (AsksAll held (first_of files mid faults) (script_names names.script)) scripts) as_many
+    (kept_ok script often faults kept) all
 
 -- when it began
 pub stage_began : (mode : Mode) (names : Named) (told : Octets) (files : FilesDid) (stage : Reading) (r : Captured)

@@ -6,6 +6,7 @@ use Rattle.std.specs.Io.KnownBytes.{Appends}
 use Rattle.bm_cli.specs.declared.status.Status.{Status}
 use Rattle.bm_cli.specs.declared.status.Status.TheVariants.{Done, Usage, ReadFault, BadCapture}
 use Rattle.bm_cli.specs.declared.status.Status.TheVariants.{BadScript, WriteFault, Memory, Limit, Denied}
+use Rattle.bm_cli.specs.declared.status.Status.TheVariants.{Exceeded}
 use Rattle.bm_cli.specs.Statuses.{Writes, code_of, SinkDid}
 
 -- nothing written leaves a sink as it was
@@ -24,7 +25,8 @@ status_with n =
     else if n == 5 then WriteFault
     else if n == 6 then Memory
     else if n == 7 then Limit
-    else Denied
+    else if n == 8 then Denied
+    else Exceeded
 
 code_back : (s : Status) → status_with (code_of s) ≡ s
 unfolding status_with
@@ -37,21 +39,36 @@ code_back WriteFault = refl
 code_back Memory = refl
 code_back Limit = refl
 code_back Denied = refl
+code_back Exceeded = refl
 
 -- no two statuses have one code
 pub same_code : (s t : Status) → code_of s ≡ code_of t → s ≡ t
 same_code s t e = sym (code_back s) ∙ ap status_with e ∙ code_back t
 
-pub code_below : (s : Status) → code_of s ≤ 8
-code_below Done = omega arith
-code_below Usage = omega arith
-code_below ReadFault = omega arith
-code_below BadCapture = omega arith
-code_below BadScript = omega arith
-code_below WriteFault = omega arith
-code_below Memory = omega arith
-code_below Limit = omega arith
-code_below Denied = omega arith
+-- all but one are at most 8
+pub code_below : (s : Status) → s ≢ Exceeded → code_of s ≤ 8
+code_below Done other = omega arith
+code_below Usage other = omega arith
+code_below ReadFault other = omega arith
+code_below BadCapture other = omega arith
+code_below BadScript other = omega arith
+code_below WriteFault other = omega arith
+code_below Memory other = omega arith
+code_below Limit other = omega arith
+code_below Denied other = omega arith
+code_below Exceeded other = absurd (other refl)
+
+pub code_within : (s : Status) → code_of s ≤ 9
+code_within Done = omega arith
+code_within Usage = omega arith
+code_within ReadFault = omega arith
+code_within BadCapture = omega arith
+code_within BadScript = omega arith
+code_within WriteFault = omega arith
+code_within Memory = omega arith
+code_within Limit = omega arith
+code_within Denied = omega arith
+code_within Exceeded = omega arith
 
 -- what was answered, where neither the sink failed nor memory was refused
 pub says_is : (says : Status) (text : List ℕ) (sink : SinkDid) (s t : Status) →

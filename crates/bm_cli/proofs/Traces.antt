@@ -5,6 +5,7 @@ use Rattle.std.proofs.lemmas.List.{append-nil}
 use Rattle.std.specs.Result.{result_map_both}
 use Rattle.bm_base.specs.declared.capture.Vip.{Vip}
 use Rattle.bm_io.specs.Causes.{Rose}
+use Rattle.bm_io.specs.declared.opening.Opening.{Opening}
 use Rattle.bm_table.specs.declared.script.Script.{Script}
 use Rattle.bm_core.specs.declared.events.Stage.{Stage}
 use Rattle.bm_pcap.specs.Capture.{Captured}
@@ -12,23 +13,23 @@ use Rattle.bm_cli.specs.declared.fault.StageFault.{StageFault}
 use Rattle.bm_cli.specs.declared.fault.StageFault.TheVariants.{LongTrace}
 use Rattle.bm_cli.specs.declared.mode.Mode.TheVariants.{Replay}
 use Rattle.bm_cli.specs.declared.status.Status.{Status}
-use Rattle.bm_cli.specs.declared.status.Status.TheVariants.{BadScript, Done, Usage, ReadFault, Memory}
-use Rattle.bm_cli.specs.Dues.{Answer, IsDue, Refused, answer_of_check, due_of_check, if_short, names_after}
+use Rattle.bm_cli.specs.declared.status.Status.TheVariants.{BadScript, Exceeded, Usage, ReadFault, Memory}
+use Rattle.bm_cli.specs.Dues.{IsDue, answer_of_check, due_of_check, if_short, names_after}
 use Rattle.bm_cli.specs.Dues.{trace_names, traced}
 use Rattle.bm_cli.specs.Ends.{AsksFor, Ends, IsOf, IsSaid}
 use Rattle.bm_cli.specs.Inside.Fronts.{HasFront}
 use Rattle.bm_cli.specs.Inside.Traces.{ReadsTrace, ReadsTraceFile, both_named}
 use Rattle.bm_cli.specs.Lines.{fault_status}
 use Rattle.bm_cli.specs.Names.{AsksAll, AsksPrefix}
-use Rattle.bm_cli.specs.Reading.{Holds, Octets, Reading, Reads, reading, reads_of, script_by, with_capture, with_script}
+use Rattle.bm_cli.specs.Reading.{Holds, Octets, Reading, Reads, reading, script_by, with_capture, with_script}
 use Rattle.bm_cli.specs.Stages.{IsOutside, IsRead, ReadsStage, status_by}
 use Rattle.bm_cli.specs.Statuses.{FilesDid, SinkDid}
 use Rattle.bm_cli.specs.Telling.{Tells}
-use Rattle.bm_cli.proofs.Ending.{asks_as, holds_more, said_outside}
+use Rattle.bm_cli.proofs.Ending.{asks_as, asks_unread, holds_more, said_outside}
 use Rattle.bm_cli.proofs.Fronts.{few, too_many, whole}
 use Rattle.bm_cli.proofs.Faults.{capture_no_script, of_fault}
 use Rattle.bm_cli.proofs.Laws.{check_is_not}
-use Rattle.bm_cli.proofs.Names.{all_then, asks_more, asks_then}
+use Rattle.bm_cli.proofs.Names.{all_then, asks_more, asks_then, first_of, second_of}
 use Rattle.bm_cli.proofs.Stages.{script_named}
 
 -- THE NAMES
@@ -54,6 +55,16 @@ pub check_usage : (trace capture script : List ℕ) (reads : Reads) (text : List
     IsDue (due_of_check trace (both_named capture script) reads).answer Usage text → ⊥
 check_usage trace capture script reads text due =
     usage_of (traced (reading Replay (both_named capture script) reads) (if_short (reads.trace trace))) text due
+
+-- nor a text that says that the words ask about more than the script allows
+exceeded_of : (r : Result (Stage × List ℕ) StageFault) (text : List ℕ) → IsDue (answer_of_check r) Exceeded text → ⊥
+exceeded_of (Ok read) text due = check_is_not due.0 Exceeded Exceeded due.2 refl (λ e. cc) (λ e. cc)
+exceeded_of (Err fault) text due = (of_fault fault).exceeded (sym due.0)
+
+pub check_exceeded : (trace capture script : List ℕ) (reads : Reads) (text : List ℕ) →
+    IsDue (due_of_check trace (both_named capture script) reads).answer Exceeded text → ⊥
+check_exceeded trace capture script reads text due =
+    exceeded_of (traced (reading Replay (both_named capture script) reads) (if_short (reads.trace trace))) text due
 
 -- a bad script is due where the script's name alone is
 trace_no_script : (stage : Stage) (t : Option (List ℕ)) (text : List ℕ) →
@@ -118,13 +129,13 @@ trace_unread trace capture script told files fault read =
     unread r t (inl outside) = inl outside
     unread r t (inr due) = inr (ap (λ (s : Reading). traced s t) due)
 
-    all : (r : Reading) (names : List (List ℕ)) → IsRead r (Err fault) → fault_status fault ≢ ReadFault →
-        fault_status fault ≢ Memory → AsksAll files.before files.now names →
-        AsksAll files.before files.now (names ++ trace_names r trace)
-    all r names (inl (inl e)) read memory asks = absurd (read e)
-    all r names (inl (inr e)) read memory asks = absurd (memory e)
-    all r names (inr due) read memory asks =
-        subst (AsksAll files.before files.now)
+    all : (held : ℕ) (r : Reading) (names : List (List ℕ)) → IsRead r (Err fault) → fault_status fault ≢ ReadFault →
+        fault_status fault ≢ Memory → AsksAll held files names →
+        AsksAll held files (names ++ trace_names r trace)
+    all held r names (inl (inl e)) read memory asks = absurd (read e)
+    all held r names (inl (inr e)) read memory asks = absurd (memory e)
+    all held r names (inr due) read memory asks =
+        subst (AsksAll held files)
         (sym (append-nil names) ∙ ap (λ (s : Reading). names ++ trace_names s trace) (sym due)) asks
 
     by : (reads : Reads) → ReadsStage Replay (both_named capture script) reads files (Err fault) →
@@ -135,8 +146,9 @@ trace_unread trace capture script told files fault read =
         record {
           read = unread r (if_short (reads.trace trace)) h.read;
           asks = record {
-            some = asks_more files.before files.now names (trace_names r trace) h.asks.some;
-            all = λ read memory. all r names h.read read memory (h.asks.all read memory);
+            held = h.asks.held;
+            some = asks_more h.asks.held files names (trace_names r trace) h.asks.some;
+            all = λ read memory. all h.asks.held r names h.read read memory (h.asks.all read memory);
             rose = h.asks.rose;
             kept = h.asks.kept;
             opens = λ e. check_open trace capture script reads;
@@ -199,39 +211,50 @@ kept_of stage r kept (inr same) read = same
 kept_of stage (Ok trace) kept (inl none) read = absurd none
 kept_of stage (Err fault) kept (inl e) read = absurd (read e)
 
+-- where a stage was read, both names are due
+both_due : (capture script : List ℕ) (r : Result Script StageFault) (c : List Vip → Captured) (stage : Stage) →
+    with_script r c ≡ Ok stage → names_after (both_named capture script) r ≡ script ∷ capture ∷ []
+both_due capture script (Ok found) c stage is = refl
+both_due capture script (Err fault) c stage is = absurd (cc)
+
 -- the stage was read, and then this of the trace
-pub trace_read : (trace capture script : List ℕ) (told then : Octets) (before mid now : Option (List (List ℕ)))
-    (faults later last : ℕ) (stage : Stage) (r : Result (List ℕ) StageFault) →
-    Holds told (λ reads. ReadsStage Replay (both_named capture script) reads
-    (record { before = before; now = mid; faults = faults; later = later }) (Ok stage)) →
-    then ≡ told → ReadsTraceFile then trace r → AsksPrefix mid now (trace ∷ []) →
-    IsErrAnd r IsOutside ⊎ AsksAll mid now (trace ∷ []) → later ≤ last →
-    IfErr r (λ fault. fault_status fault ≡ ReadFault → Rose later last) →
-    IsErrAnd r (λ fault. fault_status fault ≡ ReadFault) ⊎ (last ≡ later) →
-    Holds told (λ reads. ReadsTrace trace capture script reads
-    (record { before = before; now = now; faults = faults; later = last }) (traced (Ok stage) r))
-trace_read trace capture script told then before mid now faults later last stage r read same traces part all low cause
-    kept =
-    let first : FilesDid = record { before = before; now = mid; faults = faults; later = later } in
-    let files : FilesDid = record { before = before; now = now; faults = faults; later = last } in
+pub trace_read : (trace capture script : List ℕ) (told then : Octets) (held many : ℕ) (files : FilesDid)
+    (mid : Option (List Opening)) (later : ℕ) (stage : Stage) (r : Result (List ℕ) StageFault) →
+    Holds told (λ reads. ReadsStage Replay (both_named capture script) reads (first_of files mid later) (Ok stage)) →
+    AsksAll held (first_of files mid later) (script ∷ capture ∷ []) → many ≡ held →
+    then ≡ told → ReadsTraceFile then trace r → AsksPrefix many (second_of files mid later) (trace ∷ []) →
+    IsErrAnd r IsOutside ⊎ AsksAll many (second_of files mid later) (trace ∷ []) → later ≤ files.later →
+    IfErr r (λ fault. fault_status fault ≡ ReadFault → Rose later files.later) →
+    IsErrAnd r (λ fault. fault_status fault ≡ ReadFault) ⊎ (files.later ≡ later) →
+    Holds told (λ reads. ReadsTrace trace capture script reads files (traced (Ok stage) r))
+trace_read trace capture script told then held many files mid later stage r read both as_many same traces part all low
+    cause kept =
+    let first = first_of files mid later in
+    let last = files.later in
     holds_more told (Gives trace capture script first stage r)
     (λ reads. ReadsTrace trace capture script reads files (traced (Ok stage) r))
     (λ reads gives.
     let s = reading Replay (both_named capture script) reads in
-    let names = names_after (both_named capture script) (script_by Replay reads (Some script)) in
+    let found = script_by Replay reads (Some script) in
+    let names = names_after (both_named capture script) found in
     let is : s ≡ Ok stage = gives.first.read in
     let asks = gives.first.asks in
-    let whole : AsksAll before mid names = asks.all (λ e. cc) (λ e. cc) in
+    let as_often : later ≡ files.faults = asks.kept (λ e. cc) (λ e. cc) in
+    let wanted : names ++ trace_names s trace ≡ (script ∷ capture ∷ []) ++ trace ∷ [] =
+    ap (λ (x : Reading). names ++ trace_names x trace) is
+    ∙ ap (λ (l : List (List ℕ)). l ++ trace ∷ []) (both_due capture script found (reads.capture capture) stage is) in
     record {
       read = subst (λ (x : Reading). IsRead (traced x (if_short (reads.trace trace))) (traced (Ok stage) r)) (sym is)
           (traced_read stage (if_short (reads.trace trace)) r gives.second);
       asks = record {
-        some = subst (λ (x : Reading). AsksPrefix before now (names ++ trace_names x trace)) (sym is)
-            (asks_then before mid now names (trace ∷ []) whole part);
-        all = λ not memory. subst (λ (x : Reading). AsksAll before now (names ++ trace_names x trace)) (sym is)
-            (all_then before mid now names (trace ∷ []) whole (all_asked stage r (AsksAll mid now (trace ∷ [])) all not memory));
-        rose = λ e. subst (λ n. Rose n last) (asks.kept (λ x. cc) (λ x. cc)) (rose_of stage r (Rose later last) cause e);
-        kept = λ not memory. kept_of stage r (last ≡ later) kept not ∙ asks.kept (λ e. cc) (λ e. cc);
+        held = held;
+        some = subst (AsksPrefix held files) (sym wanted)
+            (asks_then held many later files mid (script ∷ capture ∷ []) (trace ∷ []) both as_many as_often part);
+        all = λ not memory. subst (AsksAll held files) (sym wanted)
+            (all_then held many later files mid (script ∷ capture ∷ []) (trace ∷ []) both as_many as_often
+            (all_asked stage r (AsksAll many (second_of files mid later) (trace ∷ [])) all not memory));
+        rose = λ e. subst (λ n. Rose n last) as_often (rose_of stage r (Rose later last) cause e);
+        kept = λ not memory. kept_of stage r (last ≡ later) kept not ∙ as_often;
         opens = λ e. check_open trace capture script reads;
       };
     })
@@ -259,17 +282,6 @@ said_check due (Err fault) says text (inl outside) said =
     said_outside (answer_of_check due) fault says text outside said
 said_check due (Err fault) says text (inr same) said =
     subst (λ (d : Result (Stage × List ℕ) StageFault). IsSaid (answer_of_check d) says text) (sym same) (inl said)
-
--- of an answer that says neither that a read failed nor that memory was refused
-asks_unread : (names : List (List ℕ)) (files : FilesDid) (says : Status) → AsksFor names Done files →
-    says ≢ ReadFault → AsksFor names says files
-asks_unread names files says asks unread = record {
-  some = asks.some;
-  all = λ read memory. asks.all (λ e. cc) (λ e. cc);
-  rose = λ e. absurd (unread e);
-  kept = λ read memory. asks.kept (λ e. cc) (λ e. cc);
-  opens = λ e. absurd (unread e);
-}
 
 asks_check : (r : Result (Stage × List ℕ) StageFault) (names : List (List ℕ)) (files : FilesDid) (says : Status)
     (text : List ℕ) → AsksFor names (status_by r) files → IsOf (answer_of_check r) says text →

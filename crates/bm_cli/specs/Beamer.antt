@@ -6,4 +6,4 @@ use Rattle.bm_cli.specs.Program.{Program}
 use Rattle.bm_cli.specs.Top.{scripts_in}
 
 abbrev pub beamer : Program Asked
-beamer = record { due = due; usage = usage_line; scripts = scripts_in }
+beamer = record { due = due; usage = usage_line; scripts = scripts_in; greatest = 8 }

@@ -9,7 +9,7 @@ use Rattle.bm_cli.specs.declared.fault.StageFault.TheVariants.{LongTrace}
 use Rattle.bm_cli.specs.declared.mode.Mode.{Mode}
 use Rattle.bm_cli.specs.declared.mode.Mode.TheVariants.{Replay as by_replay, Run as by_run}
 use Rattle.bm_cli.specs.declared.status.Status.{Status}
-use Rattle.bm_cli.specs.declared.status.Status.TheVariants.{Done, Usage}
+use Rattle.bm_cli.specs.declared.status.Status.TheVariants.{Done, Usage, Exceeded}
 use Rattle.bm_cli.specs.Checks.{IsCheckOf, checked_line, checked_status}
 use Rattle.bm_cli.specs.Headline.{IsReportOf}
 use Rattle.bm_cli.specs.Lines.{fault_line, fault_status, usage_line}
@@ -19,11 +19,13 @@ use Rattle.bm_cli.specs.Reading.{Reading, Reads, reading, script_by}
 use Rattle.bm_cli.specs.Streams.{AreStreams}
 
 -- the words fit no form, and this usage line is written; there is a fault; a text is shown that
--- satisfies this; or a trace is judged by a check whose answer satisfies this
+-- satisfies this; this text is shown, which says that the words ask about more than the script
+-- allows; or a trace is judged by a check whose answer satisfies this
 pub data Answer : Type 1 where
   Misused : List ℕ → Answer
   Refused : StageFault → Answer
   Shown : (List ℕ → Type 0) → Answer
+  Warned : List ℕ → Answer
   Judged : (Checked → Type 0) → Answer
 
 -- the names that the files are asked for, in order, and the answer
@@ -36,6 +38,7 @@ abbrev pub IsDue : Answer → Status → List ℕ → Type 0
 IsDue (Misused line) says text = (says ≡ Usage) × (text ≡ line)
 IsDue (Refused fault) says text = (says ≡ fault_status fault) × (text ≡ fault_line fault)
 IsDue (Shown is) says text = (says ≡ Done) × is text
+IsDue (Warned line) says text = (says ≡ Exceeded) × (text ≡ line)
 IsDue (Judged is) says text =
     (a : Checked) × is a × (says ≡ checked_status a) × (text ≡ checked_line a)
 
@@ -58,6 +61,18 @@ due_of_stage mode is names reads = record {
   names = names_after names (script_by mode reads names.script);
   answer = answer_for is (reading mode names reads);
 }
+
+-- A SCRIPT ALONE
+
+-- what is due by the script, or the line of its fault
+abbrev pub answer_by : (Script → Answer) → Result Script StageFault → Answer
+answer_by of (Ok script) = of script
+answer_by of (Err fault) = Refused fault
+
+-- what is due by the script of this name, which alone is asked for, or the line of its fault
+abbrev pub due_of_script : (Script → Answer) → List ℕ → Reads → Due
+due_of_script of name reads =
+    record { names = name ∷ []; answer = answer_by of (reads.script name) }
 
 -- A STAGE AND A TRACE OF IT
 

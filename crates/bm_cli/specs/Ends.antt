@@ -20,9 +20,11 @@ IsSaid answer says text =
 
 -- What the files were asked for, by the names that are due and by the status.
 pub record AsksFor (names : List (List ℕ)) (says : Status) (files : FilesDid) : Type 0 where
+  -- how many sources were open at each name, so that no two of them were open at a time
+  pub held : ℕ
   -- the names in order: all of them, unless a read failed or memory was refused
-  pub some : AsksPrefix files.before files.now names
-  pub all : says ≢ ReadFault → says ≢ Memory → AsksAll files.before files.now names
+  pub some : AsksPrefix held files names
+  pub all : says ≢ ReadFault → says ≢ Memory → AsksAll held files names
   -- if the status says that a read failed, one did, and there was a file to read
   pub rose : says ≡ ReadFault → Rose files.faults files.later
   -- otherwise none failed, unless memory was refused

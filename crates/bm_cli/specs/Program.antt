@@ -9,7 +9,8 @@ use Rattle.bm_cli.specs.Lines.{fault_line}
 use Rattle.bm_cli.specs.Names.{AsksAll, AsksPrefix}
 use Rattle.bm_cli.specs.Reading.{Holds, Octets, Reads}
 use Rattle.bm_cli.specs.Statuses.{FilesDid, SinkDid}
-use Rattle.bm_cli.specs.Top.{DeniesAnswer, IsAccepted, IsStatusOf, RefusesAnswer, WritesSome}
+use Rattle.bm_cli.specs.Top.{DeniesAnswer, IsAccepted, IsStatusOf, RefusesAnswer, WarnsAnswer}
+use Rattle.bm_cli.specs.Top.{WritesSome}
 
 -- a program, whose words are of the forms A
 pub record Program (A : Type 0) : Type 1 where
@@ -19,6 +20,8 @@ pub record Program (A : Type 0) : Type 1 where
   pub usage : List ℕ
   -- just the script's name, if the words have one
   pub scripts : Option A → List (List ℕ)
+  -- the greatest exit status
+  pub greatest : ℕ
 
 -- What a call promises, for words of this form, by the files' octets where these are known, by what
 -- it did to the files and to the sink, and by the exit status.
@@ -31,7 +34,7 @@ pub record IsProgram {A : Type 0} (program : Program A) (form : Option A) (told 
   -- an accepted call is answered, unless the files or the sink failed, or memory was refused
   pub complete : IsAccepted (program.due form) told →
       (code ≡ 0) ⊎ (code ≡ 6) ⊎ Rose files.faults files.later ⊎ Rose sink.faults sink.later
-  pub known : code ≤ 8
+  pub known : code ≤ program.greatest
   pub misused : code ≡ 1 → form ≡ None
   pub named : code ≡ 2 → IsSome form
   pub read : code ≡ 2 → Rose files.faults files.later
@@ -48,13 +51,16 @@ pub record IsProgram {A : Type 0} (program : Program A) (form : Option A) (told 
       Holds told (λ reads. RefusesAnswer (program.due form reads).answer code sink.before sink.now)
   pub denied : code ≡ 8 →
       Holds told (λ reads. DeniesAnswer (program.due form reads).answer sink.before sink.now)
+  pub exceeded : code ≡ 9 →
+      Holds told (λ reads. WarnsAnswer (program.due form reads).answer sink.before sink.now)
   pub part : (code ≡ 5) ⊎ (code ≡ 6) →
       Holds told (λ reads. WritesSome (program.due form reads) files sink)
-  -- the files are asked for the names that are due, in order, each at most once
+  -- the files are asked for the names that are due, in order, each at most once: none after a file
+  -- that failed, and one at a time, since as many sources are open at each as at the others
   pub asked : Holds told
-      (λ reads. AsksPrefix files.before files.now (program.due form reads).names)
+      (λ reads. (held : ℕ) × AsksPrefix held files (program.due form reads).names)
   -- they were asked for all of them, unless the files or the sink failed, or memory was refused
   pub all : code ≢ 2 → code ≢ 5 → code ≢ 6 →
-      Holds told (λ reads. AsksAll files.before files.now (program.due form reads).names)
+      Holds told (λ reads. (held : ℕ) × AsksAll held files (program.due form reads).names)
   -- after a fault of the script they were asked for its name alone, whatever they contain
-  pub script : code ≡ 4 → AsksAll files.before files.now (program.scripts form)
+  pub script : code ≡ 4 → (held : ℕ) × AsksAll held files (program.scripts form)

@@ -1,5 +1,6 @@
--- What was read of a stage.
-use Rattle.std.specs.Prelude.{◌≡◌, ◌⊎◌, Result, Ok, Err}
+-- What was read of a stage, and of a script alone.
+use Rattle.std.specs.Prelude.{◌≡◌, ◌⊎◌, ℕ, List, [], ◌∷◌, Result, Ok, Err}
+use Rattle.bm_table.specs.declared.script.Script.{Script}
 use Rattle.bm_words.specs.Form.{Named}
 use Rattle.bm_cli.specs.declared.fault.StageFault.{StageFault}
 use Rattle.bm_cli.specs.declared.mode.Mode.{Mode}
@@ -31,3 +32,9 @@ pub record ReadsStage (mode : Mode) (names : Named) (reads : Reads) (files : Fil
   pub read : IsRead (reading mode names reads) result
   pub asks : AsksFor (names_after names (script_by mode reads names.script)) (status_by result)
       files
+
+-- the script of this name was read, or its fault, and the files were asked for this name
+pub record ReadsNamed (name : List ℕ) (reads : Reads) (files : FilesDid)
+    (result : Result Script StageFault) : Type 0 where
+  pub read : IsRead (reads.script name) result
+  pub asks : AsksFor (name ∷ []) (status_by result) files

@@ -3,9 +3,11 @@ use Rattle.std.specs.Prelude.{◌≡◌, ◌≢◌, ℕ, ◌≤◌, ◌⊎◌, L
 use Rattle.std.specs.Io.KnownBytes.{Appends}
 use Rattle.bm_io.specs.Causes.{Rose}
 use Rattle.bm_io.specs.Written.{WritesPart}
+use Rattle.bm_io.specs.declared.opening.Opening.{Opening}
 use Rattle.bm_cli.specs.declared.status.Status.{Status}
 use Rattle.bm_cli.specs.declared.status.Status.TheVariants.{Done, Usage, ReadFault, BadCapture}
 use Rattle.bm_cli.specs.declared.status.Status.TheVariants.{BadScript, WriteFault, Memory, Limit, Denied}
+use Rattle.bm_cli.specs.declared.status.Status.TheVariants.{Exceeded}
 
 -- the exit status
 abbrev pub code_of : Status → ℕ
@@ -18,6 +20,7 @@ code_of WriteFault = 5
 code_of Memory = 6
 code_of Limit = 7
 code_of Denied = 8
+code_of Exceeded = 9
 
 -- What a call did to a sink, or to files: what is known of their content before and after it, and
 -- how often they had failed.
@@ -28,7 +31,7 @@ pub record Did (A : Type 0) : Type 0 where
   pub later : ℕ
 
 abbrev pub FilesDid : Type 0
-FilesDid = Did (List (List ℕ))
+FilesDid = Did (List Opening)
 
 abbrev pub SinkDid : Type 0
 SinkDid = Did (List ℕ)

@@ -9,7 +9,7 @@ use Rattle.bm_cli.specs.Checks.{checked_line, checked_status}
 use Rattle.bm_cli.specs.declared.fault.StageFault.TheVariants.{Files}
 use Rattle.bm_cli.specs.declared.status.Status.{Status}
 use Rattle.bm_cli.specs.declared.status.Status.TheVariants.{Denied, Done}
-use Rattle.bm_cli.specs.Dues.{Answer, Misused, Refused, Shown, Judged, Due, IsDue}
+use Rattle.bm_cli.specs.Dues.{Answer, Misused, Refused, Shown, Warned, Judged, Due, IsDue}
 use Rattle.bm_cli.specs.Headline.{Shows}
 use Rattle.bm_cli.specs.Lines.{fault_line, fault_status}
 use Rattle.bm_cli.specs.Names.{script_names}
@@ -21,6 +21,7 @@ abbrev pub ShowsAnswer : Answer → Option (List ℕ) → Option (List ℕ) → 
 ShowsAnswer (Misused line) before now = ⊥
 ShowsAnswer (Refused fault) before now = ⊥
 ShowsAnswer (Shown is) before now = Shows is before now
+ShowsAnswer (Warned text) before now = ⊥
 ShowsAnswer (Judged is) before now =
     (e : ℕ) × is (Yes e) × Appends before now (checked_line (Yes e))
 
@@ -30,6 +31,7 @@ RefusesAnswer (Misused line) code before now = ⊥
 RefusesAnswer (Refused fault) code before now =
     (code ≡ code_of (fault_status fault)) × Appends before now (fault_line fault)
 RefusesAnswer (Shown is) code before now = ⊥
+RefusesAnswer (Warned text) code before now = ⊥
 RefusesAnswer (Judged is) code before now = ⊥
 
 -- an answer of a check that isn't yes is due, and its line was written
@@ -37,6 +39,11 @@ abbrev pub DeniesAnswer : Answer → Option (List ℕ) → Option (List ℕ) →
 DeniesAnswer (Judged is) before now =
     (a : Checked) × is a × (checked_status a ≡ Denied) × Appends before now (checked_line a)
 DeniesAnswer _ before now = ⊥
+
+-- a text is due that says that the words ask about more than the script allows, and it was written
+abbrev pub WarnsAnswer : Answer → Option (List ℕ) → Option (List ℕ) → Type 0
+WarnsAnswer (Warned text) before now = Appends before now text
+WarnsAnswer _ before now = ⊥
 
 -- the exit status is one that is due
 abbrev pub IsCodeOf : Answer → ℕ → Type 0
@@ -53,7 +60,8 @@ abbrev pub AsksNone : (Reads → Due) → Type 0
 AsksNone due = (reads : Reads) → (due reads).names ≡ []
 
 -- for whatever may be read, or what the files' octets give if these are known, the text that is due
--- isn't the line of a fault or of misuse, nor of a check that doesn't answer yes
+-- isn't the line of a fault or of misuse, nor of a check that doesn't answer yes, nor one that says
+-- that the words ask about more than the script allows
 abbrev pub IsAccepted : (Reads → Due) → Octets → Type 0
 IsAccepted due told =
     (reads : Reads) → Known told reads → (says : Status) (text : List ℕ)

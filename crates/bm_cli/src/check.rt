@@ -90,9 +90,11 @@ fn read_trace<F: Files>(alloc: Global, files: &mut F, name: &str) -> Result<Vec<
     ensures trace { ReadsTraceFile (F.octets files.old) name.now
         (result_map_both (λ trace. trace.items) (λ fault. fault) result) }
     ensures short { IfOk result (λ trace. length trace.items ≤ LONGEST) }
-    ensures asked { AsksPrefix (F.asked files.old) (F.asked files.new) (name.now ∷ []) }
+    ensures asked { AsksPrefix (F.open_now files.old)
+        (did F.asked F.faults files.old files.new) (name.now ∷ []) }
     ensures all { IsErrAnd result IsOutside
-        ⊎ AsksAll (F.asked files.old) (F.asked files.new) (name.now ∷ []) }
+        ⊎ AsksAll (F.open_now files.old)
+        (did F.asked F.faults files.old files.new) (name.now ∷ []) }
     ensures octets { F.octets files.new ≡ F.octets files.old }
     ensures later { F.faults files.old ≤ F.faults files.new }
     ensures cause { IfErr result (λ fault.

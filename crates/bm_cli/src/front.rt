@@ -3,6 +3,7 @@ ghost use Rattle.std.specs.Prelude.{◌≡◌, ◌<◌, ◌≤◌, ◌∷◌, []
 ghost use Rattle.bm_io.specs.Causes.{HasIoCause};
 ghost use Rattle.bm_cli.specs.Inside.Fronts.{HasFront, IsFront};
 ghost use Rattle.bm_cli.specs.Names.{AsksAll, AsksPrefix};
+ghost use Rattle.bm_cli.specs.Statuses.{did};
 
 use bm_io::{Files, IoFault, Source, fill};
 use std::alloc::{AllocError, Global};
@@ -20,8 +21,10 @@ pub(crate) fn read_front<F: Files>(
     requires room { F.open_now files.old < 4294967295 }
     ensures front { IfOk result (λ text. HasFront (F.octets files.old) name.now most text.items) }
     ensures few { IfOk result (λ text. vec_len text ≤ most) }
-    ensures asked { AsksPrefix (F.asked files.old) (F.asked files.new) (name.now ∷ []) }
-    ensures all { OnOk result (AsksAll (F.asked files.old) (F.asked files.new) (name.now ∷ [])) }
+    ensures asked { AsksPrefix (F.open_now files.old)
+        (did F.asked F.faults files.old files.new) (name.now ∷ []) }
+    ensures all { OnOk result (AsksAll (F.open_now files.old)
+        (did F.asked F.faults files.old files.new) (name.now ∷ [])) }
     ensures octets { F.octets files.new ≡ F.octets files.old }
     ensures cause { HasIoCause (F.faults files.old) (F.faults files.new) result }
     ensures open { F.open_now files.new ≡ F.open_now files.old }

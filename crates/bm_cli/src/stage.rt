@@ -1,10 +1,11 @@
 //! The stage: the script and the capture that the words name.
-ghost use Rattle.std.specs.Prelude.{◌≡◌, ◌<◌, ◌≤◌, IfOk, IsSome};
+ghost use Rattle.std.specs.Prelude.{◌≡◌, ◌<◌, ◌≤◌, ◌∷◌, ◌++◌, [], IfOk, IsSome, OnOk};
 ghost use Rattle.std.specs.Result.{result_map_both};
 ghost use Rattle.bm_core.specs.Stages.{IsSound};
 ghost use Rattle.bm_link.specs.Fits.{ArePackets};
 ghost use Rattle.bm_pcap.specs.Limits.{latest};
 ghost use Rattle.bm_words.specs.Form.{named};
+ghost use Rattle.bm_cli.specs.Names.{AsksAll, script_names};
 ghost use Rattle.bm_cli.specs.Stages.{ReadsStage};
 ghost use Rattle.bm_cli.specs.Reading.{Holds};
 ghost use Rattle.bm_cli.specs.Statuses.{did};
@@ -41,6 +42,9 @@ pub(crate) fn read_stage<F: Files>(
         ReadsStage mode (named names.entry) reads (did F.asked F.faults files.old files.new)
         (result_map_both (λ read. read.0) (λ fault. fault) result)
         × IfOk result (λ read. read.1 ≡ packets_in mode (named names.entry) reads)) }
+    ensures all { OnOk result (AsksAll (F.open_now files.old)
+        (did F.asked F.faults files.old files.new)
+        (script_names (named names.entry).script ++ (named names.entry).capture ∷ [])) }
     ensures early { IfOk result (λ read. read.2 ≤ latest) }
     ensures sound { IfOk result (λ read. IsSound read.0) }
     ensures packets { IfOk result (λ read. ArePackets read.0.capture.records read.1) }

@@ -25,6 +25,8 @@ pub enum Status {
     Limit,
     /// A check doesn't answer yes.
     Denied,
+    /// What the words ask about is more than the named script allows.
+    Exceeded,
 }
 
 impl Status {
@@ -42,6 +44,7 @@ impl Status {
             Status::Memory => 6,
             Status::Limit => 7,
             Status::Denied => 8,
+            Status::Exceeded => 9,
         }
     }
 }

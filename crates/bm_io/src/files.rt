@@ -2,8 +2,9 @@
 ghost use Rattle.std.specs.Prelude.{◌≡◌, ◌≤◌, ◌<◌, ◌+◌, List, ℕ, IfOk, IsErrOf};
 ghost use Rattle.std.specs.declared.option.Option.{Option};
 ghost use Rattle.bm_io.specs.Causes.{Rose, HasIoCause};
-ghost use Rattle.bm_io.specs.Names.{HasOctetsOf, Asks, open_after};
+ghost use Rattle.bm_io.specs.Names.{HasOctetsOf, Asks, open_after, opening};
 ghost use Rattle.bm_io.specs.declared.fault.IoFault.TheVariants.{Memory};
+ghost use Rattle.bm_io.specs.declared.opening.Opening.{Opening};
 
 use crate::{IoFault, Source};
 
@@ -14,8 +15,9 @@ pub trait Files {
     /// The octets of each name (none for a name that isn't there), or None if they aren't known.
     ghost octets: { Self → Option (List ℕ → List ℕ) };
 
-    /// The names asked for so far, or None if they aren't known.
-    ghost asked: { Self → Option (List (List ℕ)) };
+    /// The names asked for so far, each with how often the files had failed by then and how many
+    /// sources were open; None if they aren't known.
+    ghost asked: { Self → Option (List Opening) };
 
     /// How often the files have failed, at most 2^64 - 1.
     ghost faults: { Self → ℕ };
@@ -31,7 +33,8 @@ pub trait Files {
             (λ src. HasOctetsOf (octets self.old) name.now (Self.Src.left src)) }
         ensures new { IfOk result (λ src. Self.Src.faults src ≡ 0) }
         ensures octets { octets self.new ≡ octets self.old }
-        ensures asked { Asks (asked self.old) (asked self.new) name.now result }
+        ensures asked { Asks (asked self.old) (asked self.new)
+            (opening (faults self.old) (open_now self.old) name.now) result }
         ensures cause { HasIoCause (faults self.old) (faults self.new) result }
         ensures memory { IsErrOf result Memory → faults self.new ≡ faults self.old }
         ensures open { open_now self.new ≡ open_after result (open_now self.old) };

@@ -4,7 +4,7 @@ ghost use Rattle.bm_io.specs.MemNames.{octets_in, octets_of};
 ghost use Rattle.bm_io.specs.Inside.MemNames.{IsSourceOfFound};
 
 use crate::named::{Named, find};
-use crate::{Files, IoFault, MemFile, MemSource, Source};
+use crate::{Files, IoFault, MemFile, MemSource, Opening, Source};
 use bm_base::Text;
 use std::alloc::{AllocError, Global};
 
@@ -13,7 +13,7 @@ use std::alloc::{AllocError, Global};
 pub struct MemFiles {
     alloc: Global,
     files: Vec<MemFile>,
-    asked: Vec<Text>,
+    asked: Vec<Opening>,
     faults: u64,
     open_now: u32,
 }
@@ -74,7 +74,7 @@ impl Files for MemFiles {
     ghost use Rattle.bm_io.specs.Calls.{faults_after, has_failed};
     ghost use Rattle.bm_io.specs.Causes.{HasIoCause};
     ghost use Rattle.bm_io.specs.MemNames.{Opens, file_of};
-    ghost use Rattle.bm_io.specs.Names.{HasOctetsOf, Asks, open_after};
+    ghost use Rattle.bm_io.specs.Names.{HasOctetsOf, Asks, open_after, opening};
 
     type Src = MemSource;
 
@@ -92,8 +92,8 @@ impl Files for MemFiles {
             (λ src. HasOctetsOf (Some (octets_of self.old.files.items)) name.now
             (⟦<MemSource as Source>⟧.left src)) }
         ensures new { IfOk result (λ src. ⟦<MemSource as Source>⟧.faults src ≡ 0) }
-        ensures asked { Asks (Some self.old.asked.items) (Some self.new.asked.items) name.now
-            result }
+        ensures asked { Asks (Some self.old.asked.items) (Some self.new.asked.items)
+            (opening self.old.faults self.old.open_now name.now) result }
         ensures cause { HasIoCause self.old.faults self.new.faults result }
         ensures open { self.new.open_now ≡ open_after result self.old.open_now }
         ensures opens { Opens (file_of self.old.files.items name.now) result }
@@ -103,7 +103,11 @@ impl Files for MemFiles {
         let found = find(&self.files, name);
         let missing = found.is_none();
         let source = open_found(self.alloc, found)?;
-        let asked = Text::of(String::from_str(self.alloc, name)?);
+        let asked = Opening {
+            name: Text::of(String::from_str(self.alloc, name)?),
+            faults: self.faults,
+            open_now: self.open_now,
+        };
         self.asked.push(asked)?;
         if missing {
             self.faults = self.faults.saturating_add(1);

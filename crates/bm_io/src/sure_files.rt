@@ -4,7 +4,7 @@ ghost use Rattle.bm_io.specs.SureNames.{IsSourceOf, octets_in, octets_of};
 
 use crate::named::{Named, find};
 use crate::sure_file::SureFile;
-use crate::{Files, IoFault, Source, SureSource};
+use crate::{Files, IoFault, Opening, Source, SureSource};
 use bm_base::Text;
 use std::alloc::{AllocError, Global};
 
@@ -14,7 +14,7 @@ use std::alloc::{AllocError, Global};
 pub struct SureFiles {
     alloc: Global,
     files: Vec<SureFile>,
-    asked: Vec<Text>,
+    asked: Vec<Opening>,
     open_now: u32,
 }
 
@@ -62,7 +62,7 @@ fn open_found(alloc: Global, found: Option<&SureFile>) -> Result<SureSource, All
 impl Files for SureFiles {
     ghost use Rattle.bm_io.specs.Causes.{HasIoCause};
     ghost use Rattle.std.specs.Prelude.{◌<◌, ◌+◌};
-    ghost use Rattle.bm_io.specs.Names.{HasOctetsOf, Asks, open_after};
+    ghost use Rattle.bm_io.specs.Names.{HasOctetsOf, Asks, open_after, opening};
     ghost use Rattle.bm_io.specs.SureNames.{file_of};
 
     type Src = SureSource;
@@ -80,15 +80,19 @@ impl Files for SureFiles {
         ensures left { IfOk result
             (λ src. HasOctetsOf (Some (octets_of self.old.files.items)) name.now
             (⟦<SureSource as Source>⟧.left src)) }
-        ensures asked { Asks (Some self.old.asked.items) (Some self.new.asked.items) name.now
-            result }
+        ensures asked { Asks (Some self.old.asked.items) (Some self.new.asked.items)
+            (opening 0 self.old.open_now name.now) result }
         ensures cause { HasIoCause 0 0 result }
         ensures open { self.new.open_now ≡ open_after result self.old.open_now }
         ensures source { IfOk result (IsSourceOf (file_of self.old.files.items name.now)) }
         ensures same { self.new.files ≡ self.old.files }
     {
         let source = open_found(self.alloc, find(&self.files, name))?;
-        let asked = Text::of(String::from_str(self.alloc, name)?);
+        let asked = Opening {
+            name: Text::of(String::from_str(self.alloc, name)?),
+            faults: 0,
+            open_now: self.open_now,
+        };
         self.asked.push(asked)?;
         self.open_now += 1;
         Ok(source)

@@ -1,6 +1,6 @@
-//! Files and an output that fail at each of their calls in turn, for replays and for runs.
+//! Files and an output that fail at each of their calls in turn, for each form that reads files.
 use crate::capture::{Form, OPENED, raw, session};
-use crate::fakes::{Fake, fakes_answer, run_fakes};
+use crate::fakes::{Call, Fake, fakes_answer, run_fakes};
 use crate::gates::count;
 use crate::rows::{MOVED_REPORT, MOVED_SCRIPT};
 use bm_io::{IoFault, MemSink, Sink};
@@ -16,43 +16,80 @@ const SESSION_SCRIPT: &str = "muxes = 2\n[[command]]\nat_ns = 5000000\ndo = \"sy
      [[command]]\nat_ns = 5000000\ndo = \"add\"\nserver = 3\n\
      [[command]]\nat_ns = 5000000\ndo = \"sync\"\n";
 
-/// What is called, and how often.
+/// What is written.
+#[derive(Clone, Copy)]
+enum Text {
+    /// This, in pieces of which only the last may be short.
+    Whole(&'static str),
+    /// A report that has this, whatever the order of a run's threads.
+    Has(&'static str),
+}
+
+/// What is called, what is written where nothing fails, and how often the devices are called: the
+/// script, the capture, the trace, and the output, for a report of a run at least.
+#[derive(Clone, Copy)]
+struct Called {
+    call: Call<'static>,
+    text: Text,
+    calls: (u32, u32, u32, u32),
+}
+
+/// Over the two packets of `OPENED`, with `MOVED_SCRIPT` and `MOVED_REPORT`. The 64 octets of the
+/// script are read in two reads, and a third finds the end. Of the capture, 4 octets are read,
+/// which decide the form, then the other 20 of the header, and then 122 in four reads; a seventh
+/// finds the end. The 311 octets of a report take eight writes, and eight reads and a ninth for the
+/// end; a run may write more. The lines of streams have 70 octets, the object 316.
+static OVER_TWO: [Called; 5] = [
+    Called {
+        call: Call::Beamer(&["replay", "c", "s"]),
+        text: Text::Whole(MOVED_REPORT),
+        calls: (3, 7, 0, 8),
+    },
+    Called {
+        call: Call::Beamer(&["run", "c", "s"]),
+        text: Text::Has("total packets 2 steered 2 unsteered 0 accepted 1 processed 1 "),
+        calls: (3, 7, 0, 8),
+    },
+    Called {
+        call: Call::Beamer(&["streams", "c", "s"]),
+        text: Text::Whole(
+            "stream 2 1 10.0.0.1:1000 192.0.2.1:80 octets 10 b9bbc7aa22d79212 open\n",
+        ),
+        calls: (3, 7, 0, 2),
+    },
+    Called {
+        call: Call::Beamer(&["check", "t", "c", "s"]),
+        text: Text::Whole("beamer: check: yes 7 events\n"),
+        calls: (3, 7, 9, 1),
+    },
+    Called {
+        call: Call::Connections(&["c", "s", "--json"]),
+        text: Text::Whole(
+            "{\"arrivals\":{\"accepted\":1,\"dropped\":0,\"forwarded\":1,\"processed\":1,\
+             \"reset\":0,\"stray\":0},\"broken\":null,\"client\":\"10.0.0.1:1000\",\
+             \"forward\":{\"at_ns\":1002,\"packet\":2,\"server\":2,\"wait_ns\":502},\
+             \"last\":{\"at_ns\":1000,\"packet\":2},\"opened\":{\"at_ns\":0,\"packet\":1},\
+             \"rack\":null,\"refused\":null,\"server\":1,\"service\":\"192.0.2.1:80\"}\n",
+        ),
+        calls: (3, 7, 0, 8),
+    },
+];
+
+/// Over the twelve packets of a session. The 140 octets of the script are read in four reads, and a
+/// fifth finds the end. Of the capture, 1,270 octets come after the header, in 32 reads. A report
+/// has at least 12 lines of packets and 25 of events.
+static OVER_TWELVE: Called = Called {
+    call: Call::Beamer(&["run", "c", "s"]),
+    text: Text::Has("total packets 12 steered 7 unsteered 5 accepted 1 processed 6 forwarded 3 "),
+    calls: (5, 35, 0, 20),
+};
+
+/// What is called over a script and a capture.
 #[derive(Clone, Copy)]
 struct Case<'a> {
-    form: &'a str,
+    called: &'static Called,
     script: &'a str,
     capture: &'a [u8],
-    /// In every report, whatever the order of a run's threads.
-    ends: &'a str,
-    /// The calls of the script, of the capture, and at least of the output.
-    calls: (u32, u32, u32),
-}
-
-/// The 64 octets of the script are read in two reads, and a third finds the end. Of the capture, 4
-/// octets are read, which decide the form, then the other 20 of the header, and then 122 in four
-/// reads; a seventh finds the end. A report of 311 octets takes eight writes; that of a run may
-/// take more.
-fn two_packets<'a>(form: &'a str, capture: &'a [u8]) -> Case<'a> {
-    Case {
-        form,
-        script: MOVED_SCRIPT,
-        capture,
-        ends: "total packets 2 steered 2 unsteered 0 accepted 1 processed 1 ",
-        calls: (3, 7, 8),
-    }
-}
-
-/// The 140 octets of the script are read in four reads, and a fifth finds the end. Of the capture,
-/// 1,270 octets come after the header, in 32 reads. A report has at least 12 lines of packets and
-/// 25 of events.
-fn twelve_packets<'a>(capture: &'a [u8]) -> Case<'a> {
-    Case {
-        form: "run",
-        script: SESSION_SCRIPT,
-        capture,
-        ends: "total packets 12 steered 7 unsteered 5 accepted 1 processed 6 forwarded 3 ",
-        calls: (5, 35, 20),
-    }
 }
 
 /// The device that fails.
@@ -60,6 +97,7 @@ fn twelve_packets<'a>(capture: &'a [u8]) -> Case<'a> {
 enum Device {
     Script,
     Capture,
+    Trace,
     Output,
 }
 
@@ -87,8 +125,8 @@ fn fails(is_it: bool, call: &[u32; 1]) -> &[u32] {
     if is_it { call } else { &[] }
 }
 
-/// The script and the capture; one of these may fail at a call.
-fn both<'a>(case: &Case<'a>, device: Device, call: &'a [u32; 1]) -> [Fake<'a>; 2] {
+/// The script, the capture and a trace; one of these may fail at a call.
+fn fakes<'a>(case: &Case<'a>, device: Device, call: &'a [u32; 1]) -> [Fake<'a>; 3] {
     [
         Fake {
             name: "s",
@@ -99,6 +137,11 @@ fn both<'a>(case: &Case<'a>, device: Device, call: &'a [u32; 1]) -> [Fake<'a>; 2
             name: "c",
             octets: case.capture,
             fails: fails(device == Device::Capture, call),
+        },
+        Fake {
+            name: "t",
+            octets: MOVED_REPORT.as_bytes(),
+            fails: fails(device == Device::Trace, call),
         },
     ]
 }
@@ -117,32 +160,38 @@ fn outcome(
     let mut out = ShortSink {
         sink: MemSink::new(alloc, Vec::from_slice(alloc, writes)?),
     };
-    let form = &[case.form, "c", "s"];
-    let fakes = both(case, device, &calls);
-    let (status, open) = run_fakes(rt, alloc, form, STEP, &fakes, &mut out)?;
-    let is_due = is_due(case, device, call, status, out.sink.written());
+    let fakes = fakes(case, device, &calls);
+    let (status, open) = run_fakes(rt, alloc, case.called.call, STEP, &fakes, &mut out)?;
+    let is_due = is_due(case.called.text, device, call, status, out.sink.written());
     Ok((status, open, is_due))
 }
 
 /// Whether this is what is written where the program ends with this status.
-fn is_due(case: &Case, device: Device, call: u32, status: u8, written: &[u8]) -> bool {
+fn is_due(text: Text, device: Device, call: u32, status: u8, written: &[u8]) -> bool {
     match status {
-        0 => count(written, case.ends) > 0,
+        0 => is_all(text, written),
         2 => device != Device::Output && written == READ_FAULT.as_bytes(),
-        5 => device == Device::Output && is_part(case.form, call, written),
+        5 => device == Device::Output && is_part(text, call, written),
         _ => false,
+    }
+}
+
+/// Whether this is what is written where nothing fails.
+fn is_all(text: Text, written: &[u8]) -> bool {
+    match text {
+        Text::Whole(text) => written == text.as_bytes(),
+        Text::Has(part) => count(written, part) > 0,
     }
 }
 
 /// Whether this is what was written before a write that failed: all pieces before that one. The
 /// lines of a run's events are written out apart from the others, so one piece may be short.
-fn is_part(form: &str, call: u32, written: &[u8]) -> bool {
+fn is_part(text: Text, call: u32, written: &[u8]) -> bool {
     let made = (written.len() + STEP) as u64;
     let whole = STEP as u64 * u64::from(call);
-    if form == "replay" {
-        made == whole && MOVED_REPORT.as_bytes().starts_with(written)
-    } else {
-        made <= whole && whole < made.saturating_add(STEP as u64)
+    match text {
+        Text::Whole(text) => made == whole && text.as_bytes().starts_with(written),
+        Text::Has(_) => made <= whole && whole < made.saturating_add(STEP as u64),
     }
 }
 
@@ -156,7 +205,7 @@ fn fail(
     call: u32,
 ) -> bool {
     let (status, open, is_due) = outcome(rt, alloc, case, device, call).expect(rt, "memory");
-    assert!(rt; is_due && open == 0, "{} call {call}: {status}", case.form);
+    assert!(rt; is_due && open == 0, "call {call}: {status}");
     status != 0
 }
 
@@ -176,40 +225,67 @@ fn calls(
 }
 
 fn check(rt: &(impl Abort + Threads + Wait + Sync), alloc: Global, case: &Case) {
-    let (scripts, captures, least) = case.calls;
+    let (scripts, captures, traces, least) = case.called.calls;
     assert!(rt; calls(rt, alloc, case, Device::Script) == scripts);
     assert!(rt; calls(rt, alloc, case, Device::Capture) == captures);
+    assert!(rt; calls(rt, alloc, case, Device::Trace) == traces);
     let output = calls(rt, alloc, case, Device::Output);
-    assert!(rt; output == least || case.form == "run" && least < output && output < 100);
+    let may_be_more = matches!(case.called.text, Text::Has(_));
+    assert!(rt; output == least || may_be_more && least < output && output < 100);
+}
+
+/// This, called over the two packets of `OPENED`.
+fn over_two<'a>(called: &'static Called, capture: &'a [u8]) -> Case<'a> {
+    Case {
+        called,
+        script: MOVED_SCRIPT,
+        capture,
+    }
 }
 
 #[test]
 fn each_call_of_a_device_may_fail(rt: HostRuntime) {
-    let alloc = rt.alloc();
-    let capture = raw(alloc, Form::Micro, OPENED).expect(&rt, "memory");
-    check(&rt, alloc, &two_packets("replay", &capture));
-    check(&rt, alloc, &two_packets("run", &capture));
+    let capture = raw(rt.alloc(), Form::Micro, OPENED).expect(&rt, "memory");
+    for called in &OVER_TWO {
+        check(&rt, rt.alloc(), &over_two(called, &capture));
+    }
 }
 
 #[test]
 fn each_call_of_a_device_may_fail_in_a_session(rt: HostRuntime) {
     let capture = session(rt.alloc()).expect(&rt, "memory");
-    check(&rt, rt.alloc(), &twelve_packets(&capture));
+    let case = Case {
+        called: &OVER_TWELVE,
+        script: SESSION_SCRIPT,
+        capture: &capture,
+    };
+    check(&rt, rt.alloc(), &case);
 }
 
+/// Words with a name of no file.
+static MISSING: [Call; 9] = [
+    Call::Beamer(&["replay", "c", "x"]),
+    Call::Beamer(&["replay", "x", "s"]),
+    Call::Beamer(&["run", "c", "x"]),
+    Call::Beamer(&["run", "x", "s"]),
+    Call::Beamer(&["streams", "x", "s"]),
+    Call::Beamer(&["check", "t", "x", "s"]),
+    Call::Beamer(&["check", "x", "c", "s"]),
+    Call::Connections(&["c", "x"]),
+    Call::Connections(&["x", "s"]),
+];
+
 /// Opening fails if there is no such file.
-fn miss(rt: &(impl Abort + Threads + Wait + Sync), alloc: Global, capture: &[u8], row: &[&str]) {
-    let fakes = both(&two_packets("replay", capture), Device::Output, &[1]);
-    let answered = fakes_answer(rt, alloc, row, STEP, &fakes, &[], (2, READ_FAULT));
-    assert!(rt; answered == Ok(true), "{row:?}");
+fn miss(rt: &(impl Abort + Threads + Wait + Sync), alloc: Global, fakes: &[Fake], call: Call) {
+    let answered = fakes_answer(rt, alloc, call, STEP, fakes, &[], (2, READ_FAULT));
+    assert!(rt; answered == Ok(true));
 }
 
 #[test]
 fn each_open_may_fail(rt: HostRuntime) {
-    let alloc = rt.alloc();
-    let capture = raw(alloc, Form::Micro, OPENED).expect(&rt, "memory");
-    miss(&rt, alloc, &capture, &["replay", "c", "x"]);
-    miss(&rt, alloc, &capture, &["replay", "x", "s"]);
-    miss(&rt, alloc, &capture, &["run", "c", "x"]);
-    miss(&rt, alloc, &capture, &["run", "x", "s"]);
+    let capture = raw(rt.alloc(), Form::Micro, OPENED).expect(&rt, "memory");
+    let fakes = fakes(&over_two(&OVER_TWO[0], &capture), Device::Output, &[1]);
+    for call in &MISSING {
+        miss(&rt, rt.alloc(), &fakes, *call);
+    }
 }

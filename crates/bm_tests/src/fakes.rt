@@ -1,12 +1,19 @@
 //! Files and an output that fail at some of their calls.
 ghost use Rattle.std.specs.Prelude.{◌≤◌};
 
-use crate::program::run;
+use crate::program::{run, run_connections};
 use bm_base::{List, Text};
 use bm_io::{MemFile, MemFiles, MemSink, OpenGate, Sink};
 use std::alloc::{AllocError, Global};
 use std::sync::Wait;
 use std::thread::Threads;
+
+/// The program that is called, and its words.
+#[derive(Clone, Copy, Debug)]
+pub(crate) enum Call<'a> {
+    Beamer(&'a [&'a str]),
+    Connections(&'a [&'a str]),
+}
 
 /// A file: its name, its octets, and the numbers of the calls of its source that fail.
 #[derive(Clone, Copy)]
@@ -38,12 +45,12 @@ fn files(alloc: Global, step: usize, fakes: &[Fake]) -> Result<Vec<MemFile>, All
     Ok(files)
 }
 
-/// What the program ends with for these words over these files, which give at most `step` octets at
-/// a time, and how many sources stay open.
+/// What the call ends with over these files, which give at most `step` octets at a time, and how
+/// many sources stay open.
 pub(crate) fn run_fakes<K: Sink>(
     rt: &(impl Threads + Wait + Sync),
     alloc: Global,
-    form: &[&str],
+    call: Call,
     step: usize,
     fakes: &[Fake],
     out: &mut K,
@@ -51,16 +58,19 @@ pub(crate) fn run_fakes<K: Sink>(
     requires { 1 ≤ step }
 {
     let mut files = MemFiles::new(alloc, files(alloc, step, fakes)?);
-    let status = run(rt, alloc, form, &mut files, out, &OpenGate)?;
+    let status = match call {
+        Call::Beamer(words) => run(rt, alloc, words, &mut files, out, &OpenGate)?,
+        Call::Connections(words) => run_connections(rt, alloc, words, &mut files, out)?,
+    };
     Ok((status, files.open_now()))
 }
 
-/// Whether the program ends with this status, writes this text, and leaves no source open. Its
-/// output fails at the calls of these numbers.
+/// Whether the call ends with this status, writes this text, and leaves no source open. Its output
+/// fails at the calls of these numbers.
 pub(crate) fn fakes_answer(
     rt: &(impl Threads + Wait + Sync),
     alloc: Global,
-    form: &[&str],
+    call: Call,
     step: usize,
     fakes: &[Fake],
     writes: &[u32],
@@ -69,6 +79,6 @@ pub(crate) fn fakes_answer(
     requires { 1 ≤ step }
 {
     let mut out = MemSink::new(alloc, Vec::from_slice(alloc, writes)?);
-    let ended = run_fakes(rt, alloc, form, step, fakes, &mut out)?;
+    let ended = run_fakes(rt, alloc, call, step, fakes, &mut out)?;
     Ok(ended == (due.0, 0) && out.written() == due.1.as_bytes())
 }

@@ -1,6 +1,6 @@
 //! Words that fit no form, and files and sinks that fail.
 use crate::capture::{Form, OPENED, raw};
-use crate::fakes::{Fake, fakes_answer};
+use crate::fakes::{Call, Fake, fakes_answer};
 use crate::program::USAGE;
 use std::alloc::Global;
 use std::process::Abort;
@@ -24,13 +24,13 @@ static NO_FORMS: [&[&str]; 11] = [
 #[test]
 fn words_of_no_form_get_the_usage_line(rt: HostRuntime) {
     for row in &NO_FORMS {
-        check_words(&rt, rt.alloc(), row);
+        check_words(&rt, rt.alloc(), Call::Beamer(row));
     }
 }
 
-fn check_words(rt: &(impl Abort + Threads + Wait + Sync), alloc: Global, row: &[&str]) {
-    let answered = fakes_answer(rt, alloc, row, 24, &[], &[], (1, USAGE));
-    assert!(rt; answered == Ok(true), "{row:?}");
+fn check_words(rt: &(impl Abort + Threads + Wait + Sync), alloc: Global, call: Call) {
+    let answered = fakes_answer(rt, alloc, call, 24, &[], &[], (1, USAGE));
+    assert!(rt; answered == Ok(true), "{call:?}");
 }
 
 /// A file that is there, the calls of its source and of the sink that fail, the status, and what is
@@ -74,7 +74,7 @@ fn check_row(
         octets,
         fails,
     };
-    let form = &["replay", "c"];
-    let answered = fakes_answer(rt, alloc, form, 24, &[fake], writes, (status, text));
+    let call = Call::Beamer(&["replay", "c"]);
+    let answered = fakes_answer(rt, alloc, call, 24, &[fake], writes, (status, text));
     assert!(rt; answered == Ok(true), "{name} {status}");
 }

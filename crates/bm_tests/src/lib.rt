@@ -1,5 +1,5 @@
-//! Tests of `bm_server` and `bm_cli`, in a crate of their own: running tests proves their crate
-//! again.
+//! Tests of `bm_server` and of both programs, in a crate of their own: running tests proves their
+//! crate again.
 #![tactic(auto)]
 
 #[cfg(test)]

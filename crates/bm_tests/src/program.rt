@@ -4,6 +4,7 @@ ghost use Rattle.std.specs.Prelude.{◌≤◌};
 use crate::capture::{Form, Packet, raw};
 use bm_base::{List, Text};
 use bm_cli::beamer;
+use bm_connections_cli::beamer_connections;
 use bm_io::{Files, Gate, OpenGate, Sink, SureFile, SureFiles, SureSink};
 use std::alloc::{AllocError, Global};
 use std::process::Abort;
@@ -45,6 +46,20 @@ pub(crate) fn run<F: Files, K: Sink, G: Gate>(
 {
     let words = words(alloc, form)?;
     Ok(beamer(rt, alloc, &words, files, out, gate))
+}
+
+/// What `beamer-connections` ends with for these words.
+pub(crate) fn run_connections<F: Files, K: Sink>(
+    rt: &(impl Threads + Wait + Sync),
+    alloc: Global,
+    form: &[&str],
+    files: &mut F,
+    out: &mut K,
+) -> Result<u8, AllocError>
+    requires { F.open_now files.old ≤ 1000 }
+{
+    let words = words(alloc, form)?;
+    Ok(beamer_connections(rt, alloc, &words, files, out))
 }
 
 /// A file that gives at most this many octets at a time.

@@ -19,8 +19,9 @@ returns-in_err-trace-clause-read g c =
     let stage = c.in_ok-stage.stage in
     let trace = c.in_err-trace in
     trace_through c.args.trace.now c.args.capture.now c.args.script.now _ _ (λ trace. trace.items) c.from_residual-in_err-trace.result trace.field-0.0 c.from_residual-in_err-trace.ensures.1
-    (trace_read c.args.trace.now c.args.capture.now c.args.script.now _ _ _ _ _ _ _ _ stage (Err trace.field-0.0)
-    (stage_alone Replay names _ _ (Ok stage) _ c.in_ok-stage.ensures.stage) c.in_ok-stage.ensures.octets
+    (trace_read c.args.trace.now c.args.capture.now c.args.script.now _ _ _ _ _ _ _ stage (Err trace.field-0.0)
+    (stage_alone Replay names _ _ (Ok stage) _ c.in_ok-stage.ensures.stage) c.in_ok-stage.ensures.all
+    c.in_ok-stage.ensures.open c.in_ok-stage.ensures.octets
     trace.ensures.trace trace.ensures.asked trace.ensures.all trace.ensures.later trace.ensures.cause
     trace.ensures.kept)
 
@@ -29,7 +30,8 @@ returns-clause-read g c =
     let names = both_named c.args.capture.now c.args.script.now in
     let stage = c.in_ok-stage.stage in
     let trace = c.in_ok-trace in
-    trace_read c.args.trace.now c.args.capture.now c.args.script.now _ _ _ _ _ _ _ _ stage (Ok trace.trace.items)
-    (stage_alone Replay names _ _ (Ok stage) _ c.in_ok-stage.ensures.stage) c.in_ok-stage.ensures.octets
+    trace_read c.args.trace.now c.args.capture.now c.args.script.now _ _ _ _ _ _ _ stage (Ok trace.trace.items)
+    (stage_alone Replay names _ _ (Ok stage) _ c.in_ok-stage.ensures.stage) c.in_ok-stage.ensures.all
+    c.in_ok-stage.ensures.open c.in_ok-stage.ensures.octets
     trace.ensures.trace trace.ensures.asked trace.ensures.all trace.ensures.later trace.ensures.cause
     trace.ensures.kept

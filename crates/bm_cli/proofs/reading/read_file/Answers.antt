@@ -1,4 +1,5 @@
 use Rattle.std.proofs.Common.{rules}
+use Rattle.bm_cli.proofs.Names.{asks_all}
 use Rattle.bm_cli.proofs.reading.read_file.Goals as goal
 
 pub returns-clause-capture : goal.returns-clause-capture
@@ -12,3 +13,6 @@ returns-clause-packets g c = rw c.with_beginning.ensures.records (search rules)
 
 pub returns-clause-cause : goal.returns-clause-cause
 returns-clause-cause g c = rw c.with_beginning.ensures.records (search rules)
+
+pub returns-clause-asked : goal.returns-clause-asked
+returns-clause-asked g c = asks_all _ _ _ (search rules)

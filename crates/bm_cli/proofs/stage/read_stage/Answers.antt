@@ -1,7 +1,7 @@
 use Rattle.std.proofs.Common.{Ok, Err, subst}
 use Rattle.bm_base.specs.Captures.{IsReplayable}
 use Rattle.bm_words.specs.Form.{named}
-use Rattle.bm_cli.proofs.Stages.{captured_stage, packets_through, script_refused, seats_refused, stage_alone}
+use Rattle.bm_cli.proofs.Stages.{both_asked, captured_stage, packets_through, script_refused, seats_refused, stage_alone}
 use Rattle.bm_cli.proofs.Stages.{stage_began, stage_packets, stage_through}
 use Rattle.bm_cli.proofs.Sound.{stage_sound}
 use Rattle.bm_cli.specs.declared.fault.StageFault.TheVariants.{Capture as OfCapture}
@@ -16,7 +16,7 @@ pub returns-in_err-script-clause-stage : goal.returns-in_err-script-clause-stage
 returns-in_err-script-clause-stage g c =
     let script = c.in_err-script in
     stage_through c.args.mode (named c.args.names) _ _ c.from_residual.result script.field-0.0 c.from_residual.ensures.1
-    (script_refused c.args.mode (named c.args.names) _ _ script.field-0.0 c.requires.script script.ensures.script
+    (script_refused c.args.mode (named c.args.names) _ _ _ script.field-0.0 c.requires.script script.ensures.script
     script.ensures.asked script.ensures.all script.ensures.cause script.ensures.kept)
 
 pub returns-in_err-capture-clause-stage : goal.returns-in_err-capture-clause-stage
@@ -27,9 +27,9 @@ returns-in_err-capture-clause-stage g c =
     (OfCapture capture.field-0.0) c.from_residual-in_err-capture.ensures.1
     (stage_alone c.args.mode (named c.args.names) _ _ (Err (OfCapture capture.field-0.0)) (λ reads. Unit {0})
     (stage_began c.args.mode (named c.args.names) _ _ (Err (OfCapture capture.field-0.0)) (Err capture.field-0.0) 0
-    (captured_stage c.args.mode (named c.args.names) _ _ _ _ script.script _ (Err capture.field-0.0) 0 _
+    (captured_stage c.args.mode (named c.args.names) _ _ _ _ _ _ script.script _ (Err capture.field-0.0) 0 _
     c.requires.script c.in_ok-check_seats.ensures script.ensures.octets
-    c.items.ensures script.ensures.script capture.ensures.capture tt script.ensures.all capture.ensures.asked
+    c.items.ensures script.ensures.script capture.ensures.capture tt script.ensures.all script.ensures.open capture.ensures.asked
     capture.ensures.all script.ensures.later script.ensures.kept capture.ensures.cause)))
 
 pub returns-clause-stage : goal.returns-clause-stage
@@ -37,10 +37,10 @@ returns-clause-stage g c =
     let script = c.in_ok-script in
     let capture = c.in_ok-capture in
     stage_began c.args.mode (named c.args.names) _ _ _ (Ok (capture.capture, capture.packets)) capture.began
-    (captured_stage c.args.mode (named c.args.names) _ _ _ _ script.script _ (Ok (capture.capture, capture.packets))
+    (captured_stage c.args.mode (named c.args.names) _ _ _ _ _ _ script.script _ (Ok (capture.capture, capture.packets))
     capture.began _ c.requires.script c.in_ok-check_seats.ensures
     script.ensures.octets c.items.ensures script.ensures.script capture.ensures.capture capture.ensures.began
-    script.ensures.all capture.ensures.asked capture.ensures.all script.ensures.later script.ensures.kept
+    script.ensures.all script.ensures.open capture.ensures.asked capture.ensures.all script.ensures.later script.ensures.kept
     capture.ensures.cause)
 
 pub returns-in_err-check_seats-clause-stage : goal.returns-in_err-check_seats-clause-stage
@@ -49,14 +49,14 @@ returns-in_err-check_seats-clause-stage g c =
     let seats = c.in_err-check_seats in
     stage_through c.args.mode (named c.args.names) _ _ c.from_residual-in_err-check_seats.result seats.field-0.0
     c.from_residual-in_err-check_seats.ensures.1
-    (seats_refused c.args.mode (named c.args.names) _ _ script.script seats.field-0.0 c.requires.script
+    (seats_refused c.args.mode (named c.args.names) _ _ _ script.script seats.field-0.0 c.requires.script
     script.ensures.script seats.ensures script.ensures.all script.ensures.asked script.ensures.kept)
 
 pub returns-in_err-script-clause-capture : goal.returns-in_err-script-clause-capture
 returns-in_err-script-clause-capture g c =
     let script = c.in_err-script in
     packets_through c.args.mode (named c.args.names) _ _ c.from_residual.result script.field-0.0 c.from_residual.ensures.1
-    (script_refused c.args.mode (named c.args.names) _ _ script.field-0.0 c.requires.script script.ensures.script
+    (script_refused c.args.mode (named c.args.names) _ _ _ script.field-0.0 c.requires.script script.ensures.script
     script.ensures.asked script.ensures.all script.ensures.cause script.ensures.kept)
 
 pub returns-in_err-capture-clause-capture : goal.returns-in_err-capture-clause-capture
@@ -67,9 +67,9 @@ returns-in_err-capture-clause-capture g c =
     (OfCapture capture.field-0.0) c.from_residual-in_err-capture.ensures.1
     (stage_alone c.args.mode (named c.args.names) _ _ (Err (OfCapture capture.field-0.0)) (λ reads. Unit {0})
     (stage_began c.args.mode (named c.args.names) _ _ (Err (OfCapture capture.field-0.0)) (Err capture.field-0.0) 0
-    (captured_stage c.args.mode (named c.args.names) _ _ _ _ script.script _ (Err capture.field-0.0) 0 _
+    (captured_stage c.args.mode (named c.args.names) _ _ _ _ _ _ script.script _ (Err capture.field-0.0) 0 _
     c.requires.script c.in_ok-check_seats.ensures script.ensures.octets
-    c.items.ensures script.ensures.script capture.ensures.capture tt script.ensures.all capture.ensures.asked
+    c.items.ensures script.ensures.script capture.ensures.capture tt script.ensures.all script.ensures.open capture.ensures.asked
     capture.ensures.all script.ensures.later script.ensures.kept capture.ensures.cause)))
 
 pub returns-clause-capture : goal.returns-clause-capture
@@ -77,10 +77,10 @@ returns-clause-capture g c =
     let script = c.in_ok-script in
     let capture = c.in_ok-capture in
     stage_packets c.args.mode (named c.args.names) _ _ _ (Ok (capture.capture, capture.packets)) capture.began
-    (captured_stage c.args.mode (named c.args.names) _ _ _ _ script.script _ (Ok (capture.capture, capture.packets))
+    (captured_stage c.args.mode (named c.args.names) _ _ _ _ _ _ script.script _ (Ok (capture.capture, capture.packets))
     capture.began _ c.requires.script c.in_ok-check_seats.ensures
     script.ensures.octets c.items.ensures script.ensures.script capture.ensures.capture capture.ensures.began
-    script.ensures.all capture.ensures.asked capture.ensures.all script.ensures.later script.ensures.kept
+    script.ensures.all script.ensures.open capture.ensures.asked capture.ensures.all script.ensures.later script.ensures.kept
     capture.ensures.cause)
 
 pub returns-in_err-check_seats-clause-capture : goal.returns-in_err-check_seats-clause-capture
@@ -89,5 +89,12 @@ returns-in_err-check_seats-clause-capture g c =
     let seats = c.in_err-check_seats in
     packets_through c.args.mode (named c.args.names) _ _ c.from_residual-in_err-check_seats.result seats.field-0.0
     c.from_residual-in_err-check_seats.ensures.1
-    (seats_refused c.args.mode (named c.args.names) _ _ script.script seats.field-0.0 c.requires.script
+    (seats_refused c.args.mode (named c.args.names) _ _ _ script.script seats.field-0.0 c.requires.script
     script.ensures.script seats.ensures script.ensures.all script.ensures.asked script.ensures.kept)
+
+pub returns-clause-all : goal.returns-clause-all
+returns-clause-all g c =
+    let script = c.in_ok-script in
+    let capture = c.in_ok-capture in
+    both_asked (named c.args.names) _ _ _ _ _ _ _ script.script (capture.capture, capture.packets) script.ensures.all
+    script.ensures.kept script.ensures.open capture.ensures.all
