@@ -1,4 +1,5 @@
-# Bash completion for beamer (the form, the trace, the capture, the script) and beamer-connections (the capture, the script, the options).
+# Bash completion for beamer (the form, the trace, the capture, the script) and beamer-connections (the capture, the script, the options;
+# or --lifetime and a script).
 #
 # usage: source tools/completion.bash
 
@@ -24,9 +25,24 @@ _beamer() {
 }
 complete -F _beamer beamer ./beamer
 
+_beamer_lifetime() {
+  case $COMP_CWORD in
+    2) _beamer_files "$1" toml ;;
+    3) mapfile -t COMPREPLY < <(compgen -W "--for" -- "$1") ;;
+  esac
+}
+
 _beamer_connections() {
   local word=${COMP_WORDS[COMP_CWORD]}
   COMPREPLY=()
+  if [ "$COMP_CWORD" -gt 1 ] && [ "${COMP_WORDS[1]}" = --lifetime ]; then
+    _beamer_lifetime "$word"
+    return
+  fi
+  if [ "$COMP_CWORD" = 1 ] && [ "${word#-}" != "$word" ]; then
+    mapfile -t COMPREPLY < <(compgen -W "--lifetime" -- "$word")
+    return
+  fi
   case $COMP_CWORD in
     1) _beamer_files "$word" '@(pcap|pcapng|cap)' ;;
     2) _beamer_files "$word" toml ;;

@@ -1,29 +1,39 @@
 -- How a call ends, by what was read and what was written.
-use Rattle.std.proofs.Common.{◌≡◌, ℕ, List, Option, None, Some, Ok, Err, refl, sym, subst, ap, ap₂, ◌∙◌}
+use Rattle.std.proofs.Common.{◌≡◌, ℕ, List, Option, None, Some, Result, Ok, Err, Bool, true, false, refl, sym, subst}
+use Rattle.std.proofs.Common.{ap, ap₂, ◌∙◌}
 use Rattle.std.specs.Prelude.{if◌then◌else◌, ⊤}
+use Rattle.bm_io.specs.declared.opening.Opening.{Opening}
 use Rattle.bm_core.specs.declared.events.Event.{Event}
 use Rattle.bm_core.specs.declared.events.History.{History}
 use Rattle.bm_core.specs.declared.events.Stage.{Stage}
+use Rattle.bm_table.specs.declared.script.Script.{Script}
+use Rattle.bm_lifetime.specs.declared.explained.Lifetime.{Lifetime as Lived}
+use Rattle.bm_lifetime.specs.Lifetime.{explained}
 use Rattle.bm_core.specs.Rules.{setting_fate, setting_mux}
 use Rattle.bm_core.proofs.Determined.{replay_law}
 use Rattle.bm_cli.specs.declared.fault.StageFault.{StageFault}
 use Rattle.bm_cli.specs.declared.mode.Mode.TheVariants.{Replay}
 use Rattle.bm_cli.specs.declared.status.Status.{Status}
-use Rattle.bm_cli.specs.declared.status.Status.TheVariants.{Done, ReadFault, Usage}
-use Rattle.bm_cli.specs.Dues.{Misused, Shown, answer_for}
+use Rattle.bm_cli.specs.declared.status.Status.TheVariants.{Done, Exceeded, ReadFault, Usage}
+use Rattle.bm_cli.specs.Dues.{Misused, Shown, answer_by, answer_for}
 use Rattle.bm_cli.specs.Ends.{Ends}
 use Rattle.bm_cli.specs.Headline.{IsMadeBy}
-use Rattle.bm_cli.specs.Stages.{ReadsStage}
+use Rattle.bm_cli.specs.Stages.{ReadsNamed, ReadsStage}
 use Rattle.bm_cli.specs.Telling.{Tells}
 use Rattle.bm_cli.specs.Reading.{Holds, Octets, Reading, Reads}
 use Rattle.bm_cli.specs.Statuses.{FilesDid, SinkDid, Writes}
-use Rattle.bm_cli.proofs.Ending.{ends_stage, holds_more, unread_ends}
+use Rattle.bm_cli.proofs.Ending.{IsUnread, ends_stage, holds_more, unread_ends}
+use Rattle.bm_cli.proofs.NamedScripts.{script_ends}
 use Rattle.bm_cli.proofs.Telling.{tells_due, untouched}
+use Rattle.bm_words.specs.Form.{Named}
 use Rattle.bm_connections_cli.specs.declared.words.Format.{Format}
+use Rattle.bm_connections_cli.specs.declared.words.Manner.{Manner}
 use Rattle.bm_connections_cli.specs.Dues.{clock_of, due, due_of, usage_line}
 use Rattle.bm_connections_cli.specs.Headline.{IsReplayOf, IsTableOf}
+use Rattle.bm_connections_cli.specs.Lifetime.{explained_text, lifetime_answer, outlives, shown_or_warned}
 use Rattle.bm_connections_cli.specs.Text.{text}
-use Rattle.bm_connections_cli.specs.Words.{Asked}
+use Rattle.bm_connections_cli.specs.Words.{Asked, Connections, Lifetime}
+use Rattle.bm_connections_cli.specs.Inside.Lifetime.{status_for}
 
 -- THE REPLAY
 
@@ -55,40 +65,76 @@ tells_table format clock due h sink result same made writes =
     (refl, table_of format due h.stage h (refl, made))
     (subst (λ c. Writes Done (text format c h) sink result) same writes)
 
--- THE FORM
+-- CONNECTIONS
 
 -- what was read of a stage was answered
-ends_played : (asked : Asked) (reads : Reads) (files : FilesDid) (sink : SinkDid) (r : Reading)
-    (result : Status) → ReadsStage Replay asked.names reads files r →
-    Tells (answer_for (IsTableOf asked.format (clock_of asked reads)) r) sink result →
-    Ends (due_of asked reads) files sink result
-ends_played asked reads files sink r result read tells =
-    ends_stage Replay (IsTableOf asked.format (clock_of asked reads)) asked.names reads files sink r result read tells
+ends_played : (manner : Manner) (names : Named) (reads : Reads) (files : FilesDid) (sink : SinkDid) (r : Reading)
+    (result : Status) → ReadsStage Replay names reads files r →
+    Tells (answer_for (IsTableOf manner.format (clock_of manner names reads)) r) sink result →
+    Ends (due_of (Connections manner names) reads) files sink result
+ends_played manner names reads files sink r result read tells =
+    ends_stage Replay (IsTableOf manner.format (clock_of manner names reads)) names reads files sink r result read tells
 
 -- the table of a stage was told, by the clock that is due
-pub played_ends : (asked : Asked) (told : Octets) (files : FilesDid) (sink : SinkDid) (stage : Stage)
-    (began : ℕ) (result : Status) →
-    Holds told (λ reads.
-    ReadsStage Replay asked.names reads files (Ok stage) × (began ≡ reads.began asked.names.capture)) →
-    Tells (answer_for (IsTableOf asked.format (if asked.clock then Some began else None)) (Ok stage)) sink result →
-    Holds told (λ reads. Ends (due_of asked reads) files sink result)
-played_ends asked told files sink stage began result read tells =
+pub played_ends : (manner : Manner) (names : Named) (told : Octets) (files : FilesDid) (sink : SinkDid)
+    (stage : Stage) (began : ℕ) (result : Status) →
+    Holds told (λ reads. ReadsStage Replay names reads files (Ok stage) × (began ≡ reads.began names.capture)) →
+    Tells (answer_for (IsTableOf manner.format (if manner.clock then Some began else None)) (Ok stage)) sink result →
+    Holds told (λ reads. Ends (due_of (Connections manner names) reads) files sink result)
+played_ends manner names told files sink stage began result read tells =
     holds_more told
-    (λ reads. ReadsStage Replay asked.names reads files (Ok stage) × (began ≡ reads.began asked.names.capture))
-    (λ reads. Ends (due_of asked reads) files sink result)
-    (λ reads both. ends_played asked reads files sink (Ok stage) result (both.0)
-    (subst (λ b. Tells (answer_for (IsTableOf asked.format (if asked.clock then Some b else None)) (Ok stage))
+    (λ reads. ReadsStage Replay names reads files (Ok stage) × (began ≡ reads.began names.capture))
+    (λ reads. Ends (due_of (Connections manner names) reads) files sink result)
+    (λ reads both. ends_played manner names reads files sink (Ok stage) result (both.0)
+    (subst (λ b. Tells (answer_for (IsTableOf manner.format (if manner.clock then Some b else None)) (Ok stage))
     sink result) (both.1) tells)) read
 
 -- the line of a fault was told
-pub refused_ends : (asked : Asked) (told : Octets) (files : FilesDid) (sink : SinkDid) (fault : StageFault)
-    (result : Status) → Holds told (λ reads. ReadsStage Replay asked.names reads files (Err fault) × ⊤) →
-    Tells (answer_for (IsTableOf asked.format None) (Err fault)) sink result →
-    Holds told (λ reads. Ends (due_of asked reads) files sink result)
-refused_ends asked told files sink fault result read tells =
-    holds_more told (λ reads. ReadsStage Replay asked.names reads files (Err fault) × ⊤)
-    (λ reads. Ends (due_of asked reads) files sink result)
-    (λ reads both. ends_played asked reads files sink (Err fault) result (both.0) tells) read
+pub refused_ends : (manner : Manner) (names : Named) (told : Octets) (files : FilesDid) (sink : SinkDid)
+    (fault : StageFault) (result : Status) →
+    Holds told (λ reads. ReadsStage Replay names reads files (Err fault) × ⊤) →
+    Tells (answer_for (IsTableOf manner.format None) (Err fault)) sink result →
+    Holds told (λ reads. Ends (due_of (Connections manner names) reads) files sink result)
+refused_ends manner names told files sink fault result read tells =
+    holds_more told (λ reads. ReadsStage Replay names reads files (Err fault) × ⊤)
+    (λ reads. Ends (due_of (Connections manner names) reads) files sink result)
+    (λ reads both. ends_played manner names reads files sink (Err fault) result (both.0) tells) read
+
+-- A LIFETIME
+
+-- lines are due with a status of their own
+lines_unread : (warned : Bool) (text : List ℕ) → IsUnread (shown_or_warned warned text)
+lines_unread false text says octets is e = let no : ReadFault ≡ Done = sym e ∙ is.0 in cc
+lines_unread true text says octets is e = let no : ReadFault ≡ Exceeded = sym e ∙ is.0 in cc
+
+-- what was read of a script was answered
+pub lifetime_ends : (name : List ℕ) (seconds : Option ℕ) (told : Octets) (files : FilesDid) (sink : SinkDid)
+    (r : Result Script StageFault) (result : Status) → Holds told (λ reads. ReadsNamed name reads files r) →
+    Tells (answer_by (lifetime_answer seconds) r) sink result →
+    Holds told (λ reads. Ends (due_of (Lifetime name seconds) reads) files sink result)
+lifetime_ends name seconds told files sink r result read tells =
+    script_ends (lifetime_answer seconds)
+    (λ script. lines_unread (outlives seconds (explained script))
+    (explained_text script.setting.timeout (explained script)))
+    name told files sink r result read tells
+
+-- the lines were written
+lines_told : (warned : Bool) (text : List ℕ) (sink : SinkDid) (result : Status) →
+    Writes (status_for warned) text sink result → Tells (shown_or_warned warned text) sink result
+lines_told false text sink result writes =
+    tells_due (shown_or_warned false text) Done text sink result (refl, refl) writes
+lines_told true text sink result writes =
+    tells_due (shown_or_warned true text) Exceeded text sink result (refl, refl) writes
+
+pub lifetime_told : (seconds : Option ℕ) (script : Script) (life : Option Lived) (text : List ℕ) (says : Status)
+    (sink : SinkDid) (result : Status) → life ≡ explained script → text ≡ explained_text script.setting.timeout life →
+    says ≡ status_for (outlives seconds life) → Writes says text sink result →
+    Tells (lifetime_answer seconds script) sink result
+lifetime_told seconds script life text says sink result is lines status writes =
+    subst (λ l. Tells (shown_or_warned (outlives seconds l) (explained_text script.setting.timeout l)) sink result) is
+    (lines_told (outlives seconds life) (explained_text script.setting.timeout life) sink result
+    (subst (λ t. Writes (status_for (outlives seconds life)) t sink result) lines
+    (subst (λ s. Writes s text sink result) status writes)))
 
 -- THE WORDS
 
@@ -100,7 +146,7 @@ words_end form words told files sink result same ends =
     subst (λ f. Holds told (λ reads. Ends (due f reads) files sink result)) same ends
 
 -- the usage line was written
-pub usage_ends : (words : Option Asked) (told : Octets) (asked : Option (List (List ℕ))) (fails : ℕ)
+pub usage_ends : (words : Option Asked) (told : Octets) (asked : Option (List Opening)) (fails : ℕ)
     (sink : SinkDid) (result : Status) → None ≡ words → Tells (Misused usage_line) sink result →
     Holds told (λ reads. Ends (due words reads) (untouched asked fails) sink result)
 usage_ends words told asked fails sink result none tells =

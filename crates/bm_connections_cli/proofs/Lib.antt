@@ -5,3 +5,5 @@ pub mod Rows
 pub mod Pieces
 pub mod Numbered
 pub mod Told
+pub mod Seconds
+pub mod Outliving

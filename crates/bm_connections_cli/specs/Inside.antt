@@ -2,4 +2,5 @@
 pub mod Rows
 pub mod Servers
 pub mod Changes
+pub mod Lifetime
 pub mod Words

@@ -8,6 +8,8 @@ pub mod Json
 pub mod Advice
 pub mod Servers
 pub mod Changes
+pub mod Outlived
 pub mod Replies
+pub mod Lifetime
 pub mod Words
 pub mod Inside

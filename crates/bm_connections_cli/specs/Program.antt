@@ -5,4 +5,5 @@ use Rattle.bm_connections_cli.specs.Top.{scripts_in}
 use Rattle.bm_connections_cli.specs.Words.{Asked}
 
 abbrev pub beamer_connections : Program Asked
-beamer_connections = record { due = due; usage = usage_line; scripts = scripts_in }
+beamer_connections =
+    record { due = due; usage = usage_line; scripts = scripts_in; greatest = 9 }

@@ -1,6 +1,6 @@
 -- What is reported of a history's connections (docs/FORMATS.md). A clock is when record 1 was
 -- captured, if moments are those of the wall clock.
-use Rattle.std.specs.Prelude.{ℕ, List, [], ◌∷◌, Option, flat_map}
+use Rattle.std.specs.Prelude.{ℕ, List, [], ◌∷◌, ◌++◌, Option, flat_map}
 use Rattle.bm_core.specs.declared.events.History.{History}
 use Rattle.bm_connections.specs.Connections.{connections}
 use Rattle.bm_connections.specs.Counts.{causes_in, server_counts}
@@ -8,11 +8,13 @@ use Rattle.bm_connections.specs.Late.{longest_late}
 use Rattle.bm_trace.specs.Report.{note_line}
 use Rattle.bm_connections.specs.Text.{cause_line, late_text, server_line, table_text}
 use Rattle.bm_drawing.specs.Drawing.{drawing}
+use Rattle.bm_lifetime.specs.Lifetime.{lifetime}
 use Rattle.bm_connections_cli.specs.declared.words.Format.{Format}
 use Rattle.bm_connections_cli.specs.declared.words.Format.TheVariants.{Lines, Csv, Json, Svg}
 use Rattle.bm_connections_cli.specs.Replies.{replies_text}
 use Rattle.bm_connections_cli.specs.Advice.{advice_line, end_line, unsteered_line}
 use Rattle.bm_connections_cli.specs.Changes.{changes_text}
+use Rattle.bm_connections_cli.specs.Outlived.{outlived_text}
 use Rattle.bm_connections_cli.specs.Csv.{table_csv}
 use Rattle.bm_connections_cli.specs.Json.{json_lines}
 use Rattle.bm_connections_cli.specs.Servers.{servers_of}
@@ -33,12 +35,18 @@ late_lines h = late_text (longest_late h)
 abbrev pub advice_lines : History → List ℕ
 advice_lines h = flat_map (λ c. advice_line c.cause) (causes_in h)
 
+-- what is reported in lines of connections, of servers, and of changes and what they allow
+abbrev pub first_parts : Option ℕ → History → List (List ℕ)
+first_parts clock h =
+    table_text clock h.stage.script.setting.racks (connections h) ∷ server_lines h
+    ∷ changes_text clock h.stage.script.plan
+    ∷ outlived_text (lifetime h.stage.script) (connections h) ∷ []
+
 -- what is reported in lines, part by part
 abbrev pub parts : Option ℕ → History → List (List ℕ)
 parts clock h =
-    table_text clock h.stage.script.setting.racks (connections h) ∷ server_lines h
-    ∷ changes_text clock h.stage.script.plan
-    ∷ replies_text clock h.events ∷ cause_lines h ∷ late_lines h ∷ note_line h.stage.capture.cut
+    first_parts clock h
+    ++ replies_text clock h.events ∷ cause_lines h ∷ late_lines h ∷ note_line h.stage.capture.cut
     ∷ advice_lines h ∷ unsteered_line (connections h) ∷ end_line h.stage ∷ []
 
 -- what is reported in each format

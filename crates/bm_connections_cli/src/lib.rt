@@ -1,11 +1,14 @@
 //! What `beamer-connections` does: it replays a capture as `beamer replay` does, and reports what
-//! became of each connection.
+//! became of each connection; or it says how long a connection may live so that no change of a script
+//! breaks it.
 #![tactic(auto)]
 
 mod advice;
 mod changes;
 mod fields;
 mod json;
+mod lifetime;
+mod outlived;
 mod parts;
 mod put;
 mod replies;

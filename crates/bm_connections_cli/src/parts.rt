@@ -1,5 +1,6 @@
 //! What is reported of a history's connections.
 ghost use Rattle.std.specs.Prelude.{◌≡◌, ◌++◌, ◌∷◌, [], IfOk, IsOkAnd, OnOk};
+ghost use Rattle.bm_table.specs.Scripts.{IsSoundScript};
 ghost use Rattle.bm_core.specs.Runs.{IsRun};
 ghost use Rattle.bm_trace.specs.Report.{note_line};
 ghost use Rattle.bm_trace.specs.Swept.{AreCauses};
@@ -16,12 +17,13 @@ use crate::advice::{advice_text, end_text, unsteered_text};
 use crate::changes::changes_text;
 use crate::fields::table_csv;
 use crate::json::json_text;
+use crate::outlived::outlived_text;
 use crate::replies::replies_text;
 use crate::servers::servers_of;
 use bm_base::{List, Memory, Text};
 use bm_connections::{
-    Clock, Connection, Summary, causes_text, connections, late_text, servers_text, summary_of,
-    table_text,
+    Clock, Connection, ServerCount, Summary, causes_text, connections, late_text, servers_text,
+    summary_of, table_text,
 };
 use bm_core::History;
 use bm_drawing::drawing;
@@ -50,6 +52,7 @@ fn parts_of(
     table: &[Connection],
     summary: &Summary,
 ) -> Result<Vec<Text>, Memory>
+    requires script { IsSoundScript h.now.stage.script }
     requires table { table.now ≡ tables.connections h.now }
     requires causes { summary.now.causes ≡ counts.causes_in h.now }
     requires servers { summary.now.servers
@@ -58,13 +61,9 @@ fn parts_of(
     requires replies { summary.now.replies ≡ replies h.now }
     ensures { IfOk result (λ parts. parts.items ≡ spec.parts clock.0 h.now) }
 {
-    let racks = h.stage.script.setting.racks;
     let causes = summary.causes.items();
     let replies = summary.replies.items();
-    let mut parts = Vec::with_capacity(alloc, 10)?;
-    add(&mut parts, table_text(alloc, clock, racks, table))?;
-    add(&mut parts, servers_text(alloc, summary.servers.items()))?;
-    add(&mut parts, changes_text(alloc, clock, &h.stage.script.plan))?;
+    let mut parts = first_parts(alloc, clock, h, table, summary.servers.items())?;
     add(&mut parts, replies_text(alloc, clock, replies))?;
     add(&mut parts, causes_text(alloc, causes))?;
     add(&mut parts, late_text(alloc, summary.late))?;
@@ -72,6 +71,31 @@ fn parts_of(
     add(&mut parts, advice_text(alloc, causes))?;
     add(&mut parts, unsteered_text(alloc, table))?;
     add(&mut parts, end_text(alloc, &h.stage))?;
+    Ok(parts)
+}
+
+/// The parts on connections, on servers, and on changes and what they allow.
+fn first_parts(
+    alloc: Global,
+    clock: Clock,
+    h: &History,
+    table: &[Connection],
+    servers: &[ServerCount],
+) -> Result<Vec<Text>, Memory>
+    requires script { IsSoundScript h.now.stage.script }
+    requires table { table.now ≡ tables.connections h.now }
+    requires servers { servers.now ≡ counts.server_counts h.now (servers_of h.now.stage.script) }
+    ensures { IfOk result (λ parts. parts.items ≡ spec.first_parts clock.0 h.now) }
+{
+    let script = &h.stage.script;
+    let mut parts = Vec::with_capacity(alloc, 11)?;
+    add(
+        &mut parts,
+        table_text(alloc, clock, script.setting.racks, table),
+    )?;
+    add(&mut parts, servers_text(alloc, servers))?;
+    add(&mut parts, changes_text(alloc, clock, &script.plan))?;
+    add(&mut parts, outlived_text(alloc, script, table))?;
     Ok(parts)
 }
 

@@ -1,5 +1,6 @@
 //! The top call.
 ghost use Rattle.std.specs.Prelude.{◌≡◌, ◌<◌, ◌≤◌, if◌then◌else◌, None, Some};
+ghost use Rattle.bm_words.specs.Form.{named};
 ghost use Rattle.bm_cli.specs.Dues.{Misused};
 ghost use Rattle.bm_cli.specs.Ends.{Ends};
 ghost use Rattle.bm_cli.specs.Program.{IsProgram};
@@ -9,25 +10,29 @@ ghost use Rattle.bm_cli.specs.Telling.{Tells};
 ghost use Rattle.bm_cli.specs.Top.{AsksNone, ShowsAnswer};
 ghost use Rattle.bm_connections_cli.specs.Dues.{due, due_of, usage_line};
 ghost use Rattle.bm_connections_cli.specs.Program.{beamer_connections};
-ghost use Rattle.bm_connections_cli.specs.Words.{form_in};
+ghost use Rattle.bm_connections_cli.specs.Words.{Connections, Lifetime, form_in};
 ghost use Rattle.bm_connections_cli.specs.Inside.Words.{asked};
 
+use crate::lifetime::tell_lifetime;
 use crate::tell::tell;
-use crate::words::{Asked, Manner, read_words};
-use bm_cli::{Status, refuse, replay_files, say};
+use crate::words::{Form, Manner, read_words};
+use bm_cli::{Status, read_named_script, refuse, replay_files, say};
 use bm_connections::Clock;
 use bm_io::{Files, Sink};
+use bm_words::Names;
 use std::alloc::Global;
 use std::sync::Wait;
 use std::thread::Threads;
 
-const USAGE: &str = "usage: beamer-connections CAPTURE SCRIPT [--csv | --json | --svg] [--clock]\n";
+const USAGE: &str =
+    "usage: beamer-connections CAPTURE SCRIPT [--csv | --json | --svg] [--clock] | --lifetime SCRIPT [--for SECONDS]\n";
 
 /// Does all that the program does, and returns the status.
 ///
-/// 0: the connections were written. 1: the words fit no form. 2: the files failed. 3: the capture
-/// has a fault. 4: the script has a fault. 5: the sink failed. 6: memory was refused. 7: a limit is
-/// exceeded.
+/// 0: the connections or the lines of a lifetime were written. 1: the words fit no form. 2: the files
+/// failed. 3: the capture has a fault. 4: the script has a fault. 5: the sink failed. 6: memory was
+/// refused. 7: a limit is exceeded. 9: the lines of a lifetime were written, which is shorter than
+/// the words ask for.
 pub fn beamer_connections<R: Threads + Wait + Sync, F: Files, K: Sink>(
     rt: &R,
     alloc: Global,
@@ -37,7 +42,7 @@ pub fn beamer_connections<R: Threads + Wait + Sync, F: Files, K: Sink>(
 ) -> u8
     requires room { F.open_now files.old ≤ 1000 }
     // On status 0 what was written reports the connections of the replay of the named capture
-    // through the servers of the named script.
+    // through the servers of the named script, or the lifetime of the named script.
     ensures shown { result ≡ 0 → Holds (F.octets files.old) (λ reads.
         ShowsAnswer (due (form_in words.now) reads).answer
         (K.written out.old) (K.written out.new)) }
@@ -72,16 +77,16 @@ fn answer<R: Threads + Wait + Sync, F: Files, K: Sink>(
     ensures open { F.open_now files.new ≡ F.open_now files.old }
 {
     match read_words(words) {
-        Some(asked) => answer_form(rt, alloc, asked, files, out),
+        Some(form) => answer_form(rt, alloc, form, files, out),
         None => misuse(out),
     }
 }
 
-/// Replays the named capture and script, and writes the report of its connections.
+/// Does what the words ask for, if they fit a form.
 fn answer_form<R: Threads + Wait + Sync, F: Files, K: Sink>(
     rt: &R,
     alloc: Global,
-    form: Asked<'_>,
+    form: Form<'_>,
     files: &mut F,
     out: &mut K,
 ) -> Status
@@ -92,11 +97,55 @@ fn answer_form<R: Threads + Wait + Sync, F: Files, K: Sink>(
     ensures octets { F.octets files.new ≡ F.octets files.old }
     ensures open { F.open_now files.new ≡ F.open_now files.old }
 {
-    match replay_files(rt, alloc, files, form.names) {
+    match form {
+        Form::Connections { manner, names } => report(rt, alloc, manner, names, files, out),
+        Form::Lifetime { script, seconds } => explain(alloc, script, seconds, files, out),
+    }
+}
+
+/// Replays the named capture and script, and writes the report of its connections.
+fn report<R: Threads + Wait + Sync, F: Files, K: Sink>(
+    rt: &R,
+    alloc: Global,
+    manner: Manner,
+    names: Names<'_>,
+    files: &mut F,
+    out: &mut K,
+) -> Status
+    requires room { F.open_now files.old < 4294967295 }
+    ensures ends { Holds (F.octets files.old) (λ reads.
+        Ends (due_of (Connections manner (named names.entry)) reads)
+        (did F.asked F.faults files.old files.new)
+        (did K.written K.faults out.old out.new) result) }
+    ensures octets { F.octets files.new ≡ F.octets files.old }
+    ensures open { F.open_now files.new ≡ F.open_now files.old }
+{
+    match replay_files(rt, alloc, files, names) {
         Ok(replayed) => {
-            let clock = clock_of(form.manner, replayed.began);
-            tell(alloc, form.manner.format, clock, &replayed.history, out)
+            let clock = clock_of(manner, replayed.began);
+            tell(alloc, manner.format, clock, &replayed.history, out)
         }
+        Err(fault) => refuse(alloc, &fault, out),
+    }
+}
+
+/// Reads the named script, and writes its lifetime.
+fn explain<F: Files, K: Sink>(
+    alloc: Global,
+    name: &str,
+    seconds: Option<u32>,
+    files: &mut F,
+    out: &mut K,
+) -> Status
+    requires room { F.open_now files.old < 4294967295 }
+    ensures ends { Holds (F.octets files.old) (λ reads.
+        Ends (due_of (Lifetime name.now seconds) reads) (did F.asked F.faults files.old files.new)
+        (did K.written K.faults out.old out.new) result) }
+    ensures octets { F.octets files.new ≡ F.octets files.old }
+    ensures open { F.open_now files.new ≡ F.open_now files.old }
+{
+    match read_named_script(alloc, files, name) {
+        Ok(script) => tell_lifetime(alloc, &script, seconds, out),
         Err(fault) => refuse(alloc, &fault, out),
     }
 }

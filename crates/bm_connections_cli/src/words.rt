@@ -1,5 +1,7 @@
 //! The words of the command line, and what they ask for.
 ghost use Rattle.std.specs.Prelude.{◌≡◌, ◌∷◌, [], true, map, option_map, string_bytes};
+ghost use Rattle.std.specs.Char.{is_ascii_digit};
+ghost use Rattle.std.specs.List.{list_all};
 ghost use Rattle.bm_words.specs.Form as forms;
 ghost use Rattle.bm_connections_cli.specs.Words as spec;
 ghost use Rattle.bm_connections_cli.specs.Inside.Words.{asked};
@@ -27,24 +29,41 @@ pub(crate) struct Manner {
     pub(crate) clock: bool,
 }
 
-/// What the words ask for: how the connections are reported, and which capture and script are
-/// replayed.
+/// What the words ask for.
 #[derive(Drop)]
-pub(crate) struct Asked<'a> {
-    pub(crate) manner: Manner,
-    pub(crate) names: Names<'a>,
+pub(crate) enum Form<'a> {
+    /// The connections of a replay, reported in this manner, of the named capture and script.
+    Connections {
+        manner: Manner,
+        names: Names<'a>,
+    },
+    /// The lifetime of the named script; with `--for`, also whether connections that live so many
+    /// seconds are safe.
+    Lifetime {
+        script: &'a str,
+        seconds: Option<u32>,
+    },
 }
 
 /// What the words ask for; None if they fit no form. The words are without the program's own name.
-pub(crate) fn read_words<'a>(words: &'a [String]) -> Option<Asked<'a>>
+pub(crate) fn read_words<'a>(words: &'a [String]) -> Option<Form<'a>>
     ensures { option_map asked result ≡ spec.form_in words.entry.now }
 {
     match words {
-        [capture, script, options @ ..] => {
-            with_names(capture.as_str(), script.as_str(), read_options(options)?)
-        }
+        [first, second, options @ ..] => read_form(first.as_str(), second.as_str(), options),
         _ => None,
     }
+}
+
+/// What the words ask for, by the first two of them and the others.
+fn read_form<'a>(first: &'a str, second: &'a str, options: &[String]) -> Option<Form<'a>>
+    ensures { option_map asked result
+        ≡ spec.form_of (first.entry.now ∷ second.entry.now ∷ map string_bytes options.now) }
+{
+    if first == "--lifetime" {
+        return with_script(second, read_life(options)?);
+    }
+    with_names(first, second, read_options(options)?)
 }
 
 /// How the connections are reported, by the options: `--clock` and a format, in either order, each
@@ -115,7 +134,7 @@ fn read_format(word: &str) -> Option<Format>
 }
 
 /// What is asked for, if these are names of a capture and a script.
-fn with_names<'a>(capture: &'a str, script: &'a str, manner: Manner) -> Option<Asked<'a>>
+fn with_names<'a>(capture: &'a str, script: &'a str, manner: Manner) -> Option<Form<'a>>
     ensures { option_map asked result
         ≡ spec.with_names capture.entry.now script.entry.now manner }
 {
@@ -124,7 +143,65 @@ fn with_names<'a>(capture: &'a str, script: &'a str, manner: Manner) -> Option<A
             capture,
             script: Some(script),
         };
-        Some(Asked { manner, names })
+        Some(Form::Connections { manner, names })
+    } else {
+        None
+    }
+}
+
+/// How long connections are to live, in seconds, by the options: none, or `--for` and a number.
+fn read_life(options: &[String]) -> Option<Option<u32>>
+    ensures { result ≡ spec.life_of (map string_bytes options.now) }
+{
+    match options {
+        [] => Some(None),
+        [word, number] => read_for(word.as_str(), number.as_str()),
+        _ => None,
+    }
+}
+
+fn read_for(word: &str, number: &str) -> Option<Option<u32>>
+    ensures { result ≡ spec.life_of (word.now ∷ number.now ∷ []) }
+{
+    if word == "--for" {
+        let seconds = read_seconds(number)?;
+        return Some(Some(seconds));
+    }
+    None
+}
+
+/// The number in the word: 1 to 4,294,967,295, in decimal without a sign or a leading zero.
+fn read_seconds(word: &str) -> Option<u32>
+    ensures { result ≡ spec.seconds_of word.now }
+{
+    if !is_numeral(word.as_bytes()) {
+        return None;
+    }
+    word.parse::<u32>().ok()
+}
+
+/// Whether these are decimal digits, and the first isn't 0.
+fn is_numeral(octets: &[u8]) -> bool
+    ensures { result ≡ forms.is_numeral octets.now }
+{
+    match octets {
+        [] => false,
+        [first, ..] => *first != b'0' && are_digits(octets),
+    }
+}
+
+fn are_digits(octets: &[u8]) -> bool
+    ensures { result ≡ list_all is_ascii_digit octets.now }
+{
+    octets.iter().all(|octet| octet.is_ascii_digit())
+}
+
+/// What is asked for, if this is the name of a script.
+fn with_script<'a>(script: &'a str, seconds: Option<u32>) -> Option<Form<'a>>
+    ensures { option_map asked result ≡ spec.with_script script.entry.now seconds }
+{
+    if is_name(script) {
+        Some(Form::Lifetime { script, seconds })
     } else {
         None
     }

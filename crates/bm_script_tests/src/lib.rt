@@ -1,5 +1,8 @@
-//! Tests of `bm_script`, in a crate of their own: running tests proves their crate again.
+//! Tests of `bm_script` and `bm_lifetime`, in a crate of their own: running tests proves their crate
+//! again.
 #![tactic(auto)]
 
+#[cfg(test)]
+mod lifetimes;
 #[cfg(test)]
 mod scripts;

@@ -1,0 +1,13 @@
+pub mod Bounds
+pub mod Moved
+pub mod Soonest
+pub mod Timed
+pub mod Dated
+pub mod Opened
+pub mod Living
+pub mod Guaranteed
+pub mod Seeing
+pub mod Telling
+pub mod Slack
+pub mod WorkedLives
+pub mod Worth

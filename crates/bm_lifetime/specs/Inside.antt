@@ -1,0 +1,2 @@
+-- Only the contracts of private calls and the proofs of bodies use these.
+pub mod Seen

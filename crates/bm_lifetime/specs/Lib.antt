@@ -1,0 +1,4 @@
+pub mod Lifetime
+pub mod Young
+pub mod Worth
+pub mod Inside
