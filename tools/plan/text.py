@@ -1,0 +1,174 @@
+"""An answer as text for a terminal, in UTC, and as JSON."""
+import json
+from plan.moments import SECOND, clock_text, date, seconds_text
+from plan.scripts import DEFAULT_BUCKETS, DEFAULT_SERVERS, endpoint_text, words_of
+from plan.traffic import COPIES, OTHERS
+
+# How many broken connections are listed.
+LISTED = 10
+CAUSES = {
+    "never-accepted": "no server had accepted the connection when the packet came",
+    "not-held": "the server had given the connection up: it was closed or retired, or its client had reset it",
+    "stale-mux": "the packet's mux had an older table than the one that took the connection's SYN",
+    "moved-thrice": "the bucket had moved three times or more since the SYN",
+    "chain-late": "the packet came later than the timeout after its bucket had left the server that has the connection",
+    "syn-elsewhere": "another server had accepted a second SYN of the connection",
+    "full": "the server's shard was full",
+    "old-table": "an old table led the SYN to a retired server",
+}
+RED, GREEN, PLAIN = "\x1b[31m", "\x1b[32m", "\x1b[0m"
+
+
+def plural(count, word):
+    return f"{count:,} {word}{'' if count == 1 else 's'}"
+
+
+def coloured(text, colour, has_colours):
+    return f"{colour}{text}{PLAIN}" if has_colours else text
+
+
+def of_traffic(paths, answer):
+    """What was read, and what wasn't used."""
+    traffic = answer.traffic
+    names = ", ".join("standard input" if path == "-" else path for path in paths)
+    services = ", ".join(sorted(endpoint_text(*it) for it in {packet.flow[1::2] for packet in traffic.packets}))
+    told = f"{plural(len(traffic.packets) - traffic.opened, 'packet')} to {services} in {plural(len(answer.replay.connections), 'connection')}"
+    yield f"{names}: {told}"
+    yield f"  on {date(traffic.begin)}, {clock_text(traffic.begin, 3)} to {clock_text(traffic.end, 3)} UTC"
+    if traffic.opened:
+        yield f"  {plural(traffic.opened, 'connection')} had no SYN: each was given one at the captures' beginning"
+    for why, count in traffic.left_out.most_common():
+        yield f"  not used: {plural(count, 'packet')} {why}"
+    if 10 * traffic.copies > len(traffic.packets) and not traffic.left_out[COPIES]:
+        yield f"  {plural(traffic.copies, 'packet')} look like copies of one before: capture on one interface, or leave them out by --no-copies"
+
+
+def of_changes(answer):
+    for command, (moves, buckets) in zip(answer.script.changes, answer.replay.moved()):
+        yield f"{words_of(command)} at {clock_text(answer.zero + command['at_ns'], 3)}: moves {moves:,} of {plural(buckets, 'bucket')}"
+    if not answer.script.changes:
+        yield "the script changes nothing"
+
+
+def headline(answer):
+    """The answer in a sentence."""
+    count, refused = sum(it.is_broken for it in answer.broken), sum(it.is_refused for it in answer.broken)
+    what = "the change breaks" if len(answer.script.changes) == 1 else "the changes break"
+    of = f"of {plural(len(answer.replay.connections), 'connection')}, with a timeout of {answer.script.timeout_s} s"
+    return f"{what} {count or 'none'}{f', and has {refused} refused,' if refused else ''} {of}"
+
+
+def of_broken(answer):
+    broken = answer.broken
+    width = max([len(it.client) for it in broken[:LISTED]], default=0)
+    for it in broken[:LISTED]:
+        how = "breaks" if it.is_broken else "is refused"
+        yield f"  {it.client.ljust(width)}  {how} at {clock_text(answer.zero + it.at, 3)}  {it.cause}"
+    if len(broken) > LISTED:
+        yield f"  and {len(broken) - LISTED:,} more (--json lists all)"
+    for cause in sorted({it.cause for it in broken}):
+        yield f"  {cause}: {CAUSES[cause]}"
+    if answer.anyway:
+        yield f"  {plural(len(answer.anyway), 'connection')} more {'breaks' if len(answer.anyway) == 1 else 'break'} without the change too"
+
+
+def of_timeout(answer):
+    """Which timeout keeps what a timeout can keep, and for how long old servers are needed."""
+    if answer.keeping_s:
+        left = len(answer.kept)
+        yield f"with timeout_s = {answer.keeping_s} {'it breaks none' if not left else f'it breaks {left:,}'} (replayed)"
+    elif any(it.cause == "chain-late" for it in answer.broken):
+        yield "no timeout that a script takes keeps the connections that come too late"
+    needed = answer.needed()
+    if needed:
+        yield f"an old server was needed for up to {seconds_text(needed.wait)} after a change, by {needed.client}"
+    for server, time in answer.switch_off():
+        timeout = answer.keeping_s or answer.script.timeout_s
+        yield f"server {server} may be switched off at {clock_text(time)}: {timeout} s after its drain"
+
+
+def of_open(answer):
+    if answer.open:
+        count = plural(len(answer.open), "connection")
+        yield f"{count} from before the last change had sent no FIN and no RST when the captures ended; the longest idle for"
+        yield f"  {seconds_text(answer.open[-1])}. The captures can't tell whether the change breaks them later."
+
+
+def of_lifetime(answer):
+    if answer.lifetime is None:
+        yield "whatever the traffic, no change of this script breaks a connection"
+        return
+    kept = "" if answer.kept_lifetime is None else f" (with timeout_s = {answer.keeping_s}: {seconds_down(answer.kept_lifetime)})"
+    yield f"whatever the traffic, connections that live at most {seconds_down(answer.lifetime)} are safe{kept}"
+
+
+def seconds_down(wait):
+    """A wait in seconds, to milliseconds, rounded down."""
+    return seconds_text(wait // 10**6 * 10**6)
+
+
+def text_lines(paths, answer, has_colours):
+    yield from of_traffic(paths, answer)
+    yield ""
+    yield from of_changes(answer)
+    yield ""
+    yield coloured(headline(answer).upper() if has_colours else headline(answer), RED if answer.broken else GREEN, has_colours)
+    yield from of_broken(answer)
+    yield ""
+    for part in (of_timeout, of_open, of_lifetime):
+        yield from part(answer)
+
+
+def of_check(path, script, replay):
+    """What is told of a script that has no fault."""
+    servers = script.fleet.get("servers", DEFAULT_SERVERS)
+    buckets = script.fleet.get("buckets", DEFAULT_BUCKETS)
+    owned = [f"{server}: {len(range(at, buckets, len(servers))):,}" for at, server in enumerate(servers)]
+    yield f"{path}: ok"
+    yield f"  buckets by server at first: {', '.join(owned)}"
+    for number, (command, (moves, _)) in enumerate(zip(script.changes, replay.moved()), 1):
+        yield f"  change {number}, {words_of(command)}: moves {moves:,} of {plural(buckets, 'bucket')}"
+
+
+# JSON
+
+
+def at(answer, moment):
+    return answer.zero + moment
+
+
+def connection_json(answer, it):
+    return {
+        "client": it.client,
+        "service": it.service,
+        "opened_ns": at(answer, it.opened),
+        "last_ns": at(answer, it.last),
+        "server": it.server,
+        "how": "broken" if it.is_broken else "refused",
+        "at_ns": at(answer, it.at),
+        "verdict": it.verdict,
+        "cause": it.cause,
+    }
+
+
+def json_of(paths, answer):
+    """The answer as a JSON object. Times are nanoseconds since 1970, waits are nanoseconds."""
+    traffic, needed = answer.traffic, answer.needed()
+    return json.dumps({
+        "captures": list(paths),
+        "packets": len(traffic.packets) - traffic.opened,
+        "connections": len(answer.replay.connections),
+        "opened": traffic.opened,
+        "not_used": dict(traffic.left_out),
+        "begin_ns": traffic.begin,
+        "end_ns": traffic.end,
+        "timeout_s": answer.script.timeout_s,
+        "changes": [{**command, "at_ns": at(answer, command["at_ns"])} for command in answer.script.changes],
+        "by_the_change": [connection_json(answer, it) for it in answer.broken],
+        "anyway": [connection_json(answer, it) for it in answer.anyway],
+        "keeping_timeout_s": answer.keeping_s,
+        "by_the_change_then": answer.kept and [connection_json(answer, it) for it in answer.kept],
+        "needed_ns": needed and needed.wait,
+        "open_at_end": len(answer.open),
+        "lifetime_ns": answer.lifetime,
+    })
