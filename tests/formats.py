@@ -100,6 +100,12 @@ def ip_part(octets):
     return packet, header, (total or len(octets)) - header
 
 
+def data_of(link, frame):
+    """The captured data octets of a segment."""
+    packet, header, _ = ip_part(network_part(link, frame))
+    return packet[header + packet[header + 12] // 16 * 4 :]
+
+
 def segment_of(link, frame, services):
     """The flow, sequence number, acknowledgment number, data octets and flags of a segment to a service."""
     packet, header, stated = ip_part(network_part(link, frame))
@@ -182,9 +188,14 @@ def packet_of(moment, link, frame, services):
         return Packet(moment, None, 0, 0, 0, 0, str(reason))
 
 
+def read_records(octets):
+    """The same for either form."""
+    return read_blocks(octets) if octets[:4] == BLOCKS else read_classic(octets)
+
+
 def read_capture(octets, services):
     """The records as packets, and whether a cut record follows."""
-    records, cut = read_blocks(octets) if octets[:4] == BLOCKS else read_classic(octets)
+    records, cut = read_records(octets)
     return [packet_of(*record, services) for record in records], cut
 
 

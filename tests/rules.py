@@ -9,12 +9,17 @@ M32, WINDOW = 2**32, 65535
 # FLOWS
 
 
-def hash_of(flow):
-    """FNV-1a of a flow: source and destination address, source and destination port, and 6."""
+def fnv(octets):
+    """FNV-1a of 64 bits."""
     number = 0xCBF29CE484222325
-    for octet in struct.pack("!IIHHB", *flow, 6):
+    for octet in octets:
         number = (number ^ octet) * 0x100000001B3 % 2**64
     return number
+
+
+def hash_of(flow):
+    """FNV-1a of a flow: source and destination address, source and destination port, and 6."""
+    return fnv(struct.pack("!IIHHB", *flow, 6))
 
 
 def dotted(address):

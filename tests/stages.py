@@ -1,5 +1,5 @@
 """Small random stages, kept captures as tshark read them, and how a stage is written to files."""
-import csv, re, struct
+import csv, json, re, struct, tomllib
 from rules import ACK, FIN, M32, RST, SYN, Fleet, Packet, endpoints, flow_of_frame, reason_of_frame
 
 CLIENT, SERVICE, OTHER = 0x0A000001, (0xC0000201, 80), (0xC0000209, 80)
@@ -160,6 +160,22 @@ def fleet_of(servers, shards, muxes):
 def with_muxes(script, muxes):
     """The text of a script with this many muxes, without lags."""
     return f"muxes = {muxes}\n" + re.sub(r"(?m)^(muxes|lags_ns) *=.*\n", "", script)
+
+
+def with_syncs(script):
+    """The text of a script, without its syncs, but with one before and after each moment of its commands, and one each quarter of the timeout
+    from there until it is over."""
+    says = tomllib.loads(script)
+    commands = [command for command in says.get("command", []) if command["do"] != "sync"]
+    moments, quarter = sorted({command["at_ns"] for command in commands}), says.get("timeout_s", 240) * 10**9 // 4
+    rows = [(moment + number * quarter, 0, "sync", {}) for moment in moments for number in range(5)]
+    rows += [(command["at_ns"], 1, command["do"], command) for command in commands]
+    rows += [(moment, 2, "sync", {}) for moment in moments]
+    text = re.split(r"(?m)^\[\[command\]\]", script)[0]
+    for moment, _, do, command in sorted(rows, key=lambda row: row[:2]):
+        keys = {"at_ns": moment, "do": do} | command
+        text += "".join(["[[command]]\n", *(f"{key} = {json.dumps(value)}\n" for key, value in keys.items())])
+    return text
 
 
 def packet_of_frame(frame, moment, vips):
