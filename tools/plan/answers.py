@@ -66,6 +66,6 @@ class Answer:
         return sorted(self.traffic.end - latest[flow] for flow, time in opened.items() if flow not in ended and time < last)
 
     def switch_off(self):
-        """For each server that is drained, the time from which it may be switched off: a timeout after its drain."""
-        timeout = (self.keeping_s or self.script.timeout_s) * SECOND
-        return [(it["server"], self.zero + it["at_ns"] + timeout) for it in self.script.changes if it["do"] == "drain"]
+        """For each server that is drained, the time from which it may be switched off: the timeout and the longest lag after its drain."""
+        wait = (self.keeping_s or self.script.timeout_s) * SECOND + max(self.script.lags, default=0)
+        return [(it["server"], self.zero + it["at_ns"] + wait) for it in self.script.changes if it["do"] == "drain"]

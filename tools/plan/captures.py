@@ -67,18 +67,26 @@ def from_zstd(path, file):
     return io.BytesIO(done.stdout)
 
 
-def read_capture(path):
-    """The frames of a capture, in its order."""
+def read_capture(path, cut):
+    """The frames of a capture, in its order. If it ends within a record, its name is put into `cut`."""
+    source, frames = begun(path)
+    yield from frames
+    if source.is_cut:
+        cut.append(source.name)
+
+
+def begun(path):
+    """A capture, and its frames."""
     source = Source("standard input" if path == "-" else path, opened(path))
     begin = source.take(4)
     if begin is None:
         raise source.refuse("it is empty" if not source.place else "it is no capture")
     if begin == struct.pack("<I", SECTION):
-        return read_blocks(source)
+        return source, read_blocks(source)
     for order in "<>":
         unit = CLASSIC.get(struct.unpack(order + "I", begin)[0])
         if unit:
-            return read_records(source, order, unit)
+            return source, read_records(source, order, unit)
     raise source.refuse("it is no capture: neither of the classic form (tcpdump) nor of the pcapng form (dumpcap, Wireshark)")
 
 

@@ -45,7 +45,7 @@ def parser():
     words.add_argument("--no-copies", action="store_true", help="leave out packets that were captured twice within a millisecond")
     words.add_argument("--no-open", action="store_true", help="don't open connections from before the captures")
     words.add_argument("--keep-script", metavar="FILE", help="write the script that was replayed")
-    words.add_argument("--json", action="store_true", help="the whole answer as a JSON object")
+    words.add_argument("--json", action="store_true", help="the answer as a JSON object")
     return words
 
 
@@ -80,6 +80,9 @@ class Plan:
 
 def answer_of(given):
     plan = Plan(given)
+    plan.script.look()
+    if given.keep_script and os.path.lexists(given.keep_script):
+        raise Refusal(WRITE, f"{given.keep_script}: it exists, and isn't overwritten")
     traffic = read_traffic(given.captures, plan.script.services, given.no_copies, not given.no_open)
     zero = traffic.begin - MICROSECOND
     script = plan.dated(traffic.begin, traffic.end, zero)

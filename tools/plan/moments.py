@@ -65,8 +65,8 @@ def moment_of(text, begin, end):
     else:
         time = on_date(text)
         if time is None:
-            time = clock(text, day_of(begin))
-            time = time + DAY if time is not None and time < begin and time + DAY <= end else time
+            days = [clock(text, day_of(begin) + days * DAY) for days in (0, -1, 1)]
+            time = next((it for it in days if it is not None and begin <= it <= end), days[0])
     if time is None:
         raise Refusal(USAGE, f"{text!r} isn't a moment: say {FORMS}")
     return within(time, text, begin, end)

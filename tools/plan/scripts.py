@@ -55,6 +55,19 @@ class Script:
         return self.fleet.get("timeout_s", DEFAULT_TIMEOUT_S)
 
     @property
+    def lags(self):
+        """The lags of the muxes in nanoseconds, where the script has them as it should."""
+        lags = self.fleet.get("lags_ns", [])
+        return lags if isinstance(lags, list) and all(type(lag) is int for lag in lags) else []
+
+    def look(self):
+        """Refuses what goes by the numbers of records, since the packets are numbered anew."""
+        if self.fleet.get("fault"):
+            raise Refusal(SCRIPT, "its fault tables name records of one capture, and packets are numbered anew here: use ./beamer-connections")
+        if self.fleet.get("route") == "turn" and len(set(self.lags)) > 1:
+            raise Refusal(SCRIPT, 'with route = "turn" and unequal lags the muxes go by the numbers of records: use ./beamer-connections')
+
+    @property
     def changes(self):
         return [command for command in self.commands if command.get("do") in CHANGES]
 
@@ -109,7 +122,7 @@ def dated(script, words, begin, end, zero):
     every = list(heapq.merge(own, sorted(more, key=lambda it: it.time), key=lambda it: it.time))
     fleet = dict(script.fleet)
     if any("weight" in it.command for it in more) and fleet.get("version", 1) == 1:
-        fleet = {"version": 2, **fleet}
+        fleet = {"version": 2} | {key: value for key, value in fleet.items() if key != "version"}
     commands = [{"at_ns": it.time - zero} | {key: value for key, value in it.command.items() if key not in ("at", "at_ns")} for it in every]
     return Script({**fleet, "command": commands}, [it.origin for it in every])
 
@@ -122,7 +135,9 @@ def time_of(command, begin, end):
         if type(at_ns) is not int or at_ns < 0:
             raise Refusal(SCRIPT, f"a command that is to {command.get('do', 'do something')} has neither `at` nor a whole `at_ns`")
         return begin + at_ns
-    return within(of_datetime(at), str(at), begin, end) if isinstance(at, datetime) else moment_of(str(at), begin, end)
+    if not isinstance(at, datetime):
+        raise Refusal(SCRIPT, f"at = {at} is no date and time: write it like 2026-11-27T21:02:11Z")
+    return within(of_datetime(at), str(at), begin, end)
 
 
 def words_of(command):

@@ -37,6 +37,8 @@ def of_traffic(paths, answer):
     yield f"  on {date(traffic.begin)}, {clock_text(traffic.begin, 3)} to {clock_text(traffic.end, 3)} UTC"
     if traffic.opened:
         yield f"  {plural(traffic.opened, 'connection')} had no SYN: each was given one at the captures' beginning"
+    for name in traffic.cut:
+        yield f"  {name} ends within a record: what came after it isn't known"
     for why, count in traffic.left_out.most_common():
         yield f"  not used: {plural(count, 'packet')} {why}"
     if 10 * traffic.copies > len(traffic.packets) and not traffic.left_out[COPIES]:
@@ -78,13 +80,14 @@ def of_timeout(answer):
         left = len(answer.kept)
         yield f"with timeout_s = {answer.keeping_s} {'it breaks none' if not left else f'it breaks {left:,}'} (replayed)"
     elif any(it.cause == "chain-late" for it in answer.broken):
-        yield "no timeout that a script takes keeps the connections that come too late"
+        yield "no timeout was found that keeps the connections that come too late"
     needed = answer.needed()
     if needed:
         yield f"an old server was needed for up to {seconds_text(needed.wait)} after a change, by {needed.client}"
     for server, time in answer.switch_off():
         timeout = answer.keeping_s or answer.script.timeout_s
-        yield f"server {server} may be switched off at {clock_text(time)}: {timeout} s after its drain"
+        lag = " and the longest lag" if any(answer.script.lags) else ""
+        yield f"server {server} may be switched off at {clock_text(-(-time // SECOND) * SECOND)}: {timeout} s{lag} after its drain"
 
 
 def of_open(answer):
@@ -160,6 +163,7 @@ def json_of(paths, answer):
         "connections": len(answer.replay.connections),
         "opened": traffic.opened,
         "not_used": dict(traffic.left_out),
+        "cut": traffic.cut,
         "begin_ns": traffic.begin,
         "end_ns": traffic.end,
         "timeout_s": answer.script.timeout_s,

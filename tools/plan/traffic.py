@@ -4,10 +4,12 @@ from collections import Counter
 from plan.captures import read_capture
 from plan.faults import CAPTURE, Refusal
 from plan.frames import LINKS, begin_of, opening, read_frame
-from plan.moments import MILLISECOND, MICROSECOND
+from plan.moments import MICROSECOND, MILLISECOND, SECOND
 from plan.scripts import endpoint_text
 
 OTHERS, COPIES = "to other destinations", "copies"
+# The classic form has no later times.
+LATEST = 2**32 * SECOND
 
 
 class Packet:
@@ -21,10 +23,12 @@ class Packet:
 
 class Traffic:
     """What captures hold: the packets to the services in the order of their times, how many frames were left out and why, the times of
-    the first and the last frame, how many connections were opened in front of them, and how many packets look like copies."""
+    the first and the last frame, how many connections were opened in front of them, how many packets look like copies, and which captures
+    end within a record."""
 
-    def __init__(self, packets, left_out, begin, end, opened, copies):
-        self.packets, self.left_out, self.begin, self.end, self.opened, self.copies = packets, left_out, begin, end, opened, copies
+    def __init__(self, packets, left_out, begin, end, opened, copies, cut):
+        self.packets, self.left_out, self.begin, self.end = packets, left_out, begin, end
+        self.opened, self.copies, self.cut = opened, copies, cut
 
     @property
     def connections(self):
@@ -54,18 +58,20 @@ def busiest(destinations):
     return ", ".join(f"{endpoint_text(*it)} ({count} packets)" for it, count in destinations.most_common(3))
 
 
-def in_order(frames):
-    """The frames, each no earlier than those before it."""
+def in_order(path, cut):
+    """The frames of a capture, each no earlier than those before it."""
     latest = 0
-    for frame in frames:
+    for frame in read_capture(path, cut):
+        if frame.time >= LATEST:
+            raise Refusal(CAPTURE, f"{path}: it has times after the year 2106; is it damaged?")
         frame.time = latest = max(latest, frame.time)
         yield frame
 
 
 def read_traffic(paths, services, without_copies=False, is_opened=True):
     """What the captures hold for these services."""
-    packets, left_out, destinations, segments, begin, copies = [], Counter(), Counter(), {}, None, Copies()
-    for frame in heapq.merge(*[in_order(read_capture(path)) for path in paths], key=lambda frame: frame.time):
+    packets, left_out, destinations, segments, begin, copies, cut = [], Counter(), Counter(), {}, None, Copies(), []
+    for frame in heapq.merge(*[in_order(path, cut) for path in paths], key=lambda frame: frame.time):
         begin, end = frame.time if begin is None else begin, frame.time
         read = read_frame(frame.link, frame.octets) if frame.link in LINKS else f"of link type {frame.link}"
         if isinstance(read, str):
@@ -86,7 +92,7 @@ def read_traffic(paths, services, without_copies=False, is_opened=True):
     if not packets:
         raise nothing_steered(paths, services, destinations, left_out)
     added = list(openings(packets, segments, begin)) if is_opened else []
-    return Traffic(added + packets, left_out, begin, end, len(added), copies.count)
+    return Traffic(added + packets, left_out, begin, end, len(added), copies.count, cut)
 
 
 def nothing_steered(paths, services, destinations, left_out):
