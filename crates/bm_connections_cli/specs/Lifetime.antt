@@ -58,7 +58,7 @@ timeout_raise_line (Some timeout_s) next =
     line (codes "raise")
     (codes "timeout_s" ∷ decimal timeout_s ∷ codes "to" ∷ seconds_text next ∷ [])
 
--- where moves bound it: the third of them comes so much later
+-- where moves bound it: the third of them comes later by this wait
 abbrev pub moves_raise_line : Option NearMoves → ℕ → ℕ → List ℕ
 moves_raise_line None wait next = []
 moves_raise_line (Some near) wait next =
@@ -86,7 +86,7 @@ explained_text timeout (Some life) =
 
 -- THE ANSWER
 
--- a connection that lives so many seconds, if that is asked, lives longer than this lifetime
+-- the life that is asked about, in seconds, exceeds this lifetime
 abbrev pub outlives : Option ℕ → Option Lifetime → Bool
 outlives (Some seconds) (Some life) = nat_lt life.time (seconds * 10 ^ 9)
 outlives _ _ = false
@@ -96,8 +96,7 @@ abbrev pub shown_or_warned : Bool → List ℕ → Answer
 shown_or_warned false text = Shown (λ octets. octets ≡ text)
 shown_or_warned true text = Warned text
 
--- the lines of the script's lifetime; a warning where connections aren't safe that live so many
--- seconds
+-- the lines of the script's lifetime; a warning where the life that is asked about exceeds it
 abbrev pub lifetime_answer : Option ℕ → Script → Answer
 lifetime_answer seconds script =
     shown_or_warned (outlives seconds (explained script))

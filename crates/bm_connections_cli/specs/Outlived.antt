@@ -18,7 +18,7 @@ lives_longer (Some most) c = nat_lt most (age c)
 abbrev pub outlived : Option ℕ → List Connection → ℕ
 outlived life table = length (filter (lives_longer life) table)
 
--- the line of a script with this lifetime, where so many of so many connections live longer
+-- the line of a script with this lifetime: how many connections live longer, and how many there are
 abbrev pub outlived_line : Option ℕ → ℕ → ℕ → List ℕ
 outlived_line life longer connections =
     line (codes "lifetime")

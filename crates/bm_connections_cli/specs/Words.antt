@@ -12,8 +12,7 @@ use Rattle.bm_connections_cli.specs.declared.words.Format.TheVariants.{Lines, Cs
 use Rattle.bm_connections_cli.specs.declared.words.Manner.{Manner}
 
 -- what is asked for: the connections of a replay, in this manner, of the named capture and script;
--- or the lifetime of the script of this name, and whether connections that live so many seconds are
--- safe
+-- or the lifetime of the script of this name, and whether it is at least this number of seconds
 pub data Asked : Type 0 where
   Connections : Manner → Named → Asked
   Lifetime : List ℕ → Option ℕ → Asked

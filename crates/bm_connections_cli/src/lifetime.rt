@@ -19,9 +19,8 @@ const SECOND: u64 = 1_000_000_000;
 /// The greatest timeout of a script, in seconds.
 const LONGEST_TIMEOUT: u64 = 86_400;
 
-/// Writes the script's lifetime, with what bounds it. The status says whether connections are safe
-/// that live so many seconds. If memory is refused before all of it is put together, nothing is
-/// written.
+/// Writes the script's lifetime, with what bounds it. The status says whether connections that live
+/// `seconds` are safe. If memory is refused before all of it is put together, nothing is written.
 pub(crate) fn tell_lifetime<K: Sink>(
     alloc: Global,
     script: &Script,
@@ -41,7 +40,7 @@ pub(crate) fn tell_lifetime<K: Sink>(
     say(out, text.as_str().as_bytes(), status_for(seconds, life))
 }
 
-/// The status of this lifetime, where connections are to be safe that live so many seconds.
+/// The status: whether connections that live `seconds` are safe by this lifetime.
 fn status_for(seconds: Option<u32>, life: Option<Lifetime>) -> Status
     ensures status { result ≡ status_for (spec.outlives seconds life) }
     ensures write { result ≢ Status.WriteFault }
@@ -54,7 +53,7 @@ fn status_for(seconds: Option<u32>, life: Option<Lifetime>) -> Status
     }
 }
 
-/// Whether a connection that lives so many seconds lives longer than this lifetime.
+/// Whether `seconds` exceed this lifetime.
 fn outlives(seconds: Option<u32>, life: Option<Lifetime>) -> bool
     ensures { result ≡ spec.outlives seconds life }
 {

@@ -54,7 +54,7 @@ fn time_of(alloc: Global, script: &Script) -> Result<Option<u64>, Memory>
     Ok(life.map(|life| life.time))
 }
 
-/// The line of a script with this lifetime, where so many of so many connections live longer.
+/// The line of a script with this lifetime, where `longer` of the connections live longer.
 fn write_outlived(
     text: &mut String,
     life: Option<u64>,

@@ -37,8 +37,8 @@ pub(crate) enum Form<'a> {
         manner: Manner,
         names: Names<'a>,
     },
-    /// The lifetime of the named script; with `--for`, also whether connections that live so many
-    /// seconds are safe.
+    /// The lifetime of the named script; with `--for`, also whether connections that live `seconds`
+    /// are safe.
     Lifetime {
         script: &'a str,
         seconds: Option<u32>,
