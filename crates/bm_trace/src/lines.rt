@@ -193,7 +193,7 @@ pub fn write_line(line: &mut String, event: &Event, aside: &Aside) -> Result<(),
 
 /// Appends the line of an event with this cause. `versions` are the versions before it.
 #[inline(always)]
-pub(crate) fn write_event(
+pub fn write_event(
     line: &mut String,
     versions: &Versions,
     stage: &Stage,

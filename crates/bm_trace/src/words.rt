@@ -61,7 +61,8 @@ pub fn cause_word(cause: Cause) -> &'static str
     }
 }
 
-pub(crate) fn reason_word(reason: Reason) -> &'static str
+/// The word of a reason against steering.
+pub fn reason_word(reason: Reason) -> &'static str
     ensures { result.now ≡ words.reason_word reason }
 {
     match reason {

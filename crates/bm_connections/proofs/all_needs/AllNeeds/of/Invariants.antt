@@ -1,0 +1,6 @@
+use Rattle.std.proofs.Common.{reverse, take}
+use Rattle.bm_connections.specs.Inside.Needs.{HasNeeds}
+use Rattle.bm_connections.proofs.all_needs.AllNeeds.of.Given as goal
+
+abbrev pub invariant-loop-place : goal.invariant-loop-place
+invariant-loop-place l = record { needs : HasNeeds l.h.stage (reverse (take l.place l.events)) l.all }
