@@ -35,12 +35,12 @@ use Rattle.bm_table.specs.Settings.{rack_of, IsWithin}
 
 module _ {A : Type 0} where
   -- what was read before a value that was read
-  ok-then : {B : Type 0} (r : Result A ScriptFault) (f : A → Result B ScriptFault) (y : B) → (r >>= f) ≡ Ok y
+  pub ok-then : {B : Type 0} (r : Result A ScriptFault) (f : A → Result B ScriptFault) (y : B) → (r >>= f) ≡ Ok y
       → (x : A) × (r ≡ Ok x) × (f x ≡ Ok y)
   ok-then (Ok x) f y e = (x, refl, e)
   ok-then (Err fault) f y e = absurd cc
 
-  ok-same : (x y : A) → ◌≡◌ {A = Result A ScriptFault} (Ok x) (Ok y) → x ≡ y
+  pub ok-same : (x y : A) → ◌≡◌ {A = Result A ScriptFault} (Ok x) (Ok y) → x ≡ y
   ok-same x y e = cc
 
   ok-and : (r : Result A ScriptFault) (x : A) (P : A → Type 0) → r ≡ Ok x → P x → IsOkAnd r P
@@ -53,7 +53,7 @@ module _ {A : Type 0} where
   if-ok (Ok x) P h = h x refl
   if-ok (Err fault) P h = tt
 
-  valued-ok : (place : Place) (key : Key) (o : Option A) (x : A) → valued place key o ≡ Ok x → o ≡ Some x
+  pub valued-ok : (place : Place) (key : Key) (o : Option A) (x : A) → valued place key o ≡ Ok x → o ≡ Some x
   valued-ok place key None x e = absurd cc
   valued-ok place key (Some y) x e = ap (λ (z : A). Some z) (ok-same y x e)
 

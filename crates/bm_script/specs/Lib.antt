@@ -4,4 +4,5 @@ pub mod Keys
 pub mod Placed
 pub mod Scripts
 pub mod Values
+pub mod Verbs
 pub mod Inside

@@ -89,7 +89,7 @@ fn required_verb(table: &Table, place: Place, version: u8) -> Result<Verb, Scrip
     verb_of(version, value).ok_or(ScriptFault::BadValue(place, Key::Do))
 }
 
-fn verb_of(version: u8, value: &Value) -> Option<Verb>
+pub(crate) fn verb_of(version: u8, value: &Value) -> Option<Verb>
     ensures { result ≡ values.verb version (view value.now) }
 {
     Verb::from_word(version, value.as_str()?)

@@ -12,7 +12,9 @@ mod rows;
 mod script;
 mod top;
 mod value;
+mod verbs;
 
 pub use fault::{Place, ScriptFault};
 pub use key::Key;
 pub use script::read_script;
+pub use verbs::{ChangeVerb, WordedScript, read_worded_script};

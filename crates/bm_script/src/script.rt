@@ -46,7 +46,7 @@ pub fn read_script(alloc: Global, text: &[u8]) -> Result<Script, ScriptFault>
 }
 
 /// The top table of the text.
-fn read_table(alloc: Global, text: &[u8]) -> Result<Table, ScriptFault>
+pub(crate) fn read_table(alloc: Global, text: &[u8]) -> Result<Table, ScriptFault>
     ensures ok { IfOk result (λ table. tree_of text.now ≡ Some (table_view table)) }
     ensures err { IfErr result
         (λ fault. fault ≢ memory → (fault ≡ NotToml) × (tree_of text.now ≡ None)) }
@@ -63,7 +63,7 @@ fn read_table(alloc: Global, text: &[u8]) -> Result<Table, ScriptFault>
 }
 
 /// The script that a table describes.
-fn read_tree(alloc: Global, table: &Table) -> Result<Script, ScriptFault>
+pub(crate) fn read_tree(alloc: Global, table: &Table) -> Result<Script, ScriptFault>
     ensures gives { Gives result (script_in (table_view table.now)) }
     ensures membership { IfOk result (λ script. KeepsMembership script.plan) }
 {

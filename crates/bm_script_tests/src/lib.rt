@@ -6,3 +6,5 @@
 mod lifetimes;
 #[cfg(test)]
 mod scripts;
+#[cfg(test)]
+mod verbs;
