@@ -21,6 +21,7 @@ use Rattle.bm_core.specs.declared.events.What.{What}
 use Rattle.bm_core.specs.declared.events.What.TheVariants.{Publish, Switch, Steer, Lose, Arrive, Close, Retire, Sync}
 use Rattle.bm_core.specs.Causes.{cause, cause_at, first_broken, is_late}
 use Rattle.bm_core.specs.Past.{Accepted, label_of, owner, segment_of}
+use Rattle.bm_connections.specs.Connections.{counted_cause, counts}
 use Rattle.bm_connections.specs.Counts.{is_cause}
 use Rattle.bm_connections.specs.Late.{came_late, comes_late, has_late_label, is_one_late, longer, longest_wait}
 use Rattle.bm_connections.specs.Late.{as_late, whole_seconds}
@@ -32,7 +33,7 @@ use Rattle.bm_connections.specs.Waits.{stamp_of, wait_of}
 pub longest_observed : (stage : Stage) (past : List Event) (e : Event) (found : Option Cause) (longest new : Option ℕ)
     → new ≡ (if is_cause ChainLate found
     then Some (longer longest (wait_of stage past e.clock.0 e.what)) else longest)
-    → found ≡ cause stage past e.clock.0 e.what → longest ≡ longest_wait stage past
+    → found ≡ counted_cause stage past e → longest ≡ longest_wait stage past
     → new ≡ longest_wait stage (e ∷ past)
 longest_observed stage past e found longest new is by was =
     is
@@ -113,6 +114,21 @@ late_event t stage past clock Sync = refl
 late_event t stage past clock (Arrive k hop server verdict) =
     late_label t stage past clock hop server verdict (owner stage past k) (segment_of stage k) (label_of stage past k)
 
+-- the same of an event that counts
+if_late : (counts : Bool) (found : Option Cause) (x y : Bool)
+    → (is_cause ChainLate found && x) ≡ (is_cause ChainLate found && y)
+    → (is_cause ChainLate (if counts then found else None) && x)
+    ≡ (is_cause ChainLate (if counts then found else None) && y)
+if_late true found x y same = same
+if_late false found x y same = refl
+
+late_counted : (t : ℕ) (stage : Stage) (past : List Event) (e : Event)
+    → (came_late stage past e && comes_late t stage past e.clock.0 e.what)
+    ≡ (came_late stage past e && nat_lt t (wait_of stage past e.clock.0 e.what))
+late_counted t stage past e =
+    if_late (counts stage past e.what) (cause stage past e.clock.0 e.what) _ _
+    (late_event t stage past e.clock.0 e.what)
+
 exceeds_more : (t : ℕ) (late : Bool) (wait : ℕ) (o : Option ℕ)
     → (late && nat_lt t wait || exceeds t o) ≡ exceeds t (if late then Some (longer o wait) else o)
 exceeds_more t false wait o = refl
@@ -123,7 +139,7 @@ pub late_under : (t : ℕ) (stage : Stage) (past : List Event)
     → is_one_late t stage past ≡ exceeds t (longest_wait stage past)
 late_under t stage [] = refl
 late_under t stage (e ∷ past) =
-    (λ i. late_event t stage past e.clock.0 e.what i || late_under t stage past i)
+    (λ i. late_counted t stage past e i || late_under t stage past i)
     ∙ exceeds_more t (came_late stage past e) (wait_of stage past e.clock.0 e.what) (longest_wait stage past)
 
 seconds_enough : (wait : ℕ) → nat_lt (whole_seconds wait * 10 ^ 9) wait ≡ false

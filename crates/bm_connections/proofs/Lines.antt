@@ -20,3 +20,10 @@ lines_more line xs i d first old new below n o =
     n ∙ ap (λ l. l ++ line (get_or xs i d)) o
     ∙ append_assoc first (flat_map line (take i xs)) (line (get_or xs i d))
     ∙ ap (λ l. first ++ l) (sym (line_more line xs i d below))
+
+-- four texts more
+pub four_more : (t a b c d t₁ t₂ t₃ t₄ : List ℕ) → t₁ ≡ t ++ a → t₂ ≡ t₁ ++ b → t₃ ≡ t₂ ++ c → t₄ ≡ t₃ ++ d →
+    t₄ ≡ t ++ (a ++ b ++ c ++ d)
+four_more t a b c d t₁ t₂ t₃ t₄ one two three four =
+    four ∙ ap (λ l. l ++ d) (three ∙ ap (λ l. l ++ c) (two ∙ ap (λ l. l ++ b) one ∙ append_assoc t a b)
+    ∙ append_assoc t (a ++ b) c) ∙ append_assoc t (a ++ b ++ c) d

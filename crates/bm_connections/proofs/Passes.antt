@@ -51,6 +51,10 @@ pub past_more : (P : List Event → Type 0) (shown : List Event) (n : ℕ) (d : 
     → P (get_or shown n d ∷ reverse (take n shown)) → P (reverse (take (n + 1) shown))
 past_more P shown n d below k = subst P (sym (reverse_take shown n d below)) k
 
+pub records_more : (P : List Record → Type 0) (shown : List Record) (n : ℕ) (d : Record) → n < length shown
+    → P (get_or shown n d ∷ reverse (take n shown)) → P (reverse (take (n + 1) shown))
+records_more P shown n d below k = subst P (sym (reverse_take shown n d below)) k
+
 -- one record more
 pub seen_more : (shown : List Record) (n : ℕ) (d : Record) (seen : Seen) → n < length shown
     → IsSeen (get_or shown n d ∷ reverse (take n shown)) seen

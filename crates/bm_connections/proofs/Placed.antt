@@ -175,13 +175,13 @@ get_push [] x y i e = absurd (cc)
 get_push (z ∷ xs) x y zero e = e
 get_push (z ∷ xs) x y (suc i) e = get_push xs x y i e
 
-get_last : {X : Type 0} (xs : List X) (y : X) (i : ℕ) → i ≡ length xs → slice_get (xs ++ y ∷ []) i ≡ Some y
+pub get_last : {X : Type 0} (xs : List X) (y : X) (i : ℕ) → i ≡ length xs → slice_get (xs ++ y ∷ []) i ≡ Some y
 get_last [] y zero e = refl
 get_last [] y (suc i) e = absurd (omega arith)
 get_last (z ∷ xs) y zero e = absurd (omega arith)
 get_last (z ∷ xs) y (suc i) e = get_last xs y i (omega arith)
 
-get_other : {X : Type 0} (xs : List X) (y : X) (i : ℕ) → (i ≡ length xs → ⊥)
+pub get_other : {X : Type 0} (xs : List X) (y : X) (i : ℕ) → (i ≡ length xs → ⊥)
     → slice_get (xs ++ y ∷ []) i ≡ slice_get xs i
 get_other [] y zero e = absurd (e refl)
 get_other [] y (suc i) e = refl

@@ -1,5 +1,5 @@
 -- What one record more and one event more change in a connection.
-use Rattle.std.proofs.Common.{◌≡◌, ℕ, suc, ◌<◌, ◌≤◌, ◌^◌, Bool, true, false, ◌&&◌}
+use Rattle.std.proofs.Common.{◌≡◌, ℕ, suc, ◌<◌, ◌≤◌, ◌^◌, Bool, true, false, ◌&&◌, ◌||◌, not}
 use Rattle.std.proofs.Common.{List, [], ◌∷◌, length, Option, Some, None, option_map, is_some}
 use Rattle.std.proofs.Common.{refl, sym, ap, ◌∙◌, arith, subst}
 use Rattle.std.specs.Prelude.{if◌then◌else◌}
@@ -24,15 +24,20 @@ use Rattle.bm_trace.specs.CauseOf.{is_break}
 use Rattle.bm_trace.specs.Totals.{is_drop, is_reset}
 use Rattle.bm_connections.specs.declared.connection.Break.{Break}
 use Rattle.bm_connections.specs.declared.connection.Connection.{Connection}
+use Rattle.bm_connections.specs.declared.connection.Ending.{Ending}
 use Rattle.bm_connections.specs.declared.connection.Forwarding.{Forwarding}
 use Rattle.bm_connections.specs.declared.connection.Sight.{Sight}
 use Rattle.bm_connections.specs.declared.connection.Tally.{Tally}
-use Rattle.bm_connections.specs.Connections.{acceptor, arrivals, as_break, connection}
+use Rattle.bm_connections.specs.declared.observed.Facts.{Facts}
+use Rattle.bm_connections.specs.Connections.{acceptor, after_its_end, arrivals, as_break, has_data, is_after_end}
+use Rattle.bm_connections.specs.Connections.{loses_data}
 use Rattle.bm_connections.specs.Connections.{breakage, first_break, is_arrival_for, last_forwarding, one_more}
 use Rattle.bm_connections.specs.Connections.{strays_for, tally, first_of_two, refusal}
-use Rattle.bm_connections.specs.Inside.Rows.{HasRoom, forwarded_after, observed, refused_after}
+use Rattle.bm_connections.specs.Inside.Rows.{HasRoom, forwarded_after, observed, refused_after, row}
 use Rattle.bm_connections.specs.Inside.Rows.{tallied}
-use Rattle.bm_connections.specs.Waits.{wait, wait_of}
+use Rattle.bm_connections.specs.Endings.{follows_reset, is_with_data, of_packet}
+use Rattle.bm_connections.specs.Seen.{records_of}
+use Rattle.bm_connections.specs.Waits.{wait_of}
 
 pub same_flow-true : (a b : Flow) → same_flow a b ≡ true → a ≡ b
 same_flow-true a b h = grind (arith, nat_tests, and_parts)
@@ -53,7 +58,7 @@ with_none (Some b) = refl
 -- an event that is no arrival of the flow changes nothing in its connection
 still : (stage : Stage) (records : List Record) (past : List Event) (clock : Moment) (what : What) (f : Flow)
     → is_arrival_for stage f what ≡ false
-    → connection stage records (record { clock = clock; what = what } ∷ past) f ≡ connection stage records past f
+    → row stage records (record { clock = clock; what = what } ∷ past) f ≡ row stage records past f
 still stage records past clock (Publish v) f h =
     rw (with_none (breakage stage f past), with_none (first_break stage f past)) refl
 still stage records past clock (Switch m v) f h =
@@ -72,24 +77,27 @@ still stage records past clock (Arrive k hop server verdict) f h =
     rw (h, and_false (is_accept verdict), with_none (breakage stage f past), with_none (first_break stage f past))
     refl
 
-abbrev connection_with : Flow → Sight → Sight → Option ServerId → Tally → Option Forwarding → Option Break
-    → Option Break → Connection
-connection_with f first last s t x b r = record {
+abbrev connection_with : Flow → Sight → Sight → Ending → Option ServerId → Tally → Option Forwarding → Option Break
+    → Option Break → Bool → Connection
+connection_with f first last ending s t x b r l = record {
   flow = f;
   first = first;
   last = last;
+  ending = ending;
   server = s;
   tally = t;
   forwarded = x;
   broken = b;
   refused = r;
+  losing_data = l;
 }
 
-same_connection : (f : Flow) (first last : Sight) (s s' : Option ServerId) (t t' : Tally) (x x' : Option Forwarding)
-    (b b' r r' : Option Break) → s ≡ s' → t ≡ t' → x ≡ x' → b ≡ b' → r ≡ r'
-    → connection_with f first last s t x b r ≡ connection_with f first last s' t' x' b' r'
-same_connection f first last s s' t t' x x' b b' r r' es et ex eb er =
-    λ i. connection_with f first last (es i) (et i) (ex i) (eb i) (er i)
+same_connection : (f : Flow) (first last : Sight) (ending : Ending) (s s' : Option ServerId) (t t' : Tally)
+    (x x' : Option Forwarding) (b b' r r' : Option Break) (l l' : Bool)
+    → s ≡ s' → t ≡ t' → x ≡ x' → b ≡ b' → r ≡ r' → l ≡ l'
+    → connection_with f first last ending s t x b r l ≡ connection_with f first last ending s' t' x' b' r' l'
+same_connection f first last ending s s' t t' x x' b b' r r' l l' es et ex eb er el =
+    λ i. connection_with f first last ending (es i) (et i) (ex i) (eb i) (er i) (el i)
 
 -- a flow that has no server after an arrival had none before it
 refused_changed : (accepts : Bool) (s : ServerId) (o after : Option ServerId) (before new found : Option Break)
@@ -110,40 +118,48 @@ server_changed : (b : Bool) (o : Option Accepted) (a : Accepted)
 server_changed true o a = refl
 server_changed false o a = refl
 
+-- what is known of the packet of an arrival
+pub record AreFacts (stage : Stage) (past : List Event) (clock : ℕ) (what : What) (x : Facts) : Type 0 where
+  pub wait : x.wait ≡ wait_of stage past clock what
+  pub follows : x.follows_reset ≡ is_after_end stage what
+  pub with_data : x.has_data ≡ has_data stage what
+
 changed : (stage : Stage) (records : List Record) (past : List Event) (clock : Moment) (k : ℕ) (hop : Hop)
-    (server : ServerId) (verdict : Verdict) (f : Flow) (found : Option Cause) (waited : ℕ)
+    (server : ServerId) (verdict : Verdict) (f : Flow) (found : Option Cause) (x : Facts)
     → is_of (segment_of stage k) f ≡ true
-    → waited ≡ wait stage past clock.0 hop k
+    → AreFacts stage past clock.0 (Arrive k hop server verdict) x
     → found ≡ cause stage past clock.0 (Arrive k hop server verdict)
     → is_some found ≡ is_break stage past (Arrive k hop server verdict)
-    → observed (record { packet = k; clock = clock; server = server; verdict = verdict; cause = found }) waited
-    (connection stage records past f)
-    ≡ connection stage records (record { clock = clock; what = Arrive k hop server verdict } ∷ past) f
-changed stage records past clock k hop server verdict f found waited here after by broke =
+    → observed (record { packet = k; clock = clock; server = server; verdict = verdict; cause = found }) x
+    (row stage records past f)
+    ≡ row stage records (record { clock = clock; what = Arrive k hop server verdict } ∷ past) f
+changed stage records past clock k hop server verdict f found x here facts by broke =
     let e : Event = record { clock = clock; what = Arrive k hop server verdict }
+    in let follows : x.follows_reset ≡ is_after_end stage (Arrive k hop server verdict) = facts.follows
     in let es : (if is_accept verdict then Some server else acceptor stage f past) ≡ acceptor stage f (e ∷ past) =
     rw here (server_changed (is_accept verdict) (accept_of stage past f) _)
-    in let et : tallied verdict (is_some found) (tally stage f past) ≡ tally stage f (e ∷ past) =
-    rw (here, broke) refl
+    in let et : tallied verdict (is_some found) x.follows_reset (tally stage f past) ≡ tally stage f (e ∷ past) =
+    rw (here, broke, follows) refl
     in let eb : first_of_two (breakage stage f past)
-    (if is_some found && is_some (acceptor stage f past)
+    (if (is_some found && not x.follows_reset) && is_some (acceptor stage f past)
     then Some (record { packet = k; clock = clock; server = server; verdict = verdict; cause = found })
     else None) ≡ breakage stage f (e ∷ past) =
-    rw (here, ← broke)
+    rw (here, ← broke, ← follows)
     (ap (λ (o : Option Cause). first_of_two (breakage stage f past)
-    (if is_some found && is_some (acceptor stage f past)
+    (if (is_some found && not x.follows_reset) && is_some (acceptor stage f past)
     then Some (record { packet = k; clock = clock; server = server; verdict = verdict; cause = o })
     else None)) by)
     in let ex : forwarded_after
-    (record { packet = k; clock = clock; server = server; verdict = verdict; cause = found }) waited
+    (record { packet = k; clock = clock; server = server; verdict = verdict; cause = found }) x.wait
     (last_forwarding stage f past) ≡ last_forwarding stage f (e ∷ past) =
     rw here (ap (λ (n : ℕ). if is_forward verdict
     then Some (record { packet = k; clock = clock; server = server; wait = n })
-    else last_forwarding stage f past) after)
-    in let en : (if is_some found
+    else last_forwarding stage f past) facts.wait)
+    in let en : (if is_some found && not x.follows_reset
     then Some (record { packet = k; clock = clock; server = server; verdict = verdict; cause = found })
     else None)
-    ≡ (if is_of (segment_of stage k) f && is_break stage past (Arrive k hop server verdict)
+    ≡ (if is_of (segment_of stage k) f
+    && (is_break stage past (Arrive k hop server verdict) && not (is_after_end stage (Arrive k hop server verdict)))
     then Some (record {
       packet = k;
       clock = clock;
@@ -152,39 +168,42 @@ changed stage records past clock k hop server verdict f found waited here after 
       cause = cause stage past clock.0 (Arrive k hop server verdict);
     })
     else None) =
-    rw (here, ← broke)
-    (ap (λ (o : Option Cause). if is_some found
+    rw (here, ← broke, ← follows)
+    (ap (λ (o : Option Cause). if is_some found && not x.follows_reset
     then Some (record { packet = k; clock = clock; server = server; verdict = verdict; cause = o })
     else None) by)
     in let er : refused_after
-    (record { packet = k; clock = clock; server = server; verdict = verdict; cause = found })
+    (record { packet = k; clock = clock; server = server; verdict = verdict; cause = found }) x
     (if is_accept verdict then Some server else acceptor stage f past) (refusal stage f past)
     ≡ refusal stage f (e ∷ past) =
     refused_changed (is_accept verdict) server (acceptor stage f past) (acceptor stage f (e ∷ past))
     (first_break stage f past) _ _ es en
-    in same_connection f _ _ _ _ _ _ _ _ _ _ _ _ es et ex eb er
+    in let el : ((is_some found && not x.follows_reset) && is_some (acceptor stage f past)) && x.has_data
+    || loses_data stage f past ≡ loses_data stage f (e ∷ past) =
+    rw (here, broke, follows, facts.with_data) refl
+    in same_connection f _ _ _ _ _ _ _ _ _ _ _ _ _ _ _ es et ex eb er el
 
 -- an arrival of the flow changes its connection so
 changed_by : (stage : Stage) (records : List Record) (past : List Event) (clock : Moment) (what : What) (f : Flow)
-    (found : Option Cause) (waited : ℕ) (b : Break)
+    (found : Option Cause) (x : Facts) (b : Break)
     → as_break clock what found ≡ Some b → is_arrival_for stage f what ≡ true
-    → waited ≡ wait_of stage past clock.0 what
+    → AreFacts stage past clock.0 what x
     → found ≡ cause stage past clock.0 what → is_some found ≡ is_break stage past what
-    → observed b waited (connection stage records past f)
-    ≡ connection stage records (record { clock = clock; what = what } ∷ past) f
-changed_by stage records past clock (Arrive k hop server verdict) f found waited b is here after by broke =
+    → observed b x (row stage records past f)
+    ≡ row stage records (record { clock = clock; what = what } ∷ past) f
+changed_by stage records past clock (Arrive k hop server verdict) f found x b is here facts by broke =
     let same : record { packet = k; clock = clock; server = server; verdict = verdict; cause = found } ≡ b = cc
-    in subst (λ (x : Break). observed x waited (connection stage records past f)
-    ≡ connection stage records (record { clock = clock; what = Arrive k hop server verdict } ∷ past) f) same
-    (changed stage records past clock k hop server verdict f found waited here after by broke)
-changed_by stage records past clock (Publish v) f found waited b is here after by broke = absurd (cc)
-changed_by stage records past clock (Switch m v) f found waited b is here after by broke = absurd (cc)
-changed_by stage records past clock (Steer k m) f found waited b is here after by broke = absurd (cc)
-changed_by stage records past clock (Lose k hop) f found waited b is here after by broke = absurd (cc)
-changed_by stage records past clock (Close server flow closed) f found waited b is here after by broke = absurd (cc)
-changed_by stage records past clock (Retire server shard at result) f found waited b is here after by broke =
+    in subst (λ (y : Break). observed y x (row stage records past f)
+    ≡ row stage records (record { clock = clock; what = Arrive k hop server verdict } ∷ past) f) same
+    (changed stage records past clock k hop server verdict f found x here facts by broke)
+changed_by stage records past clock (Publish v) f found x b is here facts by broke = absurd (cc)
+changed_by stage records past clock (Switch m v) f found x b is here facts by broke = absurd (cc)
+changed_by stage records past clock (Steer k m) f found x b is here facts by broke = absurd (cc)
+changed_by stage records past clock (Lose k hop) f found x b is here facts by broke = absurd (cc)
+changed_by stage records past clock (Close server flow closed) f found x b is here facts by broke = absurd (cc)
+changed_by stage records past clock (Retire server shard at result) f found x b is here facts by broke =
     absurd (cc)
-changed_by stage records past clock Sync f found waited b is here after by broke = absurd (cc)
+changed_by stage records past clock Sync f found x b is here facts by broke = absurd (cc)
 
 no_arrival : (stage : Stage) (f : Flow) (clock : Moment) (what : What) (found : Option Cause)
     → as_break clock what found ≡ None → is_arrival_for stage f what ≡ false
@@ -210,11 +229,32 @@ arrival_is stage f clock (Close server flow closed) found b is = absurd (cc)
 arrival_is stage f clock (Retire server shard at result) found b is = absurd (cc)
 arrival_is stage f clock Sync found b is = absurd (cc)
 
+-- what is said of an arrival's packet is said of the break's
+pub record SaysOfPacket (stage : Stage) (what : What) (b : Break) : Type 0 where
+  pub follows : is_after_end stage what ≡ of_packet follows_reset (records_of stage) b.packet
+  pub with_data : has_data stage what ≡ of_packet is_with_data (records_of stage) b.packet
+
+pub says_of_packet : (stage : Stage) (clock : Moment) (what : What) (found : Option Cause) (b : Break)
+    → as_break clock what found ≡ Some b → SaysOfPacket stage what b
+says_of_packet stage clock (Arrive k hop server verdict) found b is =
+    let same : record { packet = k; clock = clock; server = server; verdict = verdict; cause = found } ≡ b = cc
+    in record {
+      follows = ap (λ (y : Break). of_packet follows_reset (records_of stage) y.packet) same;
+      with_data = ap (λ (y : Break). of_packet is_with_data (records_of stage) y.packet) same;
+    }
+says_of_packet stage clock (Publish v) found b is = absurd (cc)
+says_of_packet stage clock (Switch m v) found b is = absurd (cc)
+says_of_packet stage clock (Steer k m) found b is = absurd (cc)
+says_of_packet stage clock (Lose k hop) found b is = absurd (cc)
+says_of_packet stage clock (Close server flow closed) found b is = absurd (cc)
+says_of_packet stage clock (Retire server shard at result) found b is = absurd (cc)
+says_of_packet stage clock Sync found b is = absurd (cc)
+
 -- an arrival of another flow changes nothing
 pub other_observed : (stage : Stage) (records : List Record) (past : List Event) (e : Event) (found : Option Cause)
     (b : Break) (s : Segment) (q : Flow)
     → as_break e.clock e.what found ≡ Some b → segment_of stage b.packet ≡ Some s → same_flow s.flow q ≡ false
-    → connection stage records (e ∷ past) q ≡ connection stage records past q
+    → row stage records (e ∷ past) q ≡ row stage records past q
 other_observed stage records past e found b s q is seg other =
     let packet : is_arrival_for stage q e.what ≡ false =
     arrival_is stage q e.clock e.what found b is ∙ ap (λ o. is_of o q) seg ∙ other
@@ -222,27 +262,27 @@ other_observed stage records past e found b s q is seg other =
 
 -- one of the flow itself
 pub here_observed : (stage : Stage) (records : List Record) (past : List Event) (e : Event) (found : Option Cause)
-    (waited : ℕ) (b : Break) (s : Segment)
+    (x : Facts) (b : Break) (s : Segment)
     → as_break e.clock e.what found ≡ Some b → segment_of stage b.packet ≡ Some s
-    → waited ≡ wait_of stage past e.clock.0 e.what
+    → AreFacts stage past e.clock.0 e.what x
     → found ≡ cause stage past e.clock.0 e.what → is_some found ≡ is_break stage past e.what
-    → connection stage records (e ∷ past) s.flow ≡ observed b waited (connection stage records past s.flow)
-here_observed stage records past e found waited b s is seg after by broke =
+    → row stage records (e ∷ past) s.flow ≡ observed b x (row stage records past s.flow)
+here_observed stage records past e found x b s is seg facts by broke =
     let packet : is_arrival_for stage s.flow e.what ≡ true =
     arrival_is stage s.flow e.clock e.what found b is ∙ ap (λ o. is_of o s.flow) seg ∙ same_flow_refl s.flow
-    in sym (changed_by stage records past e.clock e.what s.flow found waited b is packet after by broke)
+    in sym (changed_by stage records past e.clock e.what s.flow found x b is packet facts by broke)
 
 -- no arrival
 pub none_observed : (stage : Stage) (records : List Record) (past : List Event) (e : Event) (found : Option Cause)
     (q : Flow) → as_break e.clock e.what found ≡ None
-    → connection stage records (e ∷ past) q ≡ connection stage records past q
+    → row stage records (e ∷ past) q ≡ row stage records past q
 none_observed stage records past e found q is =
     still stage records past e.clock e.what q (no_arrival stage q e.clock e.what found is)
 
 -- an arrival of no flow
 pub lost_observed : (stage : Stage) (records : List Record) (past : List Event) (e : Event) (found : Option Cause)
     (b : Break) (q : Flow) → as_break e.clock e.what found ≡ Some b → segment_of stage b.packet ≡ None
-    → connection stage records (e ∷ past) q ≡ connection stage records past q
+    → row stage records (e ∷ past) q ≡ row stage records past q
 lost_observed stage records past e found b q is seg =
     still stage records past e.clock e.what q
     (arrival_is stage q e.clock e.what found b is ∙ ap (λ o. is_of o q) seg)
@@ -262,6 +302,10 @@ strays_few : (stage : Stage) (f : Flow) (past : List Event) → strays_for stage
 strays_few stage f [] = omega arith
 strays_few stage f (e ∷ past) = more_few _ _ (length past) (strays_few stage f past)
 
+ended_few : (stage : Stage) (f : Flow) (past : List Event) → after_its_end stage f past ≤ length past
+ended_few stage f [] = omega arith
+ended_few stage f (e ∷ past) = more_few _ _ (length past) (ended_few stage f past)
+
 pub room_in : (stage : Stage) (f : Flow) (past : List Event) → suc (length past) < 2 ^ 64 → HasRoom (tally stage f past)
 room_in stage f past few = record {
   accepted = let n = arrivals_few stage f is_accept past in omega arith;
@@ -270,4 +314,5 @@ room_in stage f past few = record {
   reset = let n = arrivals_few stage f is_reset past in omega arith;
   dropped = let n = arrivals_few stage f is_drop past in omega arith;
   stray = let n = strays_few stage f past in omega arith;
+  after_its_end = let n = ended_few stage f past in omega arith;
 }

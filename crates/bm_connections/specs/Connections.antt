@@ -1,28 +1,49 @@
 -- What became of the packets of each flow, computed by looking back through events
 -- (docs/DEFINITIONS.md). A past has its newest event first.
-use Rattle.std.specs.Prelude.{ℕ, suc, Bool, false, ◌&&◌, if◌then◌else◌, List, [], ◌∷◌, map}
+use Rattle.std.specs.Prelude.{ℕ, suc, Bool, false, ◌&&◌, ◌||◌, not, if◌then◌else◌, List, []}
+use Rattle.std.specs.Prelude.{◌∷◌, map}
 use Rattle.std.specs.Prelude.{Option, Some, None, is_some, option_map, reverse}
 use Rattle.bm_base.specs.declared.capture.Record.{Record}
 use Rattle.bm_base.specs.declared.flow.Flow.{Flow}
 use Rattle.bm_base.specs.declared.ids.Moment.{Moment}
 use Rattle.bm_base.specs.declared.ids.ServerId.{ServerId}
+use Rattle.bm_base.specs.Segments.{same_flow}
 use Rattle.bm_core.specs.declared.events.Cause.{Cause}
 use Rattle.bm_core.specs.declared.events.Event.{Event}
 use Rattle.bm_core.specs.declared.events.History.{History}
 use Rattle.bm_core.specs.declared.events.Stage.{Stage}
 use Rattle.bm_core.specs.declared.events.Verdict.{Verdict}
 use Rattle.bm_core.specs.declared.events.What.{What}
-use Rattle.bm_core.specs.declared.events.What.TheVariants.{Arrive}
+use Rattle.bm_core.specs.declared.events.What.TheVariants.{Arrive, Close}
 use Rattle.bm_core.specs.Causes.{cause, is_process}
 use Rattle.bm_core.specs.Past.{accept_of, is_accept, is_forward, is_of, segment_of}
 use Rattle.bm_trace.specs.CauseOf.{is_break}
 use Rattle.bm_trace.specs.Totals.{arrives, is_drop, is_reset, is_stray}
 use Rattle.bm_connections.specs.declared.connection.Break.{Break}
 use Rattle.bm_connections.specs.declared.connection.Connection.{Connection}
+use Rattle.bm_connections.specs.declared.connection.Ending.{Ending}
+use Rattle.bm_connections.specs.declared.connection.Ending.TheVariants.{Close as ByClose}
 use Rattle.bm_connections.specs.declared.connection.Forwarding.{Forwarding}
 use Rattle.bm_connections.specs.declared.connection.Tally.{Tally}
+use Rattle.bm_connections.specs.Endings.{ending_seen, follows_reset, is_with_data, of_packet}
 use Rattle.bm_connections.specs.Seen.{first_seen, flows_of, last_seen, records_of}
 use Rattle.bm_connections.specs.Waits.{wait}
+
+-- WHICH BREAKS COUNT
+
+-- the event is an arrival of a packet that carries RST or comes after its connection's own RST
+abbrev pub is_after_end : Stage → What → Bool
+is_after_end stage (Arrive k hop server verdict) = of_packet follows_reset (records_of stage) k
+is_after_end stage _ = false
+
+-- a packet is dropped, reset or a stray, and its connection hadn't ended itself
+abbrev pub counts : Stage → List Event → What → Bool
+counts stage past what = is_break stage past what && not (is_after_end stage what)
+
+-- its cause
+abbrev pub counted_cause : Stage → List Event → Event → Option Cause
+counted_cause stage past e =
+    if counts stage past e.what then cause stage past e.clock.0 e.what else None
 
 -- HOW MANY
 
@@ -47,7 +68,15 @@ strays_for stage f [] = 0
 strays_for stage f (e ∷ past) =
     one_more (is_arrival_for stage f e.what && is_stray stage past e.what) (strays_for stage f past)
 
--- how many arrivals had each verdict, and how many were strays
+-- how many arrivals of the flow's packets are dropped, reset or strays without being counted
+abbrev pub after_its_end : Stage → Flow → List Event → ℕ
+after_its_end stage f [] = 0
+after_its_end stage f (e ∷ past) =
+    one_more
+    (is_arrival_for stage f e.what && is_break stage past e.what && is_after_end stage e.what)
+    (after_its_end stage f past)
+
+-- how many arrivals had each verdict, how many were strays, and how many breaks don't count
 abbrev pub tally : Stage → Flow → List Event → Tally
 tally stage f past = record {
   accepted = arrivals stage f is_accept past;
@@ -56,6 +85,7 @@ tally stage f past = record {
   reset = arrivals stage f is_reset past;
   dropped = arrivals stage f is_drop past;
   stray = strays_for stage f past;
+  after_its_end = after_its_end stage f past;
 }
 
 -- WHAT BROKE
@@ -64,10 +94,10 @@ tally stage f past = record {
 abbrev pub acceptor : Stage → Flow → List Event → Option ServerId
 acceptor stage f past = option_map (λ a. a.server) (accept_of stage past f)
 
--- a packet of the flow is dropped, reset or a stray after the flow was accepted
+-- a break of the flow counts and comes after the flow was accepted
 abbrev pub breaks : Stage → Flow → List Event → What → Bool
 breaks stage f past what =
-    is_arrival_for stage f what && is_break stage past what && is_some (acceptor stage f past)
+    is_arrival_for stage f what && counts stage past what && is_some (acceptor stage f past)
 
 -- an arrival as a break: its packet, clock, server and verdict, with this cause
 abbrev pub as_break : Moment → What → Option Cause → Option Break
@@ -94,14 +124,25 @@ breakage stage f (e ∷ past) =
     then as_break e.clock e.what (cause stage past e.clock.0 e.what)
     else None)
 
+-- the event is an arrival of a packet with data, or of one whose last packet before it has data
+abbrev pub has_data : Stage → What → Bool
+has_data stage (Arrive k hop server verdict) = of_packet is_with_data (records_of stage) k
+has_data stage _ = false
+
+-- a packet with data broke the flow, or one that came right after data
+abbrev pub loses_data : Stage → Flow → List Event → Bool
+loses_data stage f [] = false
+loses_data stage f (e ∷ past) =
+    breaks stage f past e.what && has_data stage e.what || loses_data stage f past
+
 -- WHAT REFUSED
 
--- the first packet of the flow that was dropped, reset or a stray
+-- the first break of the flow that counts
 abbrev pub first_break : Stage → Flow → List Event → Option Break
 first_break stage f [] = None
 first_break stage f (e ∷ past) =
     first_of_two (first_break stage f past)
-    (if is_arrival_for stage f e.what && is_break stage past e.what
+    (if is_arrival_for stage f e.what && counts stage past e.what
     then as_break e.clock e.what (cause stage past e.clock.0 e.what)
     else None)
 
@@ -132,6 +173,25 @@ last_forwarding stage f (e ∷ past) =
     then as_forwarding stage past e.clock e.what
     else last_forwarding stage f past
 
+-- WHAT ENDED IT
+
+-- a `close` has closed the flow after the event, which comes after this
+abbrev pub closed_by : Stage → Flow → What → Bool → Bool
+closed_by stage f (Arrive k hop server verdict) before =
+    not (is_accept verdict && is_of (segment_of stage k) f) && before
+closed_by stage f (Close server flow closed) before = same_flow flow f && closed || before
+closed_by stage f _ before = before
+
+-- a `close` closed the flow after its last Accept
+abbrev pub is_closed : Stage → Flow → List Event → Bool
+is_closed stage f [] = false
+is_closed stage f (e ∷ past) = closed_by stage f e.what (is_closed stage f past)
+
+-- a `close` ended the connection, or else what the records show
+abbrev pub ending : Stage → List Record → List Event → Flow → Ending
+ending stage records past f =
+    if is_closed stage f past then ByClose else ending_seen records f
+
 -- THE TABLE
 
 -- the connection of a flow, after these records and these events
@@ -140,11 +200,13 @@ connection stage records past f = record {
   flow = f;
   first = first_seen records f;
   last = last_seen records f;
+  ending = ending stage records past f;
   server = acceptor stage f past;
   tally = tally stage f past;
   forwarded = last_forwarding stage f past;
   broken = breakage stage f past;
   refused = refusal stage f past;
+  losing_data = loses_data stage f past;
 }
 
 -- the connection of a flow in a history

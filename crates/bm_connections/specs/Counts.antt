@@ -13,14 +13,14 @@ use Rattle.bm_core.specs.declared.events.Stage.{Stage}
 use Rattle.bm_core.specs.declared.events.Verdict.{Verdict}
 use Rattle.bm_core.specs.declared.events.What.{What}
 use Rattle.bm_core.specs.declared.events.What.TheVariants.{Arrive}
-use Rattle.bm_core.specs.Causes.{cause, is_process}
+use Rattle.bm_core.specs.Causes.{is_process}
 use Rattle.bm_core.specs.Past.{flows_held, is_accept}
 use Rattle.bm_table.specs.Tables.{same_server}
 use Rattle.bm_trace.specs.Totals.{arrives}
 use Rattle.bm_connections.specs.declared.connection.Break.{Break}
 use Rattle.bm_connections.specs.declared.counts.CauseCount.{CauseCount}
 use Rattle.bm_connections.specs.declared.servers.ServerCount.{ServerCount}
-use Rattle.bm_connections.specs.Connections.{connections, one_more}
+use Rattle.bm_connections.specs.Connections.{connections, counted_cause, one_more}
 use Rattle.bm_connections.specs.Text.{shown_rack}
 
 -- SERVERS
@@ -81,11 +81,11 @@ abbrev pub is_cause : Cause → Option Cause → Bool
 is_cause c None = false
 is_cause c (Some found) = number found == number c
 
--- how many packets have the cause; a packet counts at each arrival with it
+-- how many packets have the cause; a packet counts at each arrival with it that counts as a break
 abbrev pub packets_by : Stage → Cause → List Event → ℕ
 packets_by stage c [] = 0
 packets_by stage c (e ∷ past) =
-    one_more (is_cause c (cause stage past e.clock.0 e.what)) (packets_by stage c past)
+    one_more (is_cause c (counted_cause stage past e)) (packets_by stage c past)
 
 -- there is a break or a refusal, and it has the cause
 abbrev pub is_break_by : Cause → Option Break → Bool

@@ -10,15 +10,16 @@ use Rattle.bm_core.specs.declared.events.History.{History}
 use Rattle.bm_core.specs.declared.events.Stage.{Stage}
 use Rattle.bm_core.specs.declared.events.What.{What}
 use Rattle.bm_core.specs.declared.events.What.TheVariants.{Arrive}
-use Rattle.bm_core.specs.Causes.{cause, is_late}
+use Rattle.bm_core.specs.Causes.{is_late}
 use Rattle.bm_core.specs.Past.{label_of}
 use Rattle.bm_connections.specs.declared.late.LongestLate.{LongestLate}
+use Rattle.bm_connections.specs.Connections.{counted_cause}
 use Rattle.bm_connections.specs.Counts.{is_cause}
 use Rattle.bm_connections.specs.Waits.{wait_of}
 
--- the event is the arrival of a packet whose cause is that it came too late
+-- the event is a break that counts, of a packet that came too late
 abbrev pub came_late : Stage → List Event → Event → Bool
-came_late stage past e = is_cause ChainLate (cause stage past e.clock.0 e.what)
+came_late stage past e = is_cause ChainLate (counted_cause stage past e)
 
 -- THE TIMEOUT
 

@@ -1,12 +1,17 @@
 -- The text of a table of connections: a line for each, in words like those of the report
 -- (docs/FORMATS.md). A clock is when record 1 was captured, if moments are written in UTC.
-use Rattle.std.specs.Prelude.{ℕ, nat_lt, if◌then◌else◌, List, [], ◌∷◌, ◌++◌, Option, Some, None}
+use Rattle.std.specs.Prelude.{ℕ, Bool, nat_lt, if◌then◌else◌, List, [], ◌∷◌, ◌++◌, Option, Some, None}
 use Rattle.std.specs.Prelude.{codes, decimal, flat_map}
 use Rattle.bm_base.specs.declared.ids.ServerId.{ServerId}
 use Rattle.bm_trace.specs.Words.{because_words, cause_word, endpoint, line, spaced}
 use Rattle.bm_trace.specs.Words.{verdict_words}
+use Rattle.bm_connections.specs.declared.compared.Compared.{Compared}
+use Rattle.bm_connections.specs.declared.compared.Origin.{Origin}
+use Rattle.bm_connections.specs.declared.compared.Origin.TheVariants.{Anyway, ByTheChange}
 use Rattle.bm_connections.specs.declared.connection.Break.{Break}
 use Rattle.bm_connections.specs.declared.connection.Connection.{Connection}
+use Rattle.bm_connections.specs.declared.connection.Ending.{Ending}
+use Rattle.bm_connections.specs.declared.connection.Ending.TheVariants.{Close, Fin, Open, Reset}
 use Rattle.bm_connections.specs.declared.connection.Forwarding.{Forwarding}
 use Rattle.bm_connections.specs.declared.connection.Sight.{Sight}
 use Rattle.bm_connections.specs.declared.connection.Tally.{Tally}
@@ -41,6 +46,18 @@ tally_words t =
     ∷ codes "dropped" ∷ decimal t.dropped ∷ codes "reset" ∷ decimal t.reset
     ∷ codes "stray" ∷ decimal t.stray ∷ []
 
+-- how a connection ended
+abbrev pub ending_word : Ending → List ℕ
+ending_word Open = codes "open"
+ending_word Fin = codes "fin"
+ending_word Reset = codes "rst"
+ending_word Close = codes "close"
+
+-- how many arrivals break nothing since the connection had ended itself, and how it ended
+abbrev pub ending_words : ℕ → Ending → List (List ℕ)
+ending_words after_its_end ending =
+    codes "after-its-end" ∷ decimal after_its_end ∷ codes "end" ∷ ending_word ending ∷ []
+
 -- a packet that was forwarded, by which server, at which clock, and how long after its bucket left
 -- the server to which it was forwarded
 abbrev pub forwarding_words : Option ℕ → Forwarding → List (List ℕ)
@@ -73,6 +90,10 @@ end_time clock (Some b) refused = spaced (codes "at" ∷ time_text clock b.clock
 end_time clock None (Some b) = spaced (codes "at" ∷ time_text clock b.clock.0 ∷ [])
 end_time clock None None = []
 
+-- whether a broken connection loses data
+abbrev pub losing_text : Bool → List ℕ
+losing_text losing_data = if losing_data then codes " losing-data" else []
+
 -- the flow, and where it was first and last seen
 abbrev pub seen_text : Option ℕ → Connection → List ℕ
 seen_text clock c =
@@ -86,24 +107,41 @@ abbrev pub accepted_text : ℕ → Connection → List ℕ
 accepted_text racks c =
     spaced (codes "accepted" ∷ server_word c.server ∷ []) ++ rack_text (shown_rack racks c.server)
 
--- how often it was accepted, what became of its packets, which was forwarded last, and what broke or
--- refused it first
-abbrev pub outcome_text : Option ℕ → Connection → List ℕ
-outcome_text clock c =
+-- how often it was accepted, what became of its packets, and how it ended
+abbrev pub tallied_text : Connection → List ℕ
+tallied_text c =
     spaced (codes "times" ∷ decimal c.tally.accepted ∷ [])
     ++ spaced (tally_words c.tally)
-    ++ forwarded_text clock c.forwarded
+    ++ spaced (ending_words c.tally.after_its_end c.ending)
+
+-- which packet was forwarded last, what broke or refused it first, and whether it loses data
+abbrev pub outcome_text : Option ℕ → Connection → List ℕ
+outcome_text clock c =
+    forwarded_text clock c.forwarded
     ++ end_words c.broken c.refused c.server
     ++ end_time clock c.broken c.refused
-    ++ 10 ∷ []
+
+abbrev pub origin_word : Origin → List ℕ
+origin_word ByTheChange = codes "by-the-change"
+origin_word Anyway = codes "anyway"
+
+-- whether the change broke it, if it is broken
+abbrev pub origin_text : Option Origin → List ℕ
+origin_text None = []
+origin_text (Some origin) = spaced (origin_word origin ∷ [])
+
+-- what broke it and whether it loses data, if it is broken
+abbrev pub cost_text : Compared → List ℕ
+cost_text c = origin_text c.origin ++ losing_text c.connection.losing_data ++ 10 ∷ []
 
 -- the line of a connection
-abbrev pub connection_line : Option ℕ → ℕ → Connection → List ℕ
+abbrev pub connection_line : Option ℕ → ℕ → Compared → List ℕ
 connection_line clock racks c =
-    seen_text clock c ++ accepted_text racks c ++ outcome_text clock c
+    seen_text clock c.connection ++ accepted_text racks c.connection ++ tallied_text c.connection
+    ++ outcome_text clock c.connection ++ cost_text c
 
 -- a line for each
-abbrev pub table_text : Option ℕ → ℕ → List Connection → List ℕ
+abbrev pub table_text : Option ℕ → ℕ → List Compared → List ℕ
 table_text clock racks cs = flat_map (connection_line clock racks) cs
 
 -- a server with its rack, how many arrivals it accepted, and how many it processed

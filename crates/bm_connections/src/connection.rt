@@ -9,7 +9,19 @@ pub struct Sight {
     pub moment: Moment,
 }
 
+/// How a connection ended, as the capture and the replies to `close` show it: not at all, by a FIN
+/// or an RST of the client after its last SYN, or by a `close` after its last Accept.
+#[derive(Clone, Copy, PartialEq, Eq)]
+pub enum Ending {
+    Open,
+    Fin,
+    Reset,
+    Close,
+}
+
 /// How many arrivals of a connection's packets had each verdict. Strays are among the processed.
+/// `after_its_end` are the drops, resets and strays of packets that carry the connection's own RST
+/// or come after it: they break nothing.
 #[derive(Clone, Copy, PartialEq, Eq)]
 pub struct Tally {
     pub accepted: u64,
@@ -18,6 +30,7 @@ pub struct Tally {
     pub reset: u64,
     pub dropped: u64,
     pub stray: u64,
+    pub after_its_end: u64,
 }
 
 /// A packet that was dropped, reset or a stray.
@@ -40,18 +53,23 @@ pub struct Forwarding {
     pub wait: u64,
 }
 
-/// A connection: its flow, the records of its first and last packets, the server that accepted it
-/// last, what became of its packets, and which of them was forwarded last. The first packet that
-/// was dropped, reset or a stray after a server had accepted the connection broke it; if no server
-/// accepted it, the first such packet was refused. A port that is used again is the same flow.
+/// A connection: its flow, the records of its first and last packets, how it ended, the server that
+/// accepted it last, what became of its packets, and which of them was forwarded last. The first
+/// packet that was dropped, reset or a stray after a server had accepted the connection broke it;
+/// if no server accepted it, the first such packet was refused. A packet that carries the
+/// connection's own RST or comes after it is neither. The connection loses data if a packet that
+/// broke it has data, or comes right after one with data. A port that is used again is the same
+/// flow.
 #[derive(Clone, Copy, PartialEq, Eq)]
 pub struct Connection {
     pub flow: Flow,
     pub first: Sight,
     pub last: Sight,
+    pub ending: Ending,
     pub server: Option<ServerId>,
     pub tally: Tally,
     pub forwarded: Option<Forwarding>,
     pub broken: Option<Break>,
     pub refused: Option<Break>,
+    pub losing_data: bool,
 }

@@ -1,16 +1,17 @@
 //! The pass over the events that counts packets by their causes and by their servers, and finds the
 //! longest wait of those that came too late, and the replies to commands.
 ghost use Rattle.std.specs.Prelude.{◌≡◌, [], ◌∷◌, List, length, IfOk, OnOk, reverse};
-ghost use Rattle.bm_core.specs.Causes as causes;
 ghost use Rattle.bm_core.specs.Runs.{IsRun};
 ghost use Rattle.bm_core.specs.declared.events.Event.{Event};
 ghost use Rattle.bm_trace.specs.Ranges.{HasRanges};
 ghost use Rattle.bm_trace.specs.Swept.{AreCauses};
+ghost use Rattle.bm_connections.specs.Connections.{counted_cause};
 
 use crate::counts::CausePackets;
 use crate::held::HeldByShards;
 use crate::late::LateWaits;
 use crate::replies::observe_reply;
+use crate::resets::Resets;
 use crate::servers::Loads;
 use bm_base::Memory;
 use bm_core::{Cause, Event, History, Stage};
@@ -43,7 +44,7 @@ impl Counters {
         })
     }
 
-    /// Records the event that comes next, after this many events, which has this cause.
+    /// Records the event that comes next, after this many events, whose cause is this if it counts.
     fn observe(
         &mut self,
         alloc: Global,
@@ -55,7 +56,7 @@ impl Counters {
         requires ranges { HasRanges stage.now }
         requires room { CanCountMore stage.now self.old }
         ensures { (past : List Event) → place ≡ length past
-            → cause ≡ causes.cause stage.now past event.now.clock.0 event.now.what
+            → cause ≡ counted_cause stage.now past event.now
             → HasCounted stage.now past self.old
             → OnOk result (HasCounted stage.now (event.now ∷ past) self.new) }
     {
@@ -74,9 +75,11 @@ impl Counters {
         ensures { IfOk result (HasCounted h.now.stage (reverse h.now.events)) }
     {
         let events = h.events.items();
+        let resets = Resets::of(alloc, h.stage.capture.records.items())?;
         let mut counters = Counters::new(alloc, &h.stage)?;
         for (place, event) in events.iter().enumerate() {
-            counters.observe(alloc, &h.stage, place, event, causes.at(place))?;
+            let cause = resets.counted(event, causes.at(place));
+            counters.observe(alloc, &h.stage, place, event, cause)?;
         }
         Ok(counters)
     }

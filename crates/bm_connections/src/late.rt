@@ -1,10 +1,10 @@
 //! The packets that came too late, and the least timeout under which none of them would have.
 ghost use Rattle.std.specs.Prelude.{◌≡◌, [], ◌∷◌, List, Some, IfOk, OnOk, if◌then◌else◌};
-ghost use Rattle.bm_core.specs.Causes as causes;
 ghost use Rattle.bm_core.specs.declared.events.Cause.TheVariants.{ChainLate as chain_late};
 ghost use Rattle.bm_core.specs.declared.events.Event.{Event};
 ghost use Rattle.bm_state.specs.Moves.{AreMoves};
 ghost use Rattle.bm_trace.specs.Ranges.{HasRanges};
+ghost use Rattle.bm_connections.specs.Connections.{counted_cause};
 ghost use Rattle.bm_connections.specs.Counts.{is_cause};
 ghost use Rattle.bm_connections.specs.Late as spec;
 ghost use Rattle.bm_connections.specs.Waits.{wait_of};
@@ -83,7 +83,7 @@ impl LateWaits {
         }
     }
 
-    /// Records the event that comes next, which has this cause.
+    /// Records the event that comes next, whose cause is this if it counts.
     pub(crate) fn observe(
         &mut self,
         stage: &Stage,
@@ -93,7 +93,7 @@ impl LateWaits {
         requires ranges { HasRanges stage.now }
         requires moves { AreMoves stage.now.script.plan self.old.stamps.moves }
         ensures { (past : List Event)
-            → cause ≡ causes.cause stage.now past event.now.clock.0 event.now.what
+            → cause ≡ counted_cause stage.now past event.now
             → KnowsLate stage.now past self.old
             → OnOk result (KnowsLate stage.now (event.now ∷ past) self.new) }
     {

@@ -1,5 +1,5 @@
 //! The pass over the events: what became of each connection's packets.
-ghost use Rattle.std.specs.Prelude.{◌≡◌, ◌<◌, ◌^◌, ◌&&◌, suc, Some, is_some, reverse};
+ghost use Rattle.std.specs.Prelude.{◌≡◌, ◌<◌, ◌^◌, ◌&&◌, suc, Some, is_some, reverse, IfOk};
 ghost use Rattle.std.specs.Prelude.{if◌then◌else◌, length, List, None, [], ◌∷◌, OnOk};
 ghost use Rattle.bm_core.specs.Causes as causes;
 ghost use Rattle.bm_core.specs.Past as past;
@@ -10,11 +10,16 @@ ghost use Rattle.bm_trace.specs.CauseOf.{is_break};
 ghost use Rattle.bm_trace.specs.Swept.{AreCauses};
 ghost use Rattle.bm_trace.specs.Totals as totals;
 ghost use Rattle.bm_connections.specs.Connections as spec;
+ghost use Rattle.bm_connections.specs.Inside.Closed.{AreClosed};
+ghost use Rattle.bm_connections.specs.Inside.Marks.{AreResets};
 ghost use Rattle.bm_connections.specs.Inside.Rows as kept;
 ghost use Rattle.bm_connections.specs.Seen.{records_of};
 ghost use Rattle.bm_connections.specs.Waits.{wait_of};
 
+use crate::closed::{close_all, observe_close};
 use crate::connection::{Break, Connection, Forwarding, Tally};
+use crate::flow_set::FlowSet;
+use crate::resets::Resets;
 use crate::rows::Rows;
 use crate::stamps::Stamps;
 use bm_base::{Memory, ServerId};
@@ -60,10 +65,21 @@ fn is_drop(verdict: Verdict) -> bool
     matches!(verdict, Verdict::Drop(_))
 }
 
-/// The counts after an arrival with this verdict, which is a drop, a reset, a stray or none of these.
-fn tallied(verdict: Verdict, broke: bool, t: &Tally) -> Tally
+/// What is known of the packet of an arrival: how long it came after its bucket's move, whether it
+/// carries its connection's own RST or comes after it, and whether it has data or comes right after
+/// a packet with data.
+#[derive(Clone, Copy)]
+pub(crate) struct Facts {
+    pub(crate) wait: u64,
+    pub(crate) follows_reset: bool,
+    pub(crate) has_data: bool,
+}
+
+/// The counts after an arrival with this verdict, which is a break or not, of a packet that follows
+/// its connection's RST or doesn't.
+fn tallied(verdict: Verdict, broke: bool, late: bool, t: &Tally) -> Tally
     requires { kept.HasRoom t.now }
-    ensures { result ≡ kept.tallied verdict broke t.now }
+    ensures { result ≡ kept.tallied verdict broke late t.now }
 {
     Tally {
         accepted: one_more(is_accept(verdict), t.accepted),
@@ -72,17 +88,24 @@ fn tallied(verdict: Verdict, broke: bool, t: &Tally) -> Tally
         reset: one_more(is_reset(verdict), t.reset),
         dropped: one_more(is_drop(verdict), t.dropped),
         stray: one_more(is_process(verdict) && broke, t.stray),
+        after_its_end: one_more(broke && late, t.after_its_end),
     }
 }
 
-/// What broke a connection first, after an arrival of one of its packets.
-fn broken_after(before: &Connection, arrival: Break) -> Option<Break>
-    ensures { result ≡ spec.first_of_two before.now.broken
-        (if is_some arrival.cause && is_some before.now.server then Some arrival else None) }
+/// Whether an arrival is a break that counts.
+fn is_counted(arrival: &Break, facts: &Facts) -> bool
+    ensures { result ≡ kept.is_counted arrival.now facts.now }
 {
-    match before.broken {
+    arrival.cause.is_some() && !facts.follows_reset
+}
+
+/// What broke a connection first, after an arrival of one of its packets, which breaks it or not.
+fn broken_after(before: Option<Break>, breaks: bool, arrival: Break) -> Option<Break>
+    ensures { result ≡ spec.first_of_two before (if breaks then Some arrival else None) }
+{
+    match before {
         Some(first) => Some(first),
-        None if arrival.cause.is_some() && before.server.is_some() => Some(arrival),
+        None if breaks => Some(arrival),
         None => None,
     }
 }
@@ -115,13 +138,18 @@ fn forwarded_after(arrival: &Break, wait: u64, before: Option<Forwarding>) -> Op
 }
 
 /// What refused a connection, after an arrival, if it then has this server.
-fn refused_after(arrival: Break, server: Option<ServerId>, before: Option<Break>) -> Option<Break>
-    ensures { result ≡ kept.refused_after arrival server before }
+fn refused_after(
+    arrival: Break,
+    facts: &Facts,
+    server: Option<ServerId>,
+    before: Option<Break>,
+) -> Option<Break>
+    ensures { result ≡ kept.refused_after arrival facts.now server before }
 {
     match (server, before) {
         (Some(_), _) => None,
         (None, Some(first)) => Some(first),
-        (None, None) if arrival.cause.is_some() => Some(arrival),
+        (None, None) if is_counted(&arrival, facts) => Some(arrival),
         (None, None) => None,
     }
 }
@@ -148,36 +176,52 @@ pub(crate) fn as_break(event: &Event, cause: Option<Cause>) -> Option<Break>
 }
 
 impl Connection {
-    /// Records an arrival of one of its packets, with this wait.
-    fn observe(&mut self, arrival: Break, wait: u64)
+    /// Records an arrival of one of its packets, of which these facts are known.
+    fn observe(&mut self, arrival: Break, facts: &Facts)
         requires { kept.HasRoom self.old.tally }
-        ensures { self.new ≡ kept.observed arrival wait self.old }
+        ensures { self.new ≡ kept.observed arrival facts.now self.old }
     {
-        self.broken = broken_after(self, arrival);
+        let broke = arrival.cause.is_some();
+        let breaks = is_counted(&arrival, facts) && self.server.is_some();
+        self.broken = broken_after(self.broken, breaks, arrival);
+        self.losing_data = breaks && facts.has_data || self.losing_data;
         self.server = server_after(&arrival, self.server);
-        self.tally = tallied(arrival.verdict, arrival.cause.is_some(), &self.tally);
-        self.forwarded = forwarded_after(&arrival, wait, self.forwarded);
-        self.refused = refused_after(arrival, self.server, self.refused);
+        self.tally = tallied(arrival.verdict, broke, facts.follows_reset, &self.tally);
+        self.forwarded = forwarded_after(&arrival, facts.wait, self.forwarded);
+        self.refused = refused_after(arrival, facts, self.server, self.refused);
     }
 }
 
 impl Rows {
     /// Records an arrival of a packet of the connection at this place.
-    fn observe_arrival(&mut self, place: usize, arrival: Break, wait: u64)
+    fn observe_arrival(&mut self, place: usize, arrival: Break, facts: &Facts)
         requires place { place < length self.old.connections.items }
         requires room { kept.HasRoomAt self.old.connections.items place }
         ensures places { self.new.places ≡ self.old.places }
+        ensures with_data { self.new.with_data ≡ self.old.with_data }
         ensures connections { self.new.connections.items
-            ≡ kept.changed_at (kept.observed arrival wait) self.old.connections.items place }
+            ≡ kept.changed_at (kept.observed arrival facts.now) self.old.connections.items place }
     {
-        self.connections[place].observe(arrival, wait);
+        self.connections[place].observe(arrival, facts);
+    }
+
+    /// What is known of the packet of an arrival with this wait.
+    fn facts_of(&self, resets: &Resets, packet: u32, wait: u64) -> Facts
+        ensures { result ≡ kept.facts_of self.now resets.now packet wait }
+    {
+        Facts {
+            wait,
+            follows_reset: resets.has(packet),
+            has_data: self.has_data(packet),
+        }
     }
 
     /// Records the event that comes next, with this cause and this wait.
-    fn observe(&mut self, event: &Event, cause: Option<Cause>, wait: u64)
+    fn observe(&mut self, resets: &Resets, event: &Event, cause: Option<Cause>, wait: u64)
         requires { kept.HasRoomForEach self.old }
         ensures { (stage : Stage) (past : List Event)
             → kept.AreRows stage (records_of stage) past self.old
+            → AreResets (records_of stage) resets.now
             → cause ≡ causes.cause stage past event.now.clock.0 event.now.what
             → is_some cause ≡ is_break stage past event.now.what
             → wait ≡ wait_of stage past event.now.clock.0 event.now.what
@@ -187,32 +231,61 @@ impl Rows {
             None => {}
             Some(arrival) => match self.place_of(arrival.packet) {
                 None => {}
-                Some(place) => self.observe_arrival(place, arrival, wait),
+                Some(place) => {
+                    let facts = self.facts_of(resets, arrival.packet, wait);
+                    self.observe_arrival(place, arrival, &facts);
+                }
             },
         }
     }
 }
 
-/// Records all events.
-pub(crate) fn observe_events(
+/// Records all events, and which flows are closed after them.
+fn observe_each(
     alloc: Global,
     rows: &mut Rows,
+    closed: &mut FlowSet,
     h: &History,
     causes: &CauseList,
 ) -> Result<(), Memory>
     requires run { IsRun h.now }
     requires causes { AreCauses h.now causes.now }
     requires rows { kept.AreRows h.now.stage (records_of h.now.stage) [] rows.old }
-    ensures { OnOk result
+    requires closed { AreClosed h.now.stage [] closed.old }
+    ensures rows { OnOk result
         (kept.AreRows h.now.stage (records_of h.now.stage) (reverse h.now.events) rows.new) }
+    ensures closed { OnOk result
+        (AreClosed h.now.stage (reverse h.now.events) closed.new) }
 {
     let events = h.events.items();
+    let resets = Resets::of(alloc, h.stage.capture.records.items())?;
     let mut stamps = Stamps::new(alloc, &h.stage)?;
     for (place, event) in events.iter().enumerate() {
         let cause = causes.at(place);
         let wait = stamps.wait(&h.stage, event);
-        rows.observe(event, cause, wait);
+        rows.observe(&resets, event, cause, wait);
+        observe_close(closed, &h.stage, event)?;
         stamps.observe(event.what)?;
     }
     Ok(())
+}
+
+/// The connections after all events.
+pub(crate) fn observe_events(
+    alloc: Global,
+    rows: Rows,
+    h: &History,
+    causes: &CauseList,
+) -> Result<Vec<Connection>, Memory>
+    requires run { IsRun h.now }
+    requires causes { AreCauses h.now causes.now }
+    requires rows { kept.AreRows h.now.stage (records_of h.now.stage) [] rows }
+    ensures { IfOk result (λ list. list.items ≡ spec.connections h.now) }
+{
+    let mut rows = rows;
+    let mut closed = FlowSet::new(alloc);
+    observe_each(alloc, &mut rows, &mut closed, h, causes)?;
+    let mut connections = rows.into_connections();
+    close_all(&mut connections, &closed);
+    Ok(connections)
 }

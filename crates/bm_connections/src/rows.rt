@@ -1,9 +1,14 @@
 //! The connections of a capture, in the order of their first packets.
-ghost use Rattle.std.specs.Prelude.{◌≡◌, ◌∷◌, ◌++◌, ◌<◌, [], length, Some, None, OnOk};
+ghost use Rattle.std.specs.Prelude.{◌≡◌, ◌∷◌, ◌++◌, ◌<◌, [], false, length, Some, None, OnOk};
+ghost use Rattle.std.specs.Prelude.{reverse};
+ghost use Rattle.bm_connections.specs.declared.connection.Ending.TheVariants.{Open as opened};
+ghost use Rattle.bm_connections.specs.Inside.Marks.{mark_of};
 ghost use Rattle.bm_connections.specs.Inside.Rows as kept;
 
-use crate::connection::{Connection, Sight, Tally};
-use bm_base::Flow;
+use crate::connection::{Connection, Ending, Sight, Tally};
+use crate::endings::{carries_data, ending_after, has_data_at};
+use crate::resets::mark_of;
+use bm_base::{Flow, Record, Segment};
 use std::alloc::{AllocError, Global};
 
 /// No arrivals.
@@ -14,21 +19,35 @@ const NONE: Tally = Tally {
     reset: 0,
     dropped: 0,
     stray: 0,
+    after_its_end: 0,
 };
 
-/// A flow whose first packet is in this record, without arrivals.
-fn seen_from(flow: Flow, sight: Sight) -> Connection
-    ensures { result ≡ kept.seen_from flow sight sight }
+/// The flow of a segment whose first packet is in this record, without arrivals.
+fn seen_from(segment: &Segment, sight: Sight) -> Connection
+    ensures { result
+        ≡ kept.seen_from segment.now.flow sight sight (kept.ending_after segment.now opened) }
 {
     Connection {
-        flow,
+        flow: segment.flow,
         first: sight,
         last: sight,
+        ending: ending_after(segment, Ending::Open),
         server: None,
         tally: NONE,
         forwarded: None,
         broken: None,
         refused: None,
+        losing_data: false,
+    }
+}
+
+impl Connection {
+    /// Records another packet.
+    fn see_again(&mut self, segment: &Segment, sight: Sight)
+        ensures { self.new ≡ kept.seen_again sight segment.now self.old }
+    {
+        self.last = sight;
+        self.ending = ending_after(segment, self.ending);
     }
 }
 
@@ -37,16 +56,20 @@ fn seen_from(flow: Flow, sight: Sight) -> Connection
 pub(crate) struct Rows {
     /// For each record the place of its connection, if it is a packet of one.
     pub(crate) places: Vec<Option<usize>>,
+    /// For each record whether it is a packet with data or comes right after one.
+    pub(crate) with_data: Vec<bool>,
     pub(crate) connections: Vec<Connection>,
 }
 
 impl Rows {
     pub(crate) fn new(alloc: Global) -> Rows
         ensures places { result.places.items ≡ [] }
+        ensures with_data { result.with_data.items ≡ [] }
         ensures connections { result.connections.items ≡ [] }
     {
         Rows {
             places: Vec::new(alloc),
+            with_data: Vec::new(alloc),
             connections: Vec::new(alloc),
         }
     }
@@ -61,35 +84,76 @@ impl Rows {
     /// The next record isn't a packet of a connection.
     pub(crate) fn see_none(&mut self) -> Result<(), AllocError>
         ensures places { OnOk result (self.new.places.items ≡ self.old.places.items ++ None ∷ []) }
+        ensures with_data { OnOk result
+            (self.new.with_data.items ≡ self.old.with_data.items ++ false ∷ []) }
         ensures connections { self.new.connections ≡ self.old.connections }
     {
         self.places.push(None)?;
+        self.with_data.push(false)?;
         Ok(())
     }
 
     /// The next record is the first packet of a connection.
-    pub(crate) fn see_first(&mut self, flow: Flow, sight: Sight) -> Result<(), AllocError>
+    pub(crate) fn see_first(
+        &mut self,
+        segment: &Segment,
+        sight: Sight,
+        has_data: bool,
+    ) -> Result<(), AllocError>
         ensures places { OnOk result (self.new.places.items
             ≡ self.old.places.items ++ Some (length self.old.connections.items) ∷ []) }
+        ensures with_data { OnOk result
+            (self.new.with_data.items ≡ self.old.with_data.items ++ has_data ∷ []) }
         ensures connections { OnOk result (self.new.connections.items
-            ≡ self.old.connections.items ++ kept.seen_from flow sight sight ∷ []) }
+            ≡ self.old.connections.items
+            ++ kept.seen_from segment.now.flow sight sight (kept.ending_after segment.now opened)
+            ∷ []) }
     {
         self.places.push(Some(self.connections.len()))?;
-        self.connections.push(seen_from(flow, sight))?;
+        self.with_data.push(has_data)?;
+        self.connections.push(seen_from(segment, sight))?;
         Ok(())
     }
 
     /// The next record is another packet of the connection at this place.
-    pub(crate) fn see_again(&mut self, place: usize, sight: Sight) -> Result<(), AllocError>
+    pub(crate) fn see_again(
+        &mut self,
+        place: usize,
+        segment: &Segment,
+        sight: Sight,
+        has_data: bool,
+    ) -> Result<(), AllocError>
         requires { place < length self.old.connections.items }
         ensures places { OnOk result (self.new.places.items
             ≡ self.old.places.items ++ Some place ∷ []) }
+        ensures with_data { OnOk result
+            (self.new.with_data.items ≡ self.old.with_data.items ++ has_data ∷ []) }
         ensures connections { OnOk result (self.new.connections.items
-            ≡ kept.changed_at (kept.seen_again sight) self.old.connections.items place) }
+            ≡ kept.changed_at (kept.seen_again sight segment.now) self.old.connections.items
+            place) }
     {
         self.places.push(Some(place))?;
-        self.connections[place].last = sight;
+        self.with_data.push(has_data)?;
+        self.connections[place].see_again(segment, sight);
         Ok(())
+    }
+
+    /// Whether the segment that comes after these records has data, or the last packet before it of
+    /// the connection at this place has.
+    pub(crate) fn is_with_data(&self, place: usize, before: &[Record], segment: &Segment) -> bool
+        requires { place < length self.now.connections.items }
+        ensures { result
+            ≡ kept.is_with_data self.now.connections.items place (reverse before.now)
+            segment.now }
+    {
+        carries_data(segment) || has_data_at(before, self.connections[place].last.number)
+    }
+
+    /// Whether the packet has data or comes right after one of its connection that has.
+    pub(crate) fn has_data(&self, packet: u32) -> bool
+        ensures { result ≡ mark_of self.now.with_data.items packet }
+    {
+        mark_of(self.with_data.as_slice(), packet)
     }
 
     /// The place of the packet's connection, if it has one.
@@ -106,6 +170,7 @@ impl Rows {
     {
         let Rows {
             places: _places,
+            with_data: _with_data,
             connections,
         } = self;
         connections

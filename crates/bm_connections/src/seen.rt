@@ -9,6 +9,7 @@ ghost use Rattle.bm_core.specs.declared.events.Stage.{Stage};
 ghost use Rattle.bm_connections.specs.Inside.Rows.{AreRows, IsSeen};
 
 use crate::connection::Sight;
+use crate::endings::carries_data;
 use crate::rows::Rows;
 use bm_base::{Body, Flow, Record, Segment};
 use std::alloc::{AllocError, Global};
@@ -65,13 +66,15 @@ impl Seen {
         };
         match place_of(&self.flows, &flow) {
             Some(place) => {
-                self.rows.see_again(place, sight)?;
+                let has_data = self.rows.is_with_data(place, before, &segment);
+                self.rows.see_again(place, &segment, sight, has_data)?;
                 Ok(())
             }
             None => {
                 let place = self.rows.count();
                 put_place(&mut self.flows, flow, place)?;
-                self.rows.see_first(flow, sight)?;
+                self.rows
+                    .see_first(&segment, sight, carries_data(&segment))?;
                 Ok(())
             }
         }

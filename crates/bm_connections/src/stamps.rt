@@ -7,7 +7,7 @@ ghost use Rattle.bm_state.specs.Moves.{AreMoves};
 ghost use Rattle.bm_trace.specs.Ranges.{HasRanges};
 ghost use Rattle.bm_connections.specs.Waits.{stamp_of, wait_of};
 
-use bm_base::{Hop, Memory};
+use bm_base::{Hop, Label, Memory};
 use bm_core::{Event, Stage, What};
 use bm_state::{Labels, Moves, Versions};
 use std::alloc::Global;
@@ -32,6 +32,30 @@ impl Stamps {
             labels: Labels::new(alloc, stage)?,
             moves: Moves::new(alloc, &stage.script.plan)?,
         })
+    }
+
+    /// The packet's label, if it was steered.
+    pub(crate) fn label(&self, stage: &Stage, packet: u32) -> Option<Label>
+        requires ranges { HasRanges stage.now }
+        requires moves { AreMoves stage.now.script.plan self.now.moves }
+        ensures { (past : List Event) → KnowsStamps stage.now past self.now
+            → result ≡ label_of stage.now past packet }
+    {
+        self.labels.label(stage, &self.moves, packet)
+    }
+
+    /// The labels of all packets.
+    pub(crate) fn labels(&self) -> &Labels
+        ensures { result.now ≡ self.now.labels }
+    {
+        &self.labels
+    }
+
+    /// The moves of the stage's plan.
+    pub(crate) fn moves(&self) -> &Moves
+        ensures { result.now ≡ self.now.moves }
+    {
+        &self.moves
     }
 
     /// The stamp of the server to which a copy of this hop may be passed on by the packet's label,

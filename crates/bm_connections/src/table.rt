@@ -23,7 +23,6 @@ pub fn connections(
     requires causes { AreCauses h.now causes.now }
     ensures { IfOk result (λ list. list ≡ spec.connections h.now) }
 {
-    let mut rows = see_records(alloc, h.stage.capture.records.items())?;
-    observe_events(alloc, &mut rows, h, causes)?;
-    Ok(List::of(rows.into_connections()))
+    let rows = see_records(alloc, h.stage.capture.records.items())?;
+    Ok(List::of(observe_events(alloc, rows, h, causes)?))
 }

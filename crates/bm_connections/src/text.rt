@@ -1,9 +1,11 @@
 //! The text of a table: a line for each connection.
 ghost use Rattle.std.specs.Prelude.{◌≡◌, ◌++◌, Some, OnOk, IfOk, string_bytes};
 ghost use Rattle.bm_trace.specs.Words.{spaced};
+ghost use Rattle.bm_connections.specs.Base.{compared_with};
 ghost use Rattle.bm_connections.specs.Text as spec;
 
-use crate::connection::{Break, Connection, Forwarding, Sight, Tally};
+use crate::compared::{Compared, Origin, compare_one};
+use crate::connection::{Break, Connection, Ending, Forwarding, Sight, Tally};
 use crate::times::{Clock, SecondsText, TimeText};
 use bm_base::{Memory, ServerId, Text};
 use bm_table::rack_of;
@@ -85,6 +87,38 @@ impl fmt::Display for TallyWords {
             f,
             " processed {processed} forwarded {forwarded} dropped {dropped} reset {reset} stray {stray}"
         )
+    }
+}
+
+/// How a connection ended.
+#[derive(Clone, Copy)]
+pub struct EndingWord(pub Ending);
+
+impl fmt::Display for EndingWord {
+    ghost output = { λ e. Some (spec.ending_word e.0) };
+
+    fn fmt<W: fmt::Write>(&self, f: &mut fmt::Formatter<W>) -> fmt::Result {
+        match self.0 {
+            Ending::Open => write!(f, "open"),
+            Ending::Fin => write!(f, "fin"),
+            Ending::Reset => write!(f, "rst"),
+            Ending::Close => write!(f, "close"),
+        }
+    }
+}
+
+/// How many arrivals break nothing since the connection had ended itself, and how it ended, each
+/// word after a space.
+#[derive(Clone, Copy)]
+struct EndingWords(u64, Ending);
+
+impl fmt::Display for EndingWords {
+    ghost output = { λ e. Some (spaced (spec.ending_words e.0 e.1)) };
+
+    fn fmt<W: fmt::Write>(&self, f: &mut fmt::Formatter<W>) -> fmt::Result {
+        let after = self.0;
+        let ending = EndingWord(self.1);
+        write!(f, " after-its-end {after} end {ending}")
     }
 }
 
@@ -175,6 +209,47 @@ impl fmt::Display for EndTime {
     }
 }
 
+/// What broke a connection.
+pub fn origin_word(origin: Origin) -> &'static str
+    ensures { result.now ≡ spec.origin_word origin }
+{
+    match origin {
+        Origin::ByTheChange => "by-the-change",
+        Origin::Anyway => "anyway",
+    }
+}
+
+/// What broke a connection, after a space, or nothing.
+#[derive(Clone, Copy)]
+struct OriginWords(Option<Origin>);
+
+impl fmt::Display for OriginWords {
+    ghost output = { λ o. Some (spec.origin_text o.0) };
+
+    fn fmt<W: fmt::Write>(&self, f: &mut fmt::Formatter<W>) -> fmt::Result {
+        match self.0 {
+            None => Ok(()),
+            Some(origin) => write!(f, " {}", origin_word(origin)),
+        }
+    }
+}
+
+/// Whether a broken connection loses data: a word after a space, or nothing.
+#[derive(Clone, Copy)]
+struct LosingWord(bool);
+
+impl fmt::Display for LosingWord {
+    ghost output = { λ w. Some (spec.losing_text w.0) };
+
+    fn fmt<W: fmt::Write>(&self, f: &mut fmt::Formatter<W>) -> fmt::Result {
+        if self.0 {
+            write!(f, " losing-data")
+        } else {
+            Ok(())
+        }
+    }
+}
+
 /// The flow of a connection, and where it was first and last seen.
 fn write_seen(text: &mut String, clock: Clock, c: &Connection) -> Result<(), AllocError>
     ensures { OnOk result
@@ -206,13 +281,22 @@ fn write_accepted(text: &mut String, racks: u16, c: &Connection) -> Result<(), A
     write!(text, " accepted {server}{rack}")
 }
 
-/// What became of a connection's packets.
+/// How often a connection was accepted, what became of its packets, and how it ended.
+fn write_tallied(text: &mut String, c: &Connection) -> Result<(), AllocError>
+    ensures { OnOk result
+        (string_bytes text.new ≡ string_bytes text.old ++ spec.tallied_text c.now) }
+{
+    let times = c.tally.accepted;
+    let tally = TallyWords(c.tally);
+    let ending = EndingWords(c.tally.after_its_end, c.ending);
+    write!(text, " times {times}{tally}{ending}")
+}
+
+/// Which packet was forwarded last, and what broke or refused a connection.
 fn write_outcome(text: &mut String, clock: Clock, c: &Connection) -> Result<(), AllocError>
     ensures { OnOk result
         (string_bytes text.new ≡ string_bytes text.old ++ spec.outcome_text clock.0 c.now) }
 {
-    let times = c.tally.accepted;
-    let tally = TallyWords(c.tally);
     let forwarded = ForwardedWords(clock, c.forwarded);
     let end = EndWords {
         broken: c.broken,
@@ -224,21 +308,34 @@ fn write_outcome(text: &mut String, clock: Clock, c: &Connection) -> Result<(), 
         broken: c.broken,
         refused: c.refused,
     };
-    writeln!(text, " times {times}{tally}{forwarded}{end}{at}")
+    write!(text, "{forwarded}{end}{at}")
 }
 
-fn write_connection(
+/// What broke a connection and whether it loses data, if it is broken, and the line's end.
+fn write_cost(text: &mut String, c: &Compared) -> Result<(), AllocError>
+    ensures { OnOk result (string_bytes text.new ≡ string_bytes text.old ++ spec.cost_text c.now) }
+{
+    let origin = OriginWords(c.origin);
+    let losing = LosingWord(c.connection.losing_data);
+    writeln!(text, "{origin}{losing}")
+}
+
+/// Appends the line of a connection. Moments are written by the clock, and waits in seconds; of
+/// several `racks` that of the server that accepted it last is named.
+pub fn write_connection(
     text: &mut String,
     clock: Clock,
     racks: u16,
-    c: &Connection,
+    c: &Compared,
 ) -> Result<(), AllocError>
     ensures { OnOk result
         (string_bytes text.new ≡ string_bytes text.old ++ spec.connection_line clock.0 racks c.now) }
 {
-    write_seen(text, clock, c)?;
-    write_accepted(text, racks, c)?;
-    write_outcome(text, clock, c)?;
+    write_seen(text, clock, &c.connection)?;
+    write_accepted(text, racks, &c.connection)?;
+    write_tallied(text, &c.connection)?;
+    write_outcome(text, clock, &c.connection)?;
+    write_cost(text, c)?;
     Ok(())
 }
 
@@ -246,28 +343,32 @@ fn write_connections(
     text: &mut String,
     clock: Clock,
     racks: u16,
-    connections: &[Connection],
+    table: &[Connection],
+    wholes: &[bool],
 ) -> Result<(), AllocError>
-    ensures { OnOk result (string_bytes text.new
-        ≡ string_bytes text.old ++ spec.table_text clock.0 racks connections.now) }
+    ensures { OnOk result (string_bytes text.new ≡ string_bytes text.old
+        ++ spec.table_text clock.0 racks (compared_with table.now wholes.now)) }
 {
-    for connection in connections {
-        write_connection(text, clock, racks, connection)?;
+    for (place, connection) in table.iter().enumerate() {
+        let compared = compare_one(wholes, place, connection);
+        write_connection(text, clock, racks, &compared)?;
     }
     Ok(())
 }
 
-/// The table as text: a line for each connection. Moments are written by the clock, and waits in
-/// seconds; of several `racks` that of the server that accepted it last is named.
+/// The lines of a table, by whether each of it is whole in the base. Moments are written by the
+/// clock.
 pub fn table_text(
     alloc: Global,
     clock: Clock,
     racks: u16,
-    connections: &[Connection],
+    table: &[Connection],
+    wholes: &[bool],
 ) -> Result<Text, Memory>
-    ensures { IfOk result (λ text. text ≡ spec.table_text clock.0 racks connections.now) }
+    ensures { IfOk result (λ text. text
+        ≡ spec.table_text clock.0 racks (compared_with table.now wholes.now)) }
 {
     let mut text = String::new(alloc);
-    write_connections(&mut text, clock, racks, connections)?;
+    write_connections(&mut text, clock, racks, table, wholes)?;
     Ok(Text::of(text))
 }

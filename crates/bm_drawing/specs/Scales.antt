@@ -1,6 +1,9 @@
--- The scale of a drawing: 1,000 units for the time.
+-- The scale of a drawing: 1,000 units for the time. A clock is when record 1 was captured, if
+-- moments are written in UTC.
 use Rattle.std.specs.Prelude.{ℕ, ◌+◌, ◌-◌, ◌*◌, ◌/◌, ◌%◌, ◌^◌, max, if◌then◌else◌, nat_lt, ◌==◌}
-use Rattle.std.specs.Prelude.{List, [], ◌++◌, codes, decimal, length}
+use Rattle.std.specs.Prelude.{List, [], ◌++◌, codes, decimal, length, map, Option, Some, None}
+use Rattle.std.specs.List.{range_with_len}
+use Rattle.bm_connections.specs.Times.{shown}
 
 -- where a moment is drawn, on an axis of span nanoseconds
 abbrev pub x : ℕ → ℕ → ℕ
@@ -15,10 +18,32 @@ abbrev pub step_of : ℕ → ℕ → ℕ
 step_of power times =
     if nat_lt times 2 then power / 5 else if nat_lt times 5 then power / 2 else power
 
--- how many nanoseconds there are between two ticks of an axis of span nanoseconds; at most ten
--- ticks
+-- a step for at most ten steps
+abbrev pub decimal_step : ℕ → ℕ
+decimal_step n = max 1 (step_of (decade (max 1 n)) (max 1 n / decade (max 1 n)))
+
+-- steps are nanoseconds below two minutes, minutes below two hours, and hours
+abbrev pub unit : ℕ → ℕ
+unit span =
+    if nat_lt span 120_000_000_000 then 1
+    else if nat_lt span 7_200_000_000_000 then 60_000_000_000 else 3_600_000_000_000
+
+-- how many nanoseconds there are between two ticks of an axis of span nanoseconds
 abbrev pub tick_step : ℕ → ℕ
-tick_step span = max 1 (step_of (decade (max 1 span)) (max 1 span / decade (max 1 span)))
+tick_step span = unit span * decimal_step (span / unit span)
+
+-- how long after an instant the next multiple of the step comes
+abbrev pub first_tick : ℕ → ℕ → ℕ
+first_tick instant step = (step - instant % step) % step
+
+-- the moments of the ticks: those that are multiples of the step
+abbrev pub ticks_from : ℕ → ℕ → ℕ → List ℕ
+ticks_from first step span =
+    map (λ number. first + number * step) (range_with_len 0 ((span - first) / step + 1))
+
+abbrev pub tick_moments : Option ℕ → ℕ → List ℕ
+tick_moments clock span =
+    ticks_from (first_tick (shown clock 0) (tick_step span)) (tick_step span) span
 
 -- SECONDS
 
@@ -43,3 +68,24 @@ milliseconds step moment =
 -- need
 unfoldable pub seconds : ℕ → ℕ → List ℕ
 seconds step moment = decimal (moment / 1000000000) ++ milliseconds step moment ++ codes " s"
+
+-- UTC
+
+-- two digits of a number below 100
+abbrev pub two_digits : ℕ → List ℕ
+two_digits n = decimal (n / 10) ++ decimal (n % 10)
+
+-- a time of day, by its seconds: `21:02:11`
+unfoldable pub time_of_day : ℕ → List ℕ
+time_of_day s =
+    two_digits (s / 3600) ++ codes ":" ++ two_digits (s / 60 % 60) ++ codes ":" ++ two_digits (s % 60)
+
+-- the time of day of an instant, with as many groups of three digits as multiples of the step need
+abbrev pub clock_time : ℕ → ℕ → List ℕ
+clock_time step instant =
+    time_of_day (instant / 1_000_000_000 % 86_400) ++ milliseconds step instant
+
+-- a moment at the axis: in seconds, or in UTC
+abbrev pub tick_words : Option ℕ → ℕ → ℕ → List ℕ
+tick_words None step moment = seconds step moment
+tick_words (Some began) step moment = clock_time step (shown (Some began) moment)

@@ -24,18 +24,33 @@ label x y words = text_at x y ++ words ++ codes "</text>"
 unfoldable pub circle : ℕ → ℕ → List ℕ
 circle x y = codes "<circle cx='" ++ decimal x ++ codes "' cy='" ++ decimal y ++ codes "'"
 
--- the mark of a break is a black circle, that of a refusal a hollow one (section 11.3)
+-- the mark of a break is a red circle, that of a refusal a hollow one (section 11.3)
 unfoldable pub mark : Bool → ℕ → ℕ → List ℕ
-mark true x y = circle x y ++ codes " r='3' fill='#000000' stroke='#ffffff' stroke-width='1'/>"
-mark false x y = circle x y ++ codes " r='2' fill='#ffffff' stroke='#000000' stroke-width='1'/>"
+mark true x y = circle x y ++ codes " r='4' fill='#e0001b' stroke='#ffffff' stroke-width='1'/>"
+mark false x y = circle x y ++ codes " r='3' fill='#ffffff' stroke='#e0001b' stroke-width='2'/>"
+
+-- an arrow to the right, from a point (section 8.3)
+unfoldable pub arrow : ℕ → ℕ → List ℕ
+arrow x y =
+    codes "<path d='M" ++ decimal x ++ codes " " ++ decimal y ++ codes "v-4l9 4l-9 4z' stroke='none'/>"
 
 -- the beginning of a group whose lines have this colour (section 5.2)
 unfoldable pub group : List ℕ → List ℕ
 group colour = codes "<g stroke='" ++ colour ++ codes "'>"
 
--- the same, of dashed lines (section 11.4)
+-- the same, with arrows of this colour
+unfoldable pub coloured : List ℕ → List ℕ
+coloured colour = codes "<g stroke='" ++ colour ++ codes "' fill='" ++ colour ++ codes "'>"
+
+-- the beginning of a group of white dashes, which are drawn over lines (section 11.4)
+unfoldable pub dashes : List ℕ
+dashes =
+    codes "<g stroke='#ffffff' stroke-width='2' stroke-dasharray='3 3' stroke-linecap='butt'>"
+
+-- the beginning of a group of black dashes and bold words
 unfoldable pub dashed : List ℕ
-dashed = codes "<g stroke='#000000' stroke-width='1' stroke-dasharray='4 2'>"
+dashed =
+    codes "<g stroke='#000000' stroke-width='1' stroke-dasharray='4 2' font-weight='bold'>"
 
 abbrev pub group_end : List ℕ
 group_end = codes "</g>"

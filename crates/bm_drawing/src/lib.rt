@@ -3,6 +3,9 @@
 
 mod axis;
 mod changes;
+mod choice;
+mod counts;
+mod lanes;
 mod legend;
 mod plot;
 mod rows;

@@ -75,14 +75,31 @@ impl fmt::Display for Mark {
         if broken {
             write!(
                 f,
-                "{circle} r='3' fill='#000000' stroke='#ffffff' stroke-width='1'/>"
+                "{circle} r='4' fill='#e0001b' stroke='#ffffff' stroke-width='1'/>"
             )
         } else {
             write!(
                 f,
-                "{circle} r='2' fill='#ffffff' stroke='#000000' stroke-width='1'/>"
+                "{circle} r='3' fill='#ffffff' stroke='#e0001b' stroke-width='2'/>"
             )
         }
+    }
+}
+
+/// An arrow to the right, from a point.
+#[derive(Clone, Copy)]
+pub(crate) struct Arrow {
+    pub(crate) x: u128,
+    pub(crate) y: u128,
+}
+
+#[tactic(auto, unfolding(crate::specs::Shapes::arrow))]
+impl fmt::Display for Arrow {
+    ghost output = { λ a. Some (spec.arrow a.x a.y) };
+
+    fn fmt<W: fmt::Write>(&self, f: &mut fmt::Formatter<W>) -> fmt::Result {
+        let Arrow { x, y } = *self;
+        write!(f, "<path d='M{x} {y}v-4l9 4l-9 4z' stroke='none'/>")
     }
 }
 
@@ -100,7 +117,37 @@ impl fmt::Display for Group {
     }
 }
 
-/// The same, of dashed lines.
+/// The same, with arrows of this colour.
+#[derive(Clone, Copy)]
+pub(crate) struct Coloured(pub(crate) &'static str);
+
+#[tactic(auto, unfolding(crate::specs::Shapes::coloured))]
+impl fmt::Display for Coloured {
+    ghost output = { λ g. Some (spec.coloured g.0.now) };
+
+    fn fmt<W: fmt::Write>(&self, f: &mut fmt::Formatter<W>) -> fmt::Result {
+        let colour = self.0;
+        write!(f, "<g stroke='{colour}' fill='{colour}'>")
+    }
+}
+
+/// The beginning of a group of white dashes, which are drawn over lines.
+#[derive(Clone, Copy)]
+pub(crate) struct Dashes;
+
+#[tactic(auto, unfolding(crate::specs::Shapes::dashes))]
+impl fmt::Display for Dashes {
+    ghost output = { λ _. Some spec.dashes };
+
+    fn fmt<W: fmt::Write>(&self, f: &mut fmt::Formatter<W>) -> fmt::Result {
+        write!(
+            f,
+            "<g stroke='#ffffff' stroke-width='2' stroke-dasharray='3 3' stroke-linecap='butt'>"
+        )
+    }
+}
+
+/// The beginning of a group of black dashes and bold words.
 #[derive(Clone, Copy)]
 pub(crate) struct Dashed;
 
@@ -111,7 +158,7 @@ impl fmt::Display for Dashed {
     fn fmt<W: fmt::Write>(&self, f: &mut fmt::Formatter<W>) -> fmt::Result {
         write!(
             f,
-            "<g stroke='#000000' stroke-width='1' stroke-dasharray='4 2'>"
+            "<g stroke='#000000' stroke-width='1' stroke-dasharray='4 2' font-weight='bold'>"
         )
     }
 }

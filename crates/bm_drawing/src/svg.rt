@@ -2,13 +2,15 @@
 ghost use Rattle.std.specs.Prelude.{◌≡◌, ◌++◌, Some, OnOk, IfOk, string_bytes};
 ghost use Rattle.bm_drawing.specs.Drawing as spec;
 
-use crate::axis::write_axis;
+use crate::axis::{write_axis, write_axis_label};
 use crate::changes::{Published, changes_in, write_changes};
+use crate::choice::choice_of;
+use crate::counts::write_counts;
 use crate::legend::{write_legend, write_thick};
 use crate::plot::{Plot, plot_of, servers_in};
 use crate::rows::write_connections;
 use bm_base::{Memory, Text};
-use bm_connections::Connection;
+use bm_connections::{Clock, Connection};
 use bm_core::History;
 use std::alloc::{AllocError, Global};
 use std::fmt;
@@ -98,6 +100,7 @@ fn write_times(text: &mut String, plot: Plot, changes: &[Published]) -> Result<(
     ensures { OnOk result (string_bytes text.new
         ≡ string_bytes text.old ++ spec.times plot changes.now) }
 {
+    write_axis_label(text, plot)?;
     write_middle(text)?;
     write_axis(text, plot)?;
     write_changes(text, plot, changes)?;
@@ -105,56 +108,76 @@ fn write_times(text: &mut String, plot: Plot, changes: &[Published]) -> Result<(
     Ok(())
 }
 
-/// The connections.
+/// The connections, and how many aren't drawn.
 #[tactic(auto, unfolding(crate::specs::Drawing::rows))]
-fn write_rows(text: &mut String, plot: Plot, table: &[Connection]) -> Result<(), AllocError>
+fn write_rows(text: &mut String, plot: Plot, shown: &[Connection]) -> Result<(), AllocError>
     ensures { OnOk result (string_bytes text.new
-        ≡ string_bytes text.old ++ spec.rows plot table.now) }
+        ≡ string_bytes text.old ++ spec.rows plot shown.now) }
 {
     write_thick(text)?;
-    write_connections(text, plot, table)?;
+    write_connections(text, plot, shown)?;
+    write_counts(text, plot)?;
     text.push_str("</g>\n")?;
     Ok(())
 }
 
 /// The parts, one after another.
-#[tactic(auto, unfolding(crate::specs::Drawing::drawing_of))]
+#[tactic(auto, unfolding(crate::specs::Drawing::parts))]
 fn write_parts(
     text: &mut String,
-    racks: u16,
+    plot: Plot,
     changes: &[Published],
     servers: &[u16],
-    table: &[Connection],
+    shown: &[Connection],
 ) -> Result<(), AllocError>
     ensures { OnOk result (string_bytes text.new
-        ≡ string_bytes text.old ++ spec.drawing_of racks changes.now servers.now table.now) }
+        ≡ string_bytes text.old ++ spec.parts plot changes.now servers.now shown.now) }
 {
-    let plot = plot_of(racks, changes, servers, table);
     write_frame(text, plot.height())?;
     write_legend(text, servers)?;
     write_times(text, plot, changes)?;
-    write_rows(text, plot, table)?;
+    write_rows(text, plot, shown)?;
     text.push_str("</svg>\n")?;
     Ok(())
 }
 
-/// A drawing of the table's connections over time, as an SVG 1.1 text that is 1,080 units wide. A
-/// line for each connection goes from its first to its last packet, in the colour of the server
-/// that accepted it last; a vertical line for each change of the table is at its clock. Moments are
-/// seconds since record 1.
-pub fn drawing(alloc: Global, history: &History, table: &[Connection]) -> Result<Text, Memory>
-    ensures { IfOk result (λ text. text ≡ spec.drawing history.now table.now) }
+/// The drawing of these changes.
+fn drawing_of(
+    alloc: Global,
+    clock: Clock,
+    h: &History,
+    changes: &[Published],
+    table: &[Connection],
+) -> Result<Text, Memory>
+    ensures { IfOk result (λ text. text ≡ spec.drawing_of clock.0 h.now changes.now table.now) }
 {
-    let changes = changes_in(alloc, history.events.items())?;
     let servers = servers_in(alloc, table)?;
+    let choice = choice_of(alloc, changes, table)?;
+    let plot = plot_of(clock, h, changes, servers.as_slice(), &choice, table);
     let mut text = String::new(alloc);
-    let racks = history.stage.script.setting.racks;
     write_parts(
         &mut text,
-        racks,
-        changes.as_slice(),
+        plot,
+        changes,
         servers.as_slice(),
-        table,
+        choice.rows.items(),
     )?;
     Ok(Text::of(text))
+}
+
+/// A drawing of the table's connections over time, as an SVG 1.1 text that is 1,080 units wide and
+/// at most 1,500 high. Each connection is a line from its first to its last packet, in the colour
+/// of the server that accepted it last. Those that a change touched come first, and where there are
+/// many connections the others are only counted. An upright line for each change of the table is
+/// at its clock. Moments are seconds since record 1, or in UTC by the clock.
+pub fn drawing(
+    alloc: Global,
+    clock: Clock,
+    history: &History,
+    table: &[Connection],
+) -> Result<Text, Memory>
+    ensures { IfOk result (λ text. text ≡ spec.drawing clock.0 history.now table.now) }
+{
+    let changes = changes_in(alloc, &history.stage.script.plan, history.events.items())?;
+    drawing_of(alloc, clock, history, changes.as_slice(), table)
 }

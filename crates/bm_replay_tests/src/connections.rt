@@ -3,7 +3,7 @@ ghost use Rattle.std.specs.Prelude.{IfOk};
 ghost use Rattle.bm_core.specs.Runs.{IsRun};
 
 use crate::stages::{
-    DATA, OPENING, OTHER, PSH_ACK, Row, bare_history, moved_history, twice_moved_history,
+    DATA, OPENING, OTHER, PSH_ACK, Row, SYN, bare_history, moved_history, twice_moved_history,
 };
 use bm_base::{Memory, Moment, ServerId, Text};
 use bm_connections::{
@@ -15,17 +15,26 @@ use bm_trace::sweep;
 use std::alloc::Global;
 use std::process::Abort;
 
+const RST: u8 = 0x04;
+
+const ACK: u8 = 0x10;
+
+const FIN_ACK: u8 = 0x11;
+
+/// An RST after `DATA`.
+const ENDING: Row = (1000, RST, 111, 0);
+
 /// There are 100 seconds between two packets.
 const GAP: u64 = 100_000_000_000;
 
-/// The text of the history's connections.
+/// The text of the history's connections, as if none were whole without its changes.
 #[tactic(auto, using(bm_trace::proofs::Ranged::ranges_of))]
 fn lines_of(alloc: Global, h: &History) -> Result<Text, Memory>
     requires { IsRun h.now }
 {
     let causes = sweep(alloc, h)?;
     let table = connections(alloc, h, &causes)?;
-    table_text(alloc, Clock(None), 1, table.items())
+    table_text(alloc, Clock(None), 1, table.items(), &[])
 }
 
 /// Checks the text of the history's connections.
@@ -46,7 +55,7 @@ struct Case {
     text: &'static str,
 }
 
-static CASES: [Case; 4] = [
+static CASES: [Case; 7] = [
     Case {
         rows: &[OPENING, DATA, DATA],
         capacity: 4_096,
@@ -54,7 +63,8 @@ static CASES: [Case; 4] = [
         text: "connection 10.0.0.1:1000 192.0.2.1:80 opened 1 at 0.000000000 \
                last 3 at 200.000000000 \
                accepted 1 times 1 processed 0 forwarded 0 dropped 0 reset 2 stray 0 \
-               broken 2 reset no-previous because not-held at 100.000000002\n",
+               after-its-end 0 end close \
+               broken 2 reset no-previous because not-held at 100.000000002 anyway losing-data\n",
     },
     Case {
         rows: &[OPENING, OTHER, (1002, PSH_ACK, 101, 10), DATA, DATA],
@@ -62,10 +72,12 @@ static CASES: [Case; 4] = [
         closing: false,
         text: "connection 10.0.0.1:1000 192.0.2.1:80 opened 1 at 0.000000000 \
                last 5 at 400.000000000 \
-               accepted 1 times 1 processed 2 forwarded 0 dropped 0 reset 0 stray 0 whole\n\
+               accepted 1 times 1 processed 2 forwarded 0 dropped 0 reset 0 stray 0 \
+               after-its-end 0 end open whole\n\
                connection 10.0.0.1:1002 192.0.2.1:80 opened 2 at 100.000000000 \
                last 3 at 200.000000000 accepted 1 times 1 \
-               processed 1 forwarded 0 dropped 0 reset 0 stray 0 whole\n",
+               processed 1 forwarded 0 dropped 0 reset 0 stray 0 \
+               after-its-end 0 end open whole\n",
     },
     Case {
         rows: &[OPENING, OTHER],
@@ -73,10 +85,12 @@ static CASES: [Case; 4] = [
         closing: false,
         text: "connection 10.0.0.1:1000 192.0.2.1:80 opened 1 at 0.000000000 \
                last 1 at 0.000000000 accepted 1 times 1 \
-               processed 0 forwarded 0 dropped 0 reset 0 stray 0 whole\n\
+               processed 0 forwarded 0 dropped 0 reset 0 stray 0 \
+               after-its-end 0 end open whole\n\
                connection 10.0.0.1:1002 192.0.2.1:80 opened 2 at 100.000000000 \
                last 2 at 100.000000000 accepted none times 0 \
                processed 0 forwarded 0 dropped 1 reset 0 stray 0 \
+               after-its-end 0 end open \
                refused 2 drop full because full at 100.000000002\n",
     },
     Case {
@@ -85,7 +99,41 @@ static CASES: [Case; 4] = [
         closing: false,
         text: "connection 10.0.0.1:1000 192.0.2.1:80 opened 1 at 0.000000000 \
                last 3 at 200.000000000 \
-               accepted 1 times 1 processed 1 forwarded 0 dropped 0 reset 1 stray 0 whole\n",
+               accepted 1 times 1 processed 1 forwarded 0 dropped 0 reset 1 stray 0 \
+               after-its-end 0 end open whole\n",
+    },
+    Case {
+        rows: &[OPENING, DATA, ENDING, ENDING, (1000, PSH_ACK, 111, 10)],
+        capacity: 4_096,
+        closing: false,
+        text: "connection 10.0.0.1:1000 192.0.2.1:80 opened 1 at 0.000000000 \
+               last 5 at 400.000000000 \
+               accepted 1 times 1 processed 2 forwarded 0 dropped 1 reset 1 stray 0 \
+               after-its-end 2 end rst whole\n",
+    },
+    Case {
+        rows: &[
+            OPENING,
+            (1000, RST, 101, 0),
+            (1000, SYN, 500, 1),
+            (1000, PSH_ACK, 501, 10),
+        ],
+        capacity: 4_096,
+        closing: false,
+        text: "connection 10.0.0.1:1000 192.0.2.1:80 opened 1 at 0.000000000 \
+               last 4 at 300.000000000 \
+               accepted 1 times 2 processed 2 forwarded 0 dropped 0 reset 0 stray 0 \
+               after-its-end 0 end open whole\n",
+    },
+    Case {
+        rows: &[OPENING, (1000, ACK, 101, 0), (1000, FIN_ACK, 101, 0)],
+        capacity: 4_096,
+        closing: true,
+        text: "connection 10.0.0.1:1000 192.0.2.1:80 opened 1 at 0.000000000 \
+               last 3 at 200.000000000 \
+               accepted 1 times 1 processed 0 forwarded 0 dropped 0 reset 2 stray 0 \
+               after-its-end 0 end close \
+               broken 2 reset no-previous because not-held at 100.000000002 anyway\n",
     },
 ];
 
@@ -177,9 +225,10 @@ fn a_moved_connection_breaks_after_the_timeout(rt: HostRuntime) {
     let late = "chain-late longest 299.999999502 timeout_s 300\n";
     let lines = "connection 10.0.0.1:1000 192.0.2.1:80 opened 1 at 0.000000000 \
                 last 4 at 300.000000000 accepted 1 times 1 \
-                processed 2 forwarded 2 dropped 0 reset 1 stray 0 \
+                processed 2 forwarded 2 dropped 0 reset 1 stray 0 after-its-end 0 end open \
                 last-forward 3 by 2 at 200.000000002 after 199.999999502 \
-                broken 4 reset chain-expired because chain-late at 300.000000002\n";
+                broken 4 reset chain-expired because chain-late at 300.000000002 \
+                anyway losing-data\n";
     check_late(&rt, alloc, history, late, lines);
 }
 
@@ -193,9 +242,10 @@ fn a_twice_moved_connection_breaks_at_the_older_stamp(rt: HostRuntime) {
     let late = "chain-late longest 299.999999503 timeout_s 300\n";
     let lines = "connection 10.0.0.1:1000 192.0.2.1:80 opened 1 at 0.000000000 \
                 last 4 at 300.000000000 accepted 2 times 1 \
-                processed 2 forwarded 4 dropped 0 reset 1 stray 0 \
+                processed 2 forwarded 4 dropped 0 reset 1 stray 0 after-its-end 0 end open \
                 last-forward 4 by 1 at 300.000000002 after 150.000000002 \
-                broken 4 reset chain-expired because chain-late at 300.000000003\n";
+                broken 4 reset chain-expired because chain-late at 300.000000003 \
+                anyway losing-data\n";
     check_late(&rt, alloc, history, late, lines);
 }
 

@@ -12,3 +12,5 @@ mod replays;
 mod runs;
 #[cfg(test)]
 mod stages;
+#[cfg(test)]
+mod told;

@@ -19,7 +19,7 @@ use bm_route::Route;
 use bm_table::{Change, Command, Kind, Move, Plan, Script, Setting};
 use std::alloc::Global;
 
-const SYN: u8 = 0x02;
+pub(crate) const SYN: u8 = 0x02;
 
 pub(crate) const PSH_ACK: u8 = 0x18;
 

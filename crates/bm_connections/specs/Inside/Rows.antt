@@ -1,9 +1,11 @@
 -- What the code keeps of connections while it goes through records and events.
-use Rattle.std.specs.Prelude.{◌≡◌, ℕ, zero, suc, ◌<◌, ◌^◌, Bool, ◌&&◌, if◌then◌else◌, List, [], ◌∷◌}
+use Rattle.std.specs.Prelude.{◌≡◌, ℕ, zero, suc, ◌<◌, ◌^◌, Bool, true, false, ◌&&◌, ◌||◌, not}
+use Rattle.std.specs.Prelude.{if◌then◌else◌, List, [], ◌∷◌}
 use Rattle.std.specs.Prelude.{◌++◌, length, Option, Some, None, is_some, map, option_map, slice_get}
 use Rattle.std.specs.BTreeMap as tree
+use Rattle.std.specs.Option.{option_map_or}
 use Rattle.bm_base.specs.contracts.flow.FlowOrd.TheImpl as flow_order
-use Rattle.bm_base.specs.Segments.{same_flow}
+use Rattle.bm_base.specs.Segments.{FIN, RST, has_flag, is_opening, same_flow}
 use Rattle.bm_base.specs.declared.capture.Record.{Record}
 use Rattle.bm_base.specs.declared.flow.Flow.{Flow}
 use Rattle.bm_base.specs.declared.flow.Segment.{Segment}
@@ -16,44 +18,86 @@ use Rattle.bm_core.specs.Past.{is_accept, is_forward, steerable}
 use Rattle.bm_trace.specs.Totals.{is_drop, is_reset}
 use Rattle.bm_connections.specs.declared.connection.Break.{Break}
 use Rattle.bm_connections.specs.declared.connection.Connection.{Connection}
+use Rattle.bm_connections.specs.declared.connection.Ending.{Ending}
+use Rattle.bm_connections.specs.declared.connection.Ending.TheVariants.{Open, Fin, Reset}
 use Rattle.bm_connections.specs.declared.connection.Forwarding.{Forwarding}
 use Rattle.bm_connections.specs.declared.connection.Sight.{Sight}
 use Rattle.bm_connections.specs.declared.connection.Tally.{Tally}
+use Rattle.bm_connections.specs.declared.observed.Facts.{Facts}
+use Rattle.bm_connections.specs.declared.resets.Resets.{Resets}
 use Rattle.bm_connections.specs.declared.rows.Rows.{Rows}
 use Rattle.bm_connections.specs.declared.seen.Seen.{Seen}
 use Rattle.bm_connections.specs.Connections.{connection, first_of_two, one_more}
+use Rattle.bm_connections.specs.Endings.{carries_data, ending_seen, segment_at}
+use Rattle.bm_connections.specs.Endings as endings
+use Rattle.bm_connections.specs.Inside.Marks.{mark_of, marks_by}
 use Rattle.bm_connections.specs.Seen.{first_seen, flows_of, last_seen}
 
 -- no arrivals
 abbrev pub none : Tally
-none = record { accepted = 0; processed = 0; forwarded = 0; reset = 0; dropped = 0; stray = 0 }
+none = record {
+  accepted = 0;
+  processed = 0;
+  forwarded = 0;
+  reset = 0;
+  dropped = 0;
+  stray = 0;
+  after_its_end = 0;
+}
+
+-- a connection's own RST ended it
+abbrev pub is_by_reset : Ending → Bool
+is_by_reset Reset = true
+is_by_reset _ = false
+
+-- how a connection ends by the records after another segment of it
+abbrev pub ending_after : Segment → Ending → Ending
+ending_after s before =
+    if has_flag RST s then Reset
+    else if is_opening s then Open
+    else if has_flag FIN s && not (is_by_reset before) then Fin else before
 
 -- a flow that was first and last seen in these records, without arrivals
-abbrev pub seen_from : Flow → Sight → Sight → Connection
-seen_from f first last = record {
+abbrev pub seen_from : Flow → Sight → Sight → Ending → Connection
+seen_from f first last ending = record {
   flow = f;
   first = first;
   last = last;
+  ending = ending;
   server = None;
   tally = none;
   forwarded = None;
   broken = None;
   refused = None;
+  losing_data = false;
 }
 
--- a connection after another packet of it was seen
-abbrev pub seen_again : Sight → Connection → Connection
-seen_again s c = record c { last = s }
+-- a connection after another packet of it was seen, with this segment
+abbrev pub seen_again : Sight → Segment → Connection → Connection
+seen_again t s c = record c { last = t; ending = ending_after s c.ending }
 
--- the counts after an arrival with this verdict, which is a drop, a reset, a stray or none of these
-abbrev pub tallied : Verdict → Bool → Tally → Tally
-tallied verdict broke t = record {
+-- the record of this number among these has data
+abbrev pub has_data_at : List Record → ℕ → Bool
+has_data_at records number =
+    option_map_or (λ s. carries_data s) (segment_at records number) false
+
+-- the segment has data, or the last packet of the connection at a place
+abbrev pub is_with_data : List Connection → ℕ → List Record → Segment → Bool
+is_with_data list place records s =
+    carries_data s
+    || option_map_or (λ c. has_data_at records c.last.number) (slice_get list place) false
+
+-- the counts after an arrival with this verdict, which is a break or not, of a packet that follows
+-- its connection's RST or doesn't
+abbrev pub tallied : Verdict → Bool → Bool → Tally → Tally
+tallied verdict broke late t = record {
   accepted = one_more (is_accept verdict) t.accepted;
   processed = one_more (is_process verdict) t.processed;
   forwarded = one_more (is_forward verdict) t.forwarded;
   reset = one_more (is_reset verdict) t.reset;
   dropped = one_more (is_drop verdict) t.dropped;
   stray = one_more (is_process verdict && broke) t.stray;
+  after_its_end = one_more (broke && late) t.after_its_end;
 }
 
 -- the server that accepted a flow last, after an arrival of one of its packets
@@ -68,25 +112,39 @@ forwarded_after b wait before =
     (record { packet = b.packet; clock = b.clock; server = b.server; wait = wait })
     else before
 
--- the refusal after an arrival, if the flow then has this server
-abbrev pub refused_after : Break → Option ServerId → Option Break → Option Break
-refused_after b server before =
-    if is_some server then None
-    else first_of_two before (if is_some b.cause then Some b else None)
+-- what these rows and resets tell of a packet with this wait
+abbrev pub facts_of : Rows → Resets → ℕ → ℕ → Facts
+facts_of rows resets packet wait = record {
+  wait = wait;
+  follows_reset = mark_of resets.marks.items packet;
+  has_data = mark_of rows.with_data.items packet;
+}
 
--- the connection of a flow after an arrival of one of its packets, with this wait
-abbrev pub observed : Break → ℕ → Connection → Connection
-observed b wait c = record {
+-- an arrival is a break that counts
+abbrev pub is_counted : Break → Facts → Bool
+is_counted b x = is_some b.cause && not x.follows_reset
+
+-- the refusal after an arrival, if the flow then has this server
+abbrev pub refused_after : Break → Facts → Option ServerId → Option Break → Option Break
+refused_after b x server before =
+    if is_some server then None
+    else first_of_two before (if is_counted b x then Some b else None)
+
+-- the connection of a flow after an arrival of one of its packets, with these facts
+abbrev pub observed : Break → Facts → Connection → Connection
+observed b x c = record {
   flow = c.flow;
   first = c.first;
   last = c.last;
+  ending = c.ending;
   server = server_after b c.server;
-  tally = tallied b.verdict (is_some b.cause) c.tally;
-  forwarded = forwarded_after b wait c.forwarded;
+  tally = tallied b.verdict (is_some b.cause) x.follows_reset c.tally;
+  forwarded = forwarded_after b x.wait c.forwarded;
   broken =
       first_of_two c.broken
-      (if is_some b.cause && is_some c.server then Some b else None);
-  refused = refused_after b (server_after b c.server) c.refused;
+      (if is_counted b x && is_some c.server then Some b else None);
+  refused = refused_after b x (server_after b c.server) c.refused;
+  losing_data = (is_counted b x && is_some c.server) && x.has_data || c.losing_data;
 }
 
 -- each count can take one more
@@ -97,6 +155,7 @@ pub record HasRoom (t : Tally) : Type 0 where
   pub reset : suc t.reset < 2 ^ 64
   pub dropped : suc t.dropped < 2 ^ 64
   pub stray : suc t.stray < 2 ^ 64
+  pub after_its_end : suc t.after_its_end < 2 ^ 64
 
 -- PLACES
 
@@ -146,23 +205,32 @@ pub record HasRoomForEach (rows : Rows) : Type 0 where
 
 -- WHAT IS KEPT
 
--- a connection for each flow of these records, after these events
-abbrev pub table : Stage → List Record → List Event → List Connection
-table stage records past = map (connection stage records past) (flows_of records)
+-- the connection of a flow after these events, with its end by the records alone
+abbrev pub row : Stage → List Record → List Event → Flow → Connection
+row stage records past f =
+    record (connection stage records past f) { ending = ending_seen records f }
 
--- these are the places of the records and the connections after these events
+-- one for each flow of these records
+abbrev pub table : Stage → List Record → List Event → List Connection
+table stage records past = map (row stage records past) (flows_of records)
+
+-- these are the places of the records, which packets have data, and the connections after these
+-- events
 pub record AreRows (stage : Stage) (records : List Record) (past : List Event) (rows : Rows) :
     Type 0 where
   pub places : rows.places.items ≡ places_of records
+  pub with_data : rows.with_data.items ≡ marks_by endings.is_with_data records
   pub connections : rows.connections.items ≡ table stage records past
 
 -- the connection of a flow by these records, before any event
 abbrev pub seen : List Record → Flow → Connection
-seen records f = seen_from f (first_seen records f) (last_seen records f)
+seen records f =
+    seen_from f (first_seen records f) (last_seen records f) (ending_seen records f)
 
 -- the same before any event, and the place of each flow
 pub record IsSeen (records : List Record) (s : Seen) : Type 0 where
   pub places : s.rows.places.items ≡ places_of records
+  pub with_data : s.rows.with_data.items ≡ marks_by endings.is_with_data records
   pub connections : s.rows.connections.items ≡ map (seen records) (flows_of records)
   pub flows : (f : Flow)
       → tree.get (flow_order.ghosts).cmp s.flows f ≡ place_in (flows_of records) f

@@ -1,30 +1,20 @@
-use Rattle.std.proofs.Common.{rules, refl, ◌∙◌}
-use Rattle.bm_connections.specs.Inside.Rows.{AreRows}
-use Rattle.bm_connections.specs.Inside.Stamps.{KnowsStamps}
-use Rattle.bm_connections.specs.Seen.{records_of}
-use Rattle.bm_connections.proofs.Passes.{cause_here, break_here, few_before, past_more}
-use Rattle.bm_connections.proofs.Tabled.{have_room}
+use Rattle.std.proofs.Common.{◌≡◌, ◌∙◌, List, ap, length, map, sym}
+use Rattle.std.proofs.lemmas.List.{length-map, with_items_is}
+use Rattle.bm_connections.specs.declared.connection.Connection.{Connection}
+use Rattle.bm_connections.specs.Inside.Closed.{with_close}
+use Rattle.bm_connections.proofs.Closing.{all_closed}
 use Rattle.bm_connections.proofs.observed.observe_events.Goals as goal
 
-pub observe-requires : goal.observe-requires
-observe-requires c =
-    have_room c.args.h.now.stage _ c.loop-place.rows
-    (few_before c.items-events.result.now c.loop-place.place c.loop-place-test.true (search rules))
-    c.loop-place.invariant.rows
-
-pub loop-place-preserved : goal.loop-place-preserved
-loop-place-preserved c =
-    let found = c.at-cause.ensures ∙ c.requires.causes c.loop-place.place
-    in record {
-      rows = past_more (λ past. AreRows c.args.h.now.stage (records_of c.args.h.now.stage) past c.observe.new.self)
-          c.items-events.result.now c.loop-place.place _ c.loop-place-test.true
-          (c.observe.ensures c.args.h.now.stage _ c.loop-place.invariant.rows
-          (cause_here c.args.h.now c.items-events.result.now c.loop-place.place _ c.at-cause.result
-          c.items-events.ensures c.loop-place-test.true found)
-          (break_here c.args.h.now c.items-events.result.now c.loop-place.place _ c.at-cause.result c.requires.run
-          c.items-events.ensures c.loop-place-test.true found)
-          (c.wait-wait.ensures _ c.loop-place.invariant.known));
-      known = past_more (λ past. KnowsStamps c.args.h.now.stage past c.observe-in-loop-place.new.self)
-          c.items-events.result.now c.loop-place.place _ c.loop-place-test.true
-          (c.in_ok-observe.ensures c.args.h.now.stage _ _ refl c.loop-place.invariant.known);
-    }
+pub returns : goal.returns
+returns c =
+    let rows = c.observe_each.new.rows
+    in let closed = c.observe_each.new.closed
+    in let v = c.into_connections-connections.result
+    in let written : c.close_all.new.connections ≡ map (with_close closed) v.items =
+    c.close_all.ensures ∙ ap (map (with_close closed)) c.deref_mut.ensures.value
+    in let long : length c.close_all.new.connections ≡ v.len =
+    ap (λ (l : List Connection). length l) written ∙ length-map v.items (with_close closed) ∙ sym v.ok.0
+    in let same : v.items ≡ rows.connections.items = ap (λ l. l.items) c.into_connections-connections.ensures
+    in with_items_is v c.close_all.new.connections long
+    ∙ all_closed c.args.h.now closed rows c.close_all.new.connections c.in_ok-observe_each.ensures.rows
+    c.in_ok-observe_each.ensures.closed (written ∙ ap (map (with_close closed)) same)

@@ -4,5 +4,5 @@ use Rattle.bm_drawing.proofs.changes.changes_in.Given as goal
 
 abbrev pub invariant-loop-event : goal.invariant-loop-event
 invariant-loop-event l = record {
-  collected : l.changes.items ≡ changes_in (take l.event-index l.events);
+  collected : l.changes.items ≡ changes_in l.plan (take l.event-index l.events);
 }

@@ -12,5 +12,5 @@ observe-requires c =
 pub returns-clause-connections : goal.returns-clause-connections
 returns-clause-connections c =
     ap (λ (x : Connection). set c.args.self.now.connections.items c.args.place x) c.observe.ensures
-    ∙ written (observed c.args.arrival c.args.wait) c.args.self.now.connections.items c.args.place
+    ∙ written (observed c.args.arrival c.args.facts.now) c.args.self.now.connections.items c.args.place
     c.index_mut.result.now c.requires.place c.index_mut.ensures.value
