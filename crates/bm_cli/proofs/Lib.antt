@@ -7,7 +7,6 @@ pub mod Laws
 pub mod Loads
 pub mod NamedScripts
 pub mod Names
-pub mod Playing
 pub mod Readings
 pub mod Scripts
 pub mod Sound

@@ -36,9 +36,25 @@ pub(crate) fn history_of<R: Threads + Wait + Sync, G: Gate>(
     Ok(history)
 }
 
+/// The replay of the stage, by the route and the impairment rule of its setting. `packets` has the
+/// packet of each record, and is freed as they are replayed.
+pub fn replay_stage<R: Threads + Wait + Sync>(
+    rt: &R,
+    alloc: Global,
+    stage: Stage,
+    packets: Octets,
+) -> Result<History, Memory>
+    requires sound { IsSound stage }
+    requires packets { ArePackets stage.capture.records packets }
+    ensures about { IfOk result (λ h. h.stage ≡ stage) }
+    ensures made { IfOk result (IsMadeBy Mode.Replay stage) }
+{
+    history_of(rt, alloc, Mode::Replay, stage, packets, &OpenGate)
+}
+
 /// The replay of the stage, by the route and the impairment rule of its setting, with `packets`,
 /// which has the packet of each record.
-pub(crate) fn replay_with_packets<R: Threads + Wait + Sync>(
+pub fn replay_with_packets<R: Threads + Wait + Sync>(
     rt: &R,
     alloc: Global,
     stage: Stage,

@@ -26,7 +26,7 @@ use std::alloc::Global;
 /// them the packet of each record, and when the capture began, in nanoseconds since 1970. Only the
 /// names in the words are asked for, and the capture only after a script that has no fault and may
 /// be played in this mode.
-pub(crate) fn read_stage<F: Files>(
+pub fn read_stage<F: Files>(
     alloc: Global,
     files: &mut F,
     mode: Mode,

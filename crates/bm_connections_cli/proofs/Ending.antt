@@ -15,9 +15,8 @@ use Rattle.bm_cli.specs.declared.fault.StageFault.{StageFault}
 use Rattle.bm_cli.specs.declared.mode.Mode.TheVariants.{Replay}
 use Rattle.bm_cli.specs.declared.status.Status.{Status}
 use Rattle.bm_cli.specs.declared.status.Status.TheVariants.{Done, Exceeded, ReadFault, Usage}
-use Rattle.bm_cli.specs.Dues.{Misused, Shown, answer_by, answer_for}
+use Rattle.bm_cli.specs.Dues.{Due, Misused, Shown, answer_by, answer_for, due_of_stage}
 use Rattle.bm_cli.specs.Ends.{Ends}
-use Rattle.bm_cli.specs.Headline.{IsMadeBy}
 use Rattle.bm_cli.specs.Stages.{ReadsNamed, ReadsStage}
 use Rattle.bm_cli.specs.Telling.{Tells}
 use Rattle.bm_cli.specs.Reading.{Holds, Octets, Reading, Reads}
@@ -26,13 +25,14 @@ use Rattle.bm_cli.proofs.Ending.{IsUnread, ends_stage, holds_more, unread_ends}
 use Rattle.bm_cli.proofs.NamedScripts.{script_ends}
 use Rattle.bm_cli.proofs.Telling.{tells_due, untouched}
 use Rattle.bm_words.specs.Form.{Named}
-use Rattle.bm_connections_cli.specs.declared.words.Format.{Format}
-use Rattle.bm_connections_cli.specs.declared.words.Manner.{Manner}
+use Rattle.bm_connections.specs.Base.{base_of, compared, compared_with}
+use Rattle.bm_connections.specs.Connections.{connections}
+use Rattle.bm_connections.specs.declared.compared.Compared.{Compared}
 use Rattle.bm_connections_cli.specs.Dues.{clock_of, due, due_of, usage_line}
-use Rattle.bm_connections_cli.specs.Headline.{IsReplayOf, IsTableOf}
+use Rattle.bm_connections_cli.specs.Headline.{IsReplayOf, IsTextOf}
 use Rattle.bm_connections_cli.specs.Lifetime.{explained_text, lifetime_answer, outlives, shown_or_warned}
-use Rattle.bm_connections_cli.specs.Text.{text}
-use Rattle.bm_connections_cli.specs.Words.{Asked, Connections, Lifetime}
+use Rattle.bm_connections_cli.specs.Inside.Replays.{AreReplays}
+use Rattle.bm_connections_cli.specs.Words.{Asked, Lifetime}
 use Rattle.bm_connections_cli.specs.Inside.Lifetime.{status_for}
 
 -- THE REPLAY
@@ -48,57 +48,67 @@ same_replay stage a b p q =
     let stages = p.0 ∙ sym q.0 in
     history_is a b stages (replay_law a b stages (setting_mux setting) (setting_fate setting) p.1 q.1)
 
-table_of : (format : Format) (clock : Option ℕ) (stage : Stage) (h : History) → IsReplayOf stage h →
-    IsTableOf format clock stage (text format clock h)
-table_of format clock stage h replay = record {
+-- what is told of two replays is told of all
+text_of : (text : History → List Compared → List ℕ) (stage : Stage) (h : History) (wholes : List Bool) →
+    AreReplays stage h wholes →
+    IsTextOf (λ g b. text g (compared g b)) stage (text h (compared_with (connections h) wholes))
+text_of text stage h wholes both = record {
   history = h;
-  replay = replay;
-  printed = λ other is. ap (text format clock) (same_replay stage h other replay is);
+  replay = both.replay;
+  base = both.base;
+  base_replay = both.base_replay;
+  printed = λ other base is base_is.
+      ap (λ ws. text h (compared_with (connections h) ws)) both.whole
+      ∙ ap₂ (λ g b. text g (compared g b)) (same_replay stage h other both.replay is)
+      (same_replay (base_of stage) both.base base both.base_replay base_is);
 }
 
--- the history's text was written, by the clock that is due
-pub tells_table : (format : Format) (clock due : Option ℕ) (h : History) (sink : SinkDid) (result : Status) →
-    clock ≡ due → IsMadeBy Replay h.stage h → Writes Done (text format clock h) sink result →
-    Tells (answer_for (IsTableOf format due) (Ok h.stage)) sink result
-tells_table format clock due h sink result same made writes =
-    tells_due (Shown (IsTableOf format due h.stage)) Done (text format due h) sink result
-    (refl, table_of format due h.stage h (refl, made))
-    (subst (λ c. Writes Done (text format c h) sink result) same writes)
+-- the text of these replays was written
+pub tells_text : (text : History → List Compared → List ℕ) (stage : Stage) (h : History) (wholes : List Bool)
+    (sink : SinkDid) (result : Status) → AreReplays stage h wholes →
+    Writes Done (text h (compared_with (connections h) wholes)) sink result →
+    Tells (Shown (IsTextOf (λ g b. text g (compared g b)) stage)) sink result
+tells_text text stage h wholes sink result both writes =
+    tells_due (Shown (IsTextOf (λ g b. text g (compared g b)) stage)) Done
+    (text h (compared_with (connections h) wholes)) sink result
+    (refl, text_of text stage h wholes both) writes
 
--- CONNECTIONS
+-- A STAGE
 
--- what was read of a stage was answered
-ends_played : (manner : Manner) (names : Named) (reads : Reads) (files : FilesDid) (sink : SinkDid) (r : Reading)
-    (result : Status) → ReadsStage Replay names reads files r →
-    Tells (answer_for (IsTableOf manner.format (clock_of manner names reads)) r) sink result →
-    Ends (due_of (Connections manner names) reads) files sink result
-ends_played manner names reads files sink r result read tells =
-    ends_stage Replay (IsTableOf manner.format (clock_of manner names reads)) names reads files sink r result read tells
+module _ (is : Option ℕ → Stage → List ℕ → Type 0) (clock : Bool) (names : Named) where
+  -- what is due of the stage
+  abbrev wanted : Reads → Due
+  wanted reads = due_of_stage Replay (is (clock_of clock names reads)) names reads
 
--- the table of a stage was told, by the clock that is due
-pub played_ends : (manner : Manner) (names : Named) (told : Octets) (files : FilesDid) (sink : SinkDid)
-    (stage : Stage) (began : ℕ) (result : Status) →
-    Holds told (λ reads. ReadsStage Replay names reads files (Ok stage) × (began ≡ reads.began names.capture)) →
-    Tells (answer_for (IsTableOf manner.format (if manner.clock then Some began else None)) (Ok stage)) sink result →
-    Holds told (λ reads. Ends (due_of (Connections manner names) reads) files sink result)
-played_ends manner names told files sink stage began result read tells =
-    holds_more told
-    (λ reads. ReadsStage Replay names reads files (Ok stage) × (began ≡ reads.began names.capture))
-    (λ reads. Ends (due_of (Connections manner names) reads) files sink result)
-    (λ reads both. ends_played manner names reads files sink (Ok stage) result (both.0)
-    (subst (λ b. Tells (answer_for (IsTableOf manner.format (if manner.clock then Some b else None)) (Ok stage))
-    sink result) (both.1) tells)) read
+  -- what was read of a stage was answered
+  ends_played : (reads : Reads) (files : FilesDid) (sink : SinkDid) (r : Reading) (result : Status) →
+      ReadsStage Replay names reads files r →
+      Tells (answer_for (is (clock_of clock names reads)) r) sink result → Ends (wanted reads) files sink result
+  ends_played reads files sink r result read tells =
+      ends_stage Replay (is (clock_of clock names reads)) names reads files sink r result read tells
 
--- the line of a fault was told
-pub refused_ends : (manner : Manner) (names : Named) (told : Octets) (files : FilesDid) (sink : SinkDid)
-    (fault : StageFault) (result : Status) →
-    Holds told (λ reads. ReadsStage Replay names reads files (Err fault) × ⊤) →
-    Tells (answer_for (IsTableOf manner.format None) (Err fault)) sink result →
-    Holds told (λ reads. Ends (due_of (Connections manner names) reads) files sink result)
-refused_ends manner names told files sink fault result read tells =
-    holds_more told (λ reads. ReadsStage Replay names reads files (Err fault) × ⊤)
-    (λ reads. Ends (due_of (Connections manner names) reads) files sink result)
-    (λ reads both. ends_played manner names reads files sink (Err fault) result (both.0) tells) read
+  -- the text of a stage was told, by the clock that is due
+  pub played_ends : (told : Octets) (files : FilesDid) (sink : SinkDid) (stage : Stage) (began : ℕ)
+      (by : Option ℕ) (result : Status) → by ≡ (if clock then Some began else None) →
+      Holds told (λ reads. ReadsStage Replay names reads files (Ok stage) × (began ≡ reads.began names.capture)) →
+      Tells (Shown (is by stage)) sink result → Holds told (λ reads. Ends (wanted reads) files sink result)
+  played_ends told files sink stage began by result same read tells =
+      holds_more told
+      (λ reads. ReadsStage Replay names reads files (Ok stage) × (began ≡ reads.began names.capture))
+      (λ reads. Ends (wanted reads) files sink result)
+      (λ reads both. ends_played reads files sink (Ok stage) result (both.0)
+      (subst (λ b. Tells (answer_for (is (if clock then Some b else None)) (Ok stage)) sink result) (both.1)
+      (subst (λ (k : Option ℕ). Tells (Shown (is k stage)) sink result) same tells))) read
+
+  -- the line of a fault was told
+  pub refused_ends : (told : Octets) (files : FilesDid) (sink : SinkDid) (fault : StageFault) (result : Status) →
+      Holds told (λ reads. ReadsStage Replay names reads files (Err fault) × ⊤) →
+      Tells (answer_for (is None) (Err fault)) sink result →
+      Holds told (λ reads. Ends (wanted reads) files sink result)
+  refused_ends told files sink fault result read tells =
+      holds_more told (λ reads. ReadsStage Replay names reads files (Err fault) × ⊤)
+      (λ reads. Ends (wanted reads) files sink result)
+      (λ reads both. ends_played reads files sink (Err fault) result (both.0) tells) read
 
 -- A LIFETIME
 

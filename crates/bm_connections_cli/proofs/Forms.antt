@@ -17,11 +17,11 @@ use Rattle.bm_cli.proofs.Faults.{of_fault}
 use Rattle.bm_cli.proofs.Forms.{replay_named}
 use Rattle.bm_cli.proofs.Laws.{ByForm, stage_names, stage_usage}
 use Rattle.bm_connections_cli.specs.Dues.{clock_of, due, usage_line}
-use Rattle.bm_connections_cli.specs.Headline.{IsTableOf}
+use Rattle.bm_connections_cli.specs.Headline.{AreStoriesOf, IsTableOf}
 use Rattle.bm_connections_cli.specs.Lifetime.{explained_text, lifetime_answer, outlives, shown_or_warned}
 use Rattle.bm_connections_cli.specs.Program.{beamer_connections}
 use Rattle.bm_connections_cli.specs.Top.{scripts_in}
-use Rattle.bm_connections_cli.specs.Words.{Asked, Connections, Lifetime}
+use Rattle.bm_connections_cli.specs.Words.{Asked, Connections, Lifetime, Story}
 
 -- no usage line is due of a script
 lines_usage : (warned : Bool) (text octets : List ℕ) → IsDue (shown_or_warned warned text) Usage octets → ⊥
@@ -39,7 +39,9 @@ usage_form : (form : Option Asked) (reads : Reads) (text : List ℕ) → IsDue (
     form ≡ None
 usage_form None reads text is = refl
 usage_form (Some (Connections manner names)) reads text is =
-    absurd (stage_usage (IsTableOf manner.format (clock_of manner names reads)) (reading Replay names reads) text is)
+    absurd (stage_usage (IsTableOf manner.format (clock_of manner.clock names reads)) (reading Replay names reads) text is)
+usage_form (Some (Story chosen names)) reads text is =
+    absurd (stage_usage (AreStoriesOf chosen (clock_of chosen.clock names reads)) (reading Replay names reads) text is)
 usage_form (Some (Lifetime script seconds)) reads text is =
     absurd (script_usage seconds (reads.script script) text is)
 
@@ -57,6 +59,7 @@ named_form (Some asked) reads opens = refl
 -- a file is asked for by the words of any form
 pub form_asks : (asked : Asked) → AsksNone (due (Some asked)) → ⊥
 form_asks (Connections manner names) none = replay_named names.capture names.script nothing (none nothing)
+form_asks (Story chosen names) none = replay_named names.capture names.script nothing (none nothing)
 form_asks (Lifetime script seconds) none = let no = none nothing in cc
 
 -- the script's name alone is due where a bad script is
@@ -64,7 +67,10 @@ script_form : (form : Option Asked) (reads : Reads) (text : List ℕ) → IsDue 
     (due form reads).names ≡ scripts_in form
 script_form None reads text is = absurd (let no = is.0 in cc)
 script_form (Some (Connections manner names)) reads text is =
-    stage_names (IsTableOf manner.format (clock_of manner names reads)) names reads
+    stage_names (IsTableOf manner.format (clock_of manner.clock names reads)) names reads
+    (script_by Replay reads names.script) text is
+script_form (Some (Story chosen names)) reads text is =
+    stage_names (AreStoriesOf chosen (clock_of chosen.clock names reads)) names reads
     (script_by Replay reads names.script) text is
 script_form (Some (Lifetime script seconds)) reads text is = refl
 

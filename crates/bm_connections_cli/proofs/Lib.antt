@@ -7,3 +7,6 @@ pub mod Numbered
 pub mod Told
 pub mod Seconds
 pub mod Outliving
+pub mod Replaying
+pub mod Choosing
+pub mod Joined

@@ -4,19 +4,35 @@ use Rattle.bm_core.specs.declared.events.History.{History}
 use Rattle.bm_core.specs.declared.events.Stage.{Stage}
 use Rattle.bm_cli.specs.declared.mode.Mode.TheVariants.{Replay}
 use Rattle.bm_cli.specs.Headline.{IsMadeBy}
+use Rattle.bm_connections.specs.Base.{base_of}
 use Rattle.bm_connections_cli.specs.declared.words.Format.{Format}
+use Rattle.bm_connections_cli.specs.Stories.{stories}
 use Rattle.bm_connections_cli.specs.Text.{text}
+use Rattle.bm_connections_cli.specs.Words.{Chosen}
 
 -- a replay of the stage: a run that follows its script to the end, and in which every packet is
 -- accounted for
 abbrev pub IsReplayOf : Stage → History → Type 0
 IsReplayOf stage history = (history.stage ≡ stage) × IsMadeBy Replay stage history
 
--- these octets report, in this format and by this clock, the connections of the replay of the stage
-pub record IsTableOf (format : Format) (clock : Option ℕ) (stage : Stage) (octets : List ℕ)
+-- these octets are the text of the replay of a stage and of that of its base
+pub record IsTextOf (text : History → History → List ℕ) (stage : Stage) (octets : List ℕ)
     : Type 0 where
   -- there is a replay
   pub history : History
   pub replay : IsReplayOf stage history
-  -- for every history that is a replay of the stage, the octets are its text
-  pub printed : (h : History) → IsReplayOf stage h → octets ≡ text format clock h
+  -- and one of its base, which is the same stage without its changes
+  pub base : History
+  pub base_replay : IsReplayOf (base_of stage) base
+  -- for every two histories that are such replays, the octets are their text
+  pub printed : (h b : History) → IsReplayOf stage h → IsReplayOf (base_of stage) b →
+      octets ≡ text h b
+
+-- these octets report, in this format and by this clock, the connections of the replay of the
+-- stage, and which of them its changes broke
+abbrev pub IsTableOf : Format → Option ℕ → Stage → List ℕ → Type 0
+IsTableOf format clock stage octets = IsTextOf (text format clock) stage octets
+
+-- these octets tell, by this clock, the stories of the chosen connections of the replay of the stage
+abbrev pub AreStoriesOf : Chosen → Option ℕ → Stage → List ℕ → Type 0
+AreStoriesOf chosen clock stage octets = IsTextOf (stories chosen clock) stage octets

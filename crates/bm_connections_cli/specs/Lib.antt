@@ -1,6 +1,7 @@
 pub mod Top
 pub mod Program
 pub mod Dues
+pub mod Stories
 pub mod Headline
 pub mod Text
 pub mod Csv

@@ -1,6 +1,7 @@
 -- What the words ask for: `CAPTURE SCRIPT`, and after them maybe a format and `--clock`, in either
--- order, each at most once; or `--lifetime SCRIPT`, and after it maybe `--for SECONDS`. Words fit no
--- form if a name is empty or begins with `-`.
+-- order, each at most once; or `CAPTURE SCRIPT --of CLIENT`, and after it maybe a service and
+-- `--clock`; or `--lifetime SCRIPT`, and after it maybe `--for SECONDS`. Words fit no form if a name
+-- is empty or begins with `-`.
 use Rattle.std.specs.Prelude.{ℕ, ◌^◌, nat_lt, List, [], ◌∷◌, Bool, true, false, ◌&&◌, if◌then◌else◌}
 use Rattle.std.specs.Prelude.{Option, Some, None, option_and_then, option_map, String, string_bytes}
 use Rattle.std.specs.Prelude.{codes, map}
@@ -11,10 +12,19 @@ use Rattle.bm_connections_cli.specs.declared.words.Format.{Format}
 use Rattle.bm_connections_cli.specs.declared.words.Format.TheVariants.{Lines, Csv, Json, Svg}
 use Rattle.bm_connections_cli.specs.declared.words.Manner.{Manner}
 
+-- which connections a story is of: those of this client, and if there is a service, of these two;
+-- and whether moments are those of the wall clock
+pub record Chosen : Type 0 where
+  pub client : List ℕ
+  pub service : Option (List ℕ)
+  pub clock : Bool
+
 -- what is asked for: the connections of a replay, in this manner, of the named capture and script;
--- or the lifetime of the script of this name, and whether it is at least this number of seconds
+-- the story of some of them; or the lifetime of the script of this name, and whether it is at least
+-- this number of seconds
 pub data Asked : Type 0 where
   Connections : Manner → Named → Asked
+  Story : Chosen → Named → Asked
   Lifetime : List ℕ → Option ℕ → Asked
 
 -- CONNECTIONS
@@ -47,12 +57,34 @@ manner_of (one ∷ other ∷ []) =
     else None
 manner_of _ = None
 
--- what is asked for, if these words name a capture and a script
-abbrev pub with_names : List ℕ → List ℕ → Manner → Option Asked
-with_names capture script m =
+-- the names, if these words name a capture and a script
+abbrev pub names_in : List ℕ → List ℕ → Option Named
+names_in capture script =
     if is_name capture && is_name script
-    then Some (Connections m (record { capture = capture; script = Some script }))
+    then Some (record { capture = capture; script = Some script })
     else None
+
+-- A STORY
+
+abbrev pub chosen : Bool → List ℕ → Option (List ℕ) → Chosen
+chosen clock client service = record { client = client; service = service; clock = clock }
+
+-- which connections' story is asked for, by the words after `--of`
+abbrev pub chosen_by : List (List ℕ) → Option Chosen
+chosen_by (client ∷ []) = Some (chosen false client None)
+chosen_by (client ∷ word ∷ []) =
+    if is_clock word then Some (chosen true client None)
+    else Some (chosen false client (Some word))
+chosen_by (client ∷ service ∷ word ∷ []) =
+    if is_clock word then Some (chosen true client (Some service)) else None
+chosen_by _ = None
+
+-- what is asked for of the capture and the script of these names, by the options
+abbrev pub of_names : List (List ℕ) → Named → Option Asked
+of_names (word ∷ words) names =
+    if bytes_eq word (codes "--of") then option_map (λ c. Story c names) (chosen_by words)
+    else option_map (λ m. Connections m names) (manner_of (word ∷ words))
+of_names [] names = option_map (λ m. Connections m names) (manner_of [])
 
 -- A LIFETIME
 
@@ -80,7 +112,7 @@ abbrev pub form_of : List (List ℕ) → Option Asked
 form_of (first ∷ second ∷ options) =
     if bytes_eq first (codes "--lifetime")
     then option_and_then (with_script second) (life_of options)
-    else option_and_then (with_names first second) (manner_of options)
+    else option_and_then (of_names options) (names_in first second)
 form_of _ = None
 
 -- the same, for the words as they are given

@@ -1,11 +1,12 @@
 //! What an operator may do about the causes that occur.
 ghost use Rattle.std.specs.Prelude.{◌≡◌, ◌++◌, IfOk, OnOk, Some, flat_map, string_bytes};
+ghost use Rattle.std.specs.Option.{option_copied};
 ghost use Rattle.bm_connections_cli.specs.Advice as spec;
 
 use bm_base::{Memory, Moment, Record, Text, Version};
 use bm_connections::{CauseCount, Connection};
 use bm_core::{Cause, Stage};
-use bm_table::Plan;
+use bm_table::{Change, Plan};
 use bm_trace::cause_word;
 use std::alloc::{AllocError, Global};
 
@@ -17,7 +18,7 @@ fn remedy(cause: Cause) -> &'static str
             "begin the capture earlier, or use tools/open_midstream; or its SYN was dropped"
         }
         Cause::NotHeld => {
-            "close later; behind a retire raise timeout_s, or let every mux switch before; \
+            "close later; after a retire raise timeout_s, or let every mux switch before; \
             without either, a client sent after its own reset"
         }
         Cause::StaleMux => "let every mux switch before connections open, or route by port",
@@ -58,9 +59,24 @@ pub(crate) fn advice_text(alloc: Global, counts: &[CauseCount]) -> Result<Text, 
     Ok(Text::of(text))
 }
 
+/// A line of advice if connections are left open after a change.
+pub(crate) fn open_text(alloc: Global, connections: u64) -> Result<Text, Memory>
+    ensures { IfOk result (λ text. text ≡ spec.open_line connections) }
+{
+    let mut text = String::new(alloc);
+    if connections > 0 {
+        writeln!(
+            text,
+            "advice open-at-end: the capture doesn't show whether these connections break; \
+            capture longer, or take a timeout_s for connections of any life (--lifetime)"
+        )?;
+    }
+    Ok(Text::of(text))
+}
+
 /// A line of advice if there are no connections, since nothing is steered.
-pub(crate) fn unsteered_text(alloc: Global, table: &[Connection]) -> Result<Text, Memory>
-    ensures { IfOk result (λ text. text ≡ spec.unsteered_line table.now) }
+pub(crate) fn nothing_text(alloc: Global, table: &[Connection]) -> Result<Text, Memory>
+    ensures { IfOk result (λ text. text ≡ spec.nothing_line table.now) }
 {
     let mut text = String::new(alloc);
     if table.is_empty() {
@@ -87,24 +103,23 @@ fn ends_within(records: &[Record], timeout: u64, moment: Moment) -> bool
     records.iter().all(|record| record.moment.0.saturating_sub(moment.0) < timeout)
 }
 
-/// The moment of the script's last change.
-fn last_moment(plan: &Plan) -> Option<Moment>
-    ensures { result ≡ spec.last_moment plan.now.changes }
+/// The plan's last change.
+fn last_change(plan: &Plan) -> Option<&Change>
+    ensures { option_copied result ≡ spec.last_change plan.now.changes }
 {
-    let before = plan.versions().saturating_sub(1);
-    Some(plan.next_change(Version(before))?.moment)
+    plan.next_change(Version(plan.versions().saturating_sub(1)))
 }
 
-/// A line of advice if the capture ends before the script's last change, or before the timeout
-/// after that has passed.
+/// A line of advice if the capture ends before the script's last change, or if this moves buckets
+/// before the timeout after it has passed.
 pub(crate) fn end_text(alloc: Global, stage: &Stage) -> Result<Text, Memory>
     ensures { IfOk result (λ text. text ≡ spec.end_line stage.now) }
 {
     let records = stage.capture.records.items();
     let timeout = stage.script.setting.timeout;
     let mut text = String::new(alloc);
-    if let Some(moment) = last_moment(&stage.script.plan) {
-        write_end(&mut text, records, timeout, moment)?;
+    if let Some(change) = last_change(&stage.script.plan) {
+        write_end(&mut text, records, timeout, change)?;
     }
     Ok(Text::of(text))
 }
@@ -113,21 +128,21 @@ fn write_end(
     text: &mut String,
     records: &[Record],
     timeout: u64,
-    change: Moment,
+    change: &Change,
 ) -> Result<(), AllocError>
     ensures { OnOk result (string_bytes text.new
-        ≡ string_bytes text.old ++ spec.end_text records.now timeout (Some change)) }
+        ≡ string_bytes text.old ++ spec.end_text records.now timeout (Some change.now)) }
 {
-    if ends_before(records, change) {
+    if ends_before(records, change.moment) {
         writeln!(
             text,
-            "advice change-behind-the-end: the capture ends before the last change; lower its \
+            "advice change-after-the-end: the capture ends before the last change; lower its \
             at_ns, or capture longer"
         )
-    } else if ends_within(records, timeout, change) {
+    } else if !change.moves.items().is_empty() && ends_within(records, timeout, change.moment) {
         writeln!(
             text,
-            "advice timeout-behind-the-end: the capture ends before timeout_s has passed since \
+            "advice timeout-after-the-end: the capture ends before timeout_s has passed since \
             the last change; capture longer, to see what comes too late"
         )
     } else {

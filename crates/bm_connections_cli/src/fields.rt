@@ -2,13 +2,16 @@
 ghost use Rattle.std.specs.Prelude.{◌≡◌, ◌++◌, ◌∷◌, [], List, ℕ, IfOk, OnOk, decimal, flat_map};
 ghost use Rattle.csv.specs.Records.{fields_of};
 ghost use Rattle.bm_trace.specs.Words.{endpoint};
+ghost use Rattle.bm_connections.specs.Base.{compared_with};
+ghost use Rattle.bm_connections.specs.Text.{ending_word};
 ghost use Rattle.bm_connections.specs.Times as times;
 ghost use Rattle.bm_connections_cli.specs.Csv as spec;
 ghost use Rattle.bm_connections_cli.specs.Inside.Rows.{HasWritten};
 
 use bm_base::{Memory, ServerId};
 use bm_connections::{
-    Break, Clock, Connection, Forwarding, SecondsText, Sight, Tally, TimeText, shown_rack,
+    Break, Clock, Compared, Connection, Ending, EndingWord, Forwarding, Origin, SecondsText, Sight,
+    Tally, TimeText, compare_one, origin_word, shown_rack,
 };
 use bm_core::{Cause, Verdict};
 use bm_trace::{Endpoint, cause_word};
@@ -38,6 +41,23 @@ fn cause_field(cause: Option<Cause>) -> &'static str
         None => "",
         Some(cause) => cause_word(cause),
     }
+}
+
+/// What broke a connection, or nothing.
+fn origin_field(origin: Option<Origin>) -> &'static str
+    ensures { result.now ≡ spec.origin_field origin }
+{
+    match origin {
+        None => "",
+        Some(origin) => origin_word(origin),
+    }
+}
+
+/// Whether a connection loses data, or nothing.
+fn losing_field(losing_data: bool) -> &'static str
+    ensures { result.now ≡ spec.losing_field losing_data }
+{
+    if losing_data { "losing-data" } else { "" }
 }
 
 /// The fields of a record, which contracts see as a list of texts.
@@ -184,6 +204,26 @@ impl Fields {
         }
     }
 
+    /// Appends how a connection ended.
+    fn ending(self, ending: Ending) -> Result<Fields, AllocError>
+        ensures { IfOk result (λ fields. fields ≡ self ++ ending_word ending ∷ []) }
+    {
+        let text = format!(in self.alloc; "{}", EndingWord(ending))?;
+        self.text(text.as_str())
+    }
+
+    /// Appends whether the change broke a connection, how it ended, how many arrivals broke nothing
+    /// since it had ended itself, and whether it loses data.
+    fn end_fields(self, c: &Compared) -> Result<Fields, AllocError>
+        ensures { IfOk result (λ fields. fields ≡ self ++ spec.end_fields c.now) }
+    {
+        let one = &c.connection;
+        self.text(origin_field(c.origin))?
+            .ending(one.ending)?
+            .number(one.tally.after_its_end)?
+            .text(losing_field(one.losing_data))
+    }
+
     /// Appends nanoseconds as seconds.
     fn seconds(self, wait: u64) -> Result<Fields, AllocError>
         ensures { IfOk result (λ fields. fields ≡ self ++ times.seconds_text wait ∷ []) }
@@ -206,13 +246,9 @@ fn seen_fields(alloc: Global, clock: Clock, c: &Connection) -> Result<Fields, Al
         .server(c.server)
 }
 
-fn connection_fields(
-    alloc: Global,
-    clock: Clock,
-    racks: u16,
-    c: &Connection,
-) -> Result<Fields, AllocError>
-    ensures { IfOk result (λ fields. fields ≡ spec.connection_fields clock.0 racks c.now) }
+/// The fields of a connection up to the rack of the server that accepted it last.
+fn own_fields(alloc: Global, clock: Clock, racks: u16, c: &Connection) -> Result<Fields, AllocError>
+    ensures { IfOk result (λ fields. fields ≡ spec.own_fields clock.0 racks c.now) }
 {
     seen_fields(alloc, clock, c)?
         .tally(c.tally)?
@@ -222,8 +258,19 @@ fn connection_fields(
         .rack(shown_rack(racks, c.server))
 }
 
+fn connection_fields(
+    alloc: Global,
+    clock: Clock,
+    racks: u16,
+    c: &Compared,
+) -> Result<Fields, AllocError>
+    ensures { IfOk result (λ fields. fields ≡ spec.connection_fields clock.0 racks c.now) }
+{
+    own_fields(alloc, clock, racks, &c.connection)?.end_fields(c)
+}
+
 /// The names of the fields.
-const NAMES: [&[u8]; 28] = [
+const NAMES: [&[u8]; 32] = [
     b"client",
     b"service",
     b"opened",
@@ -252,6 +299,10 @@ const NAMES: [&[u8]; 28] = [
     b"refused_verdict",
     b"refused_cause",
     b"rack",
+    b"why",
+    b"end",
+    b"after_its_end",
+    b"losing_data",
 ];
 
 /// Writes the names of the fields.
@@ -282,7 +333,7 @@ fn write_connection<W: Write + Drop>(
     csv: &mut Writer<W>,
     clock: Clock,
     racks: u16,
-    c: &Connection,
+    c: &Compared,
 ) -> Result<(), Memory>
     ensures { (octets : List ℕ) → HasWritten W.contents csv.old octets
         → OnOk result (HasWritten W.contents csv.new
@@ -297,14 +348,16 @@ fn write_connections<W: Write + Drop>(
     csv: &mut Writer<W>,
     clock: Clock,
     racks: u16,
-    connections: &[Connection],
+    table: &[Connection],
+    wholes: &[bool],
 ) -> Result<(), Memory>
     ensures { (octets : List ℕ) → HasWritten W.contents csv.old octets
-        → OnOk result (HasWritten W.contents csv.new
-        (octets ++ flat_map (spec.connection_record clock.0 racks) connections.now)) }
+        → OnOk result (HasWritten W.contents csv.new (octets
+        ++ flat_map (spec.connection_record clock.0 racks) (compared_with table.now wholes.now))) }
 {
-    for connection in connections {
-        write_connection(alloc, csv, clock, racks, connection)?;
+    for (place, connection) in table.iter().enumerate() {
+        let compared = compare_one(wholes, place, connection);
+        write_connection(alloc, csv, clock, racks, &compared)?;
     }
     Ok(())
 }
@@ -315,13 +368,14 @@ pub(crate) fn table_csv(
     alloc: Global,
     clock: Clock,
     racks: u16,
-    connections: &[Connection],
+    table: &[Connection],
+    wholes: &[bool],
 ) -> Result<Vec<u8>, Memory>
-    ensures { IfOk result (λ octets. octets.items ≡ spec.table_csv clock.0 racks connections.now) }
+    ensures { IfOk result (λ octets. octets.items ≡ spec.table_csv clock.0 racks (compared_with table.now wholes.now)) }
 {
     let mut csv = Writer::from_writer(Vec::new(alloc));
     write_header(&mut csv)?;
-    write_connections(alloc, &mut csv, clock, racks, connections)?;
+    write_connections(alloc, &mut csv, clock, racks, table, wholes)?;
     match csv.into_inner() {
         Ok(octets) => Ok(octets),
         Err(_) => Err(Memory),

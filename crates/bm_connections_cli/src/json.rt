@@ -1,12 +1,18 @@
 //! Connections as JSON, a line for each.
 ghost use Rattle.std.specs.Prelude.{◌≡◌, ◌++◌, IfOk, OnOk, string_bytes};
+ghost use Rattle.serde_json.specs.Data.{string};
 ghost use Rattle.serde_json.specs.View.{view};
 ghost use Rattle.bm_trace.specs.Words.{endpoint};
+ghost use Rattle.bm_connections.specs.Base.{compared_with};
+ghost use Rattle.bm_connections.specs.Text.{ending_word};
 ghost use Rattle.bm_connections_cli.specs.Json as spec;
 
 use crate::fields::verdict_field;
 use bm_base::{Memory, ServerId, Text};
-use bm_connections::{Break, Clock, Connection, Forwarding, Sight, Tally, shown_rack};
+use bm_connections::{
+    Break, Clock, Compared, Connection, Ending, EndingWord, Forwarding, Origin, Sight, Tally,
+    compare_one, origin_word, shown_rack,
+};
 use bm_core::Cause;
 use bm_trace::{Endpoint, cause_word};
 use serde_json::{Value, json};
@@ -101,6 +107,7 @@ fn tally_value(alloc: Global, tally: Tally) -> Result<Value, AllocError>
 {
     json!(in alloc; {
         "accepted": tally.accepted,
+        "after_its_end": tally.after_its_end,
         "processed": tally.processed,
         "forwarded": tally.forwarded,
         "reset": tally.reset,
@@ -116,13 +123,43 @@ fn endpoint_text(alloc: Global, addr: u32, port: u16) -> Result<String, AllocErr
     format!(in alloc; "{}", Endpoint { addr, port })
 }
 
+/// What broke a connection, or null.
+fn origin_value(alloc: Global, origin: Option<Origin>) -> Result<Value, AllocError>
+    ensures { IfOk result (λ value. view value ≡ spec.origin_value origin) }
+{
+    match origin {
+        None => Ok(Value::Null),
+        Some(origin) => json!(in alloc; origin_word(origin)),
+    }
+}
+
+/// How a connection ended.
+fn ending_value(alloc: Global, ending: Ending) -> Result<Value, AllocError>
+    ensures { IfOk result (λ value. view value ≡ string (ending_word ending)) }
+{
+    let word = format!(in alloc; "{}", EndingWord(ending))?;
+    json!(in alloc; word.as_str())
+}
+
+/// How a connection ended, whether it loses data, and what broke it.
+fn outcome_value(alloc: Global, origin: Option<Origin>, c: &Connection) -> Result<Value, AllocError>
+    ensures { IfOk result (λ value. view value ≡ spec.outcome_value origin c.now) }
+{
+    json!(in alloc; {
+        "end": ending_value(alloc, c.ending)?,
+        "losing_data": c.losing_data,
+        "why": origin_value(alloc, origin)?
+    })
+}
+
 fn connection_value(
     alloc: Global,
     clock: Clock,
     racks: u16,
+    origin: Option<Origin>,
     c: &Connection,
 ) -> Result<Value, AllocError>
-    ensures { IfOk result (λ value. view value ≡ spec.connection_value clock.0 racks c.now) }
+    ensures { IfOk result (λ value. view value ≡ spec.connection_value clock.0 racks origin c.now) }
 {
     json!(in alloc; {
         "client": endpoint_text(alloc, c.flow.src, c.flow.sport)?,
@@ -134,7 +171,8 @@ fn connection_value(
         "arrivals": tally_value(alloc, c.tally)?,
         "broken": break_or_null(alloc, clock, c.broken)?,
         "forward": forward_value(alloc, clock, c.forwarded)?,
-        "refused": break_or_null(alloc, clock, c.refused)?
+        "refused": break_or_null(alloc, clock, c.refused)?,
+        "outcome": outcome_value(alloc, origin, c)?
     })
 }
 
@@ -144,12 +182,12 @@ fn write_value(
     text: &mut String,
     clock: Clock,
     racks: u16,
-    c: &Connection,
+    c: &Compared,
 ) -> Result<(), AllocError>
     ensures { OnOk result
         (string_bytes text.new ≡ string_bytes text.old ++ spec.json_line clock.0 racks c.now) }
 {
-    let line = connection_value(alloc, clock, racks, c)?.to_string(alloc)?;
+    let line = connection_value(alloc, clock, racks, c.origin, &c.connection)?.to_string(alloc)?;
     writeln!(text, "{line}")
 }
 
@@ -158,13 +196,15 @@ fn write_values(
     text: &mut String,
     clock: Clock,
     racks: u16,
-    connections: &[Connection],
+    table: &[Connection],
+    wholes: &[bool],
 ) -> Result<(), AllocError>
-    ensures { OnOk result (string_bytes text.new
-        ≡ string_bytes text.old ++ spec.json_lines clock.0 racks connections.now) }
+    ensures { OnOk result (string_bytes text.new ≡ string_bytes text.old
+        ++ spec.json_lines clock.0 racks (compared_with table.now wholes.now)) }
 {
-    for connection in connections {
-        write_value(alloc, text, clock, racks, connection)?;
+    for (place, connection) in table.iter().enumerate() {
+        let compared = compare_one(wholes, place, connection);
+        write_value(alloc, text, clock, racks, &compared)?;
     }
     Ok(())
 }
@@ -174,11 +214,13 @@ pub(crate) fn json_text(
     alloc: Global,
     clock: Clock,
     racks: u16,
-    connections: &[Connection],
+    table: &[Connection],
+    wholes: &[bool],
 ) -> Result<Text, Memory>
-    ensures { IfOk result (λ text. text ≡ spec.json_lines clock.0 racks connections.now) }
+    ensures { IfOk result (λ text. text
+        ≡ spec.json_lines clock.0 racks (compared_with table.now wholes.now)) }
 {
     let mut text = String::new(alloc);
-    write_values(alloc, &mut text, clock, racks, connections)?;
+    write_values(alloc, &mut text, clock, racks, table, wholes)?;
     Ok(Text::of(text))
 }

@@ -6,13 +6,16 @@
 mod advice;
 mod changes;
 mod fields;
+mod findings;
 mod json;
 mod lifetime;
 mod outlived;
 mod parts;
 mod put;
+mod replays;
 mod replies;
 mod servers;
+mod stories;
 mod tell;
 mod top;
 mod words;

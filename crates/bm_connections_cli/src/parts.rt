@@ -3,100 +3,249 @@ ghost use Rattle.std.specs.Prelude.{◌≡◌, ◌++◌, ◌∷◌, [], IfOk, Is
 ghost use Rattle.bm_table.specs.Scripts.{IsSoundScript};
 ghost use Rattle.bm_core.specs.Runs.{IsRun};
 ghost use Rattle.bm_trace.specs.Report.{note_line};
-ghost use Rattle.bm_trace.specs.Swept.{AreCauses};
+ghost use Rattle.bm_connections.specs.Base.{compared_with};
 ghost use Rattle.bm_connections.specs.Connections as tables;
-ghost use Rattle.bm_connections.specs.Counts as counts;
-ghost use Rattle.bm_connections.specs.Late.{longest_late};
-ghost use Rattle.bm_connections.specs.Replies.{replies};
 ghost use Rattle.bm_drawing.specs.Drawing as draw;
-ghost use Rattle.bm_connections_cli.specs.Servers.{servers_of};
+ghost use Rattle.bm_connections_cli.specs.Inside.Findings.{AreFindings};
 ghost use Rattle.bm_connections_cli.specs.Text as spec;
 ghost use Rattle.bm_connections_cli.specs.declared.words.Format.TheVariants.{Csv, Json};
 
-use crate::advice::{advice_text, end_text, unsteered_text};
+use crate::advice::{advice_text, end_text, nothing_text, open_text};
 use crate::changes::changes_text;
 use crate::fields::table_csv;
+use crate::findings::{Findings, find_out};
 use crate::json::json_text;
 use crate::outlived::outlived_text;
 use crate::replies::replies_text;
-use crate::servers::servers_of;
 use bm_base::{List, Memory, Text};
 use bm_connections::{
-    Clock, Connection, ServerCount, Summary, causes_text, connections, late_text, servers_text,
-    summary_of, table_text,
+    Clock, Connection, answer_of, answer_text, causes_text, connections, copies_text, late_text,
+    moved_thrice_text, needed_changes_text, needed_servers_text, open_ends_text, servers_text,
+    table_text, unsteered_text,
 };
 use bm_core::History;
 use bm_drawing::drawing;
-use bm_trace::{CauseList, sweep};
+use bm_trace::sweep;
 use std::alloc::Global;
 
-/// The lines of connections, servers, changes, replies to commands and causes, of what came too
-/// late, of a capture that is cut short, and of advice, part by part.
+/// What is reported in lines, part by part, by which of the connections are whole in the base.
 #[tactic(auto, using(bm_trace::proofs::Ranged::ranges_of))]
-pub(crate) fn lines_of(alloc: Global, clock: Clock, h: &History) -> Result<Vec<Text>, Memory>
+pub(crate) fn lines_of(
+    alloc: Global,
+    clock: Clock,
+    h: &History,
+    wholes: &[bool],
+) -> Result<Vec<Text>, Memory>
     requires { IsRun h.now }
-    ensures { IfOk result (λ parts. parts.items ≡ spec.parts clock.0 h.now) }
+    ensures { IfOk result (λ parts. parts.items ≡ spec.parts clock.0 h.now
+        (compared_with (tables.connections h.now) wholes.now)) }
 {
     let causes = sweep(alloc, h)?;
     let table = connections(alloc, h, &causes)?;
-    let summary = summary_in(alloc, h, &causes, table.items())?;
-    parts_of(alloc, clock, h, table.items(), &summary)
+    let found = find_out(alloc, h, &causes, table.items())?;
+    parts_of(alloc, clock, h, table.items(), wholes, &found)
 }
 
-/// The parts, from the table of connections and the summary.
-#[tactic(auto, using(crate::proofs::Told::replies_told))]
+/// The parts, from the table of connections and the findings.
 fn parts_of(
     alloc: Global,
     clock: Clock,
     h: &History,
     table: &[Connection],
-    summary: &Summary,
+    wholes: &[bool],
+    found: &Findings,
 ) -> Result<Vec<Text>, Memory>
     requires script { IsSoundScript h.now.stage.script }
     requires table { table.now ≡ tables.connections h.now }
-    requires causes { summary.now.causes ≡ counts.causes_in h.now }
-    requires servers { summary.now.servers
-        ≡ counts.server_counts h.now (servers_of h.now.stage.script) }
-    requires late { summary.now.late ≡ longest_late h.now }
-    requires replies { summary.now.replies ≡ replies h.now }
-    ensures { IfOk result (λ parts. parts.items ≡ spec.parts clock.0 h.now) }
+    requires found { AreFindings h.now found.now }
+    ensures { IfOk result (λ parts. parts.items
+        ≡ spec.parts clock.0 h.now (compared_with table.now wholes.now)) }
 {
-    let causes = summary.causes.items();
-    let replies = summary.replies.items();
-    let mut parts = first_parts(alloc, clock, h, table, summary.servers.items())?;
-    add(&mut parts, replies_text(alloc, clock, replies))?;
-    add(&mut parts, causes_text(alloc, causes))?;
-    add(&mut parts, late_text(alloc, summary.late))?;
-    add(&mut parts, cut_text(alloc, h.stage.capture.cut))?;
-    add(&mut parts, advice_text(alloc, causes))?;
-    add(&mut parts, unsteered_text(alloc, table))?;
-    add(&mut parts, end_text(alloc, &h.stage))?;
+    let mut parts = Vec::with_capacity(alloc, 19)?;
+    add_outcome(alloc, &mut parts, clock, h, table, wholes, found)?;
+    add_reasons(alloc, &mut parts, h, table, found)?;
     Ok(parts)
 }
 
-/// The parts on connections, on servers, and on changes and what they allow.
-fn first_parts(
+/// Appends what became of connections, servers and changes.
+fn add_outcome(
     alloc: Global,
+    parts: &mut Vec<Text>,
     clock: Clock,
     h: &History,
     table: &[Connection],
-    servers: &[ServerCount],
-) -> Result<Vec<Text>, Memory>
+    wholes: &[bool],
+    found: &Findings,
+) -> Result<(), Memory>
     requires script { IsSoundScript h.now.stage.script }
     requires table { table.now ≡ tables.connections h.now }
-    requires servers { servers.now ≡ counts.server_counts h.now (servers_of h.now.stage.script) }
-    ensures { IfOk result (λ parts. parts.items ≡ spec.first_parts clock.0 h.now) }
+    requires found { AreFindings h.now found.now }
+    ensures { OnOk result (parts.new.items ≡ parts.old.items
+        ++ spec.outcome_parts clock.0 h.now (compared_with table.now wholes.now)) }
+{
+    add_table(alloc, parts, clock, h, table, wholes, found)?;
+    add_changes(alloc, parts, clock, h, table, found)?;
+    add_replies(alloc, parts, clock, h, found)?;
+    Ok(())
+}
+
+/// Appends why, and what to do.
+fn add_reasons(
+    alloc: Global,
+    parts: &mut Vec<Text>,
+    h: &History,
+    table: &[Connection],
+    found: &Findings,
+) -> Result<(), Memory>
+    requires table { table.now ≡ tables.connections h.now }
+    requires found { AreFindings h.now found.now }
+    ensures { OnOk result (parts.new.items ≡ parts.old.items ++ spec.reason_parts h.now) }
+{
+    add_causes(alloc, parts, h, found)?;
+    add_capture(alloc, parts, h, found)?;
+    add_advice(alloc, parts, h, found)?;
+    add_capture_advice(alloc, parts, h, table, found)?;
+    Ok(())
+}
+
+/// Appends the answer, the connections and the servers.
+fn add_table(
+    alloc: Global,
+    parts: &mut Vec<Text>,
+    clock: Clock,
+    h: &History,
+    table: &[Connection],
+    wholes: &[bool],
+    found: &Findings,
+) -> Result<(), Memory>
+    requires table { table.now ≡ tables.connections h.now }
+    requires found { AreFindings h.now found.now }
+    ensures { OnOk result (parts.new.items ≡ parts.old.items
+        ++ spec.table_parts clock.0 h.now (compared_with table.now wholes.now)) }
+{
+    let racks = h.stage.script.setting.racks;
+    let summary = &found.summary;
+    let answer = answer_of(table, wholes, found.ends.connections, summary.late);
+    add(parts, answer_text(alloc, &answer))?;
+    add(parts, table_text(alloc, clock, racks, table, wholes))?;
+    add(parts, servers_text(alloc, summary.servers.items()))?;
+    Ok(())
+}
+
+/// Appends the changes, what they allow, how long they need the old servers, and which connections
+/// after them are left open.
+fn add_changes(
+    alloc: Global,
+    parts: &mut Vec<Text>,
+    clock: Clock,
+    h: &History,
+    table: &[Connection],
+    found: &Findings,
+) -> Result<(), Memory>
+    requires script { IsSoundScript h.now.stage.script }
+    requires table { table.now ≡ tables.connections h.now }
+    requires found { AreFindings h.now found.now }
+    ensures { OnOk result
+        (parts.new.items ≡ parts.old.items ++ spec.change_parts clock.0 h.now) }
 {
     let script = &h.stage.script;
-    let mut parts = Vec::with_capacity(alloc, 11)?;
+    let racks = script.setting.racks;
+    add(parts, changes_text(alloc, clock, racks, &script.plan, &[]))?;
+    add(parts, outlived_text(alloc, script, table))?;
     add(
-        &mut parts,
-        table_text(alloc, clock, script.setting.racks, table),
+        parts,
+        needed_changes_text(alloc, clock, found.needs.changes.items()),
     )?;
-    add(&mut parts, servers_text(alloc, servers))?;
-    add(&mut parts, changes_text(alloc, clock, &script.plan))?;
-    add(&mut parts, outlived_text(alloc, script, table))?;
-    Ok(parts)
+    add(parts, open_ends_text(alloc, found.ends.changes.items()))?;
+    Ok(())
+}
+
+/// Appends what the servers replied to commands, and how long they were needed after they retired.
+#[tactic(auto, using(crate::proofs::Told::replies_told))]
+fn add_replies(
+    alloc: Global,
+    parts: &mut Vec<Text>,
+    clock: Clock,
+    h: &History,
+    found: &Findings,
+) -> Result<(), Memory>
+    requires found { AreFindings h.now found.now }
+    ensures { OnOk result
+        (parts.new.items ≡ parts.old.items ++ spec.reply_parts clock.0 h.now) }
+{
+    add(
+        parts,
+        replies_text(alloc, clock, found.summary.replies.items()),
+    )?;
+    add(
+        parts,
+        needed_servers_text(alloc, clock, found.needs.servers.items()),
+    )?;
+    Ok(())
+}
+
+/// Appends the causes of what broke, what came too late, and what moved three times.
+fn add_causes(
+    alloc: Global,
+    parts: &mut Vec<Text>,
+    h: &History,
+    found: &Findings,
+) -> Result<(), Memory>
+    requires found { AreFindings h.now found.now }
+    ensures { OnOk result (parts.new.items ≡ parts.old.items ++ spec.cause_parts h.now) }
+{
+    add(parts, causes_text(alloc, found.summary.causes.items()))?;
+    add(parts, late_text(alloc, found.summary.late))?;
+    add(parts, moved_thrice_text(alloc, found.needs.thirds.items()))?;
+    Ok(())
+}
+
+/// Appends what isn't steered, and whether the capture is cut short.
+fn add_capture(
+    alloc: Global,
+    parts: &mut Vec<Text>,
+    h: &History,
+    found: &Findings,
+) -> Result<(), Memory>
+    requires found { AreFindings h.now found.now }
+    ensures { OnOk result (parts.new.items ≡ parts.old.items ++ spec.capture_parts h.now) }
+{
+    add(parts, unsteered_text(alloc, &found.unsteered))?;
+    add(parts, cut_text(alloc, h.stage.capture.cut))?;
+    Ok(())
+}
+
+/// Appends what to do about causes, and about connections that are left open.
+fn add_advice(
+    alloc: Global,
+    parts: &mut Vec<Text>,
+    h: &History,
+    found: &Findings,
+) -> Result<(), Memory>
+    requires found { AreFindings h.now found.now }
+    ensures { OnOk result (parts.new.items ≡ parts.old.items ++ spec.advice_parts h.now) }
+{
+    add(parts, advice_text(alloc, found.summary.causes.items()))?;
+    add(parts, open_text(alloc, found.ends.connections))?;
+    Ok(())
+}
+
+/// Appends what to do about the capture.
+fn add_capture_advice(
+    alloc: Global,
+    parts: &mut Vec<Text>,
+    h: &History,
+    table: &[Connection],
+    found: &Findings,
+) -> Result<(), Memory>
+    requires table { table.now ≡ tables.connections h.now }
+    requires found { AreFindings h.now found.now }
+    ensures { OnOk result (parts.new.items ≡ parts.old.items ++ spec.capture_advice h.now) }
+{
+    add(parts, copies_text(alloc, found.copies))?;
+    add(parts, nothing_text(alloc, table))?;
+    add(parts, end_text(alloc, &h.stage))?;
+    Ok(())
 }
 
 /// Appends the part, unless memory was refused.
@@ -105,26 +254,6 @@ fn add(parts: &mut Vec<Text>, part: Result<Text, Memory>) -> Result<(), Memory>
 {
     parts.push(part?)?;
     Ok(())
-}
-
-/// The summary of the history, with the servers of its script.
-fn summary_in(
-    alloc: Global,
-    h: &History,
-    causes: &CauseList,
-    table: &[Connection],
-) -> Result<Summary, Memory>
-    requires run { IsRun h.now }
-    requires causes { AreCauses h.now causes.now }
-    requires table { table.now ≡ tables.connections h.now }
-    ensures causes { IfOk result (λ summary. summary.causes ≡ counts.causes_in h.now) }
-    ensures servers { IfOk result (λ summary. summary.servers
-        ≡ counts.server_counts h.now (servers_of h.now.stage.script)) }
-    ensures late { IfOk result (λ summary. summary.late ≡ longest_late h.now) }
-    ensures replies { IfOk result (λ summary. summary.replies ≡ replies h.now) }
-{
-    let servers = servers_of(alloc, &h.stage.script)?;
-    summary_of(alloc, h, causes, table, servers.as_slice())
 }
 
 /// The note that the record of this number is cut short, or nothing.
@@ -148,27 +277,51 @@ fn table_of(alloc: Global, h: &History) -> Result<List<Connection>, Memory>
 }
 
 /// The fields of connections.
-pub(crate) fn fields_of(alloc: Global, clock: Clock, h: &History) -> Result<Vec<u8>, Memory>
+pub(crate) fn fields_of(
+    alloc: Global,
+    clock: Clock,
+    h: &History,
+    wholes: &[bool],
+) -> Result<Vec<u8>, Memory>
     requires { IsRun h.now }
-    ensures { IfOk result (λ octets. octets.items ≡ spec.text Csv clock.0 h.now) }
+    ensures { IfOk result (λ octets. octets.items ≡ spec.report Csv clock.0 h.now
+        (compared_with (tables.connections h.now) wholes.now)) }
 {
     let table = table_of(alloc, h)?;
-    table_csv(alloc, clock, h.stage.script.setting.racks, table.items())
+    table_csv(
+        alloc,
+        clock,
+        h.stage.script.setting.racks,
+        table.items(),
+        wholes,
+    )
 }
 
 /// Connections as JSON.
-pub(crate) fn values_of(alloc: Global, clock: Clock, h: &History) -> Result<Text, Memory>
+pub(crate) fn values_of(
+    alloc: Global,
+    clock: Clock,
+    h: &History,
+    wholes: &[bool],
+) -> Result<Text, Memory>
     requires { IsRun h.now }
-    ensures { IfOk result (λ text. text ≡ spec.text Json clock.0 h.now) }
+    ensures { IfOk result (λ text. text ≡ spec.report Json clock.0 h.now
+        (compared_with (tables.connections h.now) wholes.now)) }
 {
     let table = table_of(alloc, h)?;
-    json_text(alloc, clock, h.stage.script.setting.racks, table.items())
+    json_text(
+        alloc,
+        clock,
+        h.stage.script.setting.racks,
+        table.items(),
+        wholes,
+    )
 }
 
-pub(crate) fn drawing_of(alloc: Global, h: &History) -> Result<Text, Memory>
+pub(crate) fn drawing_of(alloc: Global, clock: Clock, h: &History) -> Result<Text, Memory>
     requires { IsRun h.now }
-    ensures { IfOk result (λ text. text ≡ draw.drawing h.now (tables.connections h.now)) }
+    ensures { IfOk result (λ text. text ≡ draw.drawing clock.0 h.now (tables.connections h.now)) }
 {
     let table = table_of(alloc, h)?;
-    drawing(alloc, h, table.items())
+    drawing(alloc, clock, h, table.items())
 }

@@ -1,14 +1,17 @@
 //! Writing the connections of a history.
+ghost use Rattle.std.specs.Prelude.{flat_map};
 ghost use Rattle.bm_core.specs.Runs.{IsRun};
 ghost use Rattle.bm_cli.specs.Statuses.{Writes, did};
+ghost use Rattle.bm_connections.specs.Base.{compared_with};
 ghost use Rattle.bm_connections.specs.Connections.{connections};
 ghost use Rattle.bm_drawing.specs.Drawing.{drawing};
-ghost use Rattle.bm_connections_cli.specs.Text.{text};
+ghost use Rattle.bm_connections_cli.specs.Text.{report};
 ghost use Rattle.bm_connections_cli.specs.declared.words.Format.TheVariants as in_format;
 
 use crate::parts::{drawing_of, fields_of, lines_of, values_of};
 use crate::put::put_parts;
 use crate::words::Format;
+use bm_base::{Memory, Text};
 use bm_cli::{Status, say};
 use bm_connections::Clock;
 use bm_core::History;
@@ -22,63 +25,94 @@ pub(crate) fn tell<K: Sink>(
     format: Format,
     clock: Clock,
     history: &History,
+    wholes: &[bool],
     out: &mut K,
 ) -> Status
     requires { IsRun history.now }
-    ensures { Writes Status.Done (text format clock.0 history.now)
+    ensures { Writes Status.Done
+        (report format clock.0 history.now (compared_with (connections history.now) wholes.now))
         (did K.written K.faults out.old out.new) result }
 {
     match format {
-        Format::Lines => tell_lines(alloc, clock, history, out),
-        Format::Csv => tell_fields(alloc, clock, history, out),
-        Format::Json => tell_values(alloc, clock, history, out),
-        Format::Svg => tell_drawing(alloc, history, out),
+        Format::Lines => tell_lines(alloc, clock, history, wholes, out),
+        Format::Csv => tell_fields(alloc, clock, history, wholes, out),
+        Format::Json => tell_values(alloc, clock, history, wholes, out),
+        Format::Svg => tell_drawing(alloc, clock, history, out),
     }
 }
 
-fn tell_lines<K: Sink>(alloc: Global, clock: Clock, history: &History, out: &mut K) -> Status
+fn tell_lines<K: Sink>(
+    alloc: Global,
+    clock: Clock,
+    history: &History,
+    wholes: &[bool],
+    out: &mut K,
+) -> Status
     requires { IsRun history.now }
-    ensures { Writes Status.Done (text in_format.Lines clock.0 history.now)
+    ensures { Writes Status.Done (report in_format.Lines clock.0 history.now
+        (compared_with (connections history.now) wholes.now))
         (did K.written K.faults out.old out.new) result }
 {
-    let Ok(parts) = lines_of(alloc, clock, history) else {
-        return Status::Memory;
-    };
-    match put_parts(out, parts.as_slice()) {
+    match lines_of(alloc, clock, history, wholes) {
+        Ok(parts) => tell_parts(parts.as_slice(), out),
+        Err(Memory) => Status::Memory,
+    }
+}
+
+/// Writes the texts, one after the other.
+fn tell_parts<K: Sink>(parts: &[Text], out: &mut K) -> Status
+    ensures { Writes Status.Done (flat_map (λ part. part) parts.now)
+        (did K.written K.faults out.old out.new) result }
+{
+    match put_parts(out, parts) {
         Ok(()) => Status::Done,
         Err(IoFault::Failed) => Status::WriteFault,
         Err(IoFault::Memory) => Status::Memory,
     }
 }
 
-fn tell_fields<K: Sink>(alloc: Global, clock: Clock, history: &History, out: &mut K) -> Status
+fn tell_fields<K: Sink>(
+    alloc: Global,
+    clock: Clock,
+    history: &History,
+    wholes: &[bool],
+    out: &mut K,
+) -> Status
     requires { IsRun history.now }
-    ensures { Writes Status.Done (text in_format.Csv clock.0 history.now)
+    ensures { Writes Status.Done (report in_format.Csv clock.0 history.now
+        (compared_with (connections history.now) wholes.now))
         (did K.written K.faults out.old out.new) result }
 {
-    let Ok(octets) = fields_of(alloc, clock, history) else {
+    let Ok(octets) = fields_of(alloc, clock, history, wholes) else {
         return Status::Memory;
     };
     say(out, octets.as_slice(), Status::Done)
 }
 
-fn tell_values<K: Sink>(alloc: Global, clock: Clock, history: &History, out: &mut K) -> Status
+fn tell_values<K: Sink>(
+    alloc: Global,
+    clock: Clock,
+    history: &History,
+    wholes: &[bool],
+    out: &mut K,
+) -> Status
     requires { IsRun history.now }
-    ensures { Writes Status.Done (text in_format.Json clock.0 history.now)
+    ensures { Writes Status.Done (report in_format.Json clock.0 history.now
+        (compared_with (connections history.now) wholes.now))
         (did K.written K.faults out.old out.new) result }
 {
-    let Ok(values) = values_of(alloc, clock, history) else {
+    let Ok(values) = values_of(alloc, clock, history, wholes) else {
         return Status::Memory;
     };
     say(out, values.as_str().as_bytes(), Status::Done)
 }
 
-fn tell_drawing<K: Sink>(alloc: Global, history: &History, out: &mut K) -> Status
+fn tell_drawing<K: Sink>(alloc: Global, clock: Clock, history: &History, out: &mut K) -> Status
     requires { IsRun history.now }
-    ensures { Writes Status.Done (drawing history.now (connections history.now))
+    ensures { Writes Status.Done (drawing clock.0 history.now (connections history.now))
         (did K.written K.faults out.old out.new) result }
 {
-    let Ok(picture) = drawing_of(alloc, history) else {
+    let Ok(picture) = drawing_of(alloc, clock, history) else {
         return Status::Memory;
     };
     say(out, picture.as_str().as_bytes(), Status::Done)

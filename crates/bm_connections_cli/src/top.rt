@@ -1,7 +1,9 @@
 //! The top call.
 ghost use Rattle.std.specs.Prelude.{◌≡◌, ◌<◌, ◌≤◌, if◌then◌else◌, None, Some};
+ghost use Rattle.bm_core.specs.Stages.{IsSound};
+ghost use Rattle.bm_link.specs.Fits.{ArePackets};
 ghost use Rattle.bm_words.specs.Form.{named};
-ghost use Rattle.bm_cli.specs.Dues.{Misused};
+ghost use Rattle.bm_cli.specs.Dues.{Misused, Shown};
 ghost use Rattle.bm_cli.specs.Ends.{Ends};
 ghost use Rattle.bm_cli.specs.Program.{IsProgram};
 ghost use Rattle.bm_cli.specs.Reading.{Holds};
@@ -9,15 +11,20 @@ ghost use Rattle.bm_cli.specs.Statuses.{did};
 ghost use Rattle.bm_cli.specs.Telling.{Tells};
 ghost use Rattle.bm_cli.specs.Top.{AsksNone, ShowsAnswer};
 ghost use Rattle.bm_connections_cli.specs.Dues.{due, due_of, usage_line};
+ghost use Rattle.bm_connections_cli.specs.Headline.{AreStoriesOf, IsTableOf};
 ghost use Rattle.bm_connections_cli.specs.Program.{beamer_connections};
-ghost use Rattle.bm_connections_cli.specs.Words.{Connections, Lifetime, form_in};
-ghost use Rattle.bm_connections_cli.specs.Inside.Words.{asked};
+ghost use Rattle.bm_connections_cli.specs.Words.{Connections, Lifetime, Story, form_in};
+ghost use Rattle.bm_connections_cli.specs.Inside.Words.{asked, chosen};
 
 use crate::lifetime::tell_lifetime;
+use crate::replays::replay_both;
+use crate::stories::tell_stories;
 use crate::tell::tell;
-use crate::words::{Form, Manner, read_words};
-use bm_cli::{Status, read_named_script, refuse, replay_files, say};
+use crate::words::{Chosen, Form, Format, Manner, read_words};
+use bm_base::{Memory, Octets};
+use bm_cli::{Mode, Status, read_named_script, read_stage, refuse, say};
 use bm_connections::Clock;
+use bm_core::Stage;
 use bm_io::{Files, Sink};
 use bm_words::Names;
 use std::alloc::Global;
@@ -25,7 +32,7 @@ use std::sync::Wait;
 use std::thread::Threads;
 
 const USAGE: &str =
-    "usage: beamer-connections CAPTURE SCRIPT [--csv | --json | --svg] [--clock] | --lifetime SCRIPT [--for SECONDS]\n";
+    "usage: beamer-connections CAPTURE SCRIPT [--csv | --json | --svg] [--clock] | CAPTURE SCRIPT --of CLIENT [SERVICE] [--clock] | --lifetime SCRIPT [--for SECONDS]\n";
 
 /// Does all that the program does, and returns the status.
 ///
@@ -99,6 +106,7 @@ fn answer_form<R: Threads + Wait + Sync, F: Files, K: Sink>(
 {
     match form {
         Form::Connections { manner, names } => report(rt, alloc, manner, names, files, out),
+        Form::Story { chosen, names } => recount(rt, alloc, chosen, names, files, out),
         Form::Lifetime { script, seconds } => explain(alloc, script, seconds, files, out),
     }
 }
@@ -120,12 +128,67 @@ fn report<R: Threads + Wait + Sync, F: Files, K: Sink>(
     ensures octets { F.octets files.new ≡ F.octets files.old }
     ensures open { F.open_now files.new ≡ F.open_now files.old }
 {
-    match replay_files(rt, alloc, files, names) {
-        Ok(replayed) => {
-            let clock = clock_of(manner, replayed.began);
-            tell(alloc, manner.format, clock, &replayed.history, out)
+    match read_stage(alloc, files, Mode::Replay, names) {
+        Ok((stage, packets, began)) => {
+            let clock = clock_of(manner.clock, began);
+            show(rt, alloc, manner.format, clock, stage, packets, out)
         }
         Err(fault) => refuse(alloc, &fault, out),
+    }
+}
+
+/// Replays the named capture and script, and writes the stories of the connections that are picked.
+fn recount<R: Threads + Wait + Sync, F: Files, K: Sink>(
+    rt: &R,
+    alloc: Global,
+    picked: Chosen<'_>,
+    names: Names<'_>,
+    files: &mut F,
+    out: &mut K,
+) -> Status
+    requires room { F.open_now files.old < 4294967295 }
+    ensures ends { Holds (F.octets files.old) (λ reads.
+        Ends (due_of (Story (chosen picked.entry) (named names.entry)) reads)
+        (did F.asked F.faults files.old files.new)
+        (did K.written K.faults out.old out.new) result) }
+    ensures octets { F.octets files.new ≡ F.octets files.old }
+    ensures open { F.open_now files.new ≡ F.open_now files.old }
+{
+    match read_stage(alloc, files, Mode::Replay, names) {
+        Ok((stage, packets, began)) => {
+            let clock = clock_of(picked.clock, began);
+            show_stories(rt, alloc, picked, clock, stage, packets, out)
+        }
+        Err(fault) => refuse(alloc, &fault, out),
+    }
+}
+
+/// Replays the stage and its base, and writes the stories of the connections that are picked.
+/// `packets` has the packet of each record.
+fn show_stories<R: Threads + Wait + Sync, K: Sink>(
+    rt: &R,
+    alloc: Global,
+    picked: Chosen<'_>,
+    clock: Clock,
+    stage: Stage,
+    packets: Octets,
+    out: &mut K,
+) -> Status
+    requires sound { IsSound stage }
+    requires packets { ArePackets stage.capture.records packets }
+    ensures { Tells (Shown (AreStoriesOf (chosen picked.entry) clock.0 stage))
+        (did K.written K.faults out.old out.new) result }
+{
+    match replay_both(rt, alloc, stage, packets) {
+        Ok(both) => tell_stories(
+            alloc,
+            picked,
+            clock,
+            &both.history,
+            both.wholes.as_slice(),
+            out,
+        ),
+        Err(Memory) => Status::Memory,
     }
 }
 
@@ -150,11 +213,41 @@ fn explain<F: Files, K: Sink>(
     }
 }
 
-/// What moments are counted from, if the capture began this many nanoseconds after 1970.
-fn clock_of(manner: Manner, began: u64) -> Clock
-    ensures { result.0 ≡ (if manner.clock then Some began else None) }
+/// Replays the stage and its base, and writes the report of the connections. `packets` has the
+/// packet of each record.
+fn show<R: Threads + Wait + Sync, K: Sink>(
+    rt: &R,
+    alloc: Global,
+    format: Format,
+    clock: Clock,
+    stage: Stage,
+    packets: Octets,
+    out: &mut K,
+) -> Status
+    requires sound { IsSound stage }
+    requires packets { ArePackets stage.capture.records packets }
+    ensures { Tells (Shown (IsTableOf format clock.0 stage))
+        (did K.written K.faults out.old out.new) result }
 {
-    if manner.clock {
+    match replay_both(rt, alloc, stage, packets) {
+        Ok(both) => tell(
+            alloc,
+            format,
+            clock,
+            &both.history,
+            both.wholes.as_slice(),
+            out,
+        ),
+        Err(Memory) => Status::Memory,
+    }
+}
+
+/// What moments are counted from, if the wall clock is asked for and the capture began this many
+/// nanoseconds after 1970.
+fn clock_of(asked: bool, began: u64) -> Clock
+    ensures { result.0 ≡ (if asked then Some began else None) }
+{
+    if asked {
         Clock(Some(began))
     } else {
         Clock(None)

@@ -4,7 +4,7 @@ ghost use Rattle.std.specs.Char.{is_ascii_digit};
 ghost use Rattle.std.specs.List.{list_all};
 ghost use Rattle.bm_words.specs.Form as forms;
 ghost use Rattle.bm_connections_cli.specs.Words as spec;
-ghost use Rattle.bm_connections_cli.specs.Inside.Words.{asked};
+ghost use Rattle.bm_connections_cli.specs.Inside.Words.{asked, chosen};
 
 use bm_words::Names;
 
@@ -29,12 +29,27 @@ pub(crate) struct Manner {
     pub(crate) clock: bool,
 }
 
+/// Which connections a story is of: those of this client, and if there is a service, of these two;
+/// and whether moments are those of the wall clock (`--clock`).
+#[derive(Clone, Copy)]
+pub(crate) struct Chosen<'a> {
+    pub(crate) client: &'a str,
+    pub(crate) service: Option<&'a str>,
+    pub(crate) clock: bool,
+}
+
 /// What the words ask for.
 #[derive(Drop)]
 pub(crate) enum Form<'a> {
     /// The connections of a replay, reported in this manner, of the named capture and script.
     Connections {
         manner: Manner,
+        names: Names<'a>,
+    },
+    /// The story of the connections of this client, and if there is a service, of these two, in a
+    /// replay of the named capture and script; with `--clock` by the wall clock.
+    Story {
+        chosen: Chosen<'a>,
         names: Names<'a>,
     },
     /// The lifetime of the named script; with `--for`, also whether connections that live `seconds`
@@ -56,14 +71,54 @@ pub(crate) fn read_words<'a>(words: &'a [String]) -> Option<Form<'a>>
 }
 
 /// What the words ask for, by the first two of them and the others.
-fn read_form<'a>(first: &'a str, second: &'a str, options: &[String]) -> Option<Form<'a>>
+fn read_form<'a>(first: &'a str, second: &'a str, options: &'a [String]) -> Option<Form<'a>>
     ensures { option_map asked result
-        ≡ spec.form_of (first.entry.now ∷ second.entry.now ∷ map string_bytes options.now) }
+        ≡ spec.form_of (first.entry.now ∷ second.entry.now ∷ map string_bytes options.entry.now) }
 {
     if first == "--lifetime" {
         return with_script(second, read_life(options)?);
     }
-    with_names(first, second, read_options(options)?)
+    with_names(read_names(first, second)?, options)
+}
+
+/// What is asked for of the capture and the script of these names, by the options.
+fn with_names<'a>(names: Names<'a>, options: &'a [String]) -> Option<Form<'a>>
+    ensures { option_map asked result
+        ≡ spec.of_names (map string_bytes options.entry.now) (forms.named names.entry) }
+{
+    if let [word, words @ ..] = options
+        && word.as_str() == "--of"
+    {
+        let chosen = read_chosen(words)?;
+        return Some(Form::Story { chosen, names });
+    }
+    let manner = read_options(options)?;
+    Some(Form::Connections { manner, names })
+}
+
+/// Which connections' story is asked for, by the words after `--of`.
+fn read_chosen<'a>(words: &'a [String]) -> Option<Chosen<'a>>
+    ensures { option_map chosen result ≡ spec.chosen_by (map string_bytes words.entry.now) }
+{
+    match words {
+        [client] => Some(choose(false, client.as_str(), None)),
+        [client, word] if word.as_str() == "--clock" => Some(choose(true, client.as_str(), None)),
+        [client, service] => Some(choose(false, client.as_str(), Some(service.as_str()))),
+        [client, service, word] if word.as_str() == "--clock" => {
+            Some(choose(true, client.as_str(), Some(service.as_str())))
+        }
+        _ => None,
+    }
+}
+
+fn choose<'a>(clock: bool, client: &'a str, service: Option<&'a str>) -> Chosen<'a>
+    ensures { chosen result ≡ spec.chosen clock client.entry.now (option_map (λ s. s.now) service.entry) }
+{
+    Chosen {
+        client,
+        service,
+        clock,
+    }
 }
 
 /// How the connections are reported, by the options: `--clock` and a format, in either order, each
@@ -133,17 +188,15 @@ fn read_format(word: &str) -> Option<Format>
     }
 }
 
-/// What is asked for, if these are names of a capture and a script.
-fn with_names<'a>(capture: &'a str, script: &'a str, manner: Manner) -> Option<Form<'a>>
-    ensures { option_map asked result
-        ≡ spec.with_names capture.entry.now script.entry.now manner }
+/// The names, if these are names of a capture and a script.
+fn read_names<'a>(capture: &'a str, script: &'a str) -> Option<Names<'a>>
+    ensures { option_map forms.named result ≡ spec.names_in capture.entry.now script.entry.now }
 {
     if is_name(capture) && is_name(script) {
-        let names = Names {
+        Some(Names {
             capture,
             script: Some(script),
-        };
-        Some(Form::Connections { manner, names })
+        })
     } else {
         None
     }
