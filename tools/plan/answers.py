@@ -1,5 +1,5 @@
 """What a plan breaks, what would keep it, and what the captures can't tell."""
-from plan.frames import FIN, RST
+from functools import cached_property
 from plan.moments import SECOND
 from plan.scripts import LONGEST_TIMEOUT_S
 
@@ -7,28 +7,35 @@ from plan.scripts import LONGEST_TIMEOUT_S
 TRIES = 8
 
 
-class Answer:
-    """The answer for a script: the replay with its changes and the one without, the flows that the changes break or refuse, a timeout that
-    keeps what a timeout can keep with its replay, and the connections that were open at the captures' end."""
+class Judge:
+    """Tells of replays of a script with other waits and timeouts what its changes break."""
 
-    def __init__(self, engine, script, traffic, zero):
-        self.script, self.traffic, self.zero = script, traffic, zero
-        self.replay = engine.replay(script)
-        self.base = engine.replay(script.without_changes()) if script.changes else self.replay
-        self.broken = self.by_the_change(self.replay)
-        self.anyway = [it for it in self.replay.connections.values() if (it.is_broken or it.is_refused) and it not in self.broken]
-        self.keeping_s, self.kept = self.keeping(engine)
-        self.open = self.open_at_end()
-        self.lifetime = engine.lifetime(script)
-        self.kept_lifetime = engine.lifetime(script.with_timeout(self.keeping_s)) if self.keeping_s else None
+    def __init__(self, engine, script):
+        self.engine, self.script = engine, script
+
+    @cached_property
+    def whole(self):
+        """The flows that nothing breaks or refuses without the changes."""
+        return {flow for flow, it in self.engine.base(self.script).connections.items() if not it.is_broken and not it.is_refused}
 
     def by_the_change(self, replay):
-        """The connections that break or are refused in this replay, and are whole without the changes."""
-        whole = {flow for flow, it in self.base.connections.items() if not it.is_broken and not it.is_refused}
-        found = [it for flow, it in replay.connections.items() if (it.is_broken or it.is_refused) and flow in whole]
+        """The connections that the changes break in this replay, as the program says, and those that they have refused."""
+        found = [it for it in replay.connections.values() if it.is_by_the_change or it.is_refused and it.flow in self.whole]
         return sorted(found, key=lambda it: it.at)
 
-    def keeping(self, engine):
+
+class Judgement(Judge):
+    """What replays say of a script: its replay, the flows that the changes break or refuse, and a timeout that keeps what a timeout can
+    keep, with its replay."""
+
+    def __init__(self, engine, script):
+        super().__init__(engine, script)
+        self.replay = engine.replay(script)
+        self.broken = self.by_the_change(self.replay)
+        self.keeping_s, self.kept = self.keeping()
+        self.lifetime = engine.lifetime(script)
+
+    def keeping(self):
         """The least timeout that is found with which no packet comes too late, and what the changes break then. Each is replayed. None
         where no packet comes too late now, or where no timeout is enough."""
         replay, timeout_s = self.replay, None
@@ -38,7 +45,7 @@ class Answer:
             if replay.late_s > LONGEST_TIMEOUT_S:
                 break
             timeout_s = replay.late_s
-            replay = engine.replay(self.script.with_timeout(timeout_s))
+            replay = self.engine.replay(self.script.with_timeout(timeout_s))
             self.kept_replay = replay
         return None, None
 
@@ -47,23 +54,16 @@ class Answer:
         """The replay that tells how long the old servers are needed: with the timeout that keeps connections, if one was found."""
         return self.kept_replay if self.keeping_s else self.replay
 
-    def needed(self):
-        """The connection that needed its old server longest, if one did."""
-        waits = [it for it in self.lasting.connections.values() if it.wait is not None]
-        return max(waits, key=lambda it: it.wait, default=None)
 
-    def open_at_end(self):
-        """The connections from before the last change whose client had sent neither FIN nor RST when the captures ended."""
-        changes = self.script.changes
-        if not changes:
-            return []
-        ended = {packet.flow for packet in self.traffic.packets if packet.flags & (FIN | RST)}
-        last = self.zero + changes[-1]["at_ns"]
-        opened, latest = {}, {}
-        for packet in self.traffic.packets:
-            opened.setdefault(packet.flow, packet.time)
-            latest[packet.flow] = packet.time
-        return sorted(self.traffic.end - latest[flow] for flow, time in opened.items() if flow not in ended and time < last)
+class Answer(Judgement):
+    """The answer for a script: what replays say of it, and what breaks without its changes too."""
+
+    def __init__(self, engine, script, traffic, zero):
+        super().__init__(engine, script)
+        self.traffic, self.zero = traffic, zero
+        broken = {it.flow for it in self.broken}
+        self.anyway = [it for flow, it in self.replay.connections.items() if (it.is_broken or it.is_refused) and flow not in broken]
+        self.kept_lifetime = engine.lifetime(script.with_timeout(self.keeping_s)) if self.keeping_s else None
 
     def switch_off(self):
         """For each server that is drained, the time from which it may be switched off: the timeout and the longest lag after its drain."""

@@ -44,13 +44,15 @@ class Source:
         return Refusal(CAPTURE, f"{self.name}: {text}")
 
 
-def opened(path):
-    """The file of this name as a binary stream of a capture's octets. `-` is standard input."""
+def opened(path, watch):
+    """The file of this name as a binary stream of a capture's octets. `-` is standard input. `watch` gets the file that is read."""
     try:
         file = sys.stdin.buffer if path == "-" else open(path, "rb")
         begin = file.peek(8)[:8]
     except OSError as wrong:
         raise of_file(path, wrong) from None
+    if watch:
+        watch(file)
     for magic, open_by in COMPRESSED.items():
         if begin.startswith(magic):
             return open_by(file)
@@ -67,17 +69,17 @@ def from_zstd(path, file):
     return io.BytesIO(done.stdout)
 
 
-def read_capture(path, cut):
+def read_capture(path, cut, watch=None):
     """The frames of a capture, in its order. If it ends within a record, its name is put into `cut`."""
-    source, frames = begun(path)
+    source, frames = begun(path, watch)
     yield from frames
     if source.is_cut:
         cut.append(source.name)
 
 
-def begun(path):
+def begun(path, watch):
     """A capture, and its frames."""
-    source = Source("standard input" if path == "-" else path, opened(path))
+    source = Source("standard input" if path == "-" else path, opened(path, watch))
     begin = source.take(4)
     if begin is None:
         raise source.refuse("it is empty" if not source.place else "it is no capture")

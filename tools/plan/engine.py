@@ -1,21 +1,30 @@
 """The proved program `beamer-connections`, which answers for captures and scripts."""
-import os, re, struct, subprocess, zlib
+import os, re, signal, struct, subprocess, threading, zlib
 from collections import Counter
-from concurrent.futures import ThreadPoolExecutor
+from concurrent.futures import Future, ThreadPoolExecutor
+from typing import NamedTuple
 from plan.faults import CAPTURE, READ, SCRIPT, WRITE, Refusal
 from plan.frames import RAW
 from plan.moments import SECOND, seconds
+from plan.where import explained_of
 
 TOP = os.path.dirname(os.path.dirname(os.path.dirname(os.path.realpath(__file__))))
-# The most records of a capture that the program takes. One of them is ours: it has the moment 0.
-MOST = 200_000 - 1
+# The most records of a capture that the program takes. Two of them are ours: the first, at the moment 0, and the last.
+MOST = 200_000 - 2
 HEADER = struct.pack("<IHHiIII", 0xA1B23C4D, 2, 4, 0, 0, 262_144, RAW)
 CONNECTION = re.compile(
     r"connection (?P<client>\S+) (?P<service>\S+) opened \d+ at (?P<opened>\S+) last \d+ at (?P<last>\S+) "
-    r"accepted (?P<server>\d+|none)(?: rack \d+)? times \d+ processed \d+ forwarded \d+ dropped \d+ reset \d+ stray \d+"
-    r"(?: last-forward \d+ by \d+(?: rack \d+)? at \S+ after (?P<wait>\S+))? "
-    r"(?:(?P<end>broken|refused) \d+ (?P<verdict>.+) because (?P<cause>\S+) at (?P<at>\S+)|whole|unaccepted)"
+    r"accepted (?P<server>\d+|none)(?: rack \d+)? times \d+ processed \d+ forwarded \d+ dropped \d+ reset \d+ stray \d+ "
+    r"after-its-end \d+ end (?P<ended>open|fin|rst|close)(?: last-forward \d+ by \d+(?: rack \d+)? at \S+ after \S+)? "
+    r"(?:(?P<end>broken|refused) \d+ (?P<verdict>.+) because (?P<cause>\S+) at (?P<at>\S+)"
+    r"(?: (?P<why>by-the-change|anyway)(?P<losing> losing-data)?)?|whole|unaccepted)"
 )
+ANSWER = re.compile(
+    r"answer connections \d+ broken \d+ by-the-change \d+ losing-data \d+ refused \d+ open-at-end (?P<open>\d+)(?: timeout_s (?P<late_s>\d+))?"
+)
+CHANGE = re.compile(r"change \d+ at \S+ (?:add \d+|drain \d+|move) buckets (\d+) of (\d+)(?: home \d+)? owns .+")
+NEEDED = re.compile(r"needed change \d+ for (\S+) by (\S+)")
+OPEN_END = re.compile(r"open-at-end change \d+ connections \d+ longest-idle (\S+)")
 
 
 class Connection:
@@ -23,34 +32,47 @@ class Connection:
 
     def __init__(self, read):
         self.client, self.service, self.verdict, self.cause = read["client"], read["service"], read["verdict"], read["cause"]
-        self.opened, self.last = seconds(read["opened"]), seconds(read["last"])
+        self.opened, self.last, self.ended = seconds(read["opened"]), seconds(read["last"]), read["ended"]
         self.server = None if read["server"] == "none" else int(read["server"])
-        self.wait = read["wait"] and seconds(read["wait"])
         self.at = read["at"] and seconds(read["at"])
         self.is_broken, self.is_refused = read["end"] == "broken", read["end"] == "refused"
+        self.is_by_the_change, self.is_losing_data = read["why"] == "by-the-change", bool(read["losing"])
 
     @property
     def flow(self):
         return self.client, self.service
 
 
+class Need(NamedTuple):
+    """How long after a change an old server was needed, and by which client."""
+
+    wait: int
+    client: str
+
+
 class Replay:
-    """What the program tells of a replay: its connections by flow, and its other lines. Of several parts of a capture the lines of the
-    first one stand for all, but for those that count packets."""
+    """What the program tells of a replay of all parts of a capture: the connections by flow, how many buckets each change moves, of how
+    many, the least timeout that is long enough where packets came too late, the longest need of an old server, and how many connections
+    are open at the end that a change moves, with the longest time since the last packet of one. `lines` has all lines that aren't of
+    connections."""
 
     def __init__(self, texts):
-        self.connections, self.lines, self.late_s = {}, [], None
+        self.connections, self.moved, self.late_s, self.needed, self.open, self.idle, self.lines = {}, [], None, None, 0, 0, []
         for text in texts:
-            lines = text.splitlines()
-            found = [CONNECTION.fullmatch(line) for line in lines if line.startswith("connection ")]
-            self.connections |= {it.flow: it for it in map(Connection, found)}
-            self.lines = self.lines or [line for line in lines if not line.startswith("connection ")]
-            late = [int(line.rpartition(" ")[2]) for line in lines if line.startswith("chain-late longest ")]
-            self.late_s = max([*late, self.late_s or 0]) or None
+            self.take(text.splitlines())
 
-    def moved(self):
-        """For each change how many buckets it moves, of how many."""
-        return [tuple(map(int, re.search(r"buckets (\d+) of (\d+)", line).groups())) for line in self.lines if line.startswith("change ")]
+    def take(self, lines):
+        """Adds the lines of a part."""
+        answer = ANSWER.fullmatch(lines[0])
+        self.lines += [line for line in lines if not line.startswith("connection ")]
+        found = [CONNECTION.fullmatch(line) for line in lines if line.startswith("connection ")]
+        self.connections |= {it.flow: it for it in map(Connection, found)}
+        self.moved = self.moved or [tuple(map(int, CHANGE.fullmatch(line).groups())) for line in lines if line.startswith("change ")]
+        self.late_s = max(self.late_s or 0, int(answer["late_s"] or 0)) or None
+        needs = [Need(seconds(read[1]), read[2]) for read in map(NEEDED.fullmatch, lines) if read]
+        self.needed = max([*needs, *([self.needed] if self.needed else [])], key=lambda it: it.wait, default=None)
+        self.open += int(answer["open"])
+        self.idle = max([self.idle, *(seconds(read[1]) for read in map(OPEN_END.fullmatch, lines) if read)])
 
 
 def written_parts(folder, traffic, zero, number=1):
@@ -67,7 +89,7 @@ def written_parts(folder, traffic, zero, number=1):
         parts[part_of(packet.flow, number)].append(packet)
     paths = [os.path.join(folder, f"part-{at + 1}.pcap") for at in range(number)]
     for path, packets in zip(paths, parts):
-        write_part(path, packets, zero)
+        write_part(path, packets, zero, traffic.end)
     return paths
 
 
@@ -82,12 +104,13 @@ def sizes(counts, number):
     return found
 
 
-def write_part(path, packets, zero):
-    """Writes a capture whose first record has the moment 0 and holds no packet."""
+def write_part(path, packets, zero, end):
+    """Writes a capture whose first record, at the moment 0, and last record, at the end, hold no packet."""
     try:
         with open(path, "wb") as file:
             file.write(HEADER + record(0, b"\x00"))
             file.writelines(record(packet.time - zero, packet.octets) for packet in packets)
+            file.write(record(end - zero, b"\x00"))
     except OSError as wrong:
         raise no_room(path, wrong) from None
 
@@ -101,40 +124,62 @@ def record(time, octets):
 
 
 class Engine:
-    """Replays the parts of a capture by scripts, as many at a time as there are processors. Each word on a script's fault is handed to
-    `explain` first."""
+    """Replays the parts of a capture by scripts, as many at a time as there are processors. Several threads may ask for replays."""
 
-    def __init__(self, folder, paths, explain):
+    def __init__(self, folder, paths, progress=None):
         self.program = os.environ.get("CONNECTIONS", os.path.join(TOP, "beamer-connections"))
-        self.folder, self.paths, self.explain, self.running = folder, paths, explain, set()
+        self.folder, self.paths, self.progress = folder, paths, progress
+        self.running, self.bases, self.files, self.is_stopped = set(), {}, 0, False
+        self.lock, self.pool = threading.Lock(), ThreadPoolExecutor(processors())
+
+    def __enter__(self):
+        return self
+
+    def __exit__(self, *wrong):
+        self.stop()
+
+    def stop(self):
+        """Ends what runs, and begins nothing more."""
+        with self.lock:
+            self.is_stopped = True
+            for process in self.running:
+                if process.poll() is None:
+                    os.killpg(process.pid, signal.SIGKILL)
+        self.pool.shutdown(wait=False, cancel_futures=True)
+
+    def begun(self, words):
+        """A process of the program, in a group of its own, so that what it starts ends with it."""
+        with self.lock:
+            if self.is_stopped:
+                raise Refusal(READ, "the replays were stopped")
+            try:
+                process = subprocess.Popen([self.program, *words], stdin=subprocess.DEVNULL, stdout=subprocess.PIPE, text=True, process_group=0)
+            except OSError as wrong:
+                raise Refusal(READ, f"{self.program}: {wrong.strerror.lower()}; tools/prove builds it") from None
+            self.running.add(process)
+            return process
 
     def call(self, *words):
         """The output of the program, and the status."""
-        try:
-            with subprocess.Popen([self.program, *words], stdin=subprocess.DEVNULL, stdout=subprocess.PIPE, text=True) as process:
-                self.running.add(process)
-                text = process.communicate()[0]
+        with self.begun(words) as process:
+            text = process.communicate()[0]
+            with self.lock:
                 self.running.discard(process)
-        except OSError as wrong:
-            raise Refusal(READ, f"{self.program}: {wrong.strerror.lower()}; tools/prove builds it") from None
         return text, process.returncode
 
-    def stop(self):
-        """Ends what runs."""
-        for process in list(self.running):
-            process.kill()
-
-    def answered(self, *words):
-        """The output of the program, where its status is 0."""
+    def answered(self, script, *words):
+        """The output of the program for this script, where its status is 0."""
         text, status = self.call(*words)
         if status:
             line = text.strip().removeprefix("beamer: ")
-            told = self.explain(line) if status == SCRIPT else line or f"{self.program} ended with status {status}"
+            told = explained_of(script, line) if status == SCRIPT else line or f"{self.program} ended with status {status}"
             raise Refusal(status if 2 <= status <= 7 else READ, told)
         return text
 
     def written(self, script):
-        path = os.path.join(self.folder, "script.toml")
+        with self.lock:
+            self.files += 1
+            path = os.path.join(self.folder, f"script-{self.files}.toml")
         try:
             with open(path, "w") as file:
                 file.write(script.text())
@@ -143,16 +188,37 @@ class Engine:
         return path
 
     def replay(self, script):
+        """What the program tells of a replay by this script."""
         path = self.written(script)
-        with ThreadPoolExecutor(len(os.sched_getaffinity(0))) as pool:
+        if self.progress:
+            self.progress.add(len(self.paths))
+        return Replay(list(self.pool.map(lambda part: self.replayed(script, part, path), self.paths)))
+
+    def replayed(self, script, part, path):
+        text = self.answered(script, part, path)
+        if self.progress:
+            self.progress.step()
+        return text
+
+    def base(self, script):
+        """The replay of a script without its changes. Scripts that differ in their changes alone have one."""
+        without = script.without_changes()
+        text = without.text()
+        with self.lock:
+            is_new = text not in self.bases
+            known = self.bases.setdefault(text, Future())
+        if is_new:
             try:
-                return Replay(list(pool.map(lambda part: self.answered(part, path), self.paths)))
-            except BaseException:
-                pool.shutdown(wait=False, cancel_futures=True)
-                self.stop()
-                raise
+                known.set_result(self.replay(without))
+            except BaseException as wrong:
+                known.set_exception(wrong)
+        return known.result()
 
     def lifetime(self, script):
         """How long a connection may live by the script, in nanoseconds; None without a bound."""
-        word = self.answered("--lifetime", self.written(script)).split()[1]
+        word = self.answered(script, "--lifetime", self.written(script)).split()[1]
         return None if word == "unbounded" else seconds(word)
+
+
+def processors():
+    return len(os.sched_getaffinity(0))

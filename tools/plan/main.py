@@ -1,21 +1,31 @@
 """The command line of `beamer-plan`."""
-import argparse, os, re, signal, sys, tempfile
+import argparse, os, signal, sys, tempfile
+from contextlib import ExitStack
 from datetime import datetime
 from plan.answers import Answer
 from plan.engine import Engine, write_part, written_parts
 from plan.faults import BREAKS, USAGE, WRITE, Refusal, of_file
 from plan.moments import MICROSECOND, of_datetime
+from plan.progress import Progress
+from plan.sample import WHOLE, sample_of
 from plan.scripts import Script, dated, endpoint_text, service
+from plan.search import TRIES, Search
+from plan.table import table_json, table_lines
 from plan.text import json_of, of_check, text_lines
 from plan.traffic import read_traffic
-from plan.where import explained, remedy, text_of, values_of
+from plan.what_if import Times, Variant, rows_of, variants_of
+from plan.where import text_of, values_of
 
 ABOUT = """Tells which connections of a capture a planned change of a Beamer fleet breaks, and what would keep them. The captures are
 replayed by the proved program beamer-connections; this command reads, splits and converts for it, and each answer is what that program
 says."""
 AFTER = """A MOMENT is a time of day in UTC (21:02:11), with an offset (23:02:11+02:00), with a date (2026-11-27T21:02:11Z), or after the
-captures' beginning (+5m, +1h30m, +2.5s). Exit status: 0: the changes break nothing; 10: they break something; 1: the words; 2: a file
-can't be read; 3: a capture; 4: a script; 5: writing failed; 6 and 7: memory and limits of the program."""
+captures' beginning (+5m, +1h30m, +2.5s). A WAIT is a time like 10s, 2.5s, 10m or 1h. Exit status: 0: the changes break nothing (in a
+table: those of one script at least); 10: they break something; 1: the words; 2: a file can't be read; 3: a capture; 4: a script;
+5: writing failed; 6 and 7: memory and limits of the program."""
+
+
+SIGNALS = signal.SIGINT, signal.SIGTERM, signal.SIGHUP
 
 
 class Said(argparse.Action):
@@ -35,7 +45,8 @@ def parser():
     words = Words(prog="beamer-plan", description=ABOUT, epilog=AFTER)
     words.add_argument("captures", nargs="*", metavar="CAPTURE", help="classic or pcapng, compressed or not; - is standard input")
     words.add_argument("--fleet", metavar="FILE", help="the fleet: a script without commands (docs/FORMATS.md)")
-    words.add_argument("--script", metavar="FILE", help="a script; `at = 2026-11-27T21:02:11Z` may stand for at_ns in it")
+    words.add_argument("--script", metavar="FILE", action="append", dest="scripts", help="a script; `at = 2026-11-27T21:02:11Z` may "
+                       "stand for at_ns in it. Of several there is a table")
     words.add_argument("--check", metavar="SCRIPT", help="judge a script alone: where its fault is, or what its changes move")
     words.add_argument("--drain", metavar="SERVER@MOMENT", action=Said, dest="said", help="take a server out")
     words.add_argument("--add", metavar="SERVER[=WEIGHT]@MOMENT", action=Said, dest="said", help="add a server")
@@ -45,19 +56,30 @@ def parser():
     words.add_argument("--no-copies", action="store_true", help="leave out packets that were captured twice within a millisecond")
     words.add_argument("--no-open", action="store_true", help="don't open connections from before the captures")
     words.add_argument("--keep-script", metavar="FILE", help="write the script that was replayed")
+    words.add_argument("--sample", metavar="1/N", help="only one of N connections, each as a whole, by a hash of its addresses and ports")
+    table = words.add_argument_group("tables", "one row for each script, with what it breaks and what would keep that")
+    table.add_argument("--what-if", action="store_true", help="a table, though there is one script")
+    table.add_argument("--drains-at", metavar="MOMENT,..", help="rows: each server's drain at each moment")
+    table.add_argument("--drain-all-with-waits", metavar="WAIT,..[@MOMENT]", dest="drain_all", help="rows: all servers are drained, with "
+                       "each of these waits between them, from MOMENT on or from the captures' beginning; each comes back under a new "
+                       "number when the next one goes")
+    table.add_argument("--slow-start", metavar="SERVER=WEIGHT/STEPS@MOMENT", help="rows: a server is added at once, and in so many steps "
+                       "of its weight, 1 s, 10 s, 1 min and 10 min apart")
+    search = words.add_argument_group("search")
+    search.add_argument("--search", action="store_true", help="find the least waits between the changes, and the least timeout_s for them, "
+                        "with which they break nothing in the captures; no change comes earlier than it was said, nor sooner after the last")
+    search.add_argument("--tries", metavar="N", type=int, help=f"the most replays of a search ({TRIES} if it isn't said)")
     words.add_argument("--json", action="store_true", help="the answer as a JSON object")
     return words
 
 
 class Plan:
-    """The script that is meant: the one that is named, with what options put in place of its values."""
+    """The script that is meant: the one of this file, with what options put in place of its values."""
 
-    def __init__(self, given):
-        if given.fleet and given.script:
-            raise Refusal(USAGE, "say --fleet or --script, not both")
-        self.given, self.path = given, given.script or given.fleet
-        self.source = text_of(self.path) if self.path else ""
-        self.script = Script(values_of(self.path, self.source))
+    def __init__(self, given, path):
+        self.given, self.path = given, path
+        source = text_of(path) if path else ""
+        self.script = Script(values_of(path, source), file=(path, source))
         if given.fleet and self.script.commands:
             raise Refusal(USAGE, f"{given.fleet} has commands: say --script for it")
         if given.vip:
@@ -65,74 +87,151 @@ class Plan:
         if given.timeout is not None:
             self.script.fleet["timeout_s"] = given.timeout
 
-    def dated(self, begin, end, zero):
-        self.script = dated(self.script, self.given.said or [], begin, end, zero)
-        return self.script
-
-    def explain(self, line):
-        """What a fault of the script means, where it is, and what to do."""
-        read = re.match(r"script command (\d+): (.*)", line)
-        origin = read and self.script.origins[int(read[1]) - 1]
-        if isinstance(origin, str):
-            return f"{origin}: {read[2]}; {remedy(read[2])}"
-        return explained(self.path or "the fleet", self.source, f"script command {origin}: {read[2]}" if read else line)
+    def dated(self, times):
+        return dated(self.script, self.given.said or [], *times)
 
 
-def answer_of(given):
-    plan = Plan(given)
-    plan.script.look()
+def look(given):
+    """Refuses words that don't fit together."""
+    scripts = given.scripts or []
+    if given.fleet and scripts:
+        raise Refusal(USAGE, "say --fleet or --script, not both")
+    twice = next((path for at, path in enumerate(scripts) for other in scripts[:at] if is_same(path, other)), None)
+    if twice:
+        raise Refusal(USAGE, f"--script {twice}: it is named twice")
+    makers = [word for word in ("drains_at", "drain_all", "slow_start") if getattr(given, word) is not None]
+    if makers and len(scripts) > 1:
+        raise Refusal(USAGE, "name one script, or a fleet, from which the rows of the table are made")
+    given.is_table = given.what_if or len(scripts) > 1 or bool(makers)
+    if given.is_table and (given.search or given.keep_script):
+        raise Refusal(USAGE, f"{'--search' if given.search else '--keep-script'} is for one script, not for a table")
+    if given.tries is not None and (given.tries < 1 or not given.search):
+        raise Refusal(USAGE, "--tries N is for --search, and at least 1")
     if given.keep_script and os.path.lexists(given.keep_script):
         raise Refusal(WRITE, f"{given.keep_script}: it exists, and isn't overwritten")
-    traffic = read_traffic(given.captures, plan.script.services, given.no_copies, not given.no_open)
-    zero = traffic.begin - MICROSECOND
-    script = plan.dated(traffic.begin, traffic.end, zero)
-    with tempfile.TemporaryDirectory(prefix="beamer-plan-") as folder:
-        engine = Engine(folder, written_parts(folder, traffic, zero), plan.explain)
-        answer = Answer(engine, script, traffic, zero)
+
+
+def is_same(path, other):
+    return path == other or os.path.exists(path) and os.path.exists(other) and os.path.samefile(path, other)
+
+
+def plans_of(given):
+    """The scripts that are named, which have to have one and the same services."""
+    plans = [Plan(given, path) for path in given.scripts or [given.fleet]]
+    for plan in plans:
+        plan.script.look()
+        if plan.script.services != plans[0].script.services:
+            raise Refusal(USAGE, f"{plans[0].path} and {plan.path} have different vips: name services by --vip")
+    return plans
+
+
+def variants(given, plans, times):
+    """The scripts of a table: those that are named, and those that are made of one."""
+    made = variants_of(given, plans[0].script, times)
+    is_told = not made or given.what_if or plans[0].script.changes or given.said
+    named = [Variant("as said" if given.fleet or not plan.path else plan.path, plan.dated(times)) for plan in plans if is_told]
+    return named + made
+
+
+class Told:
+    """An answer, or a table, or what a search found with its answer: as text, as JSON, and as a status."""
+
+    def __init__(self, given, plans, traffic, engine):
+        self.given, self.traffic, self.search, self.rows = given, traffic, None, None
+        times = Times(traffic.begin, traffic.end, traffic.begin - MICROSECOND)
+        if given.is_table:
+            self.rows = rows_of(engine, variants(given, plans, times), times)
+            return
+        script = plans[0].dated(times)
+        if given.search:
+            self.search = Search(engine, script, given.tries or TRIES)
+            script = self.search.script
+        self.answer = Answer(engine, script, traffic, times.zero)
+
+    def text(self, has_colours):
+        paths = self.given.captures
+        if self.rows is not None:
+            return table_json(paths, self.traffic, self.rows) if self.given.json else "\n".join(table_lines(paths, self.traffic, self.rows))
+        if self.given.json:
+            return json_of(paths, self.answer, self.search)
+        return "\n".join([*text_lines(paths, self.answer, has_colours, self.search)])
+
+    @property
+    def status(self):
+        if self.rows is not None:
+            return BREAKS if all(row.breaks for row in self.rows) else 0
+        return BREAKS if self.answer.broken or self.search and not self.search.is_found else 0
+
+
+def told_of(given):
+    look(given)
+    plans = plans_of(given)
+    sample = WHOLE if given.sample is None else sample_of(given.sample)
+    with ExitStack() as stack:
+        progress = stack.enter_context(Progress())
+        services = plans[0].script.services
+        traffic = read_traffic(given.captures, services, given.no_copies, not given.no_open, sample, progress.watch)
+        folder = stack.enter_context(tempfile.TemporaryDirectory(prefix="beamer-plan-"))
+        paths = written_parts(folder, traffic, traffic.begin - MICROSECOND)
+        progress.stage("replays")
+        told = Told(given, plans, traffic, stack.enter_context(Engine(folder, paths, progress)))
     if given.keep_script:
-        keep(given.keep_script, script)
-    return answer
+        keep(given.keep_script, told.answer.script)
+    return told
 
 
 def check_of(given):
     """The lines for a script alone."""
-    plan = Plan(given)
+    plan = Plan(given, given.check)
     times = [of_datetime(it["at"]) for it in plan.script.commands if isinstance(it.get("at"), datetime)]
     begin, end = min(times, default=0), max(times, default=0)
-    script = plan.dated(begin, end, begin)
+    script = plan.dated((begin, end, begin))
     with tempfile.TemporaryDirectory(prefix="beamer-plan-") as folder:
         path = os.path.join(folder, "empty.pcap")
-        write_part(path, [], 0)
-        replay = Engine(folder, [path], plan.explain).replay(script)
+        write_part(path, [], 0, 0)
+        with Engine(folder, [path]) as engine:
+            replay = engine.replay(script)
     return "\n".join(of_check(plan.path, script, replay))
 
 
 def keep(path, script):
+    """Writes the script to a new file. If that fails or is stopped, no file is left."""
     try:
         with open(path, "x") as file:
-            file.write(script.text())
+            try:
+                file.write(script.text())
+                file.flush()
+            except BaseException:
+                os.unlink(path)
+                raise
     except FileExistsError:
         raise Refusal(WRITE, f"{path}: it exists, and isn't overwritten") from None
     except OSError as wrong:
         raise of_file(path, wrong) from None
 
 
-def tell(given, answer):
-    has_colours = sys.stdout.isatty() and "NO_COLOR" not in os.environ
-    text = json_of(given.captures, answer) if given.json else "\n".join(text_lines(given.captures, answer, has_colours))
-    print(text, flush=True)
-    return BREAKS if answer.broken else 0
+def tell(told):
+    print(told.text(sys.stdout.isatty() and "NO_COLOR" not in os.environ), flush=True)
+    return told.status
+
+
+def stopped(number, frame):
+    """Ends the program by a signal: once, so that a second one doesn't disturb what is put away."""
+    for it in SIGNALS:
+        signal.signal(it, signal.SIG_IGN)
+    sys.exit(128 + number)
 
 
 def main():
     try:
-        signal.signal(signal.SIGTERM, lambda number, frame: sys.exit(128 + number))
+        for number in SIGNALS:
+            if signal.getsignal(number) != signal.SIG_IGN:
+                signal.signal(number, stopped)
         given = parser().parse_args()
         if given.check:
-            given.script = given.check
             print(check_of(given), flush=True)
         elif given.captures:
-            sys.exit(tell(given, answer_of(given)))
+            sys.exit(tell(told_of(given)))
         else:
             raise Refusal(USAGE, "name a capture, or - for standard input; --help tells more")
     except Refusal as refusal:
@@ -144,5 +243,3 @@ def main():
     except OSError as wrong:
         print(f"beamer-plan: {wrong.strerror.lower()}", file=sys.stderr)
         sys.exit(WRITE)
-    except KeyboardInterrupt:
-        sys.exit(130)

@@ -3,7 +3,7 @@ import re
 from datetime import datetime, timedelta, timezone
 from plan.faults import USAGE, Refusal
 
-MICROSECOND, MILLISECOND, SECOND, DAY = 10**3, 10**6, 10**9, 86_400 * 10**9
+MICROSECOND, MILLISECOND, SECOND, MINUTE, DAY = 10**3, 10**6, 10**9, 60 * 10**9, 86_400 * 10**9
 WAIT = re.compile(r"\+(?:(\d+)h)?(?:(\d+)m(?!s))?(?:(\d+)(?:\.(\d{1,9}))?(?:s|$))?(?:(\d+)ms)?")
 CLOCK = re.compile(r"(\d\d):(\d\d)(?::(\d\d)(?:\.(\d{1,9}))?)?(Z|[+-]\d\d:\d\d)?")
 DATE = re.compile(r"(\d{4}-\d\d-\d\d)[T ](\S+)")

@@ -7,7 +7,7 @@ from plan.moments import moment_of, of_datetime, within
 
 CHANGES = "add", "drain", "move", "weight"
 DEFAULT_SERVICES, DEFAULT_SERVERS, DEFAULT_BUCKETS = ["192.0.2.1:80"], [1, 2], 8
-DEFAULT_TIMEOUT_S, LONGEST_TIMEOUT_S = 240, 86_400
+DEFAULT_TIMEOUT_S, LONGEST_TIMEOUT_S, MOST_WEIGHT = 240, 86_400, 1_000
 MARK = b"\xef\xbb\xbf"
 
 
@@ -34,9 +34,11 @@ def written(value):
 
 
 class Script:
-    """The values of a script. `origins` says for each command where it is from: its number in the file, or the option that says it."""
+    """The values of a script. `origins` says for each command where it is from: its number in the file, or the option that says it. `file`
+    is the name and the text of that file."""
 
-    def __init__(self, values, origins=None):
+    def __init__(self, values, origins=None, file=(None, "")):
+        self.file = file
         self.fleet = {key: value for key, value in values.items() if key != "command"}
         self.commands = values.get("command", [])
         if not isinstance(self.commands, list) or not all(isinstance(it, dict) for it in self.commands):
@@ -71,14 +73,26 @@ class Script:
     def changes(self):
         return [command for command in self.commands if command.get("do") in CHANGES]
 
+    def changes_after(self, moment):
+        """How many of its changes come after this moment."""
+        return sum(it["at_ns"] > moment for it in self.changes)
+
     def with_timeout(self, timeout_s):
-        return Script({**self.fleet, "timeout_s": timeout_s, "command": self.commands}, self.origins)
+        return Script({**self.fleet, "timeout_s": timeout_s, "command": self.commands}, self.origins, self.file)
+
+    def with_commands(self, commands, origins):
+        """The script with these commands in place of its own."""
+        return Script({**self.fleet, "command": commands}, origins, self.file)
 
     def without_changes(self):
         """The script without its changes, and without what is asked of servers that only an `add` brings."""
         added = {command.get("server") for command in self.commands if command.get("do") == "add"}
-        rest = [it for it in self.commands if it.get("do") not in CHANGES and it.get("server") not in added]
-        return Script({**self.fleet, "command": rest})
+        rest = [
+            (it, origin)
+            for it, origin in zip(self.commands, self.origins)
+            if it.get("do") not in CHANGES and it.get("server") not in added
+        ]
+        return self.with_commands([it for it, _ in rest], [origin for _, origin in rest])
 
     def text(self):
         """The script in TOML, as the programs read it."""
@@ -111,11 +125,11 @@ class Dated(NamedTuple):
     command: dict
 
 
-def dated(script, words, begin, end, zero):
+def dated(script, words, begin, end, zero, more=()):
     """The script with the commands that were said among its own, and with times as moments after `zero`. `words` has verbs and what was
-    said of each. The captures last from `begin` to `end`."""
+    said of each, and `more` has commands with their times. The captures last from `begin` to `end`."""
     own = [Dated(time_of(it, begin, end), origin, it) for it, origin in zip(script.commands, script.origins)]
-    more = []
+    more = list(more)
     for verb, text in words:
         command, when = said(verb, text)
         more.append(Dated(moment_of(when, begin, end), f"--{verb} {text}", command))
@@ -124,7 +138,7 @@ def dated(script, words, begin, end, zero):
     if any("weight" in it.command for it in more) and fleet.get("version", 1) == 1:
         fleet = {"version": 2} | {key: value for key, value in fleet.items() if key != "version"}
     commands = [{"at_ns": it.time - zero} | {key: value for key, value in it.command.items() if key not in ("at", "at_ns")} for it in every]
-    return Script({**fleet, "command": commands}, [it.origin for it in every])
+    return Script({**fleet, "command": commands}, [it.origin for it in every], script.file)
 
 
 def time_of(command, begin, end):

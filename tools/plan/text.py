@@ -1,6 +1,7 @@
 """An answer as text for a terminal, in UTC, and as JSON."""
 import json
 from plan.moments import SECOND, clock_text, date, seconds_text
+from plan.sample import WHOLE, of_sample
 from plan.scripts import DEFAULT_BUCKETS, DEFAULT_SERVERS, endpoint_text, words_of
 from plan.traffic import COPIES, OTHERS
 
@@ -27,12 +28,11 @@ def coloured(text, colour, has_colours):
     return f"{colour}{text}{PLAIN}" if has_colours else text
 
 
-def of_traffic(paths, answer):
+def of_traffic(paths, traffic):
     """What was read, and what wasn't used."""
-    traffic = answer.traffic
     names = ", ".join("standard input" if path == "-" else path for path in paths)
     services = ", ".join(sorted(endpoint_text(*it) for it in {packet.flow[1::2] for packet in traffic.packets}))
-    told = f"{plural(len(traffic.packets) - traffic.opened, 'packet')} to {services} in {plural(len(answer.replay.connections), 'connection')}"
+    told = f"{plural(len(traffic.packets) - traffic.opened, 'packet')} to {services} in {plural(traffic.connections, 'connection')}"
     yield f"{names}: {told}"
     yield f"  on {date(traffic.begin)}, {clock_text(traffic.begin, 3)} to {clock_text(traffic.end, 3)} UTC"
     if traffic.opened:
@@ -43,21 +43,36 @@ def of_traffic(paths, answer):
         yield f"  not used: {plural(count, 'packet')} {why}"
     if 10 * traffic.copies > len(traffic.packets) and not traffic.left_out[COPIES]:
         yield f"  {plural(traffic.copies, 'packet')} look like copies of one before: capture on one interface, or leave them out by --no-copies"
+    yield from of_sample(traffic.sample)
 
 
 def of_changes(answer):
-    for command, (moves, buckets) in zip(answer.script.changes, answer.replay.moved()):
+    for command, (moves, buckets) in zip(answer.script.changes, answer.replay.moved):
         yield f"{words_of(command)} at {clock_text(answer.zero + command['at_ns'], 3)}: moves {moves:,} of {plural(buckets, 'bucket')}"
     if not answer.script.changes:
         yield "the script changes nothing"
+    late = answer.script.changes_after(answer.traffic.end - answer.zero)
+    if late:
+        yield of_late(late, len(answer.script.changes))
+
+
+def of_late(count, of):
+    """That so many changes come when the captures have ended."""
+    verb, what = ("comes", "this one breaks") if count == 1 else ("come", "these break")
+    return f"{count:,} of {plural(of, 'change')} {verb} after the captures' end, so they don't show what {what}"
+
+
+def left_open(replay):
+    """What a sentence adds that says that nothing breaks."""
+    return f"; {replay.open:,} {'is' if replay.open == 1 else 'are'} open at the end" if replay.open else ""
 
 
 def headline(answer):
     """The answer in a sentence."""
     count, refused = sum(it.is_broken for it in answer.broken), sum(it.is_refused for it in answer.broken)
-    what = "the change breaks" if len(answer.script.changes) == 1 else "the changes break"
+    what, have = ("the change breaks", "has") if len(answer.script.changes) == 1 else ("the changes break", "have")
     of = f"of {plural(len(answer.replay.connections), 'connection')}, with a timeout of {answer.script.timeout_s} s"
-    return f"{what} {count or 'none'}{f', and has {refused} refused,' if refused else ''} {of}"
+    return f"{what} {count or 'none'}{f', and {have} {refused} refused,' if refused else ''} {of}{'' if answer.broken else left_open(answer.replay)}"
 
 
 def of_broken(answer):
@@ -68,6 +83,9 @@ def of_broken(answer):
         yield f"  {it.client.ljust(width)}  {how} at {clock_text(answer.zero + it.at, 3)}  {it.cause}"
     if len(broken) > LISTED:
         yield f"  and {len(broken) - LISTED:,} more (--json lists all)"
+    losing = sum(it.is_losing_data for it in broken)
+    if losing:
+        yield f"  {losing:,} of them {'loses' if losing == 1 else 'lose'} data"
     for cause in sorted({it.cause for it in broken}):
         yield f"  {cause}: {CAUSES[cause]}"
     if answer.anyway:
@@ -78,10 +96,11 @@ def of_timeout(answer):
     """Which timeout keeps what a timeout can keep, and for how long old servers are needed."""
     if answer.keeping_s:
         left = len(answer.kept)
-        yield f"with timeout_s = {answer.keeping_s} {'it breaks none' if not left else f'it breaks {left:,}'} (replayed)"
+        told = f"it breaks {left:,}" if left else f"it breaks none{left_open(answer.lasting)}"
+        yield f"with timeout_s = {answer.keeping_s} {told} (replayed)"
     elif any(it.cause == "chain-late" for it in answer.broken):
         yield "no timeout was found that keeps the connections that come too late"
-    needed = answer.needed()
+    needed = answer.lasting.needed
     if needed:
         yield f"an old server was needed for up to {seconds_text(needed.wait)} after a change, by {needed.client}"
     for server, time in answer.switch_off():
@@ -91,10 +110,11 @@ def of_timeout(answer):
 
 
 def of_open(answer):
-    if answer.open:
-        count = plural(len(answer.open), "connection")
-        yield f"{count} from before the last change had sent no FIN and no RST when the captures ended; the longest idle for"
-        yield f"  {seconds_text(answer.open[-1])}. The captures can't tell whether the change breaks them later."
+    replay = answer.replay
+    if replay.open:
+        are = "is" if replay.open == 1 else "are"
+        yield f"{plural(replay.open, 'connection')} that a change moves {are} open at the end, the longest idle for {seconds_text(replay.idle)}:"
+        yield "  the captures can't tell whether the change breaks them later"
 
 
 def of_lifetime(answer):
@@ -110,9 +130,33 @@ def seconds_down(wait):
     return seconds_text(wait // 10**6 * 10**6)
 
 
-def text_lines(paths, answer, has_colours):
-    yield from of_traffic(paths, answer)
+def search_lines(search):
+    """What a search found, and how many replays it took."""
+    breaks = "it breaks" if len(search.said.changes) == 1 else "they break"
+    least = f"; with {search.timeout_s - 1} s {breaks} {search.less:,}" if search.less else ""
+    replays = plural(search.tries, "replay")
+    if search.is_found:
+        yield f"found after {replays}: with timeout_s = {search.timeout_s} and these waits nothing breaks{least}"
+        if search.why:
+            yield f"  lower timeouts weren't all tried: {search.why}"
+    else:
+        yield f"nothing was found after {replays}: {search.why}"
+        yield "  what follows is the answer for the last script that was tried"
+    for number, wait in sorted(search.waits.items()):
+        yield f"  {words_of(search.said.changes[number - 1])} comes {seconds_text(wait)} later than said, for {search.clients[number]}"
+    later = sum(now["at_ns"] > said["at_ns"] for now, said in zip(search.script.changes, search.said.changes))
+    if later and not search.waits:
+        yield f"  {plural(later, 'change')} {'comes' if later == 1 else 'come'} later than said, after a retire that waits for its timeout"
+    elif not later and search.is_found:
+        yield "  no change has to come later than said"
+
+
+def text_lines(paths, answer, has_colours, search=None):
+    yield from of_traffic(paths, answer.traffic)
     yield ""
+    if search:
+        yield from search_lines(search)
+        yield ""
     yield from of_changes(answer)
     yield ""
     yield coloured(headline(answer).upper() if has_colours else headline(answer), RED if answer.broken else GREEN, has_colours)
@@ -129,7 +173,7 @@ def of_check(path, script, replay):
     owned = [f"{server}: {len(range(at, buckets, len(servers))):,}" for at, server in enumerate(servers)]
     yield f"{path}: ok"
     yield f"  buckets by server at first: {', '.join(owned)}"
-    for number, (command, (moves, _)) in enumerate(zip(script.changes, replay.moved()), 1):
+    for number, (command, (moves, _)) in enumerate(zip(script.changes, replay.moved), 1):
         yield f"  change {number}, {words_of(command)}: moves {moves:,} of {plural(buckets, 'bucket')}"
 
 
@@ -151,21 +195,42 @@ def connection_json(answer, it):
         "at_ns": at(answer, it.at),
         "verdict": it.verdict,
         "cause": it.cause,
+        "losing_data": it.is_losing_data,
+        "ended": it.ended,
     }
 
 
-def json_of(paths, answer):
-    """The answer as a JSON object. Times are nanoseconds since 1970, waits are nanoseconds."""
-    traffic, needed = answer.traffic, answer.needed()
-    return json.dumps({
+def traffic_json(paths, traffic):
+    """What was read. The answer for a sample says so."""
+    sample = {} if traffic.sample is WHOLE else {"sample": traffic.sample.number, "of_connections": traffic.sample.counts[1]}
+    return {
         "captures": list(paths),
         "packets": len(traffic.packets) - traffic.opened,
-        "connections": len(answer.replay.connections),
+        "connections": traffic.connections,
         "opened": traffic.opened,
         "not_used": dict(traffic.left_out),
         "cut": traffic.cut,
         "begin_ns": traffic.begin,
         "end_ns": traffic.end,
+    } | sample
+
+
+def search_json(search):
+    """What a search found, and how many replays it took."""
+    return {
+        "is_found": search.is_found,
+        "replays": search.tries,
+        "why_not": search.why,
+        "broken_with_a_second_less": search.less,
+        "put_off": [{"change": number, "wait_ns": wait, "client": search.clients[number]} for number, wait in sorted(search.waits.items())],
+    }
+
+
+def json_of(paths, answer, search=None):
+    """The answer as a JSON object. Times are nanoseconds since 1970, waits are nanoseconds."""
+    needed = answer.lasting.needed
+    found = {"search": search_json(search)} if search else {}
+    return json.dumps(traffic_json(paths, answer.traffic) | found | {
         "timeout_s": answer.script.timeout_s,
         "changes": [{**command, "at_ns": at(answer, command["at_ns"])} for command in answer.script.changes],
         "by_the_change": [connection_json(answer, it) for it in answer.broken],
@@ -173,6 +238,7 @@ def json_of(paths, answer):
         "keeping_timeout_s": answer.keeping_s,
         "by_the_change_then": answer.kept and [connection_json(answer, it) for it in answer.kept],
         "needed_ns": needed and needed.wait,
-        "open_at_end": len(answer.open),
+        "open_at_end": answer.replay.open,
+        "longest_idle_ns": answer.replay.idle if answer.replay.open else None,
         "lifetime_ns": answer.lifetime,
     })

@@ -5,6 +5,7 @@ from plan.captures import read_capture
 from plan.faults import CAPTURE, Refusal
 from plan.frames import LINKS, begin_of, opening, read_frame
 from plan.moments import MICROSECOND, MILLISECOND, SECOND
+from plan.sample import WHOLE
 from plan.scripts import endpoint_text
 
 OTHERS, COPIES = "to other destinations", "copies"
@@ -23,12 +24,12 @@ class Packet:
 
 class Traffic:
     """What captures hold: the packets to the services in the order of their times, how many frames were left out and why, the times of
-    the first and the last frame, how many connections were opened in front of them, how many packets look like copies, and which captures
-    end within a record."""
+    the first and the last frame, how many connections were opened in front of them, how many packets look like copies, which captures
+    end within a record, and which sample of the connections the packets are."""
 
-    def __init__(self, packets, left_out, begin, end, opened, copies, cut):
+    def __init__(self, packets, left_out, begin, end, opened, copies, cut, sample):
         self.packets, self.left_out, self.begin, self.end = packets, left_out, begin, end
-        self.opened, self.copies, self.cut = opened, copies, cut
+        self.opened, self.copies, self.cut, self.sample = opened, copies, cut, sample
 
     @property
     def connections(self):
@@ -58,20 +59,20 @@ def busiest(destinations):
     return ", ".join(f"{endpoint_text(*it)} ({count} packets)" for it, count in destinations.most_common(3))
 
 
-def in_order(path, cut):
+def in_order(path, cut, watch):
     """The frames of a capture, each no earlier than those before it."""
     latest = 0
-    for frame in read_capture(path, cut):
+    for frame in read_capture(path, cut, watch):
         if frame.time >= LATEST:
             raise Refusal(CAPTURE, f"{path}: it has times after the year 2106; is it damaged?")
         frame.time = latest = max(latest, frame.time)
         yield frame
 
 
-def read_traffic(paths, services, without_copies=False, is_opened=True):
-    """What the captures hold for these services."""
+def read_traffic(paths, services, without_copies=False, is_opened=True, sample=WHOLE, watch=None):
+    """What the captures hold for these services, or of a sample of their connections."""
     packets, left_out, destinations, segments, begin, copies, cut = [], Counter(), Counter(), {}, None, Copies(), []
-    for frame in heapq.merge(*[in_order(path, cut) for path in paths], key=lambda frame: frame.time):
+    for frame in heapq.merge(*[in_order(path, cut, watch) for path in paths], key=lambda frame: frame.time):
         begin, end = frame.time if begin is None else begin, frame.time
         read = read_frame(frame.link, frame.octets) if frame.link in LINKS else f"of link type {frame.link}"
         if isinstance(read, str):
@@ -82,6 +83,8 @@ def read_traffic(paths, services, without_copies=False, is_opened=True):
         octets = frame.octets[read.place : read.end]
         if (destination, dport) not in services:
             left_out[OTHERS] += 1
+        elif not sample.has(read.flow):
+            pass
         elif copies.has(frame.time, octets) and without_copies:
             left_out[COPIES] += 1
         else:
@@ -90,9 +93,10 @@ def read_traffic(paths, services, without_copies=False, is_opened=True):
     if begin is None:
         raise Refusal(CAPTURE, f"{' and '.join(paths)}: there is no packet in it")
     if not packets:
+        sample.look()
         raise nothing_steered(paths, services, destinations, left_out)
     added = list(openings(packets, segments, begin)) if is_opened else []
-    return Traffic(added + packets, left_out, begin, end, len(added), copies.count, cut)
+    return Traffic(added + packets, left_out, begin, end, len(added), copies.count, cut, sample)
 
 
 def nothing_steered(paths, services, destinations, left_out):

@@ -13,7 +13,7 @@ REMEDIES = {
     "bad value of do": "say add, drain, move, close, retire or sync; `weight` wants `version = 2` above all tables",
     "bad value of at_ns": "moments are whole nanoseconds after the first record, and must not fall",
     "bad value of vips": 'say addresses, not names: vips = ["192.0.2.1:80"]',
-    "unknown key": "look for a misspelt key; keys of the fleet stand above the first [[command]]",
+    "unknown key": "look for a misspelt key; keys of the fleet stand above commands",
     "missing": "write it",
     "bad value of": "docs/FORMATS.md has the range of each key",
     "known server": "the server was there before; give the new one another number",
@@ -59,6 +59,16 @@ def explained(path, text, line):
     found = line_of(text, read["table"], int(read["number"] or 0), key and keys.get(key[1], key[1]))
     place = f"{path}:{found}" if found else f"{path}{f': {read[1]} {read[2]}' if read['table'] else ''}"
     return f"{place}: {read['what']}; {remedy(read['what'])}"
+
+
+def explained_of(script, line):
+    """A line of a program about a script that was put together: what it means, where it is, and what to do."""
+    path, text = script.file
+    read = re.match(r"script command (\d+): (.*)", line)
+    origin = read and script.origins[int(read[1]) - 1]
+    if isinstance(origin, str):
+        return f"{origin}: {read[2]}; {remedy(read[2])}"
+    return explained(path or "the fleet", text, f"script command {origin}: {read[2]}" if read else line)
 
 
 def text_of(path):
