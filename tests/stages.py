@@ -152,6 +152,35 @@ def some_stage(rng):
     return some_packets(rng, stage), *some_fleet(rng, stage)
 
 
+def some_long_connection(rng, port):
+    """A connection that goes on for seconds. Some of its records were captured twice, and its client may end it before its last ones."""
+    flow, moment, seq, packets = (CLIENT, SERVICE[0], port, SERVICE[1]), rng.randint(0, 3 * 10**8), 101, []
+    for number in range(rng.randint(3, 7)):
+        flags, data = (SYN, 0) if number == 0 else rng.choice([(ACK, 0)] + [(ACK, 10)] * 6 + [(FIN | ACK, 0), (RST, 0)])
+        shape = (seq - 1, 0, 0, flags) if flags == SYN else (seq, 501, data, flags)
+        packets += [packet_to_service(moment + later, flow, *shape) for later in rng.choice([(0,), (0,), (0,), (0, 50_000)])]
+        moment, seq = moment + rng.randint(10**6, 10**9), seq + data + bool(flags & FIN)
+    return packets
+
+
+def retiring_stage(rng):
+    """Long connections, mostly to a server that is drained and retires when the timeout has passed or a little later; in the form of
+    `some_stage`."""
+    packets = sorted((packet for port in range(1000, rng.randint(1002, 1005)) for packet in some_long_connection(rng, port)), key=lambda it: it.moment)
+    first, muxes = packets[0].moment, rng.randint(1, 2)
+    for packet in packets:
+        packet.moment -= first
+    lags = [rng.choice([0, 0, 2 * 10**9]) for _ in range(muxes)]
+    setting = {"buckets": rng.randint(1, 2), "servers": [1, 2], "muxes": muxes, "shards": rng.randint(1, 2), "timeout_s": 1, "lags_ns": lags}
+    fleet = Fleet(setting)
+    drain = rng.randint(3 * 10**8, 15 * 10**8)
+    rows = [f"{key} = {value}" for key, value in setting.items()]
+    for at, words in ((drain, ("drain", 1)), (drain + fleet.timeout() + rng.randint(1, 5 * 10**8), ("retire", 1))):
+        assert fleet.command(at, words) is None
+        rows += command_rows(at, words)
+    return packets, fleet, "\n".join(rows) + "\n", None
+
+
 def fleet_of(servers, shards, muxes):
     """The text of a script with this many of each. A run has a seat for each mux and one more at each shard of each server."""
     return f"servers = {list(range(1, servers + 1))}\nshards = {shards}\nmuxes = {muxes}\n"
@@ -201,12 +230,12 @@ def capture(packets, link=RAW_IP, unit=1, front=b"", began=0):
     """A capture of the packets that begins `began` nanoseconds after 1970. Each packet comes after the octets of a link layer, `front`;
     times are in units of `unit` nanoseconds."""
     magic = {1: 0xA1B23C4D, 1000: 0xA1B2C3D4}[unit]
-    octets = struct.pack("<IHHiIII", magic, 2, 4, 0, 0, 262144, link)
+    octets = bytearray(struct.pack("<IHHiIII", magic, 2, 4, 0, 0, 262144, link))
     for packet in packets:
         body = front + packet.octets()
         seconds, rest = divmod(began + packet.moment, 10**9)
         octets += struct.pack("<IIII", seconds, rest // unit, len(body), len(body)) + body
-    return octets
+    return bytes(octets)
 
 
 def write(path, content):

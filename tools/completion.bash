@@ -1,5 +1,5 @@
-# Bash completion for beamer (the form, the trace, the capture, the script) and beamer-connections (the capture, the script, the options;
-# or --lifetime and a script).
+# Bash completion for beamer (the form, the trace, the capture, the script) and beamer-connections (the capture, the script, the options,
+# or --of and whose story is wanted; or --lifetime and a script).
 #
 # usage: source tools/completion.bash
 
@@ -32,11 +32,23 @@ _beamer_lifetime() {
   esac
 }
 
+# Completes the last option of a story. Bash takes an address and its port for three words.
+_beamer_story() {
+  case " ${COMP_WORDS[*]:4:COMP_CWORD-4} " in
+    "  " | *" --clock "*) ;;
+    *) mapfile -t COMPREPLY < <(compgen -W "--clock" -- "$1") ;;
+  esac
+}
+
 _beamer_connections() {
   local word=${COMP_WORDS[COMP_CWORD]}
   COMPREPLY=()
   if [ "$COMP_CWORD" -gt 1 ] && [ "${COMP_WORDS[1]}" = --lifetime ]; then
     _beamer_lifetime "$word"
+    return
+  fi
+  if [ "$COMP_CWORD" -gt 3 ] && [ "${COMP_WORDS[3]}" = --of ]; then
+    _beamer_story "$word"
     return
   fi
   if [ "$COMP_CWORD" = 1 ] && [ "${word#-}" != "$word" ]; then
@@ -46,7 +58,7 @@ _beamer_connections() {
   case $COMP_CWORD in
     1) _beamer_files "$word" '@(pcap|pcapng|cap)' ;;
     2) _beamer_files "$word" toml ;;
-    3) mapfile -t COMPREPLY < <(compgen -W "--csv --json --svg --clock" -- "$word") ;;
+    3) mapfile -t COMPREPLY < <(compgen -W "--csv --json --svg --clock --of" -- "$word") ;;
     4) case ${COMP_WORDS[3]} in
          --clock) mapfile -t COMPREPLY < <(compgen -W "--csv --json --svg" -- "$word") ;;
          --csv | --json) mapfile -t COMPREPLY < <(compgen -W "--clock" -- "$word") ;;
