@@ -44,7 +44,7 @@ static TABLE: [Connection; 3] = [
             number: 4,
             moment: Moment(1_999_999_998),
         },
-        ending: Ending::Open,
+        ending: Ending::Fin,
         server: Some(ServerId(1)),
         tally: Tally {
             accepted: 1,
@@ -81,7 +81,7 @@ static TABLE: [Connection; 3] = [
             number: 2,
             moment: Moment(250_000_000),
         },
-        ending: Ending::Open,
+        ending: Ending::Fin,
         server: None,
         tally: Tally {
             accepted: 0,
@@ -118,7 +118,7 @@ static TABLE: [Connection; 3] = [
             number: 5,
             moment: Moment(600_000_000),
         },
-        ending: Ending::Open,
+        ending: Ending::Fin,
         server: Some(ServerId(9)),
         tally: Tally {
             accepted: 1,
@@ -228,7 +228,7 @@ static SHORT: [Connection; 1] = [Connection {
         number: 2,
         moment: Moment(10_000),
     },
-    ending: Ending::Open,
+    ending: Ending::Fin,
     server: None,
     tally: Tally {
         accepted: 0,

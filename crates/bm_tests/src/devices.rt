@@ -38,17 +38,17 @@ struct Called {
 /// script are read in two reads, and a third finds the end. Of the capture, 4 octets are read,
 /// which decide the form, then the other 20 of the header, and then 122 in four reads; a seventh
 /// finds the end. The 311 octets of a report take eight writes, and eight reads and a ninth for the
-/// end; a run may write more. The lines of streams have 70 octets, the object 316.
+/// end; a run may write more. The lines of streams have 70 octets, the object 390.
 static OVER_TWO: [Called; 5] = [
     Called {
         call: Call::Beamer(&["replay", "c", "s"]),
         text: Text::Whole(MOVED_REPORT),
-        calls: (3, 7, 0, 8),
+        calls: (3, 7, 0, 10),
     },
     Called {
         call: Call::Beamer(&["run", "c", "s"]),
         text: Text::Has("total packets 2 steered 2 unsteered 0 accepted 1 processed 1 "),
-        calls: (3, 7, 0, 8),
+        calls: (3, 7, 0, 10),
     },
     Called {
         call: Call::Beamer(&["streams", "c", "s"]),
@@ -65,13 +65,15 @@ static OVER_TWO: [Called; 5] = [
     Called {
         call: Call::Connections(&["c", "s", "--json"]),
         text: Text::Whole(
-            "{\"arrivals\":{\"accepted\":1,\"dropped\":0,\"forwarded\":1,\"processed\":1,\
-             \"reset\":0,\"stray\":0},\"broken\":null,\"client\":\"10.0.0.1:1000\",\
+            "{\"arrivals\":{\"accepted\":1,\"after_its_end\":0,\"dropped\":0,\"forwarded\":1,\
+             \"processed\":1,\"reset\":0,\"stray\":0},\"broken\":null,\
+             \"client\":\"10.0.0.1:1000\",\
              \"forward\":{\"at_ns\":1002,\"packet\":2,\"server\":2,\"wait_ns\":502},\
              \"last\":{\"at_ns\":1000,\"packet\":2},\"opened\":{\"at_ns\":0,\"packet\":1},\
+             \"outcome\":{\"end\":\"open\",\"losing_data\":false,\"why\":null},\
              \"rack\":null,\"refused\":null,\"server\":1,\"service\":\"192.0.2.1:80\"}\n",
         ),
-        calls: (3, 7, 0, 8),
+        calls: (3, 7, 0, 10),
     },
 ];
 
