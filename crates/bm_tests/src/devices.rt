@@ -43,12 +43,12 @@ static OVER_TWO: [Called; 5] = [
     Called {
         call: Call::Beamer(&["replay", "c", "s"]),
         text: Text::Whole(MOVED_REPORT),
-        calls: (3, 7, 0, 10),
+        calls: (3, 7, 0, 8),
     },
     Called {
         call: Call::Beamer(&["run", "c", "s"]),
         text: Text::Has("total packets 2 steered 2 unsteered 0 accepted 1 processed 1 "),
-        calls: (3, 7, 0, 10),
+        calls: (3, 7, 0, 8),
     },
     Called {
         call: Call::Beamer(&["streams", "c", "s"]),
