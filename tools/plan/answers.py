@@ -14,13 +14,13 @@ class Judge:
         self.engine, self.script = engine, script
 
     @cached_property
-    def whole(self):
-        """The flows that nothing breaks or refuses without the changes."""
-        return {flow for flow, it in self.engine.base(self.script).connections.items() if not it.is_broken and not it.is_refused}
+    def failed(self):
+        """The flows that are broken or refused without the changes."""
+        return self.engine.base(self.script).failed
 
     def by_the_change(self, replay):
         """The connections that the changes break in this replay, as the program says, and those that they have refused."""
-        found = [it for it in replay.connections.values() if it.is_by_the_change or it.is_refused and it.flow in self.whole]
+        found = [it for it in replay.failed.values() if it.is_by_the_change or it.is_refused and it.flow not in self.failed]
         return sorted(found, key=lambda it: it.at)
 
 
@@ -62,7 +62,7 @@ class Answer(Judgement):
         super().__init__(engine, script)
         self.traffic, self.zero = traffic, zero
         broken = {it.flow for it in self.broken}
-        self.anyway = [it for flow, it in self.replay.connections.items() if (it.is_broken or it.is_refused) and flow not in broken]
+        self.anyway = [it for flow, it in self.replay.failed.items() if flow not in broken]
         self.kept_lifetime = engine.lifetime(script.with_timeout(self.keeping_s)) if self.keeping_s else None
 
     def switch_off(self):

@@ -1,17 +1,15 @@
 """The proved program `beamer-connections`, which answers for captures and scripts."""
-import os, re, signal, struct, subprocess, threading, zlib
-from collections import Counter
+import os, re, signal, subprocess, threading
 from concurrent.futures import Future, ThreadPoolExecutor
+from functools import cached_property
 from typing import NamedTuple
-from plan.faults import CAPTURE, READ, SCRIPT, WRITE, Refusal
-from plan.frames import RAW
-from plan.moments import SECOND, seconds
+from plan.faults import READ, SCRIPT, Refusal
+from plan.moments import seconds
+from plan.selection import write
 from plan.where import explained_of
+from plan.workers import processors
 
 TOP = os.path.dirname(os.path.dirname(os.path.dirname(os.path.realpath(__file__))))
-# The most records of a capture that the program takes. Two of them are ours: the first, at the moment 0, and the last.
-MOST = 200_000 - 2
-HEADER = struct.pack("<IHHiIII", 0xA1B23C4D, 2, 4, 0, 0, 262_144, RAW)
 CONNECTION = re.compile(
     r"connection (?P<client>\S+) (?P<service>\S+) opened \d+ at (?P<opened>\S+) last \d+ at (?P<last>\S+) "
     r"accepted (?P<server>\d+|none)(?: rack \d+)? times \d+ processed \d+ forwarded \d+ dropped \d+ reset \d+ stray \d+ "
@@ -30,7 +28,13 @@ OPEN_END = re.compile(r"open-at-end change \d+ connections \d+ longest-idle (\S+
 class Connection:
     """What the program tells of a connection. Times are nanoseconds after the moment 0."""
 
-    def __init__(self, read):
+    __slots__ = (
+        *("client", "service", "verdict", "cause", "opened", "last", "ended", "server", "at"),
+        *("is_broken", "is_refused", "is_by_the_change", "is_losing_data"),
+    )
+
+    def __init__(self, line):
+        read = CONNECTION.fullmatch(line)
         self.client, self.service, self.verdict, self.cause = read["client"], read["service"], read["verdict"], read["cause"]
         self.opened, self.last, self.ended = seconds(read["opened"]), seconds(read["last"]), read["ended"]
         self.server = None if read["server"] == "none" else int(read["server"])
@@ -50,77 +54,56 @@ class Need(NamedTuple):
     client: str
 
 
+class Outcome:
+    """What the program tells of a replay of one part: how many connections there are, those that are broken or refused, and all lines
+    that aren't of connections. The file of this name has what it said."""
+
+    def __init__(self, path):
+        self.path = path
+        with open(path, "rb") as file:
+            text = file.read()
+        self.count = text.count(b"\nconnection ")
+        last = text.rfind(b"\nconnection ")
+        rest = text[text.find(b"\n", last + 1) + 1 if last >= 0 else text.find(b"\n") + 1 :]
+        self.lines = [text[: text.find(b"\n")].decode(), *rest.decode().splitlines()]
+        self.failed = list(map(Connection, lines_with(text, b" because ")))
+
+    def connections(self):
+        """All connections of the part."""
+        with open(self.path) as file:
+            yield from (Connection(line.rstrip("\n")) for line in file if line.startswith("connection "))
+
+
+def lines_with(text, word):
+    """The lines of octets that have this word."""
+    place = text.find(word)
+    while place >= 0:
+        end = text.find(b"\n", place)
+        yield text[text.rfind(b"\n", 0, place) + 1 : end].decode()
+        place = text.find(word, end)
+
+
 class Replay:
-    """What the program tells of a replay of all parts of a capture: the connections by flow, how many buckets each change moves, of how
-    many, the least timeout that is long enough where packets came too late, the longest need of an old server, and how many connections
-    are open at the end that a change moves, with the longest time since the last packet of one. `lines` has all lines that aren't of
-    connections."""
+    """What the program tells of a replay of all parts of a capture: how many connections there are, those that are broken or refused by
+    flow, how many buckets each change moves, of how many, the least timeout that is long enough where packets came too late, the longest
+    need of an old server, and how many connections are open at the end that a change moves, with the longest time since the last packet
+    of one. `lines` has all lines that aren't of connections."""
 
-    def __init__(self, texts):
-        self.connections, self.moved, self.late_s, self.needed, self.open, self.idle, self.lines = {}, [], None, None, 0, 0, []
-        for text in texts:
-            self.take(text.splitlines())
+    def __init__(self, outcomes):
+        self.outcomes, self.lines = outcomes, [line for it in outcomes for line in it.lines]
+        self.count, self.failed = sum(it.count for it in outcomes), {one.flow: one for it in outcomes for one in it.failed}
+        answers = [ANSWER.fullmatch(it.lines[0]) for it in outcomes]
+        self.late_s = max(int(it["late_s"] or 0) for it in answers) or None
+        self.open = sum(int(it["open"]) for it in answers)
+        self.moved = [tuple(map(int, CHANGE.fullmatch(line).groups())) for line in outcomes[0].lines if line.startswith("change ")]
+        needs = [Need(seconds(read[1]), read[2]) for read in map(NEEDED.fullmatch, self.lines) if read]
+        self.needed = max(needs, key=lambda it: it.wait, default=None)
+        self.idle = max([0, *(seconds(read[1]) for read in map(OPEN_END.fullmatch, self.lines) if read)])
 
-    def take(self, lines):
-        """Adds the lines of a part."""
-        answer = ANSWER.fullmatch(lines[0])
-        self.lines += [line for line in lines if not line.startswith("connection ")]
-        found = [CONNECTION.fullmatch(line) for line in lines if line.startswith("connection ")]
-        self.connections |= {it.flow: it for it in map(Connection, found)}
-        self.moved = self.moved or [tuple(map(int, CHANGE.fullmatch(line).groups())) for line in lines if line.startswith("change ")]
-        self.late_s = max(self.late_s or 0, int(answer["late_s"] or 0)) or None
-        needs = [Need(seconds(read[1]), read[2]) for read in map(NEEDED.fullmatch, lines) if read]
-        self.needed = max([*needs, *([self.needed] if self.needed else [])], key=lambda it: it.wait, default=None)
-        self.open += int(answer["open"])
-        self.idle = max([self.idle, *(seconds(read[1]) for read in map(OPEN_END.fullmatch, lines) if read)])
-
-
-def written_parts(folder, traffic, zero, number=1):
-    """The traffic as captures that the program takes, in a folder, at least so many. Each connection is in one of them."""
-    counts = Counter(packet.flow for packet in traffic.packets)
-    longest = max(counts.values(), default=0)
-    if longest > MOST:
-        raise Refusal(CAPTURE, f"one connection has {longest:,} packets, more than the {MOST:,} that can be replayed")
-    number = max(number, -(-len(traffic.packets) // MOST))
-    while max(sizes(counts, number)) > MOST:
-        number += 1
-    parts = [[] for _ in range(number)]
-    for packet in traffic.packets:
-        parts[part_of(packet.flow, number)].append(packet)
-    paths = [os.path.join(folder, f"part-{at + 1}.pcap") for at in range(number)]
-    for path, packets in zip(paths, parts):
-        write_part(path, packets, zero, traffic.end)
-    return paths
-
-
-def part_of(flow, number):
-    return zlib.crc32(struct.pack(">IIHH", *flow)) % number
-
-
-def sizes(counts, number):
-    found = [0] * number
-    for flow, count in counts.items():
-        found[part_of(flow, number)] += count
-    return found
-
-
-def write_part(path, packets, zero, end):
-    """Writes a capture whose first record, at the moment 0, and last record, at the end, hold no packet."""
-    try:
-        with open(path, "wb") as file:
-            file.write(HEADER + record(0, b"\x00"))
-            file.writelines(record(packet.time - zero, packet.octets) for packet in packets)
-            file.write(record(end - zero, b"\x00"))
-    except OSError as wrong:
-        raise no_room(path, wrong) from None
-
-
-def no_room(path, wrong):
-    return Refusal(WRITE, f"{path}: {wrong.strerror.lower()}; TMPDIR names another folder for temporary files")
-
-
-def record(time, octets):
-    return struct.pack("<IIII", time // SECOND, time % SECOND, len(octets), len(octets)) + octets
+    @cached_property
+    def connections(self):
+        """All connections by flow."""
+        return {one.flow: one for it in self.outcomes for one in it.connections()}
 
 
 class Engine:
@@ -147,44 +130,41 @@ class Engine:
                     os.killpg(process.pid, signal.SIGKILL)
         self.pool.shutdown(wait=False, cancel_futures=True)
 
-    def begun(self, words):
-        """A process of the program, in a group of its own, so that what it starts ends with it."""
-        with self.lock:
+    def begun(self, words, path):
+        """A process of the program that writes to this file, in a group of its own, so that what it starts ends with it."""
+        with self.lock, open(path, "xb") as file:
             if self.is_stopped:
                 raise Refusal(READ, "the replays were stopped")
             try:
-                process = subprocess.Popen([self.program, *words], stdin=subprocess.DEVNULL, stdout=subprocess.PIPE, text=True, process_group=0)
+                process = subprocess.Popen([self.program, *words], stdin=subprocess.DEVNULL, stdout=file, process_group=0)
             except OSError as wrong:
                 raise Refusal(READ, f"{self.program}: {wrong.strerror.lower()}; tools/prove builds it") from None
             self.running.add(process)
             return process
 
-    def call(self, *words):
-        """The output of the program, and the status."""
-        with self.begun(words) as process:
-            text = process.communicate()[0]
-            with self.lock:
-                self.running.discard(process)
-        return text, process.returncode
-
     def answered(self, script, *words):
-        """The output of the program for this script, where its status is 0."""
-        text, status = self.call(*words)
-        if status:
-            line = text.strip().removeprefix("beamer: ")
-            told = explained_of(script, line) if status == SCRIPT else line or f"{self.program} ended with status {status}"
-            raise Refusal(status if 2 <= status <= 7 else READ, told)
-        return text
+        """The name of a file with the output of the program for this script, where its status is 0."""
+        path = self.new("told")
+        with self.begun(words, path) as process:
+            status = process.wait()
+        with self.lock:
+            self.running.discard(process)
+        if not status:
+            return path
+        with open(path, errors="replace") as file:
+            line = file.read(4096).strip().removeprefix("beamer: ")
+        told = explained_of(script, line) if status == SCRIPT else line or f"{self.program} ended with status {status}"
+        raise Refusal(status if 2 <= status <= 7 else READ, told)
 
-    def written(self, script):
+    def new(self, name):
+        """The name of a new file in the folder."""
         with self.lock:
             self.files += 1
-            path = os.path.join(self.folder, f"script-{self.files}.toml")
-        try:
-            with open(path, "w") as file:
-                file.write(script.text())
-        except OSError as wrong:
-            raise no_room(path, wrong) from None
+            return os.path.join(self.folder, f"{name}-{self.files}")
+
+    def written(self, script):
+        path = self.new("script")
+        write(path, [script.text().encode()])
         return path
 
     def replay(self, script):
@@ -195,10 +175,10 @@ class Engine:
         return Replay(list(self.pool.map(lambda part: self.replayed(script, part, path), self.paths)))
 
     def replayed(self, script, part, path):
-        text = self.answered(script, part, path)
+        outcome = Outcome(self.answered(script, part, path))
         if self.progress:
             self.progress.step()
-        return text
+        return outcome
 
     def base(self, script):
         """The replay of a script without its changes. Scripts that differ in their changes alone have one."""
@@ -216,9 +196,7 @@ class Engine:
 
     def lifetime(self, script):
         """How long a connection may live by the script, in nanoseconds; None without a bound."""
-        word = self.answered(script, "--lifetime", self.written(script)).split()[1]
+        with open(self.answered(script, "--lifetime", self.written(script))) as file:
+            word = file.readline().split()[1]
         return None if word == "unbounded" else seconds(word)
 
-
-def processors():
-    return len(os.sched_getaffinity(0))

@@ -3,9 +3,10 @@ import argparse, os, signal, sys, tempfile
 from contextlib import ExitStack
 from datetime import datetime
 from plan.answers import Answer
-from plan.engine import Engine, write_part, written_parts
+from plan.engine import Engine
 from plan.faults import BREAKS, USAGE, WRITE, Refusal, of_file
-from plan.moments import MICROSECOND, of_datetime
+from plan.moments import of_datetime
+from plan.parts import write_capture
 from plan.progress import Progress
 from plan.sample import WHOLE, sample_of
 from plan.scripts import Script, dated, endpoint_text, service
@@ -138,7 +139,7 @@ class Told:
 
     def __init__(self, given, plans, traffic, engine):
         self.given, self.traffic, self.search, self.rows = given, traffic, None, None
-        times = Times(traffic.begin, traffic.end, traffic.begin - MICROSECOND)
+        times = Times(traffic.begin, traffic.end, traffic.zero)
         if given.is_table:
             self.rows = rows_of(engine, variants(given, plans, times), times)
             return
@@ -170,11 +171,10 @@ def told_of(given):
     with ExitStack() as stack:
         progress = stack.enter_context(Progress())
         services = plans[0].script.services
-        traffic = read_traffic(given.captures, services, given.no_copies, not given.no_open, sample, progress.watch)
         folder = stack.enter_context(tempfile.TemporaryDirectory(prefix="beamer-plan-"))
-        paths = written_parts(folder, traffic, traffic.begin - MICROSECOND)
+        traffic = read_traffic(folder, given.captures, services, given.no_copies, not given.no_open, sample, progress)
         progress.stage("replays")
-        told = Told(given, plans, traffic, stack.enter_context(Engine(folder, paths, progress)))
+        told = Told(given, plans, traffic, stack.enter_context(Engine(folder, traffic.paths, progress)))
     if given.keep_script:
         keep(given.keep_script, told.answer.script)
     return told
@@ -188,7 +188,7 @@ def check_of(given):
     script = plan.dated((begin, end, begin))
     with tempfile.TemporaryDirectory(prefix="beamer-plan-") as folder:
         path = os.path.join(folder, "empty.pcap")
-        write_part(path, [], 0, 0)
+        write_capture(path, [], 0)
         with Engine(folder, [path]) as engine:
             replay = engine.replay(script)
     return "\n".join(of_check(plan.path, script, replay))

@@ -3,6 +3,8 @@ import hashlib, re, struct
 from plan.faults import CAPTURE, USAGE, Refusal
 
 MOST = 1_000_000
+# The octets of a flow: its addresses and its ports.
+FLOW = struct.Struct(">IIHH")
 
 
 class Sample:
@@ -13,9 +15,10 @@ class Sample:
         self.number, self.flows = number, {}
 
     def has(self, flow):
-        found = self.flows.get(flow)
+        key = FLOW.pack(*flow)
+        found = self.flows.get(key)
         if found is None:
-            found = self.flows[flow] = hash_of(flow) % self.number == 0
+            found = self.flows[key] = hash_of(key) % self.number == 0
         return found
 
     def look(self):
@@ -43,8 +46,9 @@ WHOLE = Whole()
 
 
 def hash_of(flow):
-    """A number that goes by the flow alone. Neither buckets nor the parts of a capture go by it, so a sample has its share of each."""
-    return int.from_bytes(hashlib.blake2b(struct.pack(">IIHH", *flow), digest_size=8).digest())
+    """A number that goes by the octets of a flow alone. Neither buckets nor the parts of a capture go by it, so a sample has its share of
+    each."""
+    return int.from_bytes(hashlib.blake2b(flow, digest_size=8).digest())
 
 
 def sample_of(text):

@@ -3,7 +3,7 @@ import json
 from plan.moments import SECOND, clock_text, date, seconds_text
 from plan.sample import WHOLE, of_sample
 from plan.scripts import DEFAULT_BUCKETS, DEFAULT_SERVERS, endpoint_text, words_of
-from plan.traffic import COPIES, OTHERS
+from plan.traffic import COPIES
 
 # How many broken connections are listed.
 LISTED = 10
@@ -31,8 +31,8 @@ def coloured(text, colour, has_colours):
 def of_traffic(paths, traffic):
     """What was read, and what wasn't used."""
     names = ", ".join("standard input" if path == "-" else path for path in paths)
-    services = ", ".join(sorted(endpoint_text(*it) for it in {packet.flow[1::2] for packet in traffic.packets}))
-    told = f"{plural(len(traffic.packets) - traffic.opened, 'packet')} to {services} in {plural(traffic.connections, 'connection')}"
+    services = ", ".join(sorted(endpoint_text(*it) for it in traffic.services))
+    told = f"{plural(traffic.packets, 'packet')} to {services} in {plural(traffic.connections, 'connection')}"
     yield f"{names}: {told}"
     yield f"  on {date(traffic.begin)}, {clock_text(traffic.begin, 3)} to {clock_text(traffic.end, 3)} UTC"
     if traffic.opened:
@@ -41,7 +41,7 @@ def of_traffic(paths, traffic):
         yield f"  {name} ends within a record: what came after it isn't known"
     for why, count in traffic.left_out.most_common():
         yield f"  not used: {plural(count, 'packet')} {why}"
-    if 10 * traffic.copies > len(traffic.packets) and not traffic.left_out[COPIES]:
+    if 10 * traffic.copies > traffic.packets + traffic.opened and not traffic.left_out[COPIES]:
         yield f"  {plural(traffic.copies, 'packet')} look like copies of one before: capture on one interface, or leave them out by --no-copies"
     yield from of_sample(traffic.sample)
 
@@ -71,7 +71,7 @@ def headline(answer):
     """The answer in a sentence."""
     count, refused = sum(it.is_broken for it in answer.broken), sum(it.is_refused for it in answer.broken)
     what, have = ("the change breaks", "has") if len(answer.script.changes) == 1 else ("the changes break", "have")
-    of = f"of {plural(len(answer.replay.connections), 'connection')}, with a timeout of {answer.script.timeout_s} s"
+    of = f"of {plural(answer.replay.count, 'connection')}, with a timeout of {answer.script.timeout_s} s"
     return f"{what} {count or 'none'}{f', and {have} {refused} refused,' if refused else ''} {of}{'' if answer.broken else left_open(answer.replay)}"
 
 
@@ -205,7 +205,7 @@ def traffic_json(paths, traffic):
     sample = {} if traffic.sample is WHOLE else {"sample": traffic.sample.number, "of_connections": traffic.sample.counts[1]}
     return {
         "captures": list(paths),
-        "packets": len(traffic.packets) - traffic.opened,
+        "packets": traffic.packets,
         "connections": traffic.connections,
         "opened": traffic.opened,
         "not_used": dict(traffic.left_out),

@@ -3,11 +3,11 @@ import math, re
 from concurrent.futures import ThreadPoolExecutor
 from typing import NamedTuple
 from plan.answers import Judgement
-from plan.engine import processors
 from plan.faults import SCRIPT, USAGE, Refusal
 from plan.moments import MINUTE, SECOND, after, moment_of
 from plan.scripts import DEFAULT_SERVERS, MOST_WEIGHT, Dated, Script, dated, words_of
 from plan.told import needed_changes
+from plan.workers import processors
 
 # The waits between the steps of a slow start, and the most rows of a table.
 WAITS = SECOND, 10 * SECOND, MINUTE, 10 * MINUTE
