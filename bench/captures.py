@@ -46,7 +46,12 @@ def write_capture(path, packets, *words):
 
 def write_apart(*words):
     """Writes a capture in its own process: this one's memory would count as memory of the calls."""
-    writer = multiprocessing.Process(target=write_capture, args=words)
+    apart(write_capture, *words)
+
+
+def apart(write, *words):
+    """Has a capture written in a process of its own."""
+    writer = multiprocessing.Process(target=write, args=words)
     writer.start()
     writer.join()
     if writer.exitcode:
