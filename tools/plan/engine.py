@@ -109,6 +109,9 @@ class Replay:
 class Engine:
     """Replays the parts of a capture by scripts, as many at a time as there are processors. Several threads may ask for replays."""
 
+    # Where processes write what isn't output: as this process does.
+    errors = None
+
     def __init__(self, folder, paths, progress=None):
         self.program = os.environ.get("CONNECTIONS", os.path.join(TOP, "beamer-connections"))
         self.folder, self.paths, self.progress = folder, paths, progress
@@ -127,34 +130,44 @@ class Engine:
             self.is_stopped = True
             for process in self.running:
                 if process.poll() is None:
-                    os.killpg(process.pid, signal.SIGKILL)
+                    self.kill(process)
         self.pool.shutdown(wait=False, cancel_futures=True)
 
-    def begun(self, words, path):
-        """A process of the program that writes to this file, in a group of its own, so that what it starts ends with it."""
+    def kill(self, process):
+        os.killpg(process.pid, signal.SIGKILL)
+
+    def begun(self, words, path, source=subprocess.DEVNULL):
+        """A process that writes to this file, in a group of its own, so that what it starts ends with it."""
         with self.lock, open(path, "xb") as file:
             if self.is_stopped:
                 raise Refusal(READ, "the replays were stopped")
             try:
-                process = subprocess.Popen([self.program, *words], stdin=subprocess.DEVNULL, stdout=file, process_group=0)
+                process = subprocess.Popen(words, stdin=source, stdout=file, stderr=self.errors, process_group=0)
             except OSError as wrong:
-                raise Refusal(READ, f"{self.program}: {wrong.strerror.lower()}; tools/prove builds it") from None
+                raise Refusal(READ, f"{words[0]}: {wrong.strerror.lower()}; tools/prove builds it") from None
             self.running.add(process)
             return process
+
+    def ended(self, process):
+        with self.lock:
+            self.running.discard(process)
 
     def answered(self, script, *words):
         """The name of a file with the output of the program for this script, where its status is 0."""
         path = self.new("told")
-        with self.begun(words, path) as process:
+        with self.begun([self.program, *words], path) as process:
             status = process.wait()
-        with self.lock:
-            self.running.discard(process)
-        if not status:
-            return path
-        with open(path, errors="replace") as file:
-            line = file.read(4096).strip().removeprefix("beamer: ")
-        told = explained_of(script, line) if status == SCRIPT else line or f"{self.program} ended with status {status}"
-        raise Refusal(status if 2 <= status <= 7 else READ, told)
+        self.ended(process)
+        self.look_at(script, path, status)
+        return path
+
+    def look_at(self, script, path, status):
+        """Refuses what the program refused."""
+        if status:
+            with open(path, errors="replace") as file:
+                line = file.read(4096).strip().removeprefix("beamer: ")
+            told = explained_of(script, line) if status == SCRIPT else line or f"{self.program} ended with status {status}"
+            raise Refusal(status if 2 <= status <= 7 else READ, told)
 
     def new(self, name):
         """The name of a new file in the folder."""

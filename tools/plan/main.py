@@ -5,6 +5,7 @@ from datetime import datetime
 from plan.answers import Answer
 from plan.engine import Engine
 from plan.faults import BREAKS, USAGE, WRITE, Refusal, of_file
+from plan.hosts import Hosts
 from plan.moments import of_datetime
 from plan.parts import write_capture
 from plan.progress import Progress
@@ -58,6 +59,8 @@ def parser():
     words.add_argument("--no-open", action="store_true", help="don't open connections from before the captures")
     words.add_argument("--keep-script", metavar="FILE", help="write the script that was replayed")
     words.add_argument("--sample", metavar="1/N", help="only one of N connections, each as a whole, by a hash of its addresses and ports")
+    words.add_argument("--hosts", metavar="FILE", help="replay on these machines, one in a line, by GNU parallel through ssh")
+    words.add_argument("--ssh-config", metavar="FILE", help="the file of settings that ssh reads for --hosts, in place of yours")
     table = words.add_argument_group("tables", "one row for each script, with what it breaks and what would keep that")
     table.add_argument("--what-if", action="store_true", help="a table, though there is one script")
     table.add_argument("--drains-at", metavar="MOMENT,..", help="rows: each server's drain at each moment")
@@ -106,6 +109,8 @@ def look(given):
     given.is_table = given.what_if or len(scripts) > 1 or bool(makers)
     if given.is_table and (given.search or given.keep_script):
         raise Refusal(USAGE, f"{'--search' if given.search else '--keep-script'} is for one script, not for a table")
+    if given.ssh_config and not given.hosts:
+        raise Refusal(USAGE, "--ssh-config is for --hosts")
     if given.tries is not None and (given.tries < 1 or not given.search):
         raise Refusal(USAGE, "--tries N is for --search, and at least 1")
     if given.keep_script and os.path.lexists(given.keep_script):
@@ -164,6 +169,10 @@ class Told:
         return BREAKS if self.answer.broken or self.search and not self.search.is_found else 0
 
 
+def engine_of(given, *words):
+    return Hosts(*words, given.hosts, given.ssh_config) if given.hosts else Engine(*words)
+
+
 def told_of(given):
     look(given)
     plans = plans_of(given)
@@ -174,7 +183,7 @@ def told_of(given):
         folder = stack.enter_context(tempfile.TemporaryDirectory(prefix="beamer-plan-"))
         traffic = read_traffic(folder, given.captures, services, given.no_copies, not given.no_open, sample, progress)
         progress.stage("replays")
-        told = Told(given, plans, traffic, stack.enter_context(Engine(folder, traffic.paths, progress)))
+        told = Told(given, plans, traffic, stack.enter_context(engine_of(given, folder, traffic.paths, progress)))
     if given.keep_script:
         keep(given.keep_script, told.answer.script)
     return told
