@@ -1,5 +1,5 @@
-# Bash completion for beamer (the form, the trace, the capture, the script) and beamer-connections (the capture, the script, the options,
-# or --of and whose story is wanted; or --lifetime and a script).
+# Bash completion for beamer (the form, the trace, the capture, the script), beamer-connections (the capture, the script, the options,
+# or --of and whose story is wanted; or --lifetime and a script) and beamer-plan (captures, options, and the files that these name).
 #
 # usage: source tools/completion.bash
 
@@ -71,3 +71,25 @@ _beamer_connections() {
   esac
 }
 complete -F _beamer_connections beamer-connections ./beamer-connections
+
+_beamer_plan() {
+  local word=${COMP_WORDS[COMP_CWORD]} options
+  COMPREPLY=()
+  case ${COMP_WORDS[COMP_CWORD - 1]} in
+    --fleet | --script | --check) _beamer_files "$word" toml; return ;;
+    --keep-script | --hosts | --ssh-config)
+      compopt -o filenames 2>/dev/null
+      mapfile -t COMPREPLY < <(compgen -f -- "$word")
+      return ;;
+    --drain | --add | --weight | --timeout | --vip | --sample | --schedules) return ;;
+    --drains-at | --drain-all-with-waits | --slow-start | --tries) return ;;
+  esac
+  if [ "${word#-}" = "$word" ]; then
+    _beamer_files "$word" '@(pcap|pcapng|cap|gz|xz|bz2|zst)'
+    return
+  fi
+  options="--fleet --script --check --drain --add --weight --timeout --vip --no-copies --no-open --keep-script --sample --hosts"
+  options+=" --ssh-config --schedules --json --help --what-if --drains-at --drain-all-with-waits --slow-start --search --tries"
+  mapfile -t COMPREPLY < <(compgen -W "$options" -- "$word")
+}
+complete -F _beamer_plan beamer-plan ./beamer-plan

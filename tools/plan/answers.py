@@ -56,7 +56,9 @@ class Judgement(Judge):
 
 
 class Answer(Judgement):
-    """The answer for a script: what replays say of it, and what breaks without its changes too."""
+    """The answer for a script: what replays say of it, what breaks without its changes too, and, if that was asked, how threads play it."""
+
+    schedules = None
 
     def __init__(self, engine, script, traffic, zero):
         super().__init__(engine, script)

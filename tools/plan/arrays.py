@@ -1,19 +1,20 @@
 """What plan.selection and plan.parts do, by numpy: for frames of the common kind all at once, and for others one by one."""
-import numpy
+import functools, numpy
 from array import array
 from collections import Counter
-from plan import parts
+from plan import parts, selection as plainly
 from plan.captures import ENHANCED, Records
 from plan.frames import COOKED, COOKED_2, ETHERNET, FIN, LINKS, LONGEST, RAW, RAW_IPV4, begin_of, opening, read_frame
 from plan.moments import MILLISECOND, SECOND
-from plan.parts import HEADER, MOST, Part, content_of, record
+from plan.parts import MOST, Part, content_of, record
 from plan.sample import WHOLE
-from plan.selection import FIRST, HEAD, OTHERS, SECOND as SECOND_FACTOR, SLOTS, Selection, slot_of, write
-from plan import selection as plainly
+from plan.selection import FIRST, OTHERS, SECOND as SECOND_FACTOR, SLOTS, Selection, write
 
-# A frame's place, link type and time.
+# A head of a file of packets, and one of a record.
 HEADS = numpy.dtype([("time", "<u8"), ("length", "<u4"), ("size", "<u4")])
 STAMPS = numpy.dtype([("second", "<u4"), ("part", "<u4"), ("length", "<u4"), ("whole", "<u4")])
+# Odd numbers by which numbers are mixed into one.
+MIXERS = [numpy.uint64(it) for it in (0x9E3779B97F4A7C15, 0xC2B2AE3D27D4EB4F, 0x165667B19E3779F9)]
 # For each link type where the type of the network layer's part is, as of Ethernet, and where that part begins.
 PLACES = {ETHERNET: (12, 14), COOKED: (14, 16), COOKED_2: (0, 20), RAW: (None, 0), RAW_IPV4: (None, 0)}
 
@@ -78,7 +79,8 @@ class Segments:
         total = at(padded, self.begins + 2, ">u2").astype(numpy.int64)
         offset = (at(padded, self.begins + 32, "u1") >> 4).astype(numpy.int64) * 4
         self.flags = at(padded, self.begins + 33, "u1")
-        common = fits & (at(padded, self.begins, "u1") == 0x45) & (at(padded, self.begins + 9, "u1") == 6) & (total >= 40) & (total <= LONGEST)
+        common = fits & (at(padded, self.begins, "u1") == 0x45) & (at(padded, self.begins + 9, "u1") == 6)
+        common &= (total >= 40) & (total <= LONGEST)
         common &= (at(padded, self.begins + 6, ">u2") & 0x3FFF == 0) & (offset >= 20) & (offset <= total - 20)
         if kind_at is not None:
             common &= at(padded, numpy.where(fits, frames.begins + kind_at, 0), ">u2") == 0x0800
@@ -179,7 +181,8 @@ class Packets:
         times = numpy.maximum(heads["time"], numpy.repeat(numpy.array([it.least for it in spans], "u8"), [it.count for it in spans]))
         self.octets = b"".join(octets for _, octets in contents) + bytes(64)
         order = numpy.argsort(times, kind="stable")
-        self.all = (times[order].astype(numpy.int64), heads["length"][order], ends(heads["size"])[:-1][order], heads["size"].astype(numpy.int64)[order])
+        begins, sizes = ends(heads["size"])[:-1], heads["size"].astype(numpy.int64)
+        self.all = [it[order] for it in (times.astype(numpy.int64), heads["length"], begins, sizes)]
         self.take(slice(None))
 
     def take(self, which):
@@ -201,9 +204,11 @@ class Packets:
         follows = numpy.zeros(len(times), bool)
         follows[1:] = (times[1:] - times[:-1] <= MILLISECOND) & ~self.begins_flow[1:]
         soon = numpy.sort(self.by_flow[follows | numpy.append(follows[1:], False)])
+        identities = at(self.octets, self.begins[soon] + 4, ">u4").astype("u8")
+        sequences = self.sequences[soon].astype("u8") << numpy.uint64(32) | identities
         with numpy.errstate(over="ignore"):
-            mixed = self.addresses[soon] * numpy.uint64(0x9E3779B97F4A7C15) ^ self.ports[soon].astype("u8") * numpy.uint64(0xC2B2AE3D27D4EB4F)
-            mixed ^= (self.sequences[soon].astype("u8") << numpy.uint64(32) | at(self.octets, self.begins[soon] + 4, ">u4").astype("u8")) * numpy.uint64(0x165667B19E3779F9)
+            parts_of_it = zip((self.addresses[soon], self.ports[soon].astype("u8"), sequences), MIXERS)
+            mixed = functools.reduce(numpy.bitwise_xor, (it * factor for it, factor in parts_of_it))
         _, numbers, counts = numpy.unique(mixed, return_inverse=True, return_counts=True)
         known, found = parts.Copies(), numpy.zeros(len(self.times), bool)
         for number in soon[counts[numbers] > 1]:

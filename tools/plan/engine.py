@@ -18,7 +18,8 @@ CONNECTION = re.compile(
     r"(?: (?P<why>by-the-change|anyway)(?P<losing> losing-data)?)?|whole|unaccepted)"
 )
 ANSWER = re.compile(
-    r"answer connections \d+ broken \d+ by-the-change \d+ losing-data \d+ refused \d+ open-at-end (?P<open>\d+)(?: timeout_s (?P<late_s>\d+))?"
+    r"answer connections \d+ broken \d+ by-the-change \d+ losing-data \d+ refused \d+ open-at-end (?P<open>\d+)"
+    r"(?: timeout_s (?P<late_s>\d+))?"
 )
 CHANGE = re.compile(r"change \d+ at \S+ (?:add \d+|drain \d+|move) buckets (\d+) of (\d+)(?: home \d+)? owns .+")
 NEEDED = re.compile(r"needed change \d+ for (\S+) by (\S+)")
@@ -152,10 +153,10 @@ class Engine:
         with self.lock:
             self.running.discard(process)
 
-    def answered(self, script, *words):
-        """The name of a file with the output of the program for this script, where its status is 0."""
+    def answered(self, script, *words, program=None):
+        """The name of a file with the output of a program for this script, where its status is 0."""
         path = self.new("told")
-        with self.begun([self.program, *words], path) as process:
+        with self.begun([program or self.program, *words], path) as process:
             status = process.wait()
         self.ended(process)
         self.look_at(script, path, status)

@@ -57,7 +57,8 @@ class Hosts(Engine):
         super().__init__(folder, paths, progress)
         self.name, hosts, self.file = file, hosts_of(file), self.new("hosts")
         write(self.file, [f"{host}\n".encode() for host in hosts])
-        self.ssh = ["ssh", "-o", "BatchMode=yes", "-o", "ConnectTimeout=10", *(["-F", os.path.abspath(configuration)] if configuration else [])]
+        own = ["-F", os.path.abspath(configuration)] if configuration else []
+        self.ssh = ["ssh", "-o", "BatchMode=yes", "-o", "ConnectTimeout=10", *own]
         look_for_parallel()
         with ThreadPoolExecutor(len(hosts)) as pool:
             list(pool.map(self.look, [host.rpartition("/")[2] for host in hosts]))

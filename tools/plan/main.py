@@ -11,6 +11,8 @@ from plan.parts import write_capture
 from plan.progress import Progress
 from plan.sample import WHOLE, sample_of
 from plan.scripts import Script, dated, endpoint_text, service
+from plan import schedules
+from plan.schedules import Schedules
 from plan.search import TRIES, Search
 from plan.table import table_json, table_lines
 from plan.text import json_of, of_check, text_lines
@@ -54,7 +56,7 @@ def parser():
     words.add_argument("--add", metavar="SERVER[=WEIGHT]@MOMENT", action=Said, dest="said", help="add a server")
     words.add_argument("--weight", metavar="SERVER=WEIGHT@MOMENT", action=Said, dest="said", help="give a server another weight")
     words.add_argument("--timeout", metavar="SECONDS", type=int, help="timeout_s in place of the script's")
-    words.add_argument("--vip", metavar="ADDRESS:PORT", action="append", help="a service, in place of the script's vips; as often as needed")
+    words.add_argument("--vip", metavar="ADDRESS:PORT", action="append", help="a service, in place of the script's vips")
     words.add_argument("--no-copies", action="store_true", help="leave out packets that were captured twice within a millisecond")
     words.add_argument("--no-open", action="store_true", help="don't open connections from before the captures")
     words.add_argument("--keep-script", metavar="FILE", help="write the script that was replayed")
@@ -69,9 +71,11 @@ def parser():
                        "number when the next one goes")
     table.add_argument("--slow-start", metavar="SERVER=WEIGHT/STEPS@MOMENT", help="rows: a server is added at once, and in so many steps "
                        "of its weight, 1 s, 10 s, 1 min and 10 min apart")
+    words.add_argument("--schedules", metavar="N", type=int, help="play the script N times by threads too (beamer run), with a sync each "
+                       "quarter of the timeout, and say whether a packet ended otherwise")
     search = words.add_argument_group("search")
     search.add_argument("--search", action="store_true", help="find the least waits between the changes, and the least timeout_s for them, "
-                        "with which they break nothing in the captures; no change comes earlier than it was said, nor sooner after the last")
+                        "with which they break nothing in the captures; no change comes earlier than said, nor sooner after the last")
     search.add_argument("--tries", metavar="N", type=int, help=f"the most replays of a search ({TRIES} if it isn't said)")
     words.add_argument("--json", action="store_true", help="the answer as a JSON object")
     return words
@@ -107,8 +111,10 @@ def look(given):
     if makers and len(scripts) > 1:
         raise Refusal(USAGE, "name one script, or a fleet, from which the rows of the table are made")
     given.is_table = given.what_if or len(scripts) > 1 or bool(makers)
-    if given.is_table and (given.search or given.keep_script):
-        raise Refusal(USAGE, f"{'--search' if given.search else '--keep-script'} is for one script, not for a table")
+    for word in ("search", "keep_script", "schedules"):
+        if given.is_table and getattr(given, word):
+            raise Refusal(USAGE, f"--{word.replace('_', '-')} is for one script, not for a table")
+    schedules.look(given.schedules)
     if given.ssh_config and not given.hosts:
         raise Refusal(USAGE, "--ssh-config is for --hosts")
     if given.tries is not None and (given.tries < 1 or not given.search):
@@ -153,6 +159,8 @@ class Told:
             self.search = Search(engine, script, given.tries or TRIES)
             script = self.search.script
         self.answer = Answer(engine, script, traffic, times.zero)
+        if given.schedules:
+            self.answer.schedules = Schedules(engine, script, given.schedules, traffic.end - traffic.zero)
 
     def text(self, has_colours):
         paths = self.given.captures

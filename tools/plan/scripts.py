@@ -65,7 +65,8 @@ class Script:
     def look(self):
         """Refuses what goes by the numbers of records, since the packets are numbered anew."""
         if self.fleet.get("fault"):
-            raise Refusal(SCRIPT, "its fault tables name records of one capture, and packets are numbered anew here: use ./beamer-connections")
+            told = "its fault tables name records of one capture, and packets are numbered anew here"
+            raise Refusal(SCRIPT, f"{told}: use ./beamer-connections")
         if self.fleet.get("route") == "turn" and len(set(self.lags)) > 1:
             raise Refusal(SCRIPT, 'with route = "turn" and unequal lags the muxes go by the numbers of records: use ./beamer-connections')
 
@@ -110,7 +111,8 @@ def said(verb, text):
     what, at, when = text.partition("@")
     server, equals, weight = what.partition("=")
     numbers = [server, weight] if equals else [server]
-    if not at or any(not re.fullmatch("[0-9]{1,9}", it) for it in numbers) or (verb == "weight") > bool(equals) or (verb == "drain") and equals:
+    is_wrong = any(not re.fullmatch("[0-9]{1,9}", it) for it in numbers)
+    if not at or is_wrong or (verb == "weight") > bool(equals) or (verb == "drain") and equals:
         form = {"add": "SERVER@MOMENT or SERVER=WEIGHT@MOMENT", "drain": "SERVER@MOMENT", "weight": "SERVER=WEIGHT@MOMENT"}[verb]
         raise Refusal(USAGE, f"--{verb} {text}: say --{verb} {form}")
     command = {"do": verb, "server": int(server)} | ({"weight": int(weight)} if equals else {})

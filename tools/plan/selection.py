@@ -1,6 +1,6 @@
 """The packets of a piece of a capture that go to a fleet's services. They are kept in a file in the order of slots: each connection is in
-one slot, by a hash of its flow. The file has a head for each packet (its time in nanoseconds, how many sequence numbers it takes up, and how
-many octets its headers have), and then the headers of all."""
+one slot, by a hash of its flow. The file has a head for each packet (its time in nanoseconds, how many sequence numbers it takes up, and
+how many octets its headers have), and then the headers of all."""
 import struct
 from array import array
 from collections import Counter

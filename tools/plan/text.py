@@ -42,13 +42,24 @@ def of_traffic(paths, traffic):
     for why, count in traffic.left_out.most_common():
         yield f"  not used: {plural(count, 'packet')} {why}"
     if 10 * traffic.copies > traffic.packets + traffic.opened and not traffic.left_out[COPIES]:
-        yield f"  {plural(traffic.copies, 'packet')} look like copies of one before: capture on one interface, or leave them out by --no-copies"
+        told = "look like copies of one before: capture on one interface, or leave them out by --no-copies"
+        yield f"  {plural(traffic.copies, 'packet')} {told}"
     yield from of_sample(traffic.sample)
 
 
+def at_most(lines, indent=""):
+    """The first of many lines, and how many more there are."""
+    lines = list(lines)
+    yield from lines[:LISTED]
+    if len(lines) > LISTED:
+        yield f"{indent}and {len(lines) - LISTED:,} more (--json lists all)"
+
+
 def of_changes(answer):
-    for command, (moves, buckets) in zip(answer.script.changes, answer.replay.moved):
-        yield f"{words_of(command)} at {clock_text(answer.zero + command['at_ns'], 3)}: moves {moves:,} of {plural(buckets, 'bucket')}"
+    yield from at_most(
+        f"{words_of(command)} at {clock_text(answer.zero + command['at_ns'], 3)}: moves {moves:,} of {plural(buckets, 'bucket')}"
+        for command, (moves, buckets) in zip(answer.script.changes, answer.replay.moved)
+    )
     if not answer.script.changes:
         yield "the script changes nothing"
     late = answer.script.changes_after(answer.traffic.end - answer.zero)
@@ -72,17 +83,17 @@ def headline(answer):
     count, refused = sum(it.is_broken for it in answer.broken), sum(it.is_refused for it in answer.broken)
     what, have = ("the change breaks", "has") if len(answer.script.changes) == 1 else ("the changes break", "have")
     of = f"of {plural(answer.replay.count, 'connection')}, with a timeout of {answer.script.timeout_s} s"
-    return f"{what} {count or 'none'}{f', and {have} {refused} refused,' if refused else ''} {of}{'' if answer.broken else left_open(answer.replay)}"
+    more = f", and {have} {refused} refused," if refused else ""
+    return f"{what} {count or 'none'}{more} {of}{'' if answer.broken else left_open(answer.replay)}"
 
 
 def of_broken(answer):
     broken = answer.broken
     width = max([len(it.client) for it in broken[:LISTED]], default=0)
-    for it in broken[:LISTED]:
-        how = "breaks" if it.is_broken else "is refused"
-        yield f"  {it.client.ljust(width)}  {how} at {clock_text(answer.zero + it.at, 3)}  {it.cause}"
-    if len(broken) > LISTED:
-        yield f"  and {len(broken) - LISTED:,} more (--json lists all)"
+    how = {True: "breaks", False: "is refused"}
+    yield from at_most(
+        (f"  {it.client.ljust(width)}  {how[it.is_broken]} at {clock_text(answer.zero + it.at, 3)}  {it.cause}" for it in broken), "  "
+    )
     losing = sum(it.is_losing_data for it in broken)
     if losing:
         yield f"  {losing:,} of them {'loses' if losing == 1 else 'lose'} data"
@@ -103,17 +114,19 @@ def of_timeout(answer):
     needed = answer.lasting.needed
     if needed:
         yield f"an old server was needed for up to {seconds_text(needed.wait)} after a change, by {needed.client}"
-    for server, time in answer.switch_off():
-        timeout = answer.keeping_s or answer.script.timeout_s
-        lag = " and the longest lag" if any(answer.script.lags) else ""
-        yield f"server {server} may be switched off at {clock_text(-(-time // SECOND) * SECOND)}: {timeout} s{lag} after its drain"
+    wait = f"{answer.keeping_s or answer.script.timeout_s} s{' and the longest lag' if any(answer.script.lags) else ''}"
+    yield from at_most(
+        f"server {server} may be switched off at {clock_text(-(-time // SECOND) * SECOND)}: {wait} after its drain"
+        for server, time in answer.switch_off()
+    )
 
 
 def of_open(answer):
     replay = answer.replay
     if replay.open:
         are = "is" if replay.open == 1 else "are"
-        yield f"{plural(replay.open, 'connection')} that a change moves {are} open at the end, the longest idle for {seconds_text(replay.idle)}:"
+        idle = f"the longest idle for {seconds_text(replay.idle)}"
+        yield f"{plural(replay.open, 'connection')} that a change moves {are} open at the end, {idle}:"
         yield "  the captures can't tell whether the change breaks them later"
 
 
@@ -142,8 +155,13 @@ def search_lines(search):
     else:
         yield f"nothing was found after {replays}: {search.why}"
         yield "  what follows is the answer for the last script that was tried"
-    for number, wait in sorted(search.waits.items()):
-        yield f"  {words_of(search.said.changes[number - 1])} comes {seconds_text(wait)} later than said, for {search.clients[number]}"
+    yield from at_most(
+        (
+            f"  {words_of(search.said.changes[number - 1])} comes {seconds_text(wait)} later than said, for {search.clients[number]}"
+            for number, wait in sorted(search.waits.items())
+        ),
+        "  ",
+    )
     later = sum(now["at_ns"] > said["at_ns"] for now, said in zip(search.script.changes, search.said.changes))
     if later and not search.waits:
         yield f"  {plural(later, 'change')} {'comes' if later == 1 else 'come'} later than said, after a retire that waits for its timeout"
@@ -164,6 +182,8 @@ def text_lines(paths, answer, has_colours, search=None):
     yield ""
     for part in (of_timeout, of_open, of_lifetime):
         yield from part(answer)
+    if answer.schedules:
+        yield from answer.schedules.lines()
 
 
 def of_check(path, script, replay):
@@ -230,6 +250,8 @@ def json_of(paths, answer, search=None):
     """The answer as a JSON object. Times are nanoseconds since 1970, waits are nanoseconds."""
     needed = answer.lasting.needed
     found = {"search": search_json(search)} if search else {}
+    if answer.schedules:
+        found |= {"schedules": answer.schedules.number, "packets_otherwise": answer.schedules.others}
     return json.dumps(traffic_json(paths, answer.traffic) | found | {
         "timeout_s": answer.script.timeout_s,
         "changes": [{**command, "at_ns": at(answer, command["at_ns"])} for command in answer.script.changes],
