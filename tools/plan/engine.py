@@ -15,7 +15,7 @@ HEADER = struct.pack("<IHHiIII", 0xA1B23C4D, 2, 4, 0, 0, 262_144, RAW)
 CONNECTION = re.compile(
     r"connection (?P<client>\S+) (?P<service>\S+) opened \d+ at (?P<opened>\S+) last \d+ at (?P<last>\S+) "
     r"accepted (?P<server>\d+|none)(?: rack \d+)? times \d+ processed \d+ forwarded \d+ dropped \d+ reset \d+ stray \d+ "
-    r"after-its-end \d+ end (?P<ended>open|fin|rst|close)(?: last-forward \d+ by \d+(?: rack \d+)? at \S+ after \S+)? "
+    r"after-its-end \d+ end (?P<ended>open|fin|rst|close)(?: last-forward \d+ by \d+(?: rack \d+)? at (?P<forward>\S+) after (?P<wait>\S+))? "
     r"(?:(?P<end>broken|refused) \d+ (?P<verdict>.+) because (?P<cause>\S+) at (?P<at>\S+)"
     r"(?: (?P<why>by-the-change|anyway)(?P<losing> losing-data)?)?|whole|unaccepted)"
 )
@@ -28,7 +28,8 @@ OPEN_END = re.compile(r"open-at-end change \d+ connections \d+ longest-idle (\S+
 
 
 class Connection:
-    """What the program tells of a connection. Times are nanoseconds after the moment 0."""
+    """What the program tells of a connection. Times are nanoseconds after the moment 0. `forward` is that of the last packet that was
+    forwarded, and `wait` how long before it the bucket had left the server to which it went."""
 
     def __init__(self, read):
         self.client, self.service, self.verdict, self.cause = read["client"], read["service"], read["verdict"], read["cause"]
@@ -37,6 +38,7 @@ class Connection:
         self.at = read["at"] and seconds(read["at"])
         self.is_broken, self.is_refused = read["end"] == "broken", read["end"] == "refused"
         self.is_by_the_change, self.is_losing_data = read["why"] == "by-the-change", bool(read["losing"])
+        self.forward, self.wait = read["forward"] and seconds(read["forward"]), read["wait"] and seconds(read["wait"])
 
     @property
     def flow(self):
@@ -129,7 +131,7 @@ class Engine:
     def __init__(self, folder, paths, progress=None):
         self.program = os.environ.get("CONNECTIONS", os.path.join(TOP, "beamer-connections"))
         self.folder, self.paths, self.progress = folder, paths, progress
-        self.running, self.bases, self.files, self.is_stopped = set(), {}, 0, False
+        self.running, self.bases, self.files, self.is_stopped, self.calls = set(), {}, 0, False, []
         self.lock, self.pool = threading.Lock(), ThreadPoolExecutor(processors())
 
     def __enter__(self):
@@ -157,6 +159,7 @@ class Engine:
             except OSError as wrong:
                 raise Refusal(READ, f"{self.program}: {wrong.strerror.lower()}; tools/prove builds it") from None
             self.running.add(process)
+            self.calls.append(words)
             return process
 
     def call(self, *words):
