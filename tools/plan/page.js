@@ -6,7 +6,8 @@ const zero = BigInt(data.zero), SECOND = 1e9;
 const BROKEN = 0, REFUSED = 1, BROKEN_ANYWAY = 2, REFUSED_ANYWAY = 3, FORWARDED = 4, OPEN = 5;
 const OUTCOMES = ["broken", "refused", "broken without the changes too", "refused without the changes too", "whole, forwarded", "whole", "whole"];
 const ENDS = { open: "open", fin: "FIN", rst: "RST", close: "closed by the script" };
-const PAGE = 100;
+// How many rows the table has at once, on the screen and on paper.
+const PAGE = 25, MOST_PRINTED = 100;
 
 const connections = data.connections.map(([client, service, server, opened, last, ended, kind, forward, wait, at, verdict, cause, losing], number) =>
   ({ number, client, service: data.services[service], server, opened, last, ended, kind, forward, wait, at, verdict, cause, losing }));
@@ -70,7 +71,7 @@ const SHOWS = [
   ["all", "all", () => true],
 ];
 
-const table = { show: "changes", server: "", cause: "", client: "", column: 4, isDown: false, page: 0, rows: [], chosen: null, whenShown: [] };
+const table = { show: "changes", server: "", cause: "", client: "", column: COLUMNS.findIndex((it) => it.name === "At (UTC)"), isDown: false, page: 0, size: PAGE, rows: [], chosen: null, whenShown: [] };
 
 function matches(it) {
   return (
@@ -132,13 +133,13 @@ function bodyRow(it) {
 function showTable(page = 0) {
   table.rows = sorted(connections.filter(matches));
   table.page = page;
-  const begin = page * PAGE, end = Math.min(begin + PAGE, table.rows.length);
+  const begin = page * table.size, end = Math.min(begin + table.size, table.rows.length);
   byId("table").tHead.replaceChildren(element("tr", {}, ...COLUMNS.map(headCell)));
   byId("table").tBodies[0].replaceChildren(...table.rows.slice(begin, end).map(bodyRow));
   const left = data.left.reduce((sum, number) => sum + number, 0);
   byId("count").textContent = `${plural(table.rows.length, "connection")} of ${count(connections.length)}` +
     (left ? `; ${count(left)} more of the captures aren't in this page` : "");
-  byId("pages").hidden = table.rows.length <= PAGE;
+  byId("pages").hidden = table.rows.length <= table.size;
   byId("page").textContent = `${count(begin + 1)} to ${count(end)} of ${count(table.rows.length)}`;
   byId("back").disabled = page === 0;
   byId("next").disabled = end === table.rows.length;
@@ -244,7 +245,7 @@ function tell(it) {
   body.scrollTop = 0;
   byId("story").hidden = false;
   byId("close").focus();
-  const begin = table.page * PAGE;
+  const begin = table.page * table.size;
   [...byId("table").tBodies[0].rows].forEach((row, at) => row.classList.toggle("chosen", table.rows[begin + at] === it));
   for (const call of table.whenShown) call();
 }

@@ -62,7 +62,8 @@ class Page:
     def answer_lines(self):
         if self.search:
             yield from search_lines(self.search)
-        for part in (of_losses, of_others, of_timeout, of_open, of_lifetime):
+        yield from map(str.strip, [*of_losses(self.answer), *of_others(self.answer)])
+        for part in (of_timeout, of_open, of_lifetime):
             yield from part(self.answer)
 
     def figures(self):
@@ -72,14 +73,14 @@ class Page:
         needed = answer.lasting.needed
         yield f"{len(answer.replay.connections):,}", "connections", False
         yield f"{broken:,}", "broken by the changes", broken
-        yield f"{refused:,}", "refused because of the changes", refused
-        yield f"{sum(it.is_losing_data for it in answer.broken):,}", "of the broken lose data", any(it.is_losing_data for it in answer.broken)
-        yield f"{answer.replay.open:,}", "moved and open at the end", False
+        yield f"{refused:,}", "refused by the changes", refused
+        yield f"{sum(it.is_losing_data for it in answer.broken):,}", "of them lose data", any(it.is_losing_data for it in answer.broken)
+        yield f"{answer.replay.open:,}", "moved, open at the end", False
         yield f"{answer.script.timeout_s:,} s", "timeout of the script", False
         if answer.keeping_s:
             yield f"{answer.keeping_s:,} s", f"timeout that keeps {'what a timeout can keep' if answer.kept else 'all'}", False
-        yield seconds_text(needed.wait) if needed else "-", "old servers needed after a change", False
-        yield "unbounded" if answer.lifetime is None else seconds_down(answer.lifetime), "safe lifetime, whatever the traffic", False
+        yield seconds_text(needed.wait) if needed else "-", "old servers needed", False
+        yield "unbounded" if answer.lifetime is None else seconds_down(answer.lifetime), "safe lifetime", False
 
     def causes(self):
         """The words of each cause, first those that occur."""

@@ -86,14 +86,14 @@ function drawChanges(pen, colour, width, height) {
 }
 
 function drawMark(pen, colour, it, x, y) {
-  const radius = Math.max(2, Math.min(4, view.height * 0.5));
+  const isBroken = it.kind === BROKEN || it.kind === BROKEN_ANYWAY;
   pen.beginPath();
-  pen.arc(x, y, radius, 0, 7);
-  pen.fillStyle = it.kind === BROKEN || it.kind === BROKEN_ANYWAY ? colour.bad : colour.card;
+  pen.arc(x, y, Math.max(2, Math.min(4, view.height * 0.5)), 0, 7);
+  pen.fillStyle = isBroken ? colour.bad : colour.card;
+  pen.strokeStyle = isBroken ? colour.card : colour.bad;
+  pen.lineWidth = isBroken ? 1 : 1.5;
   pen.fill();
-  pen.strokeStyle = pen.fillStyle === colour.card || it.kind % 2 ? colour.bad : colour.card;
-  pen.lineWidth = it.kind % 2 ? 1.5 : 1;
-  pen.stroke();
+  if (!isBroken || view.height >= 5) pen.stroke();
   pen.lineWidth = 1;
 }
 
@@ -107,14 +107,14 @@ function drawLabel(pen, colour, it, x, right, y, width) {
 
 function drawConnection(pen, colour, it, y, width) {
   const least = MARGIN.left, most = width - MARGIN.right, clamp = (x) => Math.min(Math.max(x, least), most);
-  const thick = Math.max(1.5, Math.min(8, view.height * 0.62)), x = toX(it.opened, width), end = Math.max(toX(it.last, width), x + 1.5);
+  const thick = Math.max(1.5, Math.min(8, view.height * 0.62)), x = toX(it.opened, width), end = Math.max(toX(it.last, width), x + 2.5);
   if (it === view.cursor || it === table.chosen || it === view.hover) {
     pen.fillStyle = colour.mark;
     pen.fillRect(0, y - view.height / 2, width, Math.max(view.height, 3));
   }
   if (end < least || x > most) return;
   pen.fillStyle = it.server === null ? colour.none : colour.servers[(it.server - 1) % 12];
-  pen.fillRect(clamp(x), y - thick / 2, Math.max(1, clamp(end) - clamp(x)), thick);
+  pen.fillRect(clamp(x), y - thick / 2, Math.max(2, clamp(end) - clamp(x)), thick);
   if (it.wait != null) {
     pen.strokeStyle = colour.card;
     pen.lineWidth = Math.max(1, thick * 0.5);
@@ -142,7 +142,7 @@ function drawRows(pen, colour, width, height, from) {
 
 function draw() {
   view.isDue = false;
-  const width = drawing.clientWidth, from = drawing.scrollTop;
+  const width = drawnWidth(), from = drawing.scrollTop;
   const whole = TOP + view.rows.length * view.height + 8;
   const height = view.isPrinted ? Math.min(whole, 700) : drawing.clientHeight, scale = view.isPrinted ? 2 : devicePixelRatio || 1;
   spacer.style.height = `${Math.max(whole, view.isPrinted ? 0 : height)}px`;
@@ -161,6 +161,9 @@ function draw() {
   drawHeld();
   byId("range").textContent = `${clock(view.begin)} to ${clock(view.end)} UTC`;
 }
+
+// How wide drawings are, on paper or on the screen.
+const drawnWidth = () => (view.isPrinted ? 780 : drawing.clientWidth);
 
 function drawSoon() {
   if (view.isDue) return;
@@ -187,7 +190,7 @@ function gridLines(picture, width, top, bottom, most) {
 }
 
 function drawHeld() {
-  const width = drawing.clientWidth, top = 24, bottom = 160, picture = shape("svg", { viewBox: `0 0 ${width} 182`, role: "img" });
+  const width = drawnWidth(), top = 24, bottom = 160, picture = shape("svg", { viewBox: `0 0 ${width} 182`, role: "img" });
   const { first, last, timeOf } = heldPart(), sums = new Float64Array(last - first + 1), layers = [];
   for (const { server, counts } of data.held.servers) {
     const below = sums.slice();
@@ -210,6 +213,7 @@ function drawHeld() {
     picture.append(shape("line", { class: "change", x1: x, x2: x, y1: lane === 0 ? 14 : top, y2: bottom }));
     if (lane === 0) picture.append(shape("text", { class: "strong", x: middle, y: 10, "text-anchor": "middle" }, text));
   }
+  picture.style.width = view.isPrinted ? "" : `${width}px`;
   byId("held").replaceChildren(picture);
 }
 
@@ -355,6 +359,8 @@ function printed(isPrinted) {
   view.isPrinted = isPrinted;
   if (isPrinted) document.documentElement.dataset.theme = "light";
   else delete document.documentElement.dataset.theme;
+  table.size = isPrinted ? MOST_PRINTED : PAGE;
+  showTable();
   draw();
 }
 
