@@ -16,13 +16,15 @@ class Chromium:
         self.folder = tempfile.TemporaryDirectory(prefix="chromium-", ignore_cleanup_errors=True)
         takes, self.out = os.pipe()
         self.into, gives = os.pipe()
-        how = ["--headless=new", "--remote-debugging-pipe", "--disable-gpu", "--disable-extensions", "--no-first-run", f"--user-data-dir={self.folder.name}"]
+        how = ["--headless=new", "--remote-debugging-pipe", "--disable-gpu", "--disable-extensions", "--no-first-run"]
+        how += [f"--user-data-dir={self.folder.name}"]
         safe = ["--no-sandbox"] if os.geteuid() == 0 else []
         command = ["bash", "-c", f'exec "$@" 3<&{takes} 4>&{gives}', "bash", found(), *how, *safe, *words, "about:blank"]
-        self.process = subprocess.Popen(command, pass_fds=(takes, gives), stdin=subprocess.DEVNULL, stdout=subprocess.DEVNULL, stderr=subprocess.DEVNULL)
+        quiet = {name: subprocess.DEVNULL for name in ("stdin", "stdout", "stderr")}
+        self.process = subprocess.Popen(command, pass_fds=(takes, gives), **quiet)
         os.close(takes)
         os.close(gives)
-        self.number, self.rest, self.session, self.errors, self.requests, self.events = 0, b"", None, [], [], []
+        self.number, self.rest, self.session, self.errors, self.requests = 0, b"", None, [], []
         target = next(it for it in self.call("Target.getTargets")["targetInfos"] if it["type"] == "page")
         self.session = self.call("Target.attachToTarget", targetId=target["targetId"], flatten=True)["sessionId"]
         for part in ("Page", "Runtime", "Log", "Network"):
@@ -48,7 +50,6 @@ class Chromium:
     def take(self, message):
         """Keeps what an event says."""
         name, told = message.get("method"), message.get("params", {})
-        self.events.append(name)
         if name == "Runtime.exceptionThrown":
             self.errors.append(told["exceptionDetails"].get("exception", {}).get("description", told["exceptionDetails"]["text"]))
         elif name == "Log.entryAdded":
@@ -100,13 +101,10 @@ class Chromium:
             self.call("Input.dispatchMouseEvent", type=kind, x=x, y=y, button="left", clickCount=1)
 
     def key(self, name, text=""):
-        for kind in ("keyDown", "keyUp"):
-            self.call("Input.dispatchKeyEvent", type=kind, key=name, code=name, text=text if kind == "keyDown" else "", windowsVirtualKeyCode={"Enter": 13}.get(name, 0))
+        words = {"key": name, "code": name, "windowsVirtualKeyCode": {"Enter": 13}.get(name, 0)}
+        self.call("Input.dispatchKeyEvent", type="keyDown", text=text, **words)
+        self.call("Input.dispatchKeyEvent", type="keyUp", **words)
 
     def pdf(self, path):
         with open(path, "wb") as file:
             file.write(base64.b64decode(self.call("Page.printToPDF", printBackground=True, preferCSSPageSize=True)["data"]))
-
-    def picture(self, path):
-        with open(path, "wb") as file:
-            file.write(base64.b64decode(self.call("Page.captureScreenshot", captureBeyondViewport=True)["data"]))

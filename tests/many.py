@@ -1,5 +1,5 @@
-"""Stands for beamer-connections where a page of many connections is tested: prints lines in its form for so many connections, which are made
-up by their numbers. Server 2 of eleven is drained at 8 seconds.
+"""Stands for beamer-connections where a page of many connections is tested: prints lines in its form for so many connections, which are
+made up by their numbers. Server 2 of eleven is drained at 8 seconds.
 
 usage: MANY=COUNT python3 tests/many.py PART SCRIPT [--of CLIENT SERVICE] | --lifetime SCRIPT
 """
@@ -19,8 +19,10 @@ def line(number, timeout_s):
     rng = random.Random(number)
     opened, server = rng.uniform(0, 20), number % 11 + 1
     last = min(opened + rng.choice([0.01, 0.2, 0.5, rng.uniform(0.1, 25)]), 25.9)
-    begin = f"connection 10.0.{number >> 14}.{number % 200}:{1024 + number} 127.0.0.1:8080 opened 1 at {seconds(opened)} last 9 at {seconds(last)}"
-    counts = f"accepted {server} times 1 processed 9 forwarded 0 dropped 0 reset 0 stray 0 after-its-end 0 end {rng.choice(['fin', 'rst', 'open'])}"
+    client = f"10.0.{number >> 14}.{number % 200}:{1024 + number}"
+    begin = f"connection {client} 127.0.0.1:8080 opened 1 at {seconds(opened)} last 9 at {seconds(last)}"
+    end = rng.choice(["fin", "rst", "open"])
+    counts = f"accepted {server} times 1 processed 9 forwarded 0 dropped 0 reset 0 stray 0 after-its-end 0 end {end}"
     wait = last - DRAIN
     if timeout_s is None or server != 2 or opened > DRAIN or wait < 0:
         return f"{begin} {counts} whole"

@@ -71,7 +71,7 @@ def parser():
                         "with which they break nothing in the captures; no change comes earlier than it was said, nor sooner after the last")
     search.add_argument("--tries", metavar="N", type=int, help=f"the most replays of a search ({TRIES} if it isn't said)")
     words.add_argument("--json", action="store_true", help="the answer as a JSON object")
-    words.add_argument("--html", metavar="FILE", help="write a page for a browser too: what breaks, the connections over time, their stories")
+    words.add_argument("--html", metavar="FILE", help="write the answer as a page for a browser too (docs/PLANNING.md)")
     words.add_argument("--story", metavar="CLIENT", action="append", help="a client (ADDRESS:PORT) whose story the page has in any case")
     return words
 

@@ -6,7 +6,8 @@ from plan.faults import USAGE, WRITE, Refusal
 from plan.moments import seconds_text
 from plan.scripts import service, words_of
 from plan.stories import Stories
-from plan.text import CAUSES, headline, of_changes, of_lifetime, of_losses, of_open, of_others, of_timeout, of_traffic, search_lines, seconds_down
+from plan.text import CAUSES, headline, of_changes, of_lifetime, of_losses, of_open, of_others, of_timeout, of_traffic, search_lines
+from plan.text import seconds_down
 
 FOLDER = os.path.dirname(os.path.realpath(__file__))
 # The most connections that the page has one by one, and the most calls that it lists.
@@ -88,7 +89,8 @@ class Page:
         known = known_causes()
         there = [cause_row(cause, known) for cause in CAUSES if cause in told]
         others = [cause_row(cause, known) for cause in CAUSES if cause not in told]
-        rest = f"<details><summary>{'The other causes' if there else 'No packet had a cause. All causes'}</summary><dl>{''.join(others)}</dl></details>"
+        summary = "The other causes" if there else "No packet had a cause. All causes"
+        rest = f"<details><summary>{summary}</summary><dl>{''.join(others)}</dl></details>"
         return (f"<dl>{''.join(there)}</dl>" if there else "") + (rest if others else "")
 
     def call_lines(self):
