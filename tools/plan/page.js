@@ -4,13 +4,17 @@
 const data = JSON.parse(document.getElementById("data").textContent);
 const zero = BigInt(data.zero), SECOND = 1e9;
 const BROKEN = 0, REFUSED = 1, BROKEN_ANYWAY = 2, REFUSED_ANYWAY = 3, FORWARDED = 4, OPEN = 5;
-const OUTCOMES = ["broken", "refused", "broken without the changes too", "refused without the changes too", "whole, forwarded", "whole", "whole"];
+const OUTCOMES = [
+  "broken", "refused", "broken without the changes too", "refused without the changes too", "whole, forwarded", "whole", "whole",
+];
 const ENDS = { open: "open", fin: "FIN", rst: "RST", close: "closed by the script" };
 // How many rows the table has at once, on the screen and on paper.
 const PAGE = 25, MOST_PRINTED = 100;
 
-const connections = data.connections.map(([client, service, server, opened, last, ended, kind, forward, wait, at, verdict, cause, losing], number) =>
-  ({ number, client, service: data.services[service], server, opened, last, ended, kind, forward, wait, at, verdict, cause, losing }));
+const connections = data.connections.map((row, number) => {
+  const [client, service, server, opened, last, ended, kind, forward, wait, at, verdict, cause, losing] = row;
+  return { number, client, service: data.services[service], server, opened, last, ended, kind, forward, wait, at, verdict, cause, losing };
+});
 
 const byId = (id) => document.getElementById(id);
 
@@ -40,19 +44,26 @@ function address(client) {
 
 const colourClass = (server) => (server === null ? "none" : `s${(server - 1) % 12}`);
 
+function shape(name, attributes, text) {
+  const made = document.createElementNS("http://www.w3.org/2000/svg", name);
+  for (const [key, value] of Object.entries(attributes)) made.setAttribute(key, value);
+  if (text !== undefined) made.textContent = text;
+  return made;
+}
+
 function dot(server) {
-  const shape = document.createElementNS("http://www.w3.org/2000/svg", "svg");
-  const square = document.createElementNS("http://www.w3.org/2000/svg", "rect");
-  for (const [name, value] of [["width", 10], ["height", 10], ["aria-hidden", "true"]]) shape.setAttribute(name, value);
-  for (const [name, value] of [["width", 10], ["height", 10], ["rx", 3], ["class", colourClass(server)]]) square.setAttribute(name, value);
-  shape.append(square);
-  return shape;
+  const picture = shape("svg", { width: 10, height: 10, "aria-hidden": "true" });
+  picture.append(shape("rect", { width: 10, height: 10, rx: 3, class: colourClass(server) }));
+  return picture;
 }
 
 // THE TABLE
 
 const COLUMNS = [
-  { name: "Client", value: (it) => address(it.client), cell: (it) => element("button", { type: "button", textContent: it.client }), style: "client" },
+  {
+    name: "Client", value: (it) => address(it.client), style: "client",
+    cell: (it) => element("button", { type: "button", textContent: it.client }),
+  },
   { name: "Service", value: (it) => address(it.service), cell: (it) => it.service, isLeftOut: data.services.length < 2 },
   { name: "Server", value: (it) => it.server ?? -1, cell: (it) => element("span", {}, dot(it.server), ` ${it.server ?? "none"}`) },
   { name: "Outcome", value: (it) => it.kind, cell: (it) => OUTCOMES[it.kind], style: (it) => (it.kind < FORWARDED ? "wrong" : "") },
@@ -71,7 +82,11 @@ const SHOWS = [
   ["all", "all", () => true],
 ];
 
-const table = { show: "changes", server: "", cause: "", client: "", column: COLUMNS.findIndex((it) => it.name === "At (UTC)"), isDown: false, page: 0, size: PAGE, rows: [], chosen: null, whenShown: [] };
+const table = {
+  show: "changes", server: "", cause: "", client: "",
+  column: COLUMNS.findIndex((it) => it.name === "At (UTC)"), isDown: false, page: 0, size: PAGE,
+  rows: [], chosen: null, whenShown: [],
+};
 
 function matches(it) {
   return (
@@ -124,7 +139,8 @@ function sortBy(number) {
 }
 
 function bodyRow(it) {
-  const cells = COLUMNS.map(({ cell, style }) => element("td", { className: (typeof style === "function" ? style(it) : style) ?? "" }, cell(it)));
+  const styleOf = (style) => (typeof style === "function" ? style(it) : style) ?? "";
+  const cells = COLUMNS.map(({ cell, style }) => element("td", { className: styleOf(style) }, cell(it)));
   const row = element("tr", { className: it === table.chosen ? "chosen" : "" }, ...cells);
   row.addEventListener("click", () => tell(it));
   return row;
@@ -171,6 +187,11 @@ function setUpTable() {
 // STORIES
 
 const STORY = /^story (\S+)(?: flags(.*?) length (\d+))? \d+ (.*)$/;
+const VERDICTS = {
+  accept: "accepts it", process: "processes it:", forward: "forwards it to server", reset: "resets it:", drop: "drops it:",
+};
+const UNTOLD = "Its story isn't in this page. The command under “What was run” makes a page with it, given another file and these words:";
+const COUNTED = "Packets are counted in the capture that was replayed; times are seconds after its beginning.";
 const HOPS = { direct: "", chained: ", forwarded once", twice: ", forwarded twice" };
 
 function changeWords(version) {
@@ -187,7 +208,7 @@ function eventWords(line) {
   if (words[0] === "lost") return [words[1], "it is lost", "wrong"];
   if (words[0] !== "arrive") return ["", line, "change"];
   const [, packet, hop, server, verdict, ...rest] = words;
-  const told = { accept: "accepts it", process: "processes it:", forward: "forwards it to server", reset: "resets it:", drop: "drops it:" }[verdict];
+  const told = VERDICTS[verdict];
   const bad = verdict === "reset" || verdict === "drop" || rest.includes("because");
   return [packet, `server ${server}${HOPS[hop] ?? ""} ${[told ?? verdict, ...rest].join(" ")}`, bad ? "wrong" : ""];
 }
@@ -196,23 +217,28 @@ function storyRow(line) {
   const [, time, flags, length, event] = line.match(STORY);
   const [packet, words, style] = eventWords(event);
   const segment = flags === undefined ? "" : `${flags.trim()}${Number(length) ? ` +${length}` : ""}`;
-  return element("tr", { className: style }, ...[clock(Number(time.replace(".", "")), 6), packet, segment, words].map((text) => element("td", { textContent: text })));
+  const cells = [clock(Number(time.replace(".", "")), 6), packet, segment, words];
+  return element("tr", { className: style }, ...cells.map((text) => element("td", { textContent: text })));
 }
 
 function storyParts(it) {
   const text = data.stories[`${it.client} ${it.service}`];
   if (text === undefined) {
     return [
-      element("p", { textContent: "Its story isn't in this page. The command under “What was run”, with another file and with these words, makes a page that has it:" }),
+      element("p", { textContent: UNTOLD }),
       element("pre", { textContent: `--story ${it.client}` }),
     ];
   }
   const lines = text.split("\n").filter((line) => line.startsWith("story "));
-  const head = element("tr", {}, ...["Time (UTC)", "Packet", "Segment", "What happens"].map((name) => element("th", { scope: "col", textContent: name })));
+  const names = ["Time (UTC)", "Packet", "Segment", "What happens"];
+  const head = element("tr", {}, ...names.map((name) => element("th", { scope: "col", textContent: name })));
+  const events = element("table", {}, element("thead", {}, head), element("tbody", {}, ...lines.map(storyRow)));
   return [
-    element("div", { className: "scroll" }, element("table", {}, element("thead", {}, head), element("tbody", {}, ...lines.map(storyRow)))),
-    element("details", {}, element("summary", { textContent: "The lines of beamer-connections" }),
-      element("p", { className: "quiet", textContent: "Packets are counted in the capture that was replayed; times are seconds after its beginning." }), element("pre", { id: "lines", textContent: text })),
+    element("div", { className: "scroll" }, events),
+    element("details", {},
+      element("summary", { textContent: "The lines of beamer-connections" }),
+      element("p", { className: "quiet", textContent: COUNTED }),
+      element("pre", { id: "lines", textContent: text })),
   ];
 }
 
@@ -229,9 +255,11 @@ function facts(it) {
     ["First packet", `${clock(it.opened, 6)} UTC`],
     ["Last packet", `${clock(it.last, 6)} UTC, ${seconds(it.last - it.opened)} later`],
     ["End", ENDS[it.ended]],
-    ...(it.wait == null ? [] : [["Last forward", `${clock(it.forward)} UTC, ${seconds(it.wait)} after its bucket had left the old server`]]),
   ];
-  return element("dl", { className: "facts" }, ...rows.flatMap(([name, value]) => [element("dt", { textContent: name }), element("dd", { textContent: value })]));
+  const after = it.wait != null && `${clock(it.forward)} UTC, ${seconds(it.wait)} after its bucket had left the old server`;
+  if (after) rows.push(["Last forward", after]);
+  const pair = ([name, value]) => [element("dt", { textContent: name }), element("dd", { textContent: value })];
+  return element("dl", { className: "facts" }, ...rows.flatMap(pair));
 }
 
 let opener = null;

@@ -1,15 +1,11 @@
 // DRAWINGS: the connections over time, how many are open at each server, and timeouts against connections kept.
 
 const MARGIN = { left: 44, right: 14 }, TOP = 46, HEIGHTS = [2, 3, 5, 7, 10, 14];
-const view = { begin: data.begin, end: Math.max(data.end, data.begin + 1), rows: connections, height: 7, cursor: null, hover: null, isDue: false, isPrinted: false };
+const view = {
+  begin: data.begin, end: Math.max(data.end, data.begin + 1), rows: connections, height: 7,
+  cursor: null, hover: null, isDue: false, isPrinted: false,
+};
 const drawing = byId("drawing"), canvas = drawing.querySelector("canvas"), spacer = drawing.querySelector(".spacer");
-
-function shape(name, attributes, text) {
-  const made = document.createElementNS("http://www.w3.org/2000/svg", name);
-  for (const [key, value] of Object.entries(attributes)) made.setAttribute(key, value);
-  if (text !== undefined) made.textContent = text;
-  return made;
-}
 
 // A step of 1, 2 or 5 times a power of ten, for about so many ticks.
 function niceStep(span, ticks) {
@@ -17,16 +13,22 @@ function niceStep(span, ticks) {
   return power * [1, 2, 5, 10].find((it) => it * power >= rough);
 }
 
+const DAY = 86400 * SECOND;
 const CLOCK_STEPS = [1, 2, 5, 10, 15, 30, 60, 120, 300, 600, 900, 1800, 3600, 7200, 14400, 21600, 43200, 86400].map((it) => it * SECOND);
+
+function clockStep(span, ticks) {
+  const rough = span / ticks;
+  if (rough < SECOND) return Math.max(1, niceStep(span, ticks));
+  return CLOCK_STEPS.find((it) => it >= rough) ?? Math.ceil(rough / DAY) * DAY;
+}
 
 // The ticks of the time axis, at whole steps of the clock.
 function timeTicks(begin, end, number) {
-  const rough = (end - begin) / number;
-  const step = rough < SECOND ? Math.max(1, niceStep(end - begin, number)) : (CLOCK_STEPS.find((it) => it >= rough) ?? Math.ceil(rough / 86400e9) * 86400e9);
+  const step = clockStep(end - begin, number);
   const digits = step < SECOND ? Math.min(9, Math.ceil(-Math.log10(step / SECOND) - 1e-9)) : 0;
   const wide = BigInt(Math.round(step)), moment = zero + BigInt(Math.round(begin));
-  const found = [];
-  for (let at = Number(((moment + wide - 1n) / wide) * wide - zero); at <= end && found.length < 100; at += step) found.push([at, clock(at, digits)]);
+  const first = Number(((moment + wide - 1n) / wide) * wide - zero), found = [];
+  for (let at = first; at <= end && found.length < 100; at += step) found.push([at, clock(at, digits)]);
   return found;
 }
 
@@ -53,7 +55,8 @@ function changeMarks(width, widthOf) {
 function colours() {
   const style = getComputedStyle(document.documentElement);
   const named = (name) => style.getPropertyValue(`--${name}`).trim();
-  return { servers: Array.from({ length: 12 }, (_, at) => named(`s${at}`)), ...Object.fromEntries(["none", "card", "ink", "quiet", "line", "bad", "mark"].map((it) => [it, named(it)])) };
+  const others = ["none", "card", "ink", "quiet", "line", "bad", "mark"].map((it) => [it, named(it)]);
+  return { servers: Array.from({ length: 12 }, (_, at) => named(`s${at}`)), ...Object.fromEntries(others) };
 }
 
 function drawAxis(pen, colour, width, height) {
@@ -107,7 +110,8 @@ function drawLabel(pen, colour, it, x, right, y, width) {
 
 function drawConnection(pen, colour, it, y, width) {
   const least = MARGIN.left, most = width - MARGIN.right, clamp = (x) => Math.min(Math.max(x, least), most);
-  const thick = Math.max(1.5, Math.min(8, view.height * 0.62)), x = toX(it.opened, width), end = Math.max(toX(it.last, width), x + 2.5);
+  const thick = Math.max(1.5, Math.min(8, view.height * 0.62));
+  const x = toX(it.opened, width), end = Math.max(toX(it.last, width), x + 2.5);
   if (it === view.cursor || it === table.chosen || it === view.hover) {
     pen.fillStyle = colour.mark;
     pen.fillRect(0, y - view.height / 2, width, Math.max(view.height, 3));
@@ -144,7 +148,8 @@ function draw() {
   view.isDue = false;
   const width = drawnWidth(), from = drawing.scrollTop;
   const whole = TOP + view.rows.length * view.height + 8;
-  const height = view.isPrinted ? Math.min(whole, 700) : drawing.clientHeight, scale = view.isPrinted ? 2 : devicePixelRatio || 1;
+  const height = view.isPrinted ? Math.min(whole, 700) : drawing.clientHeight;
+  const scale = view.isPrinted ? 2 : devicePixelRatio || 1;
   spacer.style.height = `${Math.max(whole, view.isPrinted ? 0 : height)}px`;
   canvas.width = width * scale;
   canvas.height = height * scale;
@@ -190,14 +195,16 @@ function gridLines(picture, width, top, bottom, most) {
 }
 
 function drawHeld() {
-  const width = drawnWidth(), top = 24, bottom = 160, picture = shape("svg", { viewBox: `0 0 ${width} 182`, role: "img" });
+  const width = drawnWidth(), top = 24, bottom = 160;
+  const picture = shape("svg", { viewBox: `0 0 ${width} 182`, role: "img" });
   const { first, last, timeOf } = heldPart(), sums = new Float64Array(last - first + 1), layers = [];
   for (const { server, counts } of data.held.servers) {
     const below = sums.slice();
     for (let at = first; at <= last; at++) sums[at - first] += counts[at];
     layers.push([server, below, sums.slice()]);
   }
-  const most = Math.max(1, sums.reduce((a, b) => Math.max(a, b), 0)), toY = (value) => (bottom - (value / most) * (bottom - top)).toFixed(1);
+  const most = Math.max(1, sums.reduce((a, b) => Math.max(a, b), 0));
+  const toY = (value) => (bottom - (value / most) * (bottom - top)).toFixed(1);
   const clamped = (at) => Math.min(Math.max(toX(timeOf(at), width), MARGIN.left), width - MARGIN.right).toFixed(1);
   picture.setAttribute("aria-label", `Open connections by server over time, at most ${count(most)} at once`);
   for (const [server, below, above] of layers) {
@@ -239,7 +246,8 @@ function legend() {
 // MOVING ABOUT
 
 function show(begin, end) {
-  const least = Math.max(1000, (data.end - data.begin) / 1e5), span = Math.min(Math.max(end - begin, least), Math.max(data.end - data.begin, least));
+  const whole = data.end - data.begin, least = Math.max(1000, whole / 1e5);
+  const span = Math.min(Math.max(end - begin, least), Math.max(whole, least));
   view.begin = Math.max(data.begin, Math.min(begin, data.end - span));
   view.end = view.begin + span;
   drawSoon();
@@ -263,8 +271,8 @@ function higher(by) {
 function chooseRows() {
   view.rows = byId("only").checked ? [...table.rows].sort((a, b) => a.number - b.number) : connections;
   const left = data.left.reduce((sum, number) => sum + number, 0);
-  byId("drawn").textContent = `${plural(view.rows.length, "connection")}: first those that broke, then those that were refused, then those that an old server kept, then the others.` +
-    (left ? ` ${count(left)} more aren't drawn.` : "");
+  byId("drawn").textContent = `${plural(view.rows.length, "connection")}: first those that broke or were refused, then those that an old ` +
+    `server kept, then the others.${left ? ` ${count(left)} more aren't drawn.` : ""}`;
   view.height = [...HEIGHTS].reverse().find((it) => it * view.rows.length <= 490 && it < 14) ?? 3;
   drawing.scrollTop = 0;
   drawSoon();
@@ -331,8 +339,9 @@ function moveCursor(by) {
 }
 
 const KEYS = {
-  ArrowLeft: () => pan(-0.15), ArrowRight: () => pan(0.15), "+": () => zoom(0.67), "=": () => zoom(0.67), "-": () => zoom(1.5), 0: () => show(data.begin, data.end),
-  ArrowUp: () => moveCursor(-1), ArrowDown: () => moveCursor(1), Enter: () => view.cursor && tell(view.cursor),
+  ArrowLeft: () => pan(-0.15), ArrowRight: () => pan(0.15), "+": () => zoom(0.67), "=": () => zoom(0.67), "-": () => zoom(1.5),
+  0: () => show(data.begin, data.end), ArrowUp: () => moveCursor(-1), ArrowDown: () => moveCursor(1),
+  Enter: () => view.cursor && tell(view.cursor),
 };
 
 function setUpTime() {
@@ -344,7 +353,10 @@ function setUpTime() {
     event.preventDefault();
     KEYS[event.key]();
   });
-  const buttons = { in: () => zoom(0.5), out: () => zoom(2), whole: () => show(data.begin, data.end), lower: () => higher(-1), higher: () => higher(1) };
+  const buttons = {
+    in: () => zoom(0.5), out: () => zoom(2), whole: () => show(data.begin, data.end),
+    lower: () => higher(-1), higher: () => higher(1),
+  };
   for (const [id, call] of Object.entries(buttons)) byId(id).addEventListener("click", call);
   byId("only").addEventListener("change", chooseRows);
   table.whenShown.push(() => (byId("only").checked ? chooseRows() : drawSoon()));
@@ -376,15 +388,17 @@ function keptBy(timeout) {
 
 function drawCurve(timeout, most) {
   const width = 720, top = 12, bottom = 240, picture = shape("svg", { viewBox: `0 0 ${width} 284`, role: "img" });
-  const x = (at) => MARGIN.left + (at / most) * (width - MARGIN.left - MARGIN.right), y = (number) => bottom - (number / kept) * (bottom - top);
+  const x = (at) => MARGIN.left + (at / most) * (width - MARGIN.left - MARGIN.right);
+  const y = (number) => bottom - (number / kept) * (bottom - top);
   picture.setAttribute("aria-label", `Of ${count(kept)} connections that old servers kept, how many each timeout keeps`);
   gridLines(picture, width, top, bottom, kept);
   const steps = data.curve.points.map(([wait, number]) => `H${x(wait / SECOND).toFixed(2)}V${y(number).toFixed(2)}`).join("");
   const line = `M${MARGIN.left} ${bottom}${steps}H${x(most)}`;
   picture.append(shape("path", { class: "under", d: `${line}V${bottom}Z` }), shape("path", { class: "kept", d: line }));
   const step = niceStep(most, 8);
-  for (let at = 0; at <= most; at += step) picture.append(shape("text", { x: x(at), y: bottom + 18, "text-anchor": "middle" }, `${Number(at.toFixed(6))} s`));
-  picture.append(shape("text", { x: (MARGIN.left + width - MARGIN.right) / 2, y: bottom + 38, "text-anchor": "middle" }, "timeout"));
+  const words = (at, y, text) => picture.append(shape("text", { x: at, y, "text-anchor": "middle" }, text));
+  for (let at = 0; at <= most; at += step) words(x(at), bottom + 18, `${Number(at.toFixed(6))} s`);
+  words((MARGIN.left + width - MARGIN.right) / 2, bottom + 38, "timeout");
   picture.append(shape("line", { class: "at", x1: x(timeout), x2: x(timeout), y1: top, y2: bottom }));
   for (const [at, number] of data.curve.replayed) {
     const mark = shape("circle", { class: "replayed", cx: x(at), cy: y(number), r: 5 });
@@ -402,17 +416,20 @@ function timeoutFor(part) {
 function setUpTimeouts() {
   byId("timeouts").hidden = false;
   if (!kept) {
-    byId("curve-says").textContent = "No connection was kept by packets that were forwarded to an old server, so no timeout above 0 was needed.";
+    byId("curve-says").textContent = "No connection was kept by packets that were forwarded to an old server.";
     for (const hidden of document.querySelectorAll(".columns.curve")) hidden.hidden = true;
     return;
   }
   const most = Math.max(...data.curve.replayed.map(([it]) => it));
-  byId("curve-says").textContent = `With a timeout of ${most} s old servers kept ${plural(kept, "connection")}, to which packets were forwarded. The curve says how many of these a shorter timeout keeps. ` +
-    "It goes by the last forwarded packet of each, as beamer-connections prints it (last-forward .. after W): a timeout below W breaks the connection. " +
+  byId("curve-says").textContent =
+    `With a timeout of ${most} s old servers kept ${plural(kept, "connection")}, whose packets were forwarded. ` +
+    "The curve says how many of these a shorter timeout keeps. It goes by the last forwarded packet of each, as beamer-connections " +
+    "prints it (last-forward .. after W): a timeout below W breaks the connection. " +
     "A packet after the connection's own RST, or a client's port that is used again, may make W differ. The circles were replayed.";
   const say = () => {
-    const timeout = Number(byId("timeout").value), number = keptBy(timeout), isReplayed = data.curve.replayed.some(([it]) => it === timeout);
-    byId("kept").textContent = `${timeout} s keeps ${count(number)} of ${count(kept)}, and breaks ${count(kept - number)}${isReplayed ? " (replayed)" : ""}`;
+    const timeout = Number(byId("timeout").value), number = keptBy(timeout);
+    const by = data.curve.replayed.some(([it]) => it === timeout) ? " (replayed)" : "";
+    byId("kept").textContent = `${timeout} s keeps ${count(number)} of ${count(kept)}, and breaks ${count(kept - number)}${by}`;
     drawCurve(timeout, most);
   };
   Object.assign(byId("timeout"), { max: most, value: data.timeout_s });
