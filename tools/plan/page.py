@@ -160,9 +160,11 @@ def held(answer):
             counts[first] += first <= last
             counts[last + 1] -= first <= last
     busiest = sorted(sorted(changes, key=lambda server: -max(sums(changes[server])))[:MOST_SERVERS])
-    others = [sum(at) for at in zip(*[counts for server, counts in changes.items() if server not in busiest])]
     told = [{"server": server, "counts": sums(changes[server])[:number]} for server in busiest]
-    return {"begin": begin, "step": step, "servers": told + ([{"server": None, "counts": sums(others)[:number]}] if others else [])}
+    rest = [counts for server, counts in changes.items() if server not in busiest]
+    if rest or not told:
+        told.append({"server": None, "counts": sums(map(sum, zip(*rest, [0] * number)))})
+    return {"begin": begin, "step": step, "servers": told}
 
 
 def sums(changes):
