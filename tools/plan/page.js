@@ -192,7 +192,7 @@ const VERDICTS = {
 };
 const UNTOLD = "Its story isn't in this page. The command under “What was run” makes a page with it, given another file and these words:";
 const COUNTED = "Packets are counted in the capture that was replayed; times are seconds after its beginning.";
-const HOPS = { direct: "", chained: ", forwarded once", twice: ", forwarded twice" };
+const HOPS = { direct: "", chained: ", forwarded once,", twice: ", forwarded twice," };
 
 function changeWords(version) {
   const change = data.changes[version - 1];
