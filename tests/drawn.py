@@ -128,5 +128,4 @@ def main():
     print("drawings of", ", ".join(f"{count} connections are {height}" for count, height in heights.items()), "pixels high, and show the table's rows")
 
 
-if __name__ == "__main__":
-    main()
+main()
