@@ -13,7 +13,7 @@ TOP = os.path.dirname(os.path.dirname(os.path.dirname(os.path.realpath(__file__)
 CONNECTION = re.compile(
     r"connection (?P<client>\S+) (?P<service>\S+) opened \d+ at (?P<opened>\S+) last \d+ at (?P<last>\S+) "
     r"accepted (?P<server>\d+|none)(?: rack \d+)? times \d+ processed \d+ forwarded \d+ dropped \d+ reset \d+ stray \d+ "
-    r"after-its-end \d+ end (?P<ended>open|fin|rst|close)(?: last-forward \d+ by \d+(?: rack \d+)? at \S+ after \S+)? "
+    r"after-its-end \d+ end (?P<ended>open|fin|rst|close)(?: last-forward \d+ by \d+(?: rack \d+)? at (?P<forward>\S+) after (?P<wait>\S+))? "
     r"(?:(?P<end>broken|refused) \d+ (?P<verdict>.+) because (?P<cause>\S+) at (?P<at>\S+)"
     r"(?: (?P<why>by-the-change|anyway)(?P<losing> losing-data)?)?|whole|unaccepted)"
 )
@@ -27,11 +27,12 @@ OPEN_END = re.compile(r"open-at-end change \d+ connections \d+ longest-idle (\S+
 
 
 class Connection:
-    """What the program tells of a connection. Times are nanoseconds after the moment 0."""
+    """What the program tells of a connection. Times are nanoseconds after the moment 0. `forward` is that of the last packet that was
+    forwarded, and `wait` how long before it the bucket had left the server to which it went."""
 
     __slots__ = (
         *("client", "service", "verdict", "cause", "opened", "last", "ended", "server", "at"),
-        *("is_broken", "is_refused", "is_by_the_change", "is_losing_data"),
+        *("is_broken", "is_refused", "is_by_the_change", "is_losing_data", "forward", "wait"),
     )
 
     def __init__(self, line):
@@ -42,6 +43,7 @@ class Connection:
         self.at = read["at"] and seconds(read["at"])
         self.is_broken, self.is_refused = read["end"] == "broken", read["end"] == "refused"
         self.is_by_the_change, self.is_losing_data = read["why"] == "by-the-change", bool(read["losing"])
+        self.forward, self.wait = read["forward"] and seconds(read["forward"]), read["wait"] and seconds(read["wait"])
 
     @property
     def flow(self):
@@ -116,7 +118,7 @@ class Engine:
     def __init__(self, folder, paths, progress=None):
         self.program = os.environ.get("CONNECTIONS", os.path.join(TOP, "beamer-connections"))
         self.folder, self.paths, self.progress = folder, paths, progress
-        self.running, self.bases, self.files, self.is_stopped = set(), {}, 0, False
+        self.running, self.bases, self.files, self.is_stopped, self.calls = set(), {}, 0, False, []
         self.lock, self.pool = threading.Lock(), ThreadPoolExecutor(processors())
 
     def __enter__(self):
@@ -147,6 +149,7 @@ class Engine:
             except OSError as wrong:
                 raise Refusal(READ, f"{words[0]}: {wrong.strerror.lower()}; tools/prove builds it") from None
             self.running.add(process)
+            self.calls.append(words)
             return process
 
     def ended(self, process):

@@ -1,10 +1,11 @@
 """The command line of `beamer-plan`."""
-import argparse, os, signal, sys, tempfile
+import argparse, os, shlex, signal, sys, tempfile
 from contextlib import ExitStack
 from datetime import datetime
+from plan import page
 from plan.answers import Answer
 from plan.engine import Engine
-from plan.faults import BREAKS, USAGE, WRITE, Refusal, of_file
+from plan.faults import BREAKS, USAGE, WRITE, Refusal
 from plan.hosts import Hosts
 from plan.moments import of_datetime
 from plan.parts import write_capture
@@ -78,6 +79,8 @@ def parser():
                         "with which they break nothing in the captures; no change comes earlier than said, nor sooner after the last")
     search.add_argument("--tries", metavar="N", type=int, help=f"the most replays of a search ({TRIES} if it isn't said)")
     words.add_argument("--json", action="store_true", help="the answer as a JSON object")
+    words.add_argument("--html", metavar="FILE", help="write the answer as a page for a browser too (docs/PLANNING.md)")
+    words.add_argument("--story", metavar="CLIENT", action="append", help="a client (ADDRESS:PORT) whose story the page has in any case")
     return words
 
 
@@ -121,6 +124,7 @@ def look(given):
         raise Refusal(USAGE, "--tries N is for --search, and at least 1")
     if given.keep_script and os.path.lexists(given.keep_script):
         raise Refusal(WRITE, f"{given.keep_script}: it exists, and isn't overwritten")
+    page.look(given)
 
 
 def is_same(path, other):
@@ -192,6 +196,8 @@ def told_of(given):
         traffic = read_traffic(folder, given.captures, services, given.no_copies, not given.no_open, sample, progress)
         progress.stage("replays")
         told = Told(given, plans, traffic, stack.enter_context(engine_of(given, folder, traffic.paths, progress)))
+        if given.html:
+            keep(given.html, page.Page(given, told.answer, told.search, shlex.join(sys.argv)))
     if given.keep_script:
         keep(given.keep_script, told.answer.script)
     return told
@@ -199,6 +205,7 @@ def told_of(given):
 
 def check_of(given):
     """The lines for a script alone."""
+    page.look(given)
     plan = Plan(given, given.check)
     times = [of_datetime(it["at"]) for it in plan.script.commands if isinstance(it.get("at"), datetime)]
     begin, end = min(times, default=0), max(times, default=0)
@@ -211,12 +218,12 @@ def check_of(given):
     return "\n".join(of_check(plan.path, script, replay))
 
 
-def keep(path, script):
-    """Writes the script to a new file. If that fails or is stopped, no file is left."""
+def keep(path, told):
+    """Writes the text of a script or of a page to a new file. If that fails or is stopped, no file is left."""
     try:
-        with open(path, "x") as file:
+        with open(path, "x", encoding="utf-8", errors="backslashreplace") as file:
             try:
-                file.write(script.text())
+                file.write(told.text())
                 file.flush()
             except BaseException:
                 os.unlink(path)
@@ -224,7 +231,7 @@ def keep(path, script):
     except FileExistsError:
         raise Refusal(WRITE, f"{path}: it exists, and isn't overwritten") from None
     except OSError as wrong:
-        raise of_file(path, wrong) from None
+        raise Refusal(WRITE, f"{path}: {wrong.strerror.lower()}") from None
 
 
 def tell(told):

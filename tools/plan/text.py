@@ -94,11 +94,19 @@ def of_broken(answer):
     yield from at_most(
         (f"  {it.client.ljust(width)}  {how[it.is_broken]} at {clock_text(answer.zero + it.at, 3)}  {it.cause}" for it in broken), "  "
     )
-    losing = sum(it.is_losing_data for it in broken)
-    if losing:
-        yield f"  {losing:,} of them {'loses' if losing == 1 else 'lose'} data"
+    yield from of_losses(answer)
     for cause in sorted({it.cause for it in broken}):
         yield f"  {cause}: {CAUSES[cause]}"
+    yield from of_others(answer)
+
+
+def of_losses(answer):
+    losing = sum(it.is_losing_data for it in answer.broken)
+    if losing:
+        yield f"  {losing:,} of them {'loses' if losing == 1 else 'lose'} data"
+
+
+def of_others(answer):
     if answer.anyway:
         yield f"  {plural(len(answer.anyway), 'connection')} more {'breaks' if len(answer.anyway) == 1 else 'break'} without the change too"
 
