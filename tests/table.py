@@ -41,31 +41,37 @@ class Connection:
         self.first = self.last = number, packet.moment
         self.server = self.broken = self.forward = self.fault = self.why = None
         self.tally = Counter()
-        self.reset = self.fin = self.data = self.closed = self.losing = False
+        self.gone = self.fin = self.data = self.closed = self.losing = False
 
     def see(self, number, packet):
-        """Adds a record. Returns whether it carries the connection's own RST or comes after it, and whether data is lost if it isn't
-        processed."""
-        if packet.opening():
-            self.reset = self.fin = False
-        self.reset = self.reset or bool(packet.flags & RST)
-        self.fin = self.fin or bool(packet.flags & FIN)
-        risky, self.data = packet.data > 0 or self.data, packet.data > 0
+        """Adds a record. Returns whether it concerns more than the farewell, so that data is lost if it isn't processed."""
+        self.fin = not packet.opening() and (self.fin or bool(packet.flags & FIN))
+        in_the_middle = not self.fin and not packet.opening()
+        risky, self.data = packet.data > 0 or self.data or in_the_middle, packet.data > 0
         self.last = number, packet.moment
-        return self.reset, risky
+        return risky
 
     def refused(self):
         return self.fault if self.server is None else None
 
     def end(self):
-        return "close" if self.closed else "rst" if self.reset else "fin" if self.fin else "open"
+        return "close" if self.closed else "rst" if self.gone else "fin" if self.fin else "open"
 
     def is_whole(self):
         return self.server is not None and not self.broken
 
-    def take(self, e, wait, over, risky):
+    def go_on(self, e, packet):
+        """Notes whether an arrival ends the connection or opens it anew. Returns whether it carries RST or comes after the end."""
+        resets, opens = bool(packet.flags & RST), packet.opening()
+        over = resets or self.gone and not opens
+        ends = e["verdict"] == "process ended" or e["verdict"].startswith("drop")
+        self.gone = resets and ends or self.gone and not opens
+        return over
+
+    def take(self, e, wait, packet, risky):
         """Adds an arrival; `wait` is how long ago the server to which it may be forwarded lost the bucket. Returns whether it is a break
         that counts."""
+        over = self.go_on(e, packet)
         verb = e["verdict"].split()[0]
         stray = verb == "process" and e["because"] is not None
         self.tally[verb] += 1
@@ -89,13 +95,13 @@ class Table:
 
     def __init__(self, fleet, packets, events):
         self.fleet, self.packets, self.events = fleet, packets, events
-        self.found, self.marks, self.most, self.late, self.causes = {}, {}, Counter(), [], Counter()
+        self.found, self.risky, self.most, self.late, self.causes = {}, {}, Counter(), [], Counter()
         # the longest needs of changes, of third changes and of servers that retired: how long, and for which flow
         self.changes, self.thirds, self.retired = {}, {}, {}
         for number, packet in enumerate(packets, 1):
             if packet.steerable:
                 connection = self.found.setdefault(packet.flow, Connection(packet.flow, number, packet))
-                self.marks[number] = connection.see(number, packet)
+                self.risky[number] = connection.see(number, packet)
         self.connections = list(self.found.values())
         self.play()
 
@@ -134,7 +140,7 @@ class Table:
     def arrive(self, e, flow, version):
         beyond = onward(self.fleet.entry(version, self.fleet.bucket(flow)), e["hop"])
         wait = max(0, e["clock"] - beyond[1]) if beyond else None
-        if self.found[flow].take(e, wait, *self.marks[e["packet"]]):
+        if self.found[flow].take(e, wait, self.packets[e["packet"] - 1], self.risky[e["packet"]]):
             self.causes[e["because"]] += 1
             self.late += [wait] if e["because"] == "chain-late" else []
 

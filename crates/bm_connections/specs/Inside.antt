@@ -10,6 +10,7 @@ pub mod Marks
 pub mod Needs
 pub mod Owned
 pub mod Packets
+pub mod Resets
 pub mod Rows
 pub mod Stamps
 pub mod Stories
