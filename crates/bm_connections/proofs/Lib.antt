@@ -23,3 +23,4 @@ pub mod Stories
 pub mod Moving
 pub mod Needing
 pub mod WorkedNeeds
+pub mod WorkedOpen
