@@ -149,6 +149,13 @@ class Table:
         bucket = self.fleet.bucket(flow)
         return [number for number, (_, _, moves) in enumerate(self.fleet.changes[:version], 1) if bucket in moves]
 
+    def away_since(self, flow, server, version):
+        """The number of the last change up to this version that took the flow's bucket from the server, or None if there is none or the
+        version gives it the bucket."""
+        at = [self.fleet.server(before, self.fleet.bucket(flow)) for before in range(version + 1)]
+        left = [number for number in self.moves_of(flow, version) if at[number - 1] == server]
+        return left[-1] if left and at[version] != server else None
+
     def need(self, e, flow, version, owner, kept, retired_at):
         """What an arrival needs: the server that a change took its bucket from, a later third change, or a server that has retired."""
         verb = e["verdict"].split()[0]
@@ -156,9 +163,10 @@ class Table:
             number = self.moves_of(flow, version)[-1 - HOPS[e["hop"]]]
             self.longest(self.changes, number, e["clock"] - self.fleet.changes[number - 1][0], e, flow)
         if e["because"] == "moved-thrice":
-            number = self.moves_of(flow, version)[len(self.moves_of(flow, owner[2])) + 2]
-            late = max(0, self.found[flow].last[1] - self.fleet.changes[number - 1][0]) + 1
-            self.longest(self.thirds, number, late, e, flow)
+            first = self.away_since(flow, owner[1], version)
+            for number in [number for number in self.moves_of(flow, version) if first and number >= first][2:3]:
+                late = max(0, self.found[flow].last[1] - self.fleet.changes[number - 1][0]) + 1
+                self.longest(self.thirds, number, late, e, flow)
         if e["because"] == "not-held" and owner and kept[owner[1]].get(flow) == owner[0]:
             at = retired_at.get((owner[1], self.fleet.shard(flow)))
             if at is not None:
@@ -175,10 +183,12 @@ class Table:
             c.why = ("by-the-change" if other.is_whole() else "anyway") if c.broken else None
 
     def left_open(self):
-        """For each change, the connections that it moves and that are open at the end."""
-        left = [c for c in self.connections if c.is_whole() and c.end() == "open"]
-        for moment, _, moves in self.fleet.changes:
-            yield [c for c in left if c.first[1] <= moment and self.fleet.bucket(c.flow) in moves]
+        """For each change, the connections that are open at the end, and whose server it took the bucket from for good."""
+        left = defaultdict(list)
+        for c in self.connections:
+            if c.is_whole() and c.end() == "open":
+                left[self.away_since(c.flow, c.server, len(self.fleet.changes))].append(c)
+        return [left[number] for number in range(1, len(self.fleet.changes) + 1)]
 
     def copies(self):
         """How many records look like copies, of how many that may."""
@@ -250,14 +260,14 @@ def line_of(fleet, c, began):
 
 
 def answer_line(table):
-    connections, left = table.connections, {id(c) for each in table.left_open() for c in each}
+    connections = table.connections
     counts = {
         "connections": len(connections),
         "broken": sum(c.broken is not None for c in connections),
         "by-the-change": sum(c.why == "by-the-change" for c in connections),
         "losing-data": sum(c.losing for c in connections),
         "refused": sum(c.refused() is not None for c in connections),
-        "open-at-end": len(left),
+        "open-at-end": sum(map(len, table.left_open())),
     }
     timeout = {"timeout_s": -(-max(table.late) // SECOND)} if table.late else {}
     return " ".join(["answer", *(f"{word} {count}" for word, count in (counts | timeout).items())])
@@ -343,12 +353,12 @@ def advice_lines(table, causes, texts):
         yield f"advice copies: {copies} of {numbered} {texts['copies']}"
     if not table.connections:
         yield f"advice nothing-steered: {texts['nothing-steered']}"
-    if fleet.changes:
-        (change, _, moves), end = fleet.changes[-1], max((packet.moment for packet in packets), default=-1)
-        if end < change:
-            yield f"advice change-after-the-end: {texts['change-after-the-end']}"
-        elif moves and end < change + fleet.timeout():
-            yield f"advice timeout-after-the-end: {texts['timeout-after-the-end']}"
+    end = max((packet.moment for packet in packets), default=-1)
+    if fleet.changes and end < fleet.changes[-1][0]:
+        yield f"advice change-after-the-end: {texts['change-after-the-end']}"
+    moved = [moment for moment, _, moves in fleet.changes if moves]
+    if moved and moved[-1] <= end < moved[-1] + fleet.timeout():
+        yield f"advice timeout-after-the-end: {texts['timeout-after-the-end']}"
 
 
 def lines(table, texts, began, cut):

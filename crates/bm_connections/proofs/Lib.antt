@@ -24,3 +24,4 @@ pub mod Stories
 pub mod Moving
 pub mod Needing
 pub mod WorkedNeeds
+pub mod WorkedOpen

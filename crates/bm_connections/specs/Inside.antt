@@ -8,6 +8,7 @@ pub mod Late
 pub mod Loads
 pub mod Marks
 pub mod Needs
+pub mod OpenEnds
 pub mod Owned
 pub mod Packets
 pub mod Resets
