@@ -153,26 +153,29 @@ class Engine:
             if self.is_stopped:
                 raise Refusal(READ, "the replays were stopped")
             try:
-                process = subprocess.Popen([self.program, *words], stdin=subprocess.DEVNULL, stdout=subprocess.PIPE, text=True, process_group=0)
+                how = {"stdin": subprocess.DEVNULL, "stdout": subprocess.PIPE, "stderr": subprocess.PIPE}
+                process = subprocess.Popen([self.program, *words], text=True, process_group=0, **how)
             except OSError as wrong:
                 raise Refusal(READ, f"{self.program}: {wrong.strerror.lower()}; tools/prove builds it") from None
             self.running.add(process)
             return process
 
     def call(self, *words):
-        """The output of the program, and the status."""
+        """The output of the program, or the line of its fault without the program's name, and the status."""
         with self.begun(words) as process:
-            text = process.communicate()[0]
+            text, faults = process.communicate()
             with self.lock:
                 self.running.discard(process)
-        return text, process.returncode
+        return faults.strip().rpartition("\n")[2].removeprefix("beamer-connections: ") if process.returncode else text, process.returncode
 
     def answered(self, script, *words):
         """The output of the program for this script, where its status is 0."""
         text, status = self.call(*words)
         if status:
-            line = text.strip().removeprefix("beamer: ")
-            told = explained_of(script, line) if status == SCRIPT else line or f"{self.program} ended with status {status}"
+            # the program names the files, which are temporary
+            for word in words:
+                text = text.removeprefix(f"{word}: ")
+            told = explained_of(script, text) if status == SCRIPT else text or f"{self.program} ended with status {status}"
             raise Refusal(status if 2 <= status <= 7 else READ, told)
         return text
 

@@ -1,6 +1,8 @@
 pub mod Top
 pub mod Program
 pub mod Dues
+pub mod Faults
+pub mod Sinks
 pub mod Stories
 pub mod Headline
 pub mod Text

@@ -5,6 +5,7 @@
 
 mod advice;
 mod changes;
+mod faults;
 mod fields;
 mod findings;
 mod json;
@@ -12,6 +13,7 @@ mod lifetime;
 mod outlived;
 mod parts;
 mod put;
+mod reason;
 mod replays;
 mod replies;
 mod servers;
@@ -20,4 +22,5 @@ mod tell;
 mod top;
 mod words;
 
+pub use reason::{Reason, Reasons};
 pub use top::beamer_connections;

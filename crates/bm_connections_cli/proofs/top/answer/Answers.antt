@@ -8,11 +8,11 @@ use Rattle.bm_connections_cli.proofs.top.answer.Goals as goal
 
 pub returns-in-Some-clause-ends : goal.returns-in-Some-clause-ends
 returns-in-Some-clause-ends g c =
-    words_end _ _ _ _ _ _ (sym (ap (option_map asked) c.in-Some.is) ∙ c.read_words.ensures) c.answer_form.ensures.ends
+    words_end _ _ _ _ _ _ _ (sym (ap (option_map asked) c.in-Some.is) ∙ c.read_words.ensures) c.answer_form.ensures.ends
 
 pub returns-in-None-clause-ends : goal.returns-in-None-clause-ends
 returns-in-None-clause-ends g c =
-    usage_ends _ _ _ _ _ _ (sym (ap (option_map asked) c.in-None.is) ∙ c.read_words.ensures) c.misuse.ensures
+    usage_ends _ _ _ _ _ _ _ _ (sym (ap (option_map asked) c.in-None.is) ∙ c.read_words.ensures) c.misuse.ensures
 
 pub returns-in-Some-clause-unasked : goal.returns-in-Some-clause-unasked
 returns-in-Some-clause-unasked g c = λ none.

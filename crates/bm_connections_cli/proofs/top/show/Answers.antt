@@ -7,6 +7,7 @@ use Rattle.bm_connections.specs.Base.{compared_with}
 use Rattle.bm_connections.specs.Connections.{connections}
 use Rattle.bm_connections_cli.specs.Headline.{IsTableOf}
 use Rattle.bm_connections_cli.specs.Text.{report}
+use Rattle.bm_connections_cli.specs.Inside.Ends.{no_lines}
 use Rattle.bm_connections_cli.proofs.Ending.{tells_text}
 use Rattle.bm_connections_cli.proofs.top.show.Goals as goal
 
@@ -19,4 +20,4 @@ returns-in-Ok g c =
     c.as_slice.ensures.value c.tell.ensures)
 
 pub returns-in-Err : goal.returns-in-Err
-returns-in-Err g c = tells_nothing (Shown (IsTableOf c.args.format c.args.clock.0 c.args.stage)) _ _
+returns-in-Err g c = tells_nothing no_lines (Shown (IsTableOf c.args.format c.args.clock.0 c.args.stage)) _ _
