@@ -46,14 +46,17 @@ holds_any (Some octets) fact any = record { reads = reads_of octets; known = ref
 -- A STAGE
 
 -- a fault from outside may be answered in place of anything
-pub said_outside : (lines : FaultLines) → IsSilent lines → (answer : Answer) (fault : StageFault) (says : Status) (text : List ℕ) → IsOutside fault →
+pub said_outside : (lines : FaultLines) → IsSilent lines →
+    (answer : Answer) (fault : StageFault) (says : Status) (text : List ℕ) → IsOutside fault →
     IsOf lines (Refused fault) says text → IsSaid lines answer says text
 said_outside lines silent answer fault says text outside (inr none) = inl (inr none)
 said_outside lines silent answer fault says text (inl is) (inl said) = inr (said.0 ∙ is, (fault, is, said.1))
-said_outside lines silent answer fault says text (inr is) (inl said) = inl (inr (said.0 ∙ is, silent fault text is said.1))
+said_outside lines silent answer fault says text (inr is) (inl said) =
+    inl (inr (said.0 ∙ is, silent fault text is said.1))
 
 -- what was read is answered as what is due
-pub said_stage : (lines : FaultLines) → IsSilent lines → (is : Stage → List ℕ → Type 0) (due r : Reading) (says : Status) (text : List ℕ) → IsRead due r →
+pub said_stage : (lines : FaultLines) → IsSilent lines → (is : Stage → List ℕ →
+    Type 0) (due r : Reading) (says : Status) (text : List ℕ) → IsRead due r →
     IsOf lines (answer_for is r) says text → IsSaid lines (answer_for is due) says text
 said_stage lines silent is due (Ok stage) says text read said =
     subst (λ (d : Reading). IsSaid lines (answer_for is d) says text) (sym read) (inl said)
@@ -96,7 +99,8 @@ asks_unread names files says asks unread = record {
 }
 
 -- what was read of a stage was answered
-pub ends_stage : (lines : FaultLines) → IsSilent lines → (mode : Mode) (is : Stage → List ℕ → Type 0) (names : Named) (reads : Reads) (files : FilesDid)
+pub ends_stage : (lines : FaultLines) → IsSilent lines → (mode : Mode) (is : Stage → List ℕ →
+    Type 0) (names : Named) (reads : Reads) (files : FilesDid)
     (sink : SinkDid) (r : Reading) (result : Status) → ReadsStage mode names reads files r →
     Tells lines (answer_for is r) sink result → Ends lines (due_of_stage mode is names reads) files sink result
 ends_stage lines silent mode is names reads files sink r result read tells = record {
@@ -111,17 +115,20 @@ ends_stage lines silent mode is names reads files sink r result read tells = rec
 
 pub play_ends : (mode : Mode) (names : Named) (told : Octets) (files : FilesDid)
     (sink : SinkDid) (r : Reading) (result : Status) →
-    Holds told (λ reads. ReadsStage mode names reads files r) → Tells beamer_lines (answer_for (IsReportOf mode) r) sink result →
+    Holds told (λ reads. ReadsStage mode names reads files r) →
+    Tells beamer_lines (answer_for (IsReportOf mode) r) sink result →
     Holds told (λ reads. Ends beamer_lines (due_of_stage mode (IsReportOf mode) names reads) files sink result)
 play_ends mode names told files sink r result read tells =
     holds_more told (λ reads. ReadsStage mode names reads files r)
     (λ reads. Ends beamer_lines (due_of_stage mode (IsReportOf mode) names reads) files sink result)
-    (λ reads stage. ends_stage beamer_lines beamer_silent mode (IsReportOf mode) names reads files sink r result stage tells) read
+    (λ reads stage. ends_stage beamer_lines beamer_silent mode
+    (IsReportOf mode) names reads files sink r result stage tells) read
 
 -- NO FILE IS READ
 
 -- memory was refused before anything was done
-pub ends_nothing : (lines : FaultLines) (due : Due) (asked : Option (List Opening)) (fails : ℕ) (before : Option (List ℕ))
+pub ends_nothing : (lines : FaultLines) (due : Due) (asked : Option (List Opening)) (fails : ℕ) (before : Option
+    (List ℕ))
     (faults : ℕ) →
     Ends lines due (untouched asked fails) (untouched before faults) Memory
 ends_nothing lines due asked fails before faults = record {
@@ -167,7 +174,8 @@ ends_unread lines answer asked fails sink result not tells = record {
     unread (inr none) = λ e. let no : Memory ≡ ReadFault = sym none.0 ∙ e in cc
 
 -- the same, by some reads
-pub unread_ends : (lines : FaultLines) (answer : Answer) (told : Octets) (asked : Option (List Opening)) (fails : ℕ) (sink : SinkDid)
+pub unread_ends : (lines : FaultLines) (answer : Answer) (told : Octets) (asked : Option (List Opening)) (fails : ℕ)
+    (sink : SinkDid)
     (result : Status) → IsUnread lines answer → Tells lines answer sink result →
     Holds told (λ reads. Ends lines (record { names = []; answer = answer }) (untouched asked fails) sink result)
 unread_ends lines answer told asked fails sink result not tells =
@@ -204,5 +212,6 @@ pub memory_ends : (words : Option Asked) (told : Octets) (asked : Option (List O
     (before : Option (List ℕ)) (faults : ℕ) →
     Holds told (λ reads. Ends beamer_lines (due words reads) (untouched asked fails) (untouched before faults) Memory)
 memory_ends words told asked fails before faults =
-    holds_any told (λ reads. Ends beamer_lines (due words reads) (untouched asked fails) (untouched before faults) Memory)
+    holds_any told (λ reads. Ends beamer_lines (due words reads) (untouched asked fails)
+    (untouched before faults) Memory)
     (λ reads. ends_nothing beamer_lines (due words reads) asked fails before faults)

@@ -16,7 +16,8 @@ use Rattle.bm_cli.proofs.Traces.{check_exceeded, check_names, check_open, check_
 use Rattle.bm_cli.proofs.Laws.{ByForm, due_below, stage_exceeded, stage_names, stage_usage}
 
 -- the usage line is due for the words of no form alone
-usage_form : (form : Option Asked) (reads : Reads) (text : List ℕ) → IsDue beamer_lines (due form reads).answer Usage text →
+usage_form : (form : Option Asked) (reads : Reads) (text : List ℕ) →
+    IsDue beamer_lines (due form reads).answer Usage text →
     form ≡ None
 usage_form None reads text is = refl
 usage_form (Some (Replay names)) reads text is =
@@ -29,7 +30,8 @@ usage_form (Some (Streams names)) reads text is =
 usage_form (Some (Check trace capture script)) reads text is = absurd (check_usage trace capture script reads text is)
 usage_form (Some (Load n)) reads text is = absurd (let no = is.0 in cc)
 
-usage_text : (form : Option Asked) (reads : Reads) (text : List ℕ) → IsDue beamer_lines (due form reads).answer Usage text →
+usage_text : (form : Option Asked) (reads : Reads) (text : List ℕ) →
+    IsDue beamer_lines (due form reads).answer Usage text →
     text ≡ usage_line
 usage_text None reads text is = is.1
 usage_text (Some asked) reads text is =
@@ -41,7 +43,8 @@ named_form None reads opens = absurd (opens refl)
 named_form (Some asked) reads opens = refl
 
 -- the script's name alone is due where a bad script is
-script_form : (form : Option Asked) (reads : Reads) (text : List ℕ) → IsDue beamer_lines (due form reads).answer BadScript text →
+script_form : (form : Option Asked) (reads : Reads) (text : List ℕ) →
+    IsDue beamer_lines (due form reads).answer BadScript text →
     (due form reads).names ≡ scripts_in form
 script_form None reads text is = absurd (let no = is.0 in cc)
 script_form (Some (Replay names)) reads text is =
@@ -55,7 +58,8 @@ script_form (Some (Check trace capture script)) reads text is = check_names trac
 script_form (Some (Load n)) reads text is = absurd (let no = is.0 in cc)
 
 -- no form asks about more than a script allows
-exceeded_form : (form : Option Asked) (reads : Reads) (text : List ℕ) → IsDue beamer_lines (due form reads).answer Exceeded text → ⊥
+exceeded_form : (form : Option Asked) (reads : Reads) (text : List ℕ) →
+    IsDue beamer_lines (due form reads).answer Exceeded text → ⊥
 exceeded_form None reads text is = let no = is.0 in cc
 exceeded_form (Some (Replay names)) reads text is =
     stage_exceeded beamer_lines (IsReportOf by_replay) (reading by_replay names reads) text is

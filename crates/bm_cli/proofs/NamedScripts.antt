@@ -77,7 +77,8 @@ named_read told name held files r read part all cause kept =
 
 -- HOW THE CALL ENDS
 
-said_script : (lines : FaultLines) → IsSilent lines → (of : Script → Answer) (due r : Result Script StageFault) (says : Status) (text : List ℕ) →
+said_script : (lines : FaultLines) → IsSilent lines → (of : Script →
+    Answer) (due r : Result Script StageFault) (says : Status) (text : List ℕ) →
     IsRead due r → IsOf lines (answer_by of r) says text → IsSaid lines (answer_by of due) says text
 said_script lines silent of due (Ok script) says text read said =
     subst (λ (d : Result Script StageFault). IsSaid lines (answer_by of d) says text) (sym read) (inl said)
@@ -86,7 +87,8 @@ said_script lines silent of due (Err fault) says text (inl outside) said =
 said_script lines silent of due (Err fault) says text (inr read) said =
     subst (λ (d : Result Script StageFault). IsSaid lines (answer_by of d) says text) (sym read) (inl said)
 
-asks_script : (lines : FaultLines) (of : Script → Answer) → ((script : Script) → IsUnread lines (of script)) → (r : Result Script StageFault)
+asks_script : (lines : FaultLines) (of : Script → Answer) → ((script : Script) → IsUnread lines (of script)) →
+    (r : Result Script StageFault)
     (names : List (List ℕ)) (files : FilesDid) (says : Status) (text : List ℕ) → AsksFor names (status_by r) files →
     IsOf lines (answer_by of r) says text → AsksFor names says files
 asks_script lines of not (Ok script) names files says text asks (inl due) =
@@ -99,7 +101,8 @@ asks_script lines of not (Err fault) names files says text asks (inr none) =
     asks_as names files (fault_status fault) says asks (λ memory. absurd (memory none.0))
 
 -- what was read of a script was answered
-pub script_ends : (lines : FaultLines) → IsSilent lines → (of : Script → Answer) → ((script : Script) → IsUnread lines (of script)) → (name : List ℕ)
+pub script_ends : (lines : FaultLines) → IsSilent lines → (of : Script → Answer) → ((script : Script) →
+    IsUnread lines (of script)) → (name : List ℕ)
     (told : Octets) (files : FilesDid) (sink : SinkDid) (r : Result Script StageFault) (result : Status) →
     Holds told (λ reads. ReadsNamed name reads files r) → Tells lines (answer_by of r) sink result →
     Holds told (λ reads. Ends lines (due_of_script of name reads) files sink result)

@@ -26,7 +26,8 @@ streams_end names told files sink stage packets result read tells =
     holds_more told
     (λ reads. ReadsStage Replay names reads files (Ok stage) × (packets ≡ packets_in Replay names reads))
     (λ reads. Ends beamer_lines (due (Some (Streams names)) reads) files sink result)
-    (λ reads h. ends_stage beamer_lines beamer_silent Replay (AreStreams names reads) names reads files sink (Ok stage) result h.0
+    (λ reads h. ends_stage beamer_lines beamer_silent Replay (AreStreams names reads) names reads files sink
+    (Ok stage) result h.0
     (subst (λ (p : List (List ℕ)). Tells beamer_lines (Shown (IsStreamsOf p stage)) sink result) h.1 tells)) read
 
 -- the line of a fault
@@ -37,4 +38,5 @@ pub streams_refused : (names : Named) (told : Octets) (files : FilesDid) (sink :
 streams_refused names told files sink fault result read tells =
     holds_more told (λ reads. ReadsStage Replay names reads files (Err fault))
     (λ reads. Ends beamer_lines (due (Some (Streams names)) reads) files sink result)
-    (λ reads h. ends_stage beamer_lines beamer_silent Replay (AreStreams names reads) names reads files sink (Err fault) result h tells) read
+    (λ reads h. ends_stage beamer_lines beamer_silent Replay (AreStreams names reads) names reads files sink
+    (Err fault) result h tells) read

@@ -1,5 +1,6 @@
 -- An answer that was written.
-use Rattle.std.proofs.Common.{inl, inr, ◌≡◌, ℕ, ◌<◌, List, [], Option, refl, arith, ap, length, length-append, reverse, sym}
+use Rattle.std.proofs.Common.{inl, inr, ◌≡◌, ℕ, ◌<◌, List, [], Option, refl, arith, ap, length, length-append}
+use Rattle.std.proofs.Common.{reverse, sym}
 use Rattle.bm_base.specs.declared.fate.Fate.{Fate}
 use Rattle.bm_core.specs.declared.events.History.{History}
 use Rattle.bm_core.specs.declared.events.Stage.{Stage}
@@ -31,7 +32,8 @@ use Rattle.bm_cli.proofs.Wider.{is_run}
 abbrev pub untouched : {A : Type 0} → Option A → ℕ → Did A
 untouched before faults = record { before = before; now = before; faults = faults; later = faults }
 
-pub tells_due : (lines : FaultLines) (answer : Answer) (says : Status) (text : List ℕ) (sink : SinkDid) (result : Status) →
+pub tells_due : (lines : FaultLines) (answer : Answer) (says : Status) (text : List ℕ) (sink : SinkDid)
+    (result : Status) →
     IsDue lines answer says text → Writes says text sink result → Tells lines answer sink result
 tells_due lines answer says text sink result is writes =
     record { says = says; text = text; is = inl is; writes = writes }
@@ -81,7 +83,8 @@ pub tells_report : (mode : Mode) (stage : Stage) (h : History) (sink : SinkDid) 
     h.stage ≡ stage → IsMadeBy mode stage h → AreEvents h.events → Writes Done (text h) sink result →
     Tells beamer_lines (Shown (IsReportOf mode stage)) sink result
 tells_report mode stage h sink result about made fit writes =
-    tells_due beamer_lines (Shown (IsReportOf mode stage)) Done (text h) sink result (refl, report_of mode stage h about made fit)
+    tells_due beamer_lines (Shown (IsReportOf mode stage)) Done (text h) sink result
+    (refl, report_of mode stage h about made fit)
     writes
 
 -- a check answers yes to a report

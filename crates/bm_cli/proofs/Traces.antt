@@ -47,7 +47,8 @@ check_open trace capture script reads =
     (trace_names (reading Replay (both_named capture script) reads) trace) (script_named capture script r)
 
 -- no usage line is due
-usage_of : (r : Result (Stage × List ℕ) StageFault) (text : List ℕ) → IsDue beamer_lines (answer_of_check r) Usage text → ⊥
+usage_of : (r : Result (Stage × List ℕ) StageFault) (text : List ℕ) →
+    IsDue beamer_lines (answer_of_check r) Usage text → ⊥
 usage_of (Ok read) text due = check_is_not due.0 Usage Usage due.2 refl (λ e. cc) (λ e. cc)
 usage_of (Err fault) text due = (of_fault fault).usage (sym due.0)
 
@@ -57,7 +58,8 @@ check_usage trace capture script reads text due =
     usage_of (traced (reading Replay (both_named capture script) reads) (if_short (reads.trace trace))) text due
 
 -- nor a text that says that the words ask about more than the script allows
-exceeded_of : (r : Result (Stage × List ℕ) StageFault) (text : List ℕ) → IsDue beamer_lines (answer_of_check r) Exceeded text → ⊥
+exceeded_of : (r : Result (Stage × List ℕ) StageFault) (text : List ℕ) →
+    IsDue beamer_lines (answer_of_check r) Exceeded text → ⊥
 exceeded_of (Ok read) text due = check_is_not due.0 Exceeded Exceeded due.2 refl (λ e. cc) (λ e. cc)
 exceeded_of (Err fault) text due = (of_fault fault).exceeded (sym due.0)
 
@@ -277,11 +279,13 @@ trace_through trace capture script told files of (Err e) fault is holds =
 said_check : (due r : Result (Stage × List ℕ) StageFault) (says : Status) (text : List ℕ) → IsRead due r →
     IsOf beamer_lines (answer_of_check r) says text → IsSaid beamer_lines (answer_of_check due) says text
 said_check due (Ok read) says text same said =
-    subst (λ (d : Result (Stage × List ℕ) StageFault). IsSaid beamer_lines (answer_of_check d) says text) (sym same) (inl said)
+    subst (λ (d : Result (Stage × List ℕ) StageFault). IsSaid beamer_lines (answer_of_check d) says text) (sym same)
+    (inl said)
 said_check due (Err fault) says text (inl outside) said =
     said_outside beamer_lines beamer_silent (answer_of_check due) fault says text outside said
 said_check due (Err fault) says text (inr same) said =
-    subst (λ (d : Result (Stage × List ℕ) StageFault). IsSaid beamer_lines (answer_of_check d) says text) (sym same) (inl said)
+    subst (λ (d : Result (Stage × List ℕ) StageFault). IsSaid beamer_lines (answer_of_check d) says text) (sym same)
+    (inl said)
 
 asks_check : (r : Result (Stage × List ℕ) StageFault) (names : List (List ℕ)) (files : FilesDid) (says : Status)
     (text : List ℕ) → AsksFor names (status_by r) files → IsOf beamer_lines (answer_of_check r) says text →
@@ -297,7 +301,8 @@ asks_check (Err fault) names files says text asks (inr none) =
 
 pub check_ends : (trace capture script : List ℕ) (told : Octets) (files : FilesDid) (sink : SinkDid)
     (r : Result (Stage × List ℕ) StageFault) (result : Status) →
-    Holds told (λ reads. ReadsTrace trace capture script reads files r) → Tells beamer_lines (answer_of_check r) sink result →
+    Holds told (λ reads. ReadsTrace trace capture script reads files r) →
+    Tells beamer_lines (answer_of_check r) sink result →
     Holds told (λ reads. Ends beamer_lines (due_of_check trace (both_named capture script) reads) files sink result)
 check_ends trace capture script told files sink r result read tells =
     holds_more told (λ reads. ReadsTrace trace capture script reads files r)

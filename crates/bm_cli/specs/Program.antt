@@ -30,7 +30,8 @@ pub record Program (A : Type 0) : Type 1 where
 pub record IsProgram {A : Type 0} (program : Program A) (form : Option A) (told : Octets)
     (files : FilesDid) (sink : SinkDid) (code : ℕ) : Type 0 where
   -- how the call ended, by what was due; all that stands below follows from it
-  pub ends : Holds told (λ reads. EndsWith (program.lines form) (program.due form reads) files sink code)
+  pub ends : Holds told (λ reads.
+      EndsWith (program.lines form) (program.due form reads) files sink code)
   -- the status is the one that is due, unless the files or the sink failed, or memory was refused
   pub status : Holds told (λ reads. IsStatusOf (program.lines form) (program.due form reads) code)
   -- an accepted call is answered, unless the files or the sink failed, or memory was refused

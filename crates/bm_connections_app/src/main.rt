@@ -1,5 +1,5 @@
-//! Makes the real files, standard output and standard error, and calls `beamer_connections` with the
-//! words of the command line.
+//! Makes the real files, standard output and standard error, and calls `beamer_connections` with
+//! the words of the command line.
 #![tactic(auto)]
 
 mod system;

@@ -127,13 +127,14 @@ told_answer lines answer sink result by t = of t.writes.ends t.is where
 told_fault : (lines : FaultLines) (answer : Answer) (sink : SinkDid) (result t : Status) → WriteFault ≢ t →
     Memory ≢ t → ((says : Status) (text : List ℕ) → IsDue lines answer says text → says ≢ t) →
     Tells lines answer sink result → code_of result ≢ code_of t
-told_fault lines answer sink result t write memory by told = λ e. of (same_code result t e) told.writes.ends told.is where
-  of : result ≡ t → (result ≡ told.says) ⊎ (result ≡ WriteFault) ⊎ (result ≡ Memory) →
-      IsOf lines answer told.says told.text → ⊥
-  of is (inl e) (inl due) = by told.says told.text due (sym e ∙ is)
-  of is (inl e) (inr none) = memory (sym none.0 ∙ sym e ∙ is)
-  of is (inr (inl e)) said = write (sym e ∙ is)
-  of is (inr (inr e)) said = memory (sym e ∙ is)
+told_fault lines answer sink result t write memory by told =
+    λ e. of (same_code result t e) told.writes.ends told.is where
+      of : result ≡ t → (result ≡ told.says) ⊎ (result ≡ WriteFault) ⊎ (result ≡ Memory) →
+          IsOf lines answer told.says told.text → ⊥
+      of is (inl e) (inl due) = by told.says told.text due (sym e ∙ is)
+      of is (inl e) (inr none) = memory (sym none.0 ∙ sym e ∙ is)
+      of is (inr (inl e)) said = write (sym e ∙ is)
+      of is (inr (inr e)) said = memory (sym e ∙ is)
 
 -- what was asked for went to `out`
 pub to_out : (answer : Answer) (holds : SinkDid → Type 0) (out : SinkDid) (before : Option (List ℕ)) (faults : ℕ)
@@ -143,7 +144,8 @@ to_out answer holds out before faults result by tells h =
     inl (h, (refl, refl), answer_code result (told_answer no_lines answer out result by tells))
 
 -- the line of a fault, or of words of no form, went to `faults`
-pub to_faults : (lines : FaultLines) (answer : Answer) (holds : SinkDid → Type 0) (before : Option (List ℕ)) (faults : ℕ)
+pub to_faults : (lines : FaultLines) (answer : Answer) (holds : SinkDid →
+    Type 0) (before : Option (List ℕ)) (faults : ℕ)
     (sink : SinkDid) (result : Status) →
     ((says : Status) (text : List ℕ) → IsDue lines answer says text → (says ≢ Done) × (says ≢ Exceeded)) →
     Tells lines answer sink result → holds sink → HoldsOfOne holds (untouched before faults) sink (code_of result)
@@ -156,7 +158,8 @@ to_faults lines answer holds before faults sink result by tells h =
     )
 
 -- a text that is shown
-shown_done : (is : List ℕ → Type 0) (says : Status) (text : List ℕ) → IsDue no_lines (Shown is) says text → IsAnswer says
+shown_done : (is : List ℕ → Type 0) (says : Status) (text : List ℕ) → IsDue no_lines (Shown is) says text →
+    IsAnswer says
 shown_done is says text due = inl due.0
 
 -- a fault
@@ -197,7 +200,8 @@ module _ (asked : Asked) (is : Option ℕ → Stage → List ℕ → Type 0) (cl
       (λ reads. ReadsStage Replay names reads files (Ok stage) × (began ≡ reads.began names.capture))
       (λ reads. Ends (lines_for (Some asked)) (wanted reads) files sink result)
       (λ reads both. ends_played reads files sink (Ok stage) result (both.0)
-      (subst (λ b. Tells (lines_for (Some asked)) (answer_for (is (if clock then Some b else None)) (Ok stage)) sink result)
+      (subst (λ b. Tells (lines_for (Some asked)) (answer_for (is (if clock then Some b else None))
+      (Ok stage)) sink result)
       (both.1)
       (subst (λ (k : Option ℕ). Tells (lines_for (Some asked)) (Shown (is k stage)) sink result) same
       (shown_told (lines_for (Some asked)) (is by stage) sink result tells)))) read)
@@ -261,7 +265,8 @@ lifetime_shown name seconds told files sink before faults script result read tel
     sink before faults result (lines_answer warned text) tells
     (lifetime_ends name seconds told files sink (Ok script) result read (lines_any lines warned text sink result tells))
 
-pub lifetime_refused : (name : List ℕ) (seconds : Option ℕ) (told : Octets) (files : FilesDid) (before : Option (List ℕ))
+pub lifetime_refused : (name : List ℕ) (seconds : Option ℕ) (told : Octets) (files : FilesDid) (before : Option
+    (List ℕ))
     (faults : ℕ) (sink : SinkDid) (fault : StageFault) (result : Status) →
     Holds told (λ reads. ReadsNamed name reads files (Err fault)) →
     Tells (names_file name) (Refused fault) sink result →
@@ -287,7 +292,8 @@ pub lifetime_told : (seconds : Option ℕ) (script : Script) (life : Option Live
     says ≡ status_for (outlives seconds life) → Writes says text sink result →
     Tells no_lines (lifetime_answer seconds script) sink result
 lifetime_told seconds script life text says sink result is lines status writes =
-    subst (λ l. Tells no_lines (shown_or_warned (outlives seconds l) (explained_text script.setting.timeout l)) sink result) is
+    subst (λ l. Tells no_lines (shown_or_warned (outlives seconds l)
+    (explained_text script.setting.timeout l)) sink result) is
     (lines_told (outlives seconds life) (explained_text script.setting.timeout life) sink result
     (subst (λ t. Writes (status_for (outlives seconds life)) t sink result) lines
     (subst (λ s. Writes s text sink result) status writes)))
@@ -323,13 +329,15 @@ usage_ends words told asked fails before faults sink result none tells =
 -- BY THE EXIT STATUS
 
 -- what holds of the sink by how the call ended, and of the other sink nothing was done
-pub of_one : (holds more : SinkDid → Type 0) (out faults : SinkDid) (code : ℕ) → ((sink : SinkDid) → holds sink → more sink) →
+pub of_one : (holds more : SinkDid → Type 0) (out faults : SinkDid) (code : ℕ) → ((sink : SinkDid) → holds sink →
+    more sink) →
     HoldsOfOne holds out faults code → HoldsOfOne more out faults code
 of_one holds more out faults code by (inl h) = inl (by out h.0, h.1, h.2)
 of_one holds more out faults code by (inr h) = inr (by faults h.0, h.1, h.2, h.3)
 
 -- with status 0 it is `out`
-pub of_out : (holds : SinkDid → Type 0) (out faults : SinkDid) (code : ℕ) → HoldsOfOne holds out faults code → code ≡ 0 →
+pub of_out : (holds : SinkDid → Type 0) (out faults : SinkDid) (code : ℕ) → HoldsOfOne holds out faults code →
+    code ≡ 0 →
     holds out
 of_out holds out faults code (inl h) e = h.0
 of_out holds out faults code (inr h) e = absurd (h.2 e)

@@ -1,5 +1,6 @@
 -- What is due for the words.
-use Rattle.std.proofs.Common.{◌≡◌, ◌≢◌, ◌≤◌, ℕ, List, [], Option, Some, None, IsSome, Result, Ok, Err, Bool, true, false}
+use Rattle.std.proofs.Common.{◌≡◌, ◌≢◌, ◌≤◌, ℕ, List, [], Option, Some, None, IsSome, Result, Ok, Err, Bool, true}
+use Rattle.std.proofs.Common.{false}
 use Rattle.std.proofs.Common.{refl, sym, subst, arith, ◌∙◌}
 use Rattle.bm_table.specs.declared.script.Script.{Script}
 use Rattle.bm_lifetime.specs.Lifetime.{explained}
@@ -31,28 +32,34 @@ use Rattle.bm_connections_cli.specs.Inside.Ends.{EndsForm}
 use Rattle.bm_connections_cli.proofs.Ending.{of_one, of_out}
 
 -- no usage line is due of a script
-lines_usage : (lines : FaultLines) (warned : Bool) (text octets : List ℕ) → IsDue lines (shown_or_warned warned text) Usage octets → ⊥
+lines_usage : (lines : FaultLines) (warned : Bool) (text octets : List ℕ) →
+    IsDue lines (shown_or_warned warned text) Usage octets → ⊥
 lines_usage lines false text octets is = let no = is.0 in cc
 lines_usage lines true text octets is = let no = is.0 in cc
 
 script_usage : (lines : FaultLines) (seconds : Option ℕ) (r : Result Script StageFault) (text : List ℕ) →
     IsDue lines (answer_by (lifetime_answer seconds) r) Usage text → ⊥
 script_usage lines seconds (Ok script) text is =
-    lines_usage lines (outlives seconds (explained script)) (explained_text script.setting.timeout (explained script)) text is
+    lines_usage lines (outlives seconds (explained script)) (explained_text script.setting.timeout
+    (explained script)) text is
 script_usage lines seconds (Err fault) text is = (of_fault fault).usage (sym is.0)
 
 -- the usage line is due for the words of no form alone
-usage_form : (form : Option Asked) (reads : Reads) (text : List ℕ) → IsDue (lines_for form) (due form reads).answer Usage text →
+usage_form : (form : Option Asked) (reads : Reads) (text : List ℕ) →
+    IsDue (lines_for form) (due form reads).answer Usage text →
     form ≡ None
 usage_form None reads text is = refl
 usage_form (Some (Connections manner names)) reads text is =
-    absurd (stage_usage (lines_for (Some (Connections manner names))) (IsTableOf manner.format (clock_of manner.clock names reads)) (reading Replay names reads) text is)
+    absurd (stage_usage (lines_for (Some (Connections manner names))) (IsTableOf manner.format
+    (clock_of manner.clock names reads)) (reading Replay names reads) text is)
 usage_form (Some (Story chosen names)) reads text is =
-    absurd (stage_usage (lines_for (Some (Story chosen names))) (AreStoriesOf chosen (clock_of chosen.clock names reads)) (reading Replay names reads) text is)
+    absurd (stage_usage (lines_for (Some (Story chosen names))) (AreStoriesOf chosen
+    (clock_of chosen.clock names reads)) (reading Replay names reads) text is)
 usage_form (Some (Lifetime script seconds)) reads text is =
     absurd (script_usage (lines_for (Some (Lifetime script seconds))) seconds (reads.script script) text is)
 
-usage_text : (form : Option Asked) (reads : Reads) (text : List ℕ) → IsDue (lines_for form) (due form reads).answer Usage text →
+usage_text : (form : Option Asked) (reads : Reads) (text : List ℕ) →
+    IsDue (lines_for form) (due form reads).answer Usage text →
     text ≡ usage_line
 usage_text None reads text is = is.1
 usage_text (Some asked) reads text is =
@@ -70,14 +77,17 @@ form_asks (Story chosen names) none = replay_named names.capture names.script no
 form_asks (Lifetime script seconds) none = let no = none nothing in cc
 
 -- the script's name alone is due where a bad script is
-script_form : (form : Option Asked) (reads : Reads) (text : List ℕ) → IsDue (lines_for form) (due form reads).answer BadScript text →
+script_form : (form : Option Asked) (reads : Reads) (text : List ℕ) →
+    IsDue (lines_for form) (due form reads).answer BadScript text →
     (due form reads).names ≡ scripts_in form
 script_form None reads text is = absurd (let no = is.0 in cc)
 script_form (Some (Connections manner names)) reads text is =
-    stage_names (lines_for (Some (Connections manner names))) (IsTableOf manner.format (clock_of manner.clock names reads)) names reads
+    stage_names (lines_for (Some (Connections manner names))) (IsTableOf manner.format
+    (clock_of manner.clock names reads)) names reads
     (script_by Replay reads names.script) text is
 script_form (Some (Story chosen names)) reads text is =
-    stage_names (lines_for (Some (Story chosen names))) (AreStoriesOf chosen (clock_of chosen.clock names reads)) names reads
+    stage_names (lines_for (Some (Story chosen names))) (AreStoriesOf chosen
+    (clock_of chosen.clock names reads)) names reads
     (script_by Replay reads names.script) text is
 script_form (Some (Lifetime script seconds)) reads text is = refl
 
@@ -115,7 +125,8 @@ pub of_form : (form : Option Asked) (told : Octets) (files : FilesDid) (out faul
     (code : ℕ) → code ≡ code_of status → EndsForm form told files out faults status →
     HoldsOfOne (λ sink. IsProgram beamer_connections form told files sink code) out faults code
 of_form form told files out faults status code is ends =
-    of_one (Ended form told files status) (λ sink. IsProgram beamer_connections form told files sink code) out faults code
+    of_one (Ended form told files status)
+    (λ sink. IsProgram beamer_connections form told files sink code) out faults code
     (λ sink h. is_program beamer_connections form told files sink status code (by_form form) is h)
     (subst (HoldsOfOne (Ended form told files status) out faults) (sym is) ends)
 

@@ -145,7 +145,12 @@ pub(crate) fn end_text(alloc: Global, stage: &Stage) -> Result<Text, Memory>
     let plan = &stage.script.plan;
     let mut text = String::new(alloc);
     write_early_end(&mut text, records, last_change(plan))?;
-    write_timeout_end(&mut text, records, stage.script.setting.timeout, last_moving(plan))?;
+    write_timeout_end(
+        &mut text,
+        records,
+        stage.script.setting.timeout,
+        last_moving(plan),
+    )?;
     Ok(Text::of(text))
 }
 

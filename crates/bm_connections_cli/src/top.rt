@@ -38,8 +38,8 @@ const USAGE: &str =
     "usage: beamer-connections CAPTURE SCRIPT [--csv | --json | --svg] [--clock] | CAPTURE SCRIPT --of CLIENT [SERVICE] [--clock] | --lifetime SCRIPT [--for SECONDS]\n";
 
 /// Does all that the program does, and returns the status. What is asked for goes to `out`, a usage
-/// line or the line of a fault to `faults`. What `reasons` answers stands in the line of a read that
-/// failed.
+/// line or the line of a fault to `faults`. The line of a read that failed has what `reasons`
+/// answers.
 ///
 /// 0: the connections or the lines of a lifetime were written. 1: the words fit no form. 2: the files
 /// failed. 3: the capture has a fault. 4: the script has a fault. 5: the sink failed. 6: memory was
@@ -176,7 +176,8 @@ fn recount<R: Threads + Wait + Sync, F: Files, K: Sink, E: Sink, Q: Reasons>(
     reasons: &Q,
 ) -> Status
     requires room { F.open_now files.old < 4294967295 }
-    ensures ends { EndsForm (Some (Story (chosen picked.entry) (named names.entry))) (F.octets files.old)
+    ensures ends { EndsForm (Some (Story (chosen picked.entry) (named names.entry)))
+        (F.octets files.old)
         (did F.asked F.faults files.old files.new)
         (did K.written K.faults out.old out.new)
         (did E.written E.faults faults.old faults.new) result }

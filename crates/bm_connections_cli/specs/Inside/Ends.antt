@@ -17,5 +17,6 @@ no_lines fault text = ⊥
 -- what the words of this form ask for was answered on one of the two sinks
 abbrev pub EndsForm : Option Asked → Octets → FilesDid → SinkDid → SinkDid → Status → Type 0
 EndsForm form told files out faults result =
-    HoldsOfOne (λ sink. Holds told (λ reads. Ends (lines_for form) (due form reads) files sink result))
+    HoldsOfOne (λ sink. Holds told (λ reads.
+    Ends (lines_for form) (due form reads) files sink result))
     out faults (code_of result)

@@ -17,5 +17,6 @@ line_is name words these line same is =
 pub returns : goal.returns
 returns c =
     IfOk-weaker c.format.result _ _
-    (λ s e. line_is c.args.name.now c.as_str-words.result.now _ _ (c.as_str-words.ensures.value ∙ c.in_ok-words.ensures) e)
+    (λ s e. line_is c.args.name.now c.as_str-words.result.now _ _
+    (c.as_str-words.ensures.value ∙ c.in_ok-words.ensures) e)
     c.format.ensures.ok

@@ -7,11 +7,13 @@ use Rattle.bm_connections_cli.proofs.top.recount.Goals as goal
 
 pub returns-in-Ok-clause-ends : goal.returns-in-Ok-clause-ends
 returns-in-Ok-clause-ends g c =
-    played_ends (Story (chosen c.args.picked) (named c.args.names)) (AreStoriesOf (chosen c.args.picked)) c.args.picked.clock (named c.args.names) _ _ _ _ _ c.in-Ok.stage
+    played_ends (Story (chosen c.args.picked) (named c.args.names)) (AreStoriesOf
+    (chosen c.args.picked)) c.args.picked.clock (named c.args.names) _ _ _ _ _ c.in-Ok.stage
     c.in-Ok.began c.clock_of-clock.result.0 c.show_stories.result c.clock_of-clock.ensures c.in-Ok.ensures.stage
     c.show_stories.ensures
 
 pub returns-in-Err-clause-ends : goal.returns-in-Err-clause-ends
 returns-in-Err-clause-ends g c =
-    refused_ends (Story (chosen c.args.picked) (named c.args.names)) (AreStoriesOf (chosen c.args.picked)) c.args.picked.clock (named c.args.names) _ _ _ _ _ c.in-Err.fault
+    refused_ends (Story (chosen c.args.picked) (named c.args.names)) (AreStoriesOf
+    (chosen c.args.picked)) c.args.picked.clock (named c.args.names) _ _ _ _ _ c.in-Err.fault
     c.file_with-name.result.now c.refuse.result c.file_with-name.ensures c.in-Err.ensures.stage c.refuse.ensures

@@ -22,4 +22,5 @@ returns-in-Ok g c =
     c.as_slice.ensures.value c.tell_stories.ensures)
 
 pub returns-in-Err : goal.returns-in-Err
-returns-in-Err g c = tells_nothing no_lines (Shown (AreStoriesOf (chosen c.args.picked) c.args.clock.0 c.args.stage)) _ _
+returns-in-Err g c = tells_nothing no_lines (Shown (AreStoriesOf
+    (chosen c.args.picked) c.args.clock.0 c.args.stage)) _ _
