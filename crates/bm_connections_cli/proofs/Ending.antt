@@ -31,13 +31,14 @@ use Rattle.bm_words.specs.Form.{Named}
 use Rattle.bm_connections.specs.Base.{base_of, compared, compared_with}
 use Rattle.bm_connections.specs.Connections.{connections}
 use Rattle.bm_connections.specs.declared.compared.Compared.{Compared}
-use Rattle.bm_connections_cli.specs.Dues.{clock_of, due, due_of, usage_line}
+use Rattle.bm_connections_cli.specs.Dues.{clock_of, due, due_of, due_text}
+use Rattle.bm_connections_cli.specs.Help.{usage_line}
 use Rattle.bm_connections_cli.specs.Faults.{file_of, lines_for, names_file}
 use Rattle.bm_connections_cli.specs.Headline.{IsReplayOf, IsTextOf}
 use Rattle.bm_connections_cli.specs.Lifetime.{explained_text, lifetime_answer, outlives, shown_or_warned}
 use Rattle.bm_connections_cli.specs.Inside.Replays.{AreReplays}
 use Rattle.bm_connections_cli.specs.Sinks.{HoldsOfOne}
-use Rattle.bm_connections_cli.specs.Words.{Asked, Lifetime}
+use Rattle.bm_connections_words.specs.Words.{Asked, Lifetime}
 use Rattle.bm_connections_cli.specs.Inside.Ends.{EndsForm, no_lines}
 use Rattle.bm_connections_cli.specs.Inside.Lifetime.{status_for}
 
@@ -325,6 +326,25 @@ usage_ends words told asked fails before faults sink result none tells =
     (unread_ends (lines_for None) (Misused usage_line) told asked fails sink result
     (λ says text is e. let no : ReadFault ≡ Usage = sym e ∙ is.0 in cc)
     (record { says = tells.says; text = tells.text; is = tells.is; writes = tells.writes })))
+
+-- a text for which no file is asked was shown
+pub text_ends : (words : Asked) (text : List ℕ) (told : Octets) (asked : Option (List Opening)) (fails : ℕ)
+    (sink : SinkDid) (before : Option (List ℕ)) (faults : ℕ) (result : Status) →
+    ((reads : Reads) → due_of words reads ≡ due_text text) →
+    Tells no_lines (Shown (λ shown. shown ≡ text)) sink result →
+    EndsForm (Some words) told (untouched asked fails) sink (untouched before faults) result
+text_ends words text told asked fails sink before faults result same tells =
+    let is : List ℕ → Type 0 = λ shown. shown ≡ text in
+    to_out (Shown is)
+    (λ s. Holds told (λ reads. Ends (lines_for (Some words)) (due_of words reads) (untouched asked fails) s result))
+    sink before faults result (shown_done is) tells
+    (holds_more told
+    (λ reads. Ends (lines_for (Some words)) (due_text text) (untouched asked fails) sink result)
+    (λ reads. Ends (lines_for (Some words)) (due_of words reads) (untouched asked fails) sink result)
+    (λ reads ends. subst (λ d. Ends (lines_for (Some words)) d (untouched asked fails) sink result) (sym (same reads)) ends)
+    (unread_ends (lines_for (Some words)) (Shown is) told asked fails sink result
+    (λ says shown due e. let no : ReadFault ≡ Done = sym e ∙ due.0 in cc)
+    (shown_told (lines_for (Some words)) is sink result tells)))
 
 -- BY THE EXIT STATUS
 

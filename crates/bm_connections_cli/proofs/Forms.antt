@@ -20,14 +20,16 @@ use Rattle.bm_cli.proofs.Ending.{nothing}
 use Rattle.bm_cli.proofs.Faults.{of_fault}
 use Rattle.bm_cli.proofs.Forms.{replay_named}
 use Rattle.bm_cli.proofs.Laws.{ByForm, ended, is_program, shown, stage_names, stage_usage}
-use Rattle.bm_connections_cli.specs.Dues.{clock_of, due, usage_line}
+use Rattle.bm_connections_cli.specs.Dues.{IsShownBy, clock_of, due}
+use Rattle.bm_connections_cli.specs.Help.{usage_line}
 use Rattle.bm_connections_cli.specs.Faults.{lines_for}
-use Rattle.bm_connections_cli.specs.Headline.{AreStoriesOf, IsTableOf}
 use Rattle.bm_connections_cli.specs.Lifetime.{explained_text, lifetime_answer, outlives, shown_or_warned}
 use Rattle.bm_connections_cli.specs.Program.{beamer_connections}
 use Rattle.bm_connections_cli.specs.Sinks.{HoldsOfOne}
 use Rattle.bm_connections_cli.specs.Top.{scripts_in}
-use Rattle.bm_connections_cli.specs.Words.{Asked, Connections, Lifetime, Story}
+use Rattle.bm_words.specs.Form.{Named}
+use Rattle.bm_connections_words.specs.Options.{Options}
+use Rattle.bm_connections_words.specs.Words.{Asked, Connections, Help, Lifetime, Version}
 use Rattle.bm_connections_cli.specs.Inside.Ends.{EndsForm}
 use Rattle.bm_connections_cli.proofs.Ending.{of_one, of_out}
 
@@ -49,14 +51,12 @@ usage_form : (form : Option Asked) (reads : Reads) (text : List ℕ) →
     IsDue (lines_for form) (due form reads).answer Usage text →
     form ≡ None
 usage_form None reads text is = refl
-usage_form (Some (Connections manner names)) reads text is =
-    absurd (stage_usage (lines_for (Some (Connections manner names))) (IsTableOf manner.format
-    (clock_of manner.clock names reads)) (reading Replay names reads) text is)
-usage_form (Some (Story chosen names)) reads text is =
-    absurd (stage_usage (lines_for (Some (Story chosen names))) (AreStoriesOf chosen
-    (clock_of chosen.clock names reads)) (reading Replay names reads) text is)
+usage_form (Some (Connections names options)) reads text is =
+    absurd (stage_usage (lines_for (Some (Connections names options))) (IsShownBy options (clock_of options.clock names reads)) (reading Replay names reads) text is)
 usage_form (Some (Lifetime script seconds)) reads text is =
     absurd (script_usage (lines_for (Some (Lifetime script seconds))) seconds (reads.script script) text is)
+usage_form (Some Help) reads text is = absurd (let no = is.0 in cc)
+usage_form (Some Version) reads text is = absurd (let no = is.0 in cc)
 
 usage_text : (form : Option Asked) (reads : Reads) (text : List ℕ) →
     IsDue (lines_for form) (due form reads).answer Usage text →
@@ -70,26 +70,24 @@ named_form : (form : Option Asked) (reads : Reads) → (due form reads).names �
 named_form None reads opens = absurd (opens refl)
 named_form (Some asked) reads opens = refl
 
--- a file is asked for by the words of any form
-pub form_asks : (asked : Asked) → AsksNone (due (Some asked)) → ⊥
-form_asks (Connections manner names) none = replay_named names.capture names.script nothing (none nothing)
-form_asks (Story chosen names) none = replay_named names.capture names.script nothing (none nothing)
-form_asks (Lifetime script seconds) none = let no = none nothing in cc
+-- a file is asked for by the words of each form with a file
+pub report_asks : (names : Named) (options : Options) → AsksNone (due (Some (Connections names options))) → ⊥
+report_asks names options none = replay_named names.capture names.script nothing (none nothing)
+
+pub lifetime_asks : (script : List ℕ) (seconds : Option ℕ) → AsksNone (due (Some (Lifetime script seconds))) → ⊥
+lifetime_asks script seconds none = let no = none nothing in cc
 
 -- the script's name alone is due where a bad script is
 script_form : (form : Option Asked) (reads : Reads) (text : List ℕ) →
     IsDue (lines_for form) (due form reads).answer BadScript text →
     (due form reads).names ≡ scripts_in form
 script_form None reads text is = absurd (let no = is.0 in cc)
-script_form (Some (Connections manner names)) reads text is =
-    stage_names (lines_for (Some (Connections manner names))) (IsTableOf manner.format
-    (clock_of manner.clock names reads)) names reads
-    (script_by Replay reads names.script) text is
-script_form (Some (Story chosen names)) reads text is =
-    stage_names (lines_for (Some (Story chosen names))) (AreStoriesOf chosen
-    (clock_of chosen.clock names reads)) names reads
+script_form (Some (Connections names options)) reads text is =
+    stage_names (lines_for (Some (Connections names options))) (IsShownBy options (clock_of options.clock names reads)) names reads
     (script_by Replay reads names.script) text is
 script_form (Some (Lifetime script seconds)) reads text is = refl
+script_form (Some Help) reads text is = absurd (let no = is.0 in cc)
+script_form (Some Version) reads text is = absurd (let no = is.0 in cc)
 
 -- no status is greater
 code_most : (s : Status) → code_of s ≤ 9

@@ -22,7 +22,7 @@ use Rattle.bm_cli.specs.Lines.{FaultLines, fault_status}
 use Rattle.bm_connections_cli.specs.declared.reason.Reason.{Reason}
 use Rattle.bm_connections_cli.specs.declared.reason.Reason.TheVariants.{NoSuchFile, NotPermitted}
 use Rattle.bm_connections_cli.specs.declared.reason.Reason.TheVariants.{IsFolder}
-use Rattle.bm_connections_cli.specs.Words.{Asked, Connections, Lifetime, Story}
+use Rattle.bm_connections_words.specs.Words.{Asked, Connections, Help, Lifetime, Version}
 
 -- WHAT IS WRONG
 
@@ -95,9 +95,10 @@ file_with names fault = script_name names.script
 
 -- the same, of those that the words name
 abbrev pub file_of : Asked → StageFault → List ℕ
-file_of (Connections manner names) = file_with names
-file_of (Story chosen names) = file_with names
+file_of (Connections names options) = file_with names
 file_of (Lifetime script seconds) = λ fault. script
+file_of Help = λ fault. []
+file_of Version = λ fault. []
 
 -- how faults are told, by the form of the words; those of no form name no file
 abbrev pub lines_for : Option Asked → FaultLines

@@ -4,6 +4,5 @@ pub mod Ends
 pub mod Servers
 pub mod Changes
 pub mod Lifetime
-pub mod Words
 pub mod Replays
 pub mod Findings

@@ -19,8 +19,8 @@ use Rattle.bm_connections.specs.Answers.{answer_line, answer_of}
 use Rattle.bm_connections.specs.Text.{cause_line, late_text, server_line, table_text}
 use Rattle.bm_drawing.specs.Drawing.{drawing}
 use Rattle.bm_lifetime.specs.Lifetime.{lifetime}
-use Rattle.bm_connections_cli.specs.declared.words.Format.{Format}
-use Rattle.bm_connections_cli.specs.declared.words.Format.TheVariants.{Lines, Csv, Json, Svg}
+use Rattle.bm_connections_words.specs.declared.options.Format.{Format}
+use Rattle.bm_connections_words.specs.declared.options.Format.TheVariants.{Lines, Csv, Json, Svg}
 use Rattle.bm_connections_cli.specs.Replies.{replies_text}
 use Rattle.bm_connections_cli.specs.Advice.{advice_line, end_lines, nothing_line, open_line}
 use Rattle.bm_connections_cli.specs.Changes.{changes_text}

@@ -8,6 +8,7 @@ mod changes;
 mod faults;
 mod fields;
 mod findings;
+mod help;
 mod json;
 mod lifetime;
 mod outlived;
@@ -20,7 +21,6 @@ mod servers;
 mod stories;
 mod tell;
 mod top;
-mod words;
 
 pub use reason::{Reason, Reasons};
 pub use top::beamer_connections;

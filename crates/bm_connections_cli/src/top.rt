@@ -3,39 +3,38 @@ ghost use Rattle.std.specs.Prelude.{◌≡◌, ◌<◌, ◌≤◌, if◌then◌e
 ghost use Rattle.bm_core.specs.Stages.{IsSound};
 ghost use Rattle.bm_link.specs.Fits.{ArePackets};
 ghost use Rattle.bm_words.specs.Form.{named};
-ghost use Rattle.bm_cli.specs.Dues.{Misused, Shown};
+ghost use Rattle.bm_cli.specs.Dues.{Shown};
 ghost use Rattle.bm_cli.specs.Program.{IsProgram};
 ghost use Rattle.bm_cli.specs.Reading.{Holds};
 ghost use Rattle.bm_cli.specs.Statuses.{did};
 ghost use Rattle.bm_cli.specs.Telling.{Tells};
 ghost use Rattle.bm_cli.specs.Top.{AsksNone, ShowsAnswer};
-ghost use Rattle.bm_connections_cli.specs.Dues.{due, usage_line};
+ghost use Rattle.bm_connections_cli.specs.Dues.{IsShownBy, due};
 ghost use Rattle.bm_connections_cli.specs.Headline.{AreStoriesOf, IsTableOf};
 ghost use Rattle.bm_connections_cli.specs.Program.{beamer_connections};
 ghost use Rattle.bm_connections_cli.specs.Sinks.{HoldsOfOne};
-ghost use Rattle.bm_connections_cli.specs.Words.{Connections, Lifetime, Story, form_in};
+ghost use Rattle.bm_connections_words.specs.Words.{Connections, Lifetime, form_in};
 ghost use Rattle.bm_connections_cli.specs.Inside.Ends.{EndsForm, no_lines};
-ghost use Rattle.bm_connections_cli.specs.Inside.Words.{asked, chosen};
+ghost use Rattle.bm_connections_words.specs.Options.{chosen, said};
+ghost use Rattle.bm_connections_words.specs.Words.{asked};
 
 use crate::faults::{file_with, refuse};
+use crate::help::{help, misuse, version};
 use crate::lifetime::tell_lifetime;
 use crate::reason::Reasons;
 use crate::replays::replay_both;
 use crate::stories::tell_stories;
 use crate::tell::tell;
-use crate::words::{Chosen, Form, Format, Manner, read_words};
 use bm_base::{Memory, Octets};
-use bm_cli::{Mode, Status, read_named_script, read_stage, say};
+use bm_cli::{Mode, Status, read_named_script, read_stage};
 use bm_connections::Clock;
+use bm_connections_words::{Chosen, Form, Format, Options, read_words};
 use bm_core::Stage;
 use bm_io::{Files, Sink};
 use bm_words::Names;
 use std::alloc::Global;
 use std::sync::Wait;
 use std::thread::Threads;
-
-const USAGE: &str =
-    "usage: beamer-connections CAPTURE SCRIPT [--csv | --json | --svg] [--clock] | CAPTURE SCRIPT --of CLIENT [SERVICE] [--clock] | --lifetime SCRIPT [--for SECONDS]\n";
 
 /// Does all that the program does, and returns the status. What is asked for goes to `out`, a usage
 /// line or the line of a fault to `faults`. The line of a read that failed has what `reasons`
@@ -56,7 +55,8 @@ pub fn beamer_connections<R: Threads + Wait + Sync, F: Files, K: Sink, E: Sink, 
 ) -> u8
     requires room { F.open_now files.old ≤ 1000 }
     // On status 0 what was written reports the connections of the replay of the named capture
-    // through the servers of the named script, or the lifetime of the named script.
+    // through the servers of the named script, or the lifetime of the named script; or it is the
+    // help or the version.
     ensures shown { result ≡ 0 → Holds (F.octets files.old) (λ reads.
         ShowsAnswer (due (form_in words.now) reads).answer
         (K.written out.old) (K.written out.new)) }
@@ -116,36 +116,36 @@ fn answer_form<R: Threads + Wait + Sync, F: Files, K: Sink, E: Sink, Q: Reasons>
         (did F.asked F.faults files.old files.new)
         (did K.written K.faults out.old out.new)
         (did E.written E.faults faults.old faults.new) result }
+    ensures unasked { AsksNone (due (Some (asked form.entry))) → files.new ≡ files.old }
     ensures octets { F.octets files.new ≡ F.octets files.old }
     ensures open { F.open_now files.new ≡ F.open_now files.old }
 {
     match form {
-        Form::Connections { manner, names } => {
-            report(rt, alloc, manner, names, files, out, faults, reasons)
-        }
-        Form::Story { chosen, names } => {
-            recount(rt, alloc, chosen, names, files, out, faults, reasons)
+        Form::Connections { names, options } => {
+            report(rt, alloc, names, options, files, out, faults, reasons)
         }
         Form::Lifetime { script, seconds } => {
             explain(alloc, script, seconds, files, out, faults, reasons)
         }
+        Form::Help => help(alloc, out),
+        Form::Version => version(out),
     }
 }
 
-/// Replays the named capture and script, and writes the report of its connections.
+/// Replays the named capture and script, and writes what the options say of its connections.
 fn report<R: Threads + Wait + Sync, F: Files, K: Sink, E: Sink, Q: Reasons>(
     rt: &R,
     alloc: Global,
-    manner: Manner,
     names: Names<'_>,
+    options: Options<'_>,
     files: &mut F,
     out: &mut K,
     faults: &mut E,
     reasons: &Q,
 ) -> Status
     requires room { F.open_now files.old < 4294967295 }
-    ensures ends { EndsForm (Some (Connections manner (named names.entry))) (F.octets files.old)
-        (did F.asked F.faults files.old files.new)
+    ensures ends { EndsForm (Some (Connections (named names.entry) (said options.entry)))
+        (F.octets files.old) (did F.asked F.faults files.old files.new)
         (did K.written K.faults out.old out.new)
         (did E.written E.faults faults.old faults.new) result }
     ensures octets { F.octets files.new ≡ F.octets files.old }
@@ -154,8 +154,8 @@ fn report<R: Threads + Wait + Sync, F: Files, K: Sink, E: Sink, Q: Reasons>(
     let (capture, script) = (names.capture, names.script);
     match read_stage(alloc, files, Mode::Replay, names) {
         Ok((stage, packets, began)) => {
-            let clock = clock_of(manner.clock, began);
-            show(rt, alloc, manner.format, clock, stage, packets, out)
+            let clock = clock_of(options.clock, began);
+            show(rt, alloc, options, clock, stage, packets, out)
         }
         Err(fault) => {
             let name = file_with(capture, script, &fault);
@@ -164,36 +164,25 @@ fn report<R: Threads + Wait + Sync, F: Files, K: Sink, E: Sink, Q: Reasons>(
     }
 }
 
-/// Replays the named capture and script, and writes the stories of the connections that are picked.
-fn recount<R: Threads + Wait + Sync, F: Files, K: Sink, E: Sink, Q: Reasons>(
+/// Replays the stage and its base, and writes what the options say of the connections. `packets` has
+/// the packet of each record.
+fn show<R: Threads + Wait + Sync, K: Sink>(
     rt: &R,
     alloc: Global,
-    picked: Chosen<'_>,
-    names: Names<'_>,
-    files: &mut F,
+    options: Options<'_>,
+    clock: Clock,
+    stage: Stage,
+    packets: Octets,
     out: &mut K,
-    faults: &mut E,
-    reasons: &Q,
 ) -> Status
-    requires room { F.open_now files.old < 4294967295 }
-    ensures ends { EndsForm (Some (Story (chosen picked.entry) (named names.entry)))
-        (F.octets files.old)
-        (did F.asked F.faults files.old files.new)
-        (did K.written K.faults out.old out.new)
-        (did E.written E.faults faults.old faults.new) result }
-    ensures octets { F.octets files.new ≡ F.octets files.old }
-    ensures open { F.open_now files.new ≡ F.open_now files.old }
+    requires sound { IsSound stage }
+    requires packets { ArePackets stage.capture.records packets }
+    ensures { Tells no_lines (Shown (IsShownBy (said options.entry) clock.0 stage))
+        (did K.written K.faults out.old out.new) result }
 {
-    let (capture, script) = (names.capture, names.script);
-    match read_stage(alloc, files, Mode::Replay, names) {
-        Ok((stage, packets, began)) => {
-            let clock = clock_of(picked.clock, began);
-            show_stories(rt, alloc, picked, clock, stage, packets, out)
-        }
-        Err(fault) => {
-            let name = file_with(capture, script, &fault);
-            refuse(alloc, name, &fault, faults, reasons)
-        }
+    match options.chosen {
+        Some(picked) => show_stories(rt, alloc, picked, clock, stage, packets, out),
+        None => show_table(rt, alloc, options.format(), clock, stage, packets, out),
     }
 }
 
@@ -252,7 +241,7 @@ fn explain<F: Files, K: Sink, E: Sink, Q: Reasons>(
 
 /// Replays the stage and its base, and writes the report of the connections. `packets` has the
 /// packet of each record.
-fn show<R: Threads + Wait + Sync, K: Sink>(
+fn show_table<R: Threads + Wait + Sync, K: Sink>(
     rt: &R,
     alloc: Global,
     format: Format,
@@ -289,12 +278,4 @@ fn clock_of(asked: bool, began: u64) -> Clock
     } else {
         Clock(None)
     }
-}
-
-/// Writes the usage line.
-fn misuse<E: Sink>(faults: &mut E) -> Status
-    ensures { Tells no_lines (Misused usage_line)
-        (did E.written E.faults faults.old faults.new) result }
-{
-    say(faults, USAGE.as_bytes(), Status::Usage)
 }

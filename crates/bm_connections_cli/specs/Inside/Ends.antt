@@ -8,7 +8,7 @@ use Rattle.bm_cli.specs.Statuses.{FilesDid, SinkDid, code_of}
 use Rattle.bm_connections_cli.specs.Dues.{due}
 use Rattle.bm_connections_cli.specs.Faults.{lines_for}
 use Rattle.bm_connections_cli.specs.Sinks.{HoldsOfOne}
-use Rattle.bm_connections_cli.specs.Words.{Asked}
+use Rattle.bm_connections_words.specs.Words.{Asked}
 
 -- no fault is told
 abbrev pub no_lines : FaultLines

@@ -6,7 +6,7 @@ use Rattle.bm_cli.proofs.Telling.{tells_nothing}
 use Rattle.bm_connections.specs.Base.{compared_with}
 use Rattle.bm_connections.specs.Connections.{connections}
 use Rattle.bm_connections_cli.specs.Headline.{AreStoriesOf}
-use Rattle.bm_connections_cli.specs.Inside.Words.{chosen}
+use Rattle.bm_connections_words.specs.Options.{chosen}
 use Rattle.bm_connections_cli.specs.Stories.{story_report}
 use Rattle.bm_connections_cli.specs.Inside.Ends.{no_lines}
 use Rattle.bm_connections_cli.proofs.Ending.{tells_text}

@@ -1,8 +1,8 @@
 use Rattle.std.proofs.Common.{ap, sym, refl, ◌∙◌}
 use Rattle.bm_words.specs.Form.{is_numeral}
-use Rattle.bm_connections_cli.specs.Words.{seconds_of}
-use Rattle.bm_connections_cli.proofs.Seconds.{seconds_read}
-use Rattle.bm_connections_cli.proofs.words.read_seconds.Goals as goal
+use Rattle.bm_connections_words.specs.Words.{seconds_of}
+use Rattle.bm_connections_words.proofs.Seconds.{seconds_read}
+use Rattle.bm_connections_words.proofs.words.read_seconds.Goals as goal
 
 pub returns-then-not-is_numeral : goal.returns-then-not-is_numeral
 unfolding seconds_of

@@ -9,7 +9,7 @@ use Rattle.bm_connections_cli.specs.Headline.{IsTableOf}
 use Rattle.bm_connections_cli.specs.Text.{report}
 use Rattle.bm_connections_cli.specs.Inside.Ends.{no_lines}
 use Rattle.bm_connections_cli.proofs.Ending.{tells_text}
-use Rattle.bm_connections_cli.proofs.top.show.Goals as goal
+use Rattle.bm_connections_cli.proofs.top.show_table.Goals as goal
 
 pub returns-in-Ok : goal.returns-in-Ok
 returns-in-Ok g c =

@@ -9,7 +9,7 @@ use Rattle.std.specs.List.{list_all}
 use Rattle.std.specs.Result.{OkIff, result_ok}
 use Rattle.std.specs.Str.Parse.{ParsesUnsigned, digits_value}
 use Rattle.bm_words.specs.Form.{is_numeral}
-use Rattle.bm_connections_cli.specs.Words.{seconds_of}
+use Rattle.bm_connections_words.specs.Words.{seconds_of}
 
 abbrev AreDigits : List ℕ → Type 0
 AreDigits word = list_all is_ascii_digit word ≡ true
